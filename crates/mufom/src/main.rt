@@ -1,0 +1,47 @@
+//! The program `mufom`: it gives the command line's words to [`run`] over the files and streams of
+//! the process, and ends with the status of the answer.
+//!
+//! It stands on `mufom_command`, whose contract says what every answer means, and on `mufom_host`.
+#![tactic(auto)]
+
+use mufom_command::run;
+use mufom_host::RealHost;
+use std::env;
+use std::io::ErrorKind;
+use std::process::ExitCode;
+
+/// The status where a word is not UTF-8, or there are too many: as for words that are no command.
+const BAD_WORDS: u8 = 2;
+
+/// The status where there is no memory for the words.
+const NO_MEMORY: u8 = 5;
+
+// The command line's words without the program's name, or the status where they can't be had.
+fn words(rt: &HostRuntime) -> Result<Vec<String>, u8> {
+    let mut arguments = match env::args(rt) {
+        Ok(arguments) => arguments,
+        Err(error) if error.kind() == ErrorKind::OutOfMemory => return Err(NO_MEMORY),
+        Err(_) => return Err(BAD_WORDS),
+    };
+    let _program = arguments.next();
+    let mut words = Vec::new(rt.alloc());
+    for word in arguments {
+        if words.push(word).is_err() {
+            return Err(NO_MEMORY);
+        }
+    }
+    if words.len() > u32::MAX as usize {
+        return Err(BAD_WORDS);
+    }
+    Ok(words)
+}
+
+fn main(rt: HostRuntime) -> ExitCode {
+    let words = match words(&rt) {
+        Ok(words) => words,
+        Err(status) => return ExitCode::from(status),
+    };
+    let alloc = rt.alloc();
+    let mut host = RealHost::new(rt);
+    ExitCode::from(run(alloc, words.as_slice(), &mut host).status())
+}

@@ -1,0 +1,11 @@
+pub mod Exact
+pub mod FieldLaws
+pub mod RowLaws
+pub mod Offsets
+pub mod ChainLaws
+pub mod Rows
+pub mod Loading
+pub mod Lengths
+pub mod Dumping
+pub mod Telling
+pub mod Judgements

@@ -1,0 +1,11 @@
+use Rattle.mufom_command.proofs.Judgements.{not_both, one_image, one_refusal}
+use Rattle.mufom_command.proofs.laws.judgements_exclude.Goals as goal
+
+pub returns-clause-not_both : goal.returns-clause-not_both
+returns-clause-not_both c = not_both
+
+pub returns-clause-one_image : goal.returns-clause-one_image
+returns-clause-one_image c = one_image
+
+pub returns-clause-one_refusal : goal.returns-clause-one_refusal
+returns-clause-one_refusal c = one_refusal

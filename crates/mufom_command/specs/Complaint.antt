@@ -1,0 +1,80 @@
+-- The status of each outcome, and the line that each but Done complains.
+use Rattle.std.specs.Prelude.{ℕ, [], ◌++◌, codes}
+use Rattle.std.specs.Fmt.{decimal}
+use Rattle.mufom_numbers.specs.declared.reason.Reason.{Reason}
+use Rattle.mufom_numbers.specs.declared.reason.Reason.TheVariants as why
+use Rattle.mufom_command.specs.declared.outcome.Input.{Input}
+use Rattle.mufom_command.specs.declared.outcome.Input.TheVariants as input
+use Rattle.mufom_command.specs.declared.outcome.Outcome.{Outcome}
+use Rattle.mufom_command.specs.declared.outcome.Outcome.TheVariants as outcome
+use Rattle.mufom_command.specs.declared.outcome.Refusal.{Refusal}
+use Rattle.mufom_command.specs.declared.outcome.Refusal.TheVariants as refusal
+use Rattle.mufom_command.specs.declared.outcome.UsageFault.{UsageFault}
+use Rattle.mufom_command.specs.declared.outcome.UsageFault.TheVariants as usage
+use Rattle.mufom_command.specs.Text.{Text, line}
+
+abbrev pub status_of : Outcome → ℕ
+status_of outcome.Done = 0
+status_of (outcome.Refused _) = 1
+status_of (outcome.Usage _) = 2
+status_of (outcome.ReadFault _) = 3
+status_of outcome.WriteFault = 4
+status_of outcome.NoMemory = 5
+
+-- the name of a reason
+abbrev pub reason_text : Reason → Text
+reason_text why.BadNumber = codes "BadNumber"
+reason_text why.BadId = codes "BadId"
+reason_text why.BadRecord = codes "BadRecord"
+reason_text why.UnsupportedRecord = codes "UnsupportedRecord"
+reason_text why.UnsupportedFunction = codes "UnsupportedFunction"
+reason_text why.UnsupportedVariable = codes "UnsupportedVariable"
+reason_text why.Underflow = codes "Underflow"
+reason_text why.SurplusTerms = codes "SurplusTerms"
+reason_text why.Empty = codes "Empty"
+reason_text why.TooLong = codes "TooLong"
+reason_text why.LongRun = codes "LongRun"
+reason_text why.BadFieldSize = codes "BadFieldSize"
+reason_text why.BracketMismatch = codes "BracketMismatch"
+reason_text why.BadSectionType = codes "BadSectionType"
+reason_text why.UnsupportedBlock = codes "UnsupportedBlock"
+reason_text why.UnsupportedAttribute = codes "UnsupportedAttribute"
+reason_text why.Truncated = codes "Truncated"
+reason_text why.BadHeader = codes "BadHeader"
+reason_text why.BadDescriptor = codes "BadDescriptor"
+reason_text why.OffsetOrder = codes "OffsetOrder"
+reason_text why.PartGap = codes "PartGap"
+reason_text why.WrongPart = codes "WrongPart"
+reason_text why.DuplicateIndex = codes "DuplicateIndex"
+reason_text why.UnknownIndex = codes "UnknownIndex"
+reason_text why.DuplicateValue = codes "DuplicateValue"
+reason_text why.MissingValue = codes "MissingValue"
+reason_text why.MissingBase = codes "MissingBase"
+reason_text why.BadAlignment = codes "BadAlignment"
+reason_text why.NoSection = codes "NoSection"
+reason_text why.BadP = codes "BadP"
+reason_text why.BlockNesting = codes "BlockNesting"
+reason_text why.Depth = codes "Depth"
+reason_text why.AfterEnd = codes "AfterEnd"
+reason_text why.FileLimit = codes "FileLimit"
+reason_text why.NotBuilt = codes "NotBuilt"
+
+abbrev pub usage_text : UsageFault → Text
+usage_text usage.NoCommand = codes "no command"
+usage_text usage.BadWords = codes "bad words"
+usage_text usage.NoFile = codes "no file"
+
+abbrev pub refusal_text : Refusal → Text
+refusal_text (refusal.Read n r) = codes "file " ++ decimal n ++ codes " at " ++ decimal r.place ++ codes ": " ++ reason_text r.reason
+
+abbrev pub input_text : Input → Text
+input_text (input.File n) = codes "file " ++ decimal n
+
+-- The line of an outcome; of Done there is none.
+abbrev pub complaint : Outcome → Text
+complaint outcome.Done = []
+complaint (outcome.Refused r) = line (codes "refused: " ++ refusal_text r)
+complaint (outcome.Usage f) = line (codes "usage: " ++ usage_text f)
+complaint (outcome.ReadFault i) = line (codes "read fault: " ++ input_text i)
+complaint outcome.WriteFault = line (codes "write fault")
+complaint outcome.NoMemory = line (codes "out of memory")

@@ -1,0 +1,7 @@
+pub mod Formats
+pub mod Plain
+pub mod Reading
+pub mod Complaint
+pub mod Text
+pub mod Words
+pub mod Run

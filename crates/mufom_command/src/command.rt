@@ -1,0 +1,134 @@
+//! The top call.
+
+ghost use Rattle.std.specs.Prelude.{◌≡◌, ◌⊎◌, ◌≤◌, ◌∷◌, [], map, IfErr, IfOk, OnSome};
+ghost use Rattle.std.specs.String.{string_bytes};
+ghost use Rattle.mufom_host.specs.World.{GrowsBy, KeepsAllButComplaints, KeepsAllButErr};
+ghost use Rattle.mufom_command.specs.Complaint.{complaint};
+ghost use Rattle.mufom_command.specs.Plain.{IsPlainModule, Refuses, Image as PlainImage};
+ghost use Rattle.mufom_command.specs.Run.{Answers, Complains, MayLackMemory, Tells, Dumps, DumpsAlone, MakesNothing, NoneFalls};
+ghost use Rattle.mufom_command.specs.Text.{dump_text};
+
+use crate::complaint::{fault_line, refusal_line, usage_line};
+use crate::judging::judge;
+use crate::load::load;
+use crate::outcome::{Outcome, ReadRefusal, Refusal};
+use crate::text::image_text;
+use crate::words::dump_name;
+use mufom_host::{Failed, Host};
+use mufom_numbers::NoMemory;
+use std::alloc::Global;
+
+// The text of a plain module's image, or why there is none.
+fn located_text(alloc: Global, bytes: &[u8]) -> Result<Vec<u8>, Outcome>
+    ensures text { IfOk result (λ text. (image : PlainImage) × IsPlainModule image bytes.now × (text.items ≡ dump_text image)) }
+    ensures stops { IfErr result (λ stop. ((refusal : ReadRefusal) × (stop ≡ Outcome.Refused (Refusal.Read 0 refusal)) × Refuses bytes.now refusal) ⊎ (stop ≡ Outcome.NoMemory)) }
+{
+    match judge(bytes) {
+        Ok(image) => match image_text(alloc, &image) {
+            Ok(text) => Ok(text),
+            Err(NoMemory) => Err(Outcome::NoMemory),
+        },
+        Err(refusal) => Err(Outcome::Refused(Refusal::Read(0, refusal))),
+    }
+}
+
+// Dumps the file with this name; the answer is not complained yet.
+fn dump<H: Host>(alloc: Global, name: &str, host: &mut H) -> Outcome
+    ensures answer { Dumps name.now (H.meaning host.old) (H.meaning host.new) (H.faults host.old) (H.faults host.new) result }
+    ensures opened { OnSome (H.meaning host.new).opened (GrowsBy (H.meaning host.old).opened (H.meaning host.new).opened (name.now ∷ [])) }
+    ensures stays { DumpsAlone (H.meaning host.old) (H.meaning host.new) }
+    ensures counts { NoneFalls (H.faults host.old) (H.faults host.new) }
+{
+    let bytes = match load(alloc, name, host) {
+        Ok(bytes) => bytes,
+        Err(stop) => return stop,
+    };
+    let text = match located_text(alloc, bytes.as_slice()) {
+        Ok(text) => text,
+        Err(stop) => return stop,
+    };
+    match host.print(text.as_slice()) {
+        Ok(()) => Outcome::Done,
+        Err(Failed) => Outcome::WriteFault,
+    }
+}
+
+// Complains a line; where that fails the line, or its end, is lost.
+fn tell<H: Host>(line: &[u8], host: &mut H)
+    ensures tells { Tells (H.meaning host.old) (H.meaning host.new) (H.faults host.old) (H.faults host.new) line.now }
+    ensures stays { KeepsAllButErr (H.meaning host.old) (H.meaning host.new) }
+    ensures counts { KeepsAllButComplaints (H.faults host.old) (H.faults host.new) }
+    ensures later { (H.faults host.old).complaints ≤ (H.faults host.new).complaints }
+{
+    match host.complain(line) {
+        Ok(()) => {}
+        Err(Failed) => {}
+    }
+}
+
+// Complains that there is no memory.
+fn out_of_memory<H: Host>(host: &mut H) -> Outcome
+    ensures same { result ≡ Outcome.NoMemory }
+    ensures tells { Tells (H.meaning host.old) (H.meaning host.new) (H.faults host.old) (H.faults host.new) (complaint Outcome.NoMemory) }
+    ensures stays { KeepsAllButErr (H.meaning host.old) (H.meaning host.new) }
+    ensures counts { KeepsAllButComplaints (H.faults host.old) (H.faults host.new) }
+    ensures later { (H.faults host.old).complaints ≤ (H.faults host.new).complaints }
+{
+    tell(b"out of memory\n", host);
+    Outcome::NoMemory
+}
+
+// Complains an outcome that is not `Done`, which then stays what it is. Where there is no memory
+// for the line of a refused input or a read fault, that is the outcome.
+fn complain<H: Host>(alloc: Global, outcome: Outcome, host: &mut H) -> Outcome
+    ensures same { (result ≡ outcome) ⊎ ((result ≡ Outcome.NoMemory) × MayLackMemory outcome) }
+    ensures complains { Complains (H.meaning host.old) (H.meaning host.new) (H.faults host.old) (H.faults host.new) result }
+    ensures stays { KeepsAllButErr (H.meaning host.old) (H.meaning host.new) }
+    ensures counts { KeepsAllButComplaints (H.faults host.old) (H.faults host.new) }
+    ensures later { (H.faults host.old).complaints ≤ (H.faults host.new).complaints }
+{
+    match outcome {
+        Outcome::Done => {}
+        Outcome::Usage(fault) => tell(usage_line(fault).as_bytes(), host),
+        Outcome::WriteFault => tell(b"write fault\n", host),
+        Outcome::NoMemory => tell(b"out of memory\n", host),
+        Outcome::Refused(Refusal::Read(file, refusal)) => match refusal_line(alloc, file, refusal) {
+            Ok(line) => tell(line.as_bytes(), host),
+            Err(NoMemory) => return out_of_memory(host),
+        },
+        Outcome::ReadFault(input) => match fault_line(alloc, input) {
+            Ok(line) => tell(line.as_bytes(), host),
+            Err(NoMemory) => return out_of_memory(host),
+        },
+    }
+    outcome
+}
+
+// What the words ask for is done; the answer is not complained yet.
+fn answer<H: Host>(alloc: Global, words: &[String], host: &mut H) -> Outcome
+    ensures answers { Answers (map (λ word. string_bytes word) words.now) (H.meaning host.old) (H.meaning host.new) (H.faults host.old) (H.faults host.new) result }
+    ensures stays { DumpsAlone (H.meaning host.old) (H.meaning host.new) }
+    ensures counts { NoneFalls (H.faults host.old) (H.faults host.new) }
+{
+    match dump_name(words) {
+        Ok(name) => dump(alloc, name, host),
+        Err(fault) => Outcome::Usage(fault),
+    }
+}
+
+/// Runs the command that the words name: `dump FILE`.
+///
+/// `words` are the command line's words without the program's name. Every outcome but `Done`
+/// complains one line; a complaint that fails does not change the outcome.
+pub fn run<H: Host>(alloc: Global, words: &[String], host: &mut H) -> Outcome
+    // The answer is that of the words, of the file's bytes, and of the faults in this call.
+    ensures answers { Answers (map (λ word. string_bytes word) words.now) (H.meaning host.old) (H.meaning host.new) (H.faults host.old) (H.faults host.new) result }
+    // Every answer but Done complains its line.
+    ensures complains { Complains (H.meaning host.old) (H.meaning host.new) (H.faults host.old) (H.faults host.new) result }
+    // No file is made, and the files that may be opened stay.
+    ensures makes { MakesNothing (H.meaning host.old) (H.meaning host.new) }
+    ensures counts { NoneFalls (H.faults host.old) (H.faults host.new) }
+{
+    let outcome = answer(alloc, words, host);
+    complain(alloc, outcome, host)
+}

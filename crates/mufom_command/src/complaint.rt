@@ -1,0 +1,80 @@
+//! The line that each outcome but `Done` complains.
+
+ghost use Rattle.std.specs.Prelude.{◌≡◌, IfOk};
+ghost use Rattle.std.specs.String.{string_bytes};
+ghost use Rattle.mufom_command.specs.Complaint.{complaint, reason_text};
+
+use crate::outcome::{Input, Outcome, ReadRefusal, Refusal, UsageFault};
+use mufom_numbers::{NoMemory, Reason};
+use std::alloc::Global;
+
+fn reason_name(reason: Reason) -> &'static str
+    ensures { result.now ≡ reason_text reason }
+{
+    match reason {
+        Reason::BadNumber => "BadNumber",
+        Reason::BadId => "BadId",
+        Reason::BadRecord => "BadRecord",
+        Reason::UnsupportedRecord => "UnsupportedRecord",
+        Reason::UnsupportedFunction => "UnsupportedFunction",
+        Reason::UnsupportedVariable => "UnsupportedVariable",
+        Reason::Underflow => "Underflow",
+        Reason::SurplusTerms => "SurplusTerms",
+        Reason::Empty => "Empty",
+        Reason::TooLong => "TooLong",
+        Reason::LongRun => "LongRun",
+        Reason::BadFieldSize => "BadFieldSize",
+        Reason::BracketMismatch => "BracketMismatch",
+        Reason::BadSectionType => "BadSectionType",
+        Reason::UnsupportedBlock => "UnsupportedBlock",
+        Reason::UnsupportedAttribute => "UnsupportedAttribute",
+        Reason::Truncated => "Truncated",
+        Reason::BadHeader => "BadHeader",
+        Reason::BadDescriptor => "BadDescriptor",
+        Reason::OffsetOrder => "OffsetOrder",
+        Reason::PartGap => "PartGap",
+        Reason::WrongPart => "WrongPart",
+        Reason::DuplicateIndex => "DuplicateIndex",
+        Reason::UnknownIndex => "UnknownIndex",
+        Reason::DuplicateValue => "DuplicateValue",
+        Reason::MissingValue => "MissingValue",
+        Reason::MissingBase => "MissingBase",
+        Reason::BadAlignment => "BadAlignment",
+        Reason::NoSection => "NoSection",
+        Reason::BadP => "BadP",
+        Reason::BlockNesting => "BlockNesting",
+        Reason::Depth => "Depth",
+        Reason::AfterEnd => "AfterEnd",
+        Reason::FileLimit => "FileLimit",
+        Reason::NotBuilt => "NotBuilt",
+    }
+}
+
+pub(crate) fn usage_line(fault: UsageFault) -> &'static str
+    ensures { result.now ≡ complaint (Outcome.Usage fault) }
+{
+    match fault {
+        UsageFault::NoCommand => "usage: no command\n",
+        UsageFault::BadWords => "usage: bad words\n",
+        UsageFault::NoFile => "usage: no file\n",
+    }
+}
+
+pub(crate) fn refusal_line(
+    alloc: Global,
+    file: u32,
+    refusal: ReadRefusal,
+) -> Result<String, NoMemory>
+    ensures { IfOk result (λ text. string_bytes text ≡ complaint (Outcome.Refused (Refusal.Read file refusal))) }
+{
+    let place = refusal.place;
+    let reason = reason_name(refusal.reason);
+    Ok(format!(in alloc; "refused: file {file} at {place}: {reason}\n")?)
+}
+
+pub(crate) fn fault_line(alloc: Global, input: Input) -> Result<String, NoMemory>
+    ensures { IfOk result (λ text. string_bytes text ≡ complaint (Outcome.ReadFault input)) }
+{
+    let Input::File(file) = input;
+    Ok(format!(in alloc; "read fault: file {file}\n")?)
+}

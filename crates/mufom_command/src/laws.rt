@@ -1,0 +1,16 @@
+//! That the judgement of a file is one, as the contract of a function that does nothing.
+
+ghost use Rattle.std.specs.Prelude.{◌≡◌, ℕ, List};
+ghost use Rattle.mufom_command.specs.Plain.{Image, IsPlainModule, Refuses};
+
+use crate::outcome::ReadRefusal;
+
+/// A file is not both a plain module and refused; it has one image, or one place and reason.
+///
+/// So where no fault rose and memory was found, the answer of [`run`](crate::run) to a file is the
+/// only one that its contract allows.
+pub fn judgements_exclude()
+    ensures not_both { (bytes : List ℕ) (image : Image) (refusal : ReadRefusal) → IsPlainModule image bytes → Refuses bytes refusal → ⊥ }
+    ensures one_image { (bytes : List ℕ) (image other : Image) → IsPlainModule image bytes → IsPlainModule other bytes → image ≡ other }
+    ensures one_refusal { (bytes : List ℕ) (refusal other : ReadRefusal) → Refuses bytes refusal → Refuses bytes other → refusal ≡ other }
+{}

@@ -1,0 +1,69 @@
+ghost use Rattle.std.specs.Prelude.{◌≡◌};
+ghost use Rattle.mufom_command.specs.Complaint.{status_of};
+
+use mufom_numbers::Reason;
+
+/// Why the words of a run are no command.
+#[derive(Clone, Copy, Debug, PartialEq, Eq)]
+pub enum UsageFault {
+    /// No word, or a first word that names no command.
+    NoCommand,
+    /// An option that the command does not have, or a word in a wrong place.
+    BadWords,
+    /// No file.
+    NoFile,
+}
+
+/// A file's bytes are no module: the position of the fault in bytes, and the reason.
+#[derive(Clone, Copy, Debug, PartialEq, Eq)]
+pub struct ReadRefusal {
+    pub place: u64,
+    pub reason: Reason,
+}
+
+/// An input of a run.
+#[derive(Clone, Copy, Debug, PartialEq, Eq)]
+pub enum Input {
+    /// The file with this number, from 0 in the order of the words.
+    File(u32),
+}
+
+/// What a run refuses.
+#[derive(Clone, Copy, Debug, PartialEq, Eq)]
+pub enum Refusal {
+    /// The bytes of the file with this number are no module.
+    Read(u32, ReadRefusal),
+}
+
+/// How a run ended.
+#[derive(Clone, Copy, Debug, PartialEq, Eq)]
+pub enum Outcome {
+    /// All was done that the words ask for.
+    Done,
+    /// An input is refused.
+    Refused(Refusal),
+    /// The words are no command.
+    Usage(UsageFault),
+    /// An input could not be opened or read.
+    ReadFault(Input),
+    /// The output could not be written.
+    WriteFault,
+    /// There was no memory.
+    NoMemory,
+}
+
+impl Outcome {
+    /// The status with which the program ends, 0 to 5. Takes no memory.
+    pub fn status(&self) -> u8
+        ensures { result ≡ status_of self.now }
+    {
+        match self {
+            Outcome::Done => 0,
+            Outcome::Refused(_) => 1,
+            Outcome::Usage(_) => 2,
+            Outcome::ReadFault(_) => 3,
+            Outcome::WriteFault => 4,
+            Outcome::NoMemory => 5,
+        }
+    }
+}

@@ -1,0 +1,218 @@
+use crate::{Input, Outcome, ReadRefusal, Refusal, UsageFault, run};
+use mufom_host::MemHost;
+use mufom_numbers::{Bytes, List, Reason, Text};
+use std::alloc::Global;
+use std::process::Abort;
+use std::test::Fail;
+
+// An absolute section of four bytes at 1000, loaded whole, with its start address.
+const PLAIN: [u8; 120] = [
+    0xE0, 0x05, 0x36, 0x38, 0x30, 0x30, 0x30, 0x01, 0x41, 0xEC, 0x08, 0x04, 0xCD, 0xE2, 0xD7, 0x00,
+    0x84, 0x00, 0x00, 0x00, 0x00, 0xE2, 0xD7, 0x01, 0x84, 0x00, 0x00, 0x00, 0x00, 0xE2, 0xD7, 0x02,
+    0x84, 0x00, 0x00, 0x00, 0x4D, 0xE2, 0xD7, 0x03, 0x84, 0x00, 0x00, 0x00, 0x00, 0xE2, 0xD7, 0x04,
+    0x84, 0x00, 0x00, 0x00, 0x00, 0xE2, 0xD7, 0x05, 0x84, 0x00, 0x00, 0x00, 0x64, 0xE2, 0xD7, 0x06,
+    0x84, 0x00, 0x00, 0x00, 0x72, 0xE2, 0xD7, 0x07, 0x84, 0x00, 0x00, 0x00, 0x77, 0xE6, 0x01, 0xC1,
+    0xD3, 0xD0, 0x04, 0x63, 0x6F, 0x64, 0x65, 0xE7, 0x01, 0x02, 0xE2, 0xD3, 0x01, 0x04, 0xE2, 0xCC,
+    0x01, 0x82, 0x10, 0x00, 0xE5, 0x01, 0xE2, 0xD0, 0x01, 0x82, 0x10, 0x00, 0xED, 0x04, 0x4E, 0x71,
+    0x4E, 0x75, 0xE2, 0xC7, 0x82, 0x10, 0x00, 0xE1,
+];
+
+const IMAGE: &[u8] = b"00001000: 4E 71 4E 75\nstart 00001000\n";
+
+const ROOM: usize = 1_048_576;
+
+fn numbers(alloc: Global, calls: &[u64]) -> Result<List<u64>, Fail> {
+    let mut list = List::new(alloc);
+    for call in calls {
+        list.push(*call)?;
+    }
+    Ok(list)
+}
+
+// A host with one file `a`, on which the calls with these numbers fail.
+fn host(alloc: Global, file: &[u8], reads: &[u64], writes: &[u64]) -> Result<MemHost, Fail> {
+    let mut files = List::new(alloc);
+    files.push((Text::from_str(alloc, "a")?, Bytes::from_slice(alloc, file)?))?;
+    let (reads, writes) = (numbers(alloc, reads)?, numbers(alloc, writes)?);
+    Ok(MemHost::new(alloc, files, reads, writes, ROOM)?)
+}
+
+fn words(alloc: Global, words: &[&str]) -> Result<Vec<String>, Fail> {
+    let mut list = Vec::new(alloc);
+    for word in words {
+        list.push(word.to_string(alloc)?)?;
+    }
+    Ok(list)
+}
+
+// The answer to `dump a`, with what must be printed and complained.
+fn dumps(
+    rt: &impl Abort,
+    alloc: Global,
+    file: &[u8],
+    reads: &[u64],
+    writes: &[u64],
+    wanted: (Outcome, &[u8], &[u8]),
+) -> Result<(), Fail> {
+    let mut host = host(alloc, file, reads, writes)?;
+    let words = words(alloc, &["dump", "a"])?;
+    let outcome = run(alloc, words.as_slice(), &mut host);
+    assert_eq!(rt; outcome, wanted.0);
+    assert_eq!(rt; host.out(), wanted.1);
+    assert_eq!(rt; host.err(), wanted.2);
+    Ok(())
+}
+
+fn refused(place: u64, reason: Reason) -> Outcome {
+    Outcome::Refused(Refusal::Read(0, ReadRefusal { place, reason }))
+}
+
+#[test]
+fn a_plain_module_prints_its_image(rt: HostRuntime) -> Result<(), Fail> {
+    dumps(
+        &rt,
+        rt.alloc(),
+        &PLAIN,
+        &[],
+        &[],
+        (Outcome::Done, IMAGE, b""),
+    )
+}
+
+#[test]
+fn each_front_of_a_plain_module_is_truncated_at_its_end(rt: HostRuntime) -> Result<(), Fail> {
+    let told = words(rt.alloc(), &["dump", "a"])?;
+    for end in 0..PLAIN.len() {
+        let mut host = host(rt.alloc(), &PLAIN[..end], &[], &[])?;
+        let outcome = run(rt.alloc(), told.as_slice(), &mut host);
+        assert_eq!(rt; outcome, refused(end as u64, Reason::Truncated));
+    }
+    Ok(())
+}
+
+#[test]
+fn an_empty_file_is_truncated_at_its_first_byte(rt: HostRuntime) -> Result<(), Fail> {
+    let line = b"refused: file 0 at 0: Truncated\n";
+    dumps(
+        &rt,
+        rt.alloc(),
+        &[],
+        &[],
+        &[],
+        (refused(0, Reason::Truncated), b"", line),
+    )
+}
+
+#[test]
+fn other_files_are_refused_at_their_first_byte(rt: HostRuntime) -> Result<(), Fail> {
+    let bad = b"refused: file 0 at 0: BadHeader\n";
+    dumps(
+        &rt,
+        rt.alloc(),
+        b"A",
+        &[],
+        &[],
+        (refused(0, Reason::BadHeader), b"", bad),
+    )?;
+    let line = b"refused: file 0 at 0: NotBuilt\n";
+    let not_built = refused(0, Reason::NotBuilt);
+    let mut sixteen_bits = PLAIN;
+    sixteen_bits[10] = 0x10;
+    dumps(
+        &rt,
+        rt.alloc(),
+        &sixteen_bits,
+        &[],
+        &[],
+        (not_built, b"", line),
+    )?;
+    // The index of the section can only become too large.
+    let large = [0xE0, 0, 0, 0xEC, 8, 4, 0xE2, 0xD7, 0, 0x89];
+    dumps(&rt, rt.alloc(), &large, &[], &[], (not_built, b"", line))
+}
+
+#[test]
+fn a_failed_open_or_read_is_a_read_fault(rt: HostRuntime) -> Result<(), Fail> {
+    let line = b"read fault: file 0\n";
+    let fault = Outcome::ReadFault(Input::File(0));
+    dumps(&rt, rt.alloc(), &PLAIN, &[0], &[], (fault, b"", line))?;
+    dumps(&rt, rt.alloc(), &PLAIN, &[1], &[], (fault, b"", line))?;
+    dumps(&rt, rt.alloc(), &PLAIN, &[2], &[], (fault, b"", line))?;
+    dumps(
+        &rt,
+        rt.alloc(),
+        &PLAIN,
+        &[3],
+        &[],
+        (Outcome::Done, IMAGE, b""),
+    )
+}
+
+#[test]
+fn a_failed_print_is_a_write_fault(rt: HostRuntime) -> Result<(), Fail> {
+    dumps(
+        &rt,
+        rt.alloc(),
+        &PLAIN,
+        &[],
+        &[0],
+        (Outcome::WriteFault, b"", b"write fault\n"),
+    )
+}
+
+#[test]
+fn a_failed_complaint_changes_no_answer(rt: HostRuntime) -> Result<(), Fail> {
+    dumps(
+        &rt,
+        rt.alloc(),
+        b"A",
+        &[],
+        &[0],
+        (refused(0, Reason::BadHeader), b"", b""),
+    )?;
+    dumps(
+        &rt,
+        rt.alloc(),
+        &PLAIN,
+        &[],
+        &[0, 1],
+        (Outcome::WriteFault, b"", b""),
+    )
+}
+
+fn usage(alloc: Global, line: &[&str]) -> Result<Outcome, Fail> {
+    let mut host = host(alloc, &PLAIN, &[], &[])?;
+    let words = words(alloc, line)?;
+    Ok(run(alloc, words.as_slice(), &mut host))
+}
+
+#[test]
+fn words_that_are_no_command_are_refused(rt: HostRuntime) -> Result<(), Fail> {
+    let no_command = Outcome::Usage(UsageFault::NoCommand);
+    let bad_words = Outcome::Usage(UsageFault::BadWords);
+    assert_eq!(rt; usage(rt.alloc(), &[])?, no_command);
+    assert_eq!(rt; usage(rt.alloc(), &["dmup", "a"])?, no_command);
+    assert_eq!(rt;
+        usage(rt.alloc(), &["dump"])?,
+        Outcome::Usage(UsageFault::NoFile)
+    );
+    assert_eq!(rt; usage(rt.alloc(), &["dump", "a", "b"])?, bad_words);
+    assert_eq!(rt; usage(rt.alloc(), &["dump", "-x"])?, bad_words);
+    assert_eq!(rt; usage(rt.alloc(), &["dump", "["])?, bad_words);
+    assert_eq!(rt; usage(rt.alloc(), &["dump", "+"])?, bad_words);
+    assert_eq!(rt;
+        usage(rt.alloc(), &["dump", "b"])?,
+        Outcome::ReadFault(Input::File(0))
+    );
+    Ok(())
+}
+
+#[test]
+fn statuses_are_those_of_the_outcomes(rt: HostRuntime) {
+    assert_eq!(rt; Outcome::Done.status(), 0);
+    assert_eq!(rt; refused(0, Reason::Truncated).status(), 1);
+    assert_eq!(rt; Outcome::Usage(UsageFault::NoFile).status(), 2);
+    assert_eq!(rt; Outcome::ReadFault(Input::File(0)).status(), 3);
+    assert_eq!(rt; Outcome::WriteFault.status(), 4);
+    assert_eq!(rt; Outcome::NoMemory.status(), 5);
+}

@@ -1,0 +1,60 @@
+ghost use Rattle.std.specs.Prelude.{◌≡◌, ◌≤◌, ◌↔◌, IsTrue};
+ghost use Rattle.mufom_debug.specs.Marks.{marks_of, marks_of_item, depth_of};
+
+use crate::item::DebugItem;
+
+// How deep an item is.
+#[cycle(depth)]
+fn item_depth(item: &DebugItem) -> u32
+    requires { depth_of (marks_of_item item.now) ≤ 32 }
+    ensures { result ≡ depth_of (marks_of_item item.now) }
+{
+    match item {
+        DebugItem::Block(block) => 1 + depth(block.items.as_slice()),
+        DebugItem::Name(_) => 0,
+        DebugItem::Note { .. } => 0,
+        DebugItem::Value { .. } => 0,
+    }
+}
+
+/// How many blocks are open at once, at most: those on the longest way in.
+///
+/// The items must be at most 32 deep; [`is_within_depth`] tells. Takes no memory.
+#[cycle(depth)]
+pub fn depth(items: &[DebugItem]) -> u32
+    requires { depth_of (marks_of items.now) ≤ 32 }
+    ensures { result ≡ depth_of (marks_of items.now) }
+{
+    let mut deepest = 0;
+    for item in items {
+        deepest = deepest.max(item_depth(item));
+    }
+    deepest
+}
+
+// Whether an item is at most so deep.
+#[cycle(within)]
+fn item_is_within(item: &DebugItem, limit: u32) -> bool
+    ensures { IsTrue result ↔ (depth_of (marks_of_item item.now) ≤ limit) }
+{
+    match item {
+        DebugItem::Block(_) if limit == 0 => false,
+        DebugItem::Block(block) => is_within_depth(block.items.as_slice(), limit - 1),
+        DebugItem::Name(_) => true,
+        DebugItem::Note { .. } => true,
+        DebugItem::Value { .. } => true,
+    }
+}
+
+/// Whether at most `limit` blocks are open at once, of items of any depth. Takes no memory.
+#[cycle(within)]
+pub fn is_within_depth(items: &[DebugItem], limit: u32) -> bool
+    ensures { IsTrue result ↔ (depth_of (marks_of items.now) ≤ limit) }
+{
+    for item in items {
+        if !item_is_within(item, limit) {
+            return false;
+        }
+    }
+    true
+}

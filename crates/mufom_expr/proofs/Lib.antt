@@ -1,0 +1,10 @@
+pub mod TermsLemmas
+pub mod Leaves
+pub mod Same
+pub mod Residues
+pub mod Running
+pub mod Variables
+pub mod ExprLemmas
+pub mod TokenLaws
+pub mod TokensBack
+pub mod ValueLaws

@@ -1,0 +1,12 @@
+pub mod Codes
+pub mod Tree
+pub mod Terms
+pub mod TreeCode
+pub mod Value
+pub mod ValueStack
+pub mod Renamed
+pub mod Mentions
+pub mod ExprTree
+pub mod InfixText
+pub mod Spelled
+pub mod TokenAt

@@ -1,0 +1,62 @@
+-- One token at the front of bytes, and the tokens of an expression's bytes.
+use Rattle.std.specs.Prelude.{ℕ, zero, suc, ◌+◌, ◌^◌, Bool, List, [], ◌∷◌, drop, Option, Some, None, nat_lt, nat_le, ◌&&◌, ◌||◌, if◌then◌else◌}
+use Rattle.mufom_numbers.specs.declared.reason.Reason.TheVariants.{BadNumber, UnsupportedFunction, UnsupportedVariable}
+use Rattle.mufom_numbers.specs.declared.taken.Taken.{Taken}
+use Rattle.mufom_numbers.specs.declared.taken.Taken.TheVariants.{Got, More, Bad}
+use Rattle.mufom_numbers.specs.Spelling.{number_at}
+use Rattle.mufom_expr.specs.declared.token.Letter.{Letter}
+use Rattle.mufom_expr.specs.declared.token.Function.{Function}
+use Rattle.mufom_expr.specs.declared.token.Token.{Token}
+use Rattle.mufom_expr.specs.declared.token.Token.TheVariants.{Number, Var, Fun}
+use Rattle.mufom_expr.specs.Codes.{letter_of, function_of}
+
+-- a byte of those from low to high
+abbrev pub is_from_to : ℕ → ℕ → ℕ → Bool
+is_from_to low high b = nat_le low b && nat_le b high
+
+-- a byte that begins a number: 00 to 88
+abbrev pub begins_number : ℕ → Bool
+begins_number b = nat_le b 0x88
+
+-- a byte that begins a number, a function or a letter, those that are left out too
+abbrev pub begins_token : ℕ → Bool
+begins_token b = begins_number b || (is_from_to 0xA0 0xB9 b || is_from_to 0xC1 0xDA b)
+
+-- a number as a token
+abbrev pub number_token : Taken ℕ → Taken Token
+number_token (Got n used) = Got (Number n) used
+number_token More = More
+number_token (Bad offset reason) = Bad offset reason
+
+-- a function as a token, or the fault of one that is left out
+abbrev pub function_token : Option Function → Taken Token
+function_token (Some f) = Got (Fun f) 1
+function_token None = Bad 0 UnsupportedFunction
+
+-- a letter and the number behind it as a token; the number is an index, below 2^32
+abbrev pub variable_token : Option Letter → Taken ℕ → Taken Token
+variable_token None index = Bad 0 UnsupportedVariable
+variable_token (Some letter) (Got n used) = if nat_lt n (2 ^ 32) then Got (Var letter n) (used + 1) else Bad 1 BadNumber
+variable_token (Some letter) More = More
+variable_token (Some letter) (Bad offset reason) = Bad 1 BadNumber
+
+-- the token at the front, or what is wrong with it
+abbrev pub token_at : List ℕ → Taken Token
+token_at [] = More
+token_at (b ∷ bytes) = if begins_number b then number_token (number_at (b ∷ bytes))
+    else (if is_from_to 0xA0 0xB9 b then function_token (function_of b)
+    else variable_token (letter_of b) (number_at bytes))
+
+-- a token that was got, and those after it
+abbrev pub first_token : Taken Token → (ℕ → List Token) → List Token
+first_token (Got token used) after = token ∷ after used
+first_token _ after = []
+
+-- the tokens that the bytes spell, at most k of them
+abbrev pub tokens_at : ℕ → List ℕ → List Token
+tokens_at zero bytes = []
+tokens_at (suc k) bytes = first_token (token_at bytes) (λ used. tokens_at k (drop used bytes))
+
+-- the tokens that the bytes of an expression spell
+abbrev pub tokens_in : List ℕ → List Token
+tokens_in bytes = tokens_at 255 bytes

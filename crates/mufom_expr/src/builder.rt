@@ -1,0 +1,107 @@
+ghost use Rattle.std.specs.Prelude.{◌≡◌, ◌≢◌, ◌⊎◌, ◌↔◌, ◌<◌, [], ◌∷◌, ◌++◌, length, IfOk, OnOk, OnErr, Err, Some};
+ghost use Rattle.mufom_expr.specs.Codes.{operands_of};
+ghost use Rattle.mufom_expr.specs.Tree.{tokens_of, IsInRange};
+ghost use Rattle.mufom_expr.specs.Terms.{the_term, FindsTooFew, LeavesMoreThanOne};
+
+use crate::fault::ExprFault;
+use crate::postfix::Postfix;
+use crate::token::{Function, Token};
+use std::alloc::Global;
+use std::marker::Model;
+
+const MAX_TOKENS: usize = 255;
+
+/// Tokens of which each function found its operands, at most 255. Contracts see them as their
+/// list.
+#[derive(Debug, Drop)]
+pub struct Builder {
+    tokens: Vec<Token>,
+    terms: usize,
+}
+
+impl Model for Builder {
+    ghost use Rattle.std.specs.Prelude.{◌≡◌, ◌≤◌, List, length, Some};
+    ghost use Rattle.mufom_expr.specs.declared.token.Token.{Token};
+    ghost use Rattle.std.specs.List.{AllByRecursion};
+    ghost use Rattle.mufom_expr.specs.Tree.{IsInRange};
+    ghost use Rattle.mufom_expr.specs.Terms.{leaves};
+
+    ghost Value = { List Token };
+
+    ghost view = { λ b. b.tokens.items };
+
+    ghost invariant = { λ b. (leaves b.tokens.items ≡ Some b.terms) × (b.terms ≤ length b.tokens.items) × (length b.tokens.items ≤ 255) × AllByRecursion IsInRange b.tokens.items };
+}
+
+// How many terms the token takes.
+fn operands(token: Token) -> usize
+    ensures count { result ≡ operands_of token }
+    ensures range { IsInRange token }
+{
+    match token {
+        Token::Number(_) => 0,
+        Token::Var(_, _) => 0,
+        Token::Fun(Function::Abs) => 1,
+        Token::Fun(Function::Neg) => 1,
+        Token::Fun(_) => 2,
+    }
+}
+
+impl Builder {
+    /// No tokens. Takes no memory.
+    pub fn new(alloc: Global) -> Builder
+        ensures { result ≡ [] }
+    {
+        Builder {
+            tokens: Vec::new(alloc),
+            terms: 0,
+        }
+    }
+
+    /// Adds a token at the end.
+    ///
+    /// `TooLong` where 255 tokens stand, and else `Underflow` where the token is a function that
+    /// finds fewer terms than it takes. A refused call changes nothing.
+    pub fn push(&mut self, token: Token) -> Result<(), ExprFault>
+        ensures ok { OnOk result (self.new ≡ self.old ++ token ∷ []) }
+        ensures err { OnErr result (self.new ≡ self.old) }
+        ensures too_long { (result ≡ Err ExprFault.TooLong) ↔ (length self.old ≡ 255) }
+        ensures underflow { (result ≡ Err ExprFault.Underflow) ↔ ((length self.old < 255) × FindsTooFew self.old token) }
+        ensures empty { result ≢ Err ExprFault.Empty }
+        ensures surplus { result ≢ Err ExprFault.SurplusTerms }
+    {
+        if self.tokens.len() >= MAX_TOKENS {
+            return Err(ExprFault::TooLong);
+        }
+        let wanted = operands(token);
+        if self.terms < wanted {
+            return Err(ExprFault::Underflow);
+        }
+        if self.tokens.push(token).is_err() {
+            return Err(ExprFault::NoMemory);
+        }
+        self.terms = self.terms - wanted + 1;
+        Ok(())
+    }
+
+    /// The expression that the tokens are. Takes no memory.
+    ///
+    /// `Empty` where no token stands, and `SurplusTerms` where more than one term stands. A refused
+    /// call gives nothing back.
+    pub fn finish(self) -> Result<Postfix, ExprFault>
+        ensures tree { IfOk result (λ p. p ≡ the_term self) }
+        ensures tokens { IfOk result (λ p. tokens_of p ≡ self) }
+        ensures empty { (result ≡ Err ExprFault.Empty) ↔ (self ≡ []) }
+        ensures surplus { (result ≡ Err ExprFault.SurplusTerms) ↔ LeavesMoreThanOne self }
+        ensures only { OnErr result ((self ≡ []) ⊎ LeavesMoreThanOne self) }
+    {
+        let Builder { tokens, terms } = self;
+        if tokens.is_empty() {
+            return Err(ExprFault::Empty);
+        }
+        if terms > 1 {
+            return Err(ExprFault::SurplusTerms);
+        }
+        Ok(Postfix::of(tokens))
+    }
+}

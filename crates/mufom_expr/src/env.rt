@@ -1,0 +1,24 @@
+ghost use Rattle.std.specs.Prelude.{◌≡◌, ℕ, Option};
+ghost use Rattle.mufom_expr.specs.declared.token.Letter.{Letter};
+
+use crate::token::Letter;
+
+/// What gives variables their values.
+pub trait Env {
+    /// The value of a variable, by its letter and its number, or none.
+    ghost meaning: { Self → Letter → ℕ → Option ℕ };
+
+    /// The value of a variable, or `None` where it has none.
+    fn lookup(&self, letter: Letter, index: u32) -> Option<u64>
+        ensures { result ≡ meaning self.now letter index };
+}
+
+/// What puts other variables in the place of variables.
+pub trait VarMap {
+    /// The variable that stands in the place of a variable, by letter and number.
+    ghost meaning: { Self → Letter → ℕ → Letter × ℕ };
+
+    /// The letter and the number of the variable that stands in the place of this one.
+    fn map(&self, letter: Letter, index: u32) -> (Letter, u32)
+        ensures { result ≡ meaning self.now letter index };
+}

@@ -1,0 +1,20 @@
+use thiserror::Error;
+
+/// Why tokens are no expression.
+#[derive(Clone, Copy, Debug, PartialEq, Eq, Error)]
+pub enum ExprFault {
+    /// A function finds fewer terms before it than it has operands.
+    #[error("a function has too few terms")]
+    Underflow,
+    /// More than one term is left at the end.
+    #[error("more than one term is left")]
+    SurplusTerms,
+    /// There is no token at the end.
+    #[error("there is no token")]
+    Empty,
+    /// A 256th token.
+    #[error("there are more than 255 tokens")]
+    TooLong,
+    #[error("out of memory")]
+    NoMemory,
+}

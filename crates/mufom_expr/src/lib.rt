@@ -1,0 +1,37 @@
+//! Expressions of object modules: tokens as a file spells them, expressions in postfix form, the
+//! trees that they are, and their values.
+//!
+//! It stands on `mufom_numbers`, `arrayvec` and `thiserror`. Valuing takes no memory. Its main clause
+//! is that of [`Postfix::value`]: what the run over the tokens leaves is the value of the
+//! expression's tree modulo 2 to the width, for everything that gives variables their values.
+//! Contracts see a [`Postfix`] as its tree, which its tokens give and which gives them back.
+#![tactic(auto)]
+
+mod builder;
+mod env;
+mod expr;
+mod fault;
+mod infix_form;
+mod laws;
+mod mentions;
+mod postfix;
+mod read;
+mod token;
+mod value;
+
+pub use builder::Builder;
+pub use env::{Env, VarMap};
+pub use expr::Expr;
+pub use fault::ExprFault;
+pub use infix_form::infix;
+pub use laws::{
+    renaming_composes_with_value, spellings_give_one_tree, tokens_give_the_tree_back,
+    values_are_residues,
+};
+pub use mentions::Mentions;
+pub use postfix::Postfix;
+pub use read::read_token;
+pub use token::{FieldKind, Function, Letter, Token};
+
+#[cfg(test)]
+mod tests;

@@ -1,0 +1,160 @@
+ghost use Rattle.std.specs.Prelude.{◌≡◌, ◌≤◌, ◌<◌, ◌↔◌, ◌^◌, length, IfOk, IfSome, IsTrue, Some};
+ghost use Rattle.mufom_expr.specs.ExprTree.{tree_of_expr, tokens_of_expr, IsExpression};
+ghost use Rattle.std.specs.List.{AllByRecursion};
+ghost use Rattle.mufom_expr.specs.Tree.{number, tokens_of, IsInRange};
+ghost use Rattle.mufom_expr.specs.Terms.{the_term, LeaveOneTerm};
+ghost use Rattle.mufom_expr.specs.Value.{value_at, variables_of, with_variables};
+ghost use Rattle.mufom_expr.specs.Mentions.{variables_in};
+ghost use Rattle.mufom_expr.specs.Renamed.{renamed_token, renamed_tokens};
+
+use crate::env::{Env, VarMap};
+use crate::expr::{Expr, grow, pop_expr};
+use crate::mentions::Mentions;
+use crate::token::Token;
+use crate::value::{Stack, pop_value, step};
+use arrayvec::ArrayVec;
+use mufom_numbers::NoMemory;
+use std::alloc::Global;
+use std::marker::Model;
+
+/// An expression: 1 to 255 tokens that leave one term. Contracts see it as its tree.
+#[derive(Debug, Drop)]
+pub struct Postfix {
+    tokens: Vec<Token>,
+}
+
+impl Model for Postfix {
+    ghost use Rattle.mufom_expr.specs.Tree.{Tree};
+    ghost use Rattle.mufom_expr.specs.TreeCode.{tree_code};
+
+    ghost Value = { Tree };
+
+    ghost coded = { tree_code };
+
+    ghost use Rattle.std.specs.Prelude.{length, ◌≤◌};
+    ghost use Rattle.std.specs.List.{AllByRecursion};
+    ghost use Rattle.mufom_expr.specs.Tree.{IsInRange};
+    ghost use Rattle.mufom_expr.specs.Terms.{the_term, LeaveOneTerm};
+
+    ghost view = { λ p. the_term p.tokens.items };
+
+    ghost invariant = { λ p. LeaveOneTerm p.tokens.items × (length p.tokens.items ≤ 255) × AllByRecursion IsInRange p.tokens.items };
+}
+
+impl Postfix {
+    /// The expression that is one number.
+    pub fn constant(alloc: Global, value: u64) -> Result<Postfix, NoMemory>
+        ensures { IfOk result (λ p. p ≡ number value) }
+    {
+        let mut tokens = Vec::new(alloc);
+        tokens.push(Token::Number(value))?;
+        Ok(Postfix { tokens })
+    }
+
+    // The expression of tokens that are one.
+    pub(crate) fn of(tokens: Vec<Token>) -> Postfix
+        requires one { LeaveOneTerm tokens.items }
+        requires few { length tokens.items ≤ 255 }
+        requires range { AllByRecursion IsInRange tokens.items }
+        ensures { result ≡ the_term tokens.items }
+    {
+        Postfix { tokens }
+    }
+
+    /// The tokens, operands before functions: 1 to 255. Takes no memory.
+    pub fn tokens(&self) -> &[Token]
+        ensures tokens { result.now ≡ tokens_of self.now }
+        ensures few { length (tokens_of self.now) ≤ 255 }
+        ensures range { AllByRecursion IsInRange (tokens_of self.now) }
+    {
+        self.tokens.as_slice()
+    }
+
+    /// The value modulo 2 to the width, which is 8 to 64: `None` where a variable of the expression has
+    /// no value or a divisor is 0. Takes no memory.
+    pub fn value<E: Env>(&self, env: &E, width: u32) -> Option<u64>
+        requires low { 8 ≤ width }
+        requires high { width ≤ 64 }
+        ensures value { result ≡ value_at (2 ^ width) (E.meaning env.now) self.now }
+        ensures residue { IfSome result (λ v. v < 2 ^ width) }
+    {
+        let mut stack: Stack = ArrayVec::new();
+        for token in &self.tokens {
+            step(&mut stack, *token, env, width);
+        }
+        pop_value(&mut stack)
+    }
+
+    /// The variables of the expression, one for each mention, in the order of its tokens. Takes no
+    /// memory.
+    pub fn mentions(&self) -> Mentions<'_>
+        ensures tokens { result ≡ variables_in (tokens_of self.now) }
+        ensures tree { result ≡ variables_of self.now }
+    {
+        Mentions::of(self.tokens())
+    }
+
+    /// The same expression with another variable in the place of each: that which the map gives.
+    pub fn map_vars<M: VarMap>(&self, alloc: Global, map: &M) -> Result<Postfix, NoMemory>
+        ensures tree { IfOk result (λ p. p ≡ with_variables (M.meaning map.now) self.now) }
+        ensures tokens { IfOk result (λ p. tokens_of p ≡ renamed_tokens (M.meaning map.now) (tokens_of self.now)) }
+    {
+        let tokens = renamed_all(alloc, map, self.tokens())?;
+        Ok(Postfix::of(tokens))
+    }
+
+    /// The expression as a tree of nodes.
+    pub fn to_expr(&self, alloc: Global) -> Result<Expr, NoMemory>
+        ensures tree { IfOk result (λ expr. tree_of_expr expr ≡ Some self.now) }
+        ensures tokens { IfOk result (λ expr. tokens_of_expr expr ≡ tokens_of self.now) }
+        ensures fits { IfOk result (λ expr. IsExpression expr) }
+    {
+        let mut stack = Vec::new(alloc);
+        for token in &self.tokens {
+            grow(alloc, &mut stack, *token)?;
+        }
+        Ok(pop_expr(&mut stack))
+    }
+
+    /// A copy, which is the same expression.
+    pub fn copy(&self, alloc: Global) -> Result<Postfix, NoMemory>
+        ensures { IfOk result (λ p. p ≡ self.now) }
+    {
+        let tokens = Vec::from_slice(alloc, self.tokens.as_slice())?;
+        Ok(Postfix { tokens })
+    }
+
+    /// Whether the two are the same expression: the same tokens, so the same tree. Takes no memory.
+    pub fn equals(&self, other: &Postfix) -> bool
+        ensures { IsTrue result ↔ (self.now ≡ other.now) }
+    {
+        self.tokens.as_slice() == other.tokens.as_slice()
+    }
+}
+
+// The token with its variable renamed.
+fn renamed<M: VarMap>(map: &M, token: Token) -> Token
+    ensures value { result ≡ renamed_token (M.meaning map.now) token }
+    ensures range { IsInRange result }
+{
+    match token {
+        Token::Number(value) => Token::Number(value),
+        Token::Var(letter, index) => {
+            let (letter, index) = map.map(letter, index);
+            Token::Var(letter, index)
+        }
+        Token::Fun(function) => Token::Fun(function),
+    }
+}
+
+// The tokens with their variables renamed.
+fn renamed_all<M: VarMap>(alloc: Global, map: &M, tokens: &[Token]) -> Result<Vec<Token>, NoMemory>
+    ensures value { IfOk result (λ all. all.items ≡ renamed_tokens (M.meaning map.now) tokens.now) }
+    ensures range { IfOk result (λ all. AllByRecursion IsInRange all.items) }
+{
+    let mut all = Vec::new(alloc);
+    for token in tokens {
+        all.push(renamed(map, *token))?;
+    }
+    Ok(all)
+}

@@ -1,0 +1,307 @@
+ghost use Rattle.std.specs.Prelude.{◌≡◌};
+
+use crate::Function::{
+    Abs, And, Divide, Equal, Greater, Less, Max, Min, Minus, Mod, Neg, Or, Plus, Times, Unequal,
+    Xor,
+};
+use crate::Token::{Fun, Number, Var};
+use crate::{Builder, Env, ExprFault, Letter, Postfix, Token, VarMap, infix, read_token};
+use mufom_numbers::{Reason, Taken};
+use std::alloc::Global;
+
+const R0: Token = Var(Letter::R, 0);
+
+// Each variable has this value, or none.
+#[derive(Drop)]
+struct All(Option<u64>);
+
+impl Env for All {
+    ghost meaning = { λ all letter index. all.0 };
+
+    fn lookup(&self, _letter: Letter, _index: u32) -> Option<u64> {
+        self.0
+    }
+}
+
+// One variable stands in the place of each.
+#[derive(Drop)]
+struct AllAre(Letter, u32);
+
+impl VarMap for AllAre {
+    ghost meaning = { λ one letter index. (one.0, one.1) };
+
+    fn map(&self, _letter: Letter, _index: u32) -> (Letter, u32) {
+        (self.0, self.1)
+    }
+}
+
+fn built(alloc: Global, tokens: &[Token]) -> Result<Postfix, ExprFault> {
+    let mut builder = Builder::new(alloc);
+    for token in tokens {
+        builder.push(*token)?;
+    }
+    builder.finish()
+}
+
+fn valued(alloc: Global, tokens: &[Token], r0: Option<u64>, width: u32) -> Option<u64> {
+    if !(16..=64).contains(&width) {
+        return Some(u64::MAX);
+    }
+    match built(alloc, tokens) {
+        Ok(expression) => expression.value(&All(r0), width),
+        Err(_) => Some(u64::MAX),
+    }
+}
+
+// Tokens, and their values at 16, 24, 32 and 64 bits.
+const VALUES: [([Token; 3], [Option<u64>; 4]); 26] = [
+    ([Number(1), Number(65_531), Fun(Plus)], [Some(65_532); 4]),
+    (
+        [Number(65_535), Number(2), Fun(Plus)],
+        [Some(1), Some(65_537), Some(65_537), Some(65_537)],
+    ),
+    (
+        [Number(3), Number(5), Fun(Minus)],
+        [
+            Some(65_534),
+            Some(16_777_214),
+            Some(4_294_967_294),
+            Some(u64::MAX - 1),
+        ],
+    ),
+    (
+        [Number(65_537), Number(3), Fun(Divide)],
+        [Some(0), Some(21_845), Some(21_845), Some(21_845)],
+    ),
+    (
+        [Number(5), Number(65_536), Fun(Divide)],
+        [None, Some(0), Some(0), Some(0)],
+    ),
+    ([Number(5), Number(0), Fun(Divide)], [None; 4]),
+    (
+        [Number(65_535), Number(65_535), Fun(Times)],
+        [
+            Some(1),
+            Some(16_646_145),
+            Some(4_294_836_225),
+            Some(4_294_836_225),
+        ],
+    ),
+    (
+        [Number(u64::MAX), Number(u64::MAX), Fun(Times)],
+        [Some(1); 4],
+    ),
+    ([Number(65_531), Number(7), Fun(Max)], [Some(65_531); 4]),
+    ([Number(65_531), Number(7), Fun(Min)], [Some(7); 4]),
+    ([Number(7), Number(2), Fun(Mod)], [Some(1); 4]),
+    (
+        [Number(65_543), Number(10), Fun(Mod)],
+        [Some(7), Some(3), Some(3), Some(3)],
+    ),
+    ([Number(5), Number(0), Fun(Mod)], [None; 4]),
+    ([Number(65_531), Number(7), Fun(Less)], [Some(0); 4]),
+    ([Number(7), Number(65_531), Fun(Less)], [Some(1); 4]),
+    ([Number(65_531), Number(7), Fun(Greater)], [Some(1); 4]),
+    ([Number(7), Number(7), Fun(Greater)], [Some(0); 4]),
+    (
+        [Number(65_536), Number(0), Fun(Equal)],
+        [Some(1), Some(0), Some(0), Some(0)],
+    ),
+    (
+        [Number(65_536), Number(0), Fun(Unequal)],
+        [Some(0), Some(1), Some(1), Some(1)],
+    ),
+    (
+        [Number(65_548), Number(65_546), Fun(And)],
+        [Some(8), Some(65_544), Some(65_544), Some(65_544)],
+    ),
+    (
+        [Number(65_548), Number(10), Fun(Or)],
+        [Some(14), Some(65_550), Some(65_550), Some(65_550)],
+    ),
+    (
+        [Number(65_548), Number(10), Fun(Xor)],
+        [Some(6), Some(65_542), Some(65_542), Some(65_542)],
+    ),
+    (
+        [R0, Number(65_531), Fun(Plus)],
+        [Some(4_091), Some(69_627), Some(69_627), Some(69_627)],
+    ),
+    (
+        [Number(65_531), Fun(Neg), Fun(Abs)],
+        [Some(5), Some(65_531), Some(65_531), Some(65_531)],
+    ),
+    (
+        [Number(65_531), Fun(Abs), Fun(Neg)],
+        [
+            Some(65_531),
+            Some(16_711_685),
+            Some(4_294_901_765),
+            Some(u64::MAX - 65_530),
+        ],
+    ),
+    ([Number(32_768), Fun(Abs), Fun(Abs)], [Some(32_768); 4]),
+];
+
+#[test]
+fn each_function_has_its_value_at_each_width(rt: HostRuntime) {
+    for (tokens, want) in &VALUES {
+        for (at, width) in [16, 24, 32, 64].iter().enumerate() {
+            let value = valued(rt.alloc(), tokens.as_slice(), Some(4_096), *width);
+            assert_eq!(rt; Some(&value), want.get(at), "{tokens:?} at {width}");
+        }
+    }
+    assert_eq!(rt;
+        valued(rt.alloc(), &[Number(65_531), Fun(Abs)], None, 16),
+        Some(5)
+    );
+    assert_eq!(rt;
+        valued(rt.alloc(), &[R0, Number(1), Fun(Plus)], None, 16),
+        None
+    );
+}
+
+#[test]
+fn a_builder_refuses_what_is_no_expression(rt: HostRuntime) {
+    let alloc = rt.alloc();
+    let refused = |tokens: &[Token]| match built(alloc, tokens) {
+        Ok(_) => None,
+        Err(fault) => Some(fault),
+    };
+    assert_eq!(rt; refused(&[Fun(Plus)]), Some(ExprFault::Underflow));
+    assert_eq!(rt;
+        refused(&[Number(1), Fun(Plus)]),
+        Some(ExprFault::Underflow)
+    );
+    assert_eq!(rt;
+        refused(&[Number(1), Number(2)]),
+        Some(ExprFault::SurplusTerms)
+    );
+    assert_eq!(rt; refused(&[]), Some(ExprFault::Empty));
+    assert_eq!(rt; refused(&[Number(1)]), None);
+}
+
+#[test]
+fn a_builder_takes_255_tokens(rt: HostRuntime) {
+    let mut builder = Builder::new(rt.alloc());
+    assert_eq!(rt; builder.push(Number(1)), Ok(()));
+    for _ in 0..254 {
+        assert_eq!(rt; builder.push(Fun(Neg)), Ok(()));
+    }
+    assert_eq!(rt; builder.push(Number(1)), Err(ExprFault::TooLong));
+    assert_eq!(rt; builder.push(Fun(Plus)), Err(ExprFault::TooLong));
+    assert!(rt; builder.finish().is_ok());
+}
+
+// Bytes, and the token at their front.
+const TOKENS: [(&[u8], Taken<Token>); 11] = [
+    (&[0x81, 0x80, 0x00], Taken::Got(Number(128), 2)),
+    (&[0xA5, 0x00], Taken::Got(Fun(Plus), 1)),
+    (
+        &[0xD2, 0x82, 0x01, 0x00],
+        Taken::Got(Var(Letter::R, 256), 4),
+    ),
+    (&[], Taken::More),
+    (&[0x81], Taken::More),
+    (&[0xD2], Taken::More),
+    (
+        &[0xC1],
+        Taken::Bad {
+            offset: 0,
+            reason: Reason::UnsupportedVariable,
+        },
+    ),
+    (
+        &[0xA4],
+        Taken::Bad {
+            offset: 0,
+            reason: Reason::UnsupportedFunction,
+        },
+    ),
+    (
+        &[0xB3],
+        Taken::Bad {
+            offset: 0,
+            reason: Reason::UnsupportedFunction,
+        },
+    ),
+    (
+        &[0xC9, 0x89],
+        Taken::Bad {
+            offset: 1,
+            reason: Reason::BadNumber,
+        },
+    ),
+    (
+        &[0xC9, 0x85, 1, 0, 0, 0, 0],
+        Taken::Bad {
+            offset: 1,
+            reason: Reason::BadNumber,
+        },
+    ),
+];
+
+#[test]
+fn tokens_are_read_by_their_first_byte(rt: HostRuntime) {
+    for (bytes, want) in &TOKENS {
+        assert_eq!(rt; &read_token(bytes), want, "{bytes:?}");
+    }
+}
+
+// Tokens, and their text in infix form.
+const TEXTS: [([Token; 3], &str); 18] = [
+    ([R0, Number(4), Fun(Plus)], "(R0 + 4)"),
+    ([Var(Letter::I, 1), Number(4), Fun(Minus)], "(I1 - 4)"),
+    ([Var(Letter::L, 2), Number(4), Fun(Divide)], "(L2 / 4)"),
+    ([Var(Letter::P, 3), Number(4), Fun(Times)], "(P3 * 4)"),
+    ([Var(Letter::S, 4), Number(4), Fun(Less)], "(S4 < 4)"),
+    ([Var(Letter::X, 5), Number(4), Fun(Greater)], "(X5 > 4)"),
+    ([R0, Number(4), Fun(Equal)], "(R0 = 4)"),
+    ([R0, Number(4), Fun(Unequal)], "(R0 <> 4)"),
+    ([R0, Number(4), Fun(Max)], "max(R0, 4)"),
+    ([R0, Number(4), Fun(Min)], "min(R0, 4)"),
+    ([R0, Number(4), Fun(Mod)], "mod(R0, 4)"),
+    ([R0, Number(4), Fun(And)], "and(R0, 4)"),
+    ([R0, Number(4), Fun(Or)], "or(R0, 4)"),
+    ([R0, Number(4), Fun(Xor)], "xor(R0, 4)"),
+    ([R0, Fun(Abs), Fun(Neg)], "neg(abs(R0))"),
+    ([R0, Fun(Neg), Fun(Abs)], "abs(neg(R0))"),
+    ([Number(0), Fun(Neg), Fun(Neg)], "neg(neg(0))"),
+    (
+        [Number(u64::MAX), Fun(Neg), Fun(Neg)],
+        "neg(neg(18446744073709551615))",
+    ),
+];
+
+#[test]
+fn expressions_are_shown_in_infix_form(rt: HostRuntime) {
+    let alloc = rt.alloc();
+    for (tokens, want) in &TEXTS {
+        let expression = built(alloc, tokens.as_slice()).expect(&rt, "an expression");
+        let expr = expression.to_expr(alloc).expect(&rt, "memory");
+        let text = infix(alloc, &expr).expect(&rt, "memory");
+        assert_eq!(rt; text.as_slice(), want.as_bytes());
+    }
+}
+
+#[test]
+fn expressions_are_copied_and_renamed(rt: HostRuntime) {
+    let alloc = rt.alloc();
+    let tokens = [R0, Var(Letter::X, 7), Fun(Minus)];
+    let expression = built(alloc, &tokens).expect(&rt, "an expression");
+    let copy = expression.copy(alloc).expect(&rt, "memory");
+    assert_eq!(rt; copy.tokens(), tokens.as_slice());
+    assert!(rt; copy.equals(&expression));
+    let mut mentions = copy.mentions();
+    assert_eq!(rt; mentions.next(), Some((Letter::R, 0)));
+    assert_eq!(rt; mentions.next(), Some((Letter::X, 7)));
+    assert_eq!(rt; mentions.next(), None);
+    let mapped = copy
+        .map_vars(alloc, &AllAre(Letter::I, 3))
+        .expect(&rt, "memory");
+    let renamed = [Var(Letter::I, 3), Var(Letter::I, 3), Fun(Minus)];
+    assert_eq!(rt; mapped.tokens(), renamed.as_slice());
+    assert!(rt; !mapped.equals(&expression));
+    let five = Postfix::constant(alloc, 5).expect(&rt, "memory");
+    assert_eq!(rt; five.tokens(), [Number(5)].as_slice());
+}

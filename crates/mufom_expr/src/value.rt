@@ -1,0 +1,176 @@
+//! Values on a stack of residues.
+
+ghost use Rattle.std.specs.Prelude.{◌≡◌, ◌+◌, ◌^◌, ◌<◌, ◌≤◌, ◌%◌, Some, length, reverse, option_map, ◌∷◌, IfSome};
+ghost use Rattle.mufom_expr.specs.Codes.{operands, operands_of};
+ghost use Rattle.mufom_expr.specs.Value.{both};
+ghost use Rattle.mufom_expr.specs.ValueStack.{unary_value, binary_value, values_with, values_applied, AreResidues};
+
+use crate::env::Env;
+use crate::token::{Function, Token};
+use arrayvec::ArrayVec;
+
+/// The values that stand, the last at the end: one for each token at most.
+pub(crate) type Stack = ArrayVec<Option<u64>, 255>;
+
+fn unary(function: Function, a: u64, width: u32) -> u64
+    requires low { 1 ≤ width }
+    requires high { width ≤ 64 }
+    requires operand { a < 2 ^ width }
+    ensures value { result ≡ unary_value (2 ^ width) function a }
+    ensures residue { result < 2 ^ width }
+{
+    let modulus: u128 = 1u128 << width;
+    let a = a as u128;
+    match function {
+        Function::Abs => {
+            if a + a < modulus {
+                a as u64
+            } else {
+                ((modulus - a) % modulus) as u64
+            }
+        }
+        _ => ((modulus - a) % modulus) as u64,
+    }
+}
+
+fn binary(function: Function, a: u64, b: u64, width: u32) -> Option<u64>
+    requires low { 1 ≤ width }
+    requires high { width ≤ 64 }
+    requires left { a < 2 ^ width }
+    requires right { b < 2 ^ width }
+    requires two { operands function ≡ 2 }
+    ensures value { result ≡ binary_value (2 ^ width) function a b }
+    ensures residue { IfSome result (λ v. v < 2 ^ width) }
+{
+    let modulus: u128 = 1u128 << width;
+    let x = a as u128;
+    let y = b as u128;
+    match function {
+        Function::Plus => Some(((x + y) % modulus) as u64),
+        Function::Minus => Some(((x + (modulus - y)) % modulus) as u64),
+        Function::Divide => a.checked_div(b),
+        Function::Times => Some((x * y % modulus) as u64),
+        Function::Max => Some(a.max(b)),
+        Function::Min => Some(a.min(b)),
+        Function::Mod => a.checked_rem(b),
+        Function::Less => Some((a < b) as u64),
+        Function::Greater => Some((b < a) as u64),
+        Function::Equal => Some((a == b) as u64),
+        Function::Unequal => Some((a != b) as u64),
+        Function::And => Some(a & b),
+        Function::Or => Some(a | b),
+        Function::Xor => Some(a ^ b),
+        Function::Abs | Function::Neg => unreachable!(),
+    }
+}
+
+// The residue of a number modulo 2 to the width.
+fn reduced(n: u64, width: u32) -> u64
+    requires { width ≤ 64 }
+    ensures value { result ≡ n % 2 ^ width }
+    ensures residue { result < 2 ^ width }
+{
+    let modulus: u128 = 1u128 << width;
+    (n as u128 % modulus) as u64
+}
+
+fn push_value(stack: &mut Stack, value: Option<u64>)
+    requires { length stack.old.items < 255 }
+    ensures value { reverse stack.new.items ≡ value ∷ reverse stack.old.items }
+    ensures length { length stack.new.items ≡ length stack.old.items + 1 }
+{
+    stack.push(value);
+}
+
+/// Takes the last value off a stack that has one.
+pub(crate) fn pop_value(stack: &mut Stack) -> Option<u64>
+    requires { 0 < length stack.old.items }
+    ensures value { reverse stack.old.items ≡ result ∷ reverse stack.new.items }
+    ensures length { length stack.new.items + 1 ≡ length stack.old.items }
+{
+    match stack.pop() {
+        Some(value) => value,
+        None => unreachable!(),
+    }
+}
+
+fn unary_of(function: Function, a: Option<u64>, width: u32) -> Option<u64>
+    requires low { 1 ≤ width }
+    requires high { width ≤ 64 }
+    requires operand { IfSome a (λ v. v < 2 ^ width) }
+    ensures value { result ≡ option_map (unary_value (2 ^ width) function) a }
+    ensures residue { IfSome result (λ v. v < 2 ^ width) }
+{
+    match a {
+        Some(a) => Some(unary(function, a, width)),
+        None => None,
+    }
+}
+
+fn binary_of(function: Function, a: Option<u64>, b: Option<u64>, width: u32) -> Option<u64>
+    requires low { 1 ≤ width }
+    requires high { width ≤ 64 }
+    requires left { IfSome a (λ v. v < 2 ^ width) }
+    requires right { IfSome b (λ v. v < 2 ^ width) }
+    requires two { operands function ≡ 2 }
+    ensures value { result ≡ both (binary_value (2 ^ width) function) a b }
+    ensures residue { IfSome result (λ v. v < 2 ^ width) }
+{
+    match (a, b) {
+        (Some(a), Some(b)) => binary(function, a, b, width),
+        _ => None,
+    }
+}
+
+fn apply_unary(stack: &mut Stack, function: Function, width: u32)
+    requires low { 1 ≤ width }
+    requires high { width ≤ 64 }
+    requires some { 1 ≤ length stack.old.items }
+    requires room { length stack.old.items < 255 }
+    requires residues { AreResidues (2 ^ width) (reverse stack.old.items) }
+    ensures value { reverse stack.new.items ≡ values_applied (2 ^ width) 1 function (reverse stack.old.items) }
+    ensures length { length stack.new.items ≡ length stack.old.items }
+    ensures residues { AreResidues (2 ^ width) (reverse stack.new.items) }
+{
+    let a = pop_value(stack);
+    push_value(stack, unary_of(function, a, width));
+}
+
+fn apply_binary(stack: &mut Stack, function: Function, width: u32)
+    requires low { 1 ≤ width }
+    requires high { width ≤ 64 }
+    requires some { 2 ≤ length stack.old.items }
+    requires room { length stack.old.items < 255 }
+    requires residues { AreResidues (2 ^ width) (reverse stack.old.items) }
+    requires two { operands function ≡ 2 }
+    ensures value { reverse stack.new.items ≡ values_applied (2 ^ width) 2 function (reverse stack.old.items) }
+    ensures length { length stack.new.items + 1 ≡ length stack.old.items }
+    ensures residues { AreResidues (2 ^ width) (reverse stack.new.items) }
+{
+    let b = pop_value(stack);
+    let a = pop_value(stack);
+    push_value(stack, binary_of(function, a, b, width));
+}
+
+/// What a token makes of the values that stand.
+pub(crate) fn step<E: Env>(stack: &mut Stack, token: Token, env: &E, width: u32)
+    requires low { 1 ≤ width }
+    requires high { width ≤ 64 }
+    requires operands { operands_of token ≤ length stack.old.items }
+    requires room { length stack.old.items < 255 }
+    requires residues { AreResidues (2 ^ width) (reverse stack.old.items) }
+    ensures value { reverse stack.new.items ≡ values_with (2 ^ width) (E.meaning env.now) (reverse stack.old.items) token }
+    ensures length { length stack.new.items + operands_of token ≡ length stack.old.items + 1 }
+    ensures residues { AreResidues (2 ^ width) (reverse stack.new.items) }
+{
+    match token {
+        Token::Number(n) => push_value(stack, Some(reduced(n, width))),
+        Token::Var(letter, index) => match env.lookup(letter, index) {
+            Some(v) => push_value(stack, Some(reduced(v, width))),
+            None => push_value(stack, None),
+        },
+        Token::Fun(Function::Abs) => apply_unary(stack, Function::Abs, width),
+        Token::Fun(Function::Neg) => apply_unary(stack, Function::Neg, width),
+        Token::Fun(function) => apply_binary(stack, function, width),
+    }
+}

@@ -1,0 +1,149 @@
+-- What holds of several calls in a row, from what holds of each.
+use Rattle.std.proofs.Common.{◌≡◌, refl, sym, ◌∙◌, ap, ℕ, ◌+◌, ◌≤◌, min, List, [], ◌++◌, length, take, drop, Option, Some, None, Ok, OnSome, append_assoc, arith}
+use Rattle.std.proofs.Math.Seq.{take-append-add, take-length}
+use Rattle.std.proofs.lemmas.List.{append-nil, take-append-le, take_min, take-append-drop}
+use Rattle.std.proofs.lemmas.Option.{same_Some}
+use Rattle.mufom_host.specs.World.{Meaning, Faults, NamedFile, Rose, GrowsBy, GrowsByFront, MakingGrowsBy, MakingGrowsByFront, with_bytes, ReadsOff, Reads, KeepsAllButReads, KeepsAllButWrites, KeepsAllButComplaints, KeepsAllButLeft, KeepsAllButMaking, KeepsAllButOpened, KeepsAllButCreated, KeepsAllButMade, KeepsAllButOut, KeepsAllButErr, KeepsAllButFile}
+
+-- ---- counts
+
+pub Rose-later : (a b c : ℕ) → Rose a b → b ≤ c → Rose a c
+Rose-later a b c rose later = omega arith
+
+pub later-Rose : (a b c : ℕ) → a ≤ b → Rose b c → Rose a c
+later-Rose a b c later rose = omega arith
+
+pub KeepsAllButReads-trans : (a b c : Faults) → KeepsAllButReads a b → KeepsAllButReads b c → KeepsAllButReads a c
+KeepsAllButReads-trans a b c p q = q ∙ ap {A = Faults} (λ f. record f { reads = c.reads }) p
+
+pub KeepsAllButWrites-trans : (a b c : Faults) → KeepsAllButWrites a b → KeepsAllButWrites b c → KeepsAllButWrites a c
+KeepsAllButWrites-trans a b c p q = q ∙ ap {A = Faults} (λ f. record f { writes = c.writes }) p
+
+pub KeepsAllButComplaints-trans : (a b c : Faults) → KeepsAllButComplaints a b → KeepsAllButComplaints b c → KeepsAllButComplaints a c
+KeepsAllButComplaints-trans a b c p q = q ∙ ap {A = Faults} (λ f. record f { complaints = c.complaints }) p
+
+-- ---- what stays
+
+pub KeepsAllButLeft-trans : (a b c : Meaning) → KeepsAllButLeft a b → KeepsAllButLeft b c → KeepsAllButLeft a c
+KeepsAllButLeft-trans a b c p q = q ∙ ap {A = Meaning} (λ m. record m { left = c.left }) p
+
+pub KeepsAllButMaking-trans : (a b c : Meaning) → KeepsAllButMaking a b → KeepsAllButMaking b c → KeepsAllButMaking a c
+KeepsAllButMaking-trans a b c p q = q ∙ ap {A = Meaning} (λ m. record m { making = c.making }) p
+
+pub KeepsAllButOpened-trans : (a b c : Meaning) → KeepsAllButOpened a b → KeepsAllButOpened b c → KeepsAllButOpened a c
+KeepsAllButOpened-trans a b c p q = q ∙ ap {A = Meaning} (λ m. record m { left = c.left; opened = c.opened }) p
+
+pub KeepsAllButOut-trans : (a b c : Meaning) → KeepsAllButOut a b → KeepsAllButOut b c → KeepsAllButOut a c
+KeepsAllButOut-trans a b c p q = q ∙ ap {A = Meaning} (λ m. record m { out = c.out }) p
+
+pub KeepsAllButErr-trans : (a b c : Meaning) → KeepsAllButErr a b → KeepsAllButErr b c → KeepsAllButErr a c
+KeepsAllButErr-trans a b c p q = q ∙ ap {A = Meaning} (λ m. record m { err = c.err }) p
+
+pub KeepsAllButFile-trans : (a b c : Meaning) → KeepsAllButFile a b → KeepsAllButFile b c → KeepsAllButFile a c
+KeepsAllButFile-trans a b c p q = q ∙ ap {A = Meaning} (λ m. record m { making = c.making; made = c.made; created = c.created }) p
+
+-- a read keeps what an open keeps
+pub KeepsAllButOpened-left : (a b : Meaning) → KeepsAllButLeft a b → KeepsAllButOpened a b
+KeepsAllButOpened-left a b p = p ∙ ap (λ names. record a { left = b.left; opened = names }) (sym (ap {A = Meaning} (λ m. m.opened) p))
+
+-- the calls that make a file
+pub KeepsAllButFile-making : (a b : Meaning) → KeepsAllButMaking a b → KeepsAllButFile a b
+KeepsAllButFile-making a b p =
+    p ∙ (ap (λ files. record a { making = b.making; made = files }) (sym (ap {A = Meaning} (λ m. m.made) p))
+    ∙ ap (λ names. record a { making = b.making; made = b.made; created = names }) (sym (ap {A = Meaning} (λ m. m.created) p)))
+
+pub KeepsAllButFile-created : (a b : Meaning) → KeepsAllButCreated a b → KeepsAllButFile a b
+KeepsAllButFile-created a b p = p ∙ ap (λ files. record a { making = b.making; made = files; created = b.created }) (sym (ap {A = Meaning} (λ m. m.made) p))
+
+pub KeepsAllButFile-made : (a b : Meaning) → KeepsAllButMade a b → KeepsAllButFile a b
+KeepsAllButFile-made a b p = p ∙ ap (λ names. record a { making = b.making; made = b.made; created = names }) (sym (ap {A = Meaning} (λ m. m.created) p))
+
+-- ---- lists and texts that grow
+
+take-front : {T : Type 0} (n : ℕ) (xs ys : List T) → take (min n (length xs)) (xs ++ ys) ≡ take n xs
+take-front n xs ys = take-append-le (min n (length xs)) xs ys (omega arith) ∙ take_min n xs
+
+module _ {T : Type 0} where
+  pub GrowsBy-refl : (a : Option (List T)) → GrowsBy a a []
+  GrowsBy-refl None = tt
+  GrowsBy-refl (Some old) = ap Some (sym (append-nil old))
+
+  pub GrowsBy-trans : (a b c : Option (List T)) (xs ys : List T) → GrowsBy a b xs → GrowsBy b c ys → GrowsBy a c (xs ++ ys)
+  GrowsBy-trans None b c xs ys p q = tt
+  GrowsBy-trans (Some old) b c xs ys p q = (rw p at q) ∙ ap Some (append_assoc old xs ys)
+
+  pub GrowsByFront-whole : (a b : Option (List T)) (xs : List T) → GrowsBy a b xs → GrowsByFront a b xs
+  GrowsByFront-whole None b xs p = tt
+  GrowsByFront-whole (Some old) b xs p = (length xs, p ∙ ap (λ t. Some (old ++ t)) (sym (take-length xs)))
+
+  -- all of one list, then the front of another
+  pub GrowsByFront-trans : (a b c : Option (List T)) (xs ys : List T) → GrowsBy a b xs → GrowsByFront b c ys → GrowsByFront a c (xs ++ ys)
+  GrowsByFront-trans None b c xs ys p q = tt
+  GrowsByFront-trans (Some old) b c xs ys p q =
+      let r = rw p at q in
+      (length xs + r.0, r.1 ∙ ap Some (append_assoc old xs (take r.0 ys) ∙ ap (λ t. old ++ t) (sym (take-append-add xs ys r.0))))
+
+  -- the front of one list is the front of a longer one
+  pub GrowsByFront-more : (a b : Option (List T)) (xs ys : List T) → GrowsByFront a b xs → GrowsByFront a b (xs ++ ys)
+  GrowsByFront-more None b xs ys p = tt
+  GrowsByFront-more (Some old) b xs ys p =
+      (min p.0 (length xs), p.1 ∙ ap (λ t. Some (old ++ t)) (sym (take-front p.0 xs ys)))
+
+  -- a list that is told at the end grows by what was added before, and then
+  pub GrowsBy-told : (a b c : Option (List T)) (xs ys : List T) → GrowsBy a b xs → OnSome c (GrowsBy b c ys) → OnSome c (GrowsBy a c (xs ++ ys))
+  GrowsBy-told a b None xs ys p q = tt
+  GrowsBy-told a b (Some new) xs ys p q = GrowsBy-trans a b (Some new) xs ys p q
+
+-- ---- the file being made
+
+with_bytes-nil : (making : Option NamedFile) → with_bytes making [] ≡ making
+with_bytes-nil None = refl
+with_bytes-nil (Some file) = ap (λ bytes. Some (file.0, bytes)) (append-nil file.1)
+
+with_bytes-append : (making : Option NamedFile) (xs ys : List ℕ) → with_bytes (with_bytes making xs) ys ≡ with_bytes making (xs ++ ys)
+with_bytes-append None xs ys = refl
+with_bytes-append (Some file) xs ys = ap (λ bytes. Some (file.0, bytes)) (append_assoc file.1 xs ys)
+
+pub MakingGrowsBy-refl : (a : Option (Option NamedFile)) → MakingGrowsBy a a []
+MakingGrowsBy-refl None = tt
+MakingGrowsBy-refl (Some making) = ap Some (sym (with_bytes-nil making))
+
+pub MakingGrowsBy-trans : (a b c : Option (Option NamedFile)) (xs ys : List ℕ) → MakingGrowsBy a b xs → MakingGrowsBy b c ys → MakingGrowsBy a c (xs ++ ys)
+MakingGrowsBy-trans None b c xs ys p q = tt
+MakingGrowsBy-trans (Some making) b c xs ys p q = (rw p at q) ∙ ap Some (with_bytes-append making xs ys)
+
+pub MakingGrowsByFront-whole : (a b : Option (Option NamedFile)) (xs : List ℕ) → MakingGrowsBy a b xs → MakingGrowsByFront a b xs
+MakingGrowsByFront-whole None b xs p = tt
+MakingGrowsByFront-whole (Some making) b xs p = (length xs, p ∙ ap (λ t. Some (with_bytes making t)) (sym (take-length xs)))
+
+pub MakingGrowsByFront-trans : (a b c : Option (Option NamedFile)) (xs ys : List ℕ) → MakingGrowsBy a b xs → MakingGrowsByFront b c ys → MakingGrowsByFront a c (xs ++ ys)
+MakingGrowsByFront-trans None b c xs ys p q = tt
+MakingGrowsByFront-trans (Some making) b c xs ys p q =
+    let r = rw p at q in
+    (length xs + r.0, r.1 ∙ ap Some (with_bytes-append making xs (take r.0 ys) ∙ ap (with_bytes making) (sym (take-append-add xs ys r.0))))
+
+pub MakingGrowsByFront-more : (a b : Option (Option NamedFile)) (xs ys : List ℕ) → MakingGrowsByFront a b xs → MakingGrowsByFront a b (xs ++ ys)
+MakingGrowsByFront-more None b xs ys p = tt
+MakingGrowsByFront-more (Some making) b xs ys p =
+    (min p.0 (length xs), p.1 ∙ ap (λ t. Some (with_bytes making t)) (sym (take-front p.0 xs ys)))
+
+-- ---- what is read
+
+-- a read takes the front of its buffer off what is left
+pub ReadsOff-read : (a b : Option (List ℕ)) (n : ℕ) (buffer : List ℕ) → Reads a b (Ok n) buffer → ReadsOff a b (take n buffer)
+ReadsOff-read None b n buffer p = tt
+ReadsOff-read (Some left) b n buffer p = (drop n left, sym (take-append-drop n left) ∙ ap (λ t. t ++ drop n left) (sym p.bytes), p.rest)
+
+pub ReadsOff-refl : (a : Option (List ℕ)) → ReadsOff a a []
+ReadsOff-refl None = tt
+ReadsOff-refl (Some left) = (left, refl, refl)
+
+pub ReadsOff-trans : (a b c : Option (List ℕ)) (xs ys : List ℕ) → ReadsOff a b xs → ReadsOff b c ys → ReadsOff a c (xs ++ ys)
+ReadsOff-trans None b c xs ys p q = tt
+ReadsOff-trans (Some left) b c xs ys p q =
+    let r = rw p.2 at q in
+    (r.0, p.1 ∙ (ap (λ t. xs ++ t) r.1 ∙ sym (append_assoc xs ys r.0)), r.2)
+
+-- where nothing is left, what was read is all
+pub ReadsOff-all : (left : List ℕ) (b : Option (List ℕ)) (xs : List ℕ) → ReadsOff (Some left) b xs → b ≡ Some [] → left ≡ xs
+ReadsOff-all left b xs p none = p.1 ∙ (ap (λ t. xs ++ t) (same_Some _ _ (sym p.2 ∙ none)) ∙ append-nil xs)

@@ -1,0 +1,275 @@
+-- Modest calls never fail.
+use Rattle.std.proofs.Common.{◌≡◌, refl, ◌∙◌, ap, ℕ, ◌+◌, ◌≤◌, min, false, nat_lt, List, [], ◌∷◌, ◌++◌, length, drop, Option, Some, None, arith, length-append}
+use Rattle.std.specs.List.{sum_by}
+use Rattle.std.proofs.lemmas.List.Sums.{sum_by-cons}
+use Rattle.std.proofs.lemmas.Bool.{le-ltb}
+use Rattle.mufom_host.specs.World.{NamedFile, optional, with_bytes}
+use Rattle.mufom_host.specs.Kept.{name_weight, names_with, is_listed, bytes_after, has_any, passes_file}
+use Rattle.mufom_host.specs.Memory.{Memory, fresh, read_called, write_called}
+use Rattle.mufom_host.specs.Script.{Call, reads, opens, writes, creates, finishes, prints, complains, after_call, after_calls, opened_by, created_by, written_by, printed_by, complained_by, begun_by, AllOpenWhatIsThere, IsModest}
+use Rattle.mufom_host.proofs.KeptNames.{names_with-fits, name_weight-push}
+
+-- how many bytes the file being made has
+abbrev made_bytes : Option NamedFile → ℕ
+made_bytes None = 0
+made_bytes (Some file) = length file.1
+
+-- no further file is made, or none was begun before
+data Begun : Option NamedFile → List NamedFile → ℕ → Type 0 where
+  unbegun : {n : ℕ} → n ≤ 1 → Begun None [] n
+  begun : {making : Option NamedFile} {made : List NamedFile} → Begun making made 0
+
+-- what holds of a host before modest calls
+record IsReady (m : Memory) (calls : List Call) (opened_names created_names : List (List ℕ)) : Type 0 where
+  reads_pass : m.fail_reads ≡ []
+  writes_pass : m.fail_writes ≡ []
+  there : AllOpenWhatIsThere m.files calls
+  opened_told : m.opened ≡ Some opened_names
+  created_told : m.created ≡ Some created_names
+  opened : name_weight opened_names + sum_by opened_by calls ≤ m.room
+  created : name_weight created_names + sum_by created_by calls ≤ m.room
+  written : made_bytes m.making + sum_by written_by calls ≤ m.room
+  printed : length m.out + sum_by printed_by calls ≤ m.room
+  complained : length m.err + sum_by complained_by calls ≤ m.room
+  one : Begun m.making m.made (sum_by begun_by calls)
+
+-- a call leaves a host that counts no more and is ready for the calls that follow
+record Step (m : Memory) (call : Call) (calls : List Call) : Type 0 where
+  next : Memory
+  is_next : after_call m call ≡ next
+  faults : next.faults ≡ m.faults
+  opened_names : List (List ℕ)
+  created_names : List (List ℕ)
+  ready : IsReady next calls opened_names created_names
+
+less : (f : Call → ℕ) (call : Call) (calls : List Call) (n room : ℕ) → n + sum_by f (call ∷ calls) ≤ room → n + f call + sum_by f calls ≤ room
+less f call calls n room h = let e = sum_by-cons f call calls in omega (arith, e, h)
+
+unlisted : (number : ℕ) (failing : List ℕ) → failing ≡ [] → is_listed number failing ≡ false
+unlisted number failing none = ap (is_listed number) none
+
+-- the file being made has room for the piece
+within : (making : Option NamedFile) (room count : ℕ) → made_bytes making + count ≤ room → passes_file making room count ≡ false
+within None room count h = refl
+within (Some file) room count h = le-ltb room (length file.1 + count) h
+
+grown : (making : Option NamedFile) (piece : List ℕ) → made_bytes (with_bytes making piece) ≤ made_bytes making + length piece
+grown None piece = omega arith
+grown (Some file) piece = rw length-append (omega arith)
+
+Begun-write : {making : Option NamedFile} {made : List NamedFile} {n : ℕ} (piece : List ℕ) → Begun making made n → Begun (with_bytes making piece) made n
+Begun-write piece (unbegun h) = unbegun h
+Begun-write piece begun = begun
+
+Begun-finish : {making : Option NamedFile} {made : List NamedFile} {n : ℕ} → Begun making made n → Begun None (made ++ optional making) n
+Begun-finish (unbegun h) = unbegun h
+Begun-finish begun = begun
+
+-- where a file is begun, none was before and none follows
+Begun-create : {making : Option NamedFile} {made : List NamedFile} {count : ℕ} → Begun making made count → (n : ℕ) → count ≡ 1 + n → (has_any made ≡ false) × (n ≡ 0)
+Begun-create (unbegun h) n e = (refl, omega (arith, h, e))
+Begun-create begun n e = absurd (omega (arith, e))
+
+module _ (m : Memory) (calls : List Call) (o c : List (List ℕ)) where
+  read_step : (size : ℕ) → IsReady m (reads size ∷ calls) o c → Step m (reads size) calls
+  read_step size r = record {
+    next = record (read_called m) { left = drop (min size (length m.left)) m.left };
+    is_next = rw (unlisted m.read_number m.fail_reads r.reads_pass) refl;
+    faults = refl;
+    opened_names = o;
+    created_names = c;
+    ready = record {
+      reads_pass = r.reads_pass;
+      writes_pass = r.writes_pass;
+      there = r.there.1;
+      opened_told = r.opened_told;
+      created_told = r.created_told;
+      opened = omega (arith, less opened_by (reads size) calls (name_weight o) m.room r.opened);
+      created = omega (arith, less created_by (reads size) calls (name_weight c) m.room r.created);
+      written = omega (arith, less written_by (reads size) calls (made_bytes m.making) m.room r.written);
+      printed = omega (arith, less printed_by (reads size) calls (length m.out) m.room r.printed);
+      complained = omega (arith, less complained_by (reads size) calls (length m.err) m.room r.complained);
+      one = r.one;
+    };
+  }
+
+  open_step : (name : List ℕ) → IsReady m (opens name ∷ calls) o c → Step m (opens name) calls
+  open_step name r =
+      let fits = names_with-fits m.room o name (omega (arith, less opened_by (opens name) calls (name_weight o) m.room r.opened)) in
+      let weight = name_weight-push o name in
+      let told : names_with m.room m.opened name ≡ Some (o ++ name ∷ []) = rw r.opened_told fits in
+      record {
+        next = record (read_called m) { opened = names_with m.room m.opened name; left = bytes_after name m.files m.left };
+        is_next = rw (unlisted m.read_number m.fail_reads r.reads_pass, told, r.there.0) refl;
+        faults = refl;
+        opened_names = o ++ name ∷ [];
+        created_names = c;
+        ready = record {
+          reads_pass = r.reads_pass;
+          writes_pass = r.writes_pass;
+          there = r.there.1;
+          opened_told = told;
+          created_told = r.created_told;
+          opened = omega (arith, weight, less opened_by (opens name) calls (name_weight o) m.room r.opened);
+          created = omega (arith, less created_by (opens name) calls (name_weight c) m.room r.created);
+          written = omega (arith, less written_by (opens name) calls (made_bytes m.making) m.room r.written);
+          printed = omega (arith, less printed_by (opens name) calls (length m.out) m.room r.printed);
+          complained = omega (arith, less complained_by (opens name) calls (length m.err) m.room r.complained);
+          one = r.one;
+        };
+      }
+
+  write_step : (piece : List ℕ) → IsReady m (writes piece ∷ calls) o c → Step m (writes piece) calls
+  write_step piece r =
+      let fits = less written_by (writes piece) calls (made_bytes m.making) m.room r.written in
+      record {
+        next = record (write_called m) { making = with_bytes m.making piece };
+        is_next = rw (unlisted m.write_number m.fail_writes r.writes_pass, within m.making m.room (length piece) (omega (arith, fits))) refl;
+        faults = refl;
+        opened_names = o;
+        created_names = c;
+        ready = record {
+          reads_pass = r.reads_pass;
+          writes_pass = r.writes_pass;
+          there = r.there.1;
+          opened_told = r.opened_told;
+          created_told = r.created_told;
+          opened = omega (arith, less opened_by (writes piece) calls (name_weight o) m.room r.opened);
+          created = omega (arith, less created_by (writes piece) calls (name_weight c) m.room r.created);
+          written = omega (arith, fits, grown m.making piece);
+          printed = omega (arith, less printed_by (writes piece) calls (length m.out) m.room r.printed);
+          complained = omega (arith, less complained_by (writes piece) calls (length m.err) m.room r.complained);
+          one = Begun-write piece r.one;
+        };
+      }
+
+  finish_step : IsReady m (finishes ∷ calls) o c → Step m finishes calls
+  finish_step r = record {
+    next = record (write_called m) { making = None; made = m.made ++ optional m.making };
+    is_next = rw (unlisted m.write_number m.fail_writes r.writes_pass) refl;
+    faults = refl;
+    opened_names = o;
+    created_names = c;
+    ready = record {
+      reads_pass = r.reads_pass;
+      writes_pass = r.writes_pass;
+      there = r.there.1;
+      opened_told = r.opened_told;
+      created_told = r.created_told;
+      opened = omega (arith, less opened_by (finishes) calls (name_weight o) m.room r.opened);
+      created = omega (arith, less created_by (finishes) calls (name_weight c) m.room r.created);
+      written = omega (arith, less written_by finishes calls (made_bytes m.making) m.room r.written);
+      printed = omega (arith, less printed_by (finishes) calls (length m.out) m.room r.printed);
+      complained = omega (arith, less complained_by (finishes) calls (length m.err) m.room r.complained);
+      one = Begun-finish r.one;
+    };
+  }
+
+  print_step : (text : List ℕ) → IsReady m (prints text ∷ calls) o c → Step m (prints text) calls
+  print_step text r =
+      let fits = less printed_by (prints text) calls (length m.out) m.room r.printed in
+      let passes : nat_lt m.room (length m.out + length text) ≡ false = le-ltb _ _ (omega (arith, fits)) in
+      record {
+        next = record (write_called m) { out = m.out ++ text };
+        is_next = rw (unlisted m.write_number m.fail_writes r.writes_pass, passes) refl;
+        faults = refl;
+        opened_names = o;
+        created_names = c;
+        ready = record {
+          reads_pass = r.reads_pass;
+          writes_pass = r.writes_pass;
+          there = r.there.1;
+          opened_told = r.opened_told;
+          created_told = r.created_told;
+          opened = omega (arith, less opened_by (prints text) calls (name_weight o) m.room r.opened);
+          created = omega (arith, less created_by (prints text) calls (name_weight c) m.room r.created);
+          written = omega (arith, less written_by (prints text) calls (made_bytes m.making) m.room r.written);
+          printed = rw length-append (omega (arith, fits));
+          complained = omega (arith, less complained_by (prints text) calls (length m.err) m.room r.complained);
+          one = r.one;
+        };
+      }
+
+  complain_step : (text : List ℕ) → IsReady m (complains text ∷ calls) o c → Step m (complains text) calls
+  complain_step text r =
+      let fits = less complained_by (complains text) calls (length m.err) m.room r.complained in
+      let passes : nat_lt m.room (length m.err + length text) ≡ false = le-ltb _ _ (omega (arith, fits)) in
+      record {
+        next = record (write_called m) { err = m.err ++ text };
+        is_next = rw (unlisted m.write_number m.fail_writes r.writes_pass, passes) refl;
+        faults = refl;
+        opened_names = o;
+        created_names = c;
+        ready = record {
+          reads_pass = r.reads_pass;
+          writes_pass = r.writes_pass;
+          there = r.there.1;
+          opened_told = r.opened_told;
+          created_told = r.created_told;
+          opened = omega (arith, less opened_by (complains text) calls (name_weight o) m.room r.opened);
+          created = omega (arith, less created_by (complains text) calls (name_weight c) m.room r.created);
+          written = omega (arith, less written_by (complains text) calls (made_bytes m.making) m.room r.written);
+          printed = omega (arith, less printed_by (complains text) calls (length m.out) m.room r.printed);
+          complained = rw length-append (omega (arith, fits));
+          one = r.one;
+        };
+      }
+
+  create_step : (name : List ℕ) → IsReady m (creates name ∷ calls) o c → Step m (creates name) calls
+  create_step name r =
+      let fits = names_with-fits m.room c name (omega (arith, less created_by (creates name) calls (name_weight c) m.room r.created)) in
+      let weight = name_weight-push c name in
+      let told : names_with m.room m.created name ≡ Some (c ++ name ∷ []) = rw r.created_told fits in
+      let count : sum_by begun_by (creates name ∷ calls) ≡ 1 + sum_by begun_by calls = sum_by-cons begun_by (creates name) calls in
+      let first = Begun-create r.one (sum_by begun_by calls) count in
+      record {
+        next = record (write_called m) { created = names_with m.room m.created name; making = Some (name, []) };
+        is_next = rw (unlisted m.write_number m.fail_writes r.writes_pass, told, first.0) refl;
+        faults = refl;
+        opened_names = o;
+        created_names = c ++ name ∷ [];
+        ready = record {
+          reads_pass = r.reads_pass;
+          writes_pass = r.writes_pass;
+          there = r.there.1;
+          opened_told = r.opened_told;
+          created_told = told;
+          opened = omega (arith, less opened_by (creates name) calls (name_weight o) m.room r.opened);
+          created = omega (arith, weight, less created_by (creates name) calls (name_weight c) m.room r.created);
+          written = omega (arith, less written_by (creates name) calls (made_bytes m.making) m.room r.written);
+          printed = omega (arith, less printed_by (creates name) calls (length m.out) m.room r.printed);
+          complained = omega (arith, less complained_by (creates name) calls (length m.err) m.room r.complained);
+          one = rw first.1 begun;
+        };
+      }
+
+step : (m : Memory) (call : Call) (calls : List Call) (o c : List (List ℕ)) → IsReady m (call ∷ calls) o c → Step m call calls
+step m (reads size) calls o c r = read_step m calls o c size r
+step m (opens name) calls o c r = open_step m calls o c name r
+step m (writes piece) calls o c r = write_step m calls o c piece r
+step m (creates name) calls o c r = create_step m calls o c name r
+step m finishes calls o c r = finish_step m calls o c r
+step m (prints text) calls o c r = print_step m calls o c text r
+step m (complains text) calls o c r = complain_step m calls o c text r
+
+ready_calls : (calls : List Call) (m : Memory) (o c : List (List ℕ)) → IsReady m calls o c → (after_calls m calls).faults ≡ m.faults
+ready_calls [] m o c r = refl
+ready_calls (call ∷ calls) m o c r =
+    let s = step m call calls o c r in
+    ap (λ next. (after_calls next calls).faults) s.is_next ∙ (ready_calls calls s.next s.opened_names s.created_names s.ready ∙ s.faults)
+
+pub modest : (files : List NamedFile) (room : ℕ) (calls : List Call) → IsModest files room calls
+    → (after_calls (fresh files [] [] room) calls).faults ≡ record { reads = 0; writes = 0; complaints = 0 }
+modest files room calls q = ready_calls calls (fresh files [] [] room) [] [] record {
+  reads_pass = refl;
+  writes_pass = refl;
+  there = q.there;
+  opened_told = refl;
+  created_told = refl;
+  opened = omega (arith, q.opened);
+  created = omega (arith, q.created);
+  written = omega (arith, q.written);
+  printed = omega (arith, q.printed);
+  complained = omega (arith, q.complained);
+  one = unbegun q.one;
+}

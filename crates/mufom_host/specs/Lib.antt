@@ -1,0 +1,10 @@
+pub mod World
+pub mod Spans
+pub mod Counts
+pub mod Real
+pub mod Memory
+pub mod Kept
+pub mod KeptNames
+pub mod KeptFile
+pub mod Room
+pub mod Script

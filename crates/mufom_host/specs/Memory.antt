@@ -1,0 +1,129 @@
+-- A host in memory: what stands in it, exactly which of its calls fail, and what each call leaves.
+use Rattle.std.specs.Prelude.{ℕ, ◌+◌, min, nat_lt, Bool, not, ◌||◌, if◌then◌else◌, List, [], ◌++◌, length, drop, Option, Some, None, is_some}
+use Rattle.mufom_host.specs.World.{NamedFile, Meaning, Faults, one_more, optional, with_bytes}
+use Rattle.mufom_host.specs.Kept.{names_with, has_file, is_listed, bytes_after, has_any, passes_file}
+
+pub record Memory : Type 0 where
+  -- the files that may be opened, and what the open one has left
+  pub files : List NamedFile
+  pub left : List ℕ
+  -- the one file that is made, while it is made and when it is finished
+  pub making : Option NamedFile
+  pub made : List NamedFile
+  pub out : List ℕ
+  pub err : List ℕ
+  -- the names opened and created, none once one passed the room
+  pub opened : Option (List (List ℕ))
+  pub created : Option (List (List ℕ))
+  -- how many bytes each of the texts, the file made and the lists of names has at most
+  pub room : ℕ
+  pub faults : Faults
+  -- the numbers of the calls that fail, and of the calls that come next
+  pub fail_reads : List ℕ
+  pub fail_writes : List ℕ
+  pub read_number : ℕ
+  pub write_number : ℕ
+
+-- a host as it is made: nothing is open, made, written or counted
+abbrev pub fresh : List NamedFile → List ℕ → List ℕ → ℕ → Memory
+fresh files fail_reads fail_writes room = record {
+  files = files;
+  left = [];
+  making = None;
+  made = [];
+  out = [];
+  err = [];
+  opened = Some [];
+  created = Some [];
+  room = room;
+  faults = record { reads = 0; writes = 0; complaints = 0 };
+  fail_reads = fail_reads;
+  fail_writes = fail_writes;
+  read_number = 0;
+  write_number = 0;
+}
+
+-- a host in memory tells all
+abbrev pub memory_meaning : Memory → Meaning
+memory_meaning m = record {
+  left = Some m.left;
+  files = Some m.files;
+  making = Some m.making;
+  made = Some m.made;
+  out = Some m.out;
+  err = Some m.err;
+  opened = m.opened;
+  created = m.created;
+}
+
+abbrev pub memory_faults : Memory → Faults
+memory_faults m = m.faults
+
+-- ---- calls are numbered, and failed ones counted
+
+abbrev pub read_called : Memory → Memory
+read_called m = record m { read_number = one_more m.read_number }
+
+abbrev pub write_called : Memory → Memory
+write_called m = record m { write_number = one_more m.write_number }
+
+abbrev pub read_failed : Memory → Memory
+read_failed m = record m { read_number = one_more m.read_number; faults = record m.faults { reads = one_more m.faults.reads } }
+
+abbrev pub write_failed : Memory → Memory
+write_failed m = record m { write_number = one_more m.write_number; faults = record m.faults { writes = one_more m.faults.writes } }
+
+abbrev pub complaint_failed : Memory → Memory
+complaint_failed m = record m { write_number = one_more m.write_number; faults = record m.faults { complaints = one_more m.faults.complaints } }
+
+-- the next open or read, and the next other call, stand in the lists of those that fail
+abbrev pub is_failing_read : Memory → Bool
+is_failing_read m = is_listed m.read_number m.fail_reads
+
+abbrev pub is_failing_write : Memory → Bool
+is_failing_write m = is_listed m.write_number m.fail_writes
+
+-- ---- each call: where it fails, and what it leaves
+
+abbrev pub after_read : Memory → ℕ → Memory
+after_read m size = if is_failing_read m then read_failed m else record (read_called m) { left = drop (min size (length m.left)) m.left }
+
+-- a name passes the room, now or before, or is not there
+abbrev pub open_fails : Memory → List ℕ → Bool
+open_fails m name = is_failing_read m || (not (is_some (names_with m.room m.opened name)) || not (has_file name m.files))
+
+abbrev pub after_open : Memory → List ℕ → Memory
+after_open m name =
+    if open_fails m name
+    then record (read_failed m) { opened = names_with m.room m.opened name }
+    else record (read_called m) { opened = names_with m.room m.opened name; left = bytes_after name m.files m.left }
+
+-- the file being made has no room for the piece
+abbrev pub write_fails : Memory → List ℕ → Bool
+write_fails m piece = is_failing_write m || passes_file m.making m.room (length piece)
+
+abbrev pub after_write : Memory → List ℕ → Memory
+after_write m piece = if write_fails m piece then write_failed m else record (write_called m) { making = with_bytes m.making piece }
+
+-- a name passes the room, now or before, or a file is finished already
+abbrev pub create_fails : Memory → List ℕ → Bool
+create_fails m name = is_failing_write m || (not (is_some (names_with m.room m.created name)) || has_any m.made)
+
+abbrev pub after_create : Memory → List ℕ → Memory
+after_create m name =
+    if create_fails m name
+    then record (write_failed m) { created = names_with m.room m.created name }
+    else record (write_called m) { created = names_with m.room m.created name; making = Some (name, []) }
+
+abbrev pub after_finish : Memory → Memory
+after_finish m = if is_failing_write m then write_failed m else record (write_called m) { making = None; made = m.made ++ optional m.making }
+
+-- a text has no room for these bytes
+abbrev pub passes : ℕ → List ℕ → List ℕ → Bool
+passes room old text = nat_lt room (length old + length text)
+
+abbrev pub after_print : Memory → List ℕ → Memory
+after_print m text = if is_failing_write m || passes m.room m.out text then write_failed m else record (write_called m) { out = m.out ++ text }
+
+abbrev pub after_complain : Memory → List ℕ → Memory
+after_complain m text = if is_failing_write m || passes m.room m.err text then complaint_failed m else record (write_called m) { err = m.err ++ text }

@@ -1,0 +1,193 @@
+-- What stands outside, as far as it is told, and what each call does to it.
+use Rattle.std.specs.Prelude.{◌≡◌, ◌⊎◌, ℕ, ◌+◌, ◌-◌, ◌^◌, ◌<◌, ◌≤◌, min, List, [], ◌∷◌, ◌++◌, length, take, drop, Option, Some, None, Result, Ok, Err, OnOk, OnErr, IfOk, IfSome, IsSome, OnSome, option_map, find}
+use Rattle.std.specs.Str.{bytes_eq}
+use Rattle.mufom_host.specs.declared.world.Failed.{Failed}
+
+-- a file by its name and bytes
+abbrev pub NamedFile : Type 0
+NamedFile = List ℕ × List ℕ
+
+-- what stands outside: each part is none where it is not told
+pub record Meaning : Type 0 where
+  -- what the open input has left, empty while nothing is open
+  pub left : Option (List ℕ)
+  -- the files that may be opened
+  pub files : Option (List NamedFile)
+  -- the file being made, or none
+  pub making : Option (Option NamedFile)
+  -- the finished files, the earliest first
+  pub made : Option (List NamedFile)
+  -- what was printed
+  pub out : Option (List ℕ)
+  -- what was complained
+  pub err : Option (List ℕ)
+  -- the names with which files were opened and created, failed calls among them
+  pub opened : Option (List (List ℕ))
+  pub created : Option (List (List ℕ))
+
+-- a host that tells the files tells what is left, and one that tells the finished files tells the one being made
+pub record TellsTogether (meaning : Meaning) : Type 0 where
+  pub left : IsSome meaning.files → IsSome meaning.left
+  pub making : IsSome meaning.made → IsSome meaning.making
+
+-- how often reads, writes and complaints failed
+pub record Faults : Type 0 where
+  pub reads : ℕ
+  pub writes : ℕ
+  pub complaints : ℕ
+
+-- one more than a counter's value; the last value stays
+abbrev pub one_more : ℕ → ℕ
+one_more count = min (count + 1) (2 ^ 64 - 1)
+
+-- a count rose, or stands at the last value of a counter
+abbrev pub Rose : ℕ → ℕ → Type 0
+Rose before now = one_more before ≤ now
+
+-- the count never falls, and a failed call has raised it
+pub record HasCause {T : Type 0} (before now : ℕ) (result : Result T Failed) : Type 0 where
+  pub later : before ≤ now
+  pub failed : OnErr result (Rose before now)
+
+-- ---- which counts stay
+
+abbrev pub KeepsAllButReads : Faults → Faults → Type 0
+KeepsAllButReads old new = new ≡ record old { reads = new.reads }
+
+abbrev pub KeepsAllButWrites : Faults → Faults → Type 0
+KeepsAllButWrites old new = new ≡ record old { writes = new.writes }
+
+abbrev pub KeepsAllButComplaints : Faults → Faults → Type 0
+KeepsAllButComplaints old new = new ≡ record old { complaints = new.complaints }
+
+-- ---- how a part changes, where it is told
+
+-- it stays as it is
+abbrev pub StaysTold : {T : Type 0} → Option T → Option T → Type 0
+StaysTold before after = IfSome before (λ part. after ≡ Some part)
+
+-- a list grows by these items
+abbrev pub GrowsBy : {T : Type 0} → Option (List T) → Option (List T) → List T → Type 0
+GrowsBy before after added = IfSome before (λ old. after ≡ Some (old ++ added))
+
+-- a list grows by the front of these items
+abbrev pub GrowsByFront : {T : Type 0} → Option (List T) → Option (List T) → List T → Type 0
+GrowsByFront before after added = IfSome before (λ old. (n : ℕ) × (after ≡ Some (old ++ take n added)))
+
+-- bytes are added to the file being made; where none is being made, none is
+abbrev pub with_bytes : Option NamedFile → List ℕ → Option NamedFile
+with_bytes None bytes = None
+with_bytes (Some file) bytes = Some (file.0, file.1 ++ bytes)
+
+-- the file being made grows by these bytes
+abbrev pub MakingGrowsBy : Option (Option NamedFile) → Option (Option NamedFile) → List ℕ → Type 0
+MakingGrowsBy before after bytes = IfSome before (λ making. after ≡ Some (with_bytes making bytes))
+
+-- the file being made grows by the front of these bytes
+abbrev pub MakingGrowsByFront : Option (Option NamedFile) → Option (Option NamedFile) → List ℕ → Type 0
+MakingGrowsByFront before after bytes = IfSome before (λ making. (n : ℕ) × (after ≡ Some (with_bytes making (take n bytes))))
+
+-- the bytes are read off the front of what is left
+abbrev pub ReadsOff : Option (List ℕ) → Option (List ℕ) → List ℕ → Type 0
+ReadsOff before after bytes = IfSome before (λ left. (rest : List ℕ) × (left ≡ bytes ++ rest) × (after ≡ Some rest))
+
+-- ---- what each call does to the parts that it names
+
+-- the number that a call answers is at most this
+abbrev pub AtMost : Result ℕ Failed → ℕ → Type 0
+AtMost result n = IfOk result (λ k. k ≤ n)
+
+-- the first n bytes left go to the buffer's front; 0 for a buffer that is not empty means that nothing is left
+pub record TakesFront (left : List ℕ) (after : Option (List ℕ)) (n : ℕ) (buffer : List ℕ) : Type 0 where
+  pub bytes : take n buffer ≡ take n left
+  pub within : n ≤ length left
+  pub rest : after ≡ Some (drop n left)
+  pub end : n ≡ 0 → 0 < length buffer → left ≡ []
+
+-- a read takes the front of what is left; a failed one leaves it
+abbrev pub Reads : Option (List ℕ) → Option (List ℕ) → Result ℕ Failed → List ℕ → Type 0
+Reads before after (Ok n) buffer = IfSome before (λ left. TakesFront left after n buffer)
+Reads before after (Err e) buffer = StaysTold before after
+
+-- a text grows by all of the bytes, or on a failure by the front of them
+abbrev pub Grows : Option (List ℕ) → Option (List ℕ) → Result (Unit {0}) Failed → List ℕ → Type 0
+Grows before after (Ok done) text = GrowsBy before after text
+Grows before after (Err e) text = GrowsByFront before after text
+
+-- so many bytes of the piece are added as the answer says, some where there are any; on a failure the front of the piece may be
+abbrev pub Writes : Option (Option NamedFile) → Option (Option NamedFile) → Result ℕ Failed → List ℕ → Type 0
+Writes before after (Ok n) piece = MakingGrowsBy before after (take n piece) × (0 < length piece → 0 < n)
+Writes before after (Err e) piece = MakingGrowsByFront before after piece
+
+-- all of the bytes are added to the file being made, or on a failure the front of them
+abbrev pub WritesAll : Option (Option NamedFile) → Option (Option NamedFile) → Result (Unit {0}) Failed → List ℕ → Type 0
+WritesAll before after (Ok done) bytes = MakingGrowsBy before after bytes
+WritesAll before after (Err e) bytes = MakingGrowsByFront before after bytes
+
+-- the bytes of the first file with this name
+abbrev pub file_named : List ℕ → List NamedFile → Option (List ℕ)
+file_named name files = option_map (λ f. f.1) (find (λ f. bytes_eq f.0 name) files)
+
+-- the list of names grows by the name; on a failure it may be told no longer
+abbrev pub NamesGrow : Option (List (List ℕ)) → Option (List (List ℕ)) → Result (Unit {0}) Failed → List ℕ → Type 0
+NamesGrow before after (Ok done) name = GrowsBy before after (name ∷ [])
+NamesGrow before after (Err e) name = OnSome after (GrowsBy before after (name ∷ []))
+
+-- an input that is open has the bytes of the file with its name
+pub record Opens (old new : Meaning) (result : Result (Unit {0}) Failed) (name : List ℕ) : Type 0 where
+  pub bytes : OnOk result (IfSome old.files (λ files. (bytes : List ℕ) × (file_named name files ≡ Some bytes) × (new.left ≡ Some bytes)))
+  pub told : IsSome old.left → IsSome new.left
+  pub names : NamesGrow old.opened new.opened result name
+
+-- the file being made has the name and no bytes; on a failure it may be the one before
+pub record Creates (old new : Meaning) (result : Result (Unit {0}) Failed) (name : List ℕ) : Type 0 where
+  pub making : OnOk result ((IsSome old.making ⊎ IsSome old.made) → new.making ≡ Some (Some (name, [])))
+  pub failed : OnErr result (OnSome old.making ((new.making ≡ old.making) ⊎ (new.making ≡ Some (Some (name, [])))))
+  pub names : NamesGrow old.created new.created result name
+
+-- one file, or none
+abbrev pub optional : Option NamedFile → List NamedFile
+optional None = []
+optional (Some file) = file ∷ []
+
+-- the finished files grow by the one being made, where there is one; a failure changes nothing
+abbrev pub Finishes : Meaning → Meaning → Result (Unit {0}) Failed → Type 0
+Finishes old new (Ok done) = IfSome old.making (λ making. (new.making ≡ Some None) × IfSome old.made (λ made. new.made ≡ Some (made ++ optional making)))
+Finishes old new (Err e) = new ≡ old
+
+-- ---- what stays: each part but those that a call names
+
+abbrev pub KeepsAll : Meaning → Meaning → Type 0
+KeepsAll old new = new ≡ old
+
+-- of a read
+abbrev pub KeepsAllButLeft : Meaning → Meaning → Type 0
+KeepsAllButLeft old new = new ≡ record old { left = new.left }
+
+-- of a write
+abbrev pub KeepsAllButMaking : Meaning → Meaning → Type 0
+KeepsAllButMaking old new = new ≡ record old { making = new.making }
+
+-- of an open
+abbrev pub KeepsAllButOpened : Meaning → Meaning → Type 0
+KeepsAllButOpened old new = new ≡ record old { left = new.left; opened = new.opened }
+
+-- of a create
+abbrev pub KeepsAllButCreated : Meaning → Meaning → Type 0
+KeepsAllButCreated old new = new ≡ record old { making = new.making; created = new.created }
+
+-- of a finish
+abbrev pub KeepsAllButMade : Meaning → Meaning → Type 0
+KeepsAllButMade old new = new ≡ record old { making = new.making; made = new.made }
+
+-- of a print
+abbrev pub KeepsAllButOut : Meaning → Meaning → Type 0
+KeepsAllButOut old new = new ≡ record old { out = new.out }
+
+-- of a complaint
+abbrev pub KeepsAllButErr : Meaning → Meaning → Type 0
+KeepsAllButErr old new = new ≡ record old { err = new.err }
+
+-- of the calls that make a file: its create, its writes and its finish
+abbrev pub KeepsAllButFile : Meaning → Meaning → Type 0
+KeepsAllButFile old new = new ≡ record old { making = new.making; made = new.made; created = new.created }

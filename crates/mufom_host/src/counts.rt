@@ -1,0 +1,48 @@
+ghost use Rattle.std.specs.Prelude.{◌≡◌, ◌≤◌};
+ghost use Rattle.mufom_host.specs.World.{one_more};
+
+use crate::Failed;
+
+/// How often reads, writes and complaints failed. Each count stands still at the last `u64`.
+#[derive(Clone, Copy, Debug)]
+pub struct Counts {
+    pub reads: u64,
+    pub writes: u64,
+    pub complaints: u64,
+}
+
+impl Counts {
+    pub fn none() -> Counts
+        ensures { result ≡ record { reads = 0; writes = 0; complaints = 0 } }
+    {
+        Counts {
+            reads: 0,
+            writes: 0,
+            complaints: 0,
+        }
+    }
+
+    pub fn read_failed(&mut self) -> Failed
+        ensures after { self.new ≡ record self.old { reads = one_more self.old.reads } }
+        ensures later { self.old.reads ≤ self.new.reads }
+    {
+        self.reads = self.reads.saturating_add(1);
+        Failed
+    }
+
+    pub fn write_failed(&mut self) -> Failed
+        ensures after { self.new ≡ record self.old { writes = one_more self.old.writes } }
+        ensures later { self.old.writes ≤ self.new.writes }
+    {
+        self.writes = self.writes.saturating_add(1);
+        Failed
+    }
+
+    pub fn complaint_failed(&mut self) -> Failed
+        ensures after { self.new ≡ record self.old { complaints = one_more self.old.complaints } }
+        ensures later { self.old.complaints ≤ self.new.complaints }
+    {
+        self.complaints = self.complaints.saturating_add(1);
+        Failed
+    }
+}

@@ -1,0 +1,13 @@
+//! A law of the host in memory, the contract of a function that does nothing.
+
+ghost use Rattle.std.specs.Prelude.{◌≡◌, ℕ, List, []};
+ghost use Rattle.mufom_host.specs.World.{NamedFile};
+ghost use Rattle.mufom_host.specs.Memory.{fresh};
+ghost use Rattle.mufom_host.specs.Script.{Call, IsModest, after_calls};
+
+/// A host in memory with empty lists of failing calls counts no fault, as long as only files are
+/// opened that are there, all bytes and names have room, and at most one file is made.
+pub fn modest_calls_never_fail()
+    ensures { (files : List NamedFile) (room : ℕ) (calls : List Call) → IsModest files room calls
+        → (after_calls (fresh files [] [] room) calls).faults ≡ record { reads = 0; writes = 0; complaints = 0 } }
+{}

@@ -1,0 +1,19 @@
+//! The outside of the program as traits, with two hosts: one in memory for tests, and the files and
+//! standard streams of the process.
+//!
+//! It stands on `mufom_numbers`. A host tells as much as it likes of what stands outside, and the
+//! contracts of the traits speak of what it tells. Their main clause is that a call answers
+//! [`Failed`] only where its count of faults rose, and that all bytes go where the call says and
+//! all else stays.
+#![tactic(auto)]
+
+mod counts;
+mod laws;
+mod memory;
+mod real;
+mod world;
+
+pub use laws::modest_calls_never_fail;
+pub use memory::MemHost;
+pub use real::RealHost;
+pub use world::{Failed, Host, Sink, Source, World, write_all};

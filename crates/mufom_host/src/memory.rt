@@ -1,0 +1,260 @@
+mod buffer;
+mod calls;
+mod files;
+mod names;
+mod output;
+#[cfg(test)]
+mod tests;
+
+ghost use Rattle.std.specs.Prelude.{◌≡◌, ◌||◌, min, length, IfOk, is_err, option_map};
+ghost use Rattle.mufom_host.specs.World.{optional, HasCause, AtMost, Reads, Opens, Writes, Creates, Finishes, Grows, KeepsAllButLeft, KeepsAllButOpened, KeepsAllButMaking, KeepsAllButCreated, KeepsAllButMade, KeepsAllButOut, KeepsAllButErr, KeepsAllButReads, KeepsAllButWrites, KeepsAllButComplaints};
+ghost use Rattle.mufom_host.specs.Memory.{memory_meaning, memory_faults, fresh, is_failing_read, is_failing_write, after_read, open_fails, after_open, write_fails, after_write, create_fails, after_create, after_finish, passes, after_print, after_complain};
+
+use crate::counts::Counts;
+use crate::{Failed, Host, Sink, Source, World};
+use buffer::Buffer;
+use calls::Calls;
+use files::Files;
+use mufom_numbers::{Bytes, List, NoMemory, Text};
+use names::Names;
+use output::Output;
+use std::alloc::Global;
+use std::marker::Model;
+
+/// A host in memory, for tests: files that are given, one file that is made, and two texts. It tells
+/// all that stands in it.
+///
+/// It numbers its `open` and `read` calls together from 0, and its `create`, `write`, `finish`,
+/// `print` and `complain` calls together from 0. A call whose number is in the list of its kind
+/// fails. So do a call whose bytes or name pass the room, the opening of a name that is not there,
+/// and a `create` after a finished file. A failed call changes nothing but its count of faults and,
+/// for `open` and `create`, the list of names, which a name that passes the room ends: it is told
+/// no longer, and each later call of that kind fails.
+#[derive(Drop)]
+pub struct MemHost {
+    files: Files,
+    output: Output,
+    out: Buffer,
+    err: Buffer,
+    opened: Names,
+    created: Names,
+    reads: Calls,
+    writes: Calls,
+    counts: Counts,
+}
+
+impl Model for MemHost {
+    ghost use Rattle.mufom_host.specs.Memory.{Memory};
+    ghost use Rattle.mufom_host.specs.Room.{HasOneRoom};
+    ghost use Rattle.mufom_host.specs.Counts.{faults_of};
+
+    ghost Value = { Memory };
+
+    ghost view = { λ h. record { files = h.files.files; left = h.files.left; making = h.output.making; made = h.output.made; out = h.out.bytes; err = h.err.bytes; opened = h.opened.names; created = h.created.names; room = h.out.room; faults = faults_of h.counts; fail_reads = h.reads.failing; fail_writes = h.writes.failing; read_number = h.reads.number; write_number = h.writes.number } };
+
+    ghost invariant = { λ h. HasOneRoom h.out.room h.err.room h.output.room h.opened.room h.created.room };
+}
+
+impl MemHost {
+    /// A host with these files, in which the calls with the numbers in the two lists fail.
+    ///
+    /// It takes room for `room` bytes in each of the two texts, the file that is made, the names
+    /// opened and the names created, where a name counts its bytes and 8 more. No other call takes
+    /// memory.
+    pub fn new(
+        alloc: Global,
+        files: List<(Text, Bytes)>,
+        fail_reads: List<u64>,
+        fail_writes: List<u64>,
+        room: usize,
+    ) -> Result<MemHost, NoMemory>
+        ensures { IfOk result (λ host. host ≡ fresh files fail_reads fail_writes room) }
+    {
+        let output = Output::new(alloc, room)?;
+        let out = Buffer::new(alloc, room)?;
+        let err = Buffer::new(alloc, room)?;
+        let opened = Names::new(alloc, room)?;
+        let created = Names::new(alloc, room)?;
+        Ok(MemHost {
+            files: Files::new(files),
+            output,
+            out,
+            err,
+            opened,
+            created,
+            reads: Calls::new(fail_reads),
+            writes: Calls::new(fail_writes),
+            counts: Counts::none(),
+        })
+    }
+
+    /// The name and the bytes of the finished file, and `None` where there is none.
+    pub fn made(&self) -> Option<(&[u8], &[u8])>
+        ensures { optional (option_map (λ file. (file.0.now, file.1.now)) result) ≡ self.now.made }
+    {
+        self.output.made()
+    }
+
+    /// The name and the bytes so far of the file being made, and `None` where there is none.
+    pub fn making(&self) -> Option<(&[u8], &[u8])>
+        ensures { option_map (λ file. (file.0.now, file.1.now)) result ≡ self.now.making }
+    {
+        self.output.making()
+    }
+
+    /// What was printed.
+    pub fn out(&self) -> &[u8]
+        ensures { result.now ≡ self.now.out }
+    {
+        self.out.as_slice()
+    }
+
+    /// What was complained.
+    pub fn err(&self) -> &[u8]
+        ensures { result.now ≡ self.now.err }
+    {
+        self.err.as_slice()
+    }
+}
+
+impl World for MemHost {
+    ghost use Rattle.std.specs.Prelude.{refl};
+    ghost use Rattle.mufom_host.specs.Memory.{memory_meaning, memory_faults};
+
+    ghost meaning = { memory_meaning };
+
+    ghost faults = { memory_faults };
+
+    ghost together = { λ m. record { left = λ _. refl; making = λ _. refl } };
+}
+
+impl Source for MemHost {
+    fn read(&mut self, buffer: &mut [u8]) -> Result<usize, Failed>
+        ensures bound { AtMost result (length buffer.new) }
+        ensures bytes { Reads (memory_meaning self.old).left (memory_meaning self.new).left result buffer.new }
+        ensures stays { KeepsAllButLeft (memory_meaning self.old) (memory_meaning self.new) }
+        ensures cause { HasCause (memory_faults self.old).reads (memory_faults self.new).reads result }
+        ensures counts { KeepsAllButReads (memory_faults self.old) (memory_faults self.new) }
+
+        // Exactly which calls fail, and what stands after each.
+        ensures fails { is_err result ≡ is_failing_read self.old }
+        ensures count { IfOk result (λ n. n ≡ min (length buffer.new) (length self.old.left)) }
+        ensures after { self.new ≡ after_read self.old (length buffer.new) }
+    {
+        if self.reads.fails() {
+            return Err(self.counts.read_failed());
+        }
+        Ok(self.files.read(buffer))
+    }
+}
+
+impl Sink for MemHost {
+    fn write(&mut self, piece: &[u8]) -> Result<usize, Failed>
+        ensures bound { AtMost result (length piece.now) }
+        ensures bytes { Writes (memory_meaning self.old).making (memory_meaning self.new).making result piece.now }
+        ensures stays { KeepsAllButMaking (memory_meaning self.old) (memory_meaning self.new) }
+        ensures cause { HasCause (memory_faults self.old).writes (memory_faults self.new).writes result }
+        ensures counts { KeepsAllButWrites (memory_faults self.old) (memory_faults self.new) }
+
+        // Exactly which calls fail, and what stands after each: all of the piece is taken.
+        ensures fails { is_err result ≡ write_fails self.old piece.now }
+        ensures count { IfOk result (λ n. n ≡ length piece.now) }
+        ensures after { self.new ≡ after_write self.old piece.now }
+    {
+        if self.writes.fails() || !self.output.has_room_for(piece.len()) {
+            return Err(self.counts.write_failed());
+        }
+        self.output.add(piece);
+        Ok(piece.len())
+    }
+}
+
+impl Host for MemHost {
+    fn open(&mut self, name: &str) -> Result<(), Failed>
+        ensures opens { Opens (memory_meaning self.old) (memory_meaning self.new) result name.now }
+        ensures stays { KeepsAllButOpened (memory_meaning self.old) (memory_meaning self.new) }
+        ensures cause { HasCause (memory_faults self.old).reads (memory_faults self.new).reads result }
+        ensures counts { KeepsAllButReads (memory_faults self.old) (memory_faults self.new) }
+
+        // Exactly which calls fail, and what stands after each.
+        ensures fails { is_err result ≡ open_fails self.old name.now }
+        ensures after { self.new ≡ after_open self.old name.now }
+    {
+        let fails = self.reads.fails();
+        let is_told = self.opened.add(name.as_bytes());
+        if fails || !is_told || !self.files.open(name) {
+            return Err(self.counts.read_failed());
+        }
+        Ok(())
+    }
+
+    fn create(&mut self, name: &str) -> Result<(), Failed>
+        ensures creates { Creates (memory_meaning self.old) (memory_meaning self.new) result name.now }
+        ensures stays { KeepsAllButCreated (memory_meaning self.old) (memory_meaning self.new) }
+        ensures cause { HasCause (memory_faults self.old).writes (memory_faults self.new).writes result }
+        ensures counts { KeepsAllButWrites (memory_faults self.old) (memory_faults self.new) }
+
+        // Exactly which calls fail, and what stands after each.
+        ensures fails { is_err result ≡ create_fails self.old name.now }
+        ensures after { self.new ≡ after_create self.old name.now }
+    {
+        let fails = self.writes.fails();
+        let is_told = self.created.add(name.as_bytes());
+        if fails || !is_told || self.output.is_made() {
+            return Err(self.counts.write_failed());
+        }
+        self.output.create(name.as_bytes());
+        Ok(())
+    }
+
+    fn finish(&mut self) -> Result<(), Failed>
+        ensures finishes { Finishes (memory_meaning self.old) (memory_meaning self.new) result }
+        ensures stays { KeepsAllButMade (memory_meaning self.old) (memory_meaning self.new) }
+        ensures cause { HasCause (memory_faults self.old).writes (memory_faults self.new).writes result }
+        ensures counts { KeepsAllButWrites (memory_faults self.old) (memory_faults self.new) }
+
+        // Exactly which calls fail, and what stands after each.
+        ensures fails { is_err result ≡ is_failing_write self.old }
+        ensures after { self.new ≡ after_finish self.old }
+    {
+        if self.writes.fails() {
+            return Err(self.counts.write_failed());
+        }
+        self.output.finish();
+        Ok(())
+    }
+
+    fn print(&mut self, text: &[u8]) -> Result<(), Failed>
+        ensures bytes { Grows (memory_meaning self.old).out (memory_meaning self.new).out result text.now }
+        ensures stays { KeepsAllButOut (memory_meaning self.old) (memory_meaning self.new) }
+        ensures cause { HasCause (memory_faults self.old).writes (memory_faults self.new).writes result }
+        ensures counts { KeepsAllButWrites (memory_faults self.old) (memory_faults self.new) }
+
+        // Exactly which calls fail, and what stands after each.
+        ensures fails { is_err result ≡ (is_failing_write self.old || passes self.old.room self.old.out text.now) }
+        ensures after { self.new ≡ after_print self.old text.now }
+    {
+        if self.writes.fails() || !self.out.has_room_for(text.len()) {
+            return Err(self.counts.write_failed());
+        }
+        self.out.add(text);
+        Ok(())
+    }
+
+    fn complain(&mut self, text: &[u8]) -> Result<(), Failed>
+        ensures bytes { Grows (memory_meaning self.old).err (memory_meaning self.new).err result text.now }
+        ensures stays { KeepsAllButErr (memory_meaning self.old) (memory_meaning self.new) }
+        ensures cause { HasCause (memory_faults self.old).complaints (memory_faults self.new).complaints result }
+        ensures counts { KeepsAllButComplaints (memory_faults self.old) (memory_faults self.new) }
+
+        // Exactly which calls fail, and what stands after each.
+        ensures fails { is_err result ≡ (is_failing_write self.old || passes self.old.room self.old.err text.now) }
+        ensures after { self.new ≡ after_complain self.old text.now }
+    {
+        if self.writes.fails() || !self.err.has_room_for(text.len()) {
+            return Err(self.counts.complaint_failed());
+        }
+        self.err.add(text);
+        Ok(())
+    }
+}

@@ -1,0 +1,74 @@
+ghost use Rattle.std.specs.Prelude.{◌≡◌, [], Some, IfOk, is_some};
+ghost use Rattle.mufom_host.specs.Kept.{names_with};
+
+use mufom_numbers::NoMemory;
+use std::alloc::Global;
+use std::marker::Model;
+
+/// Names in room that is taken at the start, where each counts its bytes and 8 more. The first
+/// that passes the room ends the list: from then on it is not told.
+#[derive(Drop)]
+pub struct Names {
+    bytes: Vec<u8>,
+    lengths: Vec<usize>,
+    room: usize,
+    is_told: bool,
+}
+
+impl Model for Names {
+    ghost use Rattle.std.specs.Prelude.{Some, None, if◌then◌else◌};
+    ghost use Rattle.mufom_host.specs.Kept.{NameStore, cut};
+    ghost use Rattle.mufom_host.specs.KeptNames.{HasRoom};
+
+    ghost Value = { NameStore };
+
+    ghost view = { λ n. record { names = if n.is_told then Some (cut n.lengths.items n.bytes.items) else None; room = n.room } };
+
+    ghost invariant = { λ n. HasRoom n.bytes n.lengths n.room };
+}
+
+impl Names {
+    pub fn new(alloc: Global, room: usize) -> Result<Names, NoMemory>
+        ensures { IfOk result (λ names. names ≡ record { names = Some []; room = room }) }
+    {
+        let bytes = Vec::with_capacity(alloc, room)?;
+        let lengths = Vec::with_capacity(alloc, room / 8)?;
+        Ok(Names {
+            bytes,
+            lengths,
+            room,
+            is_told: true,
+        })
+    }
+
+    /// Adds a name, and answers whether the names are told now.
+    pub fn add(&mut self, name: &[u8]) -> bool
+        ensures after { self.new ≡ record self.old { names = names_with self.old.room self.old.names name.now } }
+        ensures told { result ≡ is_some self.new.names }
+    {
+        if !self.is_told {
+            return false;
+        }
+        let free = self.room - (self.bytes.len() + 8 * self.lengths.len());
+        if free < 8 || free - 8 < name.len() {
+            self.is_told = false;
+            return false;
+        }
+        // It is done, since the room is there.
+        let _ = self.bytes.extend_from_slice(name);
+        self.lengths.push_reserved(name.len());
+        true
+    }
+}
+
+#[cfg(test)]
+impl Names {
+    /// The bytes of all names after one another, where they are told.
+    pub fn told(&self) -> Option<&[u8]> {
+        if self.is_told {
+            Some(self.bytes.as_slice())
+        } else {
+            None
+        }
+    }
+}

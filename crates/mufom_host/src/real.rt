@@ -1,0 +1,200 @@
+ghost use Rattle.std.specs.Prelude.{◌≡◌};
+
+use crate::counts::Counts;
+use crate::{Failed, Host, Sink, Source, World};
+use std::fs;
+use std::fs::File;
+use std::io::{BufWriter, ErrorKind, Read, Write};
+use std::marker::Model;
+
+// How many bytes of the file being made are kept before they are handed to the system.
+const BUFFER: usize = 65_536;
+
+/// The files and the standard streams of the process: the trusted edge. It tells no content.
+///
+/// The file being made is buffered: all of what was written is sure to stand only once
+/// [`finish`](Host::finish) has answered `Ok`. [`print`](Host::print) and
+/// [`complain`](Host::complain) hand the whole text to the system before they answer, so that
+/// nothing is left to write when the program ends: hand them large pieces. A call of the system
+/// that fails, also for want of memory for a buffer, is a counted fault. Of this host only the
+/// causes are proved; that files and streams hold what was written is tested.
+#[derive(Drop)]
+pub struct RealHost {
+    rt: HostRuntime,
+    input: Option<File>,
+    output: Option<BufWriter<File>>,
+    counts: Counts,
+}
+
+impl Model for RealHost {
+    ghost use Rattle.mufom_host.specs.World.{Faults};
+    ghost use Rattle.mufom_host.specs.Counts.{faults_of};
+
+    ghost Value = { Faults };
+
+    ghost view = { λ host. faults_of host.counts };
+}
+
+impl World for RealHost {
+    ghost use Rattle.std.specs.Prelude.{refl};
+    ghost use Rattle.mufom_host.specs.Real.{tells_nothing};
+
+    ghost meaning = { λ host. tells_nothing };
+
+    ghost faults = { λ host. host };
+
+    ghost together = { λ host. record { left = λ told. told; making = λ told. told } };
+}
+
+impl RealHost {
+    /// A host that has opened nothing and counted no fault, over main's access to the system.
+    pub fn new(rt: HostRuntime) -> RealHost
+        ensures { result ≡ record { reads = 0; writes = 0; complaints = 0 } }
+    {
+        RealHost {
+            rt,
+            input: None,
+            output: None,
+            counts: Counts::none(),
+        }
+    }
+}
+
+impl Source for RealHost {
+    fn read(&mut self, buffer: &mut [u8]) -> Result<usize, Failed> {
+        let Some(file) = &mut self.input else {
+            return Ok(0);
+        };
+        for _ in 0..u64::MAX {
+            match file.read(buffer) {
+                Ok(count) => return Ok(count),
+                Err(error) if error.kind() == ErrorKind::Interrupted => {}
+                Err(_) => break,
+            }
+        }
+        Err(self.counts.read_failed())
+    }
+}
+
+impl Sink for RealHost {
+    fn write(&mut self, piece: &[u8]) -> Result<usize, Failed> {
+        let Some(file) = &mut self.output else {
+            return Ok(piece.len());
+        };
+        match file.write_all(piece) {
+            Ok(()) => Ok(piece.len()),
+            Err(_) => Err(self.counts.write_failed()),
+        }
+    }
+}
+
+impl Host for RealHost {
+    fn open(&mut self, name: &str) -> Result<(), Failed> {
+        match fs::open(&self.rt, name) {
+            Ok(file) => {
+                self.input = Some(file);
+                Ok(())
+            }
+            Err(_) => Err(self.counts.read_failed()),
+        }
+    }
+
+    /// It empties a file that is there.
+    fn create(&mut self, name: &str) -> Result<(), Failed> {
+        let Ok(file) = fs::create(&self.rt, name) else {
+            return Err(self.counts.write_failed());
+        };
+        match BufWriter::with_capacity(self.rt.alloc(), BUFFER, file) {
+            Ok(file) => {
+                self.output = Some(file);
+                Ok(())
+            }
+            Err(_) => Err(self.counts.write_failed()),
+        }
+    }
+
+    fn finish(&mut self) -> Result<(), Failed> {
+        let Some(file) = &mut self.output else {
+            return Ok(());
+        };
+        match file.flush() {
+            Ok(()) => {
+                self.output = None;
+                Ok(())
+            }
+            Err(_) => Err(self.counts.write_failed()),
+        }
+    }
+
+    fn print(&mut self, text: &[u8]) -> Result<(), Failed> {
+        match self.rt.stdout().write_all(text) {
+            Ok(()) => Ok(()),
+            Err(_) => Err(self.counts.write_failed()),
+        }
+    }
+
+    fn complain(&mut self, text: &[u8]) -> Result<(), Failed> {
+        match self.rt.stderr().write_all(text) {
+            Ok(()) => Ok(()),
+            Err(_) => Err(self.counts.complaint_failed()),
+        }
+    }
+}
+
+#[cfg(test)]
+mod tests {
+    use super::*;
+    use std::test::Fail;
+
+    const NAME: &str = "real_host_test.tmp";
+
+    fn faults(host: &RealHost) -> (u64, u64, u64) {
+        (
+            host.counts.reads,
+            host.counts.writes,
+            host.counts.complaints,
+        )
+    }
+
+    // Makes the file with these bytes in two pieces, and says whether all went well.
+    fn makes(host: &mut RealHost, first: &[u8], second: &[u8]) -> bool {
+        host.create(NAME).is_ok()
+            && host.write(first) == Ok(first.len())
+            && host.write(second) == Ok(second.len())
+            && host.finish().is_ok()
+    }
+
+    // How many bytes of the file one read gives, where it opens.
+    fn reads(host: &mut RealHost, buffer: &mut [u8]) -> Result<usize, Failed> {
+        host.open(NAME)?;
+        host.read(buffer)
+    }
+
+    #[test]
+    fn a_file_is_written_and_read_back(rt: HostRuntime) -> Result<(), Fail> {
+        let mut host = RealHost::new(rt.clone()?);
+        let mut buffer = [0u8; 16];
+        assert_eq!(rt;
+            reads(&mut host, &mut buffer),
+            Err(Failed),
+            "it is not there"
+        );
+        assert_eq!(rt; faults(&host), (1, 0, 0));
+        assert!(rt; makes(&mut host, b"written ", b"in two"));
+        assert_eq!(rt; reads(&mut host, &mut buffer), Ok(14));
+        assert_eq!(rt; buffer, *b"written in two\0\0");
+        assert!(rt; makes(&mut host, b"", b""), "it is emptied");
+        assert_eq!(rt; reads(&mut host, &mut buffer), Ok(0));
+        fs::remove_file(&rt, NAME)?;
+        assert_eq!(rt; faults(&host), (1, 0, 0));
+        Ok(())
+    }
+
+    #[test]
+    fn texts_are_printed(rt: HostRuntime) -> Result<(), Fail> {
+        let mut host = RealHost::new(rt.clone()?);
+        assert_eq!(rt; host.print(b"printed\n"), Ok(()));
+        assert_eq!(rt; host.complain(b"complained\n"), Ok(()));
+        Ok(())
+    }
+}

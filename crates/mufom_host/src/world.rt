@@ -1,0 +1,115 @@
+ghost use Rattle.std.specs.Prelude.{length};
+ghost use Rattle.mufom_host.specs.World.{Meaning, Faults, TellsTogether, HasCause, AtMost, Reads, Opens, Writes, Creates, Finishes, Grows, WritesAll, KeepsAllButLeft, KeepsAllButOpened, KeepsAllButMaking, KeepsAllButCreated, KeepsAllButMade, KeepsAllButOut, KeepsAllButErr, KeepsAllButReads, KeepsAllButWrites, KeepsAllButComplaints};
+
+/// A call of the outside failed, and its count of faults rose.
+#[derive(Clone, Copy, Debug, PartialEq, Eq)]
+pub struct Failed;
+
+/// What stands outside, each part of it told or not, and how often calls failed.
+///
+/// It has no calls, so that a reader over [`Source`] alone and a writer over [`Sink`] alone can say
+/// what stays. A call leaves each part and each count that its own clauses do not name, after `Ok`
+/// and after `Failed`. A part that is told stays told, but for the names of files after a failed
+/// [`open`](Host::open) or [`create`](Host::create). The counts never fall; one that stands at the
+/// last `u64` is said to have risen all the same.
+pub trait World {
+    ghost meaning: { Self → Meaning };
+
+    ghost faults: { Self → Faults };
+
+    ghost together: { (world : Self) → TellsTogether (meaning world) };
+}
+
+/// Where the bytes of the open input come from.
+pub trait Source: World {
+    /// Takes bytes of the open input to the front of the buffer, and answers how many: 0 for a
+    /// buffer that is not empty means that none is left.
+    ///
+    /// `Failed` leaves what is left; the buffer may have changed.
+    fn read(&mut self, buffer: &mut [u8]) -> Result<usize, Failed>
+        ensures bound { AtMost result (length buffer.new) }
+        ensures bytes { Reads (Self.meaning self.old).left (Self.meaning self.new).left result buffer.new }
+        ensures stays { KeepsAllButLeft (Self.meaning self.old) (Self.meaning self.new) }
+        ensures cause { HasCause (Self.faults self.old).reads (Self.faults self.new).reads result }
+        ensures counts { KeepsAllButReads (Self.faults self.old) (Self.faults self.new) };
+}
+
+/// Where the bytes of the file being made go.
+pub trait Sink: World {
+    /// Adds the front of the piece to the file being made, and answers how many bytes it took: at
+    /// least 1 of a piece that is not empty. While no file is being made it may take the whole
+    /// piece, and changes nothing.
+    ///
+    /// `Failed` may have added a front of the piece.
+    fn write(&mut self, piece: &[u8]) -> Result<usize, Failed>
+        ensures bound { AtMost result (length piece.now) }
+        ensures bytes { Writes (Self.meaning self.old).making (Self.meaning self.new).making result piece.now }
+        ensures stays { KeepsAllButMaking (Self.meaning self.old) (Self.meaning self.new) }
+        ensures cause { HasCause (Self.faults self.old).writes (Self.faults self.new).writes result }
+        ensures counts { KeepsAllButWrites (Self.faults self.old) (Self.faults self.new) };
+}
+
+/// The whole outside of a program that reads named files, makes named files, prints and complains.
+pub trait Host: Source + Sink {
+    /// Opens the file with this name as the input, in place of the one before.
+    ///
+    /// After `Failed` any input may be open, or none.
+    fn open(&mut self, name: &str) -> Result<(), Failed>
+        ensures opens { Opens (Self.meaning self.old) (Self.meaning self.new) result name.now }
+        ensures stays { KeepsAllButOpened (Self.meaning self.old) (Self.meaning self.new) }
+        ensures cause { HasCause (Self.faults self.old).reads (Self.faults self.new).reads result }
+        ensures counts { KeepsAllButReads (Self.faults self.old) (Self.faults self.new) };
+
+    /// Begins to make a file with this name and no bytes, in place of one that was not finished.
+    ///
+    /// After `Failed` the file being made is that before the call, or the new one.
+    fn create(&mut self, name: &str) -> Result<(), Failed>
+        ensures creates { Creates (Self.meaning self.old) (Self.meaning self.new) result name.now }
+        ensures stays { KeepsAllButCreated (Self.meaning self.old) (Self.meaning self.new) }
+        ensures cause { HasCause (Self.faults self.old).writes (Self.faults self.new).writes result }
+        ensures counts { KeepsAllButWrites (Self.faults self.old) (Self.faults self.new) };
+
+    /// Finishes the file being made, all of whose bytes then stand. While no file is being made it
+    /// changes nothing.
+    ///
+    /// `Failed` changes nothing.
+    fn finish(&mut self) -> Result<(), Failed>
+        ensures finishes { Finishes (Self.meaning self.old) (Self.meaning self.new) result }
+        ensures stays { KeepsAllButMade (Self.meaning self.old) (Self.meaning self.new) }
+        ensures cause { HasCause (Self.faults self.old).writes (Self.faults self.new).writes result }
+        ensures counts { KeepsAllButWrites (Self.faults self.old) (Self.faults self.new) };
+
+    /// Writes the whole text to the output of the program. `Failed` may have written a front of it.
+    fn print(&mut self, text: &[u8]) -> Result<(), Failed>
+        ensures bytes { Grows (Self.meaning self.old).out (Self.meaning self.new).out result text.now }
+        ensures stays { KeepsAllButOut (Self.meaning self.old) (Self.meaning self.new) }
+        ensures cause { HasCause (Self.faults self.old).writes (Self.faults self.new).writes result }
+        ensures counts { KeepsAllButWrites (Self.faults self.old) (Self.faults self.new) };
+
+    /// Writes the whole text to where the program complains. `Failed` may have written a front of
+    /// it.
+    fn complain(&mut self, text: &[u8]) -> Result<(), Failed>
+        ensures bytes { Grows (Self.meaning self.old).err (Self.meaning self.new).err result text.now }
+        ensures stays { KeepsAllButErr (Self.meaning self.old) (Self.meaning self.new) }
+        ensures cause { HasCause (Self.faults self.old).complaints (Self.faults self.new).complaints result }
+        ensures counts { KeepsAllButComplaints (Self.faults self.old) (Self.faults self.new) };
+}
+
+/// Writes the whole of the bytes, in as many calls as the sink asks for.
+///
+/// `Failed` may have added a front of the bytes.
+pub fn write_all<S: Sink>(sink: &mut S, bytes: &[u8]) -> Result<(), Failed>
+    ensures bytes { WritesAll (S.meaning sink.old).making (S.meaning sink.new).making result bytes.now }
+    ensures stays { KeepsAllButMaking (S.meaning sink.old) (S.meaning sink.new) }
+    ensures cause { HasCause (S.faults sink.old).writes (S.faults sink.new).writes result }
+    ensures counts { KeepsAllButWrites (S.faults sink.old) (S.faults sink.new) }
+{
+    let mut written = 0;
+    while written < bytes.len() {
+        match sink.write(&bytes[written..]) {
+            Ok(count) => written += count,
+            Err(Failed) => return Err(Failed),
+        }
+    }
+    Ok(())
+}

@@ -1,0 +1,81 @@
+ghost use Rattle.std.specs.Prelude.{◌≡◌, ◌-◌, ◌*◌, ◌<◌, ◌≤◌, ◌^◌};
+ghost use Rattle.mufom_loads.specs.Lengths.{byte_count, lengths_of, length_once, length_loaded, lengths_once, lengths_loaded};
+
+use crate::load::{Item, Load};
+
+/// How many bytes the item loads. Takes no memory.
+pub fn item_length(item: &Item) -> u64
+    ensures { result ≡ byte_count item.now }
+{
+    match item {
+        Item::Literal(bytes) => bytes.len() as u64,
+        Item::Field { size, .. } => *size as u64,
+    }
+}
+
+// How many bytes the items load, each once.
+fn items_length(items: &[Item]) -> u64
+    requires { lengths_of items.now < 2 ^ 64 }
+    ensures { result ≡ lengths_of items.now }
+{
+    let mut total = 0;
+    for item in items {
+        total += item_length(item);
+    }
+    total
+}
+
+// How many bytes a load puts in place.
+fn load_length(load: &Load) -> u128
+    requires { length_once load.now < 2 ^ 64 }
+    ensures value { result ≡ length_loaded load.now }
+    ensures bound { result ≤ (2 ^ 64 - 1) * length_once load.now }
+{
+    match load {
+        Load::SetSection(_) => 0,
+        Load::SetPc { .. } => 0,
+        Load::One(item) => item_length(item) as u128,
+        Load::Repeat { count, items } => *count as u128 * items_length(items.as_slice()) as u128,
+    }
+}
+
+/// How many bytes the loads put in place, the items of each repeat as many times as it says. Takes
+/// no memory.
+///
+/// The lengths of all items, those of a repeat taken once, must add up to less than 2^64.
+pub fn loaded_bytes(loads: &[Load]) -> u128
+    requires { lengths_once loads.now < 2 ^ 64 }
+    ensures { result ≡ lengths_loaded loads.now }
+{
+    let mut total = 0;
+    for load in loads {
+        total += load_length(load);
+    }
+    total
+}
+
+#[cfg(test)]
+mod tests {
+    use super::*;
+    use mufom_numbers::{Bytes, List};
+    use std::alloc::Global;
+
+    #[test]
+    fn bytes_of_repeats_are_counted_each_time(rt: HostRuntime) {
+        let alloc = rt.alloc();
+        let three = Item::Literal(Bytes::from_slice(alloc, b"abc").expect(&rt, "memory"));
+        assert_eq!(rt; item_length(&three), 3);
+        let two = Item::Literal(Bytes::from_slice(alloc, b"de").expect(&rt, "memory"));
+        let mut items = List::new(alloc);
+        items.push(two).expect(&rt, "memory");
+        let loads = [
+            Load::SetSection(0),
+            Load::One(three),
+            Load::Repeat {
+                count: 0xFFFF_FFFF,
+                items,
+            },
+        ];
+        assert_eq!(rt; loaded_bytes(&loads), 3 + 2 * 0xFFFF_FFFF);
+    }
+}

@@ -1,0 +1,27 @@
+use mufom_expr::{FieldKind, Postfix};
+use mufom_numbers::{Bytes, List};
+
+/// What is put at the program counter of the current section.
+#[derive(Debug, Drop)]
+pub enum Item {
+    /// Bytes as they stand.
+    Literal(Bytes),
+    /// The value of an expression, in a field of `size` bytes.
+    Field {
+        kind: FieldKind,
+        value: Postfix,
+        size: u8,
+    },
+}
+
+/// One load of a module (IEEE Std 695, load commands). Sections go by position.
+#[derive(Debug, Drop)]
+pub enum Load {
+    /// Makes a section the current one.
+    SetSection(u32),
+    /// Sets the program counter of a section.
+    SetPc { section: u32, value: Postfix },
+    One(Item),
+    /// The items, in order, `count` times.
+    Repeat { count: u64, items: List<Item> },
+}

@@ -1,0 +1,4 @@
+pub mod Values
+pub mod SpellingLaws
+pub mod StringLaws
+pub mod ShortestLaws

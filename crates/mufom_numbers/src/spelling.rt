@@ -1,0 +1,168 @@
+ghost use Rattle.std.specs.Prelude.{◌≡◌, ◌↔◌, ◌⊎◌, ◌+◌, ◌<◌, ◌≤◌, ◌^◌, ℕ, List, [], ◌∷◌, ◌++◌, length, take};
+ghost use Rattle.mufom_numbers.specs.Spelling.{IsStringLead, SpellsNumber, SpellsString, number_at, string_at, string_behind, shortest_number, shortest_lead, without_leading_zeros, big_endian, IfGot, IsCutOff, BeginsIn, NoneIsShorter};
+
+use crate::{Reason, Span, Taken};
+use arrayvec::ArrayVec;
+
+/// Reads the number at the front of the input, and says how many bytes it takes.
+///
+/// `Bad` is at offset 0 with [`Reason::BadNumber`], where the first byte begins no number. Takes
+/// no memory.
+pub fn read_number(input: &[u8]) -> Taken<u64>
+    // What is taken is the front of the input, and spells the number.
+    ensures got { IfGot result (λ n used. (used ≤ length input.now) × SpellsNumber n (take used input.now)) }
+    // An input that begins with a spelling gives it.
+    ensures only { (n : ℕ) (text rest : List ℕ) → SpellsNumber n text → input.now ≡ text ++ rest → result ≡ Taken.Got n (length text) }
+    ensures more { (result ≡ Taken.More) ↔ ((n : ℕ) × IsCutOff (SpellsNumber n) input.now) }
+    ensures bad { (result ≡ Taken.Bad 0 Reason.BadNumber) ↔ BeginsIn 0x89 0xFF input.now }
+    ensures exact { result ≡ number_at input.now }
+{
+    number(input)
+}
+
+fn number(input: &[u8]) -> Taken<u64>
+    ensures exact { result ≡ number_at input.now }
+{
+    let Some(lead) = input.first() else {
+        return Taken::More;
+    };
+    let lead = *lead;
+    if lead < 128 {
+        return Taken::Got(lead as u64, 1);
+    }
+    if lead > 136 {
+        return Taken::Bad {
+            offset: 0,
+            reason: Reason::BadNumber,
+        };
+    }
+    let count = (lead - 128) as usize;
+    if input.len() - 1 < count {
+        return Taken::More;
+    }
+    Taken::Got(value_of(&input[1..count + 1]), count + 1)
+}
+
+// The value of at most eight bytes, the most significant first.
+fn value_of(bytes: &[u8]) -> u64
+    requires { length bytes.now ≤ 8 }
+    ensures { result ≡ big_endian bytes.now }
+{
+    let mut all = [0u8; 8];
+    all[8 - bytes.len()..].copy_from_slice(bytes);
+    u64::from_be_bytes(all)
+}
+
+// The span of a string of `len` bytes behind a lead of `lead` bytes.
+fn span_behind(lead: usize, len: usize, input: &[u8]) -> Taken<Span>
+    requires { lead + len < 2 ^ 64 }
+    ensures { result ≡ string_behind lead len input.now }
+{
+    if input.len() < lead + len {
+        return Taken::More;
+    }
+    Taken::Got(Span { start: lead, len }, lead + len)
+}
+
+/// Reads the string at the front of the input: where its bytes stand behind the lead, and how many
+/// bytes lead and string take.
+///
+/// `Bad` is at offset 0 with [`Reason::BadId`], where the first byte begins no string. Takes no
+/// memory.
+pub fn read_id(input: &[u8]) -> Taken<Span>
+    // What is taken is the front of the input: a lead for so many bytes, and those bytes.
+    ensures got { IfGot result (λ span used. (used ≤ length input.now) × (used ≡ span.start + span.len)
+        × IsStringLead span.len (take span.start input.now)) }
+    // An input that begins with a lead and the bytes it counts gives their place.
+    ensures only { (lead text rest : List ℕ) → IsStringLead (length text) lead → input.now ≡ lead ++ (text ++ rest)
+        → result ≡ Taken.Got (record { start = length lead; len = length text }) (length lead + length text) }
+    ensures more { (result ≡ Taken.More) ↔ ((text : List ℕ) × IsCutOff (SpellsString text) input.now) }
+    ensures bad { (result ≡ Taken.Bad 0 Reason.BadId) ↔ (BeginsIn 0x80 0xDD input.now ⊎ BeginsIn 0xE0 0xFF input.now) }
+    ensures exact { result ≡ string_at input.now }
+{
+    string(input)
+}
+
+fn string(input: &[u8]) -> Taken<Span>
+    ensures exact { result ≡ string_at input.now }
+{
+    match input {
+        [] => Taken::More,
+        [lead, ..] if *lead < 128 => span_behind(1, *lead as usize, input),
+        [222] => Taken::More,
+        [222, a, ..] => span_behind(2, *a as usize, input),
+        [223] => Taken::More,
+        [223, _] => Taken::More,
+        [223, a, b, ..] => span_behind(3, 256 * *a as usize + *b as usize, input),
+        _ => Taken::Bad {
+            offset: 0,
+            reason: Reason::BadId,
+        },
+    }
+}
+
+// The bytes from the first that is not 0 on.
+fn significant(bytes: &[u8]) -> &[u8]
+    ensures value { result.now ≡ without_leading_zeros bytes.now }
+    ensures length { length result.now ≤ length bytes.now }
+{
+    let mut rest = bytes;
+    while let [0, after @ ..] = rest {
+        rest = after;
+    }
+    rest
+}
+
+/// The shortest spelling of a number; of 0, which has two of one byte, the byte 00. Takes no memory.
+pub fn number_spelling(value: u64) -> ArrayVec<u8, 9>
+    ensures spells { SpellsNumber value result.items }
+    ensures shortest { NoneIsShorter (SpellsNumber value) result.items }
+    ensures zero { value ≡ 0 → result.items ≡ 0 ∷ [] }
+    ensures exact { result.items ≡ shortest_number value }
+{
+    shortest(value)
+}
+
+fn shortest(value: u64) -> ArrayVec<u8, 9>
+    ensures { result.items ≡ shortest_number value }
+{
+    let mut spelling: ArrayVec<u8, 9> = ArrayVec::new();
+    if value < 128 {
+        spelling.push(value as u8);
+        return spelling;
+    }
+    let all = value.to_be_bytes();
+    let bytes = significant(&all);
+    spelling.push(128 + bytes.len() as u8);
+    for byte in bytes {
+        spelling.push(*byte);
+    }
+    spelling
+}
+
+/// The shortest lead of a string of this many bytes. Takes no memory.
+pub fn id_lead(length: u16) -> ArrayVec<u8, 3>
+    ensures leads { IsStringLead length result.items }
+    ensures shortest { NoneIsShorter (IsStringLead length) result.items }
+    ensures exact { result.items ≡ shortest_lead length }
+{
+    lead_of(length)
+}
+
+fn lead_of(length: u16) -> ArrayVec<u8, 3>
+    ensures { result.items ≡ shortest_lead length }
+{
+    let mut lead: ArrayVec<u8, 3> = ArrayVec::new();
+    if length < 128 {
+        lead.push(length as u8);
+    } else if length < 256 {
+        lead.push(222);
+        lead.push(length as u8);
+    } else {
+        let bytes = length.to_be_bytes();
+        lead.push(223);
+        lead.push(bytes[0]);
+        lead.push(bytes[1]);
+    }
+    lead
+}

@@ -1,0 +1,19 @@
+use crate::Reason;
+
+/// A part of an input: the position of its first byte, and its length in bytes.
+#[derive(Clone, Copy, Debug, PartialEq, Eq)]
+pub struct Span {
+    pub start: usize,
+    pub len: usize,
+}
+
+/// What a reader makes of the front of an input.
+#[derive(Clone, Copy, Debug, PartialEq, Eq, Drop)]
+pub enum Taken<T> {
+    /// A value, and how many bytes of the input it takes.
+    Got(T, usize),
+    /// No fault stands, and more bytes are wanted.
+    More,
+    /// A fault at this position, which no further bytes can mend.
+    Bad { offset: usize, reason: Reason },
+}

@@ -1,0 +1,38 @@
+ghost use Rattle.std.specs.Prelude.{◌≡◌, IfOk};
+
+use crate::NoMemory;
+use std::alloc::Global;
+use std::marker::Model;
+
+/// A text that is kept, over `String`. Contracts see it as its bytes, which are UTF-8.
+#[derive(Debug, Drop)]
+pub struct Text {
+    text: String,
+}
+
+impl Model for Text {
+    ghost use Rattle.std.specs.Prelude.{List, ℕ};
+    ghost use Rattle.std.specs.String.{string_bytes};
+
+    ghost Value = { List ℕ };
+
+    ghost view = { λ t. string_bytes t.text };
+}
+
+impl Text {
+    /// A copy of the text.
+    pub fn from_str(alloc: Global, text: &str) -> Result<Text, NoMemory>
+        ensures { IfOk result (λ copy. copy ≡ text.now) }
+    {
+        let mut copy = String::new(alloc);
+        copy.push_str(text)?;
+        Ok(Text { text: copy })
+    }
+
+    /// The text. Takes no memory.
+    pub fn as_str(&self) -> &str
+        ensures { result.now ≡ self.now }
+    {
+        self.text.as_str()
+    }
+}

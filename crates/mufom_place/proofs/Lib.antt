@@ -1,0 +1,9 @@
+pub mod Steps
+pub mod PackingLemmas
+pub mod EntryLaws
+pub mod WaitingLemmas
+pub mod PlannedLemmas
+pub mod ExtentSteps
+pub mod ExtentOrder
+pub mod AlignedLemmas
+pub mod FactLemmas

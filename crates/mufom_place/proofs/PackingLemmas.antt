@@ -1,0 +1,45 @@
+-- Packing entry by entry is packing the sections of all entries.
+use Rattle.std.proofs.Common.{◌≡◌, ℕ, ◌+◌, ◌≤◌, List, [], ◌∷◌, ◌++◌, length, map, take, drop, refl, sym, ap, ◌∙◌, arith}
+use Rattle.std.specs.Prelude.{sum_by}
+use Rattle.std.specs.List.{flat_map, enumerate_from}
+use Rattle.std.proofs.lemmas.List.{map-append, length-map}
+use Rattle.std.proofs.lemmas.List.Sums.{sum_by-take-drop}
+use Rattle.mufom_plan.specs.declared.plan.Region.{Region}
+use Rattle.mufom_plan.specs.Names.{listed_names}
+use Rattle.mufom_place.specs.declared.site.Waiting.{Waiting}
+use Rattle.mufom_place.specs.Bases.{aligned_up, packed}
+use Rattle.mufom_place.specs.Packing.{end_of, joined, placings_from}
+
+pub packed-append : (region address : ℕ) (xs ys : List Waiting) → packed region address (xs ++ ys) ≡ packed region address xs ++ packed region (end_of address xs) ys
+packed-append region address [] ys = refl
+packed-append region address (w ∷ xs) ys = ap (λ more. record { section = w.section; region = region; base = aligned_up w.align address } ∷ more) (packed-append region (aligned_up w.align address + w.size) xs ys)
+
+-- the entries of some lists joined
+pub joined-map : (waiting : List ℕ → List Waiting) (entries : List (List ℕ)) → joined (map waiting entries) ≡ flat_map waiting entries
+joined-map waiting [] = refl
+joined-map waiting (entry ∷ entries) = ap (λ more. waiting entry ++ more) (joined-map waiting entries)
+
+take-front : {A : Type 0} (xs ys : List A) → take (length xs) (xs ++ ys) ≡ xs
+take-front [] ys = refl
+take-front (x ∷ xs) ys = ap (λ more. x ∷ more) (take-front xs ys)
+
+drop-front : {A : Type 0} (xs ys : List A) → drop (length xs) (xs ++ ys) ≡ ys
+drop-front [] ys = refl
+drop-front (x ∷ xs) ys = drop-front xs ys
+
+-- where the sections of each name wait, the regions give the bases that their lists say
+pub placings_from-waiting : (waiting : List ℕ → List Waiting) (n : ℕ) (regions : List Region)
+    → placings_from n regions (map waiting (listed_names regions)) ≡ flat_map (λ r. packed r.0 r.1.base (flat_map waiting r.1.sections)) (enumerate_from n regions)
+placings_from-waiting waiting n [] = refl
+placings_from-waiting waiting n (region ∷ regions) =
+    let all = map-append waiting region.sections (listed_names regions) in
+    let long = sym (length-map region.sections waiting) in
+    let front : take (length region.sections) (map waiting (listed_names (region ∷ regions))) ≡ map waiting region.sections =
+    (λ i. take (long i) (all i)) ∙ take-front (map waiting region.sections) (map waiting (listed_names regions)) in
+    let back : drop (length region.sections) (map waiting (listed_names (region ∷ regions))) ≡ map waiting (listed_names regions) =
+    (λ i. drop (long i) (all i)) ∙ drop-front (map waiting region.sections) (map waiting (listed_names regions)) in
+    (λ i. packed n region.base (joined (front i)) ++ placings_from (n + 1) regions (back i))
+    ∙ (λ i. packed n region.base (joined-map waiting region.sections i) ++ placings_from-waiting waiting (n + 1) regions i)
+
+pub sum_by-part : (entries : List (List Waiting)) (start count : ℕ) → sum_by length (take count (drop start entries)) ≤ sum_by length entries
+sum_by-part entries start count = let outer = sum_by-take-drop length entries start in let inner = sum_by-take-drop length (drop start entries) count in omega (arith, outer, inner)

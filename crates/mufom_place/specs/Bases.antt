@@ -1,0 +1,82 @@
+-- Where a plan puts sections. All numbers are exact: nothing wraps here.
+use Rattle.std.specs.Prelude.{ℕ, ◌+◌, ◌-◌, ◌*◌, ◌/◌, ◌==◌, List, [], ◌∷◌, map, filter, Option, Some, None, is_none, Bool, not, ◌&&◌, ◌||◌, if◌then◌else◌, codes}
+use Rattle.std.specs.List.{enumerate_from, flat_map, list_any}
+use Rattle.std.specs.Str.{bytes_eq}
+use Rattle.mufom_sections.specs.declared.section.Section.{Section}
+use Rattle.mufom_plan.specs.declared.plan.Region.{Region}
+use Rattle.mufom_plan.specs.declared.plan.Plan.{Plan}
+use Rattle.mufom_plan.specs.Names.{has_name, listed_names}
+use Rattle.mufom_place.specs.declared.site.Waiting.{Waiting}
+use Rattle.mufom_place.specs.declared.site.Placing.{Placing}
+use Rattle.mufom_place.specs.declared.site.Site.{Site}
+
+-- the least multiple of the alignment that is not below the address
+abbrev pub aligned_up : ℕ → ℕ → ℕ
+aligned_up align address = ((address + (align - 1)) / align) * align
+
+-- a section with its position
+abbrev pub Numbered : Type 0
+Numbered = ℕ × Section
+
+-- the sections with their positions
+abbrev pub numbered : List Section → List Numbered
+numbered sections = enumerate_from 0 sections
+
+abbrev pub has_no_base : Section → Bool
+has_no_base section = is_none section.base
+
+-- an entry of the lists stands for its own name, and a star also for the names that no list has
+abbrev pub stands_for : List (List ℕ) → List ℕ → List ℕ → Bool
+stands_for listed entry name = bytes_eq entry name || (bytes_eq entry (codes "*") && not (has_name listed name))
+
+-- some entry of the lists stands for the name
+abbrev pub is_listed : List (List ℕ) → List ℕ → Bool
+is_listed listed name = list_any (λ entry. stands_for listed entry name) listed
+
+-- a section goes where an entry stands: it has no base, and the entry stands for its name
+abbrev pub goes_to : List (List ℕ) → List ℕ → Numbered → Bool
+goes_to listed entry s = has_no_base s.1 && stands_for listed entry s.1.name
+
+abbrev pub waiting : Numbered → Waiting
+waiting s = record { section = s.0; align = s.1.align; size = s.1.size }
+
+-- those of some sections that go where an entry stands, in their order
+abbrev pub waiting_among : List (List ℕ) → List Numbered → List ℕ → List Waiting
+waiting_among listed sections entry = map waiting (filter (goes_to listed entry) sections)
+
+-- the sections that a region takes: by the order of its list, and for one entry in the order of the sections
+abbrev pub taken_by : Plan → List Section → Region → List Waiting
+taken_by plan sections region = flat_map (waiting_among (listed_names plan.regions) (numbered sections)) region.sections
+
+-- sections put one behind another from an address on, each aligned
+abbrev pub packed : ℕ → ℕ → List Waiting → List Placing
+packed region address [] = []
+packed region address (w ∷ more) = let base = aligned_up w.align address in record { section = w.section; region = region; base = base } ∷ packed region (base + w.size) more
+
+-- the bases that the regions of the plan give
+abbrev pub placings : Plan → List Section → List Placing
+placings plan sections = flat_map (λ r. packed r.0 r.1.base (taken_by plan sections r.1)) (enumerate_from 0 plan.regions)
+
+-- the last of two that there is
+abbrev pub last_of : {A : Type 0} → Option A → Option A → Option A
+last_of first (Some second) = Some second
+last_of first None = first
+
+-- the base that regions give to the section at a position, which stands once among them at most
+abbrev pub placing_of : List Placing → ℕ → Option Placing
+placing_of [] n = None
+placing_of (p ∷ more) n = last_of (if p.section == n then Some p else None) (placing_of more n)
+
+-- a section stands at its own base, or where a region puts it, or at 0 where no region does
+abbrev pub site_with : Option ℕ → Option Placing → Site
+site_with (Some base) placing = record { base = base; region = None }
+site_with None (Some placing) = record { base = placing.base; region = Some placing.region }
+site_with None None = record { base = 0; region = None }
+
+-- where a section stands
+abbrev pub site_of : Plan → List Section → Numbered → Site
+site_of plan sections s = site_with s.1.base (placing_of (placings plan sections) s.0)
+
+-- the bases of the sections, one for each
+abbrev pub bases : Plan → List Section → List ℕ
+bases plan sections = map (λ s. (site_of plan sections s).base) (numbered sections)

@@ -1,0 +1,4 @@
+pub mod Bases
+pub mod Facts
+pub mod Entries
+pub mod Packing

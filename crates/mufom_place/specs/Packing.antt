@@ -1,0 +1,27 @@
+-- Sections that are put one behind another, entry by entry.
+use Rattle.std.specs.Prelude.{ℕ, ◌+◌, ◌≤◌, List, [], ◌∷◌, ◌++◌, length, take, drop}
+use Rattle.std.specs.List.{flat_map}
+use Rattle.mufom_plan.specs.declared.plan.Region.{Region}
+use Rattle.mufom_place.specs.declared.site.Waiting.{Waiting}
+use Rattle.mufom_place.specs.declared.site.Placing.{Placing}
+use Rattle.mufom_place.specs.Bases.{aligned_up, packed}
+
+-- a section that waits has an alignment of at least 1 and at most 2^31
+pub record IsAlignedWaiting (w : Waiting) : Type 0 where
+  pub least : 1 ≤ w.align
+  pub most : w.align ≤ 2147483648
+
+-- the end of the last of the sections that are put from an address on
+abbrev pub end_of : ℕ → List Waiting → ℕ
+end_of address [] = address
+end_of address (w ∷ more) = end_of (aligned_up w.align address + w.size) more
+
+-- the sections at some entries, one entry behind another
+abbrev pub joined : List (List Waiting) → List Waiting
+joined entries = flat_map (λ waiting. waiting) entries
+
+-- the bases that regions give, the first at this position, where the sections of each wait at as many entries as its list has names
+abbrev pub placings_from : ℕ → List Region → List (List Waiting) → List Placing
+placings_from n [] entries = []
+placings_from n (region ∷ regions) entries =
+    packed n region.base (joined (take (length region.sections) entries)) ++ placings_from (n + 1) regions (drop (length region.sections) entries)

@@ -1,0 +1,103 @@
+//! The bases of sections, where each lies in the address space and in its region.
+
+ghost use Rattle.std.specs.Prelude.{◌≡◌, ◌≢◌, ◌≤◌, ◌<◌, ◌^◌, ℕ, None, Some, IfOk, IfErr, OnOk, length, slice_index_or};
+ghost use Rattle.mufom_place.specs.Bases.{numbered, placing_of, placings, site_with, bases as bases_of};
+ghost use Rattle.mufom_place.specs.Facts.{first_some, is_past as ends_past, misfit_at, misfit_with};
+
+use crate::PlaceRefusal;
+use crate::site::{Placing, Site};
+use mufom_numbers::List;
+use mufom_plan::{Plan, Region};
+use mufom_sections::Section;
+use std::alloc::Global;
+
+/// Where a section stands, by its own base and by what a region gives it.
+fn site(base: Option<u64>, placing: Option<Placing>) -> Site
+    ensures { result ≡ site_with base placing }
+{
+    match (base, placing) {
+        (Some(base), _) => Site {
+            base: base as u128,
+            region: None,
+        },
+        (None, Some(placing)) => Site {
+            base: placing.base,
+            region: Some(placing.region),
+        },
+        (None, None) => Site {
+            base: 0,
+            region: None,
+        },
+    }
+}
+
+/// An end is above that of the region.
+fn is_past(regions: &[Region], region: Option<u32>, end: u128) -> bool
+    ensures { result ≡ ends_past regions.now region end }
+{
+    let Some(place) = region else {
+        return false;
+    };
+    match regions.get(place as usize) {
+        Some(region) => region.base as u128 + (region.size as u128) < end,
+        None => false,
+    }
+}
+
+/// The base of the section at a position, where it lies in the address space and in its region.
+fn fitting_base(
+    place: u32,
+    size: u64,
+    site: Site,
+    regions: &[Region],
+    width: u32,
+) -> Result<u64, PlaceRefusal>
+    requires { width ≤ 64 }
+    ensures base { IfOk result (λ base. base ≡ site.base) }
+    ensures fits { OnOk result (misfit_with (2 ^ width) regions.now place size site ≡ None) }
+    ensures misfit { IfErr result (λ refusal. misfit_with (2 ^ width) regions.now place size site ≡ Some refusal) }
+{
+    let misfit = PlaceRefusal::Misfit {
+        section: place,
+        region: site.region,
+    };
+    let modulus = 1u128 << width;
+    if site.base >= modulus {
+        return Err(misfit);
+    }
+    let end = site.base + size as u128;
+    if end > modulus || is_past(regions, site.region, end) {
+        return Err(misfit);
+    }
+    Ok(site.base as u64)
+}
+
+/// The bases of the sections.
+pub fn bases(
+    alloc: Global,
+    sections: &[Section],
+    plan: &Plan,
+    planned: &[Option<Placing>],
+    width: u32,
+) -> Result<List<u64>, PlaceRefusal>
+    requires width { width ≤ 64 }
+    requires count { length sections.now < 2 ^ 32 }
+    requires same { length planned.now ≡ length sections.now }
+    requires planned { (n : ℕ) → n < length sections.now → slice_index_or planned.now n None ≡ placing_of (placings plan.now sections.now) n }
+    ensures bases { IfOk result (λ list. list ≡ bases_of plan.now sections.now) }
+    ensures fit { OnOk result (first_some (misfit_at (2 ^ width) plan.now sections.now) (numbered sections.now) ≡ None) }
+    ensures misfit { IfErr result (λ refusal. refusal ≢ PlaceRefusal.NoMemory → first_some (misfit_at (2 ^ width) plan.now sections.now) (numbered sections.now) ≡ Some refusal) }
+{
+    let mut bases = List::new(alloc);
+    for (place, section) in sections.iter().enumerate() {
+        let site = site(section.base, planned[place]);
+        bases.push(fitting_base(
+            place as u32,
+            section.size,
+            site,
+            plan.regions.as_slice(),
+            width,
+        )?)?;
+    }
+    Ok(bases)
+}

@@ -1,0 +1,14 @@
+//! Laws of the definitions, each the contract of a function that does nothing.
+
+ghost use Rattle.std.specs.Prelude.{◌≡◌, ℕ, List, None, Some};
+ghost use Rattle.mufom_sections.specs.declared.section.Section.{Section};
+ghost use Rattle.mufom_plan.specs.declared.plan.Plan.{Plan};
+ghost use Rattle.mufom_place.specs.declared.refusal.PlaceRefusal.{PlaceRefusal};
+ghost use Rattle.mufom_place.specs.Facts.{Stands, place_refusal};
+
+/// What is answered in place of bases is a fact that stands, and where nothing is answered no fact
+/// stands. So there is an answer exactly where there is a fact.
+pub fn place_refusals_are_facts()
+    ensures sound { (width : ℕ) (plan : Plan) (sections : List Section) (fact : PlaceRefusal) → place_refusal width plan sections ≡ Some fact → Stands width plan sections fact }
+    ensures complete { (width : ℕ) (plan : Plan) (sections : List Section) (fact : PlaceRefusal) → place_refusal width plan sections ≡ None → ¬ Stands width plan sections fact }
+{}

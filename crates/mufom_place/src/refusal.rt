@@ -1,0 +1,31 @@
+use mufom_numbers::NoMemory;
+use thiserror::Error;
+
+/// Why sections cannot be placed. Sections and regions go by their positions, from 0.
+#[derive(Clone, Copy, Debug, PartialEq, Eq, Error)]
+pub enum PlaceRefusal {
+    /// A section has no base, and no list of the plan stands for its name.
+    #[error("no region takes section {0}")]
+    Unplaced(u32),
+    /// A section lies or ends past the address space, or ends past the region that it is placed
+    /// in. A section with a base of its own is in no region.
+    #[error("section {section} does not fit")]
+    Misfit { section: u32, region: Option<u32> },
+    /// Two sections of positive size share an address. The one that begins first comes first.
+    #[error("sections {0} and {1} overlap")]
+    Overlap(u32, u32),
+    /// There was no memory.
+    #[error("no memory")]
+    NoMemory,
+}
+
+impl From<NoMemory> for PlaceRefusal {
+    ghost use Rattle.std.specs.Prelude.{◌≡◌};
+    ghost use Rattle.mufom_place.specs.declared.refusal.PlaceRefusal.TheVariants.{NoMemory};
+
+    ghost from_gives = { λ _ refusal. refusal ≡ NoMemory };
+
+    fn from(_: NoMemory) -> Self {
+        PlaceRefusal::NoMemory
+    }
+}

@@ -1,0 +1,3 @@
+pub mod DocumentLemmas
+pub mod IndexLemmas
+pub mod PlanLemmas

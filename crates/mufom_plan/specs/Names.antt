@@ -1,0 +1,21 @@
+-- Names as bytes, and the names that a plan has.
+use Rattle.std.specs.Prelude.{ℕ, List, Bool, map}
+use Rattle.std.specs.List.{list_any, flat_map, IsDistinct}
+use Rattle.std.specs.Str.{bytes_eq}
+use Rattle.mufom_plan.specs.declared.plan.Region.{Region}
+
+-- the name is among these names
+abbrev pub has_name : List (List ℕ) → List ℕ → Bool
+has_name names name = list_any (bytes_eq name) names
+
+-- no name stands twice among these names
+abbrev pub AreDistinctNames : List (List ℕ) → Type 0
+AreDistinctNames = IsDistinct bytes_eq
+
+-- the names of regions, in order
+abbrev pub region_names : List Region → List (List ℕ)
+region_names regions = map (λ region. region.name) regions
+
+-- the section names of all lists, in order
+abbrev pub listed_names : List Region → List (List ℕ)
+listed_names regions = flat_map (λ region. region.sections) regions

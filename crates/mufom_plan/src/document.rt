@@ -1,0 +1,106 @@
+//! The document of a plan, and what stands at its keys.
+
+ghost use Rattle.std.specs.Prelude.{◌≡◌, ◌≢◌, ◌<◌, ◌^◌, Some, None, IfOk, IfErr, IfSome, option_map, is_some, map, string_bytes};
+ghost use Rattle.std.specs.BTreeMap.{keys};
+ghost use Rattle.std.specs.List.{list_all};
+ghost use Rattle.toml.specs.Data.{as_table};
+ghost use Rattle.toml.specs.View.{table_view, view};
+ghost use Rattle.mufom_plan.specs.Document.{document_of, number_at, text_at, items_at, has_only_keys};
+ghost use Rattle.mufom_plan.specs.Names.{has_name};
+ghost use Rattle.mufom_plan.specs.PlanText.{are_tables as every_table, plan_keys, region_keys};
+
+use crate::PlanRefusal;
+use std::alloc::Global;
+use toml::{Table, Value};
+
+/// The document that the bytes are.
+pub fn document(alloc: Global, text: &[u8]) -> Result<Table, PlanRefusal>
+    ensures ok { IfOk result (λ table. document_of text.now ≡ Some (table_view table)) }
+    ensures only { IfErr result (λ refusal. refusal ≢ PlanRefusal.NoMemory → refusal ≡ PlanRefusal.Syntax) }
+    ensures syntax { result ≡ Err PlanRefusal.Syntax → document_of text.now ≡ None }
+{
+    let Ok(text) = std::str::from_utf8(text) else {
+        return Err(PlanRefusal::Syntax);
+    };
+    match toml::table_from_str(alloc, text) {
+        Ok(table) => Ok(table),
+        Err(error) if error.is_memory() => Err(PlanRefusal::NoMemory),
+        Err(_) => Err(PlanRefusal::Syntax),
+    }
+}
+
+/// The number of an integer that is not negative.
+pub fn number_of(value: Option<&Value>) -> Option<u64>
+    ensures number { result ≡ number_at (option_map (λ v. view v.now) value.entry) }
+    ensures bound { IfSome result (λ number. number < 2 ^ 63) }
+{
+    match value?.as_integer() {
+        Some(number) if number >= 0 => Some(number as u64),
+        _ => None,
+    }
+}
+
+/// The text of a string.
+pub fn text_of(value: Option<&Value>) -> Option<&str>
+    ensures { option_map (λ text. text.now) result ≡ text_at (option_map (λ v. view v.now) value.entry) }
+{
+    value?.as_str()
+}
+
+/// The items of an array.
+pub fn items_of(value: Option<&Value>) -> Option<&[Value]>
+    ensures { option_map (λ values. map view values.now) result ≡ items_at (option_map (λ v. view v.now) value.entry) }
+{
+    Some(value?.as_array()?.as_slice())
+}
+
+fn are_tables(values: &[Value]) -> bool
+    ensures { result ≡ list_all (λ value. is_some (as_table (view value))) values.now }
+{
+    values.iter().all(|value| value.is_table())
+}
+
+/// Each value is a table.
+pub fn all_tables(values: &[Value]) -> bool
+    ensures { result ≡ every_table (map view values.now) }
+{
+    are_tables(values)
+}
+
+fn is_plan_key(key: &str) -> bool
+    ensures { result ≡ has_name plan_keys key.now }
+{
+    key == "region"
+}
+
+fn is_region_key(key: &str) -> bool
+    ensures { result ≡ has_name region_keys key.now }
+{
+    key == "name" || key == "base" || key == "size" || key == "sections"
+}
+
+fn are_plan_keys(document: &Table) -> bool
+    ensures { result ≡ list_all (λ key. has_name plan_keys (string_bytes key)) (keys document.now) }
+{
+    document.keys().all(|key| is_plan_key(key.as_str()))
+}
+
+fn are_region_keys(table: &Table) -> bool
+    ensures { result ≡ list_all (λ key. has_name region_keys (string_bytes key)) (keys table.now) }
+{
+    table.keys().all(|key| is_region_key(key.as_str()))
+}
+
+/// The document has no key but `region`.
+pub fn has_plan_keys(document: &Table) -> bool
+    ensures { result ≡ has_only_keys plan_keys (table_view document.now) }
+{
+    are_plan_keys(document)
+}
+
+/// The table has no key that a region has not.
+pub fn has_region_keys(table: &Table) -> bool
+    ensures { result ≡ has_only_keys region_keys (table_view table.now) }
+{
+    are_region_keys(table)
+}

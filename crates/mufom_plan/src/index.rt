@@ -1,0 +1,69 @@
+use indexmap::IndexSet;
+use mufom_numbers::NoMemory;
+use std::alloc::Global;
+use std::marker::Model;
+
+/// Names in the order in which they came, none of them twice, each found by its bytes.
+///
+/// Contracts see the list of the names.
+#[derive(Drop)]
+pub struct NameList {
+    alloc: Global,
+    names: IndexSet<Vec<u8>>,
+}
+
+impl Model for NameList {
+    ghost use Rattle.std.specs.Prelude.{ℕ, List, map};
+
+    ghost Value = { List (List ℕ) };
+
+    ghost view = { λ index. map (λ name. name.items) index.names.keys };
+}
+
+impl NameList {
+    ghost use Rattle.std.specs.Prelude.{◌≡◌, ◌==◌, [], length, ◌∷◌, ◌++◌, IfOk, OnErr, not, position, if◌then◌else◌};
+    ghost use Rattle.std.specs.Str.{bytes_eq};
+    ghost use Rattle.mufom_plan.specs.Names.{has_name};
+
+    /// No names. Keeps the allocator.
+    pub fn new(alloc: Global) -> NameList
+        ensures { result ≡ [] }
+    {
+        NameList {
+            alloc,
+            names: IndexSet::new(alloc),
+        }
+    }
+
+    /// How many names there are.
+    pub fn len(&self) -> usize
+        ensures { result ≡ length self.now }
+    {
+        self.names.len()
+    }
+
+    /// Whether there is no name.
+    pub fn is_empty(&self) -> bool
+        ensures { result ≡ (length self.now == 0) }
+    {
+        self.names.is_empty()
+    }
+
+    /// Adds a name at the end, and says whether it was new. A name that is there stays where it is.
+    pub fn add(&mut self, name: &[u8]) -> Result<bool, NoMemory>
+        ensures added { IfOk result (λ added. added ≡ not (has_name self.old name.now)) }
+        ensures after { IfOk result (λ added. self.new ≡ (if added then self.old ++ name.now ∷ [] else self.old)) }
+        ensures err { OnErr result (self.new ≡ self.old) }
+    {
+        let copy = Vec::from_slice(self.alloc, name)?;
+        let added = self.names.insert(copy)?;
+        Ok(added)
+    }
+
+    /// The position of a name, and `None` where it is not there. Takes no memory.
+    pub fn position(&self, name: &[u8]) -> Option<usize>
+        ensures { result ≡ position (bytes_eq name.now) self.now }
+    {
+        self.names.get_index_of(name)
+    }
+}

@@ -1,0 +1,102 @@
+//! A plan from the bytes of its file.
+
+ghost use Rattle.std.specs.Prelude.{◌≡◌, ◌≢◌, ◌^◌, ◌<◌, [], Some, None, Ok, Err, IfOk, IfErr, length, map, option_map};
+ghost use Rattle.toml.specs.View.{table_view, view};
+ghost use Rattle.mufom_plan.specs.Names.{AreDistinctNames, listed_names};
+ghost use Rattle.mufom_plan.specs.PlanText.{plan_of_document, plan_of_text, regions_at, regions_of};
+
+use crate::document::{all_tables, document, has_plan_keys, items_of};
+use crate::region::{region, value_at};
+use crate::{NameList, Plan, PlanField, PlanRefusal, Region};
+use mufom_numbers::List;
+use std::alloc::Global;
+use toml::{Table, Value};
+
+/// The greatest number of bytes of a plan.
+const MAX_PLAN_BYTES: usize = 65_536;
+
+/// What is answered where `region` is no array of tables.
+const NO_REGIONS: PlanRefusal = PlanRefusal::Shape {
+    region: None,
+    field: PlanField::Region,
+};
+
+/// The regions of an array of tables.
+fn regions(alloc: Global, values: &[Value]) -> Result<List<Region>, PlanRefusal>
+    requires { length values.now < 2 ^ 32 }
+    ensures ok { IfOk result (λ regions. regions_of [] (map view values.now) ≡ Ok regions) }
+    ensures refused { IfErr result (λ refusal. refusal ≢ PlanRefusal.NoMemory → regions_of [] (map view values.now) ≡ Err refusal) }
+    ensures count { IfOk result (λ regions. length regions ≡ length values.now) }
+{
+    let mut names = NameList::new(alloc);
+    let mut listed = NameList::new(alloc);
+    let mut regions = List::new(alloc);
+    for (place, value) in values.iter().enumerate() {
+        let Some(table) = value.as_table() else {
+            return Err(NO_REGIONS);
+        };
+        regions.push(region(alloc, place as u32, table, &mut names, &mut listed)?)?;
+    }
+    Ok(regions)
+}
+
+/// The regions at the key `region`.
+fn regions_of_value(alloc: Global, value: Option<&Value>) -> Result<List<Region>, PlanRefusal>
+    ensures ok { IfOk result (λ regions. regions_at (option_map (λ v. view v.now) value.entry) ≡ Ok regions) }
+    ensures refused { IfErr result (λ refusal. refusal ≢ PlanRefusal.NoMemory → regions_at (option_map (λ v. view v.now) value.entry) ≡ Err refusal) }
+    ensures count { IfOk result (λ regions. length regions < 2 ^ 32) }
+{
+    if value.is_none() {
+        return Ok(List::new(alloc));
+    }
+    let Some(values) = items_of(value) else {
+        return Err(NO_REGIONS);
+    };
+    if !all_tables(values) {
+        return Err(NO_REGIONS);
+    }
+    // No 65,536 bytes say so many regions.
+    if values.len() > u32::MAX as usize {
+        return Err(PlanRefusal::NoMemory);
+    }
+    regions(alloc, values)
+}
+
+/// The plan of a document.
+fn plan(alloc: Global, document: &Table) -> Result<Plan, PlanRefusal>
+    ensures ok { IfOk result (λ plan. plan_of_document (table_view document.now) ≡ Ok plan) }
+    ensures refused { IfErr result (λ refusal. refusal ≢ PlanRefusal.NoMemory → plan_of_document (table_view document.now) ≡ Err refusal) }
+    ensures count { IfOk result (λ plan. length plan.regions < 2 ^ 32) }
+{
+    if !has_plan_keys(document) {
+        return Err(PlanRefusal::Shape {
+            region: None,
+            field: PlanField::Extra,
+        });
+    }
+    let regions = regions_of_value(alloc, value_at(document, "region"))?;
+    Ok(Plan { regions })
+}
+
+/// The plan that the bytes of a file say.
+///
+/// The plan is a TOML document whose only key is `region`, an array of tables, each with exactly
+/// the keys `name`, `base`, `size` and `sections`. No bytes are the plan without regions. What is
+/// wrong is answered in this order: too many bytes, no document, another key, no array of tables,
+/// and then region by region another key, the name, the base, the size, the section names, and an
+/// end above 2^63 - 1.
+pub fn read_plan(alloc: Global, text: &[u8]) -> Result<Plan, PlanRefusal>
+    // The plan is the one that the document says.
+    ensures ok { IfOk result (λ plan. plan_of_text text.now ≡ Ok plan) }
+    // A refusal is the first thing that is wrong, or there was no memory.
+    ensures refused { IfErr result (λ refusal. refusal ≢ PlanRefusal.NoMemory → plan_of_text text.now ≡ Err refusal) }
+    // No section name stands twice in the plan.
+    ensures distinct { IfOk result (λ plan. AreDistinctNames (listed_names plan.regions)) }
+    ensures count { IfOk result (λ plan. length plan.regions < 2 ^ 32) }
+{
+    if text.len() > MAX_PLAN_BYTES {
+        return Err(PlanRefusal::TooLong);
+    }
+    let document = document(alloc, text)?;
+    plan(alloc, &document)
+}

@@ -1,0 +1,54 @@
+use mufom_numbers::NoMemory;
+use thiserror::Error;
+
+/// The part of a plan that has not the shape it must have.
+#[derive(Clone, Copy, Debug, PartialEq, Eq)]
+pub enum PlanField {
+    /// The key `region`, which is an array of tables.
+    Region,
+    /// A key that a plan, or a region, has not.
+    Extra,
+    /// The key `name`: a text that is not empty and that no region before has.
+    Name,
+    /// The key `base`: an integer that is not negative.
+    Base,
+    /// The key `size`: an integer that is not negative.
+    Size,
+    /// The key `sections`: an array of texts, none of which stands earlier in the plan.
+    Sections,
+}
+
+/// Why bytes are no plan.
+#[derive(Clone, Copy, Debug, PartialEq, Eq, Error)]
+pub enum PlanRefusal {
+    /// The bytes are no TOML document.
+    #[error("the plan is no TOML document")]
+    Syntax,
+    /// A key of the document, or of the region at this position, is missing, is not known or has
+    /// not the value that it must have.
+    #[error("the plan has not the shape of a plan")]
+    Shape {
+        region: Option<u32>,
+        field: PlanField,
+    },
+    /// The end of the region at this position is above 2^63 - 1.
+    #[error("the region {0} ends above 2^63 - 1")]
+    Beyond(u32),
+    /// The plan has more than 65,536 bytes.
+    #[error("the plan has more than 65536 bytes")]
+    TooLong,
+    /// There was no memory.
+    #[error("no memory")]
+    NoMemory,
+}
+
+impl From<NoMemory> for PlanRefusal {
+    ghost use Rattle.std.specs.Prelude.{◌≡◌};
+    ghost use Rattle.mufom_plan.specs.declared.refusal.PlanRefusal.TheVariants.{NoMemory};
+
+    ghost from_gives = { λ _ refusal. refusal ≡ NoMemory };
+
+    fn from(_: NoMemory) -> Self {
+        PlanRefusal::NoMemory
+    }
+}

@@ -1,0 +1,91 @@
+ghost use Rattle.std.specs.Prelude.{◌≡◌, ◌+◌, ◌-◌, ◌^◌, ◌<◌, ◌↔◌, ◌==◌, [], ◌∷◌, ◌++◌, length, position, slice_get, nat_eq, Contains, IsSome, IfSome, IfOk, OnOk, OnErr};
+ghost use Rattle.std.specs.List.{IsDistinct};
+
+use indexmap::IndexSet;
+use std::alloc::Global;
+use std::marker::Model;
+use thiserror::Error;
+
+/// Why an index is not added.
+#[derive(Clone, Copy, Debug, PartialEq, Eq, Error)]
+pub enum AddFault {
+    #[error("the index is declared already")]
+    Duplicate,
+    #[error("there is no memory for one more index")]
+    NoMemory,
+}
+
+/// The indexes that a file gives to its entries, in the order of their declarations. Contracts see
+/// it as the list of these indexes, and none stands twice.
+#[derive(Debug, Drop)]
+pub struct IndexTable {
+    indexes: IndexSet<u32>,
+}
+
+impl Model for IndexTable {
+    ghost use Rattle.std.specs.Prelude.{List, ℕ, length, nat_eq, ◌<◌, ◌^◌};
+    ghost use Rattle.std.specs.List.{IsDistinct};
+
+    ghost Value = { List ℕ };
+
+    ghost view = { λ table. table.indexes.keys };
+
+    ghost invariant = { λ table. (length table.indexes.keys < 2 ^ 32) × IsDistinct nat_eq table.indexes.keys };
+}
+
+impl IndexTable {
+    /// A table without indexes. Takes no memory.
+    pub fn new(alloc: Global) -> IndexTable
+        ensures { result ≡ [] }
+    {
+        IndexTable {
+            indexes: IndexSet::new(alloc),
+        }
+    }
+
+    /// Declares an index and answers its position from 0, or `Duplicate` where it is declared
+    /// already. A refused index, also one for which there is no memory, leaves the table as it was.
+    /// Fewer than 2^32 - 1 indexes must stand in the table.
+    pub fn add(&mut self, index: u32) -> Result<u32, AddFault>
+        requires { length self.old < 2 ^ 32 - 1 }
+        ensures last { IfOk result (λ place. place ≡ length self.old) }
+        ensures added { OnOk result (self.new ≡ self.old ++ index ∷ []) }
+        ensures duplicate { (result ≡ Err AddFault.Duplicate) ↔ Contains self.old index }
+        ensures err { OnErr result (self.new ≡ self.old) }
+    {
+        let Ok((place, is_new)) = self.indexes.insert_full(index) else {
+            return Err(AddFault::NoMemory);
+        };
+        if !is_new {
+            return Err(AddFault::Duplicate);
+        }
+        Ok(place as u32)
+    }
+
+    /// The position of an index, from 0, and `None` where it is not declared. Takes no memory.
+    pub fn position(&self, index: u32) -> Option<u32>
+        ensures declared { IsSome result ↔ Contains self.now index }
+        ensures there { IfSome result (λ place. slice_get self.now place ≡ Some index) }
+        ensures value { result ≡ position (λ other. other == index) self.now }
+        ensures distinct { IsDistinct nat_eq self.now }
+    {
+        let place = self.indexes.get_index_of(&index)?;
+        Some(place as u32)
+    }
+}
+
+#[cfg(test)]
+mod tests {
+    use super::*;
+
+    #[test]
+    fn indexes_get_positions_in_order(rt: HostRuntime) {
+        let mut table = IndexTable::new(rt.alloc());
+        assert_eq!(rt; table.add(7), Ok(0));
+        assert_eq!(rt; table.add(3), Ok(1));
+        assert_eq!(rt; table.add(7), Err(AddFault::Duplicate));
+        assert_eq!(rt; table.position(7), Some(0));
+        assert_eq!(rt; table.position(3), Some(1));
+        assert_eq!(rt; table.position(4), None);
+    }
+}
