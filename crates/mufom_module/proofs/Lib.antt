@@ -1,0 +1,5 @@
+pub mod Variables
+pub mod Walks
+pub mod WeightLaws
+pub mod Valid
+mod Worked

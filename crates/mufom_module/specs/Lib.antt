@@ -1,0 +1,4 @@
+pub mod Contents
+pub mod Written
+pub mod Weights
+pub mod Defects

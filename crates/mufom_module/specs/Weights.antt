@@ -1,0 +1,120 @@
+-- What the records of a written form weigh: nine bytes for each number, three for each lead of a string.
+use Rattle.std.specs.Prelude.{ℕ, ◌+◌, ◌*◌, ◌-◌, ◌^◌, ◌==◌, min, Bool, true, false, List, length, sum_by, Option, Some, None, if◌then◌else◌}
+use Rattle.mufom_expr.specs.declared.token.Token.{Token}
+use Rattle.mufom_expr.specs.declared.token.Token.TheVariants.{Number, Var, Fun}
+use Rattle.mufom_expr.specs.Tree.{Tree, tokens_of}
+use Rattle.mufom_sections.specs.declared.section.Purpose.{Purpose}
+use Rattle.mufom_sections.specs.declared.section.Section.{Section}
+use Rattle.mufom_names.specs.declared.name.Note.{Note}
+use Rattle.mufom_names.specs.declared.name.Weak.{Weak}
+use Rattle.mufom_names.specs.declared.name.Public.{Public}
+use Rattle.mufom_names.specs.declared.name.Reference.{Reference}
+use Rattle.mufom_loads.specs.declared.load.Item.{Item}
+use Rattle.mufom_loads.specs.declared.load.Item.TheVariants.{Literal, Field}
+use Rattle.mufom_loads.specs.declared.load.Load.{Load}
+use Rattle.mufom_loads.specs.declared.load.Load.TheVariants.{SetSection, SetPc, One, Repeat}
+use Rattle.mufom_debug.specs.declared.item.BlockHead.{BlockHead}
+use Rattle.mufom_debug.specs.declared.item.BlockHead.TheVariants as heads
+use Rattle.mufom_debug.specs.Marks.{DebugMark, block_begin, block_end, name_mark, note_mark, value_mark, marks_of}
+use Rattle.mufom_module.specs.declared.module.Parts.{Parts}
+
+-- what a count shows that stops at the greatest of 64 bits
+abbrev pub capped : ℕ → ℕ
+capped n = min n (2 ^ 64 - 1)
+
+abbrev pub token_weight : Token → ℕ
+token_weight (Number n) = 9
+token_weight (Var letter place) = 10
+token_weight (Fun f) = 1
+
+abbrev pub expression_weight : Tree → ℕ
+expression_weight tree = sum_by token_weight (tokens_of tree)
+
+abbrev pub optional_expression_weight : Option Tree → ℕ
+optional_expression_weight None = 0
+optional_expression_weight (Some tree) = expression_weight tree
+
+abbrev pub section_letters_weight : Bool → ℕ
+section_letters_weight true = 2
+section_letters_weight false = 1
+
+abbrev pub purpose_weight : Option Purpose → ℕ
+purpose_weight None = 0
+purpose_weight (Some purpose) = 1
+
+abbrev pub alignment_weight : ℕ → ℕ
+alignment_weight align = if align == 1 then 0 else 19
+
+abbrev pub size_weight : ℕ → ℕ
+size_weight size = if size == 0 then 0 else 20
+
+abbrev pub base_weight : Option ℕ → ℕ
+base_weight None = 0
+base_weight (Some base) = 20
+
+-- a section weighs at least 14
+abbrev pub section_weight : Section → ℕ
+section_weight s = 13 + section_letters_weight s.absolute + purpose_weight s.purpose + length s.name
+    + alignment_weight s.align + size_weight s.size + base_weight s.base
+
+abbrev pub note_weight : Note → ℕ
+note_weight note = 29 + 9 * length note.numbers.items
+
+abbrev pub notes_weight : List Note → ℕ
+notes_weight notes = sum_by note_weight notes
+
+abbrev pub public_weight : Public → ℕ
+public_weight p = 24 + length p.name + notes_weight p.notes + expression_weight p.value
+
+abbrev pub default_weight : ℕ → ℕ
+default_weight default = if default == 0 then 0 else 9
+
+abbrev pub weak_weight : Option Weak → ℕ
+weak_weight None = 0
+weak_weight (Some w) = 19 + default_weight w.default
+
+abbrev pub reference_weight : Reference → ℕ
+reference_weight r = 13 + length r.name + notes_weight r.notes + weak_weight r.weak
+
+abbrev pub head_weight : BlockHead → ℕ
+head_weight heads.Module = 0
+head_weight (heads.Global stack type_index offset) = 18 + expression_weight offset
+head_weight (heads.Source ns) = 9 * length ns.items
+head_weight (heads.Local stack type_index offset) = 18 + expression_weight offset
+head_weight (heads.Section section_type section offset) = 18 + expression_weight offset
+
+abbrev pub mark_weight : DebugMark → ℕ
+mark_weight (block_begin head name) = 22 + length name + head_weight head
+mark_weight (block_end value) = 1 + optional_expression_weight value
+mark_weight (name_mark name) = 13 + length name
+mark_weight (note_mark name note) = note_weight note
+mark_weight (value_mark name value) = 11 + expression_weight value
+
+abbrev pub marks_weight : List DebugMark → ℕ
+marks_weight marks = sum_by mark_weight marks
+
+abbrev pub item_weight : Item → ℕ
+item_weight (Literal bytes) = 9 + length bytes
+item_weight (Field kind value size) = 12 + expression_weight value
+
+abbrev pub items_weight : List Item → ℕ
+items_weight items = sum_by item_weight items
+
+abbrev pub load_weight : Load → ℕ
+load_weight (SetSection section) = 10
+load_weight (SetPc section value) = 11 + expression_weight value
+load_weight (One item) = 1 + item_weight item
+load_weight (Repeat count items) = 11 + items_weight items
+
+abbrev pub start_weight : Option Tree → ℕ
+start_weight None = 0
+start_weight (Some value) = 4 + expression_weight value
+
+-- what the header, the raw parts and the end weigh: 156 bytes beside their strings and bytes
+abbrev pub frame_weight : Parts → ℕ
+frame_weight m = 156 + length m.processor + length m.name + length m.ext + length m.env
+
+-- the whole
+abbrev pub parts_weight : Parts → ℕ
+parts_weight m = frame_weight m + sum_by section_weight m.sections + sum_by public_weight m.names.publics + sum_by reference_weight m.names.references
+    + marks_weight (marks_of m.debug) + sum_by load_weight m.loads + start_weight m.start

@@ -1,0 +1,290 @@
+-- The written form of a module, and its weight (IEEE Std 695, module structure, in this project's profile; the bytes
+-- of commands and brackets are those of the public `ieee.h`).
+use Rattle.std.specs.Prelude.{ℕ, ◌+◌, ◌==◌, Bool, true, false, List, [], ◌∷◌, ◌++◌, length, Option, Some, None, if◌then◌else◌}
+use Rattle.std.specs.Int.{w16, w32, w64, to_be_bytes}
+use Rattle.mufom_numbers.specs.Spelling.{shortest_number, shortest_lead}
+use Rattle.mufom_expr.specs.declared.token.Letter.{Letter}
+use Rattle.mufom_expr.specs.declared.token.Letter.TheVariants.{I, L, P, R, S, X}
+use Rattle.mufom_expr.specs.declared.token.FieldKind.{FieldKind}
+use Rattle.mufom_expr.specs.declared.token.FieldKind.TheVariants.{Signed, Unsigned, Either}
+use Rattle.mufom_expr.specs.declared.token.Token.{Token}
+use Rattle.mufom_expr.specs.declared.token.Token.TheVariants.{Number, Var, Fun}
+use Rattle.mufom_expr.specs.Codes.{letter_byte, function_byte}
+use Rattle.mufom_expr.specs.Tree.{Tree, tokens_of}
+use Rattle.mufom_sections.specs.declared.section.Purpose.{Purpose}
+use Rattle.mufom_sections.specs.declared.section.Purpose.TheVariants as purpose
+use Rattle.mufom_sections.specs.declared.section.Section.{Section}
+use Rattle.mufom_names.specs.declared.name.Note.{Note}
+use Rattle.mufom_names.specs.declared.name.Weak.{Weak}
+use Rattle.mufom_names.specs.declared.name.Public.{Public}
+use Rattle.mufom_names.specs.declared.name.Reference.{Reference}
+use Rattle.mufom_loads.specs.declared.load.Item.{Item}
+use Rattle.mufom_loads.specs.declared.load.Item.TheVariants.{Literal, Field}
+use Rattle.mufom_loads.specs.declared.load.Load.{Load}
+use Rattle.mufom_loads.specs.declared.load.Load.TheVariants.{SetSection, SetPc, One, Repeat}
+use Rattle.mufom_debug.specs.declared.item.BlockHead.{BlockHead}
+use Rattle.mufom_debug.specs.declared.item.BlockHead.TheVariants as heads
+use Rattle.mufom_debug.specs.Marks.{DebugMark, block_begin, block_end, name_mark, note_mark, value_mark, marks_of, kind_number}
+use Rattle.mufom_module.specs.declared.module.Order.{Order}
+use Rattle.mufom_module.specs.declared.module.Order.TheVariants.{Least, Most}
+use Rattle.mufom_module.specs.declared.module.Parts.{Parts}
+
+-- how numbers and the leads of strings are spelled
+pub record Style : Type 0 where
+  pub number : ℕ → List ℕ
+  pub lead : ℕ → List ℕ
+
+-- the style of a writer
+abbrev pub shortest : Style
+shortest = record { number = shortest_number; lead = shortest_lead }
+
+-- nine bytes for each number, and three for each lead
+abbrev pub widest : Style
+widest = record { number = λ n. 0x88 ∷ to_be_bytes w64 n; lead = λ len. 0xDF ∷ to_be_bytes w16 len }
+
+-- the forms of the entries of a list, each by its position, which counts from n
+abbrev pub each_from : {X : Type 0} → ℕ → (ℕ → X → List ℕ) → List X → List ℕ
+each_from n write [] = []
+each_from n write (x ∷ xs) = write n x ++ each_from (n + 1) write xs
+
+abbrev pub each : {X : Type 0} → (ℕ → X → List ℕ) → List X → List ℕ
+each write xs = each_from 0 write xs
+
+-- the bytes of lists, one after another
+abbrev pub joined : List (List ℕ) → List ℕ
+joined [] = []
+joined (bytes ∷ more) = bytes ++ joined more
+
+-- ---- the indexes that a written file uses
+
+abbrev pub section_index : ℕ → ℕ
+section_index position = position + 1
+
+abbrev pub public_index : ℕ → ℕ
+public_index position = position + 32
+
+abbrev pub reference_index : ℕ → ℕ
+reference_index position = position + 11
+
+abbrev pub debug_name_index : ℕ → ℕ
+debug_name_index position = position + 32
+
+-- the index of the entry that a variable names
+abbrev pub index_of : Letter → ℕ → ℕ
+index_of I position = public_index position
+index_of L position = section_index position
+index_of P position = section_index position
+index_of R position = section_index position
+index_of S position = section_index position
+index_of X position = reference_index position
+
+-- ---- brackets
+
+abbrev pub opening : FieldKind → ℕ
+opening Signed = 0xBA
+opening Unsigned = 0xBC
+opening Either = 0xBE
+
+abbrev pub closing : FieldKind → ℕ
+closing Signed = 0xBB
+closing Unsigned = 0xBD
+closing Either = 0xBF
+
+abbrev pub comma : ℕ
+comma = 0x90
+
+-- ---- the records, in a style
+module _ (style : Style) where
+  abbrev pub number : ℕ → List ℕ
+  number n = style.number n
+
+  -- a string is its lead and its bytes
+  abbrev pub string : List ℕ → List ℕ
+  string text = style.lead (length text) ++ text
+
+  -- the bytes of a literal behind their number
+  abbrev pub counted : List ℕ → List ℕ
+  counted bytes = number (length bytes) ++ bytes
+
+  abbrev pub token : Token → List ℕ
+  token (Number n) = number n
+  token (Var letter position) = letter_byte letter ∷ number (index_of letter position)
+  token (Fun f) = function_byte f ∷ []
+
+  abbrev pub expression : Tree → List ℕ
+  expression tree = each (λ _. token) (tokens_of tree)
+
+  abbrev pub numbers : List ℕ → List ℕ
+  numbers ns = each (λ _. number) ns
+
+  -- ---- sections
+
+  abbrev pub section_letters : Bool → List ℕ
+  section_letters true = 0xC1 ∷ 0xD3 ∷ []
+  section_letters false = 0xC3 ∷ []
+
+  abbrev pub purpose_letter : Option Purpose → List ℕ
+  purpose_letter None = []
+  purpose_letter (Some purpose.Code) = 0xD0 ∷ []
+  purpose_letter (Some purpose.Data) = 0xC4 ∷ []
+  purpose_letter (Some purpose.Rom) = 0xD2 ∷ []
+
+  -- the declaration, ST
+  abbrev pub section_record : ℕ → Section → List ℕ
+  section_record i s = 0xE6 ∷ (number i ++ (section_letters s.absolute ++ (purpose_letter s.purpose ++ string s.name)))
+
+  -- SA where the alignment is not 1
+  abbrev pub alignment_record : ℕ → ℕ → List ℕ
+  alignment_record i align = if align == 1 then [] else 0xE7 ∷ (number i ++ number align)
+
+  -- ASS where the size is not 0
+  abbrev pub size_record : ℕ → ℕ → List ℕ
+  size_record i size = if size == 0 then [] else 0xE2 ∷ 0xD3 ∷ (number i ++ number size)
+
+  -- ASL where there is a base
+  abbrev pub base_record : ℕ → Option ℕ → List ℕ
+  base_record i None = []
+  base_record i (Some base) = 0xE2 ∷ 0xCC ∷ (number i ++ number base)
+
+  abbrev pub section : ℕ → Section → List ℕ
+  section position s = let i = section_index position in
+      section_record i s ++ (alignment_record i s.align ++ (size_record i s.size ++ base_record i s.base))
+
+  -- ---- names
+
+  -- a note on a name of a kind (I of publics, X of references, N of debug names)
+  abbrev pub note : ℕ → ℕ → Note → List ℕ
+  note letter i n = 0xF1 ∷ letter ∷ (number i ++ (number n.type_index ++ (number n.attribute ++ numbers n.numbers.items)))
+
+  -- NI, the notes as ATI, and ASI
+  abbrev pub public : ℕ → Public → List ℕ
+  public position p = let i = public_index position in
+      (0xE8 ∷ (number i ++ string p.name)) ++ (each (λ _. note 0xC9 i) p.notes ++ (0xE2 ∷ 0xC9 ∷ (number i ++ expression p.value)))
+
+  -- the default where it is not 0
+  abbrev pub default_number : ℕ → List ℕ
+  default_number default = if default == 0 then [] else number default
+
+  abbrev pub weak : ℕ → Option Weak → List ℕ
+  weak i None = []
+  weak i (Some w) = 0xF4 ∷ (number i ++ (number w.size ++ default_number w.default))
+
+  -- NX, the notes as ATX, and WX where it is weak
+  abbrev pub reference : ℕ → Reference → List ℕ
+  reference position r = let i = reference_index position in
+      (0xE9 ∷ (number i ++ string r.name)) ++ (each (λ _. note 0xD8 i) r.notes ++ weak i r.weak)
+
+  -- ---- debug items
+
+  abbrev pub head_fields : BlockHead → List ℕ
+  head_fields heads.Module = []
+  head_fields (heads.Global stack type_index offset) = number stack ++ (number type_index ++ expression offset)
+  head_fields (heads.Source ns) = numbers ns.items
+  head_fields (heads.Local stack type_index offset) = number stack ++ (number type_index ++ expression offset)
+  head_fields (heads.Section section_type section offset) = number section_type ++ (number (section_index section) ++ expression offset)
+
+  abbrev pub end_expression : Option Tree → List ℕ
+  end_expression None = []
+  end_expression (Some value) = expression value
+
+  -- the record of a mark, where n names stand before it; a block's size is written as 0
+  abbrev pub debug_record : ℕ → DebugMark → List ℕ
+  debug_record n (block_begin head name) = 0xF8 ∷ (number (kind_number head) ++ (number 0 ++ (string name ++ head_fields head)))
+  debug_record n (block_end value) = 0xF9 ∷ end_expression value
+  debug_record n (name_mark name) = 0xF0 ∷ (number (debug_name_index n) ++ string name)
+  debug_record n (note_mark name its) = note 0xCE (debug_name_index name) its
+  debug_record n (value_mark name value) = 0xE2 ∷ 0xCE ∷ (number (debug_name_index name) ++ expression value)
+
+  -- how many names stand behind a mark
+  abbrev pub names_behind : ℕ → DebugMark → ℕ
+  names_behind n (block_begin head name) = n
+  names_behind n (block_end value) = n
+  names_behind n (name_mark name) = n + 1
+  names_behind n (note_mark name its) = n
+  names_behind n (value_mark name value) = n
+
+  abbrev pub debug_records : ℕ → List DebugMark → List ℕ
+  debug_records n [] = []
+  debug_records n (mark ∷ marks) = debug_record n mark ++ debug_records (names_behind n mark) marks
+
+  -- ---- loads
+
+  abbrev pub field : FieldKind → Tree → ℕ → List ℕ
+  field kind value size = opening kind ∷ (expression value ++ (comma ∷ (number size ++ closing kind ∷ [])))
+
+  -- an item of an LR
+  abbrev pub item : Item → List ℕ
+  item (Literal bytes) = counted bytes
+  item (Field kind value size) = field kind value size
+
+  -- a literal is an LD, a field an LR of its own
+  abbrev pub single : Item → List ℕ
+  single (Literal bytes) = 0xED ∷ counted bytes
+  single (Field kind value size) = 0xE4 ∷ field kind value size
+
+  -- exactly one literal is repeated as an LD, anything else as an LR of its items
+  abbrev pub repeated : List Item → List ℕ
+  repeated [] = 0xE4 ∷ []
+  repeated (first ∷ []) = single first
+  repeated (first ∷ second ∷ more) = 0xE4 ∷ each (λ _. item) (first ∷ second ∷ more)
+
+  -- SB, ASP, an item of its own, or RE
+  abbrev pub load : Load → List ℕ
+  load (SetSection section) = 0xE5 ∷ number (section_index section)
+  load (SetPc section value) = 0xE2 ∷ 0xD0 ∷ (number (section_index section) ++ expression value)
+  load (One x) = single x
+  load (Repeat count items) = 0xF7 ∷ (number count ++ repeated items)
+
+  -- ---- parts
+
+  -- ASG, with the expression in brackets
+  abbrev pub start : Option Tree → List ℕ
+  start None = []
+  start (Some value) = 0xE2 ∷ 0xC7 ∷ 0xBE ∷ (expression value ++ 0xBF ∷ [])
+
+  -- publics, then references
+  abbrev pub external : Parts → List ℕ
+  external m = each public m.names.publics ++ each reference m.names.references
+
+  -- the extension, environment, section, external, debug, data and trailer parts
+  abbrev pub parts : Parts → List (List ℕ)
+  parts m = m.ext ∷ m.env ∷ each section m.sections ∷ external m
+      ∷ debug_records 0 (marks_of m.debug) ∷ each (λ _. load) m.loads ∷ start m.start ∷ []
+
+  abbrev pub order_letter : Order → ℕ
+  order_letter Least = 0xCC
+  order_letter Most = 0xCD
+
+  -- MB and AD
+  abbrev pub module_begin : Parts → List ℕ
+  module_begin m = (0xE0 ∷ (string m.processor ++ string m.name)) ++ (0xEC ∷ (number 8 ++ (number m.maus ++ order_letter m.order ∷ [])))
+
+  -- the ASW record of a part; its offset always takes four bytes
+  abbrev pub offset_record : ℕ → ℕ → List ℕ
+  offset_record k offset = 0xE2 ∷ 0xD7 ∷ (number k ++ 0x84 ∷ to_be_bytes w32 offset)
+
+  -- the offsets of parts that begin at a place, and then the place where they end; an empty part is absent
+  abbrev pub offsets_from : ℕ → List (List ℕ) → List ℕ
+  offsets_from at [] = at ∷ []
+  offsets_from at ([] ∷ rest) = 0 ∷ offsets_from at rest
+  offsets_from at ((b ∷ bytes) ∷ rest) = at ∷ offsets_from (at + length (b ∷ bytes)) rest
+
+  -- the length of MB, AD and the eight ASW records
+  abbrev pub header_length : Parts → ℕ
+  header_length m = length (module_begin m ++ each offset_record (0 ∷ 0 ∷ 0 ∷ 0 ∷ 0 ∷ 0 ∷ 0 ∷ 0 ∷ []))
+
+  -- W0 to W7
+  abbrev pub offsets : Parts → List ℕ
+  offsets m = offsets_from (header_length m) (parts m)
+
+  -- the whole file, with ME at its end
+  abbrev pub form : Parts → List ℕ
+  form m = module_begin m ++ (each offset_record (offsets m) ++ (joined (parts m) ++ 0xE1 ∷ []))
+
+-- the written form
+abbrev pub written : Parts → List ℕ
+written m = form shortest m
+
+-- the length that the written form would have with nine bytes for each number but the eight offsets, and three for each lead
+unfoldable pub weight : Parts → ℕ
+weight m = length (form widest m)

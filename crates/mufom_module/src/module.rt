@@ -1,0 +1,131 @@
+ghost use Rattle.std.specs.Prelude.{◌≡◌, ◌<◌, ◌^◌};
+ghost use Rattle.mufom_module.specs.Written.{weight};
+ghost use Rattle.mufom_module.specs.Defects.{IsValid};
+
+use crate::weight::module_weight;
+use mufom_debug::DebugItem;
+use mufom_expr::Postfix;
+use mufom_loads::Load;
+use mufom_names::NameTable;
+use mufom_numbers::{Bytes, List};
+use mufom_sections::Section;
+use std::marker::Model;
+
+/// The order of the bytes of a field and of an address.
+#[derive(Clone, Copy, Debug, PartialEq, Eq)]
+pub enum Order {
+    /// The least significant byte first.
+    Least,
+    /// The most significant byte first.
+    Most,
+}
+
+/// What a module says. Entries name one another by positions in these lists, from 0.
+#[derive(Debug, Drop)]
+pub struct Parts {
+    pub processor: Bytes,
+    pub name: Bytes,
+    /// How many minimum addressable units (of eight bits) an address has: 2, 3 or 4.
+    pub maus: u8,
+    pub order: Order,
+    /// The extension part as it stands in the file.
+    pub ext: Bytes,
+    /// The environment part as it stands in the file.
+    pub env: Bytes,
+    pub sections: List<Section>,
+    pub names: NameTable,
+    pub debug: List<DebugItem>,
+    pub loads: List<Load>,
+    /// The start address.
+    pub start: Option<Postfix>,
+}
+
+/// What keeps parts from being a module, in the order in which it is looked for.
+#[derive(Clone, Copy, Debug, PartialEq, Eq)]
+pub enum Defect {
+    /// More than 32 debug blocks are open at once.
+    Depth,
+    /// A string is longer than 65,535 bytes.
+    LongId,
+    /// An address has not 2, 3 or 4 addressable units.
+    BadMaus,
+    /// An alignment is 0 or above 2,147,483,648.
+    BadAlign,
+    /// A section with the letters of an absolute one has no base.
+    MissingBase,
+    /// A position is not in its list, or a debug name is used before it is declared.
+    Position,
+    /// A program counter stands in a public, a start or a debug expression, or is that of another
+    /// section than the one that the load sets or goes to.
+    MisplacedP,
+    /// An item or a repeat stands before the first section is set.
+    NoSection,
+    /// A literal is longer than 65,535 bytes.
+    LongRun,
+    /// A field has not 1 to 8 bytes.
+    FieldSize,
+    /// The attribute of a debug note is not 1, 2, 3, 4, 5, 7, 8 or 10.
+    Attribute,
+    /// A module or source block has an expression at its end.
+    Nesting,
+    /// The weight is 4,294,967,296 or more.
+    Weight,
+}
+
+/// A module: parts without a defect. Contracts see it as its parts.
+#[derive(Debug, Drop)]
+pub struct Module {
+    parts: Parts,
+}
+
+impl Model for Module {
+    ghost use Rattle.mufom_module.specs.declared.module.Parts.{Parts};
+    ghost use Rattle.mufom_module.specs.Defects.{IsValid};
+    ghost use Rattle.std.specs.Coded.{codes};
+    ghost use Rattle.mufom_expr.specs.TreeCode.{tree_code};
+    ghost use Rattle.mufom_debug.specs.contracts.item.DebugItem as debug_item;
+
+    ghost coded = { Prim.hlevel (codes, tree_code, debug_item.the_row.coded) };
+
+    ghost Value = { Parts };
+
+    ghost view = { λ m. m.parts };
+
+    ghost invariant = { λ m. IsValid m.parts };
+}
+
+impl Module {
+    // The module of these parts.
+    pub(crate) fn of(parts: Parts) -> Module
+        requires { IsValid parts }
+        ensures { result ≡ parts }
+    {
+        Module { parts }
+    }
+
+    /// The parts, which have no defect. Takes no memory.
+    pub fn parts(&self) -> &Parts
+        ensures same { result.now ≡ self.now }
+        ensures valid { IsValid self.now }
+    {
+        &self.parts
+    }
+
+    /// The length that the written form would have with nine bytes for each number but the eight
+    /// offsets of its parts, and three for the lead of each string. Takes no memory.
+    pub fn weight(&self) -> u64
+        ensures value { result ≡ weight self.now }
+        ensures bound { result < 2 ^ 32 }
+    {
+        module_weight(&self.parts)
+    }
+
+    /// The parts, given back. Takes no memory.
+    pub fn into_parts(self) -> Parts
+        ensures same { result ≡ self }
+        ensures valid { IsValid result }
+    {
+        let Module { parts } = self;
+        parts
+    }
+}

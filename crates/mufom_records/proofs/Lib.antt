@@ -1,0 +1,11 @@
+pub mod Tokens
+pub mod Numbers
+pub mod Exact
+pub mod NumberLaws
+pub mod ListLaws
+pub mod TokenSteps
+pub mod ExpressionLaws
+pub mod RecordLaws
+pub mod SameBytes
+pub mod PostfixLaws
+mod Worked

@@ -1,0 +1,135 @@
+-- Records are read exactly, and a longer input changes no answer but More.
+use Rattle.std.proofs.Common.{◌≡◌, ℕ, ◌+◌, ◌≤◌, List, [], ◌∷◌, ◌++◌, length, take, drop, None, Ok, Err, refl, sym, ap, subst, ◌∙◌, arith, append_assoc}
+use Rattle.std.proofs.lemmas.List.{length-append, length-take, take-append-drop, take_at}
+use Rattle.mufom_numbers.specs.declared.reason.Reason.{Reason}
+use Rattle.mufom_numbers.specs.declared.taken.Taken.{Taken}
+use Rattle.mufom_numbers.specs.declared.taken.Taken.TheVariants as taken
+use Rattle.mufom_numbers.specs.Spelling.{AreBytes, IfGot}
+use Rattle.mufom_records.specs.declared.record.Mode.{Mode}
+use Rattle.mufom_records.specs.declared.record.Record.{Record}
+use Rattle.mufom_records.specs.declared.stop.Stop.TheVariants.{More, Bad}
+use Rattle.mufom_records.specs.Fields.{Field, byte, number, string, run, letter, optional_number, numbers, expression, optional_expression, first_of}
+use Rattle.mufom_records.specs.Layouts.{layout_of, IsWholeRecord}
+use Rattle.mufom_records.specs.Reading.{Reading, read, as_taken, record_at}
+use Rattle.mufom_records.specs.Faults.{IsFaulty, IsUnended}
+use Rattle.mufom_records.proofs.Exact.{IsExact, FoundRecord, read-got, read-only, read-bad, read-fault, read-more, read-ends, record-later, fault-grows}
+use Rattle.mufom_records.proofs.NumberLaws.{byte-exact, number-exact, letter-exact, optional_number-exact}
+use Rattle.mufom_records.proofs.ListLaws.{numbers-exact, run-exact, string-exact}
+use Rattle.mufom_records.proofs.ExpressionLaws.{expression-exact, optional_expression-exact}
+
+-- each field is read exactly
+pub exact : (f : Field) → IsExact f
+exact byte = byte-exact
+exact (number fits place fault) = number-exact fits place fault
+exact string = string-exact
+exact (run n) = run-exact n
+exact (letter known) = letter-exact known
+exact optional_number = optional_number-exact
+exact (numbers most) = numbers-exact most
+exact expression = expression-exact
+exact optional_expression = optional_expression-exact
+
+abbrev got_record : Record → ℕ → Taken Record
+got_record row used = taken.Got row used
+
+abbrev bad_record : ℕ → Reason → Taken Record
+bad_record place reason = taken.Bad place reason
+
+abbrev more_record : Taken Record
+more_record = taken.More
+
+-- ---- what an answer says
+
+-- what is got is the front of the input and a whole record
+pub record IsFront (mode : Mode) (input : List ℕ) (row : Record) (used : ℕ) : Type 0 where
+  pub within : used ≤ length input
+  pub is_whole : IsWholeRecord mode row (take used input) (first_of (drop used input) None)
+
+front_of : (mode : Mode) (input : List ℕ) (row : Record) (used : ℕ) → FoundRecord exact (layout_of mode) input 0 row used → IsFront mode input row used
+front_of mode input row used all =
+    let count : length all.front ≡ used = omega (arith, all.count) in
+    let text : take used input ≡ all.front = ap (take used) all.split ∙ take_at all.front (drop used input) used count in
+    record {
+      within = omega (arith, ap length all.split, length-append all.front (drop used input), count);
+      is_whole = subst (λ (l : List ℕ). IsWholeRecord mode row l (first_of (drop used input) None)) (sym text) all.spells;
+    }
+
+pub data Says (mode : Mode) (input : List ℕ) : Taken Record → Type 0 where
+  says_got : (row : Record) (used : ℕ) → IsFront mode input row used → Says mode input (taken.Got row used)
+  says_more : IsUnended mode input → Says mode input taken.More
+  says_bad : (place : ℕ) (reason : Reason) → IsFaulty mode input place reason → Says mode input (taken.Bad place reason)
+
+says_by : (mode : Mode) (input : List ℕ) → AreBytes input → (answer : Reading Record) → read (layout_of mode) input 0 ≡ answer → Says mode input (as_taken answer)
+says_by mode input fits (Ok (row, used)) is = says_got row used (front_of mode input row used (read-got exact (layout_of mode) input 0 fits row used is))
+says_by mode input fits (Err More) is = says_more (read-more exact (layout_of mode) input 0 fits is)
+says_by mode input fits (Err (Bad place reason)) is = says_bad place reason (read-bad exact (layout_of mode) input 0 fits place reason is)
+
+pub says : (mode : Mode) (input : List ℕ) → AreBytes input → Says mode input (record_at mode input)
+says mode input fits = says_by mode input fits (read (layout_of mode) input 0) refl
+
+said_got : (mode : Mode) (input : List ℕ) (answer : Taken Record) → Says mode input answer → IfGot answer (λ row used. (used ≤ length input) × IsWholeRecord mode row (take used input) (first_of (drop used input) None))
+said_got mode input answer (says_got row used is) = (is.within, is.is_whole)
+said_got mode input answer (says_more ends) = tt
+said_got mode input answer (says_bad place reason has) = tt
+
+pub record_at-got : (mode : Mode) (input : List ℕ) → AreBytes input → IfGot (record_at mode input) (λ row used. (used ≤ length input) × IsWholeRecord mode row (take used input) (first_of (drop used input) None))
+record_at-got mode input fits = said_got mode input (record_at mode input) (says mode input fits)
+
+pub record_at-only : (mode : Mode) (input : List ℕ) (row : Record) (text rest : List ℕ) → IsWholeRecord mode row text (first_of rest None) → input ≡ text ++ rest → record_at mode input ≡ taken.Got row (length text)
+record_at-only mode input row text rest is split = let none : 0 + length text ≡ length text = omega arith in rw (read-only exact (layout_of mode) input 0 row text rest is split, none) refl
+
+pub record_at-bad : (mode : Mode) (input : List ℕ) (place : ℕ) (reason : Reason) → IsFaulty mode input place reason → record_at mode input ≡ taken.Bad place reason
+record_at-bad mode input place reason has = ap (λ a. as_taken a) (read-fault exact (layout_of mode) input 0 place reason has)
+
+said_bad : (mode : Mode) (input : List ℕ) (place : ℕ) (reason : Reason) (answer : Taken Record) → Says mode input answer → answer ≡ taken.Bad place reason → IsFaulty mode input place reason
+said_bad mode input place reason answer (says_got row used is) same = let wrong : got_record row used ≡ bad_record place reason = same in absurd cc
+said_bad mode input place reason answer (says_more ends) same = let wrong : more_record ≡ bad_record place reason = same in absurd cc
+said_bad mode input place reason answer (says_bad where_ why has) same =
+    let e : bad_record where_ why ≡ bad_record place reason = same in
+    let place_is : where_ ≡ place = cc in
+    let reason_is : why ≡ reason = cc in
+    subst (λ (p : ℕ). IsFaulty mode input p reason) place_is (subst (λ (r : Reason). IsFaulty mode input where_ r) reason_is has)
+
+pub bad-record_at : (mode : Mode) (input : List ℕ) → AreBytes input → (place : ℕ) (reason : Reason) → record_at mode input ≡ taken.Bad place reason → IsFaulty mode input place reason
+bad-record_at mode input fits place reason e = said_bad mode input place reason (record_at mode input) (says mode input fits) e
+
+pub record_at-more : (mode : Mode) (input : List ℕ) → IsUnended mode input → record_at mode input ≡ taken.More
+record_at-more mode input ends = ap (λ a. as_taken a) (read-ends exact (layout_of mode) input 0 ends)
+
+said_more : (mode : Mode) (input : List ℕ) (answer : Taken Record) → Says mode input answer → answer ≡ taken.More → IsUnended mode input
+said_more mode input answer (says_got row used is) same = let wrong : got_record row used ≡ more_record = same in absurd cc
+said_more mode input answer (says_more ends) same = ends
+said_more mode input answer (says_bad place reason has) same = let wrong : bad_record place reason ≡ more_record = same in absurd cc
+
+pub more-record_at : (mode : Mode) (input : List ℕ) → AreBytes input → record_at mode input ≡ taken.More → IsUnended mode input
+more-record_at mode input fits e = said_more mode input (record_at mode input) (says mode input fits) e
+
+-- ---- laws
+
+later_of : (mode : Mode) (row : Record) (text rest more : List ℕ) → IsWholeRecord mode row text (first_of rest None) → IsWholeRecord mode row text (first_of (rest ++ more) None)
+later_of mode row text [] more is = record-later exact (layout_of mode) row 0 text (first_of more None) is
+later_of mode row text (b ∷ rest) more is = is
+
+stable_by : (mode : Mode) (input more : List ℕ) (answer : Taken Record) → Says mode input answer → (answer ≡ taken.More → ⊥) → record_at mode (input ++ more) ≡ answer
+stable_by mode input more answer (says_got row used is) wanted =
+    let text = take used input in
+    let rest = drop used input in
+    let split : input ≡ text ++ rest = sym (take-append-drop used input) in
+    let count : length text ≡ used = omega (arith, length-take used input, is.within) in
+    record_at-only mode (input ++ more) row text (rest ++ more) (later_of mode row text rest more is.is_whole) (ap (λ (l : List ℕ). l ++ more) split ∙ append_assoc text rest more) ∙ ap (λ (n : ℕ). got_record row n) count
+stable_by mode input more answer (says_more ends) wanted = absurd (wanted refl)
+stable_by mode input more answer (says_bad place reason has) wanted = record_at-bad mode (input ++ more) place reason (fault-grows exact (layout_of mode) 0 input more place reason has)
+
+-- a longer input has the same answer, once it is not More
+pub record_at-stable : (mode : Mode) (input more : List ℕ) → AreBytes input → (record_at mode input ≡ taken.More → ⊥) → record_at mode (input ++ more) ≡ record_at mode input
+record_at-stable mode input more fits wanted = stable_by mode input more (record_at mode input) (says mode input fits) wanted
+
+-- two whole records at one place are one
+pub one_record : (mode : Mode) (r s : Record) (text rest other more : List ℕ) → IsWholeRecord mode r text (first_of rest None) → IsWholeRecord mode s other (first_of more None) → text ++ rest ≡ other ++ more → (r ≡ s) × (text ≡ other)
+one_record mode r s text rest other more first second same =
+    let one = record_at-only mode (text ++ rest) r text rest first refl in
+    let two = record_at-only mode (text ++ rest) s other more second same in
+    let e : got_record r (length text) ≡ got_record s (length other) = sym one ∙ two in
+    let row : r ≡ s = cc in
+    let count : length text ≡ length other = cc in
+    (row, sym (take_at text rest (length text) refl) ∙ ap (take (length text)) same ∙ take_at other more (length text) (sym count))

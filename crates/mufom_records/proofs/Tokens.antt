@@ -1,0 +1,16 @@
+-- One step of reading an expression.
+use Rattle.std.proofs.Common.{◌≡◌, ℕ, zero, suc, ◌-◌, ◌<◌, true, List, drop, Ok, Err, refl, arith}
+use Rattle.mufom_expr.specs.TokenAt.{begins_token, token_at}
+use Rattle.mufom_records.specs.declared.stop.Stop.{Stop}
+use Rattle.mufom_records.specs.Reading.{byte_at, terms_with, tokens_from}
+
+-- a token that is cut off or has a fault is the answer
+pub tokens-stop : (room terms at : ℕ) (input : List ℕ) (b p : ℕ) (stop : Stop) → byte_at input at ≡ Ok (b, p) → begins_token b ≡ true
+    → terms_with room terms at (token_at (drop at input)) ≡ Err stop → tokens_from room terms input at ≡ Err stop
+tokens-stop zero terms at input b p stop first begins e = rw (first, begins, e) refl
+tokens-stop (suc room) terms at input b p stop first begins e = rw (first, begins, e) refl
+
+pub tokens-got : (room terms at : ℕ) (input : List ℕ) (b p n after : ℕ) → 0 < room → byte_at input at ≡ Ok (b, p) → begins_token b ≡ true
+    → terms_with room terms at (token_at (drop at input)) ≡ Ok (n, after) → tokens_from room terms input at ≡ tokens_from (room - 1) n input after
+tokens-got zero terms at input b p n after some first begins e = absurd (omega (arith, some))
+tokens-got (suc room) terms at input b p n after some first begins e = let k : suc room - 1 ≡ room = omega arith in rw (k, first, begins, e) refl

@@ -1,0 +1,109 @@
+-- The faults of fields and records: what stands at a place where a field must stand, and is none. Each is told by the
+-- bytes that show it, whatever follows them.
+use Rattle.std.specs.Prelude.{◌≡◌, ◌⊎◌, ℕ, ◌+◌, ◌-◌, ◌<◌, ◌≤◌, true, false, List, [], ◌++◌, length, Some, None}
+use Rattle.mufom_numbers.specs.declared.reason.Reason.{Reason}
+use Rattle.mufom_numbers.specs.declared.reason.Reason.TheVariants.{BadNumber, BadId, UnsupportedFunction, UnsupportedVariable, Underflow, SurplusTerms, Empty, TooLong}
+use Rattle.mufom_numbers.specs.Spelling.{SpellsNumber, SpellsString, IsCutOff, BeginsIn}
+use Rattle.mufom_expr.specs.declared.token.Token.{Token}
+use Rattle.mufom_expr.specs.Codes.{operands_of}
+use Rattle.mufom_expr.specs.Terms.{leaves}
+use Rattle.mufom_expr.specs.Spelled.{SpellsToken, SpellsTokens, BeginsWith, IsLeftOutFunction, IsLeftOutLetter, HasBadIndex, IsCutOffToken}
+use Rattle.mufom_expr.specs.TokenAt.{begins_token}
+use Rattle.mufom_records.specs.declared.record.Mode.{Mode}
+use Rattle.mufom_records.specs.Fields.{Field, ValueOf, byte, number, string, run, letter, optional_number, numbers, expression, optional_expression, SpellsField, SpellsNumbers, first_of}
+use Rattle.mufom_records.specs.Layouts.{Layout, whole, refused, field, layout_of}
+
+-- ---- expressions
+
+-- the first byte begins no token
+abbrev pub EndsTokens : List ℕ → Type 0
+EndsTokens bytes = BeginsWith (λ b. begins_token b ≡ false) bytes
+
+-- a token stands first that finds its terms, or finds too few
+abbrev pub BeginsWithToken : (Token → Type 0) → List ℕ → Type 0
+BeginsWithToken Is bytes = (token : Token) × (text : List ℕ) × (rest : List ℕ) × SpellsToken token text × Is token × (bytes ≡ text ++ rest)
+
+-- What is wrong at the front of these bytes, where so many tokens stand before them that leave so many terms, and how
+-- far behind the front it is named.
+abbrev pub TokenFault : ℕ → ℕ → List ℕ → ℕ → Reason → Type 0
+TokenFault tokens terms bytes offset UnsupportedFunction = (offset ≡ 0) × BeginsWith IsLeftOutFunction bytes
+TokenFault tokens terms bytes offset UnsupportedVariable = (offset ≡ 0) × BeginsWith (λ b. (begins_token b ≡ true) × IsLeftOutLetter b) bytes
+TokenFault tokens terms bytes offset BadNumber = (offset ≡ 1) × (tokens < 255) × HasBadIndex bytes
+TokenFault tokens terms bytes offset Underflow = (offset ≡ 0) × BeginsWithToken (λ token. terms < operands_of token) bytes
+TokenFault tokens terms bytes offset TooLong = (offset ≡ 0) × (tokens ≡ 255) × (BeginsWithToken (λ token. operands_of token ≤ terms) bytes ⊎ HasBadIndex bytes)
+TokenFault tokens terms bytes offset Empty = (offset ≡ 0) × (tokens ≡ 0) × EndsTokens bytes
+TokenFault tokens terms bytes offset SurplusTerms = (offset ≡ 0) × (1 < terms) × EndsTokens bytes
+TokenFault tokens terms bytes offset _ = ⊥
+
+-- at most 255 tokens stand first, each of which finds its terms, and then there is this
+abbrev pub AfterTokens : List ℕ → (ℕ → ℕ → List ℕ → List ℕ → Type 0) → Type 0
+AfterTokens bytes Is = (tokens : List Token) × (terms : ℕ) × (front : List ℕ) × (rest : List ℕ) × SpellsTokens tokens front
+    × (leaves tokens ≡ Some terms) × (length tokens ≤ 255) × Is (length tokens) terms front rest × (bytes ≡ front ++ rest)
+
+-- tokens stand first, and then this fault of one, or of their end
+abbrev pub ExpressionFault : ℕ → List ℕ → ℕ → Reason → Type 0
+ExpressionFault at bytes place reason = (offset : ℕ) × AfterTokens bytes (λ tokens terms front rest. TokenFault tokens terms rest offset reason × (place ≡ at + length front + offset))
+
+-- tokens stand first, and then the bytes end before another one or inside it
+abbrev pub ExpressionEnds : List ℕ → Type 0
+ExpressionEnds bytes = AfterTokens bytes (λ tokens terms front rest. IsCutOffToken rest)
+
+-- ---- fields
+
+-- the bytes are the front of a number, and not all of it
+abbrev pub IsCutOffNumber : List ℕ → Type 0
+IsCutOffNumber bytes = (n : ℕ) × IsCutOff (SpellsNumber n) bytes
+
+-- a number stands first of which this holds
+abbrev pub BeginsWithNumber : (ℕ → Type 0) → List ℕ → Type 0
+BeginsWithNumber Is bytes = (n : ℕ) × (text : List ℕ) × (rest : List ℕ) × SpellsNumber n text × Is n × (bytes ≡ text ++ rest)
+
+-- The bytes, which begin at a place, show that the field does not stand there, for this reason, named at that place.
+abbrev pub FieldFault : Field → ℕ → List ℕ → ℕ → Reason → Type 0
+FieldFault byte at bytes place reason = ⊥
+FieldFault (number fits where_ fault) at bytes place reason = ((reason ≡ BadNumber) × (place ≡ at) × BeginsIn 0x89 0xFF bytes)
+    ⊎ ((reason ≡ fault) × (place ≡ where_ at) × BeginsWithNumber (λ n. fits n ≡ false) bytes)
+FieldFault string at bytes place reason = (reason ≡ BadId) × (place ≡ at) × (BeginsIn 0x80 0xDD bytes ⊎ BeginsIn 0xE0 0xFF bytes)
+FieldFault (run n) at bytes place reason = ⊥
+FieldFault (letter known) at bytes place reason = ⊥
+FieldFault optional_number at bytes place reason = ⊥
+FieldFault (numbers most) at bytes place reason = ⊥
+FieldFault expression at bytes place reason = ExpressionFault at bytes place reason
+FieldFault optional_expression at bytes place reason = BeginsWith (λ b. begins_token b ≡ true) bytes × ExpressionFault at bytes place reason
+
+-- The bytes end before the field or inside it, or where it could still begin, and show no fault.
+abbrev pub FieldEnds : Field → List ℕ → Type 0
+FieldEnds byte bytes = bytes ≡ []
+FieldEnds (number fits place fault) bytes = IsCutOffNumber bytes
+FieldEnds string bytes = (text : List ℕ) × IsCutOff (SpellsString text) bytes
+FieldEnds (run n) bytes = length bytes < n
+FieldEnds (letter known) bytes = bytes ≡ []
+FieldEnds optional_number bytes = IsCutOffNumber bytes
+FieldEnds (numbers most) bytes = (ns : List ℕ) × (front : List ℕ) × (rest : List ℕ) × SpellsNumbers ns front × (length ns < most) × IsCutOffNumber rest × (bytes ≡ front ++ rest)
+FieldEnds expression bytes = ExpressionEnds bytes
+FieldEnds optional_expression bytes = ExpressionEnds bytes
+
+-- ---- records
+
+-- Fields of the layout stand first, and then there is this fault.
+abbrev pub HasFault : Layout → ℕ → List ℕ → ℕ → Reason → Type 0
+HasFault (whole row) at bytes place reason = ⊥
+HasFault (refused back why) at bytes place reason = (place ≡ at - back) × (reason ≡ why)
+HasFault (field f rest) at bytes place reason = FieldFault f at bytes place reason
+    ⊎ ((x : ValueOf f) × (front : List ℕ) × (back : List ℕ) × SpellsField f x at front (first_of back None) × HasFault (rest x) (at + length front) back place reason × (bytes ≡ front ++ back))
+
+-- Fields of the layout stand first, and then the bytes end too early.
+abbrev pub EndsEarly : Layout → ℕ → List ℕ → Type 0
+EndsEarly (whole row) at bytes = ⊥
+EndsEarly (refused back why) at bytes = ⊥
+EndsEarly (field f rest) at bytes = FieldEnds f bytes
+    ⊎ ((x : ValueOf f) × (front : List ℕ) × (back : List ℕ) × SpellsField f x at front (first_of back None) × EndsEarly (rest x) (at + length front) back × (bytes ≡ front ++ back))
+
+-- The input shows this fault of a record that would stand at its front, named at that place.
+abbrev pub IsFaulty : Mode → List ℕ → ℕ → Reason → Type 0
+IsFaulty mode input place reason = HasFault (layout_of mode) 0 input place reason
+
+-- The input is the front of a record without a fault, and ends inside a field, before one that must follow, or where an
+-- optional one could begin.
+abbrev pub IsUnended : Mode → List ℕ → Type 0
+IsUnended mode input = EndsEarly (layout_of mode) 0 input

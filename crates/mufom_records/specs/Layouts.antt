@@ -1,0 +1,304 @@
+-- The table of records: which fields a record has after its code, in order (IEEE Std 695, MUFOM commands; the codes are
+-- those of the public `ieee.h`, what follows them is this project's profile).
+use Rattle.std.specs.Prelude.{◌≡◌, ℕ, ◌+◌, ◌^◌, Bool, true, false, List, [], ◌∷◌, ◌++◌, length, Option, Some, None, ◌==◌, nat_lt, nat_le, ◌&&◌, if◌then◌else◌}
+use Rattle.arrayvec.specs.ArrayVec.{ArrayVec}
+use Rattle.mufom_numbers.specs.declared.reason.Reason.{Reason}
+use Rattle.mufom_numbers.specs.declared.reason.Reason.TheVariants.{BadNumber, BadRecord, UnsupportedRecord, LongRun, BadFieldSize, BracketMismatch, BadSectionType, UnsupportedBlock, UnsupportedAttribute, BadHeader}
+use Rattle.mufom_numbers.specs.declared.taken.Span.{Span}
+use Rattle.mufom_expr.specs.declared.token.FieldKind.{FieldKind}
+use Rattle.mufom_expr.specs.declared.token.FieldKind.TheVariants.{Signed, Unsigned, Either}
+use Rattle.mufom_records.specs.declared.record.Mode.{Mode}
+use Rattle.mufom_records.specs.declared.record.Mode.TheVariants as mode
+use Rattle.mufom_records.specs.declared.record.BlockTail.TheVariants as tail
+use Rattle.mufom_records.specs.declared.record.Record.{Record}
+use Rattle.mufom_records.specs.declared.record.Record.TheVariants as r
+use Rattle.mufom_records.specs.Fields.{Field, ValueOf, byte, number, string, run, letter, optional_number, numbers, expression, optional_expression, is_one_of, SpellsField, first_of}
+
+-- a field and what may follow each value of it; no further field, and the record; or that the last bytes, so many of
+-- them, may not stand there
+pub data Layout : Type 0 where
+  whole : Record → Layout
+  refused : (back : ℕ) → (reason : Reason) → Layout
+  field : (f : Field) → (ValueOf f → Layout) → Layout
+
+-- a field, and what may follow it
+infixr 20 ◌▹◌
+abbrev pub ◌▹◌ : (f : Field) → (ValueOf f → Layout) → Layout
+f ▹ rest = field f rest
+
+-- The bytes, which begin at a place and are followed by that byte (or end the input), are a record of the layout.
+abbrev pub SpellsRecord : Layout → Record → ℕ → List ℕ → Option ℕ → Type 0
+SpellsRecord (whole row) record_ at bytes next = (record_ ≡ row) × (bytes ≡ [])
+SpellsRecord (refused back reason) record_ at bytes next = ⊥
+SpellsRecord (field f rest) record_ at bytes next = (x : ValueOf f) × (front : List ℕ) × (back : List ℕ) × SpellsField f x at front (first_of back next)
+    × SpellsRecord (rest x) record_ (at + length front) back next × (bytes ≡ front ++ back)
+
+-- ---- numbers with their tests
+
+-- a fault is named at the field itself
+abbrev pub here : ℕ → ℕ
+here at = at
+
+-- at the first byte of the record
+abbrev pub start : ℕ → ℕ
+start at = 0
+
+-- a number, whatever it is
+abbrev pub any_number : Field
+any_number = number (λ n. true) here BadNumber
+
+-- an index is below 2^32
+abbrev pub index : Field
+index = number (λ n. nat_lt n (2 ^ 32)) here BadNumber
+
+-- how many bytes a run of literal bytes has
+abbrev pub count : Field
+count = number (λ n. nat_lt n 65536) here LongRun
+
+-- 3, 4, 5, 6 and 11 are read
+abbrev pub block_kinds : List ℕ
+block_kinds = 3 ∷ 4 ∷ 5 ∷ 6 ∷ 11 ∷ []
+
+-- the kind of a block
+abbrev pub block_kind : Field
+block_kind = number (is_one_of block_kinds) here UnsupportedBlock
+
+-- what an attribute of a debug note may be
+abbrev pub debug_attributes : List ℕ
+debug_attributes = 1 ∷ 2 ∷ 3 ∷ 4 ∷ 5 ∷ 7 ∷ 8 ∷ 10 ∷ []
+
+-- an attribute of a debug note
+abbrev pub debug_attribute : Field
+debug_attribute = number (is_one_of debug_attributes) here UnsupportedAttribute
+
+-- how many addressable units a field has
+abbrev pub field_size : Field
+field_size = number (λ n. nat_le 1 n && nat_le n 8) here BadFieldSize
+
+-- the number of a part's offset, in the header
+abbrev pub offset_number : ℕ → Field
+offset_number k = number (λ n. n == k) start BadHeader
+
+-- ---- letters and brackets
+
+-- CC, the least significant byte first, or CD, the most significant
+abbrev pub orders : List ℕ
+orders = 0xCC ∷ 0xCD ∷ []
+
+-- D0, code; C4, data; D2, ROM data
+abbrev pub purposes : List ℕ
+purposes = 0xD0 ∷ 0xC4 ∷ 0xD2 ∷ []
+
+-- the comma before the size of a field
+abbrev pub comma : ℕ
+comma = 0x90
+
+-- of a signed, an unsigned and an either field
+abbrev pub opening_brackets : List ℕ
+opening_brackets = 0xBA ∷ 0xBC ∷ 0xBE ∷ []
+
+-- the kind of field that an opening bracket begins
+abbrev pub kind_of : ℕ → FieldKind
+kind_of b = if b == 0xBA then Signed else (if b == 0xBC then Unsigned else Either)
+
+-- the partner of an opening bracket is the next byte
+abbrev pub closed_by : ℕ → Layout → Layout
+closed_by opening rest = byte ▹ λ b. if b == opening + 1 then rest else refused 1 BracketMismatch
+
+-- ---- rows, each after its code
+
+-- MB: the processor and the module's name
+abbrev pub module_begin : Layout
+module_begin = string ▹ λ processor. string ▹ λ name. whole (r.ModuleBegin processor name)
+
+-- AD: bits per addressable unit, units per address, and the order of bytes
+abbrev pub descriptor : Layout
+descriptor = any_number ▹ λ bits. any_number ▹ λ maus. letter orders ▹ λ order. whole (r.Descriptor bits maus order)
+
+-- ASW: the number of a part and its offset
+abbrev pub offset : Layout
+offset = any_number ▹ λ n. any_number ▹ λ value. whole (r.Offset n value)
+
+-- ASW of this number
+abbrev pub numbered_offset : ℕ → Layout
+numbered_offset k = offset_number k ▹ λ n. any_number ▹ λ value. whole (r.Offset n value)
+
+-- ST behind the letters of its type: the purpose, the name, and three numbers that may be absent
+abbrev pub named_section : ℕ → Bool → Layout
+named_section i absolute = letter purposes ▹ λ purpose. string ▹ λ name. optional_number ▹ λ a. optional_number ▹ λ b. optional_number ▹ λ c.
+    whole (r.SectionType i absolute purpose name a b c)
+
+-- ST behind its letter A: S
+abbrev pub absolute_section : ℕ → Layout
+absolute_section i = byte ▹ λ s. if s == 0xD3 then named_section i true else refused 2 BadSectionType
+
+-- ST: C, relocatable, or A S, absolute
+abbrev pub section_type : Layout
+section_type = index ▹ λ i. byte ▹ λ c. if c == 0xC3 then named_section i false
+    else (if c == 0xC1 then absolute_section i else refused 1 BadSectionType)
+
+-- SA: the alignment, and a number that may be absent
+abbrev pub alignment : Layout
+alignment = index ▹ λ i. any_number ▹ λ n. optional_number ▹ λ other. whole (r.Alignment i n other)
+
+-- ASS and ASL
+abbrev pub index_and_number : (ℕ → ℕ → Record) → Layout
+index_and_number row = index ▹ λ i. any_number ▹ λ n. whole (row i n)
+
+-- NI, NX and NN
+abbrev pub index_and_string : (ℕ → Span → Record) → Layout
+index_and_string row = index ▹ λ i. string ▹ λ name. whole (row i name)
+
+-- ASI, ASN and ASP
+abbrev pub index_and_expression : (ℕ → Span → Record) → Layout
+index_and_expression row = index ▹ λ i. expression ▹ λ value. whole (row i value)
+
+-- ATI and ATX: an index, a type, an attribute, and at most four numbers
+abbrev pub note : (ℕ → ℕ → ℕ → ArrayVec ℕ → Record) → Layout
+note row = index ▹ λ i. any_number ▹ λ type_index. any_number ▹ λ attribute. numbers 4 ▹ λ ns. whole (row i type_index attribute ns)
+
+-- ATN: the same with an attribute of debug names
+abbrev pub debug_note : Layout
+debug_note = index ▹ λ i. any_number ▹ λ type_index. debug_attribute ▹ λ attribute. numbers 4 ▹ λ ns. whole (r.DebugNote i type_index attribute ns)
+
+-- WX: the size, and a default that may be absent
+abbrev pub weak_reference : Layout
+weak_reference = index ▹ λ i. any_number ▹ λ n. optional_number ▹ λ default. whole (r.WeakReference i n default)
+
+-- BB 4 and 6: the size of the stack, the type, and the offset
+abbrev pub scope_begin : ℕ → ℕ → Span → Layout
+scope_begin kind n name = any_number ▹ λ stack. any_number ▹ λ type_index. expression ▹ λ value. whole (r.BlockBegin kind n name (tail.Scope stack type_index value))
+
+-- BB 5: at most six numbers
+abbrev pub source_begin : ℕ → ℕ → Span → Layout
+source_begin kind n name = numbers 6 ▹ λ ns. whole (r.BlockBegin kind n name (tail.Source ns))
+
+-- BB 11: the type of the section, the section, and the offset
+abbrev pub section_begin : ℕ → ℕ → Span → Layout
+section_begin kind n name = any_number ▹ λ type_. index ▹ λ section. expression ▹ λ value. whole (r.BlockBegin kind n name (tail.Section type_ section value))
+
+-- BB behind its name: what the kind adds; 3 adds nothing
+abbrev pub block_by_kind : ℕ → ℕ → Span → Layout
+block_by_kind kind n name = if kind == 3 then whole (r.BlockBegin kind n name tail.Module)
+    else (if kind == 5 then source_begin kind n name
+    else (if kind == 11 then section_begin kind n name else scope_begin kind n name))
+
+-- BB: the kind, the size, the name, and what the kind adds
+abbrev pub block_begin : Layout
+block_begin = block_kind ▹ λ kind. any_number ▹ λ n. string ▹ λ name. block_by_kind kind n name
+
+-- BE: an expression that may be absent
+abbrev pub block_end : Layout
+block_end = optional_expression ▹ λ value. whole (r.BlockEnd value)
+
+-- SB
+abbrev pub set_section : Layout
+set_section = index ▹ λ i. whole (r.SetSection i)
+
+-- LD, and an item of literal bytes: a count and so many bytes
+abbrev pub constant : (Span → Record) → Layout
+constant row = count ▹ λ n. run n ▹ λ bytes. whole (row bytes)
+
+-- RE behind its times: LD, or LR whose items follow
+abbrev pub repeated : ℕ → ℕ → Layout
+repeated times b = if b == 0xED then constant (r.RepeatConstant times)
+    else (if b == 0xE4 then whole (r.RepeatRelocate times) else refused 1 BadRecord)
+
+-- RE: how many times, and then LD or LR
+abbrev pub repeat : Layout
+repeat = any_number ▹ λ times. byte ▹ λ b. repeated times b
+
+-- ASG behind its opening bracket, or without one: an expression, and then the partner of the bracket
+abbrev pub start_by_bracket : Option ℕ → Layout
+start_by_bracket None = expression ▹ λ value. whole (r.Start value)
+start_by_bracket (Some opening) = expression ▹ λ value. closed_by opening (whole (r.Start value))
+
+-- ASG: an expression, alone or in a pair of brackets of any kind
+abbrev pub start_address : Layout
+start_address = letter opening_brackets ▹ λ opening. start_by_bracket opening
+
+-- a field of an LR behind its expression and its comma, where there is one: the size, and the closing bracket
+abbrev pub item_by_comma : ℕ → Span → Option ℕ → Layout
+item_by_comma opening value None = closed_by opening (whole (r.FieldItem (kind_of opening) value None))
+item_by_comma opening value (Some comma_) = field_size ▹ λ n. closed_by opening (whole (r.FieldItem (kind_of opening) value (Some n)))
+
+-- an item behind its opening bracket, or one without a bracket
+abbrev pub item_by_bracket : Option ℕ → Layout
+item_by_bracket None = constant r.ConstantItem
+item_by_bracket (Some opening) = expression ▹ λ value. letter (comma ∷ []) ▹ λ c. item_by_comma opening value c
+
+-- an item of an LR: literal bytes, or a field in brackets with a comma and a size that may be absent
+abbrev pub item : Layout
+item = letter opening_brackets ▹ λ opening. item_by_bracket opening
+
+-- ---- codes
+
+-- second bytes after E2 that this profile knows and leaves out
+abbrev pub left_out_assignments : List ℕ
+left_out_assignments = 0xC1 ∷ 0xC2 ∷ 0xC6 ∷ 0xCD ∷ 0xD2 ∷ []
+
+-- a second byte after E2
+abbrev pub assignment : ℕ → Layout
+assignment b = if b == 0xD7 then offset
+    else (if b == 0xD3 then index_and_number r.SectionSize
+    else (if b == 0xCC then index_and_number r.SectionBase
+    else (if b == 0xC9 then index_and_expression r.PublicValue
+    else (if b == 0xCE then index_and_expression r.DebugValue
+    else (if b == 0xD0 then index_and_expression r.SetPc
+    else (if b == 0xC7 then start_address
+    else (if is_one_of left_out_assignments b then refused 2 UnsupportedRecord else refused 1 BadRecord)))))))
+
+-- a record whose code is E2 and a second byte
+abbrev pub assigned : Layout
+assigned = byte ▹ λ second. assignment second
+
+-- a second byte after F1
+abbrev pub noted : ℕ → Layout
+noted b = if b == 0xC9 then note r.PublicNote
+    else (if b == 0xD8 then note r.ReferenceNote
+    else (if b == 0xCE then debug_note else refused 1 BadRecord))
+
+-- a record whose code is F1 and a second byte
+abbrev pub any_note : Layout
+any_note = byte ▹ λ second. noted second
+
+-- a first byte
+abbrev pub coded : ℕ → Layout
+coded b = if b == 0xE0 then module_begin
+    else (if b == 0xE1 then whole r.ModuleEnd
+    else (if b == 0xE2 then assigned
+    else (if b == 0xE4 then whole r.Relocate
+    else (if b == 0xE5 then set_section
+    else (if b == 0xE6 then section_type
+    else (if b == 0xE7 then alignment
+    else (if b == 0xE8 then index_and_string r.PublicName
+    else (if b == 0xE9 then index_and_string r.ReferenceName
+    else (if b == 0xEC then descriptor
+    else (if b == 0xED then constant r.Constant
+    else (if b == 0xF0 then index_and_string r.DebugName
+    else (if b == 0xF1 then any_note
+    else (if b == 0xF2 then refused 1 UnsupportedRecord
+    else (if b == 0xF4 then weak_reference
+    else (if b == 0xF7 then repeat
+    else (if b == 0xF8 then block_begin
+    else (if b == 0xF9 then block_end else refused 1 BadRecord)))))))))))))))))
+
+-- any record but an item
+abbrev pub body : Layout
+body = byte ▹ λ b. coded b
+
+-- a code that alone may stand in the header
+abbrev pub begins_with : ℕ → ℕ → Layout → Layout
+begins_with back code rest = byte ▹ λ b. if b == code then rest else refused back BadHeader
+
+-- The layout of what is read in each mode.
+abbrev pub layout_of : Mode → Layout
+layout_of mode.Begin = begins_with 1 0xE0 module_begin
+layout_of mode.Descriptor = begins_with 1 0xEC descriptor
+layout_of (mode.Offset k) = begins_with 1 0xE2 (begins_with 2 0xD7 (numbered_offset k))
+layout_of mode.Body = body
+layout_of mode.Items = item
+
+-- The bytes are a whole record, where that byte follows them, or the input ends: no optional field could still begin.
+abbrev pub IsWholeRecord : Mode → Record → List ℕ → Option ℕ → Type 0
+IsWholeRecord mode record_ bytes next = SpellsRecord (layout_of mode) record_ 0 bytes next

@@ -1,0 +1,5 @@
+pub mod Fields
+pub mod Layouts
+pub mod Reading
+pub mod Faults
+pub mod Parts

@@ -1,0 +1,47 @@
+-- The parts of the input that a record names: its strings, literal bytes and expressions.
+use Rattle.std.specs.Prelude.{ℕ, ◌+◌, ◌≤◌, List, length, Option, Some, None, slice_range}
+use Rattle.mufom_numbers.specs.declared.taken.Span.{Span}
+use Rattle.mufom_expr.specs.Tree.{Tree}
+use Rattle.mufom_expr.specs.Spelled.{SpellsTree}
+use Rattle.mufom_records.specs.declared.record.BlockTail.{BlockTail}
+use Rattle.mufom_records.specs.declared.record.BlockTail.TheVariants as tail
+use Rattle.mufom_records.specs.declared.record.Record.{Record}
+use Rattle.mufom_records.specs.declared.record.Record.TheVariants as r
+
+-- the part lies in the input
+abbrev pub LiesIn : List ℕ → Span → Type 0
+LiesIn input span = span.start + span.len ≤ length input
+
+-- the part lies in the input, and its bytes are all bytes of an expression
+abbrev pub IsExpressionIn : List ℕ → Span → Type 0
+IsExpressionIn input span = LiesIn input span × ((tree : Tree) × SpellsTree tree (slice_range input span.start (span.start + span.len)))
+
+-- the same of an expression that may be absent
+abbrev pub IsOptionalExpressionIn : List ℕ → Option Span → Type 0
+IsOptionalExpressionIn input None = Unit {0}
+IsOptionalExpressionIn input (Some span) = IsExpressionIn input span
+
+-- the same of what a kind of block adds
+abbrev pub HasTailParts : List ℕ → BlockTail → Type 0
+HasTailParts input (tail.Scope _ _ offset) = IsExpressionIn input offset
+HasTailParts input (tail.Section _ _ offset) = IsExpressionIn input offset
+HasTailParts input _ = Unit {0}
+
+-- Each string and each run of literal bytes of the record lies in the input, and so does each expression, which is one.
+abbrev pub HasParts : List ℕ → Record → Type 0
+HasParts input (r.ModuleBegin processor name) = LiesIn input processor × LiesIn input name
+HasParts input (r.SectionType _ _ _ name _ _ _) = LiesIn input name
+HasParts input (r.PublicName _ name) = LiesIn input name
+HasParts input (r.PublicValue _ value) = IsExpressionIn input value
+HasParts input (r.ReferenceName _ name) = LiesIn input name
+HasParts input (r.BlockBegin _ _ name tail_) = LiesIn input name × HasTailParts input tail_
+HasParts input (r.BlockEnd value) = IsOptionalExpressionIn input value
+HasParts input (r.DebugName _ name) = LiesIn input name
+HasParts input (r.DebugValue _ value) = IsExpressionIn input value
+HasParts input (r.SetPc _ value) = IsExpressionIn input value
+HasParts input (r.Constant bytes) = LiesIn input bytes
+HasParts input (r.ConstantItem bytes) = LiesIn input bytes
+HasParts input (r.FieldItem _ value _) = IsExpressionIn input value
+HasParts input (r.RepeatConstant _ bytes) = LiesIn input bytes
+HasParts input (r.Start value) = IsExpressionIn input value
+HasParts input _ = Unit {0}

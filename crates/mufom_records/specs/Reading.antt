@@ -1,0 +1,155 @@
+-- One record at the front of an input, read field by field from left to right: its value and the place after it,
+-- that the input ends too early, or the first fault with its place.
+use Rattle.std.specs.Prelude.{ℕ, zero, suc, ◌+◌, ◌-◌, Bool, ◌==◌, nat_lt, List, [], ◌∷◌, length, drop, Option, Some, None, Result, Ok, Err, if◌then◌else◌}
+use Rattle.mufom_numbers.specs.declared.reason.Reason.{Reason}
+use Rattle.mufom_numbers.specs.declared.reason.Reason.TheVariants.{Underflow, SurplusTerms, Empty, TooLong}
+use Rattle.mufom_numbers.specs.declared.taken.Span.{Span}
+use Rattle.mufom_numbers.specs.declared.taken.Taken.{Taken}
+use Rattle.mufom_numbers.specs.declared.taken.Taken.TheVariants as taken
+use Rattle.mufom_numbers.specs.Spelling.{number_at, string_at}
+use Rattle.mufom_expr.specs.declared.token.Token.{Token}
+use Rattle.mufom_expr.specs.Codes.{operands_of}
+use Rattle.mufom_expr.specs.TokenAt.{begins_number, begins_token, token_at}
+use Rattle.mufom_records.specs.declared.record.Mode.{Mode}
+use Rattle.mufom_records.specs.declared.record.Record.{Record}
+use Rattle.mufom_records.specs.declared.stop.Stop.{Stop}
+use Rattle.mufom_records.specs.declared.stop.Stop.TheVariants.{More, Bad}
+use Rattle.mufom_records.specs.Fields.{Field, ValueOf, byte, number, string, run, letter, optional_number, numbers, expression, optional_expression, span_at, is_one_of, items_of}
+use Rattle.mufom_records.specs.Layouts.{Layout, whole, refused, field, layout_of}
+
+-- a value and the place after it, or why there is none
+abbrev pub Reading : Type 0 → Type 0
+Reading X = Result (X × ℕ) Stop
+
+-- what is read next, from the place after the value
+infixl 10 ◌>>=◌
+abbrev pub ◌>>=◌ : {X Y : Type 0} → Reading X → (X × ℕ → Reading Y) → Reading Y
+(Ok x) >>= next = next x
+(Err stop) >>= next = Err stop
+
+-- what stands so far behind the front of the input
+abbrev pub moved : {X : Type 0} → ℕ → Taken X → Reading X
+moved at (taken.Got x used) = Ok (x, at + used)
+moved at taken.More = Err More
+moved at (taken.Bad offset reason) = Err (Bad (at + offset) reason)
+
+-- the first of these bytes, which must be there
+abbrev pub first_byte : List ℕ → ℕ → Reading ℕ
+first_byte [] at = Err More
+first_byte (b ∷ _) at = Ok (b, at + 1)
+
+-- the byte at a place
+abbrev pub byte_at : List ℕ → ℕ → Reading ℕ
+byte_at input at = first_byte (drop at input) at
+
+-- the number at a place, whatever it is
+abbrev pub plain_number_at : List ℕ → ℕ → Reading ℕ
+plain_number_at input at = moved at (number_at (drop at input))
+
+-- the number at a place, which must pass a test
+abbrev pub tested_number_at : (ℕ → Bool) → (ℕ → ℕ) → Reason → List ℕ → ℕ → Reading ℕ
+tested_number_at fits place fault input at = do
+  n ← plain_number_at input at
+  if fits n.0 then Ok (n.0, n.1) else Err (Bad (place at) fault)
+
+-- the place of the bytes of the string at a place
+abbrev pub text_at : List ℕ → ℕ → Reading Span
+text_at input at = do
+  span ← moved at (string_at (drop at input))
+  Ok (span_at (at + span.0.start) span.0.len, span.1)
+
+-- the place of so many bytes, which must be there
+abbrev pub run_at : ℕ → List ℕ → ℕ → Reading Span
+run_at n input at = if nat_lt (length (drop at input)) n then Err More else Ok (span_at at n, at + n)
+
+-- one of these bytes at a place, or none before another byte
+abbrev pub letter_at : List ℕ → List ℕ → ℕ → Reading (Option ℕ)
+letter_at known input at = do
+  b ← byte_at input at
+  if is_one_of known b.0 then Ok (Some b.0, b.1) else Ok (None, at)
+
+-- the number at a place, or none before a byte that begins none
+abbrev pub optional_number_at : List ℕ → ℕ → Reading (Option ℕ)
+optional_number_at input at = do
+  b ← byte_at input at
+  if begins_number b.0 then (plain_number_at input at >>= λ n. Ok (Some n.0, n.1)) else Ok (None, at)
+
+-- a number and those after it, or none
+abbrev pub with_first : Option ℕ → ℕ → Reading (List ℕ) → Reading (List ℕ)
+with_first None at later = Ok ([], at)
+with_first (Some n) at later = later >>= λ ns. Ok (n ∷ ns.0, ns.1)
+
+-- at most so many numbers at a place
+abbrev pub numbers_at : ℕ → List ℕ → ℕ → Reading (List ℕ)
+numbers_at zero input at = Ok ([], at)
+numbers_at (suc k) input at = do
+  n ← optional_number_at input at
+  with_first n.0 n.1 (numbers_at k input n.1)
+
+-- ---- expressions
+
+-- What a token makes of the terms before it, where so many more tokens may stand. Of two faults at one byte the one of
+-- the least number is named, so Underflow goes before TooLong, and a fault of a variable's index, a byte later, behind.
+abbrev pub terms_with : ℕ → ℕ → ℕ → Taken Token → Reading ℕ
+terms_with room terms at taken.More = Err More
+terms_with zero terms at (taken.Bad (suc offset) reason) = Err (Bad at TooLong)
+terms_with room terms at (taken.Bad offset reason) = Err (Bad (at + offset) reason)
+terms_with room terms at (taken.Got token used) = if nat_lt terms (operands_of token) then Err (Bad at Underflow)
+    else (if room == 0 then Err (Bad at TooLong) else Ok (terms - operands_of token + 1, at + used))
+
+-- an expression ends before the first byte that begins no token
+abbrev pub expression_end : Bool → ℕ → ℕ → Reading (Unit {0})
+expression_end is_empty terms at = if is_empty then Err (Bad at Empty) else (if terms == 1 then Ok (tt, at) else Err (Bad at SurplusTerms))
+
+-- a token, and what follows it; or the end
+abbrev pub token_or_end : ℕ → ℕ → List ℕ → ℕ → (ℕ × ℕ → Reading (Unit {0})) → Reading (Unit {0})
+token_or_end room terms input at next = do
+  b ← byte_at input at
+  if begins_token b.0 then (terms_with room terms at (token_at (drop at input)) >>= next) else expression_end (room == 255) terms at
+
+-- the place after the tokens from a place on, where so many more of them may stand
+abbrev pub tokens_from : ℕ → ℕ → List ℕ → ℕ → Reading (Unit {0})
+tokens_from zero terms input at = token_or_end 0 terms input at (λ after. Err More)
+tokens_from (suc room) terms input at = token_or_end (suc room) terms input at (λ after. tokens_from room after.0 input after.1)
+
+-- the place of all bytes of the expression at a place
+abbrev pub expression_at : List ℕ → ℕ → Reading Span
+expression_at input at = do
+  end ← tokens_from 255 0 input at
+  Ok (span_at at (end.1 - at), end.1)
+
+-- the place of the bytes of the expression at a place, or none before a byte that begins none
+abbrev pub optional_expression_at : List ℕ → ℕ → Reading (Option Span)
+optional_expression_at input at = do
+  b ← byte_at input at
+  if begins_token b.0 then (expression_at input at >>= λ e. Ok (Some e.0, e.1)) else Ok (None, at)
+
+-- ---- fields and records
+
+-- the field at a place
+abbrev pub field_at : (f : Field) → List ℕ → ℕ → Reading (ValueOf f)
+field_at byte input at = byte_at input at
+field_at (number fits place fault) input at = tested_number_at fits place fault input at
+field_at string input at = text_at input at
+field_at (run n) input at = run_at n input at
+field_at (letter known) input at = letter_at known input at
+field_at optional_number input at = optional_number_at input at
+field_at (numbers most) input at = numbers_at most input at >>= λ ns. Ok (items_of ns.0, ns.1)
+field_at expression input at = expression_at input at
+field_at optional_expression input at = optional_expression_at input at
+
+-- the record of a layout that begins at a place
+abbrev pub read : Layout → List ℕ → ℕ → Reading Record
+read (whole row) input at = Ok (row, at)
+read (refused back reason) input at = Err (Bad (at - back) reason)
+read (field f rest) input at = field_at f input at >>= λ x. read (rest x.0) input x.1
+
+-- the answer of a reading at the front of the input
+abbrev pub as_taken : {X : Type 0} → Reading X → Taken X
+as_taken (Ok x) = taken.Got x.0 x.1
+as_taken (Err More) = taken.More
+as_taken (Err (Bad place reason)) = taken.Bad place reason
+
+-- The record at the front of the input, in a mode.
+abbrev pub record_at : Mode → List ℕ → Taken Record
+record_at mode input = as_taken (read (layout_of mode) input 0)

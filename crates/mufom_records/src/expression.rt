@@ -1,0 +1,120 @@
+//! Expressions, which are read in one pass: only the number of terms is kept.
+
+ghost use Rattle.std.specs.Prelude.{◌≡◌, ◌+◌, ◌<◌, ◌≤◌, length, drop, IfOk};
+ghost use Rattle.mufom_expr.specs.TokenAt.{begins_token as token_begins, token_at};
+ghost use Rattle.mufom_expr.specs.Codes.{operands_of};
+ghost use Rattle.mufom_records.specs.Fields.{expression as an_expression, optional_expression as an_optional_expression};
+ghost use Rattle.mufom_records.specs.Parts.{IsExpressionIn, IsOptionalExpressionIn};
+ghost use Rattle.mufom_records.specs.Reading.{field_at, terms_with, expression_end, tokens_from};
+
+use crate::fields::{bad, byte};
+use crate::stop::Stop;
+use mufom_expr::{Function, Token, read_token};
+use mufom_numbers::{Reason, Span, Taken};
+
+fn begins_token(b: u8) -> bool
+    ensures { result ≡ token_begins b }
+{
+    b <= 0x88 || (0xA0 <= b && b <= 0xB9) || (0xC1 <= b && b <= 0xDA)
+}
+
+fn operands(token: Token) -> usize
+    ensures { result ≡ operands_of token }
+{
+    match token {
+        Token::Number(_) => 0,
+        Token::Var(_, _) => 0,
+        Token::Fun(Function::Abs) => 1,
+        Token::Fun(Function::Neg) => 1,
+        Token::Fun(_) => 2,
+    }
+}
+
+// What the token at a place makes of the terms before it, where so many more tokens may stand.
+fn terms_at(room: usize, terms: usize, input: &[u8], at: usize) -> Result<(usize, usize), Stop>
+    requires at { at ≤ length input.now }
+    requires terms { terms ≤ 255 }
+    ensures exact { result ≡ terms_with room terms at (token_at (drop at input.now)) }
+    ensures within { IfOk result (λ r. (at ≤ r.1) × (r.1 ≤ length input.now) × (0 < room) × (r.0 ≤ terms + 1)) }
+{
+    match read_token(&input[at..]) {
+        Taken::More => Err(Stop::More),
+        Taken::Bad { offset, reason } => {
+            if room == 0 && offset > 0 {
+                Err(bad(at, Reason::TooLong))
+            } else {
+                Err(bad(at + offset, reason))
+            }
+        }
+        Taken::Got(token, used) => {
+            let wanted = operands(token);
+            if terms < wanted {
+                Err(bad(at, Reason::Underflow))
+            } else if room == 0 {
+                Err(bad(at, Reason::TooLong))
+            } else {
+                Ok((terms - wanted + 1, at + used))
+            }
+        }
+    }
+}
+
+// The end of an expression, which leaves so many terms.
+fn end_of(is_empty: bool, terms: usize, at: usize) -> Result<((), usize), Stop>
+    ensures exact { result ≡ expression_end is_empty terms at }
+    ensures within { IfOk result (λ r. r.1 ≡ at) }
+{
+    if is_empty {
+        Err(bad(at, Reason::Empty))
+    } else if terms == 1 {
+        Ok(((), at))
+    } else {
+        Err(bad(at, Reason::SurplusTerms))
+    }
+}
+
+// The place after the tokens from a place on, where so many more of them may stand: at most 255.
+fn tokens(room: usize, terms: usize, input: &[u8], at: usize) -> Result<((), usize), Stop>
+    requires at { at ≤ length input.now }
+    requires few { room + terms ≤ 255 }
+    ensures exact { result ≡ tokens_from room terms input.now at }
+    ensures within { IfOk result (λ r. (at ≤ r.1) × (r.1 ≤ length input.now)) }
+{
+    let (b, _) = byte(input, at)?;
+    if !begins_token(b) {
+        return end_of(room == 255, terms, at);
+    }
+    let (terms, after) = terms_at(room, terms, input, at)?;
+    tokens(room - 1, terms, input, after)
+}
+
+/// Where the bytes of an expression stand.
+pub(crate) fn expression(input: &[u8], start: usize) -> Result<(Span, usize), Stop>
+    requires { start ≤ length input.now }
+    ensures exact { result ≡ field_at an_expression input.now start }
+    ensures part { IfOk result (λ r. IsExpressionIn input.now r.0) }
+    ensures within { IfOk result (λ r. r.1 ≤ length input.now) }
+{
+    let (_, at) = tokens(255, 0, input, start)?;
+    let span = Span {
+        start,
+        len: at - start,
+    };
+    Ok((span, at))
+}
+
+/// An expression, or none before a byte that begins none.
+pub(crate) fn optional_expression(input: &[u8], at: usize) -> Result<(Option<Span>, usize), Stop>
+    requires { at ≤ length input.now }
+    ensures exact { result ≡ field_at an_optional_expression input.now at }
+    ensures part { IfOk result (λ r. IsOptionalExpressionIn input.now r.0) }
+    ensures within { IfOk result (λ r. r.1 ≤ length input.now) }
+{
+    let (b, _) = byte(input, at)?;
+    if begins_token(b) {
+        let (span, after) = expression(input, at)?;
+        Ok((Some(span), after))
+    } else {
+        Ok((None, at))
+    }
+}

@@ -1,0 +1,216 @@
+//! The record that stands next, by its code.
+
+ghost use Rattle.std.specs.Prelude.{◌≡◌, ◌↔◌, ◌≤◌, ℕ, List, ◌++◌, length, take, drop, None, IfOk};
+ghost use Rattle.mufom_numbers.specs.declared.reason.Reason.{Reason};
+ghost use Rattle.mufom_numbers.specs.Spelling.{IfGot};
+ghost use Rattle.mufom_records.specs.declared.record.Record.{Record};
+ghost use Rattle.mufom_records.specs.Fields.{first_of};
+ghost use Rattle.mufom_records.specs.Layouts.{IsWholeRecord};
+ghost use Rattle.mufom_records.specs.Layouts as layouts;
+ghost use Rattle.mufom_records.specs.Parts.{HasParts};
+ghost use Rattle.mufom_records.specs.Reading.{read, record_at};
+ghost use Rattle.mufom_records.specs.Faults.{IsFaulty, IsUnended};
+
+use crate::brackets::{item, start_address};
+use crate::fields::{bad, byte};
+use crate::record::{Mode, Record};
+use crate::rows::{
+    Read, alignment, block_begin, block_end, constant, debug_name, debug_note, debug_value,
+    descriptor, module_begin, numbered_offset, offset, public_name, public_note, public_value,
+    reference_name, reference_note, repeat, section_base, section_size, section_type, set_counter,
+    set_section, weak_reference,
+};
+use crate::stop::Stop;
+use mufom_numbers::{Reason, Taken};
+
+// What stands behind E2 and a second byte.
+fn assignment(second: u8, input: &[u8], at: usize) -> Read
+    requires low { 2 ≤ at }
+    requires within { at ≤ length input.now }
+    ensures exact { result ≡ read (layouts.assignment second) input.now at }
+    ensures parts { IfOk result (λ r. HasParts input.now r.0) }
+{
+    match second {
+        0xD7 => offset(input, at),
+        0xD3 => section_size(input, at),
+        0xCC => section_base(input, at),
+        0xC9 => public_value(input, at),
+        0xCE => debug_value(input, at),
+        0xD0 => set_counter(input, at),
+        0xC7 => start_address(input, at),
+        0xC1 | 0xC2 | 0xC6 | 0xCD | 0xD2 => Err(bad(at - 2, Reason::UnsupportedRecord)),
+        _ => Err(bad(at - 1, Reason::BadRecord)),
+    }
+}
+
+// What stands behind F1 and a second byte.
+fn noted(second: u8, input: &[u8], at: usize) -> Read
+    requires low { 1 ≤ at }
+    requires within { at ≤ length input.now }
+    ensures exact { result ≡ read (layouts.noted second) input.now at }
+    ensures parts { IfOk result (λ r. HasParts input.now r.0) }
+{
+    match second {
+        0xC9 => public_note(input, at),
+        0xD8 => reference_note(input, at),
+        0xCE => debug_note(input, at),
+        _ => Err(bad(at - 1, Reason::BadRecord)),
+    }
+}
+
+fn assigned(input: &[u8], at: usize) -> Read
+    requires low { 1 ≤ at }
+    requires within { at ≤ length input.now }
+    ensures exact { result ≡ read layouts.assigned input.now at }
+    ensures parts { IfOk result (λ r. HasParts input.now r.0) }
+{
+    let (second, at) = byte(input, at)?;
+    assignment(second, input, at)
+}
+
+fn note(input: &[u8], at: usize) -> Read
+    requires { at ≤ length input.now }
+    ensures exact { result ≡ read layouts.any_note input.now at }
+    ensures parts { IfOk result (λ r. HasParts input.now r.0) }
+{
+    let (second, at) = byte(input, at)?;
+    noted(second, input, at)
+}
+
+// What stands behind a first byte.
+fn coded(code: u8, input: &[u8], at: usize) -> Read
+    requires low { 1 ≤ at }
+    requires within { at ≤ length input.now }
+    ensures exact { result ≡ read (layouts.coded code) input.now at }
+    ensures parts { IfOk result (λ r. HasParts input.now r.0) }
+{
+    match code {
+        0xE0 => module_begin(input, at),
+        0xE1 => Ok((Record::ModuleEnd, at)),
+        0xE2 => assigned(input, at),
+        0xE4 => Ok((Record::Relocate, at)),
+        0xE5 => set_section(input, at),
+        0xE6 => section_type(input, at),
+        0xE7 => alignment(input, at),
+        0xE8 => public_name(input, at),
+        0xE9 => reference_name(input, at),
+        0xEC => descriptor(input, at),
+        0xED => constant(input, at),
+        0xF0 => debug_name(input, at),
+        0xF1 => note(input, at),
+        0xF2 => Err(bad(at - 1, Reason::UnsupportedRecord)),
+        0xF4 => weak_reference(input, at),
+        0xF7 => repeat(input, at),
+        0xF8 => block_begin(input, at),
+        0xF9 => block_end(input, at),
+        _ => Err(bad(at - 1, Reason::BadRecord)),
+    }
+}
+
+// The module's begin, which alone may stand first.
+fn header_begin(input: &[u8]) -> Read
+    ensures exact { result ≡ read (layouts.begins_with 1 0xE0 layouts.module_begin) input.now 0 }
+    ensures parts { IfOk result (λ r. HasParts input.now r.0) }
+{
+    let (code, at) = byte(input, 0)?;
+    if code == 0xE0 {
+        module_begin(input, at)
+    } else {
+        Err(bad(0, Reason::BadHeader))
+    }
+}
+
+// The address descriptor, which alone may stand next.
+fn header_descriptor(input: &[u8]) -> Read
+    ensures exact { result ≡ read (layouts.begins_with 1 0xEC layouts.descriptor) input.now 0 }
+    ensures parts { IfOk result (λ r. HasParts input.now r.0) }
+{
+    let (code, at) = byte(input, 0)?;
+    if code == 0xEC {
+        descriptor(input, at)
+    } else {
+        Err(bad(0, Reason::BadHeader))
+    }
+}
+
+fn header_letter(part: u8, input: &[u8], at: usize) -> Read
+    requires low { 1 ≤ at }
+    requires within { at ≤ length input.now }
+    ensures exact { result ≡ read (layouts.begins_with 2 0xD7 (layouts.numbered_offset part)) input.now at }
+    ensures parts { IfOk result (λ r. HasParts input.now r.0) }
+{
+    let (second, after) = byte(input, at)?;
+    if second == 0xD7 {
+        numbered_offset(part, input, after)
+    } else {
+        Err(bad(at - 1, Reason::BadHeader))
+    }
+}
+
+// The offset of this number, which alone may stand next.
+fn header_offset(part: u8, input: &[u8]) -> Read
+    ensures exact { result ≡ read (layouts.begins_with 1 0xE2 (layouts.begins_with 2 0xD7 (layouts.numbered_offset part))) input.now 0 }
+    ensures parts { IfOk result (λ r. HasParts input.now r.0) }
+{
+    let (code, at) = byte(input, 0)?;
+    if code == 0xE2 {
+        header_letter(part, input, at)
+    } else {
+        Err(bad(0, Reason::BadHeader))
+    }
+}
+
+fn body(input: &[u8]) -> Read
+    ensures exact { result ≡ read layouts.body input.now 0 }
+    ensures parts { IfOk result (λ r. HasParts input.now r.0) }
+{
+    let (code, at) = byte(input, 0)?;
+    coded(code, input, at)
+}
+
+fn record(input: &[u8], mode: Mode) -> Read
+    ensures exact { result ≡ read (layouts.layout_of mode) input.now 0 }
+    ensures parts { IfOk result (λ r. HasParts input.now r.0) }
+{
+    match mode {
+        Mode::Begin => header_begin(input),
+        Mode::Descriptor => header_descriptor(input),
+        Mode::Offset(part) => header_offset(part, input),
+        Mode::Body => body(input),
+        Mode::Items => item(input, 0),
+    }
+}
+
+fn next(input: &[u8], mode: Mode) -> Taken<Record>
+    ensures exact { result ≡ record_at mode input.now }
+    ensures parts { IfGot result (λ row used. HasParts input.now row) }
+{
+    match record(input, mode) {
+        Ok((record, used)) => Taken::Got(record, used),
+        Err(Stop::More) => Taken::More,
+        Err(Stop::Bad { offset, reason }) => Taken::Bad { offset, reason },
+    }
+}
+
+/// Reads the record at the front of the input that stands next in this mode, and says how many bytes
+/// it takes. Takes no memory.
+///
+/// The fields are read from left to right. `Bad` is the first fault and the position of the byte at
+/// which it is named: a fault of a number's value stands as soon as the number is whole, one of a
+/// token as soon as the token is, and any other as soon as its byte is there. `More` comes where no
+/// fault stands and the input ends inside a field, before one that must follow, or where an optional
+/// one could still begin. Strings, literal bytes and expressions are positions in the input, and
+/// literal bytes are not looked at.
+pub fn next_record(input: &[u8], mode: Mode) -> Taken<Record>
+    // What is taken is the front of the input, and a whole record before the byte that follows.
+    ensures got { IfGot result (λ row used. (used ≤ length input.now) × IsWholeRecord mode row (take used input.now) (first_of (drop used input.now) None)) }
+    // An input that begins with a whole record gives it.
+    ensures only { (row : Record) (text rest : List ℕ) → IsWholeRecord mode row text (first_of rest None) → input.now ≡ text ++ rest → result ≡ Taken.Got row (length text) }
+    ensures bad { (place : ℕ) (reason : Reason) → (result ≡ Taken.Bad place reason) ↔ IsFaulty mode input.now place reason }
+    ensures more { (result ≡ Taken.More) ↔ IsUnended mode input.now }
+    // What the record names by its position lies in the input, and its expressions are expressions.
+    ensures parts { IfGot result (λ row used. HasParts input.now row) }
+    ensures exact { result ≡ record_at mode input.now }
+{
+    next(input, mode)
+}

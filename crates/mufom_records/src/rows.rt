@@ -1,0 +1,363 @@
+//! The rows of the table of records, each read behind its code.
+
+ghost use Rattle.std.specs.Prelude.{◌≡◌, ◌≤◌, length, IfOk};
+ghost use Rattle.mufom_records.specs.declared.record.Record.TheVariants as r;
+ghost use Rattle.mufom_records.specs.Layouts as layouts;
+ghost use Rattle.mufom_records.specs.Parts.{HasParts, LiesIn};
+ghost use Rattle.mufom_records.specs.Reading.{read};
+
+use crate::expression::{expression, optional_expression};
+use crate::fields::{
+    bad, block_kind, byte, count, debug_attribute, index, letter, number, numbers, offset_number,
+    optional_number, run, string,
+};
+use crate::record::{BlockTail, Record};
+use crate::stop::Stop;
+use mufom_numbers::{Reason, Span};
+
+/// A record and the place after it.
+pub(crate) type Read = Result<(Record, usize), Stop>;
+
+pub(crate) fn module_begin(input: &[u8], at: usize) -> Read
+    requires { at ≤ length input.now }
+    ensures exact { result ≡ read layouts.module_begin input.now at }
+    ensures parts { IfOk result (λ r. HasParts input.now r.0) }
+{
+    let (processor, at) = string(input, at)?;
+    let (name, at) = string(input, at)?;
+    Ok((Record::ModuleBegin(processor, name), at))
+}
+
+pub(crate) fn descriptor(input: &[u8], at: usize) -> Read
+    requires { at ≤ length input.now }
+    ensures exact { result ≡ read layouts.descriptor input.now at }
+    ensures parts { IfOk result (λ r. HasParts input.now r.0) }
+{
+    let (bits, at) = number(input, at)?;
+    let (maus, at) = number(input, at)?;
+    let (order, at) = letter(&[0xCC, 0xCD], input, at)?;
+    Ok((Record::Descriptor(bits, maus, order), at))
+}
+
+pub(crate) fn offset(input: &[u8], at: usize) -> Read
+    requires { at ≤ length input.now }
+    ensures exact { result ≡ read layouts.offset input.now at }
+    ensures parts { IfOk result (λ r. HasParts input.now r.0) }
+{
+    let (part, at) = number(input, at)?;
+    let (value, at) = number(input, at)?;
+    Ok((Record::Offset(part, value), at))
+}
+
+pub(crate) fn numbered_offset(part: u8, input: &[u8], at: usize) -> Read
+    requires { at ≤ length input.now }
+    ensures exact { result ≡ read (layouts.numbered_offset part) input.now at }
+    ensures parts { IfOk result (λ r. HasParts input.now r.0) }
+{
+    let (part, at) = offset_number(part, input, at)?;
+    let (value, at) = number(input, at)?;
+    Ok((Record::Offset(part, value), at))
+}
+
+fn named_section(i: u32, absolute: bool, input: &[u8], at: usize) -> Read
+    requires { at ≤ length input.now }
+    ensures exact { result ≡ read (layouts.named_section i absolute) input.now at }
+    ensures parts { IfOk result (λ r. HasParts input.now r.0) }
+{
+    let (purpose, at) = letter(&[0xD0, 0xC4, 0xD2], input, at)?;
+    let (name, at) = string(input, at)?;
+    let (a, at) = optional_number(input, at)?;
+    let (b, at) = optional_number(input, at)?;
+    let (c, at) = optional_number(input, at)?;
+    Ok((Record::SectionType(i, absolute, purpose, name, a, b, c), at))
+}
+
+fn absolute_section(i: u32, input: &[u8], at: usize) -> Read
+    requires low { 1 ≤ at }
+    requires within { at ≤ length input.now }
+    ensures exact { result ≡ read (layouts.absolute_section i) input.now at }
+    ensures parts { IfOk result (λ r. HasParts input.now r.0) }
+{
+    let (second, after) = byte(input, at)?;
+    if second == 0xD3 {
+        named_section(i, true, input, after)
+    } else {
+        Err(bad(at - 1, Reason::BadSectionType))
+    }
+}
+
+pub(crate) fn section_type(input: &[u8], at: usize) -> Read
+    requires { at ≤ length input.now }
+    ensures exact { result ≡ read layouts.section_type input.now at }
+    ensures parts { IfOk result (λ r. HasParts input.now r.0) }
+{
+    let (i, at) = index(input, at)?;
+    let (first, after) = byte(input, at)?;
+    match first {
+        0xC3 => named_section(i, false, input, after),
+        0xC1 => absolute_section(i, input, after),
+        _ => Err(bad(at, Reason::BadSectionType)),
+    }
+}
+
+pub(crate) fn alignment(input: &[u8], at: usize) -> Read
+    requires { at ≤ length input.now }
+    ensures exact { result ≡ read layouts.alignment input.now at }
+    ensures parts { IfOk result (λ r. HasParts input.now r.0) }
+{
+    let (i, at) = index(input, at)?;
+    let (value, at) = number(input, at)?;
+    let (other, at) = optional_number(input, at)?;
+    Ok((Record::Alignment(i, value, other), at))
+}
+
+pub(crate) fn section_size(input: &[u8], at: usize) -> Read
+    requires { at ≤ length input.now }
+    ensures exact { result ≡ read (layouts.index_and_number r.SectionSize) input.now at }
+    ensures parts { IfOk result (λ r. HasParts input.now r.0) }
+{
+    let (i, at) = index(input, at)?;
+    let (size, at) = number(input, at)?;
+    Ok((Record::SectionSize(i, size), at))
+}
+
+pub(crate) fn section_base(input: &[u8], at: usize) -> Read
+    requires { at ≤ length input.now }
+    ensures exact { result ≡ read (layouts.index_and_number r.SectionBase) input.now at }
+    ensures parts { IfOk result (λ r. HasParts input.now r.0) }
+{
+    let (i, at) = index(input, at)?;
+    let (base, at) = number(input, at)?;
+    Ok((Record::SectionBase(i, base), at))
+}
+
+pub(crate) fn public_name(input: &[u8], at: usize) -> Read
+    requires { at ≤ length input.now }
+    ensures exact { result ≡ read (layouts.index_and_string r.PublicName) input.now at }
+    ensures parts { IfOk result (λ r. HasParts input.now r.0) }
+{
+    let (i, at) = index(input, at)?;
+    let (name, at) = string(input, at)?;
+    Ok((Record::PublicName(i, name), at))
+}
+
+pub(crate) fn reference_name(input: &[u8], at: usize) -> Read
+    requires { at ≤ length input.now }
+    ensures exact { result ≡ read (layouts.index_and_string r.ReferenceName) input.now at }
+    ensures parts { IfOk result (λ r. HasParts input.now r.0) }
+{
+    let (i, at) = index(input, at)?;
+    let (name, at) = string(input, at)?;
+    Ok((Record::ReferenceName(i, name), at))
+}
+
+pub(crate) fn debug_name(input: &[u8], at: usize) -> Read
+    requires { at ≤ length input.now }
+    ensures exact { result ≡ read (layouts.index_and_string r.DebugName) input.now at }
+    ensures parts { IfOk result (λ r. HasParts input.now r.0) }
+{
+    let (i, at) = index(input, at)?;
+    let (name, at) = string(input, at)?;
+    Ok((Record::DebugName(i, name), at))
+}
+
+pub(crate) fn public_value(input: &[u8], at: usize) -> Read
+    requires { at ≤ length input.now }
+    ensures exact { result ≡ read (layouts.index_and_expression r.PublicValue) input.now at }
+    ensures parts { IfOk result (λ r. HasParts input.now r.0) }
+{
+    let (i, at) = index(input, at)?;
+    let (value, at) = expression(input, at)?;
+    Ok((Record::PublicValue(i, value), at))
+}
+
+pub(crate) fn debug_value(input: &[u8], at: usize) -> Read
+    requires { at ≤ length input.now }
+    ensures exact { result ≡ read (layouts.index_and_expression r.DebugValue) input.now at }
+    ensures parts { IfOk result (λ r. HasParts input.now r.0) }
+{
+    let (i, at) = index(input, at)?;
+    let (value, at) = expression(input, at)?;
+    Ok((Record::DebugValue(i, value), at))
+}
+
+pub(crate) fn set_counter(input: &[u8], at: usize) -> Read
+    requires { at ≤ length input.now }
+    ensures exact { result ≡ read (layouts.index_and_expression r.SetPc) input.now at }
+    ensures parts { IfOk result (λ r. HasParts input.now r.0) }
+{
+    let (i, at) = index(input, at)?;
+    let (value, at) = expression(input, at)?;
+    Ok((Record::SetPc(i, value), at))
+}
+
+pub(crate) fn public_note(input: &[u8], at: usize) -> Read
+    requires { at ≤ length input.now }
+    ensures exact { result ≡ read (layouts.note r.PublicNote) input.now at }
+    ensures parts { IfOk result (λ r. HasParts input.now r.0) }
+{
+    let (i, at) = index(input, at)?;
+    let (type_index, at) = number(input, at)?;
+    let (attribute, at) = number(input, at)?;
+    let (more, at) = numbers::<4>(input, at)?;
+    Ok((Record::PublicNote(i, type_index, attribute, more), at))
+}
+
+pub(crate) fn reference_note(input: &[u8], at: usize) -> Read
+    requires { at ≤ length input.now }
+    ensures exact { result ≡ read (layouts.note r.ReferenceNote) input.now at }
+    ensures parts { IfOk result (λ r. HasParts input.now r.0) }
+{
+    let (i, at) = index(input, at)?;
+    let (type_index, at) = number(input, at)?;
+    let (attribute, at) = number(input, at)?;
+    let (more, at) = numbers::<4>(input, at)?;
+    Ok((Record::ReferenceNote(i, type_index, attribute, more), at))
+}
+
+pub(crate) fn debug_note(input: &[u8], at: usize) -> Read
+    requires { at ≤ length input.now }
+    ensures exact { result ≡ read layouts.debug_note input.now at }
+    ensures parts { IfOk result (λ r. HasParts input.now r.0) }
+{
+    let (i, at) = index(input, at)?;
+    let (type_index, at) = number(input, at)?;
+    let (attribute, at) = debug_attribute(input, at)?;
+    let (more, at) = numbers::<4>(input, at)?;
+    Ok((Record::DebugNote(i, type_index, attribute, more), at))
+}
+
+pub(crate) fn weak_reference(input: &[u8], at: usize) -> Read
+    requires { at ≤ length input.now }
+    ensures exact { result ≡ read layouts.weak_reference input.now at }
+    ensures parts { IfOk result (λ r. HasParts input.now r.0) }
+{
+    let (i, at) = index(input, at)?;
+    let (size, at) = number(input, at)?;
+    let (default, at) = optional_number(input, at)?;
+    Ok((Record::WeakReference(i, size, default), at))
+}
+
+fn scope_begin(kind: u64, size: u64, name: Span, input: &[u8], at: usize) -> Read
+    requires within { at ≤ length input.now }
+    requires name { LiesIn input.now name }
+    ensures exact { result ≡ read (layouts.scope_begin kind size name) input.now at }
+    ensures parts { IfOk result (λ r. HasParts input.now r.0) }
+{
+    let (stack, at) = number(input, at)?;
+    let (type_index, at) = number(input, at)?;
+    let (offset, at) = expression(input, at)?;
+    let tail = BlockTail::Scope {
+        stack,
+        type_index,
+        offset,
+    };
+    Ok((Record::BlockBegin(kind, size, name, tail), at))
+}
+
+fn source_begin(kind: u64, size: u64, name: Span, input: &[u8], at: usize) -> Read
+    requires within { at ≤ length input.now }
+    requires name { LiesIn input.now name }
+    ensures exact { result ≡ read (layouts.source_begin kind size name) input.now at }
+    ensures parts { IfOk result (λ r. HasParts input.now r.0) }
+{
+    let (more, at) = numbers::<6>(input, at)?;
+    Ok((
+        Record::BlockBegin(kind, size, name, BlockTail::Source(more)),
+        at,
+    ))
+}
+
+fn section_begin(kind: u64, size: u64, name: Span, input: &[u8], at: usize) -> Read
+    requires within { at ≤ length input.now }
+    requires name { LiesIn input.now name }
+    ensures exact { result ≡ read (layouts.section_begin kind size name) input.now at }
+    ensures parts { IfOk result (λ r. HasParts input.now r.0) }
+{
+    let (section_type, at) = number(input, at)?;
+    let (section, at) = index(input, at)?;
+    let (offset, at) = expression(input, at)?;
+    let tail = BlockTail::Section {
+        section_type,
+        section,
+        offset,
+    };
+    Ok((Record::BlockBegin(kind, size, name, tail), at))
+}
+
+fn block_by_kind(kind: u64, size: u64, name: Span, input: &[u8], at: usize) -> Read
+    requires within { at ≤ length input.now }
+    requires name { LiesIn input.now name }
+    ensures exact { result ≡ read (layouts.block_by_kind kind size name) input.now at }
+    ensures parts { IfOk result (λ r. HasParts input.now r.0) }
+{
+    match kind {
+        3 => Ok((Record::BlockBegin(kind, size, name, BlockTail::Module), at)),
+        5 => source_begin(kind, size, name, input, at),
+        11 => section_begin(kind, size, name, input, at),
+        _ => scope_begin(kind, size, name, input, at),
+    }
+}
+
+pub(crate) fn block_begin(input: &[u8], at: usize) -> Read
+    requires { at ≤ length input.now }
+    ensures exact { result ≡ read layouts.block_begin input.now at }
+    ensures parts { IfOk result (λ r. HasParts input.now r.0) }
+{
+    let (kind, at) = block_kind(input, at)?;
+    let (size, at) = number(input, at)?;
+    let (name, at) = string(input, at)?;
+    block_by_kind(kind, size, name, input, at)
+}
+
+pub(crate) fn block_end(input: &[u8], at: usize) -> Read
+    requires { at ≤ length input.now }
+    ensures exact { result ≡ read layouts.block_end input.now at }
+    ensures parts { IfOk result (λ r. HasParts input.now r.0) }
+{
+    let (value, at) = optional_expression(input, at)?;
+    Ok((Record::BlockEnd(value), at))
+}
+
+pub(crate) fn set_section(input: &[u8], at: usize) -> Read
+    requires { at ≤ length input.now }
+    ensures exact { result ≡ read layouts.set_section input.now at }
+    ensures parts { IfOk result (λ r. HasParts input.now r.0) }
+{
+    let (i, at) = index(input, at)?;
+    Ok((Record::SetSection(i), at))
+}
+
+pub(crate) fn constant(input: &[u8], at: usize) -> Read
+    requires { at ≤ length input.now }
+    ensures exact { result ≡ read (layouts.constant r.Constant) input.now at }
+    ensures parts { IfOk result (λ r. HasParts input.now r.0) }
+{
+    let (length, at) = count(input, at)?;
+    let (bytes, at) = run(length, input, at)?;
+    Ok((Record::Constant(bytes), at))
+}
+
+fn repeat_constant(times: u64, input: &[u8], at: usize) -> Read
+    requires { at ≤ length input.now }
+    ensures exact { result ≡ read (layouts.constant (r.RepeatConstant times)) input.now at }
+    ensures parts { IfOk result (λ r. HasParts input.now r.0) }
+{
+    let (length, at) = count(input, at)?;
+    let (bytes, at) = run(length, input, at)?;
+    Ok((Record::RepeatConstant(times, bytes), at))
+}
+
+pub(crate) fn repeat(input: &[u8], at: usize) -> Read
+    requires { at ≤ length input.now }
+    ensures exact { result ≡ read layouts.repeat input.now at }
+    ensures parts { IfOk result (λ r. HasParts input.now r.0) }
+{
+    let (times, at) = number(input, at)?;
+    let (code, after) = byte(input, at)?;
+    match code {
+        0xED => repeat_constant(times, input, after),
+        0xE4 => Ok((Record::RepeatRelocate(times), after)),
+        _ => Err(bad(at, Reason::BadRecord)),
+    }
+}
