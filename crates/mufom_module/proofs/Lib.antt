@@ -2,4 +2,11 @@ pub mod Variables
 pub mod Walks
 pub mod WeightLaws
 pub mod Valid
+pub mod Cutting
 mod Worked
+mod WorkedAbsolute
+mod WorkedProgram
+mod WorkedLibrary
+mod WorkedEmpty
+mod WorkedDebug
+mod WorkedBad

@@ -5,6 +5,7 @@ use Rattle.mufom_expr.specs.declared.token.FieldKind.{FieldKind}
 use Rattle.mufom_expr.specs.declared.token.Token.{Token}
 use Rattle.mufom_expr.specs.declared.token.Token.TheVariants.{Number, Var, Fun}
 use Rattle.mufom_expr.specs.Tree.{Tree, tokens_of}
+use Rattle.mufom_records.specs.Layouts.{comma, closing}
 use Rattle.mufom_sections.specs.declared.section.Purpose.{Purpose}
 use Rattle.mufom_sections.specs.declared.section.Purpose.TheVariants as purpose
 use Rattle.mufom_sections.specs.declared.section.Section.{Section}
@@ -163,7 +164,7 @@ length-debug_records n (mark ∷ marks) =
 
 length-field : (kind : FieldKind) (value : Tree) (size : ℕ) → length (w.field widest kind value size) ≡ 12 + expression_weight value
 length-field kind value size =
-    let all = length-append (w.expression widest value) (w.comma ∷ (w.number widest size ++ w.closing kind ∷ [])) in
+    let all = length-append (w.expression widest value) (comma ∷ (w.number widest size ++ closing kind ∷ [])) in
     let its = length-expression value in
     omega (arith, all, its)
 

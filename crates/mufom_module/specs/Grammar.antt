@@ -36,8 +36,6 @@ pub record FileParts : Type 0 where
   pub skipped : List ℕ
   pub loads : List Piece
   pub trailer : List Piece
-  -- ME
-  pub end : Piece
 
 -- ---- the bytes
 
@@ -53,9 +51,13 @@ debug_bytes f = bytes_of f.debug ++ f.skipped
 abbrev pub parts_of : FileParts → List (List ℕ)
 parts_of f = f.extension ∷ f.environment ∷ bytes_of f.sections ∷ bytes_of f.externals ∷ debug_bytes f ∷ bytes_of f.loads ∷ bytes_of f.trailer ∷ []
 
--- the bytes from the data part, from the debug part, and so on, up to the end of the file
+-- ME
+abbrev pub module_end : List ℕ
+module_end = 0xE1 ∷ []
+
+-- the bytes from the trailer part, from the data part, and so on, up to the end of the file
 abbrev pub from_trailer : FileParts → List ℕ
-from_trailer f = bytes_of f.trailer ++ f.end.bytes
+from_trailer f = bytes_of f.trailer ++ module_end
 
 abbrev pub from_loads : FileParts → List ℕ
 from_loads f = bytes_of f.loads ++ from_trailer f
@@ -133,9 +135,7 @@ pub record IsCutInto (bytes : List ℕ) (reads_debug : Bool) (f : FileParts) : T
   pub debug : IsPart debug_part f.debug (from_loads f)
   pub debug_read : MatchBool reads_debug (f.skipped ≡ []) (f.debug ≡ [])
   pub loads : IsPart data_part f.loads (from_trailer f)
-  pub trailer : IsPart trailer_part f.trailer f.end.bytes
-  pub end : IsWholeRecord mode.Body f.end.row f.end.bytes None
-  pub last : f.end.row ≡ r.ModuleEnd
+  pub trailer : IsPart trailer_part f.trailer module_end
 
 -- ---- names
 

@@ -6,3 +6,4 @@ pub mod Pieces
 pub mod RecordParts
 pub mod Gathered
 pub mod Grammar
+pub mod Made
