@@ -1,0 +1,52 @@
+-- What holds of judgments. Streams are of bytes throughout.
+use Rattle.std.specs.Prelude.{◌≡◌, ◌≢◌, ◌⊎◌, ℕ, ◌<◌, ◌≤◌, ◌*◌, Bool, List, [], ◌++◌, length, take}
+use Rattle.mufom_numbers.specs.declared.reason.Reason.{Reason}
+use Rattle.mufom_numbers.specs.declared.reason.Reason.TheVariants as why
+use Rattle.mufom_numbers.specs.Spelling.{AreBytes}
+use Rattle.mufom_module.specs.declared.module.Parts.{Parts}
+use Rattle.mufom_module.specs.Written.{weight}
+use Rattle.mufom_module.specs.Grammar.{SpellsModule}
+use Rattle.mufom_read.specs.Fronts.{Step}
+use Rattle.mufom_read.specs.Judging.{IsSoundFront, IsRefusedAt, IsTruncated, IsModule, Judgment, refusal, IsJudged}
+
+-- Of two sound fronts of a stream one begins with the other.
+abbrev pub FrontsAreOne : Type 0
+FrontsAreOne = (reads_debug : Bool) (bytes : List ℕ) (a b : List Step) → IsSoundFront reads_debug a bytes → IsSoundFront reads_debug b bytes
+    → ((more : List Step) × (b ≡ a ++ more)) ⊎ ((more : List Step) × (a ≡ b ++ more))
+
+-- A refusal stays in every longer stream.
+abbrev pub RefusalStays : Type 0
+RefusalStays = (reads_debug : Bool) (bytes more : List ℕ) (place : ℕ) (reason : Reason) → AreBytes (bytes ++ more)
+    → IsRefusedAt reads_debug bytes place reason → IsRefusedAt reads_debug (bytes ++ more) place reason
+
+-- A stream is refused at one offset, for one reason.
+abbrev pub RefusalIsSingle : Type 0
+RefusalIsSingle = (reads_debug : Bool) (bytes : List ℕ) (place other : ℕ) (reason why_ : Reason) → AreBytes bytes
+    → IsRefusedAt reads_debug bytes place reason → IsRefusedAt reads_debug bytes other why_ → (place ≡ other) × (reason ≡ why_)
+
+-- A stream that is refused is no module's, and is not cut off; one that is a module's is not cut off.
+pub record JudgmentsExclude (reads_debug : Bool) (bytes : List ℕ) : Type 0 where
+  pub not_module : (m : Parts) (place : ℕ) (reason : Reason) → IsModule reads_debug bytes m → IsRefusedAt reads_debug bytes place reason → ⊥
+  pub not_cut : (place : ℕ) (reason : Reason) → IsTruncated reads_debug bytes → IsRefusedAt reads_debug bytes place reason → ⊥
+  pub whole : (m : Parts) → IsModule reads_debug bytes m → IsTruncated reads_debug bytes → ⊥
+  pub one_module : (m n : Parts) → IsModule reads_debug bytes m → IsModule reads_debug bytes n → m ≡ n
+
+abbrev pub JudgmentsExcludeEachOther : Type 0
+JudgmentsExcludeEachOther = (reads_debug : Bool) (bytes : List ℕ) → AreBytes bytes → JudgmentsExclude reads_debug bytes
+
+-- Each stream has a judgment.
+abbrev pub HasJudgment : Type 0
+HasJudgment = (reads_debug : Bool) (bytes : List ℕ) → AreBytes bytes → (judgment : Judgment) × IsJudged reads_debug bytes judgment
+
+-- A stream has one judgment.
+abbrev pub HasOneJudgment : Type 0
+HasOneJudgment = (reads_debug : Bool) (bytes : List ℕ) (a b : Judgment) → AreBytes bytes → IsJudged reads_debug bytes a → IsJudged reads_debug bytes b → a ≡ b
+
+-- The front of a module's file is cut off and never refused: no file is lost.
+abbrev pub FrontsOfModulesAreCutOff : Type 0
+FrontsOfModulesAreCutOff = (reads_debug : Bool) (bytes more : List ℕ) (m : Parts) → AreBytes (bytes ++ more) → more ≢ []
+    → IsModule reads_debug (bytes ++ more) m → IsTruncated reads_debug bytes
+
+-- A module weighs at most ten times its file.
+abbrev pub ModulesWeighTenfold : Type 0
+ModulesWeighTenfold = (reads_debug : Bool) (bytes : List ℕ) (m : Parts) → AreBytes bytes → SpellsModule m bytes reads_debug → weight m ≤ 10 * length bytes

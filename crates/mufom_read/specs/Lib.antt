@@ -1,0 +1,4 @@
+pub mod Fronts
+pub mod Faults
+pub mod Judging
+pub mod Laws

@@ -1,0 +1,6 @@
+//! Modules from the bytes of their files.
+#![tactic(auto)]
+
+mod refusal;
+
+pub use refusal::{ReadRefusal, ReadStop};
