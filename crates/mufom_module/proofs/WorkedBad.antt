@@ -1,6 +1,6 @@
 -- Files that are none: an offset a byte late, an index that is not declared, an index that is declared twice, a value that
 -- is said twice, bytes before a section is set, and a record in another part.
-use Rattle.std.proofs.Common.{◌≡◌, ◌⊎◌, ℕ, true, false, List, [], ◌∷◌, Some, None, refl, inl, inr}
+use Rattle.std.proofs.Common.{◌≡◌, ◌⊎◌, ℕ, true, false, List, [], ◌∷◌, Some, None, refl, inl, inr, arith}
 use Rattle.mufom_records.specs.declared.record.Record.TheVariants as r
 use Rattle.mufom_records.specs.Fields.{span_at}
 use Rattle.mufom_module.specs.Pieces.{Piece}
@@ -12,19 +12,23 @@ use Rattle.mufom_module.proofs.Cutting.{piece, cut}
 abbrev data_bytes : List ℕ
 data_bytes = 0xE5 ∷ 0x01 ∷ 0xE2 ∷ 0xD0 ∷ 0x01 ∷ 0x82 ∷ 0x10 ∷ 0x00 ∷ 0xED ∷ 0x04 ∷ 0x4E ∷ 0x71 ∷ 0x4E ∷ 0x75 ∷ []
 
+-- the place of one part
+abbrev IsAt : ℕ → ℕ → List ℕ → Type 0
+IsAt w at bytes = (w ≡ at) ⊎ ((w ≡ 0) × (bytes ≡ []))
+
 late : StandAt (0 ∷ 0 ∷ 77 ∷ 0 ∷ 0 ∷ 101 ∷ 114 ∷ 119 ∷ []) 77
     ([] ∷ [] ∷ (0xE6 ∷ 0x01 ∷ 0xC1 ∷ 0xD3 ∷ 0xD0 ∷ 0x04 ∷ 0x63 ∷ 0x6F ∷ 0x64 ∷ 0x65 ∷ 0xE7 ∷ 0x01 ∷ 0x02 ∷ 0xE2 ∷ 0xD3 ∷ 0x01 ∷ 0x04 ∷ 0xE2 ∷ 0xCC ∷ 0x01 ∷ 0x82 ∷ 0x10 ∷ 0x00 ∷ []) ∷ [] ∷ [] ∷ data_bytes ∷ (0xE2 ∷ 0xC7 ∷ 0x82 ∷ 0x10 ∷ 0x00 ∷ []) ∷ []) → ⊥
 late h = elsewhere_than h.1.1.1.1.1.0 where
-  elsewhere_than : (101 ≡ 100) ⊎ ((101 ≡ 0) × (data_bytes ≡ [])) → ⊥
-  elsewhere_than (inl e) = cc
-  elsewhere_than (inr e) = let zero : 101 ≡ 0 = e.0 in cc
+  elsewhere_than : IsAt 101 100 data_bytes → ⊥
+  elsewhere_than (inl e) = absurd (omega (arith, e))
+  elsewhere_than (inr e) = absurd (omega (arith, e.0))
 
 abbrev before : List Piece
 before = piece (r.SectionType 1 true (Some 0xD0) (span_at 6 4) None None None) (0xE6 ∷ 0x01 ∷ 0xC1 ∷ 0xD3 ∷ 0xD0 ∷ 0x04 ∷ 0x63 ∷ 0x6F ∷ 0x64 ∷ 0x65 ∷ [])
-      ∷ piece (r.Alignment 1 2 None) (0xE7 ∷ 0x01 ∷ 0x02 ∷ [])
-      ∷ piece (r.SectionSize 1 4) (0xE2 ∷ 0xD3 ∷ 0x01 ∷ 0x04 ∷ [])
-      ∷ piece (r.SectionBase 1 4096) (0xE2 ∷ 0xCC ∷ 0x01 ∷ 0x82 ∷ 0x10 ∷ 0x00 ∷ [])
-      ∷ []
+    ∷ piece (r.Alignment 1 2 None) (0xE7 ∷ 0x01 ∷ 0x02 ∷ [])
+    ∷ piece (r.SectionSize 1 4) (0xE2 ∷ 0xD3 ∷ 0x01 ∷ 0x04 ∷ [])
+    ∷ piece (r.SectionBase 1 4096) (0xE2 ∷ 0xCC ∷ 0x01 ∷ 0x82 ∷ 0x10 ∷ 0x00 ∷ [])
+    ∷ []
 
 -- SB of index 2, where 1 is declared
 unknown : names_unknown before (piece (r.SetSection 2) (0xE5 ∷ 0x02 ∷ [])) ≡ true
