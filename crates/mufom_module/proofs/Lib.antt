@@ -3,3 +3,10 @@ pub mod Walks
 pub mod WeightLaws
 pub mod Valid
 pub mod Cutting
+mod Worked
+mod WorkedAbsolute
+mod WorkedProgram
+mod WorkedLibrary
+mod WorkedEmpty
+mod WorkedDebug
+mod WorkedBad
