@@ -1,0 +1,11 @@
+//! What a list of modules means: the value of each expression, the bytes that are loaded and where,
+//! and what keeps the list from being linked or located.
+//!
+//! The crate has definitions and laws, and the parts of a location as types. It stands on the crates
+//! of a module's values and on `mufom_plan` and `mufom_place`. Linking, selecting and locating share
+//! its definitions; each law is the contract of a function that does nothing.
+#![tactic(auto)]
+
+mod located;
+
+pub use located::{LocatedParts, PublicValue, Run};
