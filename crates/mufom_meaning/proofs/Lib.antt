@@ -1,0 +1,4 @@
+pub mod JoinedSingle
+pub mod StepCounts
+pub mod SelectionSingle
+pub mod SameWalk
