@@ -9,5 +9,5 @@
 mod laws2;
 mod located;
 
-pub use laws2::{counts_agree, joined_is_single, selection_is_single};
+pub use laws2::{counts_agree, joined_is_single, link_facts_grow, selection_is_single};
 pub use located::{LocatedParts, PublicValue, Run};
