@@ -31,3 +31,6 @@ pub mod SelectionSingle
 pub mod SameWalk
 pub mod LinkFacts
 pub mod FactsAlike
+pub mod Linkable
+pub mod FollowsLink
+pub mod FactsLinked

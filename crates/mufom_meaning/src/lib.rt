@@ -14,5 +14,8 @@ pub use laws::{
     answers_agree, answers_are_facts, cycles_are_short, joined_composes, joined_stands_for,
     link_answers_agree, selection_agrees, staged_means_the_same,
 };
-pub use laws2::{counts_agree, joined_is_single, link_facts_grow, selection_is_single};
+pub use laws2::{
+    counts_agree, facts_agree, joined_is_single, link_facts_grow, no_link_answer_is_linkable,
+    selection_is_single,
+};
 pub use located::{LocatedParts, PublicValue, Run};
