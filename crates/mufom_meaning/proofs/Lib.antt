@@ -34,3 +34,4 @@ pub mod FactsAlike
 pub mod Linkable
 pub mod FollowsLink
 pub mod FactsLinked
+pub mod LinkFactsLinked
