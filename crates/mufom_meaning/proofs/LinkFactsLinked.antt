@@ -3,8 +3,8 @@ use Rattle.std.proofs.Common.{◌≡◌, ℕ, zero, suc, ◌<◌, ◌⊎◌, inl
 use Rattle.std.specs.Prelude.{slice_get}
 use Rattle.mufom_module.specs.declared.module.Parts.{Parts}
 use Rattle.mufom_meaning.specs.Joined.{HasFirstHeader}
-use Rattle.mufom_meaning.specs.Facts.{Descriptor, descriptor, LinkFact, mismatch, duplicate, duplicate_start}
-use Rattle.mufom_meaning.specs.Stands.{StandsIn, LinkFactStands}
+use Rattle.mufom_meaning.specs.Facts.{Descriptor, descriptor, mismatch, duplicate, duplicate_start}
+use Rattle.mufom_meaning.specs.Stands.{StandsIn}
 use Rattle.mufom_meaning.specs.Staging.{HaveDescriptorOf}
 use Rattle.mufom_meaning.specs.StagingLaws.{LinkFactsAgree}
 use Rattle.mufom_meaning.proofs.Needs.{same_names}
