@@ -1,13 +1,14 @@
 -- What holds of judgments. Streams are of bytes throughout.
-use Rattle.std.specs.Prelude.{◌≡◌, ◌≢◌, ◌⊎◌, ℕ, ◌<◌, ◌≤◌, ◌*◌, Bool, List, [], ◌++◌, length, take}
+use Rattle.std.specs.Prelude.{◌≡◌, ◌≢◌, ◌⊎◌, ℕ, ◌<◌, ◌≤◌, ◌*◌, Bool, true, List, [], ◌++◌, length, take}
 use Rattle.mufom_numbers.specs.declared.reason.Reason.{Reason}
 use Rattle.mufom_numbers.specs.declared.reason.Reason.TheVariants as why
 use Rattle.mufom_numbers.specs.Spelling.{AreBytes}
 use Rattle.mufom_module.specs.declared.module.Parts.{Parts}
 use Rattle.mufom_module.specs.Written.{weight}
-use Rattle.mufom_module.specs.Grammar.{SpellsModule}
-use Rattle.mufom_read.specs.Fronts.{Step}
+use Rattle.mufom_module.specs.Grammar.{SpellsModule, FileParts, IsCutInto, HasNames, Says, indexes_of, file_limit}
+use Rattle.mufom_read.specs.Fronts.{Step, size_of, is_ended}
 use Rattle.mufom_read.specs.Judging.{IsSoundFront, IsRefusedAt, IsTruncated, IsModule, Judgment, refusal, IsJudged}
+use Rattle.mufom_read.specs.Said.{IsSaidBy}
 
 -- Of two sound fronts of a stream one begins with the other.
 abbrev pub FrontsAreOne : Type 0
@@ -50,3 +51,18 @@ FrontsOfModulesAreCutOff = (reads_debug : Bool) (bytes more : List ℕ) (m : Par
 -- A module weighs at most ten times its file.
 abbrev pub ModulesWeighTenfold : Type 0
 ModulesWeighTenfold = (reads_debug : Bool) (bytes : List ℕ) (m : Parts) → AreBytes bytes → SpellsModule m bytes reads_debug → weight m ≤ 10 * length bytes
+
+-- What the records of a file say weighs at most ten times the file; that it is valid is not asked.
+abbrev pub FilesWeighTenfold : Type 0
+FilesWeighTenfold = (reads_debug : Bool) (bytes : List ℕ) (f : FileParts) (m : Parts) → AreBytes bytes → IsCutInto bytes reads_debug f → HasNames f
+    → Says f (indexes_of f) m → weight m ≤ 10 * length bytes
+
+-- A sound front that ends, and that is the whole stream, is a module's file, and the module is what it says.
+abbrev pub EndedFrontIsModule : Type 0
+EndedFrontIsModule = (reads_debug : Bool) (front : List Step) (bytes : List ℕ) → AreBytes bytes → length bytes ≤ file_limit → IsSoundFront reads_debug front bytes
+    → is_ended front ≡ true → size_of front ≡ length bytes → (m : Parts) × SpellsModule m bytes reads_debug × IsSaidBy front m
+
+-- A module's file is one sound front that ends with the stream, and says the module.
+abbrev pub ModuleIsEndedFront : Type 0
+ModuleIsEndedFront = (reads_debug : Bool) (bytes : List ℕ) (m : Parts) → AreBytes bytes → IsModule reads_debug bytes m
+    → (front : List Step) × IsSoundFront reads_debug front bytes × (is_ended front ≡ true) × (size_of front ≡ length bytes) × IsSaidBy front m

@@ -1,4 +1,5 @@
 pub mod Fronts
 pub mod Faults
 pub mod Judging
+pub mod Said
 pub mod Laws
