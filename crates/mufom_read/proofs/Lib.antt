@@ -1,0 +1,2 @@
+pub mod EndedWalk
+pub mod EndedRows

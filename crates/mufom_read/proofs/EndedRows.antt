@@ -1,0 +1,201 @@
+-- What the records of the header are, and that strings and runs of literal bytes are short.
+use Rattle.std.proofs.Common.{◌≡◌, ℕ, ◌+◌, ◌*◌, ◌<◌, ◌≤◌, Bool, true, false, cond, ◌==◌, ◌&&◌, nat_lt, nat_le, List, [], ◌∷◌, ◌++◌, length, Option, Some, None, IfSome, refl, sym, ap, subst, ◌∙◌, arith, eqb-true, ltb-true, leb-true}
+use Rattle.std.proofs.lemmas.Bool.{and_parts}
+use Rattle.mufom_numbers.specs.declared.reason.Reason.{Reason}
+use Rattle.mufom_numbers.specs.declared.taken.Span.{Span}
+use Rattle.mufom_numbers.specs.Spelling.{IsStringLead}
+use Rattle.mufom_records.specs.declared.record.Mode.{Mode}
+use Rattle.mufom_records.specs.declared.record.Mode.TheVariants as mode
+use Rattle.mufom_records.specs.declared.record.Record.{Record}
+use Rattle.mufom_records.specs.declared.record.Record.TheVariants as r
+use Rattle.mufom_records.specs.Fields.{Field, ValueOf, byte, number, string, run, letter, optional_number, numbers, expression, optional_expression, is_one_of, SpellsField, first_of}
+use Rattle.mufom_records.specs.Layouts
+
+abbrev Layout : Type 0
+Layout = Layouts.Layout
+
+-- ---- what each field promises of its value, and a layout of its records
+
+lead_short : (len : ℕ) (lead : List ℕ) → IsStringLead len lead → len < 65536
+lead_short len [] is = absurd is
+lead_short len (a ∷ []) is = omega (arith, is.0)
+lead_short len (a ∷ b ∷ []) is = omega (arith, is.1)
+lead_short len (a ∷ b ∷ c ∷ []) is = omega (arith, is.1, is.2, is.3)
+lead_short len (a ∷ b ∷ c ∷ d ∷ lead) is = absurd is
+
+-- what a field says of its value
+abbrev pub Promised : (f : Field) → ValueOf f → Type 0
+Promised byte b = Unit {0}
+Promised (number fits place fault) n = fits n ≡ true
+Promised string span = span.len < 65536
+Promised (run n) span = span.len ≡ n
+Promised (letter known) None = Unit {0}
+Promised (letter known) (Some b) = is_one_of known b ≡ true
+Promised optional_number n = Unit {0}
+Promised (numbers most) ns = Unit {0}
+Promised expression span = Unit {0}
+Promised optional_expression span = Unit {0}
+
+-- each record of the layout has this
+abbrev pub Promises : (Record → Type 0) → Layout → Type 0
+Promises P (Layouts.whole row) = P row
+Promises P (Layouts.refused back reason) = Unit {0}
+Promises P (Layouts.field f rest) = (x : ValueOf f) → Promised f x → Promises P (rest x)
+
+field_promised : (f : Field) (x : ValueOf f) (at : ℕ) (bytes : List ℕ) (next : Option ℕ) → SpellsField f x at bytes next → Promised f x
+field_promised byte x at bytes next is = tt
+field_promised (number fits place fault) x at bytes next is = is.1
+field_promised string x at bytes next is = subst (λ (s : Span). s.len < 65536) (sym is.4) (lead_short (length is.1) is.0 is.2)
+field_promised (run n) x at bytes next is = ap (λ (s : Span). s.len) is.2
+field_promised (letter known) None at bytes next is = tt
+field_promised (letter known) (Some b) at bytes next is = is.1
+field_promised optional_number x at bytes next is = tt
+field_promised (numbers most) x at bytes next is = tt
+field_promised expression x at bytes next is = tt
+field_promised optional_expression x at bytes next is = tt
+
+pub promised : (P : Record → Type 0) (layout : Layout) (row : Record) (at : ℕ) (bytes : List ℕ) (next : Option ℕ) → Layouts.SpellsRecord layout row at bytes next → Promises P layout → P row
+promised P (Layouts.whole it) row at bytes next is has = subst P (sym is.0) has
+promised P (Layouts.refused back reason) row at bytes next is has = absurd is
+promised P (Layouts.field f rest) row at bytes next is has =
+    promised P (rest is.0) row (at + length is.1) is.2 next is.4 (has is.0 (field_promised f is.0 at is.1 (first_of is.2 next) is.3))
+
+by_test : (P : Record → Type 0) (test : Bool) (a b : Layout) → (test ≡ true → Promises P a) → (test ≡ false → Promises P b) → Promises P (cond test a b)
+by_test P true a b x y = x refl
+by_test P false a b x y = y refl
+
+-- ---- the header
+
+-- the processor and the name of the module are short
+abbrev IsBegin : Record → Type 0
+IsBegin row = (processor : Span) × (name : Span) × (row ≡ r.ModuleBegin processor name) × (processor.len < 65536) × (name.len < 65536)
+
+-- the order has a letter that is known, or none
+abbrev IsOrder : Option ℕ → Type 0
+IsOrder None = Unit {0}
+IsOrder (Some b) = is_one_of Layouts.orders b ≡ true
+
+abbrev IsDescriptor : Record → Type 0
+IsDescriptor row = (bits : ℕ) × (maus : ℕ) × (order : Option ℕ) × (row ≡ r.Descriptor bits maus order) × IsOrder order
+
+abbrev IsOffset : ℕ → Record → Type 0
+IsOffset k row = (w : ℕ) × (row ≡ r.Offset k w)
+
+its_order : (o : Option ℕ) → Promised (letter Layouts.orders) o → IsOrder o
+its_order None h = tt
+its_order (Some b) h = h
+
+pub begin_row : (row : Record) (bytes : List ℕ) (next : Option ℕ) → Layouts.IsWholeRecord mode.Begin row bytes next → IsBegin row
+begin_row row bytes next is = promised IsBegin (Layouts.layout_of mode.Begin) row 0 bytes next is
+    (λ (b : ℕ) _. by_test IsBegin (b == 0xE0) Layouts.module_begin (Layouts.refused 1 _) (λ _. λ (processor : Span) x (name : Span) y. (processor, name, refl, x, y)) (λ _. tt))
+
+pub descriptor_row : (row : Record) (bytes : List ℕ) (next : Option ℕ) → Layouts.IsWholeRecord mode.Descriptor row bytes next → IsDescriptor row
+descriptor_row row bytes next is = promised IsDescriptor (Layouts.layout_of mode.Descriptor) row 0 bytes next is
+    (λ (b : ℕ) _. by_test IsDescriptor (b == 0xEC) Layouts.descriptor (Layouts.refused 1 _)
+        (λ _. λ (bits : ℕ) _ (maus : ℕ) _ (order : Option ℕ) x. (bits, maus, order, refl, its_order order x)) (λ _. tt))
+
+pub offset_row : (k : ℕ) (row : Record) (bytes : List ℕ) (next : Option ℕ) → Layouts.IsWholeRecord (mode.Offset k) row bytes next → IsOffset k row
+offset_row k row bytes next is = promised (IsOffset k) (Layouts.layout_of (mode.Offset k)) row 0 bytes next is
+    (λ (b : ℕ) _. by_test (IsOffset k) (b == 0xE2) (Layouts.begins_with 2 0xD7 (Layouts.numbered_offset k)) (Layouts.refused 1 _)
+        (λ _. λ (c : ℕ) _. by_test (IsOffset k) (c == 0xD7) (Layouts.numbered_offset k) (Layouts.refused 2 _)
+            (λ _. λ (n : ℕ) same (w : ℕ) _. (w, ap (λ (m : ℕ). r.Offset m w) (eqb-true n k same))) (λ _. tt)) (λ _. tt))
+
+-- ---- the other records
+
+-- a field has 1 to 8 bytes
+abbrev pub IsFieldSize : Option ℕ → Type 0
+IsFieldSize None = Unit {0}
+IsFieldSize (Some n) = (1 ≤ n) × (n ≤ 8)
+
+-- strings and literal bytes are short
+abbrev pub IsShort : Record → Type 0
+IsShort (r.SectionType i absolute purpose name a b c) = name.len < 65536
+IsShort (r.PublicName i name) = name.len < 65536
+IsShort (r.ReferenceName i name) = name.len < 65536
+IsShort (r.Constant bytes) = bytes.len < 65536
+IsShort (r.ConstantItem bytes) = bytes.len < 65536
+IsShort (r.RepeatConstant times bytes) = bytes.len < 65536
+IsShort (r.FieldItem kind value n) = IsFieldSize n
+IsShort _ = Unit {0}
+
+run_short : (n : ℕ) (span : Span) → nat_lt n 65536 ≡ true → span.len ≡ n → span.len < 65536
+run_short n span h e = let below = ltb-true n 65536 h in omega arith
+
+named_short : (i : ℕ) (absolute : Bool) → Promises IsShort (Layouts.named_section i absolute)
+named_short i absolute = λ (p : Option ℕ) _ (name : Span) x (a : Option ℕ) _ (b : Option ℕ) _ (c : Option ℕ) _. x
+
+section_short : Promises IsShort Layouts.section_type
+section_short = λ (i : ℕ) _ (c : ℕ) _. by_test IsShort (c == 0xC3) (Layouts.named_section i false) _ (λ _. named_short i false)
+    (λ _. by_test IsShort (c == 0xC1) (Layouts.absolute_section i) _ (λ _. λ (s : ℕ) _. by_test IsShort (s == 0xD3) (Layouts.named_section i true) _ (λ _. named_short i true) (λ _. tt)) (λ _. tt))
+
+repeat_short : Promises IsShort Layouts.repeat
+repeat_short = λ (times : ℕ) _ (b : ℕ) _. by_test IsShort (b == 0xED) (Layouts.constant (r.RepeatConstant times)) _ (λ _. λ (n : ℕ) small (span : Span) its. run_short n span small its)
+    (λ _. by_test IsShort (b == 0xE4) (Layouts.whole (r.RepeatRelocate times)) _ (λ _. tt) (λ _. tt))
+
+start_short : (o : Option ℕ) → Promises IsShort (Layouts.start_by_bracket o)
+start_short None = λ (v : Span) _. tt
+start_short (Some b) = λ (v : Span) _ (c : ℕ) _. by_test IsShort (c == Layouts.partner b) (Layouts.whole (r.Start v)) _ (λ _. tt) (λ _. tt)
+
+size_from : (n : ℕ) → (nat_le 1 n && nat_le n 8) ≡ true → (1 ≤ n) × (n ≤ 8)
+size_from n h = let both = and_parts (nat_le 1 n) (nat_le n 8) h in (leb-true 1 n both.0, leb-true n 8 both.1)
+
+comma_short : (b : ℕ) (v : Span) (c : Option ℕ) → Promises IsShort (Layouts.item_by_comma b v c)
+comma_short b v None = λ (e : ℕ) _. by_test IsShort (e == Layouts.partner b) (Layouts.whole (r.FieldItem (Layouts.kind_of b) v None)) _ (λ _. tt) (λ _. tt)
+comma_short b v (Some c) = λ (n : ℕ) fits (e : ℕ) _. by_test IsShort (e == Layouts.partner b) (Layouts.whole (r.FieldItem (Layouts.kind_of b) v (Some n))) _ (λ _. size_from n fits) (λ _. tt)
+
+bracket_short : (o : Option ℕ) → Promises IsShort (Layouts.item_by_bracket o)
+bracket_short None = λ (n : ℕ) small (span : Span) its. run_short n span small its
+bracket_short (Some b) = λ (v : Span) _ (c : Option ℕ) _. comma_short b v c
+
+item_short : Promises IsShort Layouts.item
+item_short = λ (o : Option ℕ) _. bracket_short o
+
+block_short : Promises IsShort Layouts.block_begin
+block_short = λ (kind : ℕ) _ (n : ℕ) _ (name : Span) _.
+    by_test IsShort (kind == 3) _ _ (λ _. tt)
+    (λ _. by_test IsShort (kind == 5) (Layouts.source_begin kind n name) _ (λ _ _ _. tt)
+    (λ _. by_test IsShort (kind == 11) (Layouts.section_begin kind n name) _ (λ _ _ _ _ _ _ _. tt) (λ _ _ _ _ _ _ _. tt)))
+
+assignment_short : (b : ℕ) → Promises IsShort (Layouts.assignment b)
+assignment_short b =
+    by_test IsShort (b == 0xD7) Layouts.offset _ (λ _ _ _ _ _. tt)
+    (λ _. by_test IsShort (b == 0xD3) (Layouts.index_and_number r.SectionSize) _ (λ _ _ _ _ _. tt)
+    (λ _. by_test IsShort (b == 0xCC) (Layouts.index_and_number r.SectionBase) _ (λ _ _ _ _ _. tt)
+    (λ _. by_test IsShort (b == 0xC9) (Layouts.index_and_expression r.PublicValue) _ (λ _ _ _ _ _. tt)
+    (λ _. by_test IsShort (b == 0xCE) (Layouts.index_and_expression r.DebugValue) _ (λ _ _ _ _ _. tt)
+    (λ _. by_test IsShort (b == 0xD0) (Layouts.index_and_expression r.SetPc) _ (λ _ _ _ _ _. tt)
+    (λ _. by_test IsShort (b == 0xC7) Layouts.start_address _ (λ _ (o : Option ℕ) _. start_short o)
+    (λ _. by_test IsShort (is_one_of Layouts.left_out_assignments b) _ _ (λ _. tt) (λ _. tt))))))))
+
+noted_short : (b : ℕ) → Promises IsShort (Layouts.noted b)
+noted_short b =
+    by_test IsShort (b == 0xC9) (Layouts.note r.PublicNote) _ (λ _ _ _ _ _ _ _ _ _. tt)
+    (λ _. by_test IsShort (b == 0xD8) (Layouts.note r.ReferenceNote) _ (λ _ _ _ _ _ _ _ _ _. tt)
+    (λ _. by_test IsShort (b == 0xCE) Layouts.debug_note _ (λ _ _ _ _ _ _ _ _ _. tt) (λ _. tt)))
+
+coded_short : (b : ℕ) → Promises IsShort (Layouts.coded b)
+coded_short b =
+    by_test IsShort (b == 0xE0) Layouts.module_begin _ (λ _ _ _ _ _. tt)
+    (λ _. by_test IsShort (b == 0xE1) (Layouts.whole r.ModuleEnd) _ (λ _. tt)
+    (λ _. by_test IsShort (b == 0xE2) Layouts.assigned _ (λ _ (c : ℕ) _. assignment_short c)
+    (λ _. by_test IsShort (b == 0xE4) (Layouts.whole r.Relocate) _ (λ _. tt)
+    (λ _. by_test IsShort (b == 0xE5) Layouts.set_section _ (λ _ _ _. tt)
+    (λ _. by_test IsShort (b == 0xE6) Layouts.section_type _ (λ _. section_short)
+    (λ _. by_test IsShort (b == 0xE7) Layouts.alignment _ (λ _ _ _ _ _ _ _. tt)
+    (λ _. by_test IsShort (b == 0xE8) (Layouts.index_and_string r.PublicName) _ (λ _ _ _ (name : Span) x. x)
+    (λ _. by_test IsShort (b == 0xE9) (Layouts.index_and_string r.ReferenceName) _ (λ _ _ _ (name : Span) x. x)
+    (λ _. by_test IsShort (b == 0xEC) Layouts.descriptor _ (λ _ _ _ _ _ _ _. tt)
+    (λ _. by_test IsShort (b == 0xED) (Layouts.constant r.Constant) _ (λ _ (n : ℕ) small (span : Span) its. run_short n span small its)
+    (λ _. by_test IsShort (b == 0xF0) (Layouts.index_and_string r.DebugName) _ (λ _ _ _ _ _. tt)
+    (λ _. by_test IsShort (b == 0xF1) Layouts.any_note _ (λ _ (c : ℕ) _. noted_short c)
+    (λ _. by_test IsShort (b == 0xF2) _ _ (λ _. tt)
+    (λ _. by_test IsShort (b == 0xF4) Layouts.weak_reference _ (λ _ _ _ _ _ _ _. tt)
+    (λ _. by_test IsShort (b == 0xF7) Layouts.repeat _ (λ _. repeat_short)
+    (λ _. by_test IsShort (b == 0xF8) Layouts.block_begin _ (λ _. block_short)
+    (λ _. by_test IsShort (b == 0xF9) Layouts.block_end _ (λ _ _ _. tt) (λ _. tt))))))))))))))))))
+
+pub body_short : (row : Record) (bytes : List ℕ) (next : Option ℕ) → Layouts.IsWholeRecord mode.Body row bytes next → IsShort row
+body_short row bytes next is = promised IsShort Layouts.body row 0 bytes next is (λ (b : ℕ) _. coded_short b)
+
+pub items_short : (row : Record) (bytes : List ℕ) (next : Option ℕ) → Layouts.IsWholeRecord mode.Items row bytes next → IsShort row
+items_short row bytes next is = promised IsShort Layouts.item row 0 bytes next is item_short

@@ -1,0 +1,164 @@
+-- A sound front as a walk: each step with what stands behind it, read by the place where it stands.
+use Rattle.std.proofs.Common.{◌≡◌, ◌⊎◌, ℕ, zero, suc, ◌+◌, ◌≤◌, Bool, true, false, List, [], ◌∷◌, ◌++◌, length, take, drop, Option, Some, None, refl, sym, ap, subst, ◌∙◌, inl, inr, arith, append_assoc, append-nil}
+use Rattle.std.specs.Option.{option_or}
+use Rattle.std.proofs.lemmas.List.{length-append, length-take, take-append-drop, take_at, drop_at}
+use Rattle.std.proofs.lemmas.List.Elements.{filter_map-append}
+use Rattle.mufom_numbers.specs.declared.taken.Taken.{Taken}
+use Rattle.mufom_numbers.specs.declared.taken.Taken.TheVariants.{Got, More, Bad}
+use Rattle.mufom_numbers.specs.Spelling.{AreBytes, IfGot}
+use Rattle.mufom_records.specs.declared.record.Mode.{Mode}
+use Rattle.mufom_records.specs.declared.record.Mode.TheVariants as mode
+use Rattle.mufom_records.specs.declared.record.Record.{Record}
+use Rattle.mufom_records.specs.Fields.{first_of}
+use Rattle.mufom_records.specs.Layouts.{IsWholeRecord}
+use Rattle.mufom_records.specs.Reading.{record_at}
+use Rattle.mufom_records.proofs.RecordLaws.{record_at-got}
+use Rattle.mufom_module.specs.Pieces.{Piece}
+use Rattle.mufom_read.specs.Fronts.{Step, raw, read, step_bytes, front_bytes, size_of, piece_of, pieces_of, Extent, Place, in_header, in_part, at_end, place_behind, header_mode, is_raw, body_mode, as_step, raw_step, step_in, step_at, next_step, is_ended}
+use Rattle.mufom_read.specs.Faults.{Fault, ended_part_fault, step_fault, fault_after}
+use Rattle.mufom_read.specs.Judging.{IsSoundFrom, IsSoundFront}
+
+-- ---- bytes and records of fronts
+
+pub bytes-append : (a b : List Step) → front_bytes (a ++ b) ≡ front_bytes a ++ front_bytes b
+bytes-append [] b = refl
+bytes-append (s ∷ a) b = ap (λ l. step_bytes s ++ l) (bytes-append a b) ∙ sym (append_assoc (step_bytes s) (front_bytes a) (front_bytes b))
+
+pub size-append : (a b : List Step) → size_of (a ++ b) ≡ size_of a + size_of b
+size-append a b = ap length (bytes-append a b) ∙ length-append (front_bytes a) (front_bytes b)
+
+pub pieces-append : (a b : List Step) → pieces_of (a ++ b) ≡ pieces_of a ++ pieces_of b
+pieces-append a b = filter_map-append piece_of a b
+
+-- ---- one step
+
+abbrev pub the_piece : Record → List ℕ → Piece
+the_piece row bytes = record { row = row; bytes = bytes }
+
+-- the step is a record of the mode at the front of the rest
+pub record IsRead (m : Mode) (before : List Step) (rest : List ℕ) (step : Step) (n : ℕ) : Type 0 where
+  pub row : Record
+  pub inside : n ≤ length rest
+  pub is_whole : IsWholeRecord m row (take n rest) (first_of (drop n rest) None)
+  pub is_this : step ≡ read (size_of before) (the_piece row (take n rest))
+
+-- the step is the first byte of the rest
+pub record IsRaw (rest : List ℕ) (step : Step) (n : ℕ) : Type 0 where
+  pub byte : ℕ
+  pub more : List ℕ
+  pub split : rest ≡ byte ∷ more
+  pub is_this : step ≡ raw byte
+  pub count : n ≡ 1
+
+-- what a step is at its place
+abbrev pub IsNextAt : Bool → List Step → Place → List ℕ → Step → ℕ → Type 0
+IsNextAt reads_debug before (in_header k) rest step n = IsRead (header_mode k) before rest step n
+IsNextAt reads_debug before (in_part e) rest step n = ((is_raw reads_debug e.part ≡ true) × IsRaw rest step n)
+    ⊎ ((is_raw reads_debug e.part ≡ false) × IsRead (body_mode before e rest) before rest step n)
+IsNextAt reads_debug before at_end rest step n = IsRead mode.Body before rest step n
+
+abbrev pub taken : Step → ℕ → Taken Step
+taken step n = Got step n
+
+abbrev wanting : Taken Step
+wanting = More
+
+
+read_by : (m : Mode) (before : List Step) (rest : List ℕ) (answer : Taken Record) (step : Step) (n : ℕ)
+    → IfGot answer (λ row used. (used ≤ length rest) × IsWholeRecord m row (take used rest) (first_of (drop used rest) None))
+    → as_step (size_of before) rest answer ≡ taken step n → IsRead m before rest step n
+read_by m before rest (Got row used) step n got h =
+    let e : taken (read (size_of before) (the_piece row (take used rest))) used ≡ taken step n = h in
+    let its : read (size_of before) (the_piece row (take used rest)) ≡ step = cc in
+    let count : used ≡ n = cc in
+    subst (λ (k : ℕ). IsRead m before rest step k) count (record { row = row; inside = got.0; is_whole = got.1; is_this = sym its })
+read_by m before rest More step n got h = let e : wanting ≡ taken step n = h in absurd cc
+read_by m before rest (Bad offset reason) step n got h = cc
+
+pub read_at : (m : Mode) (before : List Step) (rest : List ℕ) (step : Step) (n : ℕ) → AreBytes rest
+    → as_step (size_of before) rest (record_at m rest) ≡ taken step n → IsRead m before rest step n
+read_at m before rest step n fits h = read_by m before rest (record_at m rest) step n (record_at-got m rest fits) h
+
+raw_at : (rest : List ℕ) (step : Step) (n : ℕ) → raw_step rest ≡ taken step n → IsRaw rest step n
+raw_at [] step n h = let e : wanting ≡ taken step n = h in absurd cc
+raw_at (b ∷ more) step n h =
+    let e : taken (raw b) 1 ≡ taken step n = h in
+    let its : raw b ≡ step = cc in
+    let count : 1 ≡ n = cc in
+    record { byte = b; more = more; split = refl; is_this = sym its; count = sym count }
+
+part_at_test : (reads_debug : Bool) (before : List Step) (e : Extent) (rest : List ℕ) (step : Step) (n : ℕ) (test : Bool) → is_raw reads_debug e.part ≡ test → AreBytes rest
+    → step_in reads_debug before e rest ≡ taken step n → IsNextAt reads_debug before (in_part e) rest step n
+part_at_test reads_debug before e rest step n true is fits h = inl (is, raw_at rest step n (rw is at h))
+part_at_test reads_debug before e rest step n false is fits h = inr (is, read_at (body_mode before e rest) before rest step n fits (rw is at h))
+
+pub next_at : (reads_debug : Bool) (before : List Step) (place : Place) (rest : List ℕ) (step : Step) (n : ℕ) → AreBytes rest
+    → step_at reads_debug before place rest ≡ taken step n → IsNextAt reads_debug before place rest step n
+next_at reads_debug before (in_header k) rest step n fits h = read_at (header_mode k) before rest step n fits h
+next_at reads_debug before (in_part e) rest step n fits h = part_at_test reads_debug before e rest step n (is_raw reads_debug e.part) refl fits h
+next_at reads_debug before at_end rest step n fits h = read_at mode.Body before rest step n fits h
+
+-- ---- all of them
+
+-- what the step takes is the front of the rest
+read_front : (m : Mode) (before : List Step) (rest : List ℕ) (step : Step) (n : ℕ) → IsRead m before rest step n → step_bytes step ≡ take n rest
+read_front m before rest step n is = ap step_bytes is.is_this
+
+raw_front : (rest : List ℕ) (step : Step) (n : ℕ) → IsRaw rest step n → step_bytes step ≡ take n rest
+raw_front rest step n is = ap step_bytes is.is_this ∙ sym (ap (take n) is.split ∙ ap (λ k. take k (is.byte ∷ is.more)) is.count)
+
+pub next_front : (reads_debug : Bool) (before : List Step) (place : Place) (rest : List ℕ) (step : Step) (n : ℕ) → IsNextAt reads_debug before place rest step n → step_bytes step ≡ take n rest
+next_front reads_debug before (in_header k) rest step n is = read_front (header_mode k) before rest step n is
+next_front reads_debug before (in_part e) rest step n (inl is) = raw_front rest step n is.1
+next_front reads_debug before (in_part e) rest step n (inr is) = read_front (body_mode before e rest) before rest step n is.1
+next_front reads_debug before at_end rest step n is = read_front mode.Body before rest step n is
+
+pub no_fault : (a b : Option Fault) → option_or a b ≡ None → (a ≡ None) × (b ≡ None)
+no_fault None b h = (refl, h)
+no_fault (Some fault) b h = absurd cc
+
+-- Each step is what stands behind those before it, has no fault, and no part that ends before it has one; the module
+-- has not ended before it.
+abbrev pub IsWalk : Bool → List Step → List Step → Type 0
+IsWalk reads_debug before [] = Unit {0}
+IsWalk reads_debug before (step ∷ steps) = (is_ended before ≡ false) × (ended_part_fault before ≡ None) × (step_fault reads_debug before (taken step (length (step_bytes step))) ≡ None)
+    × IsNextAt reads_debug before (place_behind before) (front_bytes (step ∷ steps)) step (length (step_bytes step)) × IsWalk reads_debug (before ++ step ∷ []) steps
+
+AreBytes-drop : (n : ℕ) (bytes : List ℕ) → AreBytes bytes → AreBytes (drop n bytes)
+AreBytes-drop zero bytes fits = fits
+AreBytes-drop (suc n) [] fits = tt
+AreBytes-drop (suc n) (b ∷ bytes) fits = AreBytes-drop n bytes fits.1
+
+-- the stream begins with the bytes of a sound front
+pub front_first : (reads_debug : Bool) (before steps : List Step) (rest : List ℕ) → AreBytes rest → IsSoundFrom reads_debug before steps rest → (later : List ℕ) × (rest ≡ front_bytes steps ++ later)
+front_first reads_debug before [] rest fits sound = (rest, refl)
+front_first reads_debug before (step ∷ steps) rest fits sound =
+    let n = length (step_bytes step) in
+    let first = next_front reads_debug before (place_behind before) rest step n (next_at reads_debug before (place_behind before) rest step n fits sound.2) in
+    let rec = front_first reads_debug (before ++ step ∷ []) steps (drop n rest) (AreBytes-drop n rest fits) sound.3 in
+    (rec.0, sym (take-append-drop n rest) ∙ ap (λ l. l ++ drop n rest) (sym first) ∙ ap (λ l. step_bytes step ++ l) rec.1 ∙ sym (append_assoc (step_bytes step) (front_bytes steps) rec.0))
+
+-- a front that is the whole stream is a walk
+pub walk_of : (reads_debug : Bool) (before steps : List Step) → AreBytes (front_bytes steps) → IsSoundFrom reads_debug before steps (front_bytes steps) → IsWalk reads_debug before steps
+walk_of reads_debug before [] fits sound = tt
+walk_of reads_debug before (step ∷ steps) fits sound =
+    let n = length (step_bytes step) in
+    let rest = front_bytes (step ∷ steps) in
+    let back : drop n rest ≡ front_bytes steps = drop_at (step_bytes step) (front_bytes steps) n refl in
+    let faults = no_fault (ended_part_fault before) (step_fault reads_debug before (next_step reads_debug before rest)) sound.1 in
+    (sound.0, faults.0, subst (λ (t : Taken Step). step_fault reads_debug before t ≡ None) sound.2 faults.1,
+    next_at reads_debug before (place_behind before) rest step n fits sound.2,
+    walk_of reads_debug (before ++ step ∷ []) steps (subst (λ (l : List ℕ). AreBytes l) back (AreBytes-drop n rest fits))
+        (subst (λ (l : List ℕ). IsSoundFrom reads_debug (before ++ step ∷ []) steps l) back sound.3))
+
+-- the bytes of a sound front that is as long as the stream are the stream
+pub all_bytes : (reads_debug : Bool) (front : List Step) (bytes : List ℕ) → AreBytes bytes → IsSoundFront reads_debug front bytes → size_of front ≡ length bytes → bytes ≡ front_bytes front
+all_bytes reads_debug front bytes fits sound size =
+    let first = front_first reads_debug [] front bytes fits sound in
+    let count : length bytes ≡ size_of front + length first.0 = ap length first.1 ∙ length-append (front_bytes front) first.0 in
+    let none : length first.0 ≡ 0 = omega arith in
+    first.1 ∙ ap (λ l. front_bytes front ++ l) (nothing first.0 none) ∙ append-nil (front_bytes front)
+  where
+    nothing : (l : List ℕ) → length l ≡ 0 → l ≡ []
+    nothing [] h = refl
+    nothing (x ∷ l) h = absurd (omega arith)
