@@ -67,18 +67,18 @@ by_test P false a b x y = y refl
 -- ---- the header
 
 -- the processor and the name of the module are short
-abbrev IsBegin : Record → Type 0
+abbrev pub IsBegin : Record → Type 0
 IsBegin row = (processor : Span) × (name : Span) × (row ≡ r.ModuleBegin processor name) × (processor.len < 65536) × (name.len < 65536)
 
 -- the order has a letter that is known, or none
-abbrev IsOrder : Option ℕ → Type 0
+abbrev pub IsOrder : Option ℕ → Type 0
 IsOrder None = Unit {0}
 IsOrder (Some b) = is_one_of Layouts.orders b ≡ true
 
-abbrev IsDescriptor : Record → Type 0
+abbrev pub IsDescriptor : Record → Type 0
 IsDescriptor row = (bits : ℕ) × (maus : ℕ) × (order : Option ℕ) × (row ≡ r.Descriptor bits maus order) × IsOrder order
 
-abbrev IsOffset : ℕ → Record → Type 0
+abbrev pub IsOffset : ℕ → Record → Type 0
 IsOffset k row = (w : ℕ) × (row ≡ r.Offset k w)
 
 its_order : (o : Option ℕ) → Promised (letter Layouts.orders) o → IsOrder o

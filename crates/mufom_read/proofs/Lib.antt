@@ -1,2 +1,3 @@
 pub mod EndedWalk
 pub mod EndedRows
+pub mod EndedHeader
