@@ -1,3 +1,4 @@
 pub mod EndedWalk
 pub mod EndedRows
 pub mod EndedHeader
+pub mod EndedParts
