@@ -114,14 +114,14 @@ raw_or_read : (test : Bool) → (test ≡ true) ⊎ (test ≡ false)
 raw_or_read true = inl refl
 raw_or_read false = inr refl
 
-nothing_own : (reads_debug : Bool) (part : Part) (items : Bool) (before : List Piece) (behind : List ℕ) → IsOwn reads_debug part items before [] behind
+pub nothing_own : (reads_debug : Bool) (part : Part) (items : Bool) (before : List Piece) (behind : List ℕ) → IsOwn reads_debug part items before [] behind
 nothing_own reads_debug part items before behind = elim (raw_or_read (is_raw reads_debug part)) [
     | inl yes_ ↦ inl (yes_, refl)
     | inr no_ ↦ inr (no_, refl, tt, tt)
   ]
 
 -- at the part's end
-at_its_end : (reads_debug : Bool) (part : Part) (from to : ℕ) (all : List ℕ) (items : Bool) (before steps : List Step) → Ready reads_debug from to all items before steps → size_of before ≡ to
+pub at_its_end : (reads_debug : Bool) (part : Part) (from to : ℕ) (all : List ℕ) (items : Bool) (before steps : List Step) → Ready reads_debug from to all items before steps → size_of before ≡ to
     → Split reads_debug part to items before steps
 at_its_end reads_debug part from to all items before steps ready here =
     let same = append-nil before in

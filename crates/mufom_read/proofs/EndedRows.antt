@@ -1,6 +1,6 @@
 -- What the records of the header are, and that strings and runs of literal bytes are short.
-use Rattle.std.proofs.Common.{◌≡◌, ℕ, ◌+◌, ◌*◌, ◌<◌, ◌≤◌, Bool, true, false, cond, ◌==◌, ◌&&◌, nat_lt, nat_le, List, [], ◌∷◌, ◌++◌, length, Option, Some, None, IfSome, refl, sym, ap, subst, ◌∙◌, arith, eqb-true, ltb-true, leb-true}
-use Rattle.std.proofs.lemmas.Bool.{and_parts}
+use Rattle.std.proofs.Common.{◌≡◌, ◌⊎◌, inl, inr, ℕ, ◌+◌, ◌*◌, ◌<◌, ◌≤◌, Bool, true, false, cond, ◌==◌, ◌&&◌, nat_lt, nat_le, List, [], ◌∷◌, ◌++◌, length, Option, Some, None, IfSome, refl, sym, ap, subst, ◌∙◌, arith, eqb-true, ltb-true, leb-true}
+use Rattle.std.proofs.lemmas.Bool.{and_parts, both_ways}
 use Rattle.mufom_numbers.specs.declared.reason.Reason.{Reason}
 use Rattle.mufom_numbers.specs.declared.taken.Span.{Span}
 use Rattle.mufom_numbers.specs.Spelling.{IsStringLead}
@@ -10,6 +10,7 @@ use Rattle.mufom_records.specs.declared.record.Record.{Record}
 use Rattle.mufom_records.specs.declared.record.Record.TheVariants as r
 use Rattle.mufom_records.specs.Fields.{Field, ValueOf, byte, number, string, run, letter, optional_number, numbers, expression, optional_expression, is_one_of, SpellsField, first_of}
 use Rattle.mufom_records.specs.Layouts
+use Rattle.mufom_read.specs.Fronts.{is_module_end}
 
 abbrev Layout : Type 0
 Layout = Layouts.Layout
@@ -107,7 +108,7 @@ abbrev pub IsFieldSize : Option ℕ → Type 0
 IsFieldSize None = Unit {0}
 IsFieldSize (Some n) = (1 ≤ n) × (n ≤ 8)
 
--- strings and literal bytes are short
+-- strings and literal bytes are short, and it is not the end
 abbrev pub IsShort : Record → Type 0
 IsShort (r.SectionType i absolute purpose name a b c) = name.len < 65536
 IsShort (r.PublicName i name) = name.len < 65536
@@ -116,6 +117,7 @@ IsShort (r.Constant bytes) = bytes.len < 65536
 IsShort (r.ConstantItem bytes) = bytes.len < 65536
 IsShort (r.RepeatConstant times bytes) = bytes.len < 65536
 IsShort (r.FieldItem kind value n) = IsFieldSize n
+IsShort r.ModuleEnd = ⊥
 IsShort _ = Unit {0}
 
 run_short : (n : ℕ) (span : Span) → nat_lt n 65536 ≡ true → span.len ≡ n → span.len < 65536
@@ -173,10 +175,10 @@ noted_short b =
     (λ _. by_test IsShort (b == 0xD8) (Layouts.note r.ReferenceNote) _ (λ _ _ _ _ _ _ _ _ _. tt)
     (λ _. by_test IsShort (b == 0xCE) Layouts.debug_note _ (λ _ _ _ _ _ _ _ _ _. tt) (λ _. tt)))
 
-coded_short : (b : ℕ) → Promises IsShort (Layouts.coded b)
-coded_short b =
+coded_short : (b : ℕ) → (b == 0xE1) ≡ false → Promises IsShort (Layouts.coded b)
+coded_short b other =
     by_test IsShort (b == 0xE0) Layouts.module_begin _ (λ _ _ _ _ _. tt)
-    (λ _. by_test IsShort (b == 0xE1) (Layouts.whole r.ModuleEnd) _ (λ _. tt)
+    (λ _. by_test IsShort (b == 0xE1) (Layouts.whole r.ModuleEnd) _ (λ is. both_ways (b == 0xE1) other is)
     (λ _. by_test IsShort (b == 0xE2) Layouts.assigned _ (λ _ (c : ℕ) _. assignment_short c)
     (λ _. by_test IsShort (b == 0xE4) (Layouts.whole r.Relocate) _ (λ _. tt)
     (λ _. by_test IsShort (b == 0xE5) Layouts.set_section _ (λ _ _ _. tt)
@@ -194,8 +196,25 @@ coded_short b =
     (λ _. by_test IsShort (b == 0xF8) Layouts.block_begin _ (λ _. block_short)
     (λ _. by_test IsShort (b == 0xF9) Layouts.block_end _ (λ _ _ _. tt) (λ _. tt))))))))))))))))))
 
-pub body_short : (row : Record) (bytes : List ℕ) (next : Option ℕ) → Layouts.IsWholeRecord mode.Body row bytes next → IsShort row
-body_short row bytes next is = promised IsShort Layouts.body row 0 bytes next is (λ (b : ℕ) _. coded_short b)
+-- a whole record is the end and its byte, or short
+end_or_short : (row : Record) (bytes : List ℕ) (next : Option ℕ) → Layouts.IsWholeRecord mode.Body row bytes next → ((row ≡ r.ModuleEnd) × (bytes ≡ 0xE1 ∷ [])) ⊎ IsShort row
+end_or_short row bytes next is = by_byte (is.0 == 0xE1) refl where
+  by_byte : (test : Bool) → (is.0 == 0xE1) ≡ test → ((row ≡ r.ModuleEnd) × (bytes ≡ 0xE1 ∷ [])) ⊎ IsShort row
+  by_byte true e =
+      let its : is.0 ≡ 0xE1 = eqb-true is.0 0xE1 e in
+      let all : Layouts.SpellsRecord (Layouts.coded 0xE1) row (0 + length is.1) is.2 next = subst (λ (b : ℕ). Layouts.SpellsRecord (Layouts.coded b) row (0 + length is.1) is.2 next) its is.4 in
+      inl (all.0, is.5 ∙ (λ i. is.3 i ++ all.1 i) ∙ ap (λ (b : ℕ). b ∷ []) its)
+  by_byte false e = inr (promised IsShort (Layouts.coded is.0) row (0 + length is.1) is.2 next is.4 (coded_short is.0 e))
+
+pub body_short : (row : Record) (bytes : List ℕ) (next : Option ℕ) → is_module_end row ≡ false → Layouts.IsWholeRecord mode.Body row bytes next → IsShort row
+body_short row bytes next other is = elim (end_or_short row bytes next is) [ | inl end ↦ absurd (both_ways (is_module_end row) other (ap is_module_end end.0)) | inr short ↦ short ]
+
+end_not_short : (row : Record) → is_module_end row ≡ true → IsShort row → ⊥
+end_not_short r.ModuleEnd h short = short
+end_not_short row h short = cc
+
+pub end_bytes : (row : Record) (bytes : List ℕ) (next : Option ℕ) → is_module_end row ≡ true → Layouts.IsWholeRecord mode.Body row bytes next → (row ≡ r.ModuleEnd) × (bytes ≡ 0xE1 ∷ [])
+end_bytes row bytes next ends is = elim (end_or_short row bytes next is) [ | inl end ↦ end | inr short ↦ absurd (end_not_short row ends short) ]
 
 pub items_short : (row : Record) (bytes : List ℕ) (next : Option ℕ) → Layouts.IsWholeRecord mode.Items row bytes next → IsShort row
 items_short row bytes next is = promised IsShort Layouts.item row 0 bytes next is item_short
