@@ -3,3 +3,5 @@ pub mod EndedRows
 pub mod EndedHeader
 pub mod EndedParts
 pub mod EndedChunks
+pub mod EndedSliced
+pub mod EndedSlicing
