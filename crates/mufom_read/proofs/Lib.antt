@@ -5,3 +5,4 @@ pub mod EndedParts
 pub mod EndedChunks
 pub mod EndedSliced
 pub mod EndedSlicing
+pub mod EndedNames
