@@ -6,3 +6,4 @@ pub mod EndedChunks
 pub mod EndedSliced
 pub mod EndedSlicing
 pub mod EndedNames
+pub mod EndedGathered
