@@ -7,3 +7,4 @@ pub mod EndedSliced
 pub mod EndedSlicing
 pub mod EndedNames
 pub mod EndedGathered
+pub mod EndedSaid
