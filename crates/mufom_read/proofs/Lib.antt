@@ -8,3 +8,4 @@ pub mod EndedSlicing
 pub mod EndedNames
 pub mod EndedGathered
 pub mod EndedSaid
+pub mod EndedTrees
