@@ -81,7 +81,7 @@ sets_none row h = cc
 pub declared_behind : (header pieces : List Piece) → IsSilent header → is_declared (header ++ pieces) ≡ is_declared pieces
 declared_behind header pieces h = λ i index. list_any (λ n. n == index.1) (behind_silent (λ row. of_kind index.0 (declared_by row)) (declares_none index.0) header pieces h i)
 
-assigned_behind : (header pieces : List Piece) → IsSilent header → is_assigned (header ++ pieces) ≡ is_assigned pieces
+pub assigned_behind : (header pieces : List Piece) → IsSilent header → is_assigned (header ++ pieces) ≡ is_assigned pieces
 assigned_behind header pieces h = λ i once. list_any (is_same_saying once) (behind_silent assigned_by assigns_none header pieces h i)
 
 none_set : (header : List Piece) → IsSilent header → list_any (λ q. is_set_section q.row) header ≡ false

@@ -9,3 +9,6 @@ pub mod EndedNames
 pub mod EndedGathered
 pub mod EndedSaid
 pub mod EndedTrees
+pub mod EndedGood
+pub mod EndedEntries
+pub mod EndedLoads
