@@ -10,6 +10,7 @@
 #![tactic(auto)]
 
 mod debug_rules;
+mod made;
 mod module;
 mod rules;
 #[cfg(test)]
