@@ -3,6 +3,7 @@ pub mod Walks
 pub mod WeightLaws
 pub mod Valid
 pub mod MadeLemmas
+pub mod SpelledLaws
 pub mod Cutting
 mod Worked
 mod WorkedAbsolute

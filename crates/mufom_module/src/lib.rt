@@ -10,6 +10,7 @@
 #![tactic(auto)]
 
 mod debug_rules;
+mod laws;
 mod made;
 mod module;
 mod rules;
@@ -18,5 +19,6 @@ mod tests;
 mod validity;
 mod weight;
 
+pub use laws::{expressions_are_as_spelled, positions_stand_for_indexes};
 pub use module::{Defect, Module, Order, Parts};
 pub use validity::assemble;
