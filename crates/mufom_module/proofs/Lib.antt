@@ -11,4 +11,5 @@ mod WorkedProgram
 mod WorkedLibrary
 mod WorkedEmpty
 mod WorkedDebug
+mod WorkedDebugFile
 mod WorkedBad

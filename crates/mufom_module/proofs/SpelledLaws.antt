@@ -1,6 +1,6 @@
 -- An expression is the tree that its bytes spell, and the positions of its variables stand for their indexes.
 use Rattle.std.proofs.Common.{◌≡◌, ℕ, zero, suc, ◌+◌, ◌<◌, ◌≤◌, ◌==◌, Bool, true, false, not, ◌&&◌, ◌||◌, cond, nat_lt, List, [], ◌∷◌, ◌++◌, length, drop, get_or, slice_get, position, Option, Some, None, unwrap_or, refl, sym, ap, ◌∙◌, arith}
-use Rattle.std.specs.List.{list_any, list_all, position_or_len}
+use Rattle.std.specs.List.{list_any, position_or_len}
 use Rattle.std.proofs.lemmas.List.{drop_at}
 use Rattle.std.proofs.lemmas.List.Folds.{list_all-append}
 use Rattle.std.proofs.lemmas.List.Quantifiers.{position-Some}
@@ -10,12 +10,12 @@ use Rattle.mufom_numbers.specs.declared.taken.Taken.{Taken}
 use Rattle.mufom_numbers.specs.declared.taken.Taken.TheVariants as taken
 use Rattle.mufom_expr.specs.declared.token.Letter.{Letter}
 use Rattle.mufom_expr.specs.declared.token.Token.{Token}
-use Rattle.mufom_expr.specs.Tree.{Tree, number, variable, one, two, OneOperand, TwoOperands, tokens_of}
+use Rattle.mufom_expr.specs.Tree.{Tree, number, variable, one, two, tokens_of}
 use Rattle.mufom_expr.specs.TreeCode.{the_term-tokens_of}
 use Rattle.mufom_expr.specs.Terms.{the_term}
 use Rattle.mufom_expr.specs.Value.{variables_of}
 use Rattle.mufom_expr.specs.TokenAt.{token_at, first_token, tokens_at, tokens_in}
-use Rattle.mufom_expr.specs.Spelled.{SpellsToken, SpellsTokens, SpellsTree, Indexes, list_of, IsIndexed}
+use Rattle.mufom_expr.specs.Spelled.{SpellsTokens, SpellsTree, Indexes, list_of, IsIndexed}
 use Rattle.mufom_expr.proofs.TokenLaws.{token_at-spelling}
 use Rattle.mufom_module.specs.Pieces.{position_in, positioned, are_listed}
 
