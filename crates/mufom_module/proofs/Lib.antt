@@ -4,6 +4,7 @@ pub mod WeightLaws
 pub mod Valid
 pub mod MadeLemmas
 pub mod SpelledLaws
+pub mod OneModule
 pub mod Cutting
 mod Worked
 mod WorkedAbsolute

@@ -22,6 +22,6 @@ mod tests;
 mod validity;
 mod weight;
 
-pub use laws::{expressions_are_as_spelled, positions_stand_for_indexes};
+pub use laws::{a_file_is_one_module, expressions_are_as_spelled, positions_stand_for_indexes};
 pub use module::{Defect, Module, Order, Parts};
 pub use validity::assemble;
