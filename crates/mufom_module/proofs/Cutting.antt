@@ -1,22 +1,20 @@
 -- Records cut off bytes one after another, by reading each where the one before it ends: they are whole, so that the
 -- grammar of a file can be computed.
-use Rattle.std.proofs.Common.{◌≡◌, ℕ, zero, suc, ◌+◌, ◌<◌, ◌≤◌, Bool, true, false, not, ◌&&◌, ◌||◌, nat_lt, nat_le, cond, List, [], ◌∷◌, ◌++◌, length, take, drop, Option, Some, None, refl, sym, ap, subst, ◌∙◌, inl, inr, arith}
-use Rattle.std.specs.List.{list_all, list_any}
+use Rattle.std.proofs.Common.{◌≡◌, ℕ, zero, suc, ◌<◌, ◌≤◌, Bool, true, false, not, ◌&&◌, nat_lt, nat_le, cond, List, [], ◌∷◌, ◌++◌, length, take, drop, Option, Some, None, refl, sym, ap, subst, ◌∙◌, arith}
+use Rattle.std.specs.List.{list_all}
 use Rattle.std.proofs.lemmas.List.{take-append-le, drop-append-le, take-append-drop}
 use Rattle.mufom_numbers.specs.declared.taken.Taken.{Taken}
 use Rattle.mufom_numbers.specs.declared.taken.Taken.TheVariants.{Got, More, Bad}
 use Rattle.mufom_numbers.specs.Spelling.{AreBytes, IfGot}
-use Rattle.mufom_expr.specs.TokenAt.{begins_number}
 use Rattle.mufom_records.specs.declared.record.Mode.{Mode}
-use Rattle.mufom_records.specs.declared.record.Mode.TheVariants as mode
 use Rattle.mufom_records.specs.declared.record.Record.{Record}
-use Rattle.mufom_records.specs.Fields.{first_of, is_one_of}
-use Rattle.mufom_records.specs.Layouts.{opening_brackets, IsWholeRecord}
+use Rattle.mufom_records.specs.Fields.{first_of}
+use Rattle.mufom_records.specs.Layouts.{IsWholeRecord}
 use Rattle.mufom_records.specs.Reading.{record_at}
 use Rattle.mufom_records.proofs.RecordLaws.{record_at-got}
 use Rattle.mufom_module.specs.Pieces.{Piece, bytes_of}
-use Rattle.mufom_module.specs.RecordParts.{Part, stands_in, opens_items}
-use Rattle.mufom_module.specs.Grammar.{header_modes, AreOfModes, IsWholeHere, AreWhole, IsPart, file_limit, declares_again, says_again, names_unknown, has_no_section, Follows, FollowFrom}
+use Rattle.mufom_module.specs.RecordParts.{Part, stands_in, opens_items, mode_of}
+use Rattle.mufom_module.specs.Grammar.{header_modes, AreOfModes, AreWhole, IsPart, file_limit, declares_again, says_again, names_unknown, has_no_section, Follows, FollowFrom}
 
 -- ---- tests
 
@@ -36,25 +34,12 @@ are_bytes-by_test (x ∷ xs) h = let both = and-both (nat_lt x 256) (list_all (�
 abbrev pub piece : Record → List ℕ → Piece
 piece row bytes = record { row = row; bytes = bytes }
 
-abbrev pub begins_item : List ℕ → Bool
-begins_item [] = false
-begins_item (b ∷ _) = begins_number b || is_one_of opening_brackets b
-
-abbrev pub mode_of : Bool → Mode
-mode_of true = mode.Items
-mode_of false = mode.Body
-
--- an item is read only where items may stand
-abbrev pub mode_at : Bool → List ℕ → Mode
-mode_at false bytes = mode.Body
-mode_at true bytes = mode_of (begins_item bytes)
-
 abbrev pub with_piece : Piece → Option (List Piece) → Option (List Piece)
 with_piece p None = None
 with_piece p (Some pieces) = Some (p ∷ pieces)
 
 abbrev pub cut_by : List ℕ → Taken Record → (Record → ℕ → Option (List Piece)) → Option (List Piece)
-cut_by bytes (Got row used) rest = cond (nat_le used (length bytes)) (with_piece (piece row (take used bytes)) (rest row used)) None
+cut_by bytes (Got row used) rest = cond (nat_lt 0 used && nat_le used (length bytes)) (with_piece (piece row (take used bytes)) (rest row used)) None
 cut_by bytes More rest = None
 cut_by bytes (Bad offset reason) rest = None
 
@@ -62,7 +47,7 @@ cut_by bytes (Bad offset reason) rest = None
 abbrev pub cut : ℕ → Bool → List ℕ → List ℕ → Option (List Piece)
 cut zero items bytes behind = None
 cut (suc n) items [] behind = Some []
-cut (suc n) items (b ∷ bytes) behind = cut_by (b ∷ bytes) (record_at (mode_at items (b ∷ bytes)) ((b ∷ bytes) ++ behind)) (λ row used. cut n (opens_items row) (drop used (b ∷ bytes)) behind)
+cut (suc n) items (b ∷ bytes) behind = cut_by (b ∷ bytes) (record_at (mode_of items (b ∷ bytes)) ((b ∷ bytes) ++ behind)) (λ row used. cut n (opens_items row) (drop used (b ∷ bytes)) behind)
 
 -- a record of each mode
 abbrev pub cut_modes : List Mode → List ℕ → List ℕ → Option (List Piece)
@@ -77,6 +62,7 @@ pub record IsCutOff (m : Mode) (bytes behind : List ℕ) (rest : Record → ℕ 
   pub row : Record
   pub used : ℕ
   pub others : List Piece
+  pub some : 0 < used
   pub is_whole : IsWholeRecord m row (take used bytes) (first_of (drop used bytes ++ behind) None)
   pub fits : AreBytes (drop used bytes ++ behind)
   pub gives : rest row used ≡ Some others
@@ -98,14 +84,18 @@ with-some p (Some others) pieces h = let e : p ∷ others ≡ pieces = cc in (ot
 at_most : (a b : ℕ) → nat_le a b ≡ true → a ≤ b
 at_most a b h = grind arith
 
+positive : (a : ℕ) → nat_lt 0 a ≡ true → 0 < a
+positive a h = grind arith
+
 cut_off : (m : Mode) (bytes behind : List ℕ) (rest : Record → ℕ → Option (List Piece)) (pieces : List Piece) (answer : Taken Record) → AreBytes (bytes ++ behind)
     → IfGot answer (λ row used. (used ≤ length (bytes ++ behind)) × IsWholeRecord m row (take used (bytes ++ behind)) (first_of (drop used (bytes ++ behind)) None))
     → cut_by bytes answer rest ≡ Some pieces → IsCutOff m bytes behind rest pieces
 cut_off m bytes behind rest pieces More fits got h = cc
 cut_off m bytes behind rest pieces (Bad offset reason) fits got h = cc
 cut_off m bytes behind rest pieces (Got row used) fits got h =
-    let test = cond-some (nat_le used (length bytes)) (with_piece (piece row (take used bytes)) (rest row used)) pieces h in
-    let inside = at_most used (length bytes) test.0 in
+    let test = cond-some (nat_lt 0 used && nat_le used (length bytes)) (with_piece (piece row (take used bytes)) (rest row used)) pieces h in
+    let used_is = and-both (nat_lt 0 used) (nat_le used (length bytes)) test.0 in
+    let inside = at_most used (length bytes) used_is.1 in
     let made = with-some (piece row (take used bytes)) (rest row used) pieces test.1 in
     let front = take-append-le used bytes behind inside in
     let back = drop-append-le used bytes behind inside in
@@ -113,18 +103,17 @@ cut_off m bytes behind rest pieces (Got row used) fits got h =
       row = row;
       used = used;
       others = made.0;
+      some = positive used used_is.0;
       is_whole = subst (λ (l : List ℕ). IsWholeRecord m row (take used bytes) (first_of l None)) back (subst (λ (l : List ℕ). IsWholeRecord m row l (first_of (drop used (bytes ++ behind)) None)) front got.1);
       fits = subst (λ (l : List ℕ). AreBytes l) back (AreBytes-drop used (bytes ++ behind) fits);
       gives = made.1;
       are = made.2;
     }
 
-whole_here : (items : Bool) (bytes : List ℕ) (p : Piece) (behind : List ℕ) → IsWholeRecord (mode_at items bytes) p.row p.bytes (first_of behind None) → IsWholeHere items p behind
-whole_here false bytes p behind is = is
-whole_here true bytes p behind is = by_test (begins_item bytes) refl where
-  by_test : (b : Bool) → begins_item bytes ≡ b → IsWholeHere true p behind
-  by_test true e = inr (subst (λ (b : Bool). IsWholeRecord (mode_of b) p.row p.bytes (first_of behind None)) e is)
-  by_test false e = inl (subst (λ (b : Bool). IsWholeRecord (mode_of b) p.row p.bytes (first_of behind None)) e is)
+-- the first byte tells how a record is read
+mode_of-take : (items : Bool) (used b : ℕ) (bytes : List ℕ) → 0 < used → mode_of items (take used (b ∷ bytes)) ≡ mode_of items (b ∷ bytes)
+mode_of-take items zero b bytes h = absurd (omega (arith, h))
+mode_of-take items (suc used) b bytes h = refl
 
 -- the records of a part are whole, and have its bytes
 pub cut-whole : (n : ℕ) (items : Bool) (bytes behind : List ℕ) (pieces : List Piece) → AreBytes (bytes ++ behind) → cut n items bytes behind ≡ Some pieces
@@ -133,13 +122,13 @@ cut-whole zero items bytes behind pieces fits h = cc
 cut-whole (suc n) items [] behind pieces fits h = let e : [] ≡ pieces = cc in subst (λ (l : List Piece). AreWhole items l behind × (bytes_of l ≡ [])) e (tt, refl)
 cut-whole (suc n) items (b ∷ bytes) behind pieces fits h =
     let all = b ∷ bytes in
-    let m = mode_at items all in
+    let m = mode_of items all in
     let first = cut_off m all behind (λ row used. cut n (opens_items row) (drop used all) behind) pieces (record_at m (all ++ behind)) fits (record_at-got m (all ++ behind) fits) h in
-    let p = piece first.row (take first.used all) in
     let later = cut-whole n (opens_items first.row) (drop first.used all) behind first.others first.fits first.gives in
     let its = subst (λ (l : List ℕ). IsWholeRecord m first.row (take first.used all) (first_of (l ++ behind) None)) (sym later.1) first.is_whole in
+    let so = subst (λ (mode : Mode). IsWholeRecord mode first.row (take first.used all) (first_of (bytes_of first.others ++ behind) None)) (sym (mode_of-take items first.used b bytes first.some)) its in
     subst (λ (l : List Piece). AreWhole items l behind × (bytes_of l ≡ all)) (sym first.are)
-    ((whole_here items all p (bytes_of first.others ++ behind) its, later.0), ap (λ l. take first.used all ++ l) later.1 ∙ take-append-drop first.used all)
+    ((so, later.0), ap (λ l. take first.used all ++ l) later.1 ∙ take-append-drop first.used all)
 
 -- and those of a header
 pub cut_modes-whole : (modes : List Mode) (bytes behind : List ℕ) (pieces : List Piece) → AreBytes (bytes ++ behind) → cut_modes modes bytes behind ≡ Some pieces

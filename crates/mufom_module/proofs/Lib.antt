@@ -2,6 +2,9 @@ pub mod Variables
 pub mod Walks
 pub mod WeightLaws
 pub mod Valid
+pub mod MadeLemmas
+pub mod SpelledLaws
+pub mod OneModule
 pub mod Cutting
 mod Worked
 mod WorkedAbsolute
@@ -9,4 +12,5 @@ mod WorkedProgram
 mod WorkedLibrary
 mod WorkedEmpty
 mod WorkedDebug
+mod WorkedDebugFile
 mod WorkedBad

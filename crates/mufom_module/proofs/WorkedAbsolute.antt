@@ -1,19 +1,8 @@
 -- A small absolute module: 120 bytes are its file, and so are the 122 of its written form; with a debug part that is
 -- passed over, 124 bytes are its file too.
-use Rattle.std.proofs.Common.{◌≡◌, ℕ, true, false, List, [], ◌∷◌, Some, None, refl, inl, inr}
-use Rattle.mufom_expr.specs.Tree.{Tree, number, variable, two, plus, minus}
-use Rattle.mufom_expr.specs.declared.token.Letter.TheVariants as letters
-use Rattle.mufom_expr.specs.declared.token.FieldKind.TheVariants as kinds
+use Rattle.std.proofs.Common.{ℕ, true, false, List, [], ◌∷◌, Some, None, refl, inl, inr}
 use Rattle.mufom_records.specs.declared.record.Record.TheVariants as r
-use Rattle.mufom_records.specs.declared.record.BlockTail.TheVariants as tail
-use Rattle.mufom_records.specs.Fields.{span_at, items_of}
-use Rattle.mufom_sections.specs.declared.section.Purpose.TheVariants as purposes
-use Rattle.mufom_loads.specs.declared.load.Item.TheVariants as items
-use Rattle.mufom_loads.specs.declared.load.Load.TheVariants as loads
-use Rattle.mufom_module.specs.declared.module.Order.TheVariants as orders
-use Rattle.mufom_module.specs.declared.module.Parts.{Parts}
-use Rattle.mufom_module.specs.Written.{weight}
-use Rattle.mufom_module.specs.Defects.{IsValid}
+use Rattle.mufom_records.specs.Fields.{span_at}
 use Rattle.mufom_module.specs.RecordParts.{section_part, external_part, debug_part, data_part, trailer_part}
 use Rattle.mufom_module.specs.Grammar.{FileParts, header_of, module_end, behind_header, from_externals, from_debug, from_loads, from_trailer, IsCutInto, indexes_of, records_of, HasNames, Says, SpellsModule}
 use Rattle.mufom_module.proofs.Cutting.{piece, is_part, is_header, is_within, follow-by_test}

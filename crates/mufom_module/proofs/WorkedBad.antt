@@ -4,7 +4,7 @@ use Rattle.std.proofs.Common.{◌≡◌, ◌⊎◌, ℕ, true, false, List, [], 
 use Rattle.mufom_records.specs.declared.record.Record.TheVariants as r
 use Rattle.mufom_records.specs.Fields.{span_at}
 use Rattle.mufom_module.specs.Pieces.{Piece}
-use Rattle.mufom_module.specs.RecordParts.{external_part, data_part, stands_in}
+use Rattle.mufom_module.specs.RecordParts.{external_part, stands_in}
 use Rattle.mufom_module.specs.Grammar.{StandAt, declares_again, says_again, names_unknown, has_no_section}
 use Rattle.mufom_module.proofs.Cutting.{piece, cut}
 

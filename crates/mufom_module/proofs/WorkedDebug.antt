@@ -1,5 +1,5 @@
 -- A debug part of 48 bytes: its records are whole, stand in it, and are these marks.
-use Rattle.std.proofs.Common.{◌≡◌, ℕ, List, [], ◌∷◌, Some, None, refl}
+use Rattle.std.proofs.Common.{◌≡◌, List, [], ◌∷◌, Some, None, refl}
 use Rattle.mufom_expr.specs.Tree.{number, variable, two, plus}
 use Rattle.mufom_expr.specs.declared.token.Letter.TheVariants as letters
 use Rattle.mufom_expr.specs.Spelled.{Indexes}

@@ -1,14 +1,7 @@
 -- A module without parts: the 78 bytes of its header and its end are its file.
-use Rattle.std.proofs.Common.{◌≡◌, ℕ, true, false, List, [], ◌∷◌, Some, None, refl, inl, inr}
-use Rattle.mufom_expr.specs.Tree.{Tree, number, variable, two, plus, minus}
-use Rattle.mufom_expr.specs.declared.token.Letter.TheVariants as letters
-use Rattle.mufom_expr.specs.declared.token.FieldKind.TheVariants as kinds
+use Rattle.std.proofs.Common.{ℕ, true, List, [], ◌∷◌, Some, None, refl, inl, inr}
 use Rattle.mufom_records.specs.declared.record.Record.TheVariants as r
-use Rattle.mufom_records.specs.declared.record.BlockTail.TheVariants as tail
-use Rattle.mufom_records.specs.Fields.{span_at, items_of}
-use Rattle.mufom_sections.specs.declared.section.Purpose.TheVariants as purposes
-use Rattle.mufom_loads.specs.declared.load.Item.TheVariants as items
-use Rattle.mufom_loads.specs.declared.load.Load.TheVariants as loads
+use Rattle.mufom_records.specs.Fields.{span_at}
 use Rattle.mufom_module.specs.declared.module.Order.TheVariants as orders
 use Rattle.mufom_module.specs.declared.module.Parts.{Parts}
 use Rattle.mufom_module.specs.Written.{weight}

@@ -1,11 +1,9 @@
 -- A relocatable module without raw parts and without a start, record by record: its 111 bytes are its file.
-use Rattle.std.proofs.Common.{◌≡◌, ℕ, true, false, List, [], ◌∷◌, Some, None, refl, inl, inr}
-use Rattle.mufom_expr.specs.Tree.{Tree, number, variable, two, plus, minus}
+use Rattle.std.proofs.Common.{ℕ, true, false, List, [], ◌∷◌, Some, None, refl, inl, inr}
+use Rattle.mufom_expr.specs.Tree.{variable}
 use Rattle.mufom_expr.specs.declared.token.Letter.TheVariants as letters
-use Rattle.mufom_expr.specs.declared.token.FieldKind.TheVariants as kinds
 use Rattle.mufom_records.specs.declared.record.Record.TheVariants as r
-use Rattle.mufom_records.specs.declared.record.BlockTail.TheVariants as tail
-use Rattle.mufom_records.specs.Fields.{span_at, items_of}
+use Rattle.mufom_records.specs.Fields.{span_at}
 use Rattle.mufom_sections.specs.declared.section.Purpose.TheVariants as purposes
 use Rattle.mufom_loads.specs.declared.load.Item.TheVariants as items
 use Rattle.mufom_loads.specs.declared.load.Load.TheVariants as loads

@@ -1,10 +1,9 @@
 -- A relocatable module with all parts but the debug part, record by record: its 164 bytes are its file.
-use Rattle.std.proofs.Common.{◌≡◌, ℕ, true, false, List, [], ◌∷◌, Some, None, refl, inl, inr}
+use Rattle.std.proofs.Common.{ℕ, true, false, List, [], ◌∷◌, Some, None, refl, inl, inr}
 use Rattle.mufom_expr.specs.Tree.{Tree, number, variable, two, plus, minus}
 use Rattle.mufom_expr.specs.declared.token.Letter.TheVariants as letters
 use Rattle.mufom_expr.specs.declared.token.FieldKind.TheVariants as kinds
 use Rattle.mufom_records.specs.declared.record.Record.TheVariants as r
-use Rattle.mufom_records.specs.declared.record.BlockTail.TheVariants as tail
 use Rattle.mufom_records.specs.Fields.{span_at, items_of}
 use Rattle.mufom_sections.specs.declared.section.Purpose.TheVariants as purposes
 use Rattle.mufom_loads.specs.declared.load.Item.TheVariants as items

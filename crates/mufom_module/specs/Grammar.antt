@@ -1,6 +1,6 @@
 -- When bytes are the file of a module, as a relation on the whole file (IEEE Std 695, module structure, in this project's
 -- profile).
-use Rattle.std.specs.Prelude.{◌≡◌, ◌⊎◌, ℕ, ◌+◌, ◌≤◌, Bool, true, false, not, ◌&&◌, List, [], ◌∷◌, ◌++◌, length, map, filter_map, Option, Some, None, option_to_list, MatchBool}
+use Rattle.std.specs.Prelude.{◌≡◌, ◌⊎◌, ℕ, ◌+◌, ◌≤◌, Bool, true, false, not, ◌&&◌, List, [], ◌∷◌, ◌++◌, length, filter_map, Option, Some, None, option_to_list, MatchBool}
 use Rattle.std.specs.List.{list_all, list_any}
 use Rattle.mufom_expr.specs.Spelled.{Indexes}
 use Rattle.mufom_records.specs.declared.record.Mode.{Mode}
@@ -16,7 +16,7 @@ use Rattle.mufom_module.specs.declared.module.Parts.{Parts}
 use Rattle.mufom_module.specs.Contents.{any_of}
 use Rattle.mufom_module.specs.Defects.{IsValid}
 use Rattle.mufom_module.specs.Pieces.{Piece, bytes_of, text_in, section, public, reference, debug_name, declared_by, declared, is_declared, named_in_expression, named_at_once, value_of_public, assigned_by, is_assigned}
-use Rattle.mufom_module.specs.RecordParts.{Part, section_part, external_part, debug_part, data_part, trailer_part, stands_in, opens_items, is_loading, is_set_section}
+use Rattle.mufom_module.specs.RecordParts.{Part, section_part, external_part, debug_part, data_part, trailer_part, stands_in, opens_items, mode_of, is_loading, is_set_section}
 use Rattle.mufom_module.specs.Gathered.{sections_of, publics_of, references_of, marks, loads_of, starts_of}
 
 -- a file cut into its parts
@@ -88,15 +88,10 @@ abbrev pub header_modes : List Mode
 header_modes = mode.Begin ∷ mode.Descriptor ∷ mode.Offset 0 ∷ mode.Offset 1 ∷ mode.Offset 2 ∷ mode.Offset 3 ∷ mode.Offset 4
     ∷ mode.Offset 5 ∷ mode.Offset 6 ∷ mode.Offset 7 ∷ []
 
--- a whole record with these bytes behind it, or an item where items may stand
-abbrev pub IsWholeHere : Bool → Piece → List ℕ → Type 0
-IsWholeHere false p behind = IsWholeRecord mode.Body p.row p.bytes (first_of behind None)
-IsWholeHere true p behind = IsWholeRecord mode.Body p.row p.bytes (first_of behind None) ⊎ IsWholeRecord mode.Items p.row p.bytes (first_of behind None)
-
--- whole records, and items behind an LR, with these bytes behind them
+-- whole records, and items where items may stand and behind an LR, with these bytes behind them
 abbrev pub AreWhole : Bool → List Piece → List ℕ → Type 0
 AreWhole items [] behind = Unit {0}
-AreWhole items (p ∷ pieces) behind = IsWholeHere items p (bytes_of pieces ++ behind) × AreWhole (opens_items p.row) pieces behind
+AreWhole items (p ∷ pieces) behind = IsWholeRecord (mode_of items p.bytes) p.row p.bytes (first_of (bytes_of pieces ++ behind) None) × AreWhole (opens_items p.row) pieces behind
 
 -- whole records of this part, which begins with no item
 pub record IsPart (part : Part) (pieces : List Piece) (behind : List ℕ) : Type 0 where
@@ -116,9 +111,9 @@ offsets_in pieces = filter_map (λ p. offset_in p.row) pieces
 
 -- each offset is the place where its part begins, or 0 where the part is empty; the last is the place where they end
 abbrev pub StandAt : List ℕ → ℕ → List (List ℕ) → Type 0
-StandAt (w ∷ []) at [] = w ≡ at
+StandAt offsets at [] = offsets ≡ at ∷ []
+StandAt [] at (bytes ∷ parts) = ⊥
 StandAt (w ∷ offsets) at (bytes ∷ parts) = ((w ≡ at) ⊎ ((w ≡ 0) × (bytes ≡ []))) × StandAt offsets (at + length bytes) parts
-StandAt _ at _ = ⊥
 
 -- the most bytes of a file
 abbrev pub file_limit : ℕ

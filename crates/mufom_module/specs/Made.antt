@@ -1,6 +1,6 @@
 -- What the parts of a module have by the types that hold them: numbers, positions, bytes and expressions within their
 -- bounds. A law on all parts that writes or reads them has it as its premise.
-use Rattle.std.specs.Prelude.{ℕ, ◌<◌, ◌≤◌, ◌^◌, List, length, Option, IfSome}
+use Rattle.std.specs.Prelude.{ℕ, ◌<◌, ◌≤◌, ◌^◌, length, All, IfSome}
 use Rattle.std.specs.List.{AllByRecursion}
 use Rattle.mufom_numbers.specs.Spelling.{AreBytes}
 use Rattle.mufom_expr.specs.Tree.{Tree, tokens_of, IsInRange}
@@ -43,7 +43,7 @@ pub record IsMadeNote (note : Note) : Type 0 where
   pub type_index : IsNumber note.type_index
   pub attribute : IsNumber note.attribute
   pub few : length note.numbers.items ≤ 4
-  pub numbers : AllByRecursion IsNumber note.numbers.items
+  pub numbers : All IsNumber note.numbers.items
 
 abbrev pub IsMadeWeak : Weak → Type 0
 IsMadeWeak weak = IsNumber weak.size × IsNumber weak.default
@@ -51,12 +51,12 @@ IsMadeWeak weak = IsNumber weak.size × IsNumber weak.default
 pub record IsMadePublic (p : Public) : Type 0 where
   pub name : AreBytes p.name
   pub value : IsMadeTree p.value
-  pub notes : AllByRecursion IsMadeNote p.notes
+  pub notes : All IsMadeNote p.notes
 
 pub record IsMadeReference (r : Reference) : Type 0 where
   pub name : AreBytes r.name
   pub weak : IfSome r.weak IsMadeWeak
-  pub notes : AllByRecursion IsMadeNote r.notes
+  pub notes : All IsMadeNote r.notes
 
 -- a literal is of bytes, and the size of a field is one
 abbrev pub IsMadeItem : Item → Type 0
@@ -67,13 +67,13 @@ abbrev pub IsMadeLoad : Load → Type 0
 IsMadeLoad (SetSection section) = IsPosition section
 IsMadeLoad (SetPc section value) = IsPosition section × IsMadeTree value
 IsMadeLoad (One item) = IsMadeItem item
-IsMadeLoad (Repeat count items) = IsNumber count × AllByRecursion IsMadeItem items
+IsMadeLoad (Repeat count items) = IsNumber count × All IsMadeItem items
 
 -- a source block has at most six numbers
 abbrev pub IsMadeHead : BlockHead → Type 0
 IsMadeHead heads.Module = Unit {0}
 IsMadeHead (heads.Global stack type_index offset) = IsNumber stack × IsNumber type_index × IsMadeTree offset
-IsMadeHead (heads.Source numbers) = (length numbers.items ≤ 6) × AllByRecursion IsNumber numbers.items
+IsMadeHead (heads.Source numbers) = (length numbers.items ≤ 6) × All IsNumber numbers.items
 IsMadeHead (heads.Local stack type_index offset) = IsNumber stack × IsNumber type_index × IsMadeTree offset
 IsMadeHead (heads.Section section_type section offset) = IsNumber section_type × IsPosition section × IsMadeTree offset
 
@@ -91,9 +91,9 @@ pub record IsMade (m : Parts) : Type 0 where
   pub maus : m.maus < 256
   pub ext : AreBytes m.ext
   pub env : AreBytes m.env
-  pub sections : AllByRecursion IsMadeSection m.sections
-  pub publics : AllByRecursion IsMadePublic m.names.publics
-  pub references : AllByRecursion IsMadeReference m.names.references
-  pub debug : AllByRecursion IsMadeMark (debug_marks m)
-  pub loads : AllByRecursion IsMadeLoad m.loads
+  pub sections : All IsMadeSection m.sections
+  pub publics : All IsMadePublic m.names.publics
+  pub references : All IsMadeReference m.names.references
+  pub debug : All IsMadeMark (debug_marks m)
+  pub loads : All IsMadeLoad m.loads
   pub start : IfSome m.start IsMadeTree

@@ -1,6 +1,6 @@
 -- The records of a file with their bytes: what each declares, names and says once (IEEE Std 695, MUFOM commands).
-use Rattle.std.specs.Prelude.{ℕ, ◌+◌, ◌==◌, ◌&&◌, Bool, true, false, List, [], ◌∷◌, ◌++◌, map, filter_map, position, slice_range, Option, Some, None, option_map, option_to_list, unwrap_or, if◌then◌else◌}
-use Rattle.std.specs.List.{list_any}
+use Rattle.std.specs.Prelude.{ℕ, ◌+◌, ◌==◌, Bool, true, false, List, [], ◌++◌, map, filter_map, position, slice_range, Option, Some, None, option_map, option_to_list, unwrap_or, if◌then◌else◌}
+use Rattle.std.specs.List.{list_any, list_all}
 use Rattle.mufom_numbers.specs.declared.taken.Span.{Span}
 use Rattle.mufom_expr.specs.declared.token.Letter.{Letter}
 use Rattle.mufom_expr.specs.declared.token.Letter.TheVariants.{I, X}
@@ -186,3 +186,7 @@ positioned_variable ix letter i = (letter, position_in (list_of ix letter) i)
 -- the tree with positions in place of the indexes of the file
 abbrev pub positioned : Indexes → Tree → Tree
 positioned ix tree = with_variables (positioned_variable ix) tree
+
+-- the index of each variable of the tree is in the list of its kind
+abbrev pub are_listed : Indexes → Tree → Bool
+are_listed ix tree = list_all (λ v. list_any (λ j. j == v.1) (list_of ix v.0)) (variables_of tree)

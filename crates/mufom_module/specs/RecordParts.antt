@@ -1,7 +1,12 @@
 -- The parts of a file, and the records that stand in each (IEEE Std 695, module structure, in this project's profile).
-use Rattle.std.specs.Prelude.{ℕ, ◌==◌, Bool, true, false, Option, Some, None}
+use Rattle.std.specs.Prelude.{ℕ, ◌==◌, ◌&&◌, ◌||◌, Bool, true, false, List, [], ◌∷◌, Option, Some, None, if◌then◌else◌}
+use Rattle.mufom_expr.specs.TokenAt.{begins_number}
+use Rattle.mufom_records.specs.declared.record.Mode.{Mode}
+use Rattle.mufom_records.specs.declared.record.Mode.TheVariants as mode
 use Rattle.mufom_records.specs.declared.record.Record.{Record}
 use Rattle.mufom_records.specs.declared.record.Record.TheVariants as r
+use Rattle.mufom_records.specs.Fields.{is_one_of}
+use Rattle.mufom_records.specs.Layouts.{opening_brackets}
 
 -- the parts of a file in their order, and the record at its end
 pub data Part : Type 0 where
@@ -71,6 +76,15 @@ opens_items (r.RepeatRelocate _) = true
 opens_items (r.ConstantItem _) = true
 opens_items (r.FieldItem _ _ _) = true
 opens_items _ = false
+
+-- the first byte of an item is that of a number, or an opening bracket
+abbrev pub begins_item : List ℕ → Bool
+begins_item [] = false
+begins_item (b ∷ _) = begins_number b || is_one_of opening_brackets b
+
+-- what begins with these bytes: an item where items may stand and the first byte begins one, and else a record
+abbrev pub mode_of : Bool → List ℕ → Mode
+mode_of items bytes = if items && begins_item bytes then mode.Items else mode.Body
 
 -- LD, LR and RE
 abbrev pub is_loading : Record → Bool
