@@ -5,16 +5,18 @@ use Rattle.std.proofs.lemmas.Bool.{and_parts, or_parts, or_from, both_ways}
 use Rattle.mufom_numbers.specs.declared.taken.Span.{Span}
 use Rattle.mufom_expr.specs.Tree.{Tree}
 use Rattle.mufom_expr.specs.Spelled.{Indexes}
+use Rattle.mufom_records.specs.declared.record.Mode.TheVariants as mode
 use Rattle.mufom_records.specs.declared.record.Record.{Record}
 use Rattle.mufom_records.specs.declared.record.Record.TheVariants as r
 use Rattle.mufom_records.specs.Fields.{first_of}
+use Rattle.mufom_records.specs.Layouts.{IsWholeRecord}
 use Rattle.mufom_module.specs.declared.module.Parts.{Parts}
 use Rattle.mufom_module.specs.Contents.{any_of}
 use Rattle.mufom_module.specs.Defects.{is_long, counts_of, names_outside, has_other_counter}
 use Rattle.mufom_module.specs.Pieces.{Piece, bytes_of, text_in, section, declared, named_by, expression_of, tree_in, is_public_value, position_in, positioned}
-use Rattle.mufom_module.specs.RecordParts.{Part, number_of, stands_in, opens_items}
+use Rattle.mufom_module.specs.RecordParts.{Part, number_of, stands_in, opens_items, begins_item}
 use Rattle.mufom_module.specs.Gathered.{for_index}
-use Rattle.mufom_module.specs.Grammar.{AreWhole, IsWholeHere, has_no_section, names_unknown}
+use Rattle.mufom_module.specs.Grammar.{AreWhole, has_no_section, names_unknown}
 use Rattle.mufom_read.specs.Fronts.{is_module_end}
 use Rattle.mufom_read.specs.Faults.{counter_allowed}
 use Rattle.mufom_read.specs.Said.{indexes_in}
@@ -45,16 +47,15 @@ abbrev pub GoodFrom : Parts → Indexes → List Piece → List Piece → Type 0
 GoodFrom m ix before [] = Unit {0}
 GoodFrom m ix before (p ∷ pieces) = IsGood m ix before p × GoodFrom m ix (before ++ p ∷ []) pieces
 
-short_here : (items : Bool) (p : Piece) (behind : List ℕ) → is_module_end p.row ≡ false → IsWholeHere items p behind → IsShort p.row
+short_here : (test : Bool) (p : Piece) (behind : List ℕ) → is_module_end p.row ≡ false → IsWholeRecord (cond test mode.Items mode.Body) p.row p.bytes (first_of behind None) → IsShort p.row
 short_here false p behind other is = body_short p.row p.bytes (first_of behind None) other is
-short_here true p behind other (inl is) = body_short p.row p.bytes (first_of behind None) other is
-short_here true p behind other (inr is) = items_short p.row p.bytes (first_of behind None) is
+short_here true p behind other is = items_short p.row p.bytes (first_of behind None) is
 
 -- the records of a part are short
 pub all_short : (part : Part) (before : List Piece) (items : Bool) (pieces : List Piece) (behind : List ℕ) → (number_of part == 7) ≡ false → KeptFrom part before pieces → AreWhole items pieces behind → AllByRecursion (λ p. IsShort p.row) pieces
 all_short part before items [] behind other own are = tt
 all_short part before items (p ∷ pieces) behind other own are =
-    (short_here items p (bytes_of pieces ++ behind) (not_end part p.row other own.0) are.0, all_short part (before ++ p ∷ []) (opens_items p.row) pieces behind other own.2 are.1)
+    (short_here (items && begins_item p.bytes) p (bytes_of pieces ++ behind) (not_end part p.row other own.0) are.0, all_short part (before ++ p ∷ []) (opens_items p.row) pieces behind other own.2 are.1)
 
 good : (m : Parts) (all : List Piece) (ix : Indexes) → indexes_in all ≡ ix → AreCounts m (indexes_in all) → (before behind : List Piece) (p : Piece) → before ++ p ∷ behind ≡ all → IsShort p.row → IsKept before p → IsGood m ix before p
 good m all ix same are before behind p whole short keeps =

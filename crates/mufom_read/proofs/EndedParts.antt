@@ -2,7 +2,7 @@
 use Rattle.std.proofs.Common.{◌≡◌, ◌⊎◌, ℕ, zero, suc, ◌+◌, ◌<◌, ◌≤◌, Bool, true, false, cond, not, ◌==◌, ◌&&◌, ◌||◌, nat_lt, nat_le, List, [], ◌∷◌, ◌++◌, length, take, drop, Option, Some, None, refl, sym, ap, subst, ◌∙◌, inl, inr, arith, append_assoc, append-nil, ltb-false, filter_map, length-append}
 use Rattle.std.specs.List.{list_all, list_any, last_or, find}
 use Rattle.std.specs.Option.{option_or}
-use Rattle.std.proofs.lemmas.Bool.{and_parts, not-false, both_ways, cases_eq, cases_lt}
+use Rattle.std.proofs.lemmas.Bool.{and_parts, and_from, not-false, both_ways, cases_eq, cases_lt}
 use Rattle.mufom_numbers.specs.declared.reason.Reason.{Reason}
 use Rattle.mufom_numbers.specs.declared.reason.Reason.TheVariants as why
 use Rattle.mufom_records.specs.declared.record.Mode.{Mode}
@@ -12,11 +12,12 @@ use Rattle.mufom_records.specs.declared.record.Record.TheVariants as r
 use Rattle.mufom_records.specs.Fields.{first_of}
 use Rattle.mufom_records.specs.Layouts.{IsWholeRecord}
 use Rattle.mufom_module.specs.Pieces.{Piece, bytes_of}
-use Rattle.mufom_module.specs.RecordParts.{Part, end_part, number_of, stands_in, opens_items}
-use Rattle.mufom_module.specs.Grammar.{offset_in, offsets_in, IsWholeHere, AreWhole, declares_again, says_again, names_unknown, has_no_section}
-use Rattle.mufom_read.specs.Fronts.{Step, raw, read, step_bytes, front_bytes, size_of, pieces_of, placed_of, offsets_of, Extent, Place, in_part, part_among, parts_in_order, part_at, place_by, place_behind, is_raw, begins_item, awaits_items, body_mode, is_module_end, is_ended}
+use Rattle.mufom_module.specs.RecordParts.{Part, end_part, number_of, stands_in, opens_items, begins_item, mode_of}
+use Rattle.mufom_module.specs.Grammar.{offset_in, offsets_in, AreWhole, declares_again, says_again, names_unknown, has_no_section}
+use Rattle.mufom_read.specs.Fronts.{Step, raw, read, step_bytes, front_bytes, size_of, pieces_of, placed_of, offsets_of, Extent, Place, in_part, part_among, parts_in_order, part_at, place_by, place_behind, is_raw, awaits_items, body_mode, is_module_end, is_ended}
 use Rattle.mufom_read.specs.Faults.{Fault, fault_if, fault_for, has_bad_alignment, misplaces_counter, breaks, rules, rule_broken, part_record_fault, record_fault, step_fault}
 use Rattle.mufom_read.proofs.EndedWalk.{bytes-append, size-append, pieces-append, IsRead, IsRaw, IsNextAt, IsWalk, taken, no_fault}
+use Rattle.mufom_read.proofs.SpelledBegin.{body_begins, items_begin}
 use Rattle.mufom_read.proofs.EndedHeader.{last-append, ended-read, ended-raw, offsets-append, no_fault_if, IsHere, read_here, behind_header}
 
 -- ---- the rules
@@ -145,11 +146,18 @@ place_inside part from to all before inside many offsets begun below =
     behind_header before many ∙ ap (λ ws. place_by (part_among parts_in_order ws (size_of before))) offsets ∙ ap place_by (inside (size_of before) begun below)
 
 -- a record is whole where it stands
-whole_by : (items test : Bool) (p : Piece) (behind : List ℕ) → (test ≡ true → items ≡ true) → IsWholeRecord (cond test mode.Items mode.Body) p.row p.bytes (first_of behind None) → IsWholeHere items p behind
-whole_by true true p behind may is = inr is
-whole_by true false p behind may is = inl is
-whole_by false true p behind may is = absurd (both_ways false refl (may refl))
-whole_by false false p behind may is = is
+whole_by : (items test : Bool) (p : Piece) (behind : List ℕ) → (test ≡ true → items ≡ true) → IsWholeRecord (cond test mode.Items mode.Body) p.row p.bytes (first_of behind None)
+    → IsWholeRecord (mode_of items p.bytes) p.row p.bytes (first_of behind None)
+whole_by items true p behind may is =
+    let so : (items && begins_item p.bytes) ≡ true = and_from items (begins_item p.bytes) (may refl) (items_begin p.row p.bytes (first_of behind None) is) in
+    subst (λ (b : Bool). IsWholeRecord (cond b mode.Items mode.Body) p.row p.bytes (first_of behind None)) (sym so) is
+whole_by items false p behind may is =
+    let so : (items && begins_item p.bytes) ≡ false = ap (λ b. items && b) (body_begins p.row p.bytes (first_of behind None) is) ∙ nothing items in
+    subst (λ (b : Bool). IsWholeRecord (cond b mode.Items mode.Body) p.row p.bytes (first_of behind None)) (sym so) is
+  where
+    nothing : (a : Bool) → (a && false) ≡ false
+    nothing true = refl
+    nothing false = refl
 
 may_by : (a b c items : Bool) → ((a && b) ≡ true → items ≡ true) → (a && (b && c)) ≡ true → items ≡ true
 may_by true true c items may h = may refl
@@ -216,7 +224,7 @@ read_ready reads_debug part from to all items before start p steps other ready o
     none_of o h = ap (λ (x : Option ℕ). filter_map (λ (y : Option ℕ). y) (x ∷ [])) h
 
 read_split : (reads_debug : Bool) (part : Part) (to : ℕ) (items : Bool) (before : List Step) (start : ℕ) (p : Piece) (steps : List Step) → is_raw reads_debug part ≡ false
-    → IsWholeHere items p (front_bytes steps) → stands_in part p.row ≡ true → IsKept (pieces_of before) p
+    → IsWholeRecord (mode_of items p.bytes) p.row p.bytes (first_of (front_bytes steps) None) → stands_in part p.row ≡ true → IsKept (pieces_of before) p
     → Split reads_debug part to (opens_items p.row) (before ++ read start p ∷ []) steps → Split reads_debug part to items before (read start p ∷ steps)
 read_split reads_debug part to items before start p steps is its own keeps rest =
     let it = read start p in
@@ -232,7 +240,7 @@ read_split reads_debug part to items before start p steps is its own keeps rest 
       is_own = elim rest.is_own [
         | inl yes_ ↦ absurd (both_ways (is_raw reads_debug part) is yes_.0)
         | inr no_ ↦ inr (is, ap (λ l. p.bytes ++ l) no_.1,
-            (subst (λ (l : List ℕ). IsWholeHere items p l) (ap front_bytes rest.split ∙ bytes-append rest.own rest.later ∙ ap (λ l. l ++ front_bytes rest.later) (sym no_.1)) its, no_.2),
+            (subst (λ (l : List ℕ). IsWholeRecord (mode_of items p.bytes) p.row p.bytes (first_of l None)) (ap front_bytes rest.split ∙ bytes-append rest.own rest.later ∙ ap (λ l. l ++ front_bytes rest.later) (sym no_.1)) its, no_.2),
             (own, keeps, subst (λ (l : List Piece). KeptFrom part l (pieces_of rest.own)) (pieces-append before (it ∷ [])) no_.3))
       ];
     }

@@ -61,7 +61,7 @@ promised P (Layouts.refused back reason) row at bytes next is has = absurd is
 promised P (Layouts.field f rest) row at bytes next is has =
     promised P (rest is.0) row (at + length is.1) is.2 next is.4 (has is.0 (field_promised f is.0 at is.1 (first_of is.2 next) is.3))
 
-by_test : (P : Record → Type 0) (test : Bool) (a b : Layout) → (test ≡ true → Promises P a) → (test ≡ false → Promises P b) → Promises P (cond test a b)
+pub by_test : (P : Record → Type 0) (test : Bool) (a b : Layout) → (test ≡ true → Promises P a) → (test ≡ false → Promises P b) → Promises P (cond test a b)
 by_test P true a b x y = x refl
 by_test P false a b x y = y refl
 

@@ -120,16 +120,15 @@ says reads_debug front s = record {
 
 -- ---- the bytes of parts that are not read
 
-stand_parts : (w : ℕ) (offsets : List ℕ) (n : ℕ) (x : List ℕ) (parts : List (List ℕ)) → StandAt (w ∷ offsets) n (x ∷ parts) → ((w ≡ n) ⊎ ((w ≡ 0) × (x ≡ []))) × StandAt offsets (n + length x) parts
-stand_parts w [] n x parts h = h
-stand_parts w (v ∷ offsets) n x parts h = h
+pub stand_parts : (w : ℕ) (offsets : List ℕ) (n : ℕ) (x : List ℕ) (parts : List (List ℕ)) → StandAt (w ∷ offsets) n (x ∷ parts) → ((w ≡ n) ⊎ ((w ≡ 0) × (x ≡ []))) × StandAt offsets (n + length x) parts
+stand_parts w offsets n x parts h = h
 
-first_at : (offsets : List ℕ) (n : ℕ) (parts : List (List ℕ)) → 1 ≤ n → StandAt offsets n parts → first_present offsets ≡ n
-first_at [] n [] some h = absurd h
+pub first_at : (offsets : List ℕ) (n : ℕ) (parts : List (List ℕ)) → 1 ≤ n → StandAt offsets n parts → first_present offsets ≡ n
+first_at offsets n [] some h = ap first_present h ∙ present n some where
+  present : (n : ℕ) → 1 ≤ n → first_present (n ∷ []) ≡ n
+  present zero some = absurd (omega arith)
+  present (suc n) some = refl
 first_at [] n (x ∷ parts) some h = absurd h
-first_at (zero ∷ []) n [] some h = absurd (omega arith)
-first_at (suc w ∷ []) n [] some h = h
-first_at (w ∷ v ∷ offsets) n [] some h = absurd h
 first_at (zero ∷ offsets) n (x ∷ parts) some h = let both = stand_parts 0 offsets n x parts h in elim both.0 [
     | inl here ↦ absurd (omega arith)
     | inr none ↦ first_at offsets (n + length x) parts (omega arith) both.1 ∙ ap (λ (l : List ℕ). n + length l) none.1 ∙ omega arith
@@ -146,13 +145,13 @@ between (suc w) offsets pre x rest parts some h = let both = stand_parts (suc w)
     between_at : (from to : ℕ) (pre x rest : List ℕ) → from ≡ length pre → to ≡ length pre + length x → x ≡ slice_range (pre ++ (x ++ rest)) from to
     between_at from to pre x rest a b = sym (ap (take (to - from)) (drop_at pre (x ++ rest) from (sym a)) ∙ take_at x rest (to - from) (omega arith))
 
-extension_between : (f : FileParts) (offsets : List ℕ) (all : List ℕ) → all ≡ bytes_of (header_of f) ++ behind_header f → 1 ≤ length (bytes_of (header_of f)) → StandAt offsets (length (bytes_of (header_of f))) (parts_of f)
+pub extension_between : (f : FileParts) (offsets : List ℕ) (all : List ℕ) → all ≡ bytes_of (header_of f) ++ behind_header f → 1 ≤ length (bytes_of (header_of f)) → StandAt offsets (length (bytes_of (header_of f))) (parts_of f)
     → f.extension ≡ bytes_between offsets all
 extension_between f [] all split some h = absurd h
 extension_between f (w ∷ offsets) all split some h =
-    between w offsets (bytes_of (header_of f)) f.extension (f.environment ++ from_sections f) _ some h ∙ ap (bytes_between (w ∷ offsets)) (sym split)
+    between w offsets (bytes_of (header_of f)) f.extension (f.environment ++ from_sections f) (drop 1 (parts_of f)) some h ∙ ap (bytes_between (w ∷ offsets)) (sym split)
 
-environment_between : (f : FileParts) (offsets : List ℕ) (all : List ℕ) → all ≡ bytes_of (header_of f) ++ behind_header f → 1 ≤ length (bytes_of (header_of f)) → StandAt offsets (length (bytes_of (header_of f))) (parts_of f)
+pub environment_between : (f : FileParts) (offsets : List ℕ) (all : List ℕ) → all ≡ bytes_of (header_of f) ++ behind_header f → 1 ≤ length (bytes_of (header_of f)) → StandAt offsets (length (bytes_of (header_of f))) (parts_of f)
     → f.environment ≡ bytes_between (drop 1 offsets) all
 environment_between f [] all split some h = absurd h
 environment_between f (w ∷ []) all split some h = absurd h.1
@@ -160,10 +159,10 @@ environment_between f (w ∷ v ∷ offsets) all split some h =
     let header = bytes_of (header_of f) in
     let long = length-append header f.extension in
     let there : StandAt (v ∷ offsets) (length (header ++ f.extension)) (drop 1 (parts_of f)) = subst (λ (n : ℕ). StandAt (v ∷ offsets) n (drop 1 (parts_of f))) (sym long) h.1 in
-    between v offsets (header ++ f.extension) f.environment (from_sections f) _ (omega arith) there
+    between v offsets (header ++ f.extension) f.environment (from_sections f) (drop 2 (parts_of f)) (omega arith) there
     ∙ ap (bytes_between (v ∷ offsets)) (append_assoc header f.extension (f.environment ++ from_sections f) ∙ sym split)
 
-begun : (row : Record) (bytes : List ℕ) (next : Option ℕ) → IsWholeRecord mode.Begin row bytes next → 1 ≤ length bytes
+pub begun : (row : Record) (bytes : List ℕ) (next : Option ℕ) → IsWholeRecord mode.Begin row bytes next → 1 ≤ length bytes
 begun row bytes next is = let e = ap length is.5 ∙ length-append is.1 is.2 in let one = ap length is.3 in omega arith
 
 -- ---- the front says the module

@@ -160,7 +160,7 @@ slice_from reads_debug front b0 l begin descriptor offs w0 w1 w2 w3 w4 w5 w6 w7 
       f = f; end = last.piece;
       bytes = ap front_bytes whole ∙ bytes-append b0 l ∙ (λ i. sym h.bytes i ++ d0 i);
       header = subst (λ (k : List ℕ). AreOfModes header_modes header k) d0 h.modes;
-      stand = subst (λ (ws : List ℕ). StandAt ws n0 (parts_of f)) (sym values) (here_or_none w0 n0 b0 o0 (f.extension) e0 refl c0.stands, (here_or_none w1 (n0 + length (f.extension)) (b0 ++ o0) o1 (f.environment) e1 refl c1.stands, (here_or_none w2 ((n0 + length (f.extension)) + length (f.environment)) ((b0 ++ o0) ++ o1) o2 (bytes_of f.sections) e2 c2.is_read.bytes c2.stands, (here_or_none w3 (((n0 + length (f.extension)) + length (f.environment)) + length (bytes_of f.sections)) (((b0 ++ o0) ++ o1) ++ o2) o3 (bytes_of f.externals) e3 c3.is_read.bytes c3.stands, (here_or_none w4 ((((n0 + length (f.extension)) + length (f.environment)) + length (bytes_of f.sections)) + length (bytes_of f.externals)) ((((b0 ++ o0) ++ o1) ++ o2) ++ o3) o4 (f.skipped) e4 refl c4.stands, (here_or_none w5 (((((n0 + length (f.extension)) + length (f.environment)) + length (bytes_of f.sections)) + length (bytes_of f.externals)) + length (f.skipped)) (((((b0 ++ o0) ++ o1) ++ o2) ++ o3) ++ o4) o5 (bytes_of f.loads) e5 c5.is_read.bytes c5.stands, (here_or_none w6 ((((((n0 + length (f.extension)) + length (f.environment)) + length (bytes_of f.sections)) + length (bytes_of f.externals)) + length (f.skipped)) + length (bytes_of f.loads)) ((((((b0 ++ o0) ++ o1) ++ o2) ++ o3) ++ o4) ++ o5) o6 (bytes_of f.trailer) e6 c6.is_read.bytes c6.stands, one_head w7 (size_of (((((((b0 ++ o0) ++ o1) ++ o2) ++ o3) ++ o4) ++ o5) ++ o6)) last.offset ∙ e7)))))));
+      stand = subst (λ (ws : List ℕ). StandAt ws n0 (parts_of f)) (sym values) (here_or_none w0 n0 b0 o0 (f.extension) e0 refl c0.stands, (here_or_none w1 (n0 + length (f.extension)) (b0 ++ o0) o1 (f.environment) e1 refl c1.stands, (here_or_none w2 ((n0 + length (f.extension)) + length (f.environment)) ((b0 ++ o0) ++ o1) o2 (bytes_of f.sections) e2 c2.is_read.bytes c2.stands, (here_or_none w3 (((n0 + length (f.extension)) + length (f.environment)) + length (bytes_of f.sections)) (((b0 ++ o0) ++ o1) ++ o2) o3 (bytes_of f.externals) e3 c3.is_read.bytes c3.stands, (here_or_none w4 ((((n0 + length (f.extension)) + length (f.environment)) + length (bytes_of f.sections)) + length (bytes_of f.externals)) ((((b0 ++ o0) ++ o1) ++ o2) ++ o3) o4 (f.skipped) e4 refl c4.stands, (here_or_none w5 (((((n0 + length (f.extension)) + length (f.environment)) + length (bytes_of f.sections)) + length (bytes_of f.externals)) + length (f.skipped)) (((((b0 ++ o0) ++ o1) ++ o2) ++ o3) ++ o4) o5 (bytes_of f.loads) e5 c5.is_read.bytes c5.stands, (here_or_none w6 ((((((n0 + length (f.extension)) + length (f.environment)) + length (bytes_of f.sections)) + length (bytes_of f.externals)) + length (f.skipped)) + length (bytes_of f.loads)) ((((((b0 ++ o0) ++ o1) ++ o2) ++ o3) ++ o4) ++ o5) o6 (bytes_of f.trailer) e6 c6.is_read.bytes c6.stands, ap (λ (k : ℕ). k ∷ []) (one_head w7 (size_of (((((((b0 ++ o0) ++ o1) ++ o2) ++ o3) ++ o4) ++ o5) ++ o6)) last.offset ∙ e7))))))));
       sections = subst (λ (k : List ℕ). AreWhole false f.sections k) d3 c2.is_read.are_whole;
       externals = subst (λ (k : List ℕ). AreWhole false f.externals k) d4 c3.is_read.are_whole;
       loads = subst (λ (k : List ℕ). AreWhole false f.loads k) t c5.is_read.are_whole;

@@ -1,5 +1,6 @@
 pub mod EndedWalk
 pub mod EndedRows
+pub mod SpelledBegin
 pub mod EndedHeader
 pub mod EndedParts
 pub mod EndedChunks
@@ -12,3 +13,5 @@ pub mod EndedTrees
 pub mod EndedGood
 pub mod EndedEntries
 pub mod EndedLoads
+pub mod SpelledWalk
+pub mod SpelledHeader
