@@ -26,7 +26,7 @@ all_last : {X : Type 0} (P : X → Type 0) (xs : List X) (x : X) → AllByRecurs
 all_last P [] x h = h.0
 all_last P (y ∷ xs) x h = all_last P xs x h.1
 
-not_zero : (v : ℕ) → (suc v == 0) ≡ false
+pub not_zero : (v : ℕ) → (suc v == 0) ≡ false
 not_zero v = ne_eqb (suc v) 0 (λ h. omega arith)
 
 none_above : (w : ℕ) (earlier : List ℕ) → list_any (λ e. nat_lt w e) earlier ≡ false → AllByRecursion (λ e. e ≤ w) earlier
@@ -134,7 +134,7 @@ the_end reads_debug all earlier offsets before (step ∷ steps) begun =
 -- ---- a part that is there
 
 -- the test by which a place lies in a part
-is_within : (w at to : ℕ) → (w ≡ 0 → ⊥) → w ≤ at → at < to → (not (w == 0) && (nat_le w at && nat_lt at to)) ≡ true
+pub is_within : (w at to : ℕ) → (w ≡ 0 → ⊥) → w ≤ at → at < to → (not (w == 0) && (nat_le w at && nat_lt at to)) ≡ true
 is_within w at to some low high =
     let a = ne_eqb w 0 some in
     let b = le-leb w at low in
@@ -147,7 +147,7 @@ is_within w at to some low high =
     all_three false false c x y z = cc
     all_three false true false x y z = cc
 
-is_behind : (w at to : ℕ) → to ≤ at → (not (w == 0) && (nat_le w at && nat_lt at to)) ≡ false
+pub is_behind : (w at to : ℕ) → to ≤ at → (not (w == 0) && (nat_le w at && nat_lt at to)) ≡ false
 is_behind w at to high = last_false (not (w == 0)) (nat_le w at) (nat_lt at to) (le-ltb at to high) where
   last_false : (x y z : Bool) → z ≡ false → (x && (y && z)) ≡ false
   last_false true true z h = h
@@ -155,7 +155,7 @@ is_behind w at to high = last_false (not (w == 0)) (nat_le w at) (nat_lt at to) 
   last_false false y z h = refl
 
 -- the fault of a part that ends where a front does, and is not empty
-whole_of : (part : Part) (from to : ℕ) (all : List ℕ) (front : List Step) → AllInside part from to all → offsets_of front ≡ all → size_of front ≡ to → from < to → ended_part_fault front ≡ None → whole_fault part front ≡ None
+pub whole_of : (part : Part) (from to : ℕ) (all : List ℕ) (front : List Step) → AllInside part from to all → offsets_of front ≡ all → size_of front ≡ to → from < to → ended_part_fault front ≡ None → whole_fault part front ≡ None
 whole_of part from to all front within offsets size some h =
     let place : part_at front (size_of front - 1) ≡ Some (record { part = part; from = from; to = to }) =
         ap (λ ws. part_among parts_in_order ws (size_of front - 1)) offsets ∙ within (size_of front - 1) (omega arith) (omega arith) in

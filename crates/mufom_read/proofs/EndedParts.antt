@@ -140,7 +140,7 @@ at_its_end reads_debug part from to all items before steps ready here =
 abbrev pub AllInside : Part → ℕ → ℕ → List ℕ → Type 0
 AllInside part from to all = (at : ℕ) → from ≤ at → at < to → part_among parts_in_order all at ≡ Some (record { part = part; from = from; to = to })
 
-place_inside : (part : Part) (from to : ℕ) (all : List ℕ) (before : List Step) → AllInside part from to all → 10 ≤ length before → offsets_of before ≡ all → from ≤ size_of before → size_of before < to
+pub place_inside : (part : Part) (from to : ℕ) (all : List ℕ) (before : List Step) → AllInside part from to all → 10 ≤ length before → offsets_of before ≡ all → from ≤ size_of before → size_of before < to
     → place_behind before ≡ in_part (record { part = part; from = from; to = to })
 place_inside part from to all before inside many offsets begun below =
     behind_header before many ∙ ap (λ ws. place_by (part_among parts_in_order ws (size_of before))) offsets ∙ ap place_by (inside (size_of before) begun below)
@@ -164,7 +164,7 @@ may_by true true c items may h = may refl
 may_by true false c items may h = cc
 may_by false b c items may h = cc
 
-abbrev extent : Part → ℕ → ℕ → Extent
+abbrev pub extent : Part → ℕ → ℕ → Extent
 extent part from to = record { part = part; from = from; to = to }
 
 -- a byte that is not read

@@ -15,3 +15,4 @@ pub mod EndedEntries
 pub mod EndedLoads
 pub mod SpelledWalk
 pub mod SpelledHeader
+pub mod SpelledParts

@@ -1,5 +1,5 @@
 -- With which bytes records and items begin.
-use Rattle.std.proofs.Common.{◌≡◌, ℕ, ◌+◌, ◌<◌, ◌≤◌, Bool, true, false, cond, ◌==◌, ◌&&◌, ◌||◌, nat_le, List, [], ◌∷◌, ◌++◌, Option, Some, None, refl, sym, ap, subst, ◌∙◌, arith, eqb-true}
+use Rattle.std.proofs.Common.{◌≡◌, ℕ, ◌+◌, ◌<◌, ◌≤◌, Bool, true, false, cond, ◌==◌, ◌&&◌, ◌||◌, nat_le, List, [], ◌∷◌, ◌++◌, length, Option, Some, None, refl, sym, ap, subst, ◌∙◌, arith, eqb-true}
 use Rattle.std.proofs.lemmas.Bool.{both_ways, or_left, or_right, or_from}
 use Rattle.mufom_expr.specs.TokenAt.{begins_number}
 use Rattle.mufom_numbers.specs.declared.reason.Reason.TheVariants as why
@@ -90,3 +90,21 @@ items_begin row bytes next (None, front, back, first, (n, count, rest, spelled, 
     ap begins_item (split ∙ (λ i. first.0 i ++ parts i)) ∙ number_begins n count rest (number_first n count spelled.0)
 items_begin row bytes next (Some b, front, back, first, others, split) =
     ap begins_item (split ∙ ap (λ l. l ++ back) first.0) ∙ or_right (begins_number b) _ first.1
+
+-- ---- no record is empty
+
+body_some : (row : Record) (bytes : List ℕ) (next : Option ℕ) → Layouts.IsWholeRecord mode.Body row bytes next → 1 ≤ length bytes
+body_some row bytes next (b, front, back, first, others, split) = let e = ap length (split ∙ ap (λ l. l ++ back) first) in omega arith
+
+item_some : (bytes : List ℕ) → begins_item bytes ≡ true → 1 ≤ length bytes
+item_some [] h = cc
+item_some (b ∷ bytes) h = omega arith
+
+pub record_some : (test : Bool) (row : Record) (bytes : List ℕ) (next : Option ℕ) → Layouts.IsWholeRecord (cond test mode.Items mode.Body) row bytes next → 1 ≤ length bytes
+record_some true row bytes next is = item_some bytes (items_begin row bytes next is)
+record_some false row bytes next is = body_some row bytes next is
+
+-- bytes behind a record do not change what it begins with
+pub begins_grown : (bytes rest : List ℕ) → 1 ≤ length bytes → begins_item (bytes ++ rest) ≡ begins_item bytes
+begins_grown [] rest some = absurd (omega arith)
+begins_grown (b ∷ bytes) rest some = refl
