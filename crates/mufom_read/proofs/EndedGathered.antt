@@ -33,10 +33,10 @@ unplaced part None h = refl
 unplaced part (Some it) h = cc
 
 -- a question that only records of a part answer
-abbrev IsAskedOf : {X : Type 0} → Part → (Piece → Option X) → Type 0
+abbrev pub IsAskedOf : {X : Type 0} → Part → (Piece → Option X) → Type 0
 IsAskedOf part ask = (p : Piece) → stands_in part p.row ≡ false → ask p ≡ None
 
-not_asked : {X : Type 0} (part other : Part) (ask : Piece → Option X) → IsAskedOf part ask → (number_of part == number_of other) ≡ false → (pieces : List Piece)
+pub not_asked : {X : Type 0} (part other : Part) (ask : Piece → Option X) → IsAskedOf part ask → (number_of part == number_of other) ≡ false → (pieces : List Piece)
     → list_all (λ p. stands_in other p.row) pieces ≡ true → filter_map ask pieces ≡ []
 not_asked part other ask only differ [] h = refl
 not_asked part other ask only differ (p ∷ pieces) h =
@@ -155,11 +155,11 @@ same_sections h s e l t end are =
 
 -- ---- indexes
 
-section_declared : (row : Record) → stands_in section_part row ≡ false → of_kind section (declared_by row) ≡ None
+pub section_declared : (row : Record) → stands_in section_part row ≡ false → of_kind section (declared_by row) ≡ None
 section_declared (r.SectionType i absolute letter name a b c) h = cc
 section_declared row h = refl
 
-public_declared : (row : Record) → stands_in external_part row ≡ false → of_kind public (declared_by row) ≡ None
+pub public_declared : (row : Record) → stands_in external_part row ≡ false → of_kind public (declared_by row) ≡ None
 public_declared (r.PublicName i name) h = cc
 public_declared row h = refl
 

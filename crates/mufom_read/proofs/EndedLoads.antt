@@ -27,13 +27,13 @@ use Rattle.mufom_read.proofs.EndedGood.{IsGoodTree, IsGood, GoodFrom, text_short
 
 -- ---- the current section
 
-behind_one : (before : List Piece) (p : Piece) → current_section (before ++ p ∷ []) ≡ last_or (current_section before) (cons_option (set_by p.row) [])
+pub behind_one : (before : List Piece) (p : Piece) → current_section (before ++ p ∷ []) ≡ last_or (current_section before) (cons_option (set_by p.row) [])
 behind_one before p = ap (last_or None) (filter_map-append (λ q. set_by q.row) before (p ∷ [])) ∙ last_of None (filter_map (λ q. set_by q.row) before) (cons_option (set_by p.row) []) where
   last_of : (o : Option ℕ) (xs ys : List ℕ) → last_or o (xs ++ ys) ≡ last_or (last_or o xs) ys
   last_of o [] ys = refl
   last_of o (x ∷ xs) ys = last_of (Some x) xs ys
 
-same_section : (before : List Piece) (p : Piece) → set_by p.row ≡ None → current_section (before ++ p ∷ []) ≡ current_section before
+pub same_section : (before : List Piece) (p : Piece) → set_by p.row ≡ None → current_section (before ++ p ∷ []) ≡ current_section before
 same_section before p e = behind_one before p ∙ ap (λ o. last_or (current_section before) (cons_option o [])) e
 
 set_next : (o : Option ℕ) (row : Record) (pieces : List Piece) → ((n : Option ℕ) → (is_none n ≡ false) ⊎ (list_any (λ q. is_set_section q.row) pieces ≡ true) → is_none (last_or n (filter_map (λ q. set_by q.row) pieces)) ≡ false)
@@ -202,7 +202,7 @@ good_row m ix before p items (r.RepeatRelocate times) e is are =
     (repeated m (placed_section ix (current_section before)) times items (placed_there ix (current_section before) (loads_there before p.row (ap is_loading e) is.placed)) (are refl), tt)
 good_row m ix before p items row e is are = tt
 
-abbrev behind_all : Option ℕ → List Load → Option ℕ
+abbrev pub behind_all : Option ℕ → List Load → Option ℕ
 behind_all current [] = current
 behind_all current (load ∷ loads) = behind_all (current_behind current load) loads
 
@@ -210,7 +210,7 @@ behind_ones : (current : Option ℕ) (items : List Item) → behind_all current 
 behind_ones current [] = refl
 behind_ones current (item ∷ items) = behind_ones current items
 
-behind_row : (ix : Indexes) (p : Piece) (items : List Item) (current : Option ℕ) (row : Record) → behind_all (placed_section ix current) (loads_by ix p items row) ≡ placed_section ix (last_or current (cons_option (set_by row) []))
+pub behind_row : (ix : Indexes) (p : Piece) (items : List Item) (current : Option ℕ) (row : Record) → behind_all (placed_section ix current) (loads_by ix p items row) ≡ placed_section ix (last_or current (cons_option (set_by row) []))
 behind_row ix p items current (r.SetSection i) = refl
 behind_row ix p items current r.Relocate = behind_ones (placed_section ix current) items
 behind_row ix p items current row = refl

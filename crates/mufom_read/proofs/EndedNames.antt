@@ -152,7 +152,7 @@ no_value_here : (i : ℕ) (row : Record) → stands_in section_part row ≡ true
 no_value_here i (r.PublicValue j value) h = cc
 no_value_here i row h = refl
 
-any-cons_option : {X : Type 0} (test : X → Bool) (o : Option X) (rest : List X) → list_any test (cons_option o rest) ≡ (any_of test o || list_any test rest)
+pub any-cons_option : {X : Type 0} (test : X → Bool) (o : Option X) (rest : List X) → list_any test (cons_option o rest) ≡ (any_of test o || list_any test rest)
 any-cons_option test None rest = refl
 any-cons_option test (Some x) rest = refl
 

@@ -36,7 +36,7 @@ abbrev pub KeptFrom : Part → List Piece → List Piece → Type 0
 KeptFrom part before [] = Unit {0}
 KeptFrom part before (p ∷ pieces) = (stands_in part p.row ≡ true) × IsKept before p × KeptFrom part (before ++ p ∷ []) pieces
 
-cond_none : {X : Type 0} (b : Bool) (x : X) (o : Option X) → cond b (Some x) o ≡ None → (b ≡ false) × (o ≡ None)
+pub cond_none : {X : Type 0} (b : Bool) (x : X) (o : Option X) → cond b (Some x) o ≡ None → (b ≡ false) × (o ≡ None)
 cond_none true x o h = absurd cc
 cond_none false x o h = (refl, h)
 

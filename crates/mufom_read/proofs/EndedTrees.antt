@@ -39,7 +39,7 @@ declared_below all kind i h = position_below (declared kind all) i (found_in (λ
 
 -- ---- the variables of a tree with positions
 
-renamed : (rename : Letter → ℕ → Letter × ℕ) (tree : Tree) → variables_of (with_variables rename tree) ≡ map (λ v. rename v.0 v.1) (variables_of tree)
+pub renamed : (rename : Letter → ℕ → Letter × ℕ) (tree : Tree) → variables_of (with_variables rename tree) ≡ map (λ v. rename v.0 v.1) (variables_of tree)
 renamed rename (number n) = refl
 renamed rename (variable letter n) = refl
 renamed rename (one f a) = renamed rename a

@@ -16,3 +16,5 @@ pub mod EndedLoads
 pub mod SpelledWalk
 pub mod SpelledHeader
 pub mod SpelledParts
+pub mod SpelledPlain
+pub mod SpelledEntries
