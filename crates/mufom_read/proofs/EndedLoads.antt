@@ -158,7 +158,7 @@ item_sets_none ix maus p row item h = refl
 front_none : (ix : Indexes) (maus : ℕ) (p : Piece) (pieces : List Piece) → item_by ix maus p p.row ≡ None → items_at_front ix maus (p ∷ pieces) ≡ []
 front_none ix maus p pieces e = rw e refl
 
-front_some : (ix : Indexes) (maus : ℕ) (p : Piece) (pieces : List Piece) (item : Item) → item_by ix maus p p.row ≡ Some item → items_at_front ix maus (p ∷ pieces) ≡ item ∷ items_at_front ix maus pieces
+pub front_some : (ix : Indexes) (maus : ℕ) (p : Piece) (pieces : List Piece) (item : Item) → item_by ix maus p p.row ≡ Some item → items_at_front ix maus (p ∷ pieces) ≡ item ∷ items_at_front ix maus pieces
 front_some ix maus p pieces item e = rw e refl
 
 items_by_answer : (m : Parts) (ix : Indexes) (maus : ℕ) (before : List Piece) (p : Piece) (pieces : List Piece) (o : Option Item) → item_by ix maus p p.row ≡ o

@@ -18,3 +18,4 @@ pub mod SpelledHeader
 pub mod SpelledParts
 pub mod SpelledPlain
 pub mod SpelledEntries
+pub mod SpelledLoads
