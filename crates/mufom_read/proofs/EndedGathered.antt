@@ -24,11 +24,11 @@ use Rattle.mufom_read.proofs.EndedNames.{IsSilent}
 
 -- ---- records of other parts
 
-other_part : (part other : Part) (o : Option Part) → (number_of part == number_of other) ≡ false → is_this_part other o ≡ true → is_this_part part o ≡ false
+pub other_part : (part other : Part) (o : Option Part) → (number_of part == number_of other) ≡ false → is_this_part other o ≡ true → is_this_part part o ≡ false
 other_part part other None differ h = refl
 other_part part other (Some it) differ h = ap (λ n. number_of part == n) (sym (eqb-true (number_of other) (number_of it) h)) ∙ differ
 
-unplaced : (part : Part) (o : Option Part) → is_none o ≡ true → is_this_part part o ≡ false
+pub unplaced : (part : Part) (o : Option Part) → is_none o ≡ true → is_this_part part o ≡ false
 unplaced part None h = refl
 unplaced part (Some it) h = cc
 

@@ -88,7 +88,7 @@ none_set : (header : List Piece) → IsSilent header → list_any (λ q. is_set_
 none_set [] h = refl
 none_set (p ∷ header) h = let both = and_parts (is_none (part_of p.row)) _ h in or_from (is_set_section p.row) _ (sets_none p.row both.0) (none_set header both.1)
 
-set_behind : (header pieces : List Piece) → IsSilent header → list_any (λ q. is_set_section q.row) (header ++ pieces) ≡ list_any (λ q. is_set_section q.row) pieces
+pub set_behind : (header pieces : List Piece) → IsSilent header → list_any (λ q. is_set_section q.row) (header ++ pieces) ≡ list_any (λ q. is_set_section q.row) pieces
 set_behind header pieces h = list_any-append (λ q. is_set_section q.row) header pieces ∙ ap (λ b. b || list_any (λ q. is_set_section q.row) pieces) (none_set header h)
 
 pub follows : (header before : List Piece) (p : Piece) → IsSilent header → IsKept (header ++ before) p → Follows before p
@@ -133,7 +133,7 @@ all_named : (all before externals : List Piece) → KeptFrom external_part befor
 all_named all before [] own given = refl
 all_named all before (p ∷ externals) own given = and_from _ _ (value_named all p own.0 given.0.0) (all_named all (before ++ p ∷ []) externals own.2 given.1)
 
-declares_public : (row : Record) → of_kind public (declared_by row) ≡ public_declared row
+pub declares_public : (row : Record) → of_kind public (declared_by row) ≡ public_declared row
 declares_public (r.PublicName i name) = refl
 declares_public row = refl
 

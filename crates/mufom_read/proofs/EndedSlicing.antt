@@ -66,10 +66,10 @@ file_of begin descriptor offsets o0 o1 o2 o3 o4 o5 o6 = record {
 chain : (own later steps : List Step) (x y : List ℕ) → steps ≡ own ++ later → x ≡ front_bytes own → front_bytes later ≡ y → front_bytes steps ≡ x ++ y
 chain own later steps x y split its behind = ap front_bytes split ∙ bytes-append own later ∙ (λ i. sym its i ++ behind i)
 
-grown : (before own : List Step) (ps qs : List Piece) → pieces_of before ≡ ps → pieces_of own ≡ qs → pieces_of (before ++ own) ≡ ps ++ qs
+pub grown : (before own : List Step) (ps qs : List Piece) → pieces_of before ≡ ps → pieces_of own ≡ qs → pieces_of (before ++ own) ≡ ps ++ qs
 grown before own ps qs a b = pieces-append before own ∙ (λ i. a i ++ b i)
 
-same_pieces : (before own : List Step) (ps : List Piece) → pieces_of before ≡ ps → pieces_of own ≡ [] → pieces_of (before ++ own) ≡ ps
+pub same_pieces : (before own : List Step) (ps : List Piece) → pieces_of before ≡ ps → pieces_of own ≡ [] → pieces_of (before ++ own) ≡ ps
 same_pieces before own ps a b = grown before own ps [] a b ∙ append-nil ps
 
 longer : (before own : List Step) (n : ℕ) (x : List ℕ) → size_of before ≡ n → x ≡ front_bytes own → size_of (before ++ own) ≡ n + length x

@@ -19,3 +19,5 @@ pub mod SpelledParts
 pub mod SpelledPlain
 pub mod SpelledEntries
 pub mod SpelledLoads
+pub mod SpelledKept
+pub mod SpelledOffsets

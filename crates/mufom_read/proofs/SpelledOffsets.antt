@@ -1,0 +1,227 @@
+-- What holds of the offsets of a file, and the header of a module's file as a sound front.
+use Rattle.std.proofs.Common.{◌≡◌, ◌⊎◌, ℕ, zero, suc, ◌+◌, ◌-◌, ◌<◌, ◌≤◌, Bool, true, false, cond, not, ◌==◌, ◌&&◌, ◌||◌, nat_lt, List, [], ◌∷◌, ◌++◌, length, Option, Some, None, MatchBool, is_none, refl, sym, ap, subst, ◌∙◌, inl, inr, arith, append_assoc, append-nil, eqb-true, ne_eqb, length-append}
+use Rattle.std.specs.List.{list_all, list_any, cons_option, AllByRecursion}
+use Rattle.std.proofs.lemmas.Bool.{and_parts, or_from, not-false, not_from_true, not_from_false}
+use Rattle.mufom_records.specs.declared.record.Mode.TheVariants as mode
+use Rattle.mufom_records.specs.declared.record.Record.{Record}
+use Rattle.mufom_records.specs.declared.record.Record.TheVariants as r
+use Rattle.mufom_records.specs.Fields.{first_of}
+use Rattle.mufom_records.specs.Layouts.{IsWholeRecord}
+use Rattle.mufom_module.specs.Pieces.{Piece, bytes_of}
+use Rattle.mufom_module.specs.RecordParts.{part_of}
+use Rattle.mufom_module.specs.Grammar.{FileParts, header_of, parts_of, AreOfModes, header_modes, AreWhole, offset_in, offsets_in, StandAt}
+use Rattle.mufom_read.specs.Fronts.{Step, read, front_bytes, size_of, pieces_of, offsets_of, first_present, is_module_end, is_ended}
+use Rattle.mufom_read.specs.Faults.{is_bad_descriptor, is_out_of_order, is_left_for_later, header_fault, fault_if, ended_part_fault}
+use Rattle.mufom_numbers.specs.declared.reason.Reason.TheVariants as why
+use Rattle.mufom_read.specs.Judging.{IsSoundFrom}
+use Rattle.mufom_read.proofs.EndedRows.{IsBegin, IsDescriptor, begin_row, descriptor_row, offset_row}
+use Rattle.mufom_read.proofs.EndedHeader.{ended-read, offsets-append, modes_from}
+use Rattle.mufom_read.proofs.EndedNames.{IsSilent}
+use Rattle.mufom_read.proofs.EndedSaid.{first_at}
+use Rattle.mufom_read.proofs.SpelledWalk.{steps_of, steps_bytes, steps_pieces, IsStep, sound_step, Beyond, none_ended}
+use Rattle.mufom_read.proofs.SpelledHeader.{header_is_step, AreOrdered, AreNow, IsLeft, IsOn, Standing, offset_walk, left_behind}
+use Rattle.mufom_read.proofs.SpelledParts.{Joint, no_pieces}
+
+-- ---- offsets
+
+pub stand_beyond : (offsets : List ℕ) (at n : ℕ) (parts : List (List ℕ)) → n ≤ at → StandAt offsets at parts → Beyond n offsets
+stand_beyond offsets at n [] low stand = subst (λ (l : List ℕ). Beyond n l) (sym stand) (inr low, tt)
+stand_beyond [] at n (x ∷ parts) low stand = absurd stand
+stand_beyond (w ∷ offsets) at n (x ∷ parts) low stand = (beyond stand.0, stand_beyond offsets (at + length x) n parts (omega arith) stand.1) where
+  beyond : (w ≡ at) ⊎ ((w ≡ 0) × (x ≡ [])) → (w ≡ 0) ⊎ (n ≤ w)
+  beyond (inl here) = inr (omega arith)
+  beyond (inr none) = inl none.0
+
+pub stand_count : (offsets : List ℕ) (at : ℕ) (parts : List (List ℕ)) → StandAt offsets at parts → length offsets ≡ suc (length parts)
+stand_count offsets at [] stand = ap length stand
+stand_count [] at (x ∷ parts) stand = absurd stand
+stand_count (w ∷ offsets) at (x ∷ parts) stand = ap suc (stand_count offsets (at + length x) parts stand.1)
+
+none_below : (earlier : List ℕ) (w : ℕ) → AllByRecursion (λ e. e ≤ w) earlier → list_any (λ e. nat_lt w e) earlier ≡ false
+none_below [] w all = refl
+none_below (e ∷ earlier) w all = or_from _ _ (not_above w e all.0) (none_below earlier w all.1) where
+  not_above : (a b : ℕ) → b ≤ a → nat_lt a b ≡ false
+  not_above a b h = grind arith
+
+rises : (earlier : List ℕ) (at more : ℕ) (w : ℕ) → AllByRecursion (λ e. e ≤ at) earlier → w ≤ at → AllByRecursion (λ e. e ≤ at + more) (earlier ++ w ∷ [])
+rises [] at more w all low = (omega arith, tt)
+rises (e ∷ earlier) at more w all low = (let h = all.0 in omega arith, rises earlier at more w all.1 low)
+
+in_order_here : (earlier : List ℕ) (w at : ℕ) → w ≡ at → 1 ≤ at → AllByRecursion (λ e. e ≤ at) earlier → is_out_of_order earlier w ≡ false
+in_order_here earlier w at here some all =
+    let none : list_any (λ e. nat_lt w e) earlier ≡ false = ap (λ (k : ℕ). list_any (λ e. nat_lt k e) earlier) here ∙ none_below earlier at all in
+    let present : (w == 0) ≡ false = ne_eqb w 0 (λ h. omega arith) in
+    or_from _ _ (ap (λ b. not (w == 0) && b) none ∙ off (not (w == 0))) (ap (λ b. (length earlier == 7) && b) present ∙ off (length earlier == 7))
+  where
+    off : (a : Bool) → (a && false) ≡ false
+    off true = refl
+    off false = refl
+
+in_order_none : (earlier : List ℕ) (w : ℕ) → w ≡ 0 → (length earlier ≡ 7 → ⊥) → is_out_of_order earlier w ≡ false
+in_order_none earlier w none few =
+    ap (λ (k : ℕ). is_out_of_order earlier k) none ∙ ap (λ b. (false && list_any (λ e. nat_lt 0 e) earlier) || (b && true)) (ne_eqb (length earlier) 7 few)
+
+pub stand_ordered : (offsets : List ℕ) (earlier : List ℕ) (at : ℕ) (parts : List (List ℕ)) → 1 ≤ at → AllByRecursion (λ e. e ≤ at) earlier → length earlier + length offsets ≡ 8 → StandAt offsets at parts → AreOrdered earlier offsets
+stand_ordered offsets earlier at [] some all eight stand = subst (λ (l : List ℕ). AreOrdered earlier l) (sym stand) (in_order_here earlier at at refl some all, tt)
+stand_ordered [] earlier at (x ∷ parts) some all eight stand = absurd stand
+stand_ordered (w ∷ offsets) earlier at (x ∷ parts) some all eight stand =
+    let count = stand_count offsets (at + length x) parts stand.1 in
+    (first stand.0 count, stand_ordered offsets (earlier ++ w ∷ []) (at + length x) parts (omega arith) (rises earlier at (length x) w all (low stand.0)) (omega (arith, length-append earlier (w ∷ []), eight)) stand.1)
+  where
+    first : (w ≡ at) ⊎ ((w ≡ 0) × (x ≡ [])) → length offsets ≡ suc (length parts) → is_out_of_order earlier w ≡ false
+    first (inl here) count = in_order_here earlier w at here some all
+    first (inr none) count = in_order_none earlier w none.0 (λ h. omega arith)
+    low : (w ≡ at) ⊎ ((w ≡ 0) × (x ≡ [])) → w ≤ at
+    low (inl here) = omega arith
+    low (inr none) = omega (arith, none.0)
+
+-- ---- no debug records
+
+absent : (w at : ℕ) (bytes : List ℕ) → 1 ≤ at → not (w == 0) ≡ false → (w ≡ at) ⊎ ((w ≡ 0) × (bytes ≡ [])) → bytes ≡ []
+absent w at bytes some now (inl here) = absurd (let none = eqb-true w 0 (not-false (w == 0) now) in omega arith)
+absent w at bytes some now (inr none) = none.1
+
+-- no debug part is left for later
+pub debug_none : (reads_debug : Bool) (f : FileParts) (offsets : List ℕ) (n : ℕ) (behind : List ℕ) → 1 ≤ n → AreNow reads_debug [] offsets → StandAt offsets n (parts_of f) → MatchBool reads_debug (f.skipped ≡ []) (f.debug ≡ []) → AreWhole false f.debug behind → f.debug ≡ []
+debug_none false f offsets n behind some now stand is are = is
+debug_none true f [] n behind some now stand is are = absurd stand
+debug_none true f (w0 ∷ []) n behind some now stand is are = absurd stand.1
+debug_none true f (w0 ∷ w1 ∷ []) n behind some now stand is are = absurd stand.1.1
+debug_none true f (w0 ∷ w1 ∷ w2 ∷ []) n behind some now stand is are = absurd stand.1.1.1
+debug_none true f (w0 ∷ w1 ∷ w2 ∷ w3 ∷ []) n behind some now stand is are = absurd stand.1.1.1.1
+debug_none true f (w0 ∷ w1 ∷ w2 ∷ w3 ∷ w4 ∷ offsets) n behind some now stand is are =
+    let none = absent w4 _ (bytes_of f.debug ++ f.skipped) (omega arith) now.1.1.1.1.0 stand.1.1.1.1.0 in
+    let count = ap length none in
+    no_pieces false f.debug behind are (omega (arith, count, length-append (bytes_of f.debug) f.skipped))
+
+-- ---- records of the header
+
+offsets_silent : (n k : ℕ) (pieces : List Piece) (behind : List ℕ) → AreOfModes (modes_from k n) pieces behind → IsSilent pieces
+offsets_silent zero k [] behind are = refl
+offsets_silent zero k (p ∷ pieces) behind are = absurd are
+offsets_silent (suc n) k [] behind are = absurd are
+offsets_silent (suc n) k (p ∷ pieces) behind are =
+    let row = offset_row k p.row p.bytes (first_of (bytes_of pieces ++ behind) None) are.0 in
+    (λ i. is_none (part_of (row.1 i)) && offsets_silent n (suc k) pieces behind are.1 i)
+
+offsets_many : (n k : ℕ) (pieces : List Piece) (behind : List ℕ) → AreOfModes (modes_from k n) pieces behind → length pieces ≡ n
+offsets_many zero k [] behind are = refl
+offsets_many zero k (p ∷ pieces) behind are = absurd are
+offsets_many (suc n) k [] behind are = absurd are
+offsets_many (suc n) k (p ∷ pieces) behind are = ap suc (offsets_many n (suc k) pieces behind are.1)
+
+steps_many : (at : ℕ) (pieces : List Piece) → length (steps_of at pieces) ≡ length pieces
+steps_many at [] = refl
+steps_many at (p ∷ pieces) = ap suc (steps_many (at + length p.bytes) pieces)
+
+silent_unended : (before : List Step) (at : ℕ) (pieces : List Piece) → IsSilent pieces → is_ended before ≡ false → is_ended (before ++ steps_of at pieces) ≡ false
+silent_unended before at [] quiet open_ = ap (λ l. is_ended l) (append-nil before) ∙ open_
+silent_unended before at (p ∷ pieces) quiet open_ =
+    let both = and_parts (is_none (part_of p.row)) _ quiet in
+    ap (λ l. is_ended l) (sym (append_assoc before (read at p ∷ []) (steps_of (at + length p.bytes) pieces)))
+    ∙ silent_unended (before ++ read at p ∷ []) (at + length p.bytes) pieces both.1 (ended-read before at p ∙ not_end p.row both.0)
+  where
+    not_end : (row : Record) → is_none (part_of row) ≡ true → is_module_end row ≡ false
+    not_end r.ModuleEnd h = cc
+    not_end row h = refl
+
+-- what is known of the records of a header
+pub record HeaderRows (f : FileParts) : Type 0 where
+  pub begins : IsBegin f.begin.row
+  pub describes : IsDescriptor f.descriptor.row
+  pub silent : IsSilent (header_of f)
+  pub many : length (header_of f) ≡ 10
+  pub offsets : offsets_in (header_of f) ≡ offsets_in f.offsets
+
+pub header_rows : (f : FileParts) (behind : List ℕ) → AreOfModes header_modes (header_of f) behind → HeaderRows f
+header_rows f behind are =
+    let begins = begin_row f.begin.row f.begin.bytes (first_of (bytes_of (f.descriptor ∷ f.offsets) ++ behind) None) are.0 in
+    let describes = descriptor_row f.descriptor.row f.descriptor.bytes (first_of (bytes_of f.offsets ++ behind) None) are.1.0 in
+    record {
+      begins = begins;
+      describes = describes;
+      silent = (λ i. is_none (part_of (begins.2 i)) && (is_none (part_of (describes.3 i)) && offsets_silent 8 0 f.offsets behind are.1.1 i));
+      many = ap (λ (n : ℕ). suc (suc n)) (offsets_many 8 0 f.offsets behind are.1.1);
+      offsets = (λ i. cons_option (offset_in (begins.2 i)) (cons_option (offset_in (describes.3 i)) (offsets_in f.offsets)));
+    }
+
+-- ---- the header as a front
+
+-- the header is sound, and no part is left for later
+pub record HeaderSound (reads_debug : Bool) (f : FileParts) (behind : List ℕ) : Type 0 where
+  pub sound : IsSoundFrom reads_debug [] (steps_of 0 (header_of f)) (bytes_of (header_of f) ++ behind)
+  pub now : AreNow reads_debug [] (offsets_in f.offsets)
+
+positive : (row : Record) (bytes : List ℕ) (next : Option ℕ) → IsWholeRecord mode.Begin row bytes next → 1 ≤ length bytes
+positive row bytes next is = let e = ap length is.5 ∙ length-append is.1 is.2 in let one = ap length is.3 in omega arith
+
+header_some : (f : FileParts) (behind : List ℕ) → AreOfModes header_modes (header_of f) behind → 1 ≤ length (bytes_of (header_of f))
+header_some f behind are = let one = positive f.begin.row f.begin.bytes _ are.0 in omega (arith, length-append f.begin.bytes (bytes_of (f.descriptor ∷ f.offsets)))
+
+-- behind the descriptor
+offsets_standing : (f : FileParts) (behind : List ℕ) (before : List Step) → AreOfModes header_modes (header_of f) behind → HeaderRows f → StandAt (offsets_in f.offsets) (length (bytes_of (header_of f))) (parts_of f) → length before ≡ 2 → offsets_of before ≡ [] → is_ended before ≡ false
+    → size_of before ≡ length f.begin.bytes + length f.descriptor.bytes → Standing 0 8 (length (bytes_of (header_of f))) [] (offsets_in f.offsets) before f.offsets
+offsets_standing f behind before are rows stand two none open_ size =
+    let end = length (bytes_of (header_of f)) in
+    let some = header_some f behind are in
+    record {
+      count = two; eight = refl; many = refl; here = none; unended = open_;
+      ordered = stand_ordered (offsets_in f.offsets) [] end (parts_of f) some tt (omega (arith, stand_count (offsets_in f.offsets) end (parts_of f) stand)) stand;
+      passed = tt;
+      beyond = stand_beyond (offsets_in f.offsets) end end (parts_of f) (omega arith) stand;
+      size = omega (arith, size, length-append f.begin.bytes (bytes_of (f.descriptor ∷ f.offsets)), length-append f.descriptor.bytes (bytes_of f.offsets));
+      some = some;
+      first = first_at (offsets_in f.offsets) end (parts_of f) some stand;
+    }
+
+pub header_front : (reads_debug : Bool) (f : FileParts) (behind : List ℕ) → AreOfModes header_modes (header_of f) behind → HeaderRows f → is_bad_descriptor f.descriptor.row ≡ false → StandAt (offsets_in f.offsets) (length (bytes_of (header_of f))) (parts_of f)
+    → IsLeft reads_debug [] (bytes_of (header_of f) ++ behind) ⊎ HeaderSound reads_debug f behind
+header_front reads_debug f behind are rows good stand =
+    let a = read 0 f.begin in
+    let n = length f.begin.bytes in
+    let b = read (0 + n) f.descriptor in
+    let later = bytes_of f.offsets ++ behind in
+    let rest = f.descriptor.bytes ++ later in
+    let split_rest : bytes_of (f.descriptor ∷ f.offsets) ++ behind ≡ rest = append_assoc f.descriptor.bytes (bytes_of f.offsets) behind in
+    let split : bytes_of (header_of f) ++ behind ≡ f.begin.bytes ++ rest = append_assoc f.begin.bytes (bytes_of (f.descriptor ∷ f.offsets)) behind ∙ ap (λ l. f.begin.bytes ++ l) split_rest in
+    let first : IsStep reads_debug [] a rest = header_is_step reads_debug 0 [] f.begin rest refl (omega arith) refl refl
+        (subst (λ (l : List ℕ). IsWholeRecord mode.Begin f.begin.row f.begin.bytes (first_of l None)) split_rest are.0)
+        (ap (λ (row : Record). header_fault reads_debug [] 0 (0 + n) row) rows.begins.2) in
+    let none : offsets_of (a ∷ []) ≡ [] = ap (λ (row : Record). offsets_in (record { row = row; bytes = f.begin.bytes } ∷ [])) rows.begins.2 in
+    let size : size_of (a ∷ []) ≡ 0 + n = ap length (append-nil f.begin.bytes) ∙ omega arith in
+    let second : IsStep reads_debug (a ∷ []) b later = subst (λ (k : ℕ). IsStep reads_debug (a ∷ []) (read k f.descriptor) later) size
+        (header_is_step reads_debug 1 (a ∷ []) f.descriptor later refl (omega arith) (ap is_module_end rows.begins.2)
+            (none_ended (a ∷ []) (suc n) (subst (λ (l : List ℕ). Beyond (suc n) l) (sym none) tt) (omega (arith, size)) (omega arith)) are.1.0
+            ((λ i. header_fault reads_debug (none i) (size_of (a ∷ [])) (size_of (a ∷ []) + length f.descriptor.bytes) (rows.describes.3 i))
+            ∙ ap (λ t. fault_if t (size_of (a ∷ [])) why.BadDescriptor) (sym (ap is_bad_descriptor rows.describes.3) ∙ good))) in
+    let front = a ∷ b ∷ [] in
+    let two_size : size_of front ≡ 0 + n + length f.descriptor.bytes = ap (λ (l : List ℕ). length (f.begin.bytes ++ l)) (append-nil f.descriptor.bytes) ∙ length-append f.begin.bytes f.descriptor.bytes ∙ omega arith in
+    let none_two : offsets_of front ≡ [] = offsets-append (a ∷ []) (b ∷ []) ∙ (λ i. none i ++ offsets_in (record { row = rows.describes.3 i; bytes = f.descriptor.bytes } ∷ [])) in
+    let standing = offsets_standing f behind front are rows stand refl none_two (ap is_module_end rows.describes.3) (two_size ∙ omega arith) in
+    elim (offset_walk 8 0 reads_debug (length (bytes_of (header_of f))) [] (offsets_in f.offsets) front f.offsets behind standing are.1.1 refl) [
+      | inl left ↦ inl (subst (λ (l : List ℕ). IsLeft reads_debug [] l) (sym split) (left_behind reads_debug [] a rest first (left_behind reads_debug (a ∷ []) b later second left)))
+      | inr on ↦ inr (record {
+          sound = subst (λ (l : List ℕ). IsSoundFrom reads_debug [] (steps_of 0 (header_of f)) l) (sym split)
+              (sound_step reads_debug [] a (b ∷ steps_of (0 + n + length f.descriptor.bytes) f.offsets) rest first
+              (sound_step reads_debug (a ∷ []) b (steps_of (0 + n + length f.descriptor.bytes) f.offsets) later second
+              (subst (λ (k : ℕ). IsSoundFrom reads_debug front (steps_of k f.offsets) later) two_size on.sound)));
+          now = on.now;
+        })
+    ]
+
+-- behind the header the parts begin
+pub header_joint : (f : FileParts) (behind : List ℕ) → AreOfModes header_modes (header_of f) behind → HeaderRows f → StandAt (offsets_in f.offsets) (length (bytes_of (header_of f))) (parts_of f) → Joint (offsets_in f.offsets) (steps_of 0 (header_of f))
+header_joint f behind are rows stand =
+    let front = steps_of 0 (header_of f) in
+    let end = length (bytes_of (header_of f)) in
+    let offsets : offsets_of front ≡ offsets_in f.offsets = ap offsets_in (steps_pieces 0 (header_of f)) ∙ rows.offsets in
+    let size : size_of front ≡ end = ap length (steps_bytes 0 (header_of f)) in
+    record {
+      many = omega (arith, steps_many 0 (header_of f), rows.many);
+      offsets = offsets;
+      unended = silent_unended [] 0 (header_of f) rows.silent refl;
+      whole = none_ended front end (subst (λ (l : List ℕ). Beyond end l) (sym offsets) (stand_beyond (offsets_in f.offsets) end end (parts_of f) (omega arith) stand)) (omega arith) (header_some f behind are);
+    }
+
+pub header_size : (f : FileParts) (behind : List ℕ) → AreOfModes header_modes (header_of f) behind → (size_of (steps_of 0 (header_of f)) ≡ length (bytes_of (header_of f))) × (1 ≤ length (bytes_of (header_of f)))
+header_size f behind are = (ap length (steps_bytes 0 (header_of f)), header_some f behind are)
