@@ -163,7 +163,7 @@ pub public_declared : (row : Record) → stands_in external_part row ≡ false �
 public_declared (r.PublicName i name) h = cc
 public_declared row h = refl
 
-reference_declared : (row : Record) → stands_in external_part row ≡ false → of_kind reference (declared_by row) ≡ None
+pub reference_declared : (row : Record) → stands_in external_part row ≡ false → of_kind reference (declared_by row) ≡ None
 reference_declared (r.ReferenceName i name) h = cc
 reference_declared row h = refl
 

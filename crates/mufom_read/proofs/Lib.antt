@@ -21,3 +21,5 @@ pub mod SpelledEntries
 pub mod SpelledLoads
 pub mod SpelledKept
 pub mod SpelledOffsets
+pub mod SpelledFile
+pub mod SpelledFront
