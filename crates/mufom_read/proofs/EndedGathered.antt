@@ -33,17 +33,17 @@ unplaced part None h = refl
 unplaced part (Some it) h = cc
 
 -- a question that only records of a part answer
-abbrev IsAskedOf : {X : Type 0} → Part → (Piece → Option X) → Type 0
+abbrev pub IsAskedOf : {X : Type 0} → Part → (Piece → Option X) → Type 0
 IsAskedOf part ask = (p : Piece) → stands_in part p.row ≡ false → ask p ≡ None
 
-not_asked : {X : Type 0} (part other : Part) (ask : Piece → Option X) → IsAskedOf part ask → (number_of part == number_of other) ≡ false → (pieces : List Piece)
+pub not_asked : {X : Type 0} (part other : Part) (ask : Piece → Option X) → IsAskedOf part ask → (number_of part == number_of other) ≡ false → (pieces : List Piece)
     → list_all (λ p. stands_in other p.row) pieces ≡ true → filter_map ask pieces ≡ []
 not_asked part other ask only differ [] h = refl
 not_asked part other ask only differ (p ∷ pieces) h =
     let both = and_parts (stands_in other p.row) _ h in
     (λ i. cons_option (only p (other_part part other (part_of p.row) differ both.0) i) (not_asked part other ask only differ pieces both.1 i))
 
-not_silent : {X : Type 0} (part : Part) (ask : Piece → Option X) → IsAskedOf part ask → (pieces : List Piece) → IsSilent pieces → filter_map ask pieces ≡ []
+pub not_silent : {X : Type 0} (part : Part) (ask : Piece → Option X) → IsAskedOf part ask → (pieces : List Piece) → IsSilent pieces → filter_map ask pieces ≡ []
 not_silent part ask only [] h = refl
 not_silent part ask only (p ∷ pieces) h =
     let both = and_parts (is_none (part_of p.row)) _ h in
@@ -73,7 +73,7 @@ gathered ask h s e l t end =
     ∙ ap (λ k. k ++ filter_map ask l) (filter_map-append ask (h ++ s) e
     ∙ ap (λ k. k ++ filter_map ask e) (filter_map-append ask h s))))
 
-end_alone : (end : Piece) → stands_in end_part end.row ≡ true → list_all (λ p. stands_in end_part p.row) (end ∷ []) ≡ true
+pub end_alone : (end : Piece) → stands_in end_part end.row ≡ true → list_all (λ p. stands_in end_part p.row) (end ∷ []) ≡ true
 end_alone end h = ap (λ b. b && true) h
 
 pub only_sections : {X : Type 0} (ask : Piece → Option X) → IsAskedOf section_part ask → (h s e l t : List Piece) (end : Piece) → AreSorted h s e l t end → filter_map ask (all_pieces h s e l t end) ≡ filter_map ask s

@@ -12,3 +12,4 @@ pub mod EndedTrees
 pub mod EndedGood
 pub mod EndedEntries
 pub mod EndedLoads
+pub mod EndedFront
