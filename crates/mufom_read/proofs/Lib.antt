@@ -13,3 +13,5 @@ pub mod EndedGood
 pub mod EndedEntries
 pub mod EndedLoads
 pub mod EndedFront
+pub mod FrontsOne
+pub mod StayLaws
