@@ -15,3 +15,4 @@ pub mod EndedLoads
 pub mod EndedFront
 pub mod FrontsOne
 pub mod StayLaws
+pub mod FrontJudged
