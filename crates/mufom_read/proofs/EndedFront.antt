@@ -1,29 +1,25 @@
 -- A sound front that ends, and that is the whole stream, is a module's file.
-use Rattle.std.proofs.Common.{◌≡◌, ◌⊎◌, ℕ, ◌+◌, ◌*◌, ◌^◌, ◌<◌, ◌≤◌, Bool, true, false, cond, not, ◌==◌, ◌&&◌, ◌||◌, nat_lt, nat_le, List, [], ◌∷◌, ◌++◌, length, slice_get, Option, Some, None, refl, sym, ap, subst, ◌∙◌, arith, append_assoc, append-nil, filter_map}
-use Rattle.std.specs.List.{list_any, find, last_or, AllByRecursion}
+use Rattle.std.proofs.Common.{◌≡◌, ℕ, ◌*◌, ◌^◌, ◌<◌, ◌≤◌, Bool, true, false, cond, nat_le, List, [], ◌∷◌, ◌++◌, length, Option, Some, None, refl, sym, ap, subst, ◌∙◌, arith, append_assoc, filter_map}
+use Rattle.std.specs.List.{last_or, AllByRecursion}
 use Rattle.std.proofs.lemmas.Bool.{or_from, not_from_true}
 use Rattle.std.proofs.lemmas.List.Elements.{filter_map-append}
 use Rattle.mufom_numbers.specs.Spelling.{AreBytes}
 use Rattle.mufom_expr.specs.Spelled.{Indexes}
 use Rattle.mufom_records.specs.declared.record.Record.{Record}
 use Rattle.mufom_records.specs.declared.record.Record.TheVariants as r
-use Rattle.mufom_sections.specs.declared.section.Section.{Section}
-use Rattle.mufom_names.specs.declared.name.Public.{Public}
-use Rattle.mufom_names.specs.declared.name.Reference.{Reference}
 use Rattle.mufom_module.specs.declared.module.Parts.{Parts}
 use Rattle.mufom_module.specs.declared.module.Defect.{Defect}
 use Rattle.mufom_module.specs.declared.module.Defect.TheVariants as defect
-use Rattle.mufom_module.specs.Contents.{any_of, placed_from}
+use Rattle.mufom_module.specs.Contents.{any_of}
 use Rattle.mufom_module.specs.Defects as d
 use Rattle.mufom_module.specs.Written.{weight}
 use Rattle.mufom_module.specs.Pieces.{Piece}
 use Rattle.mufom_module.specs.RecordParts.{Part, section_part, external_part, data_part, trailer_part, stands_in}
-use Rattle.mufom_module.specs.Gathered.{starts_of}
-use Rattle.mufom_module.specs.Grammar.{FileParts, header_of, from_externals, from_debug, from_trailer, module_end, file_limit, IsCutInto, HasNames, indexes_of, SpellsModule}
-use Rattle.mufom_read.specs.Fronts.{Step, front_bytes, size_of, pieces_of, is_ended}
+use Rattle.mufom_module.specs.Grammar.{header_of, from_externals, from_debug, from_trailer, module_end, file_limit, IsCutInto, indexes_of}
+use Rattle.mufom_read.specs.Fronts.{Step, pieces_of}
 use Rattle.mufom_read.specs.Faults.{has_bad_alignment, is_bad_descriptor, set_by, current_section}
-use Rattle.mufom_read.specs.Judging.{IsSoundFrom, IsSoundFront}
-use Rattle.mufom_read.specs.Said.{indexes_in, IsSaidBy}
+use Rattle.mufom_read.specs.Judging.{IsSoundFrom}
+use Rattle.mufom_read.specs.Said.{indexes_in}
 use Rattle.mufom_read.specs.Laws.{FilesWeighTenfold, EndedFrontIsModule}
 use Rattle.mufom_read.proofs.EndedWalk.{all_bytes, walk_of}
 use Rattle.mufom_read.proofs.EndedRows.{IsShort}
@@ -34,7 +30,7 @@ use Rattle.mufom_read.proofs.EndedNames.{cut_into, has_names}
 use Rattle.mufom_read.proofs.EndedGathered.{IsAskedOf, not_asked, not_silent}
 use Rattle.mufom_read.proofs.EndedSaid.{said_by, units_of, says, sorted, same_ix, is_said}
 use Rattle.mufom_read.proofs.EndedTrees.{AreCounts, placed_section}
-use Rattle.mufom_read.proofs.EndedGood.{GoodFrom, all_short, good_from, text_short}
+use Rattle.mufom_read.proofs.EndedGood.{all_short, good_from, text_short}
 use Rattle.mufom_read.proofs.EndedEntries.{sections_counted, publics_counted, references_counted, sections_short, sections_aligned, sections_based, publics_short, references_short, HasGoodValue, good_values, publics_inside, publics_counter}
 use Rattle.mufom_read.proofs.EndedLoads.{AreGoodLoads, no_place, no_counter, none_nowhere, none_long, none_sized, good_loads, start_good}
 

@@ -1,24 +1,16 @@
 -- What is gathered from all records of a file is what is gathered from those of one part.
-use Rattle.std.proofs.Common.{◌≡◌, ◌⊎◌, ℕ, Bool, true, false, cond, not, ◌==◌, ◌&&◌, ◌||◌, List, [], ◌∷◌, ◌++◌, length, map, slice_get, Option, Some, None, is_none, option_map, unwrap_or, refl, sym, ap, subst, ◌∙◌, append_assoc, append-nil, filter_map, eqb-true}
-use Rattle.std.specs.List.{list_all, list_any, cons_option}
-use Rattle.std.proofs.lemmas.Bool.{and_parts, both_ways}
+use Rattle.std.proofs.Common.{◌≡◌, ℕ, Bool, true, false, not, ◌==◌, ◌&&◌, List, [], ◌∷◌, ◌++◌, slice_get, Option, Some, None, is_none, option_map, unwrap_or, refl, sym, ap, ◌∙◌, append-nil, filter_map, eqb-true}
+use Rattle.std.specs.List.{list_all, cons_option}
+use Rattle.std.proofs.lemmas.Bool.{and_parts}
 use Rattle.std.proofs.lemmas.List.Elements.{filter_map-append}
-use Rattle.mufom_numbers.specs.declared.taken.Span.{Span}
-use Rattle.mufom_expr.specs.Tree.{Tree, number}
+use Rattle.mufom_expr.specs.Tree.{number}
 use Rattle.mufom_expr.specs.Spelled.{Indexes}
 use Rattle.mufom_records.specs.declared.record.Record.{Record}
 use Rattle.mufom_records.specs.declared.record.Record.TheVariants as r
-use Rattle.mufom_sections.specs.declared.section.Section.{Section}
-use Rattle.mufom_names.specs.declared.name.Note.{Note}
-use Rattle.mufom_names.specs.declared.name.Weak.{Weak}
-use Rattle.mufom_names.specs.declared.name.Public.{Public}
-use Rattle.mufom_names.specs.declared.name.Reference.{Reference}
 use Rattle.mufom_loads.specs.declared.load.Item.{Item}
-use Rattle.mufom_loads.specs.declared.load.Load.{Load}
-use Rattle.mufom_debug.specs.Marks.{DebugMark}
-use Rattle.mufom_module.specs.Pieces.{Piece, Kind, section, public, reference, debug_name, text_in, tree_in, positioned, declared_by, of_kind, declared}
+use Rattle.mufom_module.specs.Pieces.{Piece, section, public, reference, debug_name, text_in, positioned, declared_by, of_kind, declared}
 use Rattle.mufom_module.specs.RecordParts.{Part, section_part, external_part, debug_part, data_part, trailer_part, end_part, number_of, part_of, is_this_part, stands_in}
-use Rattle.mufom_module.specs.Gathered.{answers, first_answer, size_for, alignment_for, base_for, purpose_of, section_by, sections_of, public_note_for, reference_note_for, weak_for, value_for, value_of, public_by, publics_of, reference_by, references_of, mark_by, marks, item_by, items_at_front, loads_by, loads_of, start_by, starts_of}
+use Rattle.mufom_module.specs.Gathered.{answers, size_for, alignment_for, base_for, purpose_of, section_by, sections_of, public_note_for, reference_note_for, weak_for, value_for, public_by, publics_of, reference_by, references_of, mark_by, marks, item_by, items_at_front, loads_by, loads_of, start_by, starts_of}
 use Rattle.mufom_read.specs.Said.{indexes_in}
 use Rattle.mufom_read.proofs.EndedNames.{IsSilent}
 

@@ -1,8 +1,8 @@
 -- Each stream has a judgment, and one; the front of a module's file is cut off.
-use Rattle.std.proofs.Common.{◌≡◌, ◌≢◌, ◌⊎◌, ℕ, zero, suc, ◌+◌, ◌<◌, ◌≤◌, min, Bool, true, false, List, [], ◌∷◌, ◌++◌, length, take, drop, Option, Some, None, refl, sym, ap, subst, ◌∙◌, inl, inr, arith, append_assoc, append-nil}
+use Rattle.std.proofs.Common.{◌≡◌, ◌≢◌, ◌⊎◌, ℕ, zero, suc, ◌+◌, ◌≤◌, min, Bool, true, false, List, [], ◌∷◌, ◌++◌, length, take, drop, Option, Some, None, refl, sym, ap, subst, ◌∙◌, inl, inr, arith, append_assoc, append-nil}
 use Rattle.std.specs.Option.{option_or}
-use Rattle.std.proofs.lemmas.Bool.{cases_lt, both_ways}
-use Rattle.std.proofs.lemmas.List.{length-append, length-take, length-take-le, length-drop, take_all, drop-drop}
+use Rattle.std.proofs.lemmas.Bool.{cases_lt}
+use Rattle.std.proofs.lemmas.List.{length-append, length-take, length-take-le, take_all, drop-drop}
 use Rattle.mufom_numbers.specs.declared.reason.Reason.{Reason}
 use Rattle.mufom_numbers.specs.declared.reason.Reason.TheVariants as why
 use Rattle.mufom_numbers.specs.declared.taken.Taken.{Taken}
@@ -17,7 +17,7 @@ use Rattle.mufom_module.specs.declared.module.Parts.{Parts}
 use Rattle.mufom_module.specs.Grammar.{file_limit}
 use Rattle.mufom_read.specs.Fronts.{Step, step_bytes, front_bytes, size_of, Place, in_header, in_part, at_end, place_behind, header_mode, body_mode, next_step, is_ended}
 use Rattle.mufom_read.specs.Faults.{Fault, ended_part_fault, step_fault, fault_after}
-use Rattle.mufom_read.specs.Judging.{IsSoundFrom, IsSoundFront, within_limit, HasFault, EndsAt, IsWaiting, IsRefusedAt, IsTruncated, IsModule, Judgment, module_of, refusal, IsJudged}
+use Rattle.mufom_read.specs.Judging.{IsSoundFrom, IsSoundFront, within_limit, EndsAt, IsWaiting, IsRefusedAt, IsTruncated, IsModule, Judgment, module_of, refusal, IsJudged}
 use Rattle.mufom_read.specs.Laws.{EndedFrontIsModule, ModuleIsEndedFront, JudgmentsExcludeEachOther, HasJudgment, HasOneJudgment, FrontsOfModulesAreCutOff}
 use Rattle.mufom_read.proofs.EndedWalk.{IsRead, IsNextAt, taken, next_at, next_front, size-append, front_first}
 use Rattle.mufom_read.proofs.FrontsOne.{fault_not_ended, refusal_is_single, not_cut}

@@ -1,11 +1,10 @@
 -- Of two sound fronts of a stream one begins with the other, and a stream is refused once.
-use Rattle.std.proofs.Common.{◌≡◌, ◌⊎◌, ℕ, ◌+◌, ◌<◌, ◌≤◌, Bool, true, false, List, [], ◌∷◌, ◌++◌, length, drop, Option, Some, None, refl, sym, ap, subst, ◌∙◌, inl, inr, arith, append_assoc, append-nil}
+use Rattle.std.proofs.Common.{◌≡◌, ◌⊎◌, ℕ, ◌+◌, ◌<◌, ◌≤◌, Bool, true, List, [], ◌∷◌, ◌++◌, length, drop, Option, Some, None, refl, sym, ap, subst, ◌∙◌, inl, inr, arith, append_assoc, append-nil}
 use Rattle.std.proofs.lemmas.Bool.{both_ways}
-use Rattle.std.proofs.lemmas.List.{drop-drop, length-append, append_cancel_left}
+use Rattle.std.proofs.lemmas.List.{drop-drop, length-append}
 use Rattle.mufom_numbers.specs.declared.reason.Reason.{Reason}
 use Rattle.mufom_numbers.specs.declared.taken.Taken.{Taken}
-use Rattle.mufom_numbers.specs.declared.taken.Taken.TheVariants.{Got, More}
-use Rattle.mufom_numbers.specs.Spelling.{AreBytes}
+use Rattle.mufom_numbers.specs.declared.taken.Taken.TheVariants.{More}
 use Rattle.mufom_module.specs.Grammar.{file_limit}
 use Rattle.mufom_read.specs.Fronts.{Step, step_bytes, front_bytes, size_of, next_step, is_ended}
 use Rattle.mufom_read.specs.Faults.{Fault, fault_after}

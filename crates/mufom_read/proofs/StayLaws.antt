@@ -1,9 +1,9 @@
 -- A refusal stays in every longer stream.
-use Rattle.std.proofs.Common.{◌≡◌, ◌⊎◌, ℕ, zero, suc, ◌+◌, ◌-◌, ◌<◌, ◌≤◌, min, Bool, true, false, cond, not, ◌==◌, ◌&&◌, List, [], ◌∷◌, ◌++◌, length, take, drop, Option, Some, None, refl, sym, ap, subst, ◌∙◌, inl, inr, arith, append_assoc, append-nil}
+use Rattle.std.proofs.Common.{◌≡◌, ℕ, zero, suc, ◌-◌, ◌<◌, ◌≤◌, Bool, true, false, cond, not, ◌==◌, ◌&&◌, List, [], ◌∷◌, ◌++◌, length, take, drop, Option, Some, None, refl, sym, ap, subst, ◌∙◌, inl, inr, arith, append-nil}
 use Rattle.std.specs.List.{last_or}
 use Rattle.std.specs.Option.{option_or}
 use Rattle.std.proofs.lemmas.Bool.{cases_lt}
-use Rattle.std.proofs.lemmas.List.{length-append, take-append-le, drop-append-le, take_all, drop_at, length-take}
+use Rattle.std.proofs.lemmas.List.{length-append, take-append-le, drop-append-le, take_all}
 use Rattle.mufom_numbers.specs.declared.reason.Reason.{Reason}
 use Rattle.mufom_numbers.specs.declared.taken.Taken.{Taken}
 use Rattle.mufom_numbers.specs.declared.taken.Taken.TheVariants.{Got, More, Bad}
@@ -15,11 +15,10 @@ use Rattle.mufom_records.specs.Fields.{first_of}
 use Rattle.mufom_records.specs.Layouts.{IsWholeRecord}
 use Rattle.mufom_records.specs.Reading.{record_at}
 use Rattle.mufom_records.proofs.RecordLaws.{record_at-got, record_at-stable}
-use Rattle.mufom_module.specs.Pieces.{Piece}
 use Rattle.mufom_module.specs.Grammar.{file_limit}
-use Rattle.mufom_read.specs.Fronts.{Step, raw, read, step_bytes, front_bytes, size_of, pieces_of, Extent, Place, in_header, in_part, at_end, place_behind, header_mode, is_raw, begins_item, awaits_items, body_mode, as_step, raw_step, step_in, step_at, next_step, is_ended}
+use Rattle.mufom_read.specs.Fronts.{Step, read, step_bytes, front_bytes, size_of, pieces_of, Extent, Place, in_header, in_part, at_end, place_behind, header_mode, is_raw, awaits_items, body_mode, as_step, raw_step, step_in, step_at, next_step}
 use Rattle.mufom_read.specs.Faults.{Fault, ended_part_fault, step_fault, fault_after}
-use Rattle.mufom_read.specs.Judging.{IsSoundFrom, IsSoundFront, within_limit, HasFault, EndsAt, IsWaiting, IsRefusedAt}
+use Rattle.mufom_read.specs.Judging.{IsSoundFrom, IsSoundFront, within_limit, HasFault, EndsAt, IsWaiting}
 use Rattle.mufom_read.specs.Laws.{RefusalStays}
 use Rattle.mufom_read.proofs.EndedWalk.{taken, the_piece, front_first}
 
