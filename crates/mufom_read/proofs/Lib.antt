@@ -19,3 +19,7 @@ pub mod SpelledParts
 pub mod SpelledPlain
 pub mod SpelledEntries
 pub mod SpelledLoads
+pub mod EndedFront
+pub mod FrontsOne
+pub mod StayLaws
+pub mod FrontJudged
