@@ -12,3 +12,5 @@ pub mod EndedTrees
 pub mod EndedGood
 pub mod EndedEntries
 pub mod EndedLoads
+pub mod WeighTrees
+pub mod WeighRecords
