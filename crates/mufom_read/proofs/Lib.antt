@@ -14,3 +14,4 @@ pub mod EndedEntries
 pub mod EndedLoads
 pub mod WeighTrees
 pub mod WeighRecords
+pub mod WeighSums
