@@ -15,3 +15,4 @@ pub mod EndedLoads
 pub mod WeighTrees
 pub mod WeighRecords
 pub mod WeighSums
+pub mod WeighEntries
