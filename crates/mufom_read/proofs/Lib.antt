@@ -16,3 +16,5 @@ pub mod WeighTrees
 pub mod WeighRecords
 pub mod WeighSums
 pub mod WeighEntries
+pub mod WeighNames
+pub mod WeighLoads

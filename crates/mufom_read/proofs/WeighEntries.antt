@@ -1,4 +1,4 @@
--- The sections, publics and references that the records of a part say weigh at most what the records cost.
+-- What a part declares, with what is said of it, weighs at most what its records cost; and so do its sections.
 use Rattle.std.proofs.Common.{◌≡◌, ℕ, zero, suc, ◌+◌, ◌*◌, ◌<◌, ◌≤◌, Bool, true, false, cond, ◌==◌, ◌||◌, List, [], ◌∷◌, ◌++◌, length, sum_by, slice_get, Option, Some, None, IfSome, is_none, unwrap_or, refl, sym, ap, subst, ◌∙◌, arith, append_assoc, append-nil, filter_map}
 use Rattle.std.specs.List.{list_all, list_any, cons_option, AllByRecursion}
 use Rattle.std.proofs.lemmas.Bool.{and_parts, or_parts}
@@ -66,19 +66,19 @@ new_in kind before pieces follow = new_behind (declared kind before) [] (declare
 -- ---- what records cost, by the index that they declare or speak of
 
 -- what the record costs, where it declares an index of the kind
-abbrev declares : Kind → Piece → ℕ
+abbrev pub declares : Kind → Piece → ℕ
 declares kind p = value_by (λ _. cost p p.row) (of_kind kind (declared_by p.row))
 
 -- what it costs, where it speaks of one
-abbrev speaks : Kind → Piece → ℕ
+abbrev pub speaks : Kind → Piece → ℕ
 speaks kind p = value_by (λ _. cost p p.row) (of_kind kind (named_by p.row))
 
 -- what the records cost that speak of this index
-abbrev said_of : Kind → List Piece → ℕ → ℕ
+abbrev pub said_of : Kind → List Piece → ℕ → ℕ
 said_of kind part i = sum_by (λ (p : Piece). paid_for i (of_kind kind (named_by p.row)) (cost p p.row)) part
 
 -- the entries that a part declares, each with what is said of it
-declared_below : {X : Type 0} (weight : X → ℕ) (ask : Piece → Option X) (kind : Kind) (part : List Piece) → NewFrom [] (declared kind part)
+pub declared_below : {X : Type 0} (weight : X → ℕ) (ask : Piece → Option X) (kind : Kind) (part : List Piece) → NewFrom [] (declared kind part)
     → AllByRecursion (λ p. value_by weight (ask p) ≤ declares kind p + value_by (said_of kind part) (of_kind kind (declared_by p.row))) part
     → sum_by weight (filter_map ask part) ≤ sum_by (declares kind) part + sum_by (speaks kind) part
 declared_below weight ask kind part new are =
@@ -86,7 +86,7 @@ declared_below weight ask kind part new are =
     let shares = shares_below (declared kind part) new (λ p. of_kind kind (named_by p.row)) (λ p. cost p p.row) part in
     omega (arith, all, shares)
 
-at_index : {X : Type 0} (weight : X → ℕ) (b : Bool) (x : X) (n : ℕ) → weight x ≤ n → value_by weight (cond b (Some x) None) ≤ cond b n 0
+pub at_index : {X : Type 0} (weight : X → ℕ) (b : Bool) (x : X) (n : ℕ) → weight x ≤ n → value_by weight (cond b (Some x) None) ≤ cond b n 0
 at_index weight true x n h = h
 at_index weight false x n h = omega arith
 
@@ -109,7 +109,7 @@ said_sections i (p ∷ part) =
     let all = sum_by-cons (λ (q : Piece). paid_for i (of_kind section (named_by q.row)) (cost q q.row)) p part in
     omega (arith, own, rest, a, b, c, all)
 
-unless : (b : Bool) (n : ℕ) → cond b 0 n ≤ n
+pub unless : (b : Bool) (n : ℕ) → cond b 0 n ≤ n
 unless true n = omega arith
 unless false n = omega arith
 
