@@ -18,3 +18,4 @@ pub mod WeighSums
 pub mod WeighEntries
 pub mod WeighNames
 pub mod WeighLoads
+pub mod WeighFiles
