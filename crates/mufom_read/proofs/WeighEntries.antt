@@ -1,27 +1,19 @@
 -- What a part declares, with what is said of it, weighs at most what its records cost; and so do its sections.
-use Rattle.std.proofs.Common.{◌≡◌, ℕ, zero, suc, ◌+◌, ◌*◌, ◌<◌, ◌≤◌, Bool, true, false, cond, ◌==◌, ◌||◌, List, [], ◌∷◌, ◌++◌, length, sum_by, slice_get, Option, Some, None, IfSome, is_none, unwrap_or, refl, sym, ap, subst, ◌∙◌, arith, append_assoc, append-nil, filter_map}
-use Rattle.std.specs.List.{list_all, list_any, cons_option, AllByRecursion}
-use Rattle.std.proofs.lemmas.Bool.{and_parts, or_parts}
+use Rattle.std.proofs.Common.{◌≡◌, ℕ, ◌+◌, ◌≤◌, Bool, true, false, cond, ◌==◌, List, [], ◌∷◌, ◌++◌, sum_by, Option, Some, None, unwrap_or, refl, sym, subst, ◌∙◌, arith, append_assoc, append-nil, filter_map}
+use Rattle.std.specs.List.{list_any, cons_option, AllByRecursion}
+use Rattle.std.proofs.lemmas.Bool.{or_parts}
 use Rattle.std.proofs.lemmas.List.Sums.{sum_by-cons}
 use Rattle.std.proofs.lemmas.List.Elements.{filter_map-append}
 use Rattle.std.proofs.lemmas.List.Folds.{list_any-append}
-use Rattle.arrayvec.specs.ArrayVec.{ArrayVec}
-use Rattle.mufom_expr.specs.Tree.{Tree, number}
-use Rattle.mufom_expr.specs.Spelled.{Indexes}
 use Rattle.mufom_records.specs.declared.record.Record.{Record}
 use Rattle.mufom_records.specs.declared.record.Record.TheVariants as r
 use Rattle.mufom_records.specs.declared.record.BlockTail.TheVariants as tail
-use Rattle.mufom_sections.specs.declared.section.Section.{Section}
-use Rattle.mufom_names.specs.declared.name.Weak.{Weak}
-use Rattle.mufom_names.specs.declared.name.Public.{Public}
-use Rattle.mufom_names.specs.declared.name.Reference.{Reference}
 use Rattle.mufom_module.specs.Contents.{any_of}
-use Rattle.mufom_module.specs.Pieces.{Piece, Kind, section, public, reference, debug_name, is_same_kind, FileIndex, text_in, tree_in, positioned, declared_by, named_by, of_kind, declared, is_declared, Once, value_of_public, is_same_saying, assigned_by, is_assigned}
-use Rattle.mufom_module.specs.Gathered.{answers, first_answer, size_for, alignment_for, base_for, section_by, sections_of, public_note_for, reference_note_for, weak_for, value_for, value_of, public_by, publics_of, reference_by, references_of}
-use Rattle.mufom_module.specs.Grammar.{declares_again, Follows, FollowFrom}
-use Rattle.mufom_module.specs.Weights.{expression_weight, alignment_weight, size_weight, base_weight, section_weight, note_weight, notes_weight, public_weight, default_weight, weak_weight, reference_weight}
-use Rattle.mufom_read.proofs.WeighTrees.{weight-positioned}
-use Rattle.mufom_read.proofs.WeighRecords.{present, cost}
+use Rattle.mufom_module.specs.Pieces.{Piece, Kind, section, public, reference, debug_name, is_same_kind, FileIndex, declared_by, named_by, of_kind, declared, is_declared}
+use Rattle.mufom_module.specs.Gathered.{answers, first_answer, size_for, alignment_for, base_for, section_by, sections_of}
+use Rattle.mufom_module.specs.Grammar.{FollowFrom}
+use Rattle.mufom_module.specs.Weights.{alignment_weight, size_weight, base_weight, section_weight}
+use Rattle.mufom_read.proofs.WeighRecords.{cost}
 use Rattle.mufom_read.proofs.WeighSums.{costs, value_by, sum_by-option, sum_by-two, sum_by-below, first_below, always, gathered_below, NewFrom, paid_for, shares_below}
 
 -- ---- indexes are declared once
@@ -55,9 +47,10 @@ follow_split before (p ∷ a) b follow =
 
 new_behind : (a b is : List ℕ) → NewFrom (a ++ b) is → NewFrom b is
 new_behind a b [] new = tt
-new_behind a b (i ∷ is) new =
-    ((or_parts (list_any (λ j. j == i) a) (list_any (λ j. j == i) b) (sym (list_any-append (λ j. j == i) a b) ∙ new.0)).1,
-     new_behind a (b ++ i ∷ []) is (subst (λ (l : List ℕ). NewFrom l is) (append_assoc a b (i ∷ [])) new.1))
+new_behind a b (i ∷ is) new = (
+  (or_parts (list_any (λ j. j == i) a) (list_any (λ j. j == i) b) (sym (list_any-append (λ j. j == i) a b) ∙ new.0)).1,
+  new_behind a (b ++ i ∷ []) is (subst (λ (l : List ℕ). NewFrom l is) (append_assoc a b (i ∷ [])) new.1),
+)
 
 -- the records of a part declare no index twice
 pub new_in : (kind : Kind) (before pieces : List Piece) → FollowFrom before pieces → NewFrom [] (declared kind pieces)
@@ -147,8 +140,8 @@ section_costs row n = omega arith
 pub sections_below : (part : List Piece) → NewFrom [] (declared section part) → sum_by section_weight (sections_of part) ≤ costs part
 sections_below part new =
     let all = declared_below section_weight (λ p. section_by part p p.row) section part new
-        (always (λ p. value_by section_weight (section_by part p p.row) ≤ declares section p + value_by (said_of section part) (of_kind section (declared_by p.row))) (λ p. section_below part p p.row) part) in
+    (always (λ p. value_by section_weight (section_by part p p.row) ≤ declares section p + value_by (said_of section part) (of_kind section (declared_by p.row))) (λ p. section_below part p p.row) part) in
     let two = sum_by-two (declares section) (speaks section) part in
     let costs_ = sum_by-below (λ (p : Piece). declares section p + speaks section p) (λ (p : Piece). cost p p.row) part
-        (always (λ p. declares section p + speaks section p ≤ cost p p.row) (λ p. section_costs p.row (cost p p.row)) part) in
+    (always (λ p. declares section p + speaks section p ≤ cost p p.row) (λ p. section_costs p.row (cost p p.row)) part) in
     omega (arith, all, two, costs_)

@@ -1,7 +1,6 @@
 -- What the records of a file say weighs at most ten times the file.
-use Rattle.std.proofs.Common.{◌≡◌, ℕ, ◌+◌, ◌*◌, ◌<◌, ◌≤◌, Bool, true, false, List, [], ◌∷◌, ◌++◌, length, sum_by, Option, Some, None, refl, sym, ap, subst, ◌∙◌, arith, length-append}
+use Rattle.std.proofs.Common.{◌≡◌, ℕ, ◌+◌, ◌*◌, ◌≤◌, false, List, [], ◌∷◌, ◌++◌, length, sum_by, Option, ap, ◌∙◌, arith, length-append}
 use Rattle.std.proofs.lemmas.List.Sums.{sum_by-cons}
-use Rattle.mufom_numbers.specs.declared.taken.Span.{Span}
 use Rattle.mufom_records.specs.declared.record.Mode.{Mode}
 use Rattle.mufom_records.specs.declared.record.Mode.TheVariants as mode
 use Rattle.mufom_records.specs.declared.record.Record.{Record}
@@ -10,10 +9,9 @@ use Rattle.mufom_records.specs.Layouts.{IsWholeRecord}
 use Rattle.mufom_debug.specs.Marks.{marks_of}
 use Rattle.mufom_module.specs.declared.module.Parts.{Parts}
 use Rattle.mufom_module.specs.Pieces.{Piece, bytes_of, section, public, reference}
-use Rattle.mufom_module.specs.Gathered.{sections_of, publics_of, references_of, marks, loads_of, starts_of}
 use Rattle.mufom_module.specs.Written.{weight}
 use Rattle.mufom_module.specs.Weights.{section_weight, public_weight, reference_weight, marks_weight, load_weight, start_weight}
-use Rattle.mufom_module.specs.Grammar.{FileParts, header_of, behind_header, from_sections, from_externals, from_debug, debug_bytes, from_loads, from_trailer, module_end, AreOfModes, header_modes, AreWhole, IsPart, IsCutInto, HasNames, NamesModule, Says, indexes_of}
+use Rattle.mufom_module.specs.Grammar.{FileParts, header_of, behind_header, from_sections, from_externals, from_debug, debug_bytes, from_loads, from_trailer, module_end, AreOfModes, header_modes, AreWhole, NamesModule, indexes_of}
 use Rattle.mufom_module.proofs.WeightLaws.{weight-sum}
 use Rattle.mufom_read.specs.Laws.{FilesWeighTenfold, ModulesWeighTenfold}
 use Rattle.mufom_read.proofs.WeighRecords.{cost, begin_paid, descriptor_paid, offset_paid}
@@ -108,17 +106,17 @@ files_weigh reads_debug bytes f m are cut names says =
     let l = loads_below ix m.maus f.loads in
     let t = starts_below ix f.trailer m.start says.start in
     total (weight m) (length m.processor) (length m.name) (length f.extension) (length f.environment) (sum_by section_weight m.sections) (sum_by public_weight m.names.publics) (sum_by reference_weight m.names.references)
-        (marks_weight (marks_of m.debug)) (sum_by load_weight m.loads) (start_weight m.start) (length bytes) (length (bytes_of (header_of f)))
-        (length (bytes_of f.sections)) (length (bytes_of f.externals)) (length (bytes_of f.debug)) (length f.skipped) (length (bytes_of f.loads)) (length (bytes_of f.trailer))
-        (weight-sum m ∙ (λ i. 156 + length m.processor + length m.name + length (says.extension i) + length (says.environment i) + sum_by section_weight m.sections + sum_by public_weight m.names.publics
-            + sum_by reference_weight m.names.references + marks_weight (marks_of m.debug) + sum_by load_weight m.loads + start_weight m.start))
-        (ap length cut.all ∙ file_length f)
-        (header_below m f (behind_header f) cut.header says.begin)
-        (part_paid f.sections (from_externals f) _ cut.sections.are_whole (omega (arith, sections, s)))
-        (part_paid f.externals (from_debug f) _ cut.externals.are_whole (omega (arith, publics, references, n)))
-        (part_paid f.debug (from_loads f) _ cut.debug.are_whole (omega (arith, debug, d)))
-        (part_paid f.loads (from_trailer f) _ cut.loads.are_whole (omega (arith, loads, l)))
-        (part_paid f.trailer module_end _ cut.trailer.are_whole t)
+    (marks_weight (marks_of m.debug)) (sum_by load_weight m.loads) (start_weight m.start) (length bytes) (length (bytes_of (header_of f)))
+    (length (bytes_of f.sections)) (length (bytes_of f.externals)) (length (bytes_of f.debug)) (length f.skipped) (length (bytes_of f.loads)) (length (bytes_of f.trailer))
+    (weight-sum m ∙ (λ i. 156 + length m.processor + length m.name + length (says.extension i) + length (says.environment i) + sum_by section_weight m.sections + sum_by public_weight m.names.publics
+    + sum_by reference_weight m.names.references + marks_weight (marks_of m.debug) + sum_by load_weight m.loads + start_weight m.start))
+    (ap length cut.all ∙ file_length f)
+    (header_below m f (behind_header f) cut.header says.begin)
+    (part_paid f.sections (from_externals f) _ cut.sections.are_whole (omega (arith, sections, s)))
+    (part_paid f.externals (from_debug f) _ cut.externals.are_whole (omega (arith, publics, references, n)))
+    (part_paid f.debug (from_loads f) _ cut.debug.are_whole (omega (arith, debug, d)))
+    (part_paid f.loads (from_trailer f) _ cut.loads.are_whole (omega (arith, loads, l)))
+    (part_paid f.trailer module_end _ cut.trailer.are_whole t)
 
 pub modules_weigh : ModulesWeighTenfold
 modules_weigh reads_debug bytes m are (f, cut, names, says, valid) = files_weigh reads_debug bytes f m are cut names says

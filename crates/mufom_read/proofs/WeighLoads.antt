@@ -1,10 +1,7 @@
 -- The debug marks, the loads and the start that the records of a part say weigh at most what the records cost.
-use Rattle.std.proofs.Common.{◌≡◌, ℕ, zero, suc, ◌+◌, ◌*◌, ◌<◌, ◌≤◌, Bool, true, false, cond, ◌==◌, List, [], ◌∷◌, ◌++◌, length, map, sum_by, Option, Some, None, option_map, unwrap_or, refl, sym, ap, subst, ◌∙◌, arith, filter_map}
-use Rattle.std.specs.List.{cons_option, AllByRecursion}
+use Rattle.std.proofs.Common.{◌≡◌, ℕ, ◌+◌, ◌≤◌, Bool, true, false, cond, ◌==◌, List, [], ◌∷◌, ◌++◌, map, sum_by, Option, Some, None, refl, ap, arith, filter_map}
 use Rattle.std.specs.Prelude.{option_to_list}
 use Rattle.std.proofs.lemmas.List.Sums.{sum_by-cons, sum_by-append}
-use Rattle.arrayvec.specs.ArrayVec.{ArrayVec}
-use Rattle.mufom_numbers.specs.declared.taken.Span.{Span}
 use Rattle.mufom_expr.specs.Tree.{Tree}
 use Rattle.mufom_expr.specs.Spelled.{Indexes}
 use Rattle.mufom_records.specs.declared.record.Record.{Record}
@@ -12,17 +9,14 @@ use Rattle.mufom_records.specs.declared.record.Record.TheVariants as r
 use Rattle.mufom_records.specs.declared.record.BlockTail.{BlockTail}
 use Rattle.mufom_records.specs.declared.record.BlockTail.TheVariants as tail
 use Rattle.mufom_loads.specs.declared.load.Item.{Item}
-use Rattle.mufom_loads.specs.declared.load.Item.TheVariants.{Literal, Field}
 use Rattle.mufom_loads.specs.declared.load.Load.{Load}
-use Rattle.mufom_loads.specs.declared.load.Load.TheVariants.{SetSection, SetPc, One, Repeat}
-use Rattle.mufom_debug.specs.declared.item.BlockHead.{BlockHead}
+use Rattle.mufom_loads.specs.declared.load.Load.TheVariants.{One}
 use Rattle.mufom_debug.specs.declared.item.BlockHead.TheVariants as head
-use Rattle.mufom_debug.specs.Marks.{DebugMark}
 use Rattle.mufom_module.specs.Pieces.{Piece, tree_in, positioned}
 use Rattle.mufom_module.specs.Gathered.{head_by, mark_by, marks, item_by, items_at_front, loads_by, loads_of, start_by, starts_of}
-use Rattle.mufom_module.specs.Weights.{expression_weight, optional_expression_weight, head_weight, mark_weight, marks_weight, item_weight, items_weight, load_weight, start_weight}
+use Rattle.mufom_module.specs.Weights.{expression_weight, head_weight, mark_weight, marks_weight, item_weight, items_weight, load_weight, start_weight}
 use Rattle.mufom_read.proofs.WeighTrees.{weight-positioned}
-use Rattle.mufom_read.proofs.WeighRecords.{tail_cost, end_cost, cost}
+use Rattle.mufom_read.proofs.WeighRecords.{tail_cost, cost}
 use Rattle.mufom_read.proofs.WeighSums.{costs, value_by, sum_by-option, sum_by-below, always}
 
 -- ---- entries of one record each

@@ -1,17 +1,16 @@
 -- The publics and references that the records of a part say weigh at most what the records cost.
-use Rattle.std.proofs.Common.{◌≡◌, ℕ, zero, suc, ◌+◌, ◌*◌, ◌<◌, ◌≤◌, Bool, true, false, cond, ◌==◌, ◌||◌, List, [], ◌∷◌, ◌++◌, length, sum_by, slice_get, Option, Some, None, is_none, unwrap_or, refl, sym, ap, subst, ◌∙◌, arith, filter_map}
+use Rattle.std.proofs.Common.{◌≡◌, ℕ, ◌+◌, ◌*◌, ◌≤◌, Bool, true, false, cond, ◌==◌, ◌||◌, List, [], ◌∷◌, length, sum_by, slice_get, Option, Some, None, is_none, unwrap_or, refl, arith, filter_map}
 use Rattle.std.specs.List.{list_all, list_any, cons_option, AllByRecursion}
 use Rattle.std.proofs.lemmas.Bool.{and_parts}
 use Rattle.std.proofs.lemmas.List.Sums.{sum_by-cons}
-use Rattle.arrayvec.specs.ArrayVec.{ArrayVec}
 use Rattle.mufom_expr.specs.Tree.{Tree, number}
 use Rattle.mufom_expr.specs.Spelled.{Indexes}
 use Rattle.mufom_records.specs.declared.record.Record.{Record}
 use Rattle.mufom_records.specs.declared.record.Record.TheVariants as r
 use Rattle.mufom_records.specs.declared.record.BlockTail.TheVariants as tail
 use Rattle.mufom_names.specs.declared.name.Weak.{Weak}
-use Rattle.mufom_module.specs.Pieces.{Piece, public, reference, tree_in, positioned, declared_by, named_by, of_kind, declared, Once, value_of_public, is_same_saying, assigned_by, is_assigned}
-use Rattle.mufom_module.specs.Gathered.{answers, first_answer, public_note_for, reference_note_for, weak_for, value_for, value_of, public_by, publics_of, reference_by, references_of}
+use Rattle.mufom_module.specs.Pieces.{Piece, public, reference, tree_in, declared_by, named_by, of_kind, declared, Once, value_of_public, is_same_saying, assigned_by, is_assigned}
+use Rattle.mufom_module.specs.Gathered.{answers, first_answer, public_note_for, reference_note_for, weak_for, value_for, public_by, publics_of, reference_by, references_of}
 use Rattle.mufom_module.specs.Weights.{expression_weight, note_weight, public_weight, default_weight, weak_weight, reference_weight}
 use Rattle.mufom_read.proofs.WeighTrees.{weight-positioned}
 use Rattle.mufom_read.proofs.WeighRecords.{present, cost}
@@ -140,13 +139,13 @@ pub names_below : (ix : Indexes) (part : List Piece) → NewFrom [] (declared pu
     → sum_by public_weight (publics_of ix part) + sum_by reference_weight (references_of part) ≤ costs part
 names_below ix part new_publics new_references valued =
     let publics = declared_below public_weight (λ p. public_by ix part p p.row) public part new_publics
-        (map_all (λ p. HasValue part (of_kind public (declared_by p.row))) (λ p. value_by public_weight (public_by ix part p p.row) ≤ declares public p + value_by (said_of public part) (of_kind public (declared_by p.row)))
-            (λ p has. public_below ix part p p.row has) part (all_valued part part valued)) in
+    (map_all (λ p. HasValue part (of_kind public (declared_by p.row))) (λ p. value_by public_weight (public_by ix part p p.row) ≤ declares public p + value_by (said_of public part) (of_kind public (declared_by p.row)))
+    (λ p has. public_below ix part p p.row has) part (all_valued part part valued)) in
     let references = declared_below reference_weight (λ p. reference_by part p p.row) reference part new_references
-        (always (λ p. value_by reference_weight (reference_by part p p.row) ≤ declares reference p + value_by (said_of reference part) (of_kind reference (declared_by p.row))) (λ p. reference_below part p p.row) part) in
+    (always (λ p. value_by reference_weight (reference_by part p p.row) ≤ declares reference p + value_by (said_of reference part) (of_kind reference (declared_by p.row))) (λ p. reference_below part p p.row) part) in
     let two_p = sum_by-two (declares public) (speaks public) part in
     let two_r = sum_by-two (declares reference) (speaks reference) part in
     let two = sum_by-two (λ (p : Piece). declares public p + speaks public p) (λ (p : Piece). declares reference p + speaks reference p) part in
     let all = sum_by-below (λ (p : Piece). (declares public p + speaks public p) + (declares reference p + speaks reference p)) (λ (p : Piece). cost p p.row) part
-        (always (λ p. (declares public p + speaks public p) + (declares reference p + speaks reference p) ≤ cost p p.row) (λ p. external_costs p.row (cost p p.row)) part) in
+    (always (λ p. (declares public p + speaks public p) + (declares reference p + speaks reference p) ≤ cost p p.row) (λ p. external_costs p.row (cost p p.row)) part) in
     omega (arith, publics, references, two_p, two_r, two, all)

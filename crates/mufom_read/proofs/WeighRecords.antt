@@ -1,19 +1,16 @@
 -- What a record lets be written weighs at most ten times its bytes.
-use Rattle.std.proofs.Common.{◌≡◌, ℕ, zero, suc, ◌+◌, ◌-◌, ◌*◌, ◌<◌, ◌≤◌, Bool, true, false, cond, ◌==◌, ◌&&◌, List, [], ◌∷◌, ◌++◌, length, take, drop, slice_range, Option, Some, None, option_map, refl, sym, ap, subst, ◌∙◌, arith, append_assoc, append-nil, length-append, length-take, eqb-true}
+use Rattle.std.proofs.Common.{◌≡◌, ℕ, ◌+◌, ◌-◌, ◌*◌, ◌≤◌, Bool, true, false, cond, ◌==◌, ◌&&◌, List, [], ◌∷◌, ◌++◌, length, take, drop, slice_range, Option, Some, None, option_map, refl, sym, ap, subst, ◌∙◌, arith, append_assoc, length-append, length-take}
 use Rattle.std.proofs.lemmas.List.{drop_at, take_at}
 use Rattle.mufom_numbers.specs.declared.taken.Span.{Span}
 use Rattle.mufom_numbers.specs.Spelling.{IsStringLead}
-use Rattle.mufom_records.specs.declared.record.Mode.{Mode}
 use Rattle.mufom_records.specs.declared.record.Mode.TheVariants as mode
 use Rattle.mufom_records.specs.declared.record.Record.{Record}
 use Rattle.mufom_records.specs.declared.record.Record.TheVariants as r
 use Rattle.mufom_records.specs.declared.record.BlockTail.{BlockTail}
 use Rattle.mufom_records.specs.declared.record.BlockTail.TheVariants as tail
 use Rattle.arrayvec.specs.ArrayVec.{ArrayVec}
-use Rattle.mufom_expr.specs.declared.token.FieldKind.{FieldKind}
 use Rattle.mufom_expr.specs.Spelled.{SpellsTree}
-use Rattle.mufom_sections.specs.declared.section.Purpose.{Purpose}
-use Rattle.mufom_records.specs.Fields.{Field, ValueOf, byte, number, string, run, letter, optional_number, numbers, expression, optional_expression, is_one_of, span_at, SpellsNumbers, SpellsField, first_of}
+use Rattle.mufom_records.specs.Fields.{Field, ValueOf, byte, number, string, run, letter, optional_number, numbers, expression, optional_expression, is_one_of, SpellsNumbers, SpellsField, first_of}
 use Rattle.mufom_records.specs.Layouts
 use Rattle.mufom_module.specs.Pieces.{Piece, text_in, tree_in}
 use Rattle.mufom_module.specs.RecordParts.{begins_item, mode_of}
@@ -181,8 +178,8 @@ paid_from p price (Layouts.field f rest) row at before bytes next n (x, front, b
     let its : p.bytes ≡ before ++ (front ++ back) = whole ∙ ap (λ l. before ++ l) split in
     let long = field_long f x at front (first_of back next) first in
     paid_from p price (rest x) row (at + length front) (before ++ front) back next (n + least f x) others
-        (its ∙ sym (append_assoc before front back)) (ap (λ m. m + length front) start ∙ sym (length-append before front)) (omega (arith, few, long))
-        (pays x (in_piece p f x at before front back (first_of back next) first its start))
+    (its ∙ sym (append_assoc before front back)) (ap (λ m. m + length front) start ∙ sym (length-append before front)) (omega (arith, few, long))
+    (pays x (in_piece p f x at before front back (first_of back next) first its start))
 
 paid : (p : Piece) (price : Record → ℕ) (layout : Layout) (next : Option ℕ) → Layouts.SpellsRecord layout p.row 0 p.bytes next → Pays p price layout 0 → price p.row ≤ 10 * length p.bytes
 paid p price layout next is pays = paid_from p price layout p.row 0 [] p.bytes next 0 is refl refl (omega arith) pays
@@ -207,7 +204,7 @@ descriptor_paid p next is = paid p (λ _. 20) (Layouts.layout_of mode.Descriptor
 pub offset_paid : (k : ℕ) (p : Piece) (next : Option ℕ) → Layouts.IsWholeRecord (mode.Offset k) p.row p.bytes next → 16 ≤ 10 * length p.bytes
 offset_paid k p next is = paid p (λ _. 16) (Layouts.layout_of (mode.Offset k)) next is
     (begins_paid p (λ _. 16) 0 1 0xE2 (Layouts.begins_with 2 0xD7 (Layouts.numbered_offset k))
-        (begins_paid p (λ _. 16) 1 2 0xD7 (Layouts.numbered_offset k) (λ (n : ℕ) _ (w : ℕ) _. omega arith)))
+    (begins_paid p (λ _. 16) 1 2 0xD7 (Layouts.numbered_offset k) (λ (n : ℕ) _ (w : ℕ) _. omega arith)))
 
 -- ---- the other records
 

@@ -1,15 +1,10 @@
 -- Sums over the records of a part, and over the entries that are gathered from them.
-use Rattle.std.proofs.Common.{◌≡◌, ℕ, zero, suc, ◌+◌, ◌*◌, ◌<◌, ◌≤◌, Bool, true, false, cond, ◌==◌, ◌&&◌, ◌||◌, List, [], ◌∷◌, ◌++◌, length, map, sum_by, slice_get, Option, Some, None, refl, sym, ap, subst, ◌∙◌, arith, append_assoc, append-nil, length-append, eqb-true, eq-eqb, filter_map}
-use Rattle.std.specs.List.{list_all, list_any, cons_option, AllByRecursion}
-use Rattle.std.proofs.lemmas.Bool.{and_parts, or_parts, or_from, or_left, both_ways, true≢false}
-use Rattle.std.proofs.lemmas.List.Sums.{sum_by-cons, sum_by-append}
-use Rattle.std.proofs.lemmas.List.Elements.{filter_map-append}
+use Rattle.std.proofs.Common.{◌≡◌, ℕ, ◌+◌, ◌*◌, ◌≤◌, Bool, true, false, cond, ◌==◌, ◌||◌, List, [], ◌∷◌, ◌++◌, length, sum_by, slice_get, Option, Some, None, refl, ap, subst, ◌∙◌, arith, length-append, eqb-true, filter_map}
+use Rattle.std.specs.List.{list_any, cons_option, AllByRecursion}
+use Rattle.std.proofs.lemmas.List.Sums.{sum_by-cons}
 use Rattle.std.proofs.lemmas.List.Folds.{list_any-append}
-use Rattle.mufom_records.specs.declared.record.Record.{Record}
-use Rattle.mufom_module.specs.Contents.{any_of}
-use Rattle.mufom_module.specs.Pieces.{Piece, bytes_of, Kind, section, public, reference, debug_name, is_same_kind, FileIndex, declared_by, of_kind, declared, is_declared}
-use Rattle.mufom_module.specs.RecordParts.{opens_items}
-use Rattle.mufom_module.specs.Grammar.{AreWhole, declares_again, Follows, FollowFrom}
+use Rattle.mufom_module.specs.Pieces.{Piece, bytes_of}
+use Rattle.mufom_module.specs.Grammar.{AreWhole}
 use Rattle.mufom_read.proofs.WeighRecords.{cost, record_paid}
 
 -- ---- all records of a part
@@ -120,7 +115,7 @@ at_most_once j n seen (i ∷ is) new = by_case (i == j) refl (at_most_once j n (
       let all = sum_by-cons (λ i. cond (i == j) n 0) i is in
       let own : cond (i == j) n 0 ≡ 0 = ap (λ (b : Bool). cond b n 0) e in
       let now : cond (list_any (λ k. k == j) (seen ++ i ∷ [])) n 0 ≡ cond (list_any (λ k. k == j) seen) n 0 =
-        ap (λ (b : Bool). cond b n 0) (seen_once seen i j ∙ ap (λ (b : Bool). list_any (λ k. k == j) seen || (b || false)) e ∙ or_false (list_any (λ k. k == j) seen)) in
+      ap (λ (b : Bool). cond b n 0) (seen_once seen i j ∙ ap (λ (b : Bool). list_any (λ k. k == j) seen || (b || false)) e ∙ or_false (list_any (λ k. k == j) seen)) in
       omega (arith, all, own, now, rest)
 
 for_each : (is : List ℕ) (o : Option ℕ) (n : ℕ) → NewFrom [] is → sum_by (λ i. paid_for i o n) is ≤ value_by (λ _. n) o
@@ -136,9 +131,9 @@ shares_below is new ask price (p ∷ pieces) =
     let rest = shares_below is new ask price pieces in
     let own = for_each is (ask p) (price p) new in
     let inner : (i : ℕ) → sum_by (λ q. paid_for i (ask q) (price q)) (p ∷ pieces) ≤ paid_for i (ask p) (price p) + sum_by (λ q. paid_for i (ask q) (price q)) pieces
-        = λ i. (let e = sum_by-cons (λ (q : Piece). paid_for i (ask q) (price q)) p pieces in omega (arith, e)) in
+    = λ i. (let e = sum_by-cons (λ (q : Piece). paid_for i (ask q) (price q)) p pieces in omega (arith, e)) in
     let split = sum_by-below (λ i. sum_by (λ (q : Piece). paid_for i (ask q) (price q)) (p ∷ pieces)) (λ i. paid_for i (ask p) (price p) + sum_by (λ (q : Piece). paid_for i (ask q) (price q)) pieces) is
-        (always (λ i. sum_by (λ q. paid_for i (ask q) (price q)) (p ∷ pieces) ≤ paid_for i (ask p) (price p) + sum_by (λ q. paid_for i (ask q) (price q)) pieces) inner is) in
+    (always (λ i. sum_by (λ q. paid_for i (ask q) (price q)) (p ∷ pieces) ≤ paid_for i (ask p) (price p) + sum_by (λ q. paid_for i (ask q) (price q)) pieces) inner is) in
     let two = sum_by-two (λ i. paid_for i (ask p) (price p)) (λ i. sum_by (λ (q : Piece). paid_for i (ask q) (price q)) pieces) is in
     let sum = sum_by-cons (λ (q : Piece). value_by (λ _. price q) (ask q)) p pieces in
     omega (arith, rest, own, split, two, sum)
