@@ -1,20 +1,19 @@
 -- All parts of a walk, one after another, and the record that ends the module behind them.
-use Rattle.std.proofs.Common.{◌≡◌, ◌⊎◌, ℕ, zero, suc, ◌+◌, ◌-◌, ◌<◌, ◌≤◌, Bool, true, false, cond, not, ◌==◌, ◌&&◌, ◌||◌, nat_lt, nat_le, List, [], ◌∷◌, ◌++◌, length, take, drop, Option, Some, None, refl, sym, ap, subst, ◌∙◌, inl, inr, arith, append_assoc, append-nil, ltb-false, filter_map, length-append, eq-eqb, ne_eqb, lt-ltb, le-ltb, le-leb}
-use Rattle.std.specs.List.{list_all, list_any, last_or, AllByRecursion}
+use Rattle.std.proofs.Common.{◌≡◌, ◌⊎◌, ℕ, zero, suc, ◌+◌, ◌-◌, ◌<◌, ◌≤◌, Bool, true, false, cond, not, ◌==◌, ◌&&◌, nat_lt, nat_le, List, [], ◌∷◌, ◌++◌, length, Option, Some, None, refl, sym, ap, subst, ◌∙◌, inl, inr, arith, append-nil, ltb-false, length-append, eq-eqb, ne_eqb, lt-ltb, le-ltb, le-leb}
+use Rattle.std.specs.List.{list_all, list_any, AllByRecursion}
 use Rattle.std.proofs.lemmas.Bool.{and_parts, or_parts, not-false, not-true, both_ways, cases_eq, cases_lt, not_from_false, true≢false}
-use Rattle.mufom_records.specs.declared.record.Mode.{Mode}
 use Rattle.mufom_records.specs.declared.record.Mode.TheVariants as mode
 use Rattle.mufom_records.specs.declared.record.Record.{Record}
 use Rattle.mufom_records.specs.declared.record.Record.TheVariants as r
 use Rattle.mufom_records.specs.Fields.{first_of}
 use Rattle.mufom_records.specs.Layouts.{IsWholeRecord}
-use Rattle.mufom_module.specs.Pieces.{Piece, bytes_of}
+use Rattle.mufom_module.specs.Pieces.{Piece}
 use Rattle.mufom_module.specs.RecordParts.{Part, end_part, number_of, stands_in}
-use Rattle.mufom_read.specs.Fronts.{Step, raw, read, step_bytes, front_bytes, size_of, pieces_of, offsets_of, Extent, Place, in_part, at_end, part_among, parts_in_order, first_present, part_at, place_by, place_behind, is_module_end, is_ended}
-use Rattle.mufom_read.specs.Faults.{Fault, fault_if, is_out_of_order, record_fault, step_fault, whole_fault, ended_fault, ended_part_fault}
-use Rattle.mufom_read.proofs.EndedWalk.{bytes-append, size-append, pieces-append, IsNextAt, IsWalk, taken, no_fault}
-use Rattle.mufom_read.proofs.EndedHeader.{ended-read, offsets-append, no_fault_if, IsHere, read_here, behind_header, InOrder}
-use Rattle.mufom_read.proofs.EndedParts.{IsOwn, AllInside, Ready, Split, nothing_own, at_its_end, split_part}
+use Rattle.mufom_read.specs.Fronts.{Step, read, step_bytes, front_bytes, size_of, pieces_of, offsets_of, Extent, Place, at_end, part_among, parts_in_order, first_present, part_at, place_by, place_behind, is_module_end, is_ended}
+use Rattle.mufom_read.specs.Faults.{is_out_of_order, record_fault, step_fault, whole_fault, ended_fault, ended_part_fault}
+use Rattle.mufom_read.proofs.EndedWalk.{size-append, IsNextAt, IsWalk, taken}
+use Rattle.mufom_read.proofs.EndedHeader.{ended-read, offsets-append, no_fault_if, read_here, behind_header, InOrder}
+use Rattle.mufom_read.proofs.EndedParts.{AllInside, Ready, Split, nothing_own, split_part}
 
 -- ---- offsets do not fall
 

@@ -1,9 +1,9 @@
 -- The sections, publics and references that an ended front says have no defect.
-use Rattle.std.proofs.Common.{◌≡◌, ◌⊎◌, ℕ, suc, ◌+◌, ◌<◌, ◌≤◌, Bool, true, false, cond, not, ◌==◌, ◌&&◌, ◌||◌, nat_lt, nat_le, List, [], ◌∷◌, ◌++◌, length, slice_get, Option, Some, None, IfSome, is_none, option_map, unwrap_or, refl, sym, ap, subst, ◌∙◌, arith, append_assoc, append-nil, filter_map}
+use Rattle.std.proofs.Common.{◌≡◌, ℕ, suc, Bool, true, false, cond, not, ◌==◌, ◌&&◌, ◌||◌, nat_lt, List, [], ◌∷◌, ◌++◌, length, slice_get, Option, Some, None, IfSome, is_none, unwrap_or, refl, sym, ap, subst, ◌∙◌, filter_map}
 use Rattle.std.specs.List.{list_all, list_any, cons_option, AllByRecursion}
-use Rattle.std.proofs.lemmas.Bool.{and_parts, or_parts, or_from, or_cases, both_ways, not-false, true≢false}
+use Rattle.std.proofs.lemmas.Bool.{not-false}
 use Rattle.mufom_numbers.specs.declared.taken.Span.{Span}
-use Rattle.mufom_expr.specs.Tree.{Tree, number}
+use Rattle.mufom_expr.specs.Tree.{number}
 use Rattle.mufom_expr.specs.Spelled.{Indexes}
 use Rattle.mufom_records.specs.declared.record.Record.{Record}
 use Rattle.mufom_records.specs.declared.record.Record.TheVariants as r
@@ -13,17 +13,17 @@ use Rattle.mufom_names.specs.declared.name.Reference.{Reference}
 use Rattle.mufom_module.specs.declared.module.Parts.{Parts}
 use Rattle.mufom_module.specs.Contents.{any_of}
 use Rattle.mufom_module.specs.Defects as d
-use Rattle.mufom_module.specs.Pieces.{Piece, section, public, reference, declared_by, of_kind, declared, is_declared, named_in_expression, expression_of, tree_in, is_public_value, positioned, Once, section_base, is_same_saying, assigned_by, is_assigned}
-use Rattle.mufom_module.specs.RecordParts.{Part, section_part, external_part, stands_in}
-use Rattle.mufom_module.specs.Gathered.{answers, first_answer, alignment_for, base_for, section_by, sections_of, value_for, value_of, public_by, publics_of, reference_by, references_of}
-use Rattle.mufom_read.specs.Faults.{has_bad_alignment, has_unknown_variable, absolute_declared, lacks_base, counter_allowed, misplaces_counter}
+use Rattle.mufom_module.specs.Pieces.{Piece, section, public, reference, declared_by, of_kind, declared, is_declared, named_in_expression, expression_of, tree_in, is_public_value, Once, section_base, is_same_saying, assigned_by, is_assigned}
+use Rattle.mufom_module.specs.RecordParts.{Part}
+use Rattle.mufom_module.specs.Gathered.{answers, first_answer, alignment_for, base_for, section_by, sections_of, value_for, public_by, publics_of, reference_by, references_of}
+use Rattle.mufom_read.specs.Faults.{has_bad_alignment, has_unknown_variable, lacks_base, counter_allowed, misplaces_counter}
 use Rattle.mufom_read.specs.Said.{indexes_in}
 use Rattle.mufom_read.proofs.EndedRows.{IsShort}
-use Rattle.mufom_read.proofs.EndedParts.{IsKept, KeptFrom}
+use Rattle.mufom_read.proofs.EndedParts.{KeptFrom}
 use Rattle.mufom_read.proofs.EndedSliced.{IsGiven}
 use Rattle.mufom_read.proofs.EndedNames.{IsSilent, assigned_behind}
-use Rattle.mufom_read.proofs.EndedTrees.{IsKnown, AreCounts, all_declared-append, known_named, tree_counter}
-use Rattle.mufom_read.proofs.EndedGood.{IsGoodTree, good_tree, text_short, none_passes, first_has, for_index_has, map_all, both_all}
+use Rattle.mufom_read.proofs.EndedTrees.{AreCounts, all_declared-append, known_named, tree_counter}
+use Rattle.mufom_read.proofs.EndedGood.{IsGoodTree, good_tree, text_short, none_passes, first_has, for_index_has, map_all}
 
 -- ---- as many as are declared
 

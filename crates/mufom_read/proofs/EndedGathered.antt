@@ -1,24 +1,16 @@
 -- What is gathered from all records of a file is what is gathered from those of one part.
-use Rattle.std.proofs.Common.{◌≡◌, ◌⊎◌, ℕ, Bool, true, false, cond, not, ◌==◌, ◌&&◌, ◌||◌, List, [], ◌∷◌, ◌++◌, length, map, slice_get, Option, Some, None, is_none, option_map, unwrap_or, refl, sym, ap, subst, ◌∙◌, append_assoc, append-nil, filter_map, eqb-true}
-use Rattle.std.specs.List.{list_all, list_any, cons_option}
-use Rattle.std.proofs.lemmas.Bool.{and_parts, both_ways}
+use Rattle.std.proofs.Common.{◌≡◌, ℕ, Bool, true, false, not, ◌==◌, ◌&&◌, List, [], ◌∷◌, ◌++◌, slice_get, Option, Some, None, is_none, option_map, unwrap_or, refl, sym, ap, ◌∙◌, append-nil, filter_map, eqb-true}
+use Rattle.std.specs.List.{list_all, cons_option}
+use Rattle.std.proofs.lemmas.Bool.{and_parts}
 use Rattle.std.proofs.lemmas.List.Elements.{filter_map-append}
-use Rattle.mufom_numbers.specs.declared.taken.Span.{Span}
-use Rattle.mufom_expr.specs.Tree.{Tree, number}
+use Rattle.mufom_expr.specs.Tree.{number}
 use Rattle.mufom_expr.specs.Spelled.{Indexes}
 use Rattle.mufom_records.specs.declared.record.Record.{Record}
 use Rattle.mufom_records.specs.declared.record.Record.TheVariants as r
-use Rattle.mufom_sections.specs.declared.section.Section.{Section}
-use Rattle.mufom_names.specs.declared.name.Note.{Note}
-use Rattle.mufom_names.specs.declared.name.Weak.{Weak}
-use Rattle.mufom_names.specs.declared.name.Public.{Public}
-use Rattle.mufom_names.specs.declared.name.Reference.{Reference}
 use Rattle.mufom_loads.specs.declared.load.Item.{Item}
-use Rattle.mufom_loads.specs.declared.load.Load.{Load}
-use Rattle.mufom_debug.specs.Marks.{DebugMark}
-use Rattle.mufom_module.specs.Pieces.{Piece, Kind, section, public, reference, debug_name, text_in, tree_in, positioned, declared_by, of_kind, declared}
+use Rattle.mufom_module.specs.Pieces.{Piece, section, public, reference, debug_name, text_in, positioned, declared_by, of_kind, declared}
 use Rattle.mufom_module.specs.RecordParts.{Part, section_part, external_part, debug_part, data_part, trailer_part, end_part, number_of, part_of, is_this_part, stands_in}
-use Rattle.mufom_module.specs.Gathered.{answers, first_answer, size_for, alignment_for, base_for, purpose_of, section_by, sections_of, public_note_for, reference_note_for, weak_for, value_for, value_of, public_by, publics_of, reference_by, references_of, mark_by, marks, item_by, items_at_front, loads_by, loads_of, start_by, starts_of}
+use Rattle.mufom_module.specs.Gathered.{answers, size_for, alignment_for, base_for, purpose_of, section_by, sections_of, public_note_for, reference_note_for, weak_for, value_for, public_by, publics_of, reference_by, references_of, mark_by, marks, item_by, items_at_front, loads_by, loads_of, start_by, starts_of}
 use Rattle.mufom_read.specs.Said.{indexes_in}
 use Rattle.mufom_read.proofs.EndedNames.{IsSilent}
 
@@ -43,7 +35,7 @@ not_asked part other ask only differ (p ∷ pieces) h =
     let both = and_parts (stands_in other p.row) _ h in
     (λ i. cons_option (only p (other_part part other (part_of p.row) differ both.0) i) (not_asked part other ask only differ pieces both.1 i))
 
-not_silent : {X : Type 0} (part : Part) (ask : Piece → Option X) → IsAskedOf part ask → (pieces : List Piece) → IsSilent pieces → filter_map ask pieces ≡ []
+pub not_silent : {X : Type 0} (part : Part) (ask : Piece → Option X) → IsAskedOf part ask → (pieces : List Piece) → IsSilent pieces → filter_map ask pieces ≡ []
 not_silent part ask only [] h = refl
 not_silent part ask only (p ∷ pieces) h =
     let both = and_parts (is_none (part_of p.row)) _ h in
@@ -73,7 +65,7 @@ gathered ask h s e l t end =
     ∙ ap (λ k. k ++ filter_map ask l) (filter_map-append ask (h ++ s) e
     ∙ ap (λ k. k ++ filter_map ask e) (filter_map-append ask h s))))
 
-end_alone : (end : Piece) → stands_in end_part end.row ≡ true → list_all (λ p. stands_in end_part p.row) (end ∷ []) ≡ true
+pub end_alone : (end : Piece) → stands_in end_part end.row ≡ true → list_all (λ p. stands_in end_part p.row) (end ∷ []) ≡ true
 end_alone end h = ap (λ b. b && true) h
 
 pub only_sections : {X : Type 0} (ask : Piece → Option X) → IsAskedOf section_part ask → (h s e l t : List Piece) (end : Piece) → AreSorted h s e l t end → filter_map ask (all_pieces h s e l t end) ≡ filter_map ask s

@@ -1,9 +1,8 @@
 -- The header at the front of a walk: ten records, and what holds of the offsets in them.
-use Rattle.std.proofs.Common.{◌≡◌, ℕ, zero, suc, ◌+◌, ◌<◌, ◌≤◌, Bool, true, false, cond, not, ◌==◌, ◌&&◌, ◌||◌, nat_lt, nat_le, List, [], ◌∷◌, ◌++◌, length, take, drop, Option, Some, None, is_none, refl, sym, ap, subst, ◌∙◌, arith, append_assoc, append-nil, lt-ltb, ltb-false, eqb-true, eq-eqb, filter_map, length-append}
-use Rattle.std.specs.List.{list_all, list_any, last_or}
-use Rattle.std.specs.Option.{option_or}
-use Rattle.std.proofs.lemmas.Bool.{or_parts, not-false, not-true, and_cases, both_ways}
-use Rattle.std.proofs.lemmas.List.{take_at, drop_at}
+use Rattle.std.proofs.Common.{◌≡◌, ℕ, zero, suc, ◌+◌, ◌<◌, ◌≤◌, Bool, true, false, cond, not, ◌==◌, ◌&&◌, nat_lt, List, [], ◌∷◌, ◌++◌, length, take, drop, Option, Some, None, is_none, refl, sym, ap, subst, ◌∙◌, arith, append_assoc, append-nil, lt-ltb, eqb-true, eq-eqb, length-append}
+use Rattle.std.specs.List.{list_all, last_or}
+use Rattle.std.proofs.lemmas.Bool.{not-false, both_ways}
+use Rattle.std.proofs.lemmas.List.{drop_at}
 use Rattle.std.proofs.lemmas.List.Elements.{filter_map-append}
 use Rattle.mufom_numbers.specs.declared.reason.Reason.{Reason}
 use Rattle.mufom_records.specs.declared.record.Mode.{Mode}
@@ -13,10 +12,10 @@ use Rattle.mufom_records.specs.declared.record.Record.TheVariants as r
 use Rattle.mufom_records.specs.Fields.{first_of}
 use Rattle.mufom_records.specs.Layouts.{IsWholeRecord}
 use Rattle.mufom_module.specs.Pieces.{Piece, bytes_of}
-use Rattle.mufom_module.specs.RecordParts.{Part, part_of}
+use Rattle.mufom_module.specs.RecordParts.{part_of}
 use Rattle.mufom_module.specs.Grammar.{AreOfModes, offset_in, offsets_in}
 use Rattle.mufom_read.specs.Fronts.{Step, raw, read, step_bytes, front_bytes, size_of, pieces_of, offsets_of, Place, in_header, first_present, place_by, part_at, place_behind, header_mode, is_module_end, ends_with, is_ended}
-use Rattle.mufom_read.specs.Faults.{Fault, fault_if, is_bad_descriptor, is_out_of_order, is_left_for_later, leaves_gap, offset_fault, header_fault, record_fault, step_fault}
+use Rattle.mufom_read.specs.Faults.{fault_if, is_bad_descriptor, is_out_of_order, is_left_for_later, leaves_gap, offset_fault, header_fault, record_fault, step_fault}
 use Rattle.mufom_read.proofs.EndedWalk.{bytes-append, size-append, pieces-append, IsRead, IsNextAt, IsWalk, taken, no_fault}
 use Rattle.mufom_read.proofs.EndedRows.{IsDescriptor, begin_row, descriptor_row, offset_row}
 

@@ -1,7 +1,7 @@
 -- The loads and the start that an ended front says have no defect.
-use Rattle.std.proofs.Common.{◌≡◌, ◌⊎◌, ℕ, zero, suc, ◌+◌, ◌<◌, ◌≤◌, Bool, true, false, cond, not, ◌==◌, ◌&&◌, ◌||◌, nat_lt, nat_le, List, [], ◌∷◌, ◌++◌, length, map, slice_get, Option, Some, None, IfSome, is_none, option_map, unwrap_or, refl, sym, ap, subst, ◌∙◌, inl, inr, arith, append_assoc, append-nil, filter_map, eqb-true}
-use Rattle.std.specs.List.{list_all, list_any, last_or, cons_option, AllByRecursion}
-use Rattle.std.proofs.lemmas.Bool.{and_parts, or_parts, or_from, or_cases, both_ways, not-false, true≢false}
+use Rattle.std.proofs.Common.{◌≡◌, ◌⊎◌, ℕ, ◌<◌, ◌≤◌, Bool, true, false, not, ◌==◌, ◌&&◌, ◌||◌, nat_lt, nat_le, List, [], ◌∷◌, ◌++◌, length, map, slice_get, Option, Some, None, IfSome, is_none, unwrap_or, refl, sym, ap, subst, ◌∙◌, inl, inr, arith, filter_map, eqb-true}
+use Rattle.std.specs.List.{list_any, last_or, cons_option, AllByRecursion}
+use Rattle.std.proofs.lemmas.Bool.{or_from, or_cases, not-false}
 use Rattle.std.proofs.lemmas.List.Elements.{filter_map-append}
 use Rattle.mufom_numbers.specs.declared.taken.Span.{Span}
 use Rattle.mufom_expr.specs.Tree.{Tree}
@@ -9,19 +9,18 @@ use Rattle.mufom_expr.specs.Spelled.{Indexes}
 use Rattle.mufom_records.specs.declared.record.Record.{Record}
 use Rattle.mufom_records.specs.declared.record.Record.TheVariants as r
 use Rattle.mufom_loads.specs.declared.load.Item.{Item}
-use Rattle.mufom_loads.specs.declared.load.Item.TheVariants.{Literal, Field}
+use Rattle.mufom_loads.specs.declared.load.Item.TheVariants.{Literal}
 use Rattle.mufom_loads.specs.declared.load.Load.{Load}
-use Rattle.mufom_loads.specs.declared.load.Load.TheVariants.{SetSection, SetPc, One, Repeat}
+use Rattle.mufom_loads.specs.declared.load.Load.TheVariants.{One, Repeat}
 use Rattle.mufom_module.specs.declared.module.Parts.{Parts}
-use Rattle.mufom_module.specs.Contents.{any_of, any_item, item_any, load_any, current_behind, placed_from}
+use Rattle.mufom_module.specs.Contents.{any_of, any_item, item_any, current_behind, placed_from}
 use Rattle.mufom_module.specs.Defects as d
-use Rattle.mufom_module.specs.Pieces.{Piece, section, text_in, tree_in, named_by, expression_of, is_public_value, position_in, positioned}
-use Rattle.mufom_module.specs.RecordParts.{trailer_part, stands_in, is_set_section, is_loading}
+use Rattle.mufom_module.specs.Pieces.{Piece, text_in, tree_in, named_by, expression_of, is_public_value, position_in}
+use Rattle.mufom_module.specs.RecordParts.{is_set_section, is_loading}
 use Rattle.mufom_module.specs.Gathered.{item_by, items_at_front, loads_by, loads_of, start_by, starts_of}
 use Rattle.mufom_module.specs.Grammar.{has_no_section}
 use Rattle.mufom_read.specs.Faults.{set_by, current_section, counter_allowed}
 use Rattle.mufom_read.proofs.EndedRows.{IsFieldSize, IsShort}
-use Rattle.mufom_read.proofs.EndedHeader.{last-append}
 use Rattle.mufom_read.proofs.EndedTrees.{placed_section}
 use Rattle.mufom_read.proofs.EndedGood.{IsGoodTree, IsGood, GoodFrom, text_short}
 

@@ -1,21 +1,20 @@
 -- The parts of an ended front are cut as a file is, and have its names.
-use Rattle.std.proofs.Common.{◌≡◌, ◌⊎◌, ℕ, ◌≤◌, Bool, true, false, cond, not, ◌&&◌, ◌||◌, List, [], ◌∷◌, ◌++◌, length, map, Option, Some, None, is_none, option_map, option_to_list, ◌==◌, MatchBool, refl, sym, ap, subst, ◌∙◌, append_assoc, append-nil, filter_map}
+use Rattle.std.proofs.Common.{◌≡◌, ℕ, ◌≤◌, Bool, true, false, not, ◌&&◌, ◌||◌, List, [], ◌∷◌, ◌++◌, length, map, Option, Some, None, is_none, option_map, option_to_list, ◌==◌, MatchBool, refl, sym, ap, subst, ◌∙◌, append_assoc, append-nil, filter_map}
 use Rattle.std.specs.List.{list_all, list_any, cons_option, AllByRecursion}
-use Rattle.std.proofs.lemmas.Bool.{and_parts, or_parts, and_from, or_from, not-false, both_ways}
+use Rattle.std.proofs.lemmas.Bool.{and_parts, and_from, or_from, not-false}
 use Rattle.std.proofs.lemmas.List.Elements.{filter_map-append}
-use Rattle.std.proofs.lemmas.List.Folds.{list_any-append, list_all-append}
+use Rattle.std.proofs.lemmas.List.Folds.{list_any-append}
 use Rattle.mufom_numbers.specs.declared.taken.Span.{Span}
-use Rattle.mufom_expr.specs.declared.token.Letter.{Letter}
 use Rattle.mufom_expr.specs.Value.{variables_of}
 use Rattle.mufom_debug.specs.Marks.{joined}
 use Rattle.mufom_records.specs.declared.record.Record.{Record}
 use Rattle.mufom_records.specs.declared.record.Record.TheVariants as r
 use Rattle.mufom_module.specs.Contents.{any_of}
-use Rattle.mufom_module.specs.Pieces.{Piece, bytes_of, Kind, public, FileIndex, declared_by, of_kind, declared, is_declared, named_in_expression, named_at_once, index_of_variable, expression_of, tree_in, tree_of_piece, is_public_value, Once, value_of_public, section_base, is_same_saying, assigned_by, is_assigned}
+use Rattle.mufom_module.specs.Pieces.{Piece, Kind, public, FileIndex, declared_by, of_kind, declared, is_declared, named_in_expression, named_at_once, index_of_variable, expression_of, tree_in, is_public_value, Once, value_of_public, is_same_saying, assigned_by, is_assigned}
 use Rattle.mufom_module.specs.RecordParts.{Part, section_part, external_part, debug_part, data_part, trailer_part, part_of, stands_in, is_set_section, is_loading}
-use Rattle.mufom_module.specs.Grammar.{FileParts, header_of, behind_header, from_externals, from_debug, from_loads, from_trailer, module_end, IsPart, AreWhole, file_limit, IsCutInto, records_of, declares_again, says_again, names_unknown, has_no_section, Follows, FollowFrom, HasNames}
+use Rattle.mufom_module.specs.Grammar.{header_of, from_loads, IsPart, file_limit, IsCutInto, Follows, FollowFrom, HasNames}
 use Rattle.mufom_read.specs.Fronts.{Step, front_bytes}
-use Rattle.mufom_read.specs.Faults.{public_declared, has_unknown_variable, lacks_value}
+use Rattle.mufom_read.specs.Faults.{public_declared, has_unknown_variable}
 use Rattle.mufom_read.proofs.EndedParts.{IsKept, KeptFrom}
 use Rattle.mufom_read.proofs.EndedSliced.{IsGiven, Sliced}
 

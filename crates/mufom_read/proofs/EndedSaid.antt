@@ -167,7 +167,7 @@ begun row bytes next is = let e = ap length is.5 ∙ length-append is.1 is.2 in 
 
 -- ---- the front says the module
 
-sorted : (reads_debug : Bool) (front : List Step) (s : Sliced reads_debug front) → AreSorted (header_of s.f) s.f.sections s.f.externals s.f.loads s.f.trailer s.end
+pub sorted : (reads_debug : Bool) (front : List Step) (s : Sliced reads_debug front) → AreSorted (header_of s.f) s.f.sections s.f.externals s.f.loads s.f.trailer s.end
 sorted reads_debug front s = record {
   header = s.silent;
   sections = own_of section_part _ s.f.sections s.keep_sections;

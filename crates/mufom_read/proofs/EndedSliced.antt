@@ -1,23 +1,16 @@
 -- A sound front that has ended, as the parts of a file, with what its checks say of the records in them.
-use Rattle.std.proofs.Common.{◌≡◌, ◌⊎◌, ℕ, zero, suc, ◌+◌, ◌<◌, ◌≤◌, Bool, true, false, cond, not, ◌==◌, ◌&&◌, ◌||◌, List, [], ◌∷◌, ◌++◌, length, take, drop, Option, Some, None, is_none, refl, sym, ap, subst, ◌∙◌, inl, inr, arith, append_assoc, append-nil, filter_map, length-append, eqb-true}
+use Rattle.std.proofs.Common.{◌≡◌, ◌⊎◌, ℕ, Bool, true, false, not, ◌==◌, ◌&&◌, List, [], ◌∷◌, ◌++◌, length, Option, None, is_none, refl, sym, ap, subst, ◌∙◌, inl, inr, append_assoc, eqb-true}
 use Rattle.std.specs.List.{list_all, AllByRecursion}
-use Rattle.std.specs.Option.{option_or}
-use Rattle.std.proofs.lemmas.Bool.{and_parts, both_ways, not-false, not-true, true≢false}
-use Rattle.mufom_records.specs.declared.record.Record.{Record}
-use Rattle.mufom_records.specs.declared.record.Record.TheVariants as r
-use Rattle.mufom_records.specs.Fields.{first_of}
-use Rattle.mufom_records.specs.Layouts.{IsWholeRecord}
-use Rattle.mufom_debug.specs.Marks.{joined}
+use Rattle.std.proofs.lemmas.Bool.{both_ways, not-false, true≢false}
 use Rattle.mufom_module.specs.Pieces.{Piece, bytes_of}
-use Rattle.mufom_module.specs.RecordParts.{Part, extension_part, environment_part, section_part, external_part, debug_part, data_part, trailer_part, end_part, part_of, stands_in}
-use Rattle.mufom_module.specs.Grammar.{FileParts, header_of, debug_bytes, parts_of, module_end, from_trailer, from_loads, from_debug, from_externals, from_sections, behind_header, AreOfModes, header_modes, AreWhole, offset_in, offsets_in, StandAt}
-use Rattle.mufom_read.specs.Fronts.{Step, raw, read, step_bytes, front_bytes, size_of, pieces_of, placed_of, Placed, offsets_of, Place, first_present, parts_in_order, is_raw, is_module_end, is_ended}
-use Rattle.mufom_read.specs.Faults.{Fault, fault_if, is_bad_descriptor, is_left_for_later, first_fault, section_fault, lacks_base, external_fault, has_unknown_variable, lacks_value, whole_fault}
-use Rattle.mufom_read.proofs.EndedWalk.{bytes-append, size-append, pieces-append, IsWalk, no_fault}
-use Rattle.mufom_read.proofs.EndedRows.{IsBegin, IsDescriptor, begin_row, descriptor_row, end_bytes}
-use Rattle.mufom_read.proofs.EndedHeader.{ended-read, offsets-append, no_fault_if, InOrder, modes_from, OffsetRun, HeaderRun, header_run}
-use Rattle.mufom_read.proofs.EndedParts.{KeptFrom, IsOwn, Split}
-use Rattle.mufom_read.proofs.EndedChunks.{Chunk, EndsThere, Chunks, chunks_of, is_end}
+use Rattle.mufom_module.specs.RecordParts.{Part, section_part, external_part, debug_part, data_part, trailer_part, end_part, part_of, stands_in}
+use Rattle.mufom_module.specs.Grammar.{FileParts, header_of, parts_of, module_end, from_trailer, from_debug, from_externals, behind_header, AreOfModes, header_modes, AreWhole, offsets_in, StandAt}
+use Rattle.mufom_read.specs.Fronts.{Step, raw, read, front_bytes, pieces_of, placed_of, Placed, offsets_of, is_raw}
+use Rattle.mufom_read.specs.Faults.{Fault, fault_if, is_bad_descriptor, first_fault, section_fault, lacks_base, external_fault, has_unknown_variable, lacks_value, whole_fault}
+use Rattle.mufom_read.proofs.EndedWalk.{no_fault}
+use Rattle.mufom_read.proofs.EndedRows.{IsBegin, IsDescriptor}
+use Rattle.mufom_read.proofs.EndedHeader.{no_fault_if}
+use Rattle.mufom_read.proofs.EndedParts.{KeptFrom, IsOwn}
 
 -- ---- bytes of pieces
 

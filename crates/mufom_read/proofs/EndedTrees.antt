@@ -1,21 +1,21 @@
 -- Trees with positions in place of indexes: no position lies outside, and a program counter stays that of its section.
-use Rattle.std.proofs.Common.{◌≡◌, ◌⊎◌, ℕ, zero, suc, ◌+◌, ◌<◌, ◌≤◌, Bool, true, false, cond, not, ◌==◌, ◌&&◌, ◌||◌, nat_lt, nat_le, List, [], ◌∷◌, ◌++◌, length, map, position, Option, Some, None, option_map, option_to_list, unwrap_or, refl, sym, ap, subst, ◌∙◌, arith, append_assoc, append-nil, eqb-true, eq-eqb, ltb-true, ltb-false, filter_map}
+use Rattle.std.proofs.Common.{◌≡◌, ℕ, ◌<◌, ◌≤◌, Bool, true, false, cond, not, ◌==◌, nat_lt, nat_le, List, [], ◌∷◌, ◌++◌, length, map, position, Option, Some, None, option_map, option_to_list, unwrap_or, refl, sym, ap, subst, ◌∙◌, arith, append-nil, eqb-true, eq-eqb, ltb-true}
 use Rattle.std.specs.List.{list_all, list_any, position_or_len}
-use Rattle.std.proofs.lemmas.Bool.{and_parts, or_parts, and_from, or_from, or_left, not-false, both_ways, true≢false, not_from_true}
+use Rattle.std.proofs.lemmas.Bool.{and_parts, or_parts, and_from, or_from, or_left, not-false, not_from_true}
 use Rattle.std.proofs.lemmas.List.{map-append}
 use Rattle.std.proofs.lemmas.List.Elements.{filter_map-append}
-use Rattle.std.proofs.lemmas.List.Folds.{list_any-append, list_all-append, list_all-map}
+use Rattle.std.proofs.lemmas.List.Folds.{list_any-append, list_all-append}
 use Rattle.mufom_numbers.specs.declared.taken.Span.{Span}
 use Rattle.mufom_expr.specs.declared.token.Letter.{Letter}
 use Rattle.mufom_expr.specs.declared.token.Letter.TheVariants.{I, L, P, R, S, X}
 use Rattle.mufom_expr.specs.Tree.{Tree, number, variable, one, two}
 use Rattle.mufom_expr.specs.Value.{variables_of, with_variables}
-use Rattle.mufom_expr.specs.Spelled.{Indexes, list_of}
+use Rattle.mufom_expr.specs.Spelled.{Indexes}
 use Rattle.mufom_debug.specs.Marks.{joined}
 use Rattle.mufom_module.specs.declared.module.Parts.{Parts}
 use Rattle.mufom_module.specs.Contents.{any_of}
-use Rattle.mufom_module.specs.Defects.{counts_of, count_for, is_outside, names_outside, is_this, is_other_counter, has_other_counter}
-use Rattle.mufom_module.specs.Pieces.{Piece, Kind, section, public, reference, debug_name, FileIndex, kind_of_letter, of_kind, declared_by, declared, is_declared, tree_in, named_by, expression_of, tree_of_piece, index_of_variable, named_in_expression, is_public_value, named_at_once, position_in, positioned_variable, positioned}
+use Rattle.mufom_module.specs.Defects.{counts_of, is_outside, names_outside, is_this, is_other_counter, has_other_counter}
+use Rattle.mufom_module.specs.Pieces.{Piece, Kind, section, public, reference, FileIndex, kind_of_letter, of_kind, declared_by, declared, is_declared, tree_in, named_by, expression_of, index_of_variable, named_in_expression, is_public_value, named_at_once, position_in, positioned_variable, positioned}
 use Rattle.mufom_module.specs.Grammar.{names_unknown}
 use Rattle.mufom_read.specs.Faults.{counter_allowed, misplaces_counter}
 use Rattle.mufom_read.specs.Said.{indexes_in}

@@ -1,7 +1,7 @@
 -- A sound front as a walk: each step with what stands behind it, read by the place where it stands.
 use Rattle.std.proofs.Common.{◌≡◌, ◌⊎◌, ℕ, zero, suc, ◌+◌, ◌≤◌, Bool, true, false, List, [], ◌∷◌, ◌++◌, length, take, drop, Option, Some, None, refl, sym, ap, subst, ◌∙◌, inl, inr, arith, append_assoc, append-nil}
 use Rattle.std.specs.Option.{option_or}
-use Rattle.std.proofs.lemmas.List.{length-append, length-take, take-append-drop, take_at, drop_at}
+use Rattle.std.proofs.lemmas.List.{length-append, take-append-drop, drop_at}
 use Rattle.std.proofs.lemmas.List.Elements.{filter_map-append}
 use Rattle.mufom_numbers.specs.declared.taken.Taken.{Taken}
 use Rattle.mufom_numbers.specs.declared.taken.Taken.TheVariants.{Got, More, Bad}
@@ -15,7 +15,7 @@ use Rattle.mufom_records.specs.Reading.{record_at}
 use Rattle.mufom_records.proofs.RecordLaws.{record_at-got}
 use Rattle.mufom_module.specs.Pieces.{Piece}
 use Rattle.mufom_read.specs.Fronts.{Step, raw, read, step_bytes, front_bytes, size_of, piece_of, pieces_of, Extent, Place, in_header, in_part, at_end, place_behind, header_mode, is_raw, body_mode, as_step, raw_step, step_in, step_at, next_step, is_ended}
-use Rattle.mufom_read.specs.Faults.{Fault, ended_part_fault, step_fault, fault_after}
+use Rattle.mufom_read.specs.Faults.{Fault, ended_part_fault, step_fault}
 use Rattle.mufom_read.specs.Judging.{IsSoundFrom, IsSoundFront}
 
 -- ---- bytes and records of fronts

@@ -23,3 +23,15 @@ pub mod SpelledKept
 pub mod SpelledOffsets
 pub mod SpelledFile
 pub mod SpelledFront
+pub mod EndedFront
+pub mod FrontsOne
+pub mod StayLaws
+pub mod FrontJudged
+pub mod WeighTrees
+pub mod WeighSums
+pub mod WeighRecords
+pub mod WeighEntries
+pub mod WeighNames
+pub mod WeighLoads
+pub mod WeighFiles
+pub mod SpelledJudged

@@ -1,13 +1,12 @@
 -- What holds of judgments. Streams are of bytes throughout.
-use Rattle.std.specs.Prelude.{◌≡◌, ◌≢◌, ◌⊎◌, ℕ, ◌<◌, ◌≤◌, ◌*◌, Bool, true, List, [], ◌++◌, length, take}
+use Rattle.std.specs.Prelude.{◌≡◌, ◌≢◌, ◌⊎◌, ℕ, ◌≤◌, ◌*◌, Bool, true, List, [], ◌++◌, length}
 use Rattle.mufom_numbers.specs.declared.reason.Reason.{Reason}
-use Rattle.mufom_numbers.specs.declared.reason.Reason.TheVariants as why
 use Rattle.mufom_numbers.specs.Spelling.{AreBytes}
 use Rattle.mufom_module.specs.declared.module.Parts.{Parts}
 use Rattle.mufom_module.specs.Written.{weight}
 use Rattle.mufom_module.specs.Grammar.{SpellsModule, FileParts, IsCutInto, HasNames, Says, indexes_of, file_limit}
 use Rattle.mufom_read.specs.Fronts.{Step, size_of, is_ended}
-use Rattle.mufom_read.specs.Judging.{IsSoundFront, IsRefusedAt, IsTruncated, IsModule, Judgment, refusal, IsJudged}
+use Rattle.mufom_read.specs.Judging.{IsSoundFront, IsRefusedAt, IsTruncated, IsModule, Judgment, IsJudged}
 use Rattle.mufom_read.specs.Said.{IsSaidBy}
 
 -- Of two sound fronts of a stream one begins with the other.

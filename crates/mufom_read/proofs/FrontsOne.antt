@@ -1,0 +1,129 @@
+-- Of two sound fronts of a stream one begins with the other, and a stream is refused once.
+use Rattle.std.proofs.Common.{◌≡◌, ◌⊎◌, ℕ, ◌+◌, ◌<◌, ◌≤◌, Bool, true, List, [], ◌∷◌, ◌++◌, length, drop, Option, Some, None, refl, sym, ap, subst, ◌∙◌, inl, inr, arith, append_assoc, append-nil}
+use Rattle.std.proofs.lemmas.Bool.{both_ways}
+use Rattle.std.proofs.lemmas.List.{drop-drop, length-append}
+use Rattle.mufom_numbers.specs.declared.reason.Reason.{Reason}
+use Rattle.mufom_numbers.specs.declared.taken.Taken.{Taken}
+use Rattle.mufom_numbers.specs.declared.taken.Taken.TheVariants.{More}
+use Rattle.mufom_module.specs.Grammar.{file_limit}
+use Rattle.mufom_read.specs.Fronts.{Step, step_bytes, front_bytes, size_of, next_step, is_ended}
+use Rattle.mufom_read.specs.Faults.{Fault, fault_after}
+use Rattle.mufom_read.specs.Judging.{IsSoundFrom, IsSoundFront, within_limit, HasFault, EndsAt, IsWaiting, IsRefusedAt, IsTruncated}
+use Rattle.mufom_read.specs.Laws.{FrontsAreOne, RefusalIsSingle}
+use Rattle.mufom_read.proofs.EndedWalk.{taken}
+
+got_step : (a b : Step) (m n : ℕ) (answer : Taken Step) → answer ≡ taken a m → answer ≡ taken b n → a ≡ b
+got_step a b m n answer x y = let both : taken a m ≡ taken b n = sym x ∙ y in cc
+
+prefix_of : (reads_debug : Bool) (before a b : List Step) (rest : List ℕ) → IsSoundFrom reads_debug before a rest → IsSoundFrom reads_debug before b rest
+    → ((more : List Step) × (b ≡ a ++ more)) ⊎ ((more : List Step) × (a ≡ b ++ more))
+prefix_of reads_debug before [] b rest x y = inl (b, refl)
+prefix_of reads_debug before (s ∷ a) [] rest x y = inr (s ∷ a, refl)
+prefix_of reads_debug before (s ∷ a) (t ∷ b) rest x y =
+    let same : t ≡ s = got_step t s (length (step_bytes t)) (length (step_bytes s)) (next_step reads_debug before rest) y.2 x.2 in
+    let From : Step → Type 0 = λ u. IsSoundFrom reads_debug (before ++ u ∷ []) b (drop (length (step_bytes u)) rest) in
+    elim (prefix_of reads_debug (before ++ s ∷ []) a b (drop (length (step_bytes s)) rest) x.3 (subst From same y.3)) [
+      | inl longer ↦ inl (longer.0, ap (λ (u : Step). u ∷ b) same ∙ ap (λ (us : List Step). s ∷ us) longer.1)
+      | inr shorter ↦ inr (shorter.0, ap (λ (us : List Step). s ∷ us) shorter.1 ∙ ap (λ (u : Step). u ∷ (b ++ shorter.0)) (sym same))
+    ]
+
+pub fronts_are_one : FrontsAreOne
+fronts_are_one reads_debug bytes a b x y = prefix_of reads_debug [] a b bytes x y
+
+-- ---- the longest front
+
+-- behind the first steps of a sound front the others go on
+pub sound_behind : (reads_debug : Bool) (before a more : List Step) (rest : List ℕ) → IsSoundFrom reads_debug before (a ++ more) rest → IsSoundFrom reads_debug (before ++ a) more (drop (size_of a) rest)
+sound_behind reads_debug before [] more rest h = subst (λ (l : List Step). IsSoundFrom reads_debug l more rest) (sym (append-nil before)) h
+sound_behind reads_debug before (s ∷ a) more rest h =
+    let n = length (step_bytes s) in
+    let size : size_of (s ∷ a) ≡ n + size_of a = length-append (step_bytes s) (front_bytes a) in
+    let at : drop (size_of a) (drop n rest) ≡ drop (size_of (s ∷ a)) rest = drop-drop (size_of a) n rest ∙ ap (λ k. drop k rest) (sym size) in
+    subst (λ (l : List ℕ). IsSoundFrom reads_debug (before ++ s ∷ a) more l) at
+    (subst (λ (l : List Step). IsSoundFrom reads_debug l more (drop (size_of a) (drop n rest))) (append_assoc before (s ∷ []) a) (sound_behind reads_debug (before ++ s ∷ []) a more (drop n rest) h.3))
+
+-- nothing goes on behind a front: it has ended, a fault stands there, or more bytes are wanted
+abbrev pub IsStuck : Bool → List Step → List ℕ → Type 0
+IsStuck reads_debug front rest = (is_ended front ≡ true) ⊎ (((fault : Fault) × (fault_after reads_debug front rest ≡ Some fault)) ⊎ (next_step reads_debug front rest ≡ More))
+
+abbrev wanting : Taken Step
+wanting = More
+
+none_or_some : (o : Option Fault) (fault : Fault) → o ≡ None → o ≡ Some fault → ⊥
+none_or_some None fault x y = cc
+none_or_some (Some it) fault x y = cc
+
+no_step : (reads_debug : Bool) (front : List Step) (s : Step) (steps : List Step) (rest : List ℕ) → IsStuck reads_debug front rest → IsSoundFrom reads_debug front (s ∷ steps) rest → ⊥
+no_step reads_debug front s steps rest (inl ended) h = both_ways (is_ended front) h.0 ended
+no_step reads_debug front s steps rest (inr (inl fault)) h = none_or_some (fault_after reads_debug front rest) fault.0 h.1 fault.1
+no_step reads_debug front s steps rest (inr (inr more)) h = let wrong : wanting ≡ taken s (length (step_bytes s)) = sym more ∙ h.2 in cc
+
+stuck_end : (reads_debug : Bool) (bytes : List ℕ) (a more : List Step) → IsStuck reads_debug a (drop (size_of a) bytes) → IsSoundFront reads_debug (a ++ more) bytes → more ≡ []
+stuck_end reads_debug bytes a [] stuck h = refl
+stuck_end reads_debug bytes a (s ∷ more) stuck h = absurd (no_step reads_debug a s more (drop (size_of a) bytes) stuck (sound_behind reads_debug [] a (s ∷ more) bytes h))
+
+-- two sound fronts behind which nothing goes on are one
+pub one_longest : (reads_debug : Bool) (bytes : List ℕ) (a b : List Step) → IsSoundFront reads_debug a bytes → IsSoundFront reads_debug b bytes → IsStuck reads_debug a (drop (size_of a) bytes) → IsStuck reads_debug b (drop (size_of b) bytes) → a ≡ b
+one_longest reads_debug bytes a b x y stuck_a stuck_b = elim (prefix_of reads_debug [] a b bytes x y) [
+    | inl longer ↦ sym (longer.1 ∙ ap (λ l. a ++ l) (stuck_end reads_debug bytes a longer.0 stuck_a (subst (λ (l : List Step). IsSoundFront reads_debug l bytes) longer.1 y)) ∙ append-nil a)
+    | inr shorter ↦ shorter.1 ∙ ap (λ l. b ++ l) (stuck_end reads_debug bytes b shorter.0 stuck_b (subst (λ (l : List Step). IsSoundFront reads_debug l bytes) shorter.1 x)) ∙ append-nil b
+  ]
+
+-- ---- what a stream is said to be
+
+pub fault_stuck : (reads_debug : Bool) (bytes : List ℕ) (place : ℕ) (reason : Reason) (h : HasFault reads_debug bytes place reason) → IsStuck reads_debug h.front (drop (size_of h.front) (within_limit bytes))
+fault_stuck reads_debug bytes place reason h = inr (inl ((place, reason), h.fault))
+
+pub waiting_stuck : (reads_debug : Bool) (bytes pending : List ℕ) (h : IsWaiting reads_debug bytes pending) → IsStuck reads_debug h.front (drop (size_of h.front) (within_limit bytes))
+waiting_stuck reads_debug bytes pending h = inr (inr (subst (λ (l : List ℕ). next_step reads_debug h.front l ≡ More) h.behind h.wanting))
+
+waiting_faultless : (reads_debug : Bool) (bytes pending : List ℕ) (h : IsWaiting reads_debug bytes pending) → fault_after reads_debug h.front (drop (size_of h.front) (within_limit bytes)) ≡ None
+waiting_faultless reads_debug bytes pending h = subst (λ (l : List ℕ). fault_after reads_debug h.front l ≡ None) h.behind h.faultless
+
+-- where a fault stands the module has not ended
+pub fault_not_ended : (reads_debug : Bool) (bytes : List ℕ) (place other : ℕ) (reason : Reason) → HasFault reads_debug bytes place reason → EndsAt reads_debug bytes other → ⊥
+fault_not_ended reads_debug bytes place other reason a b =
+    let same = one_longest reads_debug (within_limit bytes) a.front b.front a.sound b.sound (fault_stuck reads_debug bytes place reason a) (inl b.ended) in
+    both_ways (is_ended a.front) a.unended (ap (λ l. is_ended l) same ∙ b.ended)
+
+-- and no bytes are wanted
+pub fault_not_waiting : (reads_debug : Bool) (bytes pending : List ℕ) (place : ℕ) (reason : Reason) → HasFault reads_debug bytes place reason → IsWaiting reads_debug bytes pending → ⊥
+fault_not_waiting reads_debug bytes pending place reason a b =
+    let same = one_longest reads_debug (within_limit bytes) a.front b.front a.sound b.sound (fault_stuck reads_debug bytes place reason a) (waiting_stuck reads_debug bytes pending b) in
+    let none = waiting_faultless reads_debug bytes pending b in
+    none_or_some (fault_after reads_debug b.front (drop (size_of b.front) (within_limit bytes))) (place, reason) none (ap (λ l. fault_after reads_debug l (drop (size_of l) (within_limit bytes))) (sym same) ∙ a.fault)
+
+-- where the module has ended no bytes are wanted
+pub ended_not_waiting : (reads_debug : Bool) (bytes pending : List ℕ) (place : ℕ) → EndsAt reads_debug bytes place → IsWaiting reads_debug bytes pending → ⊥
+ended_not_waiting reads_debug bytes pending place a b =
+    let same = one_longest reads_debug (within_limit bytes) a.front b.front a.sound b.sound (inl a.ended) (waiting_stuck reads_debug bytes pending b) in
+    both_ways (is_ended b.front) b.unended (ap (λ l. is_ended l) (sym same) ∙ a.ended)
+
+pub one_end : (reads_debug : Bool) (bytes : List ℕ) (place other : ℕ) → EndsAt reads_debug bytes place → EndsAt reads_debug bytes other → place ≡ other
+one_end reads_debug bytes place other a b =
+    let same = one_longest reads_debug (within_limit bytes) a.front b.front a.sound b.sound (inl a.ended) (inl b.ended) in
+    sym a.here ∙ ap size_of same ∙ b.here
+
+one_fault : (reads_debug : Bool) (bytes : List ℕ) (place other : ℕ) (reason why_ : Reason) → HasFault reads_debug bytes place reason → HasFault reads_debug bytes other why_ → (place ≡ other) × (reason ≡ why_)
+one_fault reads_debug bytes place other reason why_ a b =
+    let same = one_longest reads_debug (within_limit bytes) a.front b.front a.sound b.sound (fault_stuck reads_debug bytes place reason a) (fault_stuck reads_debug bytes other why_ b) in
+    let e : Some (place, reason) ≡ Some (other, why_) = sym a.fault ∙ ap (λ l. fault_after reads_debug l (drop (size_of l) (within_limit bytes))) same ∙ b.fault in
+    let pair : (place, reason) ≡ (other, why_) = cc in
+    (ap (λ (p : Fault). p.0) pair, ap (λ (p : Fault). p.1) pair)
+
+pub refusal_is_single : RefusalIsSingle
+refusal_is_single reads_debug bytes place other reason why_ fits (inl a) (inl b) = one_fault reads_debug bytes place other reason why_ a b
+refusal_is_single reads_debug bytes place other reason why_ fits (inl a) (inr (inl b)) = absurd (fault_not_ended reads_debug bytes place other reason a b.1)
+refusal_is_single reads_debug bytes place other reason why_ fits (inl a) (inr (inr b)) = absurd (fault_not_waiting reads_debug bytes b.3 place reason a b.4)
+refusal_is_single reads_debug bytes place other reason why_ fits (inr (inl a)) (inl b) = absurd (fault_not_ended reads_debug bytes other place why_ b a.1)
+refusal_is_single reads_debug bytes place other reason why_ fits (inr (inl a)) (inr (inl b)) = (one_end reads_debug bytes place other a.1 b.1, a.0 ∙ sym b.0)
+refusal_is_single reads_debug bytes place other reason why_ fits (inr (inl a)) (inr (inr b)) = absurd (ended_not_waiting reads_debug bytes b.3 place a.1 b.4)
+refusal_is_single reads_debug bytes place other reason why_ fits (inr (inr a)) (inl b) = absurd (fault_not_waiting reads_debug bytes a.3 other why_ b a.4)
+refusal_is_single reads_debug bytes place other reason why_ fits (inr (inr a)) (inr (inl b)) = absurd (ended_not_waiting reads_debug bytes a.3 other b.1 a.4)
+refusal_is_single reads_debug bytes place other reason why_ fits (inr (inr a)) (inr (inr b)) = (a.1 ∙ sym b.1, a.0 ∙ sym b.0)
+
+-- a stream that is cut off is not refused
+pub not_cut : (reads_debug : Bool) (bytes : List ℕ) (place : ℕ) (reason : Reason) → IsTruncated reads_debug bytes → IsRefusedAt reads_debug bytes place reason → ⊥
+not_cut reads_debug bytes place reason cut (inl a) = fault_not_waiting reads_debug bytes cut.1 place reason a cut.2
+not_cut reads_debug bytes place reason cut (inr (inl a)) = ended_not_waiting reads_debug bytes cut.1 place a.1 cut.2
+not_cut reads_debug bytes place reason cut (inr (inr a)) = let short : length bytes ≤ file_limit = cut.0 in let long : file_limit < length bytes = a.2 in absurd (omega arith)
