@@ -1,20 +1,18 @@
 -- What a record of an ended front brings to a module without a defect.
-use Rattle.std.proofs.Common.{◌≡◌, ◌⊎◌, ℕ, ◌+◌, ◌-◌, ◌<◌, ◌≤◌, Bool, true, false, cond, not, ◌==◌, ◌&&◌, ◌||◌, nat_lt, nat_le, List, [], ◌∷◌, ◌++◌, length, take, drop, slice_get, Option, Some, None, IfSome, option_map, unwrap_or, refl, sym, ap, subst, ◌∙◌, inl, inr, arith, append_assoc, append-nil, length-take, filter_map}
-use Rattle.std.specs.List.{list_all, list_any, cons_option, AllByRecursion}
-use Rattle.std.proofs.lemmas.Bool.{and_parts, or_parts, or_from, both_ways}
+use Rattle.std.proofs.Common.{◌≡◌, ℕ, ◌+◌, ◌-◌, ◌<◌, Bool, true, false, cond, ◌==◌, ◌&&◌, nat_lt, List, [], ◌∷◌, ◌++◌, length, drop, slice_get, Option, Some, None, IfSome, unwrap_or, refl, sym, ap, subst, ◌∙◌, arith, append_assoc, length-take, filter_map}
+use Rattle.std.specs.List.{list_any, cons_option, AllByRecursion}
+use Rattle.std.proofs.lemmas.Bool.{or_from}
 use Rattle.mufom_numbers.specs.declared.taken.Span.{Span}
 use Rattle.mufom_expr.specs.Tree.{Tree}
 use Rattle.mufom_expr.specs.Spelled.{Indexes}
 use Rattle.mufom_records.specs.declared.record.Mode.TheVariants as mode
-use Rattle.mufom_records.specs.declared.record.Record.{Record}
-use Rattle.mufom_records.specs.declared.record.Record.TheVariants as r
 use Rattle.mufom_records.specs.Fields.{first_of}
 use Rattle.mufom_records.specs.Layouts.{IsWholeRecord}
 use Rattle.mufom_module.specs.declared.module.Parts.{Parts}
 use Rattle.mufom_module.specs.Contents.{any_of}
 use Rattle.mufom_module.specs.Defects.{is_long, counts_of, names_outside, has_other_counter}
-use Rattle.mufom_module.specs.Pieces.{Piece, bytes_of, text_in, section, declared, named_by, expression_of, tree_in, is_public_value, position_in, positioned}
-use Rattle.mufom_module.specs.RecordParts.{Part, number_of, stands_in, opens_items, begins_item}
+use Rattle.mufom_module.specs.Pieces.{Piece, bytes_of, text_in, section, named_by, expression_of, tree_in, is_public_value, position_in, positioned}
+use Rattle.mufom_module.specs.RecordParts.{Part, number_of, opens_items, begins_item}
 use Rattle.mufom_module.specs.Gathered.{for_index}
 use Rattle.mufom_module.specs.Grammar.{AreWhole, has_no_section, names_unknown}
 use Rattle.mufom_read.specs.Fronts.{is_module_end}
@@ -71,9 +69,10 @@ good m all ix same are before behind p whole short keeps =
 pub good_from : (m : Parts) (all : List Piece) (ix : Indexes) → indexes_in all ≡ ix → AreCounts m (indexes_in all) → (part : Part) (before pieces behind : List Piece) → (before ++ pieces) ++ behind ≡ all
     → AllByRecursion (λ p. IsShort p.row) pieces → KeptFrom part before pieces → GoodFrom m ix before pieces
 good_from m all ix same are part before [] behind whole short own = tt
-good_from m all ix same are part before (p ∷ pieces) behind whole short own =
-    (good m all ix same are before (pieces ++ behind) p (sym (append_assoc before (p ∷ pieces) behind) ∙ whole) short.0 own.1,
-    good_from m all ix same are part (before ++ p ∷ []) pieces behind (ap (λ l. l ++ behind) (append_assoc before (p ∷ []) pieces) ∙ whole) short.1 own.2)
+good_from m all ix same are part before (p ∷ pieces) behind whole short own = (
+  good m all ix same are before (pieces ++ behind) p (sym (append_assoc before (p ∷ pieces) behind) ∙ whole) short.0 own.1,
+  good_from m all ix same are part (before ++ p ∷ []) pieces behind (ap (λ l. l ++ behind) (append_assoc before (p ∷ []) pieces) ∙ whole) short.1 own.2,
+)
 
 -- ---- texts
 

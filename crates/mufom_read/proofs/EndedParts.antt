@@ -1,22 +1,20 @@
 -- One part of a walk: the steps up to the part's end all lie in it.
-use Rattle.std.proofs.Common.{◌≡◌, ◌⊎◌, ℕ, zero, suc, ◌+◌, ◌<◌, ◌≤◌, Bool, true, false, cond, not, ◌==◌, ◌&&◌, ◌||◌, nat_lt, nat_le, List, [], ◌∷◌, ◌++◌, length, take, drop, Option, Some, None, refl, sym, ap, subst, ◌∙◌, inl, inr, arith, append_assoc, append-nil, ltb-false, filter_map, length-append}
-use Rattle.std.specs.List.{list_all, list_any, last_or, find}
-use Rattle.std.specs.Option.{option_or}
+use Rattle.std.proofs.Common.{◌≡◌, ◌⊎◌, ℕ, ◌+◌, ◌<◌, ◌≤◌, Bool, true, false, cond, not, ◌==◌, ◌&&◌, nat_lt, List, [], ◌∷◌, ◌++◌, length, Option, Some, None, refl, sym, ap, subst, ◌∙◌, inl, inr, arith, append_assoc, append-nil, ltb-false, filter_map, length-append}
+use Rattle.std.specs.List.{last_or}
 use Rattle.std.proofs.lemmas.Bool.{and_parts, and_from, not-false, both_ways, cases_eq, cases_lt}
 use Rattle.mufom_numbers.specs.declared.reason.Reason.{Reason}
 use Rattle.mufom_numbers.specs.declared.reason.Reason.TheVariants as why
-use Rattle.mufom_records.specs.declared.record.Mode.{Mode}
 use Rattle.mufom_records.specs.declared.record.Mode.TheVariants as mode
 use Rattle.mufom_records.specs.declared.record.Record.{Record}
 use Rattle.mufom_records.specs.declared.record.Record.TheVariants as r
 use Rattle.mufom_records.specs.Fields.{first_of}
 use Rattle.mufom_records.specs.Layouts.{IsWholeRecord}
 use Rattle.mufom_module.specs.Pieces.{Piece, bytes_of}
-use Rattle.mufom_module.specs.RecordParts.{Part, end_part, number_of, stands_in, opens_items, begins_item, mode_of}
-use Rattle.mufom_module.specs.Grammar.{offset_in, offsets_in, AreWhole, declares_again, says_again, names_unknown, has_no_section}
-use Rattle.mufom_read.specs.Fronts.{Step, raw, read, step_bytes, front_bytes, size_of, pieces_of, placed_of, offsets_of, Extent, Place, in_part, part_among, parts_in_order, part_at, place_by, place_behind, is_raw, awaits_items, body_mode, is_module_end, is_ended}
-use Rattle.mufom_read.specs.Faults.{Fault, fault_if, fault_for, has_bad_alignment, misplaces_counter, breaks, rules, rule_broken, part_record_fault, record_fault, step_fault}
-use Rattle.mufom_read.proofs.EndedWalk.{bytes-append, size-append, pieces-append, IsRead, IsRaw, IsNextAt, IsWalk, taken, no_fault}
+use Rattle.mufom_module.specs.RecordParts.{Part, number_of, stands_in, opens_items, begins_item, mode_of}
+use Rattle.mufom_module.specs.Grammar.{offset_in, AreWhole, declares_again, says_again, names_unknown, has_no_section}
+use Rattle.mufom_read.specs.Fronts.{Step, raw, read, step_bytes, front_bytes, size_of, pieces_of, placed_of, offsets_of, Extent, Place, in_part, part_among, parts_in_order, place_by, place_behind, is_raw, awaits_items, body_mode, is_module_end, is_ended}
+use Rattle.mufom_read.specs.Faults.{fault_if, fault_for, has_bad_alignment, misplaces_counter, breaks, rule_broken, part_record_fault, record_fault, step_fault}
+use Rattle.mufom_read.proofs.EndedWalk.{bytes-append, size-append, pieces-append, IsRaw, IsNextAt, IsWalk, taken, no_fault}
 use Rattle.mufom_read.proofs.SpelledBegin.{body_begins, items_begin}
 use Rattle.mufom_read.proofs.EndedHeader.{last-append, ended-read, ended-raw, offsets-append, no_fault_if, IsHere, read_here, behind_header}
 
@@ -117,9 +115,9 @@ raw_or_read false = inr refl
 
 pub nothing_own : (reads_debug : Bool) (part : Part) (items : Bool) (before : List Piece) (behind : List ℕ) → IsOwn reads_debug part items before [] behind
 nothing_own reads_debug part items before behind = elim (raw_or_read (is_raw reads_debug part)) [
-    | inl yes_ ↦ inl (yes_, refl)
-    | inr no_ ↦ inr (no_, refl, tt, tt)
-  ]
+  | inl yes_ ↦ inl (yes_, refl)
+  | inr no_ ↦ inr (no_, refl, tt, tt)
+]
 
 -- at the part's end
 pub at_its_end : (reads_debug : Bool) (part : Part) (from to : ℕ) (all : List ℕ) (items : Bool) (before steps : List Step) → Ready reads_debug from to all items before steps → size_of before ≡ to
@@ -127,7 +125,9 @@ pub at_its_end : (reads_debug : Bool) (part : Part) (from to : ℕ) (all : List 
 at_its_end reads_debug part from to all items before steps ready here =
     let same = append-nil before in
     record {
-      own = []; later = steps; split = refl;
+      own = [];
+      later = steps;
+      split = refl;
       walk = subst (λ (l : List Step). IsWalk reads_debug l steps) (sym same) ready.walk;
       unended = ap (λ l. is_ended l) same ∙ ready.unended;
       ends = ap (λ l. is_ended (l ++ steps)) same ∙ ready.ends;
@@ -188,7 +188,9 @@ raw_split : (reads_debug : Bool) (part : Part) (to : ℕ) (items : Bool) (before
 raw_split reads_debug part to items before b steps is rest =
     let same = append_assoc before (raw b ∷ []) rest.own in
     record {
-      own = raw b ∷ rest.own; later = rest.later; split = ap (λ l. raw b ∷ l) rest.split;
+      own = raw b ∷ rest.own;
+      later = rest.later;
+      split = ap (λ l. raw b ∷ l) rest.split;
       walk = subst (λ (l : List Step). IsWalk reads_debug l rest.later) same rest.walk;
       unended = ap (λ l. is_ended l) (sym same) ∙ rest.unended;
       ends = ap (λ l. is_ended (l ++ rest.later)) (sym same) ∙ rest.ends;
@@ -231,7 +233,9 @@ read_split reads_debug part to items before start p steps is its own keeps rest 
     let same = append_assoc before (it ∷ []) rest.own in
     let none : offsets_of (it ∷ []) ≡ [] = ap (λ (o : Option ℕ). filter_map (λ (y : Option ℕ). y) (o ∷ [])) (no_offset part p.row own) in
     record {
-      own = it ∷ rest.own; later = rest.later; split = ap (λ l. it ∷ l) rest.split;
+      own = it ∷ rest.own;
+      later = rest.later;
+      split = ap (λ l. it ∷ l) rest.split;
       walk = subst (λ (l : List Step). IsWalk reads_debug l rest.later) same rest.walk;
       unended = ap (λ l. is_ended l) (sym same) ∙ rest.unended;
       ends = ap (λ l. is_ended (l ++ rest.later)) (sym same) ∙ rest.ends;
@@ -239,9 +243,12 @@ read_split reads_debug part to items before start p steps is its own keeps rest 
       offsets = offsets-append (it ∷ []) rest.own ∙ (λ i. none i ++ rest.offsets i);
       is_own = elim rest.is_own [
         | inl yes_ ↦ absurd (both_ways (is_raw reads_debug part) is yes_.0)
-        | inr no_ ↦ inr (is, ap (λ l. p.bytes ++ l) no_.1,
-            (subst (λ (l : List ℕ). IsWholeRecord (mode_of items p.bytes) p.row p.bytes (first_of l None)) (ap front_bytes rest.split ∙ bytes-append rest.own rest.later ∙ ap (λ l. l ++ front_bytes rest.later) (sym no_.1)) its, no_.2),
-            (own, keeps, subst (λ (l : List Piece). KeptFrom part l (pieces_of rest.own)) (pieces-append before (it ∷ [])) no_.3))
+        | inr no_ ↦ inr (
+          is,
+          ap (λ l. p.bytes ++ l) no_.1,
+          (subst (λ (l : List ℕ). IsWholeRecord (mode_of items p.bytes) p.row p.bytes (first_of l None)) (ap front_bytes rest.split ∙ bytes-append rest.own rest.later ∙ ap (λ l. l ++ front_bytes rest.later) (sym no_.1)) its, no_.2),
+          (own, keeps, subst (λ (l : List Piece). KeptFrom part l (pieces_of rest.own)) (pieces-append before (it ∷ [])) no_.3),
+        )
       ];
     }
 
@@ -271,7 +278,7 @@ as_read reads_debug part from to all items before step steps is other place read
     let whole_p = whole_by items (a && (b && c)) p (front_bytes steps) (may_by a b c items ready.flag) here.is_whole in
     subst (λ (s : Step). Ready reads_debug from to all items before (s ∷ steps) → Rest reads_debug part from to all before s steps → Split reads_debug part to items before (s ∷ steps)) (sym here.is_this)
     (λ ready rest. read_split reads_debug part to items before start p steps is whole_p facts.own facts.keeps
-        (rest (opens_items p.row) (read_ready reads_debug part from to all items before start p steps other ready facts.own facts.inside))) ready rest
+    (rest (opens_items p.row) (read_ready reads_debug part from to all items before start p steps other ready facts.own facts.inside))) ready rest
 
 -- a step of the part
 split_step : (reads_debug : Bool) (part : Part) (from to : ℕ) (all : List ℕ) (items : Bool) (before : List Step) (step : Step) (steps : List Step) → AllInside part from to all → (number_of part == 7) ≡ false
@@ -292,10 +299,10 @@ pub split_part : (reads_debug : Bool) (part : Part) (from to : ℕ) (all : List 
     → Ready reads_debug from to all items before steps → Split reads_debug part to items before steps
 split_part reads_debug part from to all items before [] within other ready = absurd (both_ways (is_ended before) ready.unended (ap (λ l. is_ended l) (sym (append-nil before)) ∙ ready.ends))
 split_part reads_debug part from to all items before (step ∷ steps) within other ready = elim (cases_eq (size_of before) to) [
-    | inl here ↦ at_its_end reads_debug part from to all items before (step ∷ steps) ready here
-    | inr not_here ↦ split_step reads_debug part from to all items before step steps within other ready (below_from (size_of before) to not_here ready.inside)
-        (λ later next. split_part reads_debug part from to all later (before ++ step ∷ []) steps within other next)
-  ]
+  | inl here ↦ at_its_end reads_debug part from to all items before (step ∷ steps) ready here
+  | inr not_here ↦ split_step reads_debug part from to all items before step steps within other ready (below_from (size_of before) to not_here ready.inside)
+      (λ later next. split_part reads_debug part from to all later (before ++ step ∷ []) steps within other next)
+]
   where
     below_from : (a b : ℕ) → (a ≡ b → ⊥) → a ≤ b → a < b
-    below_from a b no_ h = elim (cases_lt a b) [ | inl is ↦ is | inr is ↦ absurd (no_ (omega arith)) ]
+    below_from a b no_ h = elim (cases_lt a b) [ inl is ↦ is | inr is ↦ absurd (no_ (omega arith)) ]

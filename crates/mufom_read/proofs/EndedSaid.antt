@@ -1,35 +1,32 @@
 -- The module that the parts of an ended front say; the front says it too.
-use Rattle.std.proofs.Common.{◌≡◌, ◌⊎◌, ℕ, zero, suc, ◌+◌, ◌-◌, ◌<◌, ◌≤◌, Bool, true, false, cond, not, ◌==◌, ◌&&◌, ◌||◌, List, [], ◌∷◌, ◌++◌, length, map, take, drop, slice_get, slice_range, Option, Some, None, is_none, option_map, option_to_list, unwrap_or, refl, sym, ap, subst, ◌∙◌, inl, inr, arith, append_assoc, append-nil, filter_map, eqb-true, eq-eqb, length-append}
-use Rattle.std.specs.List.{list_all, list_any, cons_option}
-use Rattle.std.proofs.lemmas.Bool.{and_parts, or_parts, or_left, or_right, both_ways, not-false}
+use Rattle.std.proofs.Common.{◌≡◌, ◌⊎◌, ℕ, zero, suc, ◌+◌, ◌-◌, ◌≤◌, Bool, true, false, cond, ◌==◌, ◌&&◌, ◌||◌, List, [], ◌∷◌, ◌++◌, length, take, drop, slice_get, slice_range, Option, Some, None, option_to_list, refl, sym, ap, subst, ◌∙◌, inl, inr, arith, append_assoc, eqb-true, length-append}
+use Rattle.std.specs.List.{list_any, cons_option}
+use Rattle.std.proofs.lemmas.Bool.{and_parts, or_right, both_ways, not-false}
 use Rattle.std.proofs.lemmas.List.{take_at, drop_at}
-use Rattle.std.proofs.lemmas.List.Elements.{filter_map-append}
 use Rattle.mufom_numbers.specs.declared.taken.Span.{Span}
 use Rattle.mufom_expr.specs.Tree.{Tree}
 use Rattle.mufom_expr.specs.Spelled.{Indexes}
 use Rattle.mufom_records.specs.declared.record.Mode.TheVariants as mode
 use Rattle.mufom_records.specs.declared.record.Record.{Record}
 use Rattle.mufom_records.specs.declared.record.Record.TheVariants as r
-use Rattle.mufom_records.specs.Fields.{is_one_of}
-use Rattle.mufom_records.specs.Layouts.{orders, IsWholeRecord}
-use Rattle.mufom_debug.specs.Marks.{marks_of}
+use Rattle.mufom_records.specs.Layouts.{IsWholeRecord}
 use Rattle.mufom_module.specs.declared.module.Order.{Order}
 use Rattle.mufom_module.specs.declared.module.Order.TheVariants.{Least, Most}
 use Rattle.mufom_module.specs.declared.module.Parts.{Parts}
 use Rattle.mufom_module.specs.Contents.{any_of}
 use Rattle.mufom_module.specs.Defects.{is_unit_count}
 use Rattle.mufom_module.specs.Pieces.{Piece, bytes_of, text_in, declared, section, public, reference, debug_name, start_address, is_same_saying, assigned_by, is_assigned}
-use Rattle.mufom_module.specs.RecordParts.{Part, extension_part, environment_part, section_part, external_part, data_part, trailer_part, stands_in}
+use Rattle.mufom_module.specs.RecordParts.{section_part, external_part, data_part, trailer_part, stands_in}
 use Rattle.mufom_module.specs.Gathered.{sections_of, publics_of, references_of, marks, loads_of, start_by, starts_of}
-use Rattle.mufom_module.specs.Grammar.{FileParts, header_of, parts_of, behind_header, from_sections, says_again, indexes_of, offsets_in, StandAt, IsLetterOf, NamesModule, Describes, Says}
-use Rattle.mufom_read.specs.Fronts.{Step, front_bytes, pieces_of, offsets_of, first_present}
+use Rattle.mufom_module.specs.Grammar.{FileParts, header_of, parts_of, behind_header, from_sections, indexes_of, offsets_in, StandAt, IsLetterOf, NamesModule, Describes, Says}
+use Rattle.mufom_read.specs.Fronts.{Step, front_bytes, pieces_of, first_present}
 use Rattle.mufom_read.specs.Faults.{is_bad_descriptor}
-use Rattle.mufom_read.specs.Said.{indexes_in, bytes_between, part_bytes, IsSaidBy}
+use Rattle.mufom_read.specs.Said.{indexes_in, bytes_between, IsSaidBy}
 use Rattle.mufom_read.proofs.EndedRows.{IsOrder}
 use Rattle.mufom_read.proofs.EndedParts.{KeptFrom}
 use Rattle.mufom_read.proofs.EndedSliced.{Sliced}
 use Rattle.mufom_read.proofs.EndedNames.{own_of, assigned-append}
-use Rattle.mufom_read.proofs.EndedGathered.{AreSorted, all_pieces, same_sections, same_indexes, same_publics, same_references, no_marks, same_loads, same_starts}
+use Rattle.mufom_read.proofs.EndedGathered.{AreSorted, same_sections, same_indexes, same_publics, same_references, no_marks, same_loads, same_starts}
 
 -- ---- the order of bytes
 
@@ -130,17 +127,17 @@ first_at offsets n [] some h = ap first_present h ∙ present n some where
   present (suc n) some = refl
 first_at [] n (x ∷ parts) some h = absurd h
 first_at (zero ∷ offsets) n (x ∷ parts) some h = let both = stand_parts 0 offsets n x parts h in elim both.0 [
-    | inl here ↦ absurd (omega arith)
-    | inr none ↦ first_at offsets (n + length x) parts (omega arith) both.1 ∙ ap (λ (l : List ℕ). n + length l) none.1 ∙ omega arith
-  ]
-first_at (suc w ∷ offsets) n (x ∷ parts) some h = elim (stand_parts (suc w) offsets n x parts h).0 [ | inl here ↦ here | inr none ↦ absurd (omega (arith, none.0)) ]
+  | inl here ↦ absurd (omega arith)
+  | inr none ↦ first_at offsets (n + length x) parts (omega arith) both.1 ∙ ap (λ (l : List ℕ). n + length l) none.1 ∙ omega arith
+]
+first_at (suc w ∷ offsets) n (x ∷ parts) some h = elim (stand_parts (suc w) offsets n x parts h).0 [ inl here ↦ here | inr none ↦ absurd (omega (arith, none.0)) ]
 
 between : (w : ℕ) (offsets pre x rest : List ℕ) (parts : List (List ℕ)) → 1 ≤ length pre → StandAt (w ∷ offsets) (length pre) (x ∷ parts) → x ≡ bytes_between (w ∷ offsets) (pre ++ (x ++ rest))
-between zero offsets pre x rest parts some h = elim (stand_parts 0 offsets (length pre) x parts h).0 [ | inl here ↦ absurd (omega arith) | inr none ↦ none.1 ]
+between zero offsets pre x rest parts some h = elim (stand_parts 0 offsets (length pre) x parts h).0 [ inl here ↦ absurd (omega arith) | inr none ↦ none.1 ]
 between (suc w) offsets pre x rest parts some h = let both = stand_parts (suc w) offsets (length pre) x parts h in elim both.0 [
-    | inl here ↦ between_at (suc w) (first_present offsets) pre x rest here (first_at offsets (length pre + length x) parts (omega arith) both.1)
-    | inr none ↦ absurd (omega (arith, none.0))
-  ]
+  | inl here ↦ between_at (suc w) (first_present offsets) pre x rest here (first_at offsets (length pre + length x) parts (omega arith) both.1)
+  | inr none ↦ absurd (omega (arith, none.0))
+]
   where
     between_at : (from to : ℕ) (pre x rest : List ℕ) → from ≡ length pre → to ≡ length pre + length x → x ≡ slice_range (pre ++ (x ++ rest)) from to
     between_at from to pre x rest a b = sym (ap (take (to - from)) (drop_at pre (x ++ rest) from (sym a)) ∙ take_at x rest (to - from) (omega arith))

@@ -1,17 +1,16 @@
 -- With which bytes records and items begin.
-use Rattle.std.proofs.Common.{◌≡◌, ℕ, ◌+◌, ◌<◌, ◌≤◌, Bool, true, false, cond, ◌==◌, ◌&&◌, ◌||◌, nat_le, List, [], ◌∷◌, ◌++◌, length, Option, Some, None, refl, sym, ap, subst, ◌∙◌, arith, eqb-true}
-use Rattle.std.proofs.lemmas.Bool.{both_ways, or_left, or_right, or_from}
+use Rattle.std.proofs.Common.{◌≡◌, ℕ, ◌+◌, ◌≤◌, Bool, true, false, cond, ◌==◌, nat_le, List, [], ◌∷◌, ◌++◌, length, Option, Some, None, refl, ap, ◌∙◌, arith, eqb-true}
+use Rattle.std.proofs.lemmas.Bool.{or_left, or_right, or_from}
 use Rattle.mufom_expr.specs.TokenAt.{begins_number}
 use Rattle.mufom_numbers.specs.declared.reason.Reason.TheVariants as why
-use Rattle.mufom_records.specs.declared.record.Mode.{Mode}
 use Rattle.mufom_records.specs.declared.record.Mode.TheVariants as mode
 use Rattle.mufom_records.specs.declared.record.Record.{Record}
 use Rattle.mufom_records.specs.declared.record.Record.TheVariants as r
-use Rattle.mufom_records.specs.Fields.{Field, ValueOf, is_one_of, first_of}
+use Rattle.mufom_records.specs.Fields.{ValueOf}
 use Rattle.mufom_records.specs.Layouts
 use Rattle.mufom_records.proofs.NumberLaws.{number_first}
-use Rattle.mufom_module.specs.RecordParts.{begins_item, mode_of}
-use Rattle.mufom_read.proofs.EndedRows.{Promised, Promises, promised, by_test}
+use Rattle.mufom_module.specs.RecordParts.{begins_item}
+use Rattle.mufom_read.proofs.EndedRows.{Promises, promised, by_test}
 
 -- ---- records
 

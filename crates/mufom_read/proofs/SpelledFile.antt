@@ -1,10 +1,8 @@
 -- A valid module's file keeps to the rules of all its parts.
-use Rattle.std.proofs.Common.{◌≡◌, ◌⊎◌, ℕ, Bool, true, false, cond, not, ◌==◌, ◌&&◌, ◌||◌, List, [], ◌∷◌, ◌++◌, Option, Some, None, option_to_list, refl, sym, ap, subst, ◌∙◌, append_assoc, append-nil, filter_map, eq-eqb}
-use Rattle.std.specs.List.{list_all, list_any, last_or, cons_option}
+use Rattle.std.proofs.Common.{◌≡◌, ℕ, Bool, true, false, ◌==◌, ◌&&◌, ◌||◌, List, [], ◌++◌, Option, Some, None, option_to_list, refl, sym, ap, subst, ◌∙◌, append_assoc, append-nil, eq-eqb}
+use Rattle.std.specs.List.{list_all, list_any, last_or}
 use Rattle.std.proofs.lemmas.Bool.{and_from, or_parts, not-false, not_from_true, true≢false}
 use Rattle.std.proofs.lemmas.List.Elements.{filter_map-append}
-use Rattle.mufom_expr.specs.Tree.{Tree}
-use Rattle.mufom_expr.specs.Spelled.{Indexes}
 use Rattle.mufom_records.specs.declared.record.Record.{Record}
 use Rattle.mufom_records.specs.declared.record.Record.TheVariants as r
 use Rattle.mufom_names.specs.declared.name.Public.{Public}
@@ -13,8 +11,8 @@ use Rattle.mufom_module.specs.declared.module.Parts.{Parts}
 use Rattle.mufom_module.specs.declared.module.Defect.TheVariants as defect
 use Rattle.mufom_module.specs.Contents.{any_of, any_expression, debug_marks, placed_loads}
 use Rattle.mufom_module.specs.Defects as d
-use Rattle.mufom_module.specs.Pieces.{Piece, section, public, reference, of_kind, declared_by, declared, bytes_of}
-use Rattle.mufom_module.specs.RecordParts.{Part, section_part, external_part, data_part, trailer_part, number_of, stands_in}
+use Rattle.mufom_module.specs.Pieces.{Piece, section, public, reference, of_kind, declared_by, declared}
+use Rattle.mufom_module.specs.RecordParts.{section_part, external_part, data_part, trailer_part, stands_in}
 use Rattle.mufom_module.specs.Gathered.{sections_of, publics_of, loads_of, starts_of}
 use Rattle.mufom_module.specs.Grammar.{FileParts, header_of, from_trailer, IsCutInto, indexes_of, records_of, FollowFrom, HasNames, Describes, Says}
 use Rattle.mufom_read.specs.Faults.{set_by, current_section, is_bad_descriptor}
@@ -52,7 +50,12 @@ sound_module m h =
     let second = or_parts (any_of (d.has_other_counter None) m.start) _ first.1 in
     let third = or_parts (list_any (any_expression (d.has_other_counter None)) (debug_marks m)) _ second.1 in
     record {
-      units = not-false (d.is_unit_count m.maus) maus.0; aligned = align.0; based = base.0; publics = first.0; start = second.0; loads = third.1;
+      units = not-false (d.is_unit_count m.maus) maus.0;
+      aligned = align.0;
+      based = base.0;
+      publics = first.0;
+      start = second.0;
+      loads = third.1;
     }
 
 good_descriptor : (m : Parts) (row : Record) → d.is_unit_count m.maus ≡ true → IsDescriptor row → Describes m row → is_bad_descriptor row ≡ false
@@ -117,14 +120,14 @@ any_list test (Some x) h = ap (λ b. b || false) h
 keep_sections : (f : FileParts) (m : Parts) → IsSound m → m.sections ≡ sections_of f.sections → IsSilent (header_of f) → list_all (λ p. stands_in section_part p.row) f.sections ≡ true → FollowFrom [] f.sections → KeptFrom section_part (header_of f) f.sections
 keep_sections f m good says quiet own follow =
     subst (λ (l : List Piece). KeptFrom section_part l f.sections) (append-nil (header_of f))
-        (keep_part section_part (header_of f) [] f.sections quiet own follow (all_aligned f.sections [] f.sections refl (ap (list_any d.has_bad_alignment) (sym says) ∙ good.aligned) follow) (section_counters [] f.sections own))
+    (keep_part section_part (header_of f) [] f.sections quiet own follow (all_aligned f.sections [] f.sections refl (ap (list_any d.has_bad_alignment) (sym says) ∙ good.aligned) follow) (section_counters [] f.sections own))
 
 keep_externals : (f : FileParts) (m : Parts) → IsSound m → m.names.publics ≡ publics_of (indexes_of f) f.externals → IsSilent (header_of f) → list_all (λ p. stands_in section_part p.row) f.sections ≡ true
     → list_all (λ p. stands_in external_part p.row) f.externals ≡ true → FollowFrom f.sections f.externals → KeptFrom external_part (header_of f ++ f.sections) f.externals
 keep_externals f m good says quiet others own follow =
     let same = append-nil f.sections in
     let counters = public_counters (indexes_of f) f.sections f.externals [] f.externals refl others own (ap (list_any (λ (s : Public). d.has_other_counter None s.value)) (sym says) ∙ good.publics)
-        (subst (λ (l : List Piece). FollowFrom l f.externals) (sym same) follow) in
+    (subst (λ (l : List Piece). FollowFrom l f.externals) (sym same) follow) in
     keep_part external_part (header_of f) f.sections f.externals quiet own follow (none_aligned external_part f.externals refl own) (subst (λ (l : List Piece). CounterFrom l f.externals) same counters)
 
 keep_loads : (bytes : List ℕ) (reads_debug : Bool) (f : FileParts) (m : Parts) → IsCutInto bytes reads_debug f → IsSound m → m.loads ≡ loads_of (indexes_of f) m.maus f.loads → IsSilent (header_of f) → FollowFrom (f.sections ++ f.externals) f.loads
@@ -134,9 +137,9 @@ keep_loads bytes reads_debug f m cut good says quiet follow =
     let none = no_current f.sections f.externals cut.sections.own cut.externals.own in
     let loads : NoneMisplaced None (loads_of ix m.maus f.loads) = subst (λ (l : List Load). NoneMisplaced None l) says good.loads in
     let counters = load_counters ix m.maus false (f.sections ++ f.externals) f.loads (from_trailer f) cut.loads.are_whole cut.loads.own follow (are_in f cut.sections.own cut.externals.own)
-        (subst (IsListed ix) (sym none) tt) (subst (λ (o : Option ℕ). NoneMisplaced (placed_section ix o) (loads_of ix m.maus f.loads)) (sym none) loads) (λ e. absurd (true≢false (sym e))) in
+    (subst (IsListed ix) (sym none) tt) (subst (λ (o : Option ℕ). NoneMisplaced (placed_section ix o) (loads_of ix m.maus f.loads)) (sym none) loads) (λ e. absurd (true≢false (sym e))) in
     subst (λ (l : List Piece). KeptFrom data_part l f.loads) (sym (append_assoc (header_of f) f.sections f.externals))
-        (keep_part data_part (header_of f) (f.sections ++ f.externals) f.loads quiet cut.loads.own follow (none_aligned data_part f.loads refl cut.loads.own) counters)
+    (keep_part data_part (header_of f) (f.sections ++ f.externals) f.loads quiet cut.loads.own follow (none_aligned data_part f.loads refl cut.loads.own) counters)
 
 keep_trailer : (bytes : List ℕ) (reads_debug : Bool) (f : FileParts) (m : Parts) → IsCutInto bytes reads_debug f → IsSound m → option_to_list m.start ≡ starts_of (indexes_of f) f.trailer → IsSilent (header_of f)
     → FollowFrom ((f.sections ++ f.externals) ++ f.loads) f.trailer → KeptFrom trailer_part (((header_of f ++ f.sections) ++ f.externals) ++ f.loads) f.trailer
@@ -145,7 +148,7 @@ keep_trailer bytes reads_debug f m cut good says quiet follow =
     let counters = start_counters (indexes_of f) before f.trailer cut.trailer.own (ap (list_any (d.has_other_counter None)) (sym says) ∙ any_list (d.has_other_counter None) m.start good.start) in
     let same : header_of f ++ before ≡ ((header_of f ++ f.sections) ++ f.externals) ++ f.loads = sym (ap (λ l. l ++ f.loads) (append_assoc (header_of f) f.sections f.externals) ∙ append_assoc (header_of f) (f.sections ++ f.externals) f.loads) in
     subst (λ (l : List Piece). KeptFrom trailer_part l f.trailer) same
-        (keep_part trailer_part (header_of f) before f.trailer quiet cut.trailer.own follow (none_aligned trailer_part f.trailer refl cut.trailer.own) counters)
+    (keep_part trailer_part (header_of f) before f.trailer quiet cut.trailer.own follow (none_aligned trailer_part f.trailer refl cut.trailer.own) counters)
 
 pub are_kept : (bytes : List ℕ) (reads_debug : Bool) (f : FileParts) (m : Parts) → IsCutInto bytes reads_debug f → HasNames f → Says f (indexes_of f) m → IsSound m → f.debug ≡ [] → IsSilent (header_of f) → AreKept f
 are_kept bytes reads_debug f m cut names says good none quiet =

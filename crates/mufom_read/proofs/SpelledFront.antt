@@ -1,34 +1,32 @@
 -- A module's file is one sound front, which ends with the stream and says the module.
-use Rattle.std.proofs.Common.{◌≡◌, ◌⊎◌, ℕ, zero, suc, ◌+◌, ◌≤◌, Bool, true, false, cond, List, [], ◌∷◌, ◌++◌, length, map, take, drop, Option, Some, None, option_to_list, MatchBool, refl, sym, ap, subst, ◌∙◌, inl, inr, arith, append_assoc, append-nil, length-append}
-use Rattle.std.specs.List.{list_all, list_any}
+use Rattle.std.proofs.Common.{◌≡◌, ℕ, zero, suc, ◌≤◌, Bool, true, false, List, [], ◌∷◌, ◌++◌, length, map, take, drop, None, MatchBool, refl, sym, ap, subst, ◌∙◌, inl, inr, arith, append_assoc, append-nil}
+use Rattle.std.specs.List.{list_any}
 use Rattle.std.proofs.lemmas.List.{drop_at}
 use Rattle.mufom_numbers.specs.declared.reason.Reason.TheVariants as why
 use Rattle.mufom_records.specs.declared.record.Mode.TheVariants as mode
-use Rattle.mufom_records.specs.declared.record.Record.{Record}
 use Rattle.mufom_records.specs.declared.record.Record.TheVariants as r
 use Rattle.mufom_records.specs.Layouts.{IsWholeRecord}
 use Rattle.mufom_debug.specs.Marks.{joined}
 use Rattle.mufom_module.specs.declared.module.Parts.{Parts}
 use Rattle.mufom_module.specs.Defects as d
 use Rattle.mufom_module.specs.Pieces.{Piece, bytes_of, section, public, reference, debug_name, declared}
-use Rattle.mufom_module.specs.RecordParts.{Part, extension_part, environment_part, section_part, external_part, debug_part, data_part, trailer_part, end_part, stands_in}
+use Rattle.mufom_module.specs.RecordParts.{Part, extension_part, environment_part, section_part, external_part, debug_part, data_part, trailer_part}
 use Rattle.mufom_module.specs.Gathered.{sections_of, publics_of, references_of, marks, loads_of, starts_of}
-use Rattle.mufom_module.specs.Grammar.{FileParts, header_of, debug_bytes, parts_of, module_end, from_trailer, from_loads, from_debug, from_externals, from_sections, behind_header, AreWhole, offsets_in, StandAt, IsCutInto, indexes_of, HasNames, Says, SpellsModule}
-use Rattle.mufom_read.specs.Fronts.{Step, read, front_bytes, size_of, pieces_of, offsets_of, Place, at_end, place_behind, parts_in_order, is_raw, is_ended}
+use Rattle.mufom_module.specs.Grammar.{FileParts, header_of, debug_bytes, parts_of, module_end, from_trailer, from_loads, from_debug, from_externals, behind_header, AreWhole, offsets_in, StandAt, IsCutInto, indexes_of, HasNames, Says}
+use Rattle.mufom_read.specs.Fronts.{Step, read, front_bytes, size_of, pieces_of, offsets_of, Place, at_end, place_behind, parts_in_order, is_ended}
 use Rattle.mufom_read.specs.Faults.{record_fault, whole_fault, fault_after}
-use Rattle.mufom_read.specs.Judging.{IsSoundFrom, within_limit, HasFault, IsModule}
+use Rattle.mufom_read.specs.Judging.{IsSoundFrom, within_limit, HasFault}
 use Rattle.mufom_read.specs.Said.{indexes_in, bytes_between, IsSaidBy}
 use Rattle.mufom_read.specs.Laws.{ModuleIsEndedFront}
 use Rattle.mufom_read.proofs.EndedWalk.{bytes-append, pieces-append}
 use Rattle.mufom_read.proofs.EndedHeader.{ended-read, offsets-append}
 use Rattle.mufom_read.proofs.EndedParts.{KeptFrom}
-use Rattle.mufom_read.proofs.EndedNames.{IsSilent}
 use Rattle.mufom_read.proofs.EndedGathered.{AreSorted, all_pieces, same_sections, same_indexes, same_publics, same_references, no_marks, same_loads, same_starts}
 use Rattle.mufom_read.proofs.EndedSlicing.{grown, same_pieces}
 use Rattle.mufom_read.proofs.EndedSaid.{extension_between, environment_between}
 use Rattle.mufom_read.proofs.SpelledWalk.{steps_of, raw_steps, steps_bytes, steps_pieces, raw_none, IsStep, sound_step, sound-append, next_read}
 use Rattle.mufom_read.proofs.SpelledHeader.{IsLeft}
-use Rattle.mufom_read.proofs.SpelledParts.{IsPlain, Joint, Content, raw_content, read_content, Contents, Parted, walk_contents}
+use Rattle.mufom_read.proofs.SpelledParts.{IsPlain, Joint, Content, raw_content, read_content, Contents, walk_contents}
 use Rattle.mufom_read.proofs.SpelledKept.{section_whole, external_whole, debug_whole}
 use Rattle.mufom_read.proofs.SpelledOffsets.{debug_none, HeaderRows, header_rows, HeaderSound, header_front, header_joint, header_size}
 use Rattle.mufom_read.proofs.SpelledFile.{IsSound, sound_module, no_bad_descriptor, AreKept, are_kept}
@@ -101,7 +99,12 @@ joined-chained (x ∷ xs) end = append_assoc x (joined xs) end ∙ ap (λ l. x +
 
 content_none : (reads_debug : Bool) (part : Part) (before : List Step) (behind : List ℕ) → whole_fault part (before ++ []) ≡ None → Content reads_debug part before [] [] behind
 content_none reads_debug part before behind whole = record {
-  goes_on = λ all within at. tt; its_bytes = refl; none = λ h. refl; no_offsets = refl; unended = λ open_. ap (λ l. is_ended l) (append-nil before) ∙ open_; whole = whole;
+  goes_on = λ all within at. tt;
+  its_bytes = refl;
+  none = λ h. refl;
+  no_offsets = refl;
+  unended = λ open_. ap (λ l. is_ended l) (append-nil before) ∙ open_;
+  whole = whole;
 }
 
 skipped_content : (reads_debug : Bool) (before : List Step) (skipped behind : List ℕ) → (reads_debug ≡ true → skipped ≡ []) → whole_fault debug_part (before ++ raw_steps skipped) ≡ None → Content reads_debug debug_part before (raw_steps skipped) skipped behind
@@ -154,25 +157,39 @@ fill bytes reads_debug f m cut names says good none rows kept =
     let up = pieces_up f in
     let same_debug : debug_bytes f ≡ f.skipped = ap (λ (l : List Piece). bytes_of l ++ f.skipped) none in
     let behind_sections : from_externals f ≡ joined (bytes_of f.externals ∷ f.skipped ∷ bytes_of f.loads ∷ bytes_of f.trailer ∷ []) ++ module_end =
-        ap (λ l. bytes_of f.externals ++ (l ++ from_loads f)) same_debug ∙ sym (joined-chained (bytes_of f.externals ∷ f.skipped ∷ bytes_of f.loads ∷ bytes_of f.trailer ∷ []) module_end) in
+    ap (λ l. bytes_of f.externals ++ (l ++ from_loads f)) same_debug ∙ sym (joined-chained (bytes_of f.externals ∷ f.skipped ∷ bytes_of f.loads ∷ bytes_of f.trailer ∷ []) module_end) in
     let behind_externals : from_debug f ≡ joined (f.skipped ∷ bytes_of f.loads ∷ bytes_of f.trailer ∷ []) ++ module_end =
-        ap (λ l. l ++ from_loads f) same_debug ∙ sym (joined-chained (f.skipped ∷ bytes_of f.loads ∷ bytes_of f.trailer ∷ []) module_end) in
+    ap (λ l. l ++ from_loads f) same_debug ∙ sym (joined-chained (f.skipped ∷ bytes_of f.loads ∷ bytes_of f.trailer ∷ []) module_end) in
     let behind_loads : from_trailer f ≡ joined (bytes_of f.trailer ∷ []) ++ module_end = sym (joined-chained (bytes_of f.trailer ∷ []) module_end) in
-    let debug_here : pieces_of (up_to_debug f ++ raw_steps f.skipped) ≡ (header_of f ++ f.sections) ++ f.externals = up.loads in
-    (raw_content reads_debug extension_part (up_to_extension f) f.extension _ refl refl,
-    (raw_content reads_debug environment_part (up_to_environment f) f.environment _ refl refl,
-    (read_content reads_debug section_part (up_to_sections f) f.sections _ refl plain_section (subst (λ (l : List ℕ). AreWhole false f.sections l) behind_sections cut.sections.are_whole)
-        (subst (λ (l : List Piece). KeptFrom section_part l f.sections) (sym up.sections) kept.sections)
-        (section_whole (up_to_externals f) (header_of f) f.sections up.externals rows.silent (ap (list_any d.lacks_base) (sym says.sections) ∙ good.based)),
-    (read_content reads_debug external_part (up_to_externals f) f.externals _ refl plain_external (subst (λ (l : List ℕ). AreWhole false f.externals l) behind_externals cut.externals.are_whole)
-        (subst (λ (l : List Piece). KeptFrom external_part l f.externals) (sym up.externals) kept.externals)
-        (external_whole (up_to_debug f) (header_of f) f.sections f.externals up.debug rows.silent cut.sections.own names.values names.valued),
-    (skipped_content reads_debug (up_to_debug f) f.skipped (behind_skipped f) (none_skipped reads_debug (f.skipped ≡ []) (f.debug ≡ []) cut.debug_read)
-        (debug_whole (up_to_loads f) (header_of f) f.sections f.externals debug_here rows.silent cut.sections.own cut.externals.own),
-    (read_content reads_debug data_part (up_to_loads f) f.loads _ refl plain_data (subst (λ (l : List ℕ). AreWhole false f.loads l) behind_loads cut.loads.are_whole)
-        (subst (λ (l : List Piece). KeptFrom data_part l f.loads) (sym up.loads) kept.loads) refl,
-    (read_content reads_debug trailer_part (up_to_trailer f) f.trailer _ refl plain_trailer cut.trailer.are_whole
-        (subst (λ (l : List Piece). KeptFrom trailer_part l f.trailer) (sym up.trailer) kept.trailer) refl, tt)))))))
+    let debug_here : pieces_of (up_to_debug f ++ raw_steps f.skipped) ≡ (header_of f ++ f.sections) ++ f.externals = up.loads in (
+      raw_content reads_debug extension_part (up_to_extension f) f.extension _ refl refl,
+      (
+        raw_content reads_debug environment_part (up_to_environment f) f.environment _ refl refl,
+        (
+          read_content reads_debug section_part (up_to_sections f) f.sections _ refl plain_section (subst (λ (l : List ℕ). AreWhole false f.sections l) behind_sections cut.sections.are_whole)
+              (subst (λ (l : List Piece). KeptFrom section_part l f.sections) (sym up.sections) kept.sections)
+              (section_whole (up_to_externals f) (header_of f) f.sections up.externals rows.silent (ap (list_any d.lacks_base) (sym says.sections) ∙ good.based)),
+          (
+            read_content reads_debug external_part (up_to_externals f) f.externals _ refl plain_external (subst (λ (l : List ℕ). AreWhole false f.externals l) behind_externals cut.externals.are_whole)
+                (subst (λ (l : List Piece). KeptFrom external_part l f.externals) (sym up.externals) kept.externals)
+                (external_whole (up_to_debug f) (header_of f) f.sections f.externals up.debug rows.silent cut.sections.own names.values names.valued),
+            (
+              skipped_content reads_debug (up_to_debug f) f.skipped (behind_skipped f) (none_skipped reads_debug (f.skipped ≡ []) (f.debug ≡ []) cut.debug_read)
+                  (debug_whole (up_to_loads f) (header_of f) f.sections f.externals debug_here rows.silent cut.sections.own cut.externals.own),
+              (
+                read_content reads_debug data_part (up_to_loads f) f.loads _ refl plain_data (subst (λ (l : List ℕ). AreWhole false f.loads l) behind_loads cut.loads.are_whole)
+                    (subst (λ (l : List Piece). KeptFrom data_part l f.loads) (sym up.loads) kept.loads) refl,
+                (
+                  read_content reads_debug trailer_part (up_to_trailer f) f.trailer _ refl plain_trailer cut.trailer.are_whole
+                      (subst (λ (l : List Piece). KeptFrom trailer_part l f.trailer) (sym up.trailer) kept.trailer) refl,
+                  tt,
+                ),
+              ),
+            ),
+          ),
+        ),
+      ),
+    )
 
 -- ---- the end
 
@@ -183,7 +200,8 @@ end_step : (reads_debug : Bool) (all : List ℕ) (before : List Step) → Joint 
 end_step reads_debug all before at place is here =
     let there = here ∙ is in
     record {
-      unended = at.unended; whole = at.whole;
+      unended = at.unended;
+      whole = at.whole;
       own = ap (λ (q : Place). record_fault reads_debug before q (size_of before) the_end) there;
       next = next_read reads_debug before at_end mode.Body the_end [] there refl end_whole;
     }
@@ -209,9 +227,9 @@ built bytes reads_debug f cut none rows header contents =
     let last : IsSoundFrom reads_debug before (it ∷ []) module_end = sound_step reads_debug before it [] [] (end_step reads_debug ws before parted.joint at_end refl parted.place) tt in
     let rest = front_bytes (joined (contents_of f)) ++ module_end in
     let behind : rest ≡ behind_header f = ap (λ l. l ++ module_end) parted.bytes ∙ joined-chained (texts_of f) module_end
-        ∙ ap (λ l. f.extension ++ (f.environment ++ (bytes_of f.sections ++ (bytes_of f.externals ++ (l ++ from_loads f))))) (sym same_debug) in
+    ∙ ap (λ l. f.extension ++ (f.environment ++ (bytes_of f.sections ++ (bytes_of f.externals ++ (l ++ from_loads f))))) (sym same_debug) in
     let parts_sound : IsSoundFrom reads_debug hs (joined (contents_of f) ++ it ∷ []) rest =
-        sound-append reads_debug hs (joined (contents_of f)) (it ∷ []) module_end (subst (λ (l : List ℕ). IsSoundFrom reads_debug hs (joined (contents_of f)) (l ++ module_end)) (sym parted.bytes) parted.sound) last in
+    sound-append reads_debug hs (joined (contents_of f)) (it ∷ []) module_end (subst (λ (l : List ℕ). IsSoundFrom reads_debug hs (joined (contents_of f)) (l ++ module_end)) (sym parted.bytes) parted.sound) last in
     let all_same : front_bytes hs ++ rest ≡ bytes_of (header_of f) ++ behind_header f = (λ i. steps_bytes 0 (header_of f) i ++ behind i) in
     record {
       sound = subst (λ (l : List ℕ). IsSoundFrom reads_debug [] (front_of f) l) all_same
@@ -235,8 +253,8 @@ front_pieces : (f : FileParts) → pieces_of (front_of f) ≡ all_pieces (header
 front_pieces f =
     let it = read (size_of (up_to_end f)) the_end in
     let parts : pieces_of (joined (contents_of f)) ≡ f.sections ++ (f.externals ++ (f.loads ++ (f.trailer ++ []))) = joined_pieces (contents_of f)
-        ∙ (λ i. raw_none f.extension i ++ (raw_none f.environment i ++ (steps_pieces (size_of (up_to_sections f)) f.sections i ++ (steps_pieces (size_of (up_to_externals f)) f.externals i ++ (raw_none f.skipped i
-            ++ (steps_pieces (size_of (up_to_loads f)) f.loads i ++ (steps_pieces (size_of (up_to_trailer f)) f.trailer i ++ []))))))) in
+    ∙ (λ i. raw_none f.extension i ++ (raw_none f.environment i ++ (steps_pieces (size_of (up_to_sections f)) f.sections i ++ (steps_pieces (size_of (up_to_externals f)) f.externals i ++ (raw_none f.skipped i
+    ++ (steps_pieces (size_of (up_to_loads f)) f.loads i ++ (steps_pieces (size_of (up_to_trailer f)) f.trailer i ++ []))))))) in
     pieces-append (steps_of 0 (header_of f)) (joined (contents_of f) ++ it ∷ [])
     ∙ ap (λ l. pieces_of (steps_of 0 (header_of f)) ++ l) (pieces-append (joined (contents_of f)) (it ∷ []))
     ∙ (λ i. steps_pieces 0 (header_of f) i ++ (parts i ++ the_end ∷ []))
@@ -253,10 +271,10 @@ said bytes reads_debug f m cut says none rows is =
     let same = front_pieces f in
     let are : AreSorted h s e l t the_end = record { header = rows.silent; sections = cut.sections.own; externals = cut.externals.own; loads = cut.loads.own; trailer = cut.trailer.own; end_ = refl } in
     let ix : indexes_in (pieces_of front) ≡ indexes_of f = ap (λ k. indexes_in k) same ∙ same_indexes h s e l t the_end are
-        ∙ (λ i. record { sections = declared section s; publics = declared public e; references = declared reference e; debug_names = declared debug_name (sym none i) }) in
+    ∙ (λ i. record { sections = declared section s; publics = declared public e; references = declared reference e; debug_names = declared debug_name (sym none i) }) in
     let size = header_size f (behind_header f) cut.header in
     let offsets : offsets_of front ≡ offsets_in f.offsets = ap (λ (k : List Step). offsets_of k) (sym (append_assoc (steps_of 0 h) (joined (contents_of f)) (read (size_of (up_to_end f)) the_end ∷ [])))
-        ∙ offsets-append (up_to_end f) (read (size_of (up_to_end f)) the_end ∷ []) ∙ append-nil (offsets_of (up_to_end f)) ∙ is.joint.offsets in
+    ∙ offsets-append (up_to_end f) (read (size_of (up_to_end f)) the_end ∷ []) ∙ append-nil (offsets_of (up_to_end f)) ∙ is.joint.offsets in
     record {
       begin = f.begin;
       descriptor = f.descriptor;
@@ -306,10 +324,13 @@ front_when_sound bytes reads_debug f m cut names says good rows header =
     let none = debug_none reads_debug f (offsets_in f.offsets) (length (bytes_of (header_of f))) (from_loads f) size.1 header.now cut.offsets cut.debug_read cut.debug.are_whole in
     let kept = are_kept bytes reads_debug f m cut names says good none rows.silent in
     let is = built bytes reads_debug f cut none rows header (fill bytes reads_debug f m cut names says good none rows kept) in
-    let it = read (size_of (up_to_end f)) the_end in
-    (front_of f, subst (λ (l : List ℕ). IsSoundFrom reads_debug [] (front_of f) l) (sym cut.all) is.sound,
-    ap (λ (l : List Step). is_ended l) (sym (append_assoc (steps_of 0 (header_of f)) (joined (contents_of f)) (it ∷ []))) ∙ ended-read (up_to_end f) (size_of (up_to_end f)) the_end,
-    ap length (is.bytes ∙ sym cut.all), said bytes reads_debug f m cut says none rows is)
+    let it = read (size_of (up_to_end f)) the_end in (
+      front_of f,
+      subst (λ (l : List ℕ). IsSoundFrom reads_debug [] (front_of f) l) (sym cut.all) is.sound,
+      ap (λ (l : List Step). is_ended l) (sym (append_assoc (steps_of 0 (header_of f)) (joined (contents_of f)) (it ∷ []))) ∙ ended-read (up_to_end f) (size_of (up_to_end f)) the_end,
+      ap length (is.bytes ∙ sym cut.all),
+      said bytes reads_debug f m cut says none rows is,
+    )
 
 pub module_is_ended_front : ModuleIsEndedFront
 module_is_ended_front reads_debug bytes m fits ((f, cut, names, says, valid), now) =

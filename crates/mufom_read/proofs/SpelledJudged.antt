@@ -1,11 +1,11 @@
 -- A module's file is not refused and not cut off, and is the file of one module.
-use Rattle.std.proofs.Common.{◌≡◌, ◌⊎◌, ℕ, ◌<◌, ◌≤◌, Bool, List, length, sym, subst, ◌∙◌, inl, inr, arith}
+use Rattle.std.proofs.Common.{◌≡◌, ℕ, ◌<◌, ◌≤◌, Bool, List, length, sym, subst, inl, inr, arith}
 use Rattle.mufom_numbers.specs.declared.reason.Reason.{Reason}
 use Rattle.mufom_numbers.specs.Spelling.{AreBytes}
 use Rattle.mufom_module.specs.declared.module.Parts.{Parts}
 use Rattle.mufom_module.specs.Grammar.{file_limit}
 use Rattle.mufom_module.proofs.OneModule.{one_module}
-use Rattle.mufom_read.specs.Judging.{IsSoundFront, EndsAt, IsRefusedAt, IsTruncated, IsModule}
+use Rattle.mufom_read.specs.Judging.{IsSoundFront, EndsAt, IsRefusedAt, IsModule}
 use Rattle.mufom_read.specs.Laws.{JudgmentsExcludeEachOther, EndedFrontIsModule, HasJudgment, HasOneJudgment, FrontsOfModulesAreCutOff}
 use Rattle.mufom_read.proofs.EndedFront.{ended_front}
 use Rattle.mufom_read.proofs.FrontsOne.{one_end, fault_not_ended, ended_not_waiting, not_cut}

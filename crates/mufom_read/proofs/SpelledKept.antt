@@ -1,5 +1,5 @@
 -- The records of a valid module's file keep to the rules of their parts, and so do the parts as wholes.
-use Rattle.std.proofs.Common.{◌≡◌, ◌⊎◌, ℕ, Bool, true, false, cond, not, ◌==◌, ◌&&◌, ◌||◌, List, [], ◌∷◌, ◌++◌, Option, Some, None, is_none, refl, sym, ap, subst, ◌∙◌, append_assoc, append-nil, filter_map}
+use Rattle.std.proofs.Common.{◌≡◌, ℕ, Bool, true, false, not, ◌==◌, ◌&&◌, List, [], ◌∷◌, ◌++◌, Option, Some, None, is_none, refl, sym, ap, subst, ◌∙◌, append_assoc, append-nil}
 use Rattle.std.specs.List.{list_all, list_any, last_or, cons_option, AllByRecursion}
 use Rattle.std.specs.Option.{option_or}
 use Rattle.std.proofs.lemmas.Bool.{and_parts, or_right, both_ways, not_from_true}
@@ -10,12 +10,12 @@ use Rattle.mufom_records.specs.declared.record.Record.TheVariants as r
 use Rattle.mufom_names.specs.declared.name.Public.{Public}
 use Rattle.mufom_module.specs.Contents.{any_of}
 use Rattle.mufom_module.specs.Defects as d
-use Rattle.mufom_module.specs.Pieces.{Piece, public, FileIndex, of_kind, declared_by, declared, is_declared, named_at_once, named_in_expression, is_public_value, tree_of_piece, value_of_public, assigned_by, is_assigned}
+use Rattle.mufom_module.specs.Pieces.{Piece, public, declared_by, declared, is_declared, named_at_once, named_in_expression, is_public_value, tree_of_piece, value_of_public, assigned_by, is_assigned}
 use Rattle.mufom_module.specs.RecordParts.{Part, section_part, external_part, debug_part, trailer_part, number_of, part_of, stands_in, is_loading}
 use Rattle.mufom_module.specs.Gathered.{sections_of, publics_of, start_by, starts_of}
 use Rattle.mufom_module.specs.Grammar.{Follows, FollowFrom}
 use Rattle.mufom_read.specs.Fronts.{Step, raw, read, pieces_of, Placed, placed_of}
-use Rattle.mufom_read.specs.Faults.{Fault, fault_if, has_bad_alignment, set_by, current_section, counter_allowed, misplaces_counter, public_declared, lacks_value, has_unknown_variable, external_fault, lacks_base, section_fault, first_fault, OpenBlock, opened_behind, open_from, open_blocks, open_fault, whole_fault}
+use Rattle.mufom_read.specs.Faults.{Fault, fault_if, has_bad_alignment, set_by, counter_allowed, misplaces_counter, public_declared, lacks_value, external_fault, lacks_base, section_fault, first_fault, OpenBlock, opened_behind, open_from, open_fault, whole_fault}
 use Rattle.mufom_read.proofs.EndedParts.{IsKept, KeptFrom}
 use Rattle.mufom_read.proofs.EndedSliced.{IsGiven}
 use Rattle.mufom_read.proofs.EndedNames.{IsSilent, behind_silent, declared_behind, assigned_behind, set_behind, declares_public, assigned-append}
@@ -57,9 +57,11 @@ pub keep_part : (part : Part) (header before pieces : List Piece) → IsSilent h
     → KeptFrom part (header ++ before) pieces
 keep_part part header before [] quiet own follow fit counters = tt
 keep_part part header before (p ∷ pieces) quiet own follow fit counters =
-    let both = and_parts (stands_in part p.row) _ own in
-    (both.0, kept_one header before p quiet follow.0 fit.0 counters.0,
-    subst (λ (l : List Piece). KeptFrom part l pieces) (sym (append_assoc header before (p ∷ []))) (keep_part part header (before ++ p ∷ []) pieces quiet both.1 follow.1 fit.1 counters.1))
+    let both = and_parts (stands_in part p.row) _ own in (
+      both.0,
+      kept_one header before p quiet follow.0 fit.0 counters.0,
+      subst (λ (l : List Piece). KeptFrom part l pieces) (sym (append_assoc header before (p ∷ []))) (keep_part part header (before ++ p ∷ []) pieces quiet both.1 follow.1 fit.1 counters.1),
+    )
 
 -- ---- alignments
 
@@ -87,10 +89,11 @@ pub public_counters : (ix : Indexes) (sections externals before pieces : List Pi
 public_counters ix sections externals before [] split others own good follow = tt
 public_counters ix sections externals before (p ∷ pieces) split others own good follow =
     let both = and_parts (stands_in external_part p.row) _ own in
-    let same = append_assoc sections before (p ∷ []) in
-    (public_counter ix sections externals before pieces p both.0 others split good follow.0,
-    subst (λ (l : List Piece). CounterFrom l pieces) (sym same)
-        (public_counters ix sections externals (before ++ p ∷ []) pieces (split ∙ sym (append_assoc before (p ∷ []) pieces)) others both.1 good (subst (λ (l : List Piece). FollowFrom l pieces) same follow.1)))
+    let same = append_assoc sections before (p ∷ []) in (
+      public_counter ix sections externals before pieces p both.0 others split good follow.0,
+      subst (λ (l : List Piece). CounterFrom l pieces) (sym same)
+          (public_counters ix sections externals (before ++ p ∷ []) pieces (split ∙ sym (append_assoc before (p ∷ []) pieces)) others both.1 good (subst (λ (l : List Piece). FollowFrom l pieces) same follow.1)),
+    )
 
 start_counters_by : (ix : Indexes) (before pieces : List Piece) → list_all (λ p. stands_in trailer_part p.row) pieces ≡ true → AllByRecursion (λ p. any_of (d.has_other_counter None) (start_by ix p p.row) ≡ false) pieces → CounterFrom before pieces
 start_counters_by ix before [] own all = tt
@@ -179,12 +182,12 @@ external_whole front header sections externals are quiet own values valued =
     let all = (header ++ sections) ++ externals in
     let same : is_declared all ≡ is_declared (sections ++ externals) = ap (λ l. is_declared l) (append_assoc header sections externals) ∙ declared_behind header (sections ++ externals) quiet in
     let given = externals_given all externals externals
-        (λ i h. assigned-append (header ++ sections) externals (value_of_public i) ∙ or_right (is_assigned (header ++ sections) (value_of_public i)) (is_assigned externals (value_of_public i)) h)
-        (ap (λ test. list_all (λ p. list_all test (named_in_expression p)) externals) same ∙ values) valued in
+    (λ i h. assigned-append (header ++ sections) externals (value_of_public i) ∙ or_right (is_assigned (header ++ sections) (value_of_public i)) (is_assigned externals (value_of_public i)) h)
+    (ap (λ test. list_all (λ p. list_all test (named_in_expression p)) externals) same ∙ values) valued in
     let every = all-append (IsGiven all) (header ++ sections) externals (all-append (IsGiven all) header sections
-        (all_silent (IsGiven all) (λ p h. silent_given all p p.row h) header quiet) (all_own section_part (IsGiven all) (λ p h. section_given all p p.row h) sections own)) given in
+    (all_silent (IsGiven all) (λ p h. silent_given all p p.row h) header quiet) (all_own section_part (IsGiven all) (λ p h. section_given all p p.row h) sections own)) given in
     first_all (external_fault (pieces_of front)) (IsGiven (pieces_of front)) (λ q h. (λ i. option_or (fault_if (h.0 i) q.0 why.UnknownIndex) (fault_if (h.1 i) q.0 why.MissingValue))) front
-        (subst (λ (l : List Piece). AllByRecursion (IsGiven l) l) (sym are) every)
+    (subst (λ (l : List Piece). AllByRecursion (IsGiven l) l) (sym are) every)
 
 -- debug blocks
 
@@ -203,5 +206,5 @@ pub debug_whole : (front : List Step) (header sections externals : List Piece) �
 debug_whole front header sections externals are quiet own_sections own_externals =
     let Q : Piece → Type 0 = λ p. stands_in debug_part p.row ≡ false in
     let every = all-append Q (header ++ sections) externals (all-append Q header sections (all_silent Q (λ p h. unplaced debug_part (part_of p.row) h) header quiet)
-        (all_own section_part Q (λ p h. other_part debug_part section_part (part_of p.row) refl h) sections own_sections)) (all_own external_part Q (λ p h. other_part debug_part external_part (part_of p.row) refl h) externals own_externals) in
+    (all_own section_part Q (λ p h. other_part debug_part section_part (part_of p.row) refl h) sections own_sections)) (all_own external_part Q (λ p h. other_part debug_part external_part (part_of p.row) refl h) externals own_externals) in
     ap (λ (l : List OpenBlock). open_fault l) (none_open front (subst (λ (l : List Piece). AllByRecursion Q l) (sym are) every))

@@ -1,5 +1,5 @@
 -- The program counters that the loads of a valid module name are those that its records may name.
-use Rattle.std.proofs.Common.{◌≡◌, ◌⊎◌, ℕ, Bool, true, false, cond, not, ◌==◌, ◌&&◌, ◌||◌, List, [], ◌∷◌, ◌++◌, map, Option, Some, None, option_map, unwrap_or, refl, sym, ap, subst, ◌∙◌, append_assoc, append-nil, filter_map}
+use Rattle.std.proofs.Common.{◌≡◌, ℕ, Bool, true, false, ◌==◌, ◌||◌, List, [], ◌∷◌, ◌++◌, map, Option, Some, None, option_map, unwrap_or, refl, sym, ap, subst, ◌∙◌, append-nil}
 use Rattle.std.specs.List.{list_all, list_any, last_or, cons_option}
 use Rattle.std.proofs.lemmas.Bool.{and_parts, and_from, or_parts, both_ways}
 use Rattle.std.proofs.lemmas.List.Elements.{filter_map-append}
@@ -9,7 +9,6 @@ use Rattle.mufom_expr.specs.declared.token.Letter.TheVariants.{I, L, P, R, S, X}
 use Rattle.mufom_expr.specs.Tree.{Tree}
 use Rattle.mufom_expr.specs.Value.{variables_of}
 use Rattle.mufom_expr.specs.Spelled.{Indexes, list_of}
-use Rattle.mufom_records.specs.declared.record.Mode.TheVariants as mode
 use Rattle.mufom_records.specs.declared.record.Record.{Record}
 use Rattle.mufom_records.specs.declared.record.Record.TheVariants as r
 use Rattle.mufom_records.specs.Fields.{first_of}
@@ -17,13 +16,13 @@ use Rattle.mufom_records.specs.Layouts.{IsWholeRecord}
 use Rattle.mufom_loads.specs.declared.load.Item.{Item}
 use Rattle.mufom_loads.specs.declared.load.Item.TheVariants.{Literal, Field}
 use Rattle.mufom_loads.specs.declared.load.Load.{Load}
-use Rattle.mufom_loads.specs.declared.load.Load.TheVariants.{SetSection, SetPc, One, Repeat}
+use Rattle.mufom_loads.specs.declared.load.Load.TheVariants.{One}
 use Rattle.mufom_module.specs.Contents.{any_of, item_any, current_behind, placed_from}
 use Rattle.mufom_module.specs.Defects as d
-use Rattle.mufom_module.specs.Pieces.{Piece, bytes_of, Kind, section, public, reference, FileIndex, of_kind, declared_by, declared, is_declared, kind_of_letter, index_of_variable, named_by, expression_of, is_public_value, text_in, tree_in, position_in, positioned, are_listed}
-use Rattle.mufom_module.specs.RecordParts.{data_part, stands_in, opens_items, begins_item, mode_of}
+use Rattle.mufom_module.specs.Pieces.{Piece, bytes_of, Kind, section, public, reference, of_kind, declared_by, declared, is_declared, kind_of_letter, index_of_variable, named_by, expression_of, is_public_value, text_in, tree_in, position_in, positioned, are_listed}
+use Rattle.mufom_module.specs.RecordParts.{data_part, stands_in, opens_items, mode_of}
 use Rattle.mufom_module.specs.Gathered.{item_by, items_at_front, loads_by, loads_of}
-use Rattle.mufom_module.specs.Grammar.{AreWhole, names_unknown, Follows, FollowFrom}
+use Rattle.mufom_module.specs.Grammar.{AreWhole, Follows, FollowFrom}
 use Rattle.mufom_read.specs.Faults.{set_by, current_section, counter_allowed, misplaces_counter}
 use Rattle.mufom_read.proofs.EndedTrees.{IsKnown, placed_section, named_known, tree_known}
 use Rattle.mufom_read.proofs.EndedLoads.{behind_one, same_section, behind_all, behind_row, front_some}
@@ -138,9 +137,9 @@ own_row ix maus items before p pieces (r.FieldItem kind value n) its is own =
 own_row ix maus items before p pieces (r.SetPc i value) its is own =
     let listed = its_index ix maus items before p pieces (r.SetPc i value) i its is refl in
     let loads : NoneMisplaced (placed_section ix (current_section before)) (loads_by ix p (items_at_front ix maus pieces) (r.SetPc i value)) =
-        subst (λ (row : Record). NoneMisplaced (placed_section ix (current_section before)) (loads_by ix p (items_at_front ix maus pieces) row)) is its.loads in
+    subst (λ (row : Record). NoneMisplaced (placed_section ix (current_section before)) (loads_by ix p (items_at_front ix maus pieces) row)) is its.loads in
     tree_back ix (Some i) (tree_in p value) listed (its_tree ix maus items before p pieces (r.SetPc i value) value its is refl refl)
-        (or_parts (d.has_other_counter (Some (position_in ix.sections i)) (positioned ix (tree_in p value))) false loads).0
+    (or_parts (d.has_other_counter (Some (position_in ix.sections i)) (positioned ix (tree_in p value))) false loads).0
 own_row ix maus items before p pieces (r.SetSection i) its is own = refl
 own_row ix maus items before p pieces (r.Constant run) its is own = refl
 own_row ix maus items before p pieces r.Relocate its is own = refl
@@ -155,16 +154,16 @@ next_row : (ix : Indexes) (maus : ℕ) (items : Bool) (before : List Piece) (p :
 next_row ix maus items before p pieces (r.FieldItem kind value n) its is opens =
     let item = Field kind (positioned ix (tree_in p value)) (unwrap_or n maus) in
     subst (λ (o : Option ℕ). NoItemMisplaced (placed_section ix o) (items_at_front ix maus pieces)) (sym (same_section before p (ap set_by is)))
-        (item_here ix maus items before p pieces item its (ap is_item is) (ap (item_by ix maus p) is)).1
+    (item_here ix maus items before p pieces item its (ap is_item is) (ap (item_by ix maus p) is)).1
 next_row ix maus items before p pieces (r.ConstantItem run) its is opens =
     subst (λ (o : Option ℕ). NoItemMisplaced (placed_section ix o) (items_at_front ix maus pieces)) (sym (same_section before p (ap set_by is)))
-        (item_here ix maus items before p pieces (Literal (text_in p run)) its (ap is_item is) (ap (item_by ix maus p) is)).1
+    (item_here ix maus items before p pieces (Literal (text_in p run)) its (ap is_item is) (ap (item_by ix maus p) is)).1
 next_row ix maus items before p pieces r.Relocate its is opens =
     subst (λ (o : Option ℕ). NoItemMisplaced (placed_section ix o) (items_at_front ix maus pieces)) (sym (same_section before p (ap set_by is)))
-        (opened ix p (items_at_front ix maus pieces) (placed_section ix (current_section before)) p.row (ap opens_items is) (ap is_item is) its.loads)
+    (opened ix p (items_at_front ix maus pieces) (placed_section ix (current_section before)) p.row (ap opens_items is) (ap is_item is) its.loads)
 next_row ix maus items before p pieces (r.RepeatRelocate times) its is opens =
     subst (λ (o : Option ℕ). NoItemMisplaced (placed_section ix o) (items_at_front ix maus pieces)) (sym (same_section before p (ap set_by is)))
-        (opened ix p (items_at_front ix maus pieces) (placed_section ix (current_section before)) p.row (ap opens_items is) (ap is_item is) its.loads)
+    (opened ix p (items_at_front ix maus pieces) (placed_section ix (current_section before)) p.row (ap opens_items is) (ap is_item is) its.loads)
 next_row ix maus items before p pieces row its is opens = cc
 
 listed_row : (ix : Indexes) (maus : ℕ) (items : Bool) (before : List Piece) (p : Piece) (pieces : List Piece) (row : Record) → Known ix maus items before p pieces → p.row ≡ row → IsListed ix (current_section (before ++ p ∷ []))
@@ -192,9 +191,15 @@ load_counters ix maus items before (p ∷ pieces) behind whole own follow are li
     let both = and_parts (stands_in data_part p.row) _ own in
     let split = placed_parts current (loads_by ix p (items_at_front ix maus pieces) p.row) (loads_of ix maus pieces) loads in
     let known : Known ix maus items before p pieces = record {
-      are = are; listed = listed; follows = follow.0; may = where_items items p (first_of (bytes_of pieces ++ behind) None) whole.0; loads = split.0; its_items = its;
+      are = are;
+      listed = listed;
+      follows = follow.0;
+      may = where_items items p (first_of (bytes_of pieces ++ behind) None) whole.0;
+      loads = split.0;
+      its_items = its;
     } in
-    let next : behind_all current (loads_by ix p (items_at_front ix maus pieces) p.row) ≡ placed_section ix (current_section (before ++ p ∷ [])) = behind_row ix p (items_at_front ix maus pieces) (current_section before) p.row ∙ ap (placed_section ix) (sym (behind_one before p)) in
-    (own_row ix maus items before p pieces p.row known refl both.0,
-    load_counters ix maus (opens_items p.row) (before ++ p ∷ []) pieces behind whole.1 both.1 follow.1 (are_in_next ix before p both.0 are) (listed_row ix maus items before p pieces p.row known refl)
-        (subst (λ (o : Option ℕ). NoneMisplaced o (loads_of ix maus pieces)) next split.1) (next_row ix maus items before p pieces p.row known refl))
+    let next : behind_all current (loads_by ix p (items_at_front ix maus pieces) p.row) ≡ placed_section ix (current_section (before ++ p ∷ [])) = behind_row ix p (items_at_front ix maus pieces) (current_section before) p.row ∙ ap (placed_section ix) (sym (behind_one before p)) in (
+      own_row ix maus items before p pieces p.row known refl both.0,
+      load_counters ix maus (opens_items p.row) (before ++ p ∷ []) pieces behind whole.1 both.1 follow.1 (are_in_next ix before p both.0 are) (listed_row ix maus items before p pieces p.row known refl)
+          (subst (λ (o : Option ℕ). NoneMisplaced o (loads_of ix maus pieces)) next split.1) (next_row ix maus items before p pieces p.row known refl),
+    )

@@ -1,7 +1,7 @@
 -- What holds of the offsets of a file, and the header of a module's file as a sound front.
-use Rattle.std.proofs.Common.{◌≡◌, ◌⊎◌, ℕ, zero, suc, ◌+◌, ◌-◌, ◌<◌, ◌≤◌, Bool, true, false, cond, not, ◌==◌, ◌&&◌, ◌||◌, nat_lt, List, [], ◌∷◌, ◌++◌, length, Option, Some, None, MatchBool, is_none, refl, sym, ap, subst, ◌∙◌, inl, inr, arith, append_assoc, append-nil, eqb-true, ne_eqb, length-append}
-use Rattle.std.specs.List.{list_all, list_any, cons_option, AllByRecursion}
-use Rattle.std.proofs.lemmas.Bool.{and_parts, or_from, not-false, not_from_true, not_from_false}
+use Rattle.std.proofs.Common.{◌≡◌, ◌⊎◌, ℕ, zero, suc, ◌+◌, ◌≤◌, Bool, true, false, not, ◌==◌, ◌&&◌, ◌||◌, nat_lt, List, [], ◌∷◌, ◌++◌, length, Option, None, MatchBool, is_none, refl, sym, ap, subst, ◌∙◌, inl, inr, arith, append_assoc, append-nil, eqb-true, ne_eqb, length-append}
+use Rattle.std.specs.List.{list_any, cons_option, AllByRecursion}
+use Rattle.std.proofs.lemmas.Bool.{and_parts, or_from, not-false}
 use Rattle.mufom_records.specs.declared.record.Mode.TheVariants as mode
 use Rattle.mufom_records.specs.declared.record.Record.{Record}
 use Rattle.mufom_records.specs.declared.record.Record.TheVariants as r
@@ -10,8 +10,8 @@ use Rattle.mufom_records.specs.Layouts.{IsWholeRecord}
 use Rattle.mufom_module.specs.Pieces.{Piece, bytes_of}
 use Rattle.mufom_module.specs.RecordParts.{part_of}
 use Rattle.mufom_module.specs.Grammar.{FileParts, header_of, parts_of, AreOfModes, header_modes, AreWhole, offset_in, offsets_in, StandAt}
-use Rattle.mufom_read.specs.Fronts.{Step, read, front_bytes, size_of, pieces_of, offsets_of, first_present, is_module_end, is_ended}
-use Rattle.mufom_read.specs.Faults.{is_bad_descriptor, is_out_of_order, is_left_for_later, header_fault, fault_if, ended_part_fault}
+use Rattle.mufom_read.specs.Fronts.{Step, read, size_of, offsets_of, is_module_end, is_ended}
+use Rattle.mufom_read.specs.Faults.{is_bad_descriptor, is_out_of_order, header_fault, fault_if}
 use Rattle.mufom_numbers.specs.declared.reason.Reason.TheVariants as why
 use Rattle.mufom_read.specs.Judging.{IsSoundFrom}
 use Rattle.mufom_read.proofs.EndedRows.{IsBegin, IsDescriptor, begin_row, descriptor_row, offset_row}
@@ -19,7 +19,7 @@ use Rattle.mufom_read.proofs.EndedHeader.{ended-read, offsets-append, modes_from
 use Rattle.mufom_read.proofs.EndedNames.{IsSilent}
 use Rattle.mufom_read.proofs.EndedSaid.{first_at}
 use Rattle.mufom_read.proofs.SpelledWalk.{steps_of, steps_bytes, steps_pieces, IsStep, sound_step, Beyond, none_ended}
-use Rattle.mufom_read.proofs.SpelledHeader.{header_is_step, AreOrdered, AreNow, IsLeft, IsOn, Standing, offset_walk, left_behind}
+use Rattle.mufom_read.proofs.SpelledHeader.{header_is_step, AreOrdered, AreNow, IsLeft, Standing, offset_walk, left_behind}
 use Rattle.mufom_read.proofs.SpelledParts.{Joint, no_pieces}
 
 -- ---- offsets
@@ -71,6 +71,7 @@ stand_ordered (w ∷ offsets) earlier at (x ∷ parts) some all eight stand =
     first : (w ≡ at) ⊎ ((w ≡ 0) × (x ≡ [])) → length offsets ≡ suc (length parts) → is_out_of_order earlier w ≡ false
     first (inl here) count = in_order_here earlier w at here some all
     first (inr none) count = in_order_none earlier w none.0 (λ h. omega arith)
+
     low : (w ≡ at) ⊎ ((w ≡ 0) × (x ≡ [])) → w ≤ at
     low (inl here) = omega arith
     low (inr none) = omega (arith, none.0)
@@ -165,7 +166,11 @@ offsets_standing f behind before are rows stand two none open_ size =
     let end = length (bytes_of (header_of f)) in
     let some = header_some f behind are in
     record {
-      count = two; eight = refl; many = refl; here = none; unended = open_;
+      count = two;
+      eight = refl;
+      many = refl;
+      here = none;
+      unended = open_;
       ordered = stand_ordered (offsets_in f.offsets) [] end (parts_of f) some tt (omega (arith, stand_count (offsets_in f.offsets) end (parts_of f) stand)) stand;
       passed = tt;
       beyond = stand_beyond (offsets_in f.offsets) end end (parts_of f) (omega arith) stand;
@@ -185,15 +190,15 @@ header_front reads_debug f behind are rows good stand =
     let split_rest : bytes_of (f.descriptor ∷ f.offsets) ++ behind ≡ rest = append_assoc f.descriptor.bytes (bytes_of f.offsets) behind in
     let split : bytes_of (header_of f) ++ behind ≡ f.begin.bytes ++ rest = append_assoc f.begin.bytes (bytes_of (f.descriptor ∷ f.offsets)) behind ∙ ap (λ l. f.begin.bytes ++ l) split_rest in
     let first : IsStep reads_debug [] a rest = header_is_step reads_debug 0 [] f.begin rest refl (omega arith) refl refl
-        (subst (λ (l : List ℕ). IsWholeRecord mode.Begin f.begin.row f.begin.bytes (first_of l None)) split_rest are.0)
-        (ap (λ (row : Record). header_fault reads_debug [] 0 (0 + n) row) rows.begins.2) in
+    (subst (λ (l : List ℕ). IsWholeRecord mode.Begin f.begin.row f.begin.bytes (first_of l None)) split_rest are.0)
+    (ap (λ (row : Record). header_fault reads_debug [] 0 (0 + n) row) rows.begins.2) in
     let none : offsets_of (a ∷ []) ≡ [] = ap (λ (row : Record). offsets_in (record { row = row; bytes = f.begin.bytes } ∷ [])) rows.begins.2 in
     let size : size_of (a ∷ []) ≡ 0 + n = ap length (append-nil f.begin.bytes) ∙ omega arith in
     let second : IsStep reads_debug (a ∷ []) b later = subst (λ (k : ℕ). IsStep reads_debug (a ∷ []) (read k f.descriptor) later) size
-        (header_is_step reads_debug 1 (a ∷ []) f.descriptor later refl (omega arith) (ap is_module_end rows.begins.2)
-            (none_ended (a ∷ []) (suc n) (subst (λ (l : List ℕ). Beyond (suc n) l) (sym none) tt) (omega (arith, size)) (omega arith)) are.1.0
-            ((λ i. header_fault reads_debug (none i) (size_of (a ∷ [])) (size_of (a ∷ []) + length f.descriptor.bytes) (rows.describes.3 i))
-            ∙ ap (λ t. fault_if t (size_of (a ∷ [])) why.BadDescriptor) (sym (ap is_bad_descriptor rows.describes.3) ∙ good))) in
+    (header_is_step reads_debug 1 (a ∷ []) f.descriptor later refl (omega arith) (ap is_module_end rows.begins.2)
+    (none_ended (a ∷ []) (suc n) (subst (λ (l : List ℕ). Beyond (suc n) l) (sym none) tt) (omega (arith, size)) (omega arith)) are.1.0
+    ((λ i. header_fault reads_debug (none i) (size_of (a ∷ [])) (size_of (a ∷ []) + length f.descriptor.bytes) (rows.describes.3 i))
+    ∙ ap (λ t. fault_if t (size_of (a ∷ [])) why.BadDescriptor) (sym (ap is_bad_descriptor rows.describes.3) ∙ good))) in
     let front = a ∷ b ∷ [] in
     let two_size : size_of front ≡ 0 + n + length f.descriptor.bytes = ap (λ (l : List ℕ). length (f.begin.bytes ++ l)) (append-nil f.descriptor.bytes) ∙ length-append f.begin.bytes f.descriptor.bytes ∙ omega arith in
     let none_two : offsets_of front ≡ [] = offsets-append (a ∷ []) (b ∷ []) ∙ (λ i. none i ++ offsets_in (record { row = rows.describes.3 i; bytes = f.descriptor.bytes } ∷ [])) in
@@ -201,12 +206,12 @@ header_front reads_debug f behind are rows good stand =
     elim (offset_walk 8 0 reads_debug (length (bytes_of (header_of f))) [] (offsets_in f.offsets) front f.offsets behind standing are.1.1 refl) [
       | inl left ↦ inl (subst (λ (l : List ℕ). IsLeft reads_debug [] l) (sym split) (left_behind reads_debug [] a rest first (left_behind reads_debug (a ∷ []) b later second left)))
       | inr on ↦ inr (record {
-          sound = subst (λ (l : List ℕ). IsSoundFrom reads_debug [] (steps_of 0 (header_of f)) l) (sym split)
-              (sound_step reads_debug [] a (b ∷ steps_of (0 + n + length f.descriptor.bytes) f.offsets) rest first
-              (sound_step reads_debug (a ∷ []) b (steps_of (0 + n + length f.descriptor.bytes) f.offsets) later second
-              (subst (λ (k : ℕ). IsSoundFrom reads_debug front (steps_of k f.offsets) later) two_size on.sound)));
-          now = on.now;
-        })
+        sound = subst (λ (l : List ℕ). IsSoundFrom reads_debug [] (steps_of 0 (header_of f)) l) (sym split)
+            (sound_step reads_debug [] a (b ∷ steps_of (0 + n + length f.descriptor.bytes) f.offsets) rest first
+            (sound_step reads_debug (a ∷ []) b (steps_of (0 + n + length f.descriptor.bytes) f.offsets) later second
+            (subst (λ (k : ℕ). IsSoundFrom reads_debug front (steps_of k f.offsets) later) two_size on.sound)));
+        now = on.now;
+      })
     ]
 
 -- behind the header the parts begin

@@ -1,12 +1,9 @@
 -- The parts of a module's file as steps, one part after another.
-use Rattle.std.proofs.Common.{◌≡◌, ◌⊎◌, ℕ, zero, suc, ◌+◌, ◌-◌, ◌<◌, ◌≤◌, Bool, true, false, cond, not, ◌==◌, ◌&&◌, ◌||◌, nat_lt, nat_le, List, [], ◌∷◌, ◌++◌, length, take, drop, Option, Some, None, refl, sym, ap, subst, ◌∙◌, inl, inr, arith, append_assoc, append-nil, filter_map, eq-eqb, ne_eqb, length-append}
-use Rattle.std.specs.List.{list_all, last_or, find, cons_option}
+use Rattle.std.proofs.Common.{◌≡◌, ◌⊎◌, ℕ, zero, suc, ◌+◌, ◌-◌, ◌<◌, ◌≤◌, Bool, true, false, cond, not, ◌==◌, ◌&&◌, nat_lt, List, [], ◌∷◌, ◌++◌, length, Option, Some, None, refl, sym, ap, subst, ◌∙◌, inl, inr, arith, append_assoc, append-nil, filter_map, eq-eqb, ne_eqb, length-append}
+use Rattle.std.specs.List.{last_or, cons_option}
 use Rattle.std.specs.Option.{option_or}
-use Rattle.std.proofs.lemmas.Bool.{and_parts, both_ways, not_from_true, not_from_false, cases_lt}
-use Rattle.mufom_numbers.specs.declared.reason.Reason.{Reason}
+use Rattle.std.proofs.lemmas.Bool.{both_ways, not_from_true, not_from_false}
 use Rattle.mufom_numbers.specs.declared.reason.Reason.TheVariants as why
-use Rattle.mufom_numbers.specs.declared.taken.Taken.{Taken}
-use Rattle.mufom_records.specs.declared.record.Mode.{Mode}
 use Rattle.mufom_records.specs.declared.record.Mode.TheVariants as mode
 use Rattle.mufom_records.specs.declared.record.Record.{Record}
 use Rattle.mufom_records.specs.declared.record.Record.TheVariants as r
@@ -15,15 +12,15 @@ use Rattle.mufom_records.specs.Layouts.{IsWholeRecord}
 use Rattle.mufom_records.specs.Reading.{record_at}
 use Rattle.mufom_debug.specs.Marks.{joined}
 use Rattle.mufom_module.specs.Pieces.{Piece, bytes_of}
-use Rattle.mufom_module.specs.RecordParts.{Part, debug_part, number_of, stands_in, opens_items, begins_item, mode_of}
-use Rattle.mufom_module.specs.Grammar.{offset_in, offsets_in, StandAt, AreWhole}
-use Rattle.mufom_read.specs.Fronts.{Step, raw, read, step_bytes, front_bytes, size_of, pieces_of, placed_of, offsets_of, Extent, Place, in_part, at_end, first_present, part_among, parts_in_order, part_at, place_by, place_behind, is_raw, awaits_items, body_mode, as_step, raw_step, step_at, next_step, is_module_end, is_ended}
-use Rattle.mufom_read.specs.Faults.{Fault, fault_if, fault_for, OpenBlock, open_blocks, ends_badly, is_too_deep, rules, breaks, rule_broken, part_record_fault, record_fault, step_fault, whole_fault, ended_fault, ended_part_fault}
+use Rattle.mufom_module.specs.RecordParts.{Part, number_of, stands_in, opens_items, begins_item, mode_of}
+use Rattle.mufom_module.specs.Grammar.{offsets_in, StandAt, AreWhole}
+use Rattle.mufom_read.specs.Fronts.{Step, raw, read, front_bytes, size_of, pieces_of, placed_of, offsets_of, Extent, Place, in_part, at_end, first_present, part_among, parts_in_order, part_at, place_by, place_behind, is_raw, awaits_items, body_mode, as_step, raw_step, step_at, is_module_end, is_ended}
+use Rattle.mufom_read.specs.Faults.{Fault, fault_if, fault_for, OpenBlock, open_blocks, ends_badly, is_too_deep, rule_broken, part_record_fault, record_fault, whole_fault, ended_fault, ended_part_fault}
 use Rattle.mufom_read.specs.Judging.{IsSoundFrom}
-use Rattle.mufom_read.proofs.EndedWalk.{bytes-append, size-append, pieces-append, taken}
+use Rattle.mufom_read.proofs.EndedWalk.{bytes-append, size-append, pieces-append}
 use Rattle.mufom_read.proofs.EndedHeader.{last-append, ended-read, ended-raw, offsets-append, behind_header}
 use Rattle.mufom_read.proofs.EndedParts.{IsKept, KeptFrom, AllInside, place_inside, extent, not_end, no_offset}
-use Rattle.mufom_read.proofs.EndedChunks.{is_within, is_behind, whole_of}
+use Rattle.mufom_read.proofs.EndedChunks.{is_within, is_behind}
 use Rattle.mufom_read.proofs.EndedSaid.{first_at}
 use Rattle.mufom_read.proofs.SpelledBegin.{record_some, begins_grown}
 use Rattle.mufom_read.proofs.SpelledWalk.{steps_of, raw_steps, steps_bytes, steps_pieces, raw_bytes, raw_none, IsStep, sound_step, sound-append, next_read}
@@ -77,8 +74,8 @@ raw_sound : (reads_debug : Bool) (part : Part) (from to : ℕ) (all : List ℕ) 
 raw_sound reads_debug part from to all before [] behind within is at total = tt
 raw_sound reads_debug part from to all before (b ∷ bytes) behind within is at total =
     sound_step reads_debug before (raw b) (raw_steps bytes) (bytes ++ behind) (raw_is_step reads_debug part from to all before b (bytes ++ behind) within is at (omega arith))
-        (raw_sound reads_debug part from to all (before ++ raw b ∷ []) bytes behind within is (raw_inside part from to all before b within at)
-        (let size = size-append before (raw b ∷ []) in omega arith))
+    (raw_sound reads_debug part from to all (before ++ raw b ∷ []) bytes behind within is (raw_inside part from to all before b within at)
+    (let size = size-append before (raw b ∷ []) in omega arith))
 
 -- ---- records
 
@@ -101,8 +98,8 @@ no_rule part front p plain own keeps =
     let nested = no_bad_end part (open_blocks (placed_of front)) p.row plain.no_debug own in
     let deep = not_deep part (open_blocks (placed_of front)) p.row plain.no_debug own in
     (λ i. cond (keeps.new i) (Some why.DuplicateIndex) (cond (keeps.known i) (Some why.UnknownIndex) (cond (keeps.once i) (Some why.DuplicateValue)
-        (cond (keeps.aligned i) (Some why.BadAlignment) (cond (keeps.placed i) (Some why.NoSection) (cond (keeps.counter i) (Some why.BadP)
-        (cond (nested i) (Some why.BlockNesting) (cond (deep i) (Some why.Depth) None))))))))
+    (cond (keeps.aligned i) (Some why.BadAlignment) (cond (keeps.placed i) (Some why.NoSection) (cond (keeps.counter i) (Some why.BadP)
+    (cond (nested i) (Some why.BlockNesting) (cond (deep i) (Some why.Depth) None))))))))
 
 no_fault_here : (part : Part) (from to : ℕ) (before : List Step) (p : Piece) → IsPlain part → size_of before + length p.bytes ≤ to → stands_in part p.row ≡ true → IsKept (pieces_of before) p
     → part_record_fault before (extent part from to) (size_of before) p ≡ None
@@ -122,7 +119,7 @@ mode_here : (items a b : Bool) (p : Piece) (rest : List ℕ) (next : Option ℕ)
 mode_here items a b p rest next flag is =
     let some = record_some (items && begins_item p.bytes) p.row p.bytes next is in
     let same : (items && begins_item p.bytes) ≡ (a && (b && begins_item (p.bytes ++ rest))) =
-        (λ i. sym flag i && begins_item p.bytes) ∙ and_assoc a b (begins_item p.bytes) ∙ (λ i. a && (b && sym (begins_grown p.bytes rest some) i)) in
+    (λ i. sym flag i && begins_item p.bytes) ∙ and_assoc a b (begins_item p.bytes) ∙ (λ i. a && (b && sym (begins_grown p.bytes rest some) i)) in
     subst (λ (t : Bool). IsWholeRecord (cond t mode.Items mode.Body) p.row p.bytes next) same is
   where
     and_assoc : (x y z : Bool) → ((x && y) && z) ≡ (x && (y && z))
@@ -187,10 +184,10 @@ read_sound reads_debug part from to all items before (p ∷ pieces) behind withi
     let size : size_of front ≡ size_of before + length p.bytes = size-append before (it ∷ []) ∙ ap (λ (l : List ℕ). size_of before + length l) (append-nil p.bytes) in
     let step = read_is_step reads_debug part from to all items before p rest within is plain at flag (omega (arith, all_in, some, total)) (omega (arith, all_in, total)) own.0 own.1 are.0 in
     let later = read_sound reads_debug part from to all (opens_items p.row) front pieces behind within is plain (read_inside part from to all before p within plain at own.0 some)
-        (awaits_next from before p at.begun some) are.1 (subst (λ (l : List Piece). KeptFrom part l pieces) (sym (pieces-append before (it ∷ []))) own.2) (omega (arith, size, all_in, total)) in
+    (awaits_next from before p at.begun some) are.1 (subst (λ (l : List Piece). KeptFrom part l pieces) (sym (pieces-append before (it ∷ []))) own.2) (omega (arith, size, all_in, total)) in
     subst (λ (l : List ℕ). IsSoundFrom reads_debug before (steps_of (size_of before) (p ∷ pieces)) l) (sym (append_assoc p.bytes (bytes_of pieces) behind))
-        (sound_step reads_debug before it (steps_of (size_of before + length p.bytes) pieces) rest step
-        (subst (λ (n : ℕ). IsSoundFrom reads_debug front (steps_of n pieces) rest) size later))
+    (sound_step reads_debug before it (steps_of (size_of before + length p.bytes) pieces) rest step
+    (subst (λ (n : ℕ). IsSoundFrom reads_debug front (steps_of n pieces) rest) size later))
 
 -- ---- what fills a part
 
@@ -310,7 +307,7 @@ joint_behind reads_debug all part before own bytes behind c within at (suc n) co
     let grown : offsets_of (before ++ own) ≡ all = offsets-append before own ∙ (λ i. at.offsets i ++ c.no_offsets i) ∙ append-nil all in
     let size : size_of (before ++ own) ≡ size_of before + length bytes = size-append before own ∙ ap (λ (l : List ℕ). size_of before + length l) c.its_bytes in
     let place : part_at (before ++ own) (size_of (before ++ own) - 1) ≡ Some (extent part (size_of before) (size_of before + length bytes)) =
-        ap (λ ws. part_among parts_in_order ws (size_of (before ++ own) - 1)) grown ∙ within (size_of (before ++ own) - 1) (omega arith) (omega arith) in
+    ap (λ ws. part_among parts_in_order ws (size_of (before ++ own) - 1)) grown ∙ within (size_of (before ++ own) - 1) (omega arith) (omega arith) in
     record {
       many = omega (arith, at.many, length-append before own);
       offsets = grown;
@@ -345,8 +342,8 @@ walk_contents reads_debug all (part ∷ parts) (w ∷ offsets) before (own ∷ c
     let size : size_of (before ++ own) ≡ size_of before + length bytes = size-append before own ∙ ap (λ (l : List ℕ). size_of before + length l) c.its_bytes in
     let joint = joint_behind reads_debug all part before own bytes rest c within at (length bytes) refl in
     let later = walk_contents reads_debug all parts offsets (before ++ own) contents texts behind
-        (places_behind all part parts w (size_of before) (size_of (before ++ own)) offsets places (omega arith) (first ∙ sym size))
-        (subst (λ (n : ℕ). StandAt offsets n texts) (sym size) stand.1) (omega arith) fill.1 joint in
+    (places_behind all part parts w (size_of before) (size_of (before ++ own)) offsets places (omega arith) (first ∙ sym size))
+    (subst (λ (n : ℕ). StandAt offsets n texts) (sym size) stand.1) (omega arith) fill.1 joint in
     let same = append_assoc before own (joined contents) in
     record {
       sound = subst (λ (l : List ℕ). IsSoundFrom reads_debug before (own ++ joined contents) l) (ap (λ l. l ++ rest) c.its_bytes ∙ sym (append_assoc bytes (joined texts) behind))

@@ -1,10 +1,10 @@
 -- Where no items may stand there is none.
-use Rattle.std.proofs.Common.{◌≡◌, ℕ, Bool, true, false, cond, ◌==◌, ◌&&◌, List, Option, Some, None, refl}
+use Rattle.std.proofs.Common.{◌≡◌, ℕ, Bool, true, false, ◌==◌, List, Option, Some, None, refl}
 use Rattle.mufom_numbers.specs.declared.taken.Span.{Span}
 use Rattle.mufom_records.specs.declared.record.Mode.TheVariants as mode
 use Rattle.mufom_records.specs.declared.record.Record.{Record}
 use Rattle.mufom_records.specs.declared.record.Record.TheVariants as r
-use Rattle.mufom_records.specs.Fields.{ValueOf, is_one_of}
+use Rattle.mufom_records.specs.Fields.{is_one_of}
 use Rattle.mufom_records.specs.Layouts
 use Rattle.mufom_read.proofs.EndedRows.{Promises, promised, by_test}
 

@@ -7,7 +7,6 @@ use Rattle.mufom_numbers.specs.declared.reason.Reason.{Reason}
 use Rattle.mufom_numbers.specs.declared.reason.Reason.TheVariants as why
 use Rattle.mufom_numbers.specs.declared.taken.Taken.{Taken}
 use Rattle.mufom_numbers.specs.declared.taken.Taken.TheVariants.{Got, More, Bad}
-use Rattle.mufom_expr.specs.Tree.{Tree}
 use Rattle.mufom_records.specs.declared.record.Record.{Record}
 use Rattle.mufom_records.specs.declared.record.Record.TheVariants as r
 use Rattle.mufom_module.specs.Contents.{any_of}
