@@ -157,7 +157,7 @@ is_behind w at to high = last_false (not (w == 0)) (nat_le w at) (nat_lt at to) 
 pub whole_of : (part : Part) (from to : ℕ) (all : List ℕ) (front : List Step) → AllInside part from to all → offsets_of front ≡ all → size_of front ≡ to → from < to → ended_part_fault front ≡ None → whole_fault part front ≡ None
 whole_of part from to all front within offsets size some h =
     let place : part_at front (size_of front - 1) ≡ Some (record { part = part; from = from; to = to }) =
-        ap (λ ws. part_among parts_in_order ws (size_of front - 1)) offsets ∙ within (size_of front - 1) (omega arith) (omega arith) in
+    ap (λ ws. part_among parts_in_order ws (size_of front - 1)) offsets ∙ within (size_of front - 1) (omega arith) (omega arith) in
     let fault : cond (to == size_of front) (whole_fault part front) None ≡ None = subst (λ (o : Option Extent). ended_fault front o ≡ None) place h in
     subst (λ (b : Bool). cond b (whole_fault part front) None ≡ None) (eq-eqb to (size_of front) (sym size)) fault
 
@@ -172,7 +172,9 @@ empty_chunk reads_debug part w to before steps size stands open_ ends walk =
     let same = append-nil before in
     record {
       cut = record {
-        own = []; later = steps; split = refl;
+        own = [];
+        later = steps;
+        split = refl;
         walk = subst (λ (l : List Step). IsWalk reads_debug l steps) (sym same) walk;
         unended = ap (λ l. is_ended l) same ∙ open_;
         ends = ap (λ l. is_ended (l ++ steps)) same ∙ ends;
@@ -180,7 +182,7 @@ empty_chunk reads_debug part w to before steps size stands open_ ends walk =
         offsets = refl;
         is_own = nothing_own reads_debug part false (pieces_of before) (front_bytes steps);
       };
-      stands = elim stands [ | inl here ↦ inl here | inr none ↦ inr (none, refl) ];
+      stands = elim stands [ inl here ↦ inl here | inr none ↦ inr (none, refl) ];
       faultless = inl refl;
     }
 
@@ -189,7 +191,12 @@ full_chunk : (reads_debug : Bool) (part : Part) (w to : ℕ) (all : List ℕ) (b
 full_chunk reads_debug part w to all before steps within other here present some many offsets open_ ends walk =
     let test : (size_of before == w) ≡ true = eq-eqb (size_of before) w (sym here) in
     let ready : Ready reads_debug w to all false before steps = record {
-      many = many; offsets = offsets; begun = omega arith; inside = omega arith; unended = open_; ends = ends;
+      many = many;
+      offsets = offsets;
+      begun = omega arith;
+      inside = omega arith;
+      unended = open_;
+      ends = ends;
       flag = λ h. absurd (both_ways (not (size_of before == w)) (ap (λ b. not b) test) (and_parts _ _ h).0);
       walk = walk;
     } in
@@ -211,7 +218,7 @@ chunk_of reads_debug all part parts earlier (suc v) offsets before steps begun =
     let long = length-append earlier (suc v ∷ []) in
     let low : suc v ≤ to = all_last (λ e. e ≤ to) earlier (suc v) (bounded reads_debug (earlier ++ suc v ∷ []) offsets begun.order.2 (omega (arith, begun.eight)) (omega (arith, begun.count))) in
     let within : AllInside part (suc v) to all = λ at x y. begun.places at (omega (arith, begun.here))
-        ∙ ap (λ b. cond b (Some (record { part = part; from = suc v; to = to })) (part_among parts offsets at)) (is_within (suc v) at to (λ h. omega arith) x y) in
+    ∙ ap (λ b. cond b (Some (record { part = part; from = suc v; to = to })) (part_among parts offsets at)) (is_within (suc v) at to (λ h. omega arith) x y) in
     elim (cases_eq (suc v) to) [
       | inl same ↦ empty_chunk reads_debug part (suc v) to before steps (begun.here ∙ same) (inl (sym begun.here, λ h. omega arith)) begun.unended begun.ends begun.walk
       | inr not_same ↦ full_chunk reads_debug part (suc v) to all before steps within (not-true (number_of part == 7) (and_parts _ _ begun.own).0) (sym begun.here) (λ h. omega arith) (below_from (suc v) to not_same low)
@@ -219,7 +226,7 @@ chunk_of reads_debug all part parts earlier (suc v) offsets before steps begun =
     ]
   where
     below_from : (a b : ℕ) → (a ≡ b → ⊥) → a ≤ b → a < b
-    below_from a b no_ h = elim (cases_lt a b) [ | inl is ↦ is | inr is ↦ absurd (no_ (omega arith)) ]
+    below_from a b no_ h = elim (cases_lt a b) [ inl is ↦ is | inr is ↦ absurd (no_ (omega arith)) ]
 
 later_places : (all : List ℕ) (part : Part) (parts : List Part) (w : ℕ) (offsets : List ℕ) (low size : ℕ) → low ≤ size → first_present offsets ≡ size
     → ((at : ℕ) → low ≤ at → part_among parts_in_order all at ≡ part_among (part ∷ parts) (w ∷ offsets) at)
@@ -256,5 +263,15 @@ walk_parts reads_debug all (part ∷ parts) earlier (w ∷ offsets) before steps
 pub chunks_of : (reads_debug : Bool) (offsets : List ℕ) (before steps : List Step) → length offsets ≡ 8 → InOrder reads_debug [] offsets → size_of before ≡ first_present offsets → 10 ≤ length before → offsets_of before ≡ offsets
     → is_ended before ≡ false → is_ended (before ++ steps) ≡ true → IsWalk reads_debug before steps → Chunks reads_debug parts_in_order offsets before steps
 chunks_of reads_debug offsets before steps count order here many are open_ ends walk = walk_parts reads_debug offsets parts_in_order [] offsets before steps (record {
-  count = count; own = refl; order = order; eight = omega arith; places = λ at _. refl; here = here; many = many; offsets_are = are; unended = open_; ends = ends; walk = walk;
+  count = count;
+  own = refl;
+  order = order;
+  eight = omega arith;
+  places = λ at _. refl;
+  here = here;
+  many = many;
+  offsets_are = are;
+  unended = open_;
+  ends = ends;
+  walk = walk;
 })

@@ -140,7 +140,7 @@ good_value : (m : Parts) (all more : List Piece) (ix : Indexes) → indexes_in (
 good_value m all more ix same are before p known counter span e is =
     let its : list_all (is_declared all) (named_in_expression p) ≡ true = not-false _ (subst (λ (b : Bool). (b && not (list_all (is_declared all) (named_in_expression p))) ≡ false) is known) in
     good_tree m (all ++ more) ix same are None (tree_in p span) (all_declared-append all more _ (known_named all p span e its))
-        (subst (λ (o : Option ℕ). d.has_other_counter o (tree_in p span) ≡ false) (allowed_none before p.row is) (tree_counter before p span e counter))
+    (subst (λ (o : Option ℕ). d.has_other_counter o (tree_in p span) ≡ false) (allowed_none before p.row is) (tree_counter before p span e counter))
 
 pub good_values : (m : Parts) (all more : List Piece) (ix : Indexes) → indexes_in (all ++ more) ≡ ix → AreCounts m (indexes_in (all ++ more)) → (part : Part) (before pieces : List Piece) → KeptFrom part before pieces → AllByRecursion (IsGiven all) pieces
     → AllByRecursion (HasGoodValue m ix) pieces

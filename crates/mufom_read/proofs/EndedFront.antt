@@ -88,8 +88,8 @@ values_good reads_debug front s =
     let m = said_by reads_debug front s in
     let within = externals_within reads_debug front s in
     good_values m ((header_of s.f ++ s.f.sections) ++ s.f.externals) (s.f.loads ++ (s.f.trailer ++ s.end ∷ [])) (indexes_of s.f)
-        (ap (λ l. indexes_in l) within ∙ same_ix reads_debug front s) (subst (λ (l : List Piece). AreCounts m (indexes_in l)) (sym within) (counted reads_debug front s))
-        external_part (header_of s.f ++ s.f.sections) s.f.externals s.keep_externals s.given
+    (ap (λ l. indexes_in l) within ∙ same_ix reads_debug front s) (subst (λ (l : List Piece). AreCounts m (indexes_in l)) (sym within) (counted reads_debug front s))
+    external_part (header_of s.f ++ s.f.sections) s.f.externals s.keep_externals s.given
 
 loads_good : (reads_debug : Bool) (front : List Step) (s : Sliced reads_debug front) → AreGoodLoads (said_by reads_debug front s) None (said_by reads_debug front s).loads
 loads_good reads_debug front s =

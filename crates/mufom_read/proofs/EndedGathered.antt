@@ -142,7 +142,7 @@ pub same_sections : (h s e l t : List Piece) (end : Piece) → AreSorted h s e l
 same_sections h s e l t end are =
     let all = all_pieces h s e l t end in
     let same = section_same all s (λ i. only_sections (λ p. size_for i p.row) (λ p x. size_asked i p.row x) h s e l t end are) (λ i. only_sections (λ p. alignment_for i p.row) (λ p x. alignment_asked i p.row x) h s e l t end are)
-        (λ i. only_sections (λ p. base_for i p.row) (λ p x. base_asked i p.row x) h s e l t end are) in
+    (λ i. only_sections (λ p. base_for i p.row) (λ p x. base_asked i p.row x) h s e l t end are) in
     only_sections (λ p. section_by all p p.row) (λ p x. section_asked all p p.row x) h s e l t end are ∙ (λ k. filter_map (λ p. same p p.row k) s)
 
 -- ---- indexes

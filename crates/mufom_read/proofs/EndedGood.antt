@@ -71,9 +71,10 @@ good m all ix same are before behind p whole short keeps =
 pub good_from : (m : Parts) (all : List Piece) (ix : Indexes) → indexes_in all ≡ ix → AreCounts m (indexes_in all) → (part : Part) (before pieces behind : List Piece) → (before ++ pieces) ++ behind ≡ all
     → AllByRecursion (λ p. IsShort p.row) pieces → KeptFrom part before pieces → GoodFrom m ix before pieces
 good_from m all ix same are part before [] behind whole short own = tt
-good_from m all ix same are part before (p ∷ pieces) behind whole short own =
-    (good m all ix same are before (pieces ++ behind) p (sym (append_assoc before (p ∷ pieces) behind) ∙ whole) short.0 own.1,
-    good_from m all ix same are part (before ++ p ∷ []) pieces behind (ap (λ l. l ++ behind) (append_assoc before (p ∷ []) pieces) ∙ whole) short.1 own.2)
+good_from m all ix same are part before (p ∷ pieces) behind whole short own = (
+  good m all ix same are before (pieces ++ behind) p (sym (append_assoc before (p ∷ pieces) behind) ∙ whole) short.0 own.1,
+  good_from m all ix same are part (before ++ p ∷ []) pieces behind (ap (λ l. l ++ behind) (append_assoc before (p ∷ []) pieces) ∙ whole) short.1 own.2,
+)
 
 -- ---- texts
 

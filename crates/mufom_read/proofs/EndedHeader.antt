@@ -137,7 +137,16 @@ offset_run_none : (reads_debug : Bool) (k : ℕ) (earlier : List ℕ) (before st
 offset_run_none reads_debug k earlier before steps open_ ends walk =
     let same = sym (append-nil before) in
     record {
-      own = []; later = steps; offsets = []; split = refl; count = refl; modes = tt; bytes = refl; values = refl; many = refl; in_order = tt;
+      own = [];
+      later = steps;
+      offsets = [];
+      split = refl;
+      count = refl;
+      modes = tt;
+      bytes = refl;
+      values = refl;
+      many = refl;
+      in_order = tt;
       gap = λ some all. absurd (omega arith);
       silent = refl;
       walk = subst (λ (l : List Step). IsWalk reads_debug l steps) same walk;
@@ -155,8 +164,11 @@ offset_facts : (reads_debug : Bool) (earlier : List ℕ) (w start end : ℕ) →
 offset_facts reads_debug earlier w start end h =
     let first = no_fault (fault_if (is_out_of_order earlier w) start _) _ h in
     let second = no_fault (fault_if (is_left_for_later reads_debug earlier w) start _) _ first.1 in
-    record { order = no_fault_if (is_out_of_order earlier w) start _ first.0; now = no_fault_if (is_left_for_later reads_debug earlier w) start _ second.0;
-      gap = no_fault_if (leaves_gap (earlier ++ w ∷ []) end) end _ second.1 }
+    record {
+      order = no_fault_if (is_out_of_order earlier w) start _ first.0;
+      now = no_fault_if (is_left_for_later reads_debug earlier w) start _ second.0;
+      gap = no_fault_if (leaves_gap (earlier ++ w ∷ []) end) end _ second.1;
+    }
 
 -- the gap is judged behind the last offset
 gap_of : (n : ℕ) (earlier : List ℕ) (w : ℕ) (offsets : List ℕ) (end : ℕ) (before : List Step) (it : Step) (own : List Step) → length offsets ≡ n → length own ≡ n
@@ -181,8 +193,8 @@ offset_run (suc n) k reads_debug earlier before steps at all are open_ ends walk
     let w = row.0 in
     let end = size_of before + length next.piece.bytes in
     let facts = offset_facts reads_debug earlier w (size_of before) end
-        (subst (λ (l : List ℕ). offset_fault reads_debug l w (size_of before) end ≡ None) are
-        (subst (λ (s : Record). header_fault reads_debug (offsets_of before) (size_of before) end s ≡ None) row.1 next.faultless)) in
+    (subst (λ (l : List ℕ). offset_fault reads_debug l w (size_of before) end ≡ None) are
+    (subst (λ (s : Record). header_fault reads_debug (offsets_of before) (size_of before) end s ≡ None) row.1 next.faultless)) in
     let long : length front ≡ suc (suc (suc k)) = length-append before (it ∷ []) ∙ omega arith in
     let value : offsets_of (it ∷ []) ≡ w ∷ [] = ap (λ (s : Record). offsets_in (record { row = s; bytes = next.piece.bytes } ∷ [])) row.1 in
     let grown : offsets_of front ≡ earlier ++ w ∷ [] = offsets-append before (it ∷ []) ∙ (λ i. are i ++ value i) in
@@ -243,7 +255,7 @@ header_run reads_debug steps ends walk =
     let none : offsets_of (a ∷ []) ≡ [] = ap (λ (s : Record). offsets_in (record { row = s; bytes = one.piece.bytes } ∷ [])) first.2 in
     let none_two : offsets_of (a ∷ b ∷ []) ≡ [] = offsets-append (a ∷ []) (b ∷ []) ∙ (λ i. none i ++ offsets_in (record { row = second.3 i; bytes = two.piece.bytes } ∷ [])) in
     let later = offset_run 8 0 reads_debug [] (a ∷ b ∷ []) two.later refl refl none_two open_two
-        (subst (λ (s : Step). is_ended (a ∷ s ∷ two.later) ≡ true) same two.ends) (subst (λ (s : Step). IsWalk reads_debug (a ∷ s ∷ []) two.later) same two.walk) in
+    (subst (λ (s : Step). is_ended (a ∷ s ∷ two.later) ≡ true) same two.ends) (subst (λ (s : Step). IsWalk reads_debug (a ∷ s ∷ []) two.later) same two.walk) in
     record {
       begin = one.piece;
       descriptor = two.piece;

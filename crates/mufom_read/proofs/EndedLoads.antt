@@ -127,12 +127,12 @@ sized maus (Some n) units h = within n h.0 h.1 where
   within : (n : ℕ) → 1 ≤ n → n ≤ 8 → ((n == 0) || nat_lt 8 n) ≡ false
   within n a b = grind arith
 sized maus None units h = elim (or_cases (maus == 2) ((maus == 3) || (maus == 4)) units) [
-    | inl two_ ↦ ap (λ n. (n == 0) || nat_lt 8 n) (eqb-true maus 2 two_)
-    | inr more ↦ elim (or_cases (maus == 3) (maus == 4) more) [
-        | inl three ↦ ap (λ n. (n == 0) || nat_lt 8 n) (eqb-true maus 3 three)
-        | inr four ↦ ap (λ n. (n == 0) || nat_lt 8 n) (eqb-true maus 4 four)
-      ]
+  | inl two_ ↦ ap (λ n. (n == 0) || nat_lt 8 n) (eqb-true maus 2 two_)
+  | inr more ↦ elim (or_cases (maus == 3) (maus == 4) more) [
+    | inl three ↦ ap (λ n. (n == 0) || nat_lt 8 n) (eqb-true maus 3 three)
+    | inr four ↦ ap (λ n. (n == 0) || nat_lt 8 n) (eqb-true maus 4 four)
   ]
+]
 
 below_test : (n position : ℕ) → position < n → nat_le n position ≡ false
 below_test n position h = grind arith
@@ -226,8 +226,8 @@ good_loads m ix maus units before (p ∷ pieces) are =
     let current = placed_section ix (current_section before) in
     let behind : placed_section ix (current_section (before ++ p ∷ [])) ≡ behind_all current (loads_by ix p items p.row) = ap (placed_section ix) (behind_one before p) ∙ sym (behind_row ix p items (current_section before) p.row) in
     loads-append m current (loads_by ix p items p.row) (loads_of ix maus pieces)
-        (good_row m ix before p items p.row refl are.0 (λ e. subst (λ (o : Option ℕ). AllByRecursion (IsGoodItem m (placed_section ix o)) items) (same_section before p e) (good_items m ix maus units (before ++ p ∷ []) pieces are.1)))
-        (subst (λ (o : Option ℕ). AreGoodLoads m o (loads_of ix maus pieces)) behind (good_loads m ix maus units (before ++ p ∷ []) pieces are.1))
+    (good_row m ix before p items p.row refl are.0 (λ e. subst (λ (o : Option ℕ). AllByRecursion (IsGoodItem m (placed_section ix o)) items) (same_section before p e) (good_items m ix maus units (before ++ p ∷ []) pieces are.1)))
+    (subst (λ (o : Option ℕ). AreGoodLoads m o (loads_of ix maus pieces)) behind (good_loads m ix maus units (before ++ p ∷ []) pieces are.1))
 
 -- ---- the start
 

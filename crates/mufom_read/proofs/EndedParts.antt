@@ -117,9 +117,9 @@ raw_or_read false = inr refl
 
 pub nothing_own : (reads_debug : Bool) (part : Part) (items : Bool) (before : List Piece) (behind : List ℕ) → IsOwn reads_debug part items before [] behind
 nothing_own reads_debug part items before behind = elim (raw_or_read (is_raw reads_debug part)) [
-    | inl yes_ ↦ inl (yes_, refl)
-    | inr no_ ↦ inr (no_, refl, tt, tt)
-  ]
+  | inl yes_ ↦ inl (yes_, refl)
+  | inr no_ ↦ inr (no_, refl, tt, tt)
+]
 
 -- at the part's end
 pub at_its_end : (reads_debug : Bool) (part : Part) (from to : ℕ) (all : List ℕ) (items : Bool) (before steps : List Step) → Ready reads_debug from to all items before steps → size_of before ≡ to
@@ -127,7 +127,9 @@ pub at_its_end : (reads_debug : Bool) (part : Part) (from to : ℕ) (all : List 
 at_its_end reads_debug part from to all items before steps ready here =
     let same = append-nil before in
     record {
-      own = []; later = steps; split = refl;
+      own = [];
+      later = steps;
+      split = refl;
       walk = subst (λ (l : List Step). IsWalk reads_debug l steps) (sym same) ready.walk;
       unended = ap (λ l. is_ended l) same ∙ ready.unended;
       ends = ap (λ l. is_ended (l ++ steps)) same ∙ ready.ends;
@@ -188,7 +190,9 @@ raw_split : (reads_debug : Bool) (part : Part) (to : ℕ) (items : Bool) (before
 raw_split reads_debug part to items before b steps is rest =
     let same = append_assoc before (raw b ∷ []) rest.own in
     record {
-      own = raw b ∷ rest.own; later = rest.later; split = ap (λ l. raw b ∷ l) rest.split;
+      own = raw b ∷ rest.own;
+      later = rest.later;
+      split = ap (λ l. raw b ∷ l) rest.split;
       walk = subst (λ (l : List Step). IsWalk reads_debug l rest.later) same rest.walk;
       unended = ap (λ l. is_ended l) (sym same) ∙ rest.unended;
       ends = ap (λ l. is_ended (l ++ rest.later)) (sym same) ∙ rest.ends;
@@ -231,7 +235,9 @@ read_split reads_debug part to items before start p steps is its own keeps rest 
     let same = append_assoc before (it ∷ []) rest.own in
     let none : offsets_of (it ∷ []) ≡ [] = ap (λ (o : Option ℕ). filter_map (λ (y : Option ℕ). y) (o ∷ [])) (no_offset part p.row own) in
     record {
-      own = it ∷ rest.own; later = rest.later; split = ap (λ l. it ∷ l) rest.split;
+      own = it ∷ rest.own;
+      later = rest.later;
+      split = ap (λ l. it ∷ l) rest.split;
       walk = subst (λ (l : List Step). IsWalk reads_debug l rest.later) same rest.walk;
       unended = ap (λ l. is_ended l) (sym same) ∙ rest.unended;
       ends = ap (λ l. is_ended (l ++ rest.later)) (sym same) ∙ rest.ends;
@@ -239,9 +245,12 @@ read_split reads_debug part to items before start p steps is its own keeps rest 
       offsets = offsets-append (it ∷ []) rest.own ∙ (λ i. none i ++ rest.offsets i);
       is_own = elim rest.is_own [
         | inl yes_ ↦ absurd (both_ways (is_raw reads_debug part) is yes_.0)
-        | inr no_ ↦ inr (is, ap (λ l. p.bytes ++ l) no_.1,
-            (subst (λ (l : List ℕ). IsWholeRecord (mode_of items p.bytes) p.row p.bytes (first_of l None)) (ap front_bytes rest.split ∙ bytes-append rest.own rest.later ∙ ap (λ l. l ++ front_bytes rest.later) (sym no_.1)) its, no_.2),
-            (own, keeps, subst (λ (l : List Piece). KeptFrom part l (pieces_of rest.own)) (pieces-append before (it ∷ [])) no_.3))
+        | inr no_ ↦ inr (
+          is,
+          ap (λ l. p.bytes ++ l) no_.1,
+          (subst (λ (l : List ℕ). IsWholeRecord (mode_of items p.bytes) p.row p.bytes (first_of l None)) (ap front_bytes rest.split ∙ bytes-append rest.own rest.later ∙ ap (λ l. l ++ front_bytes rest.later) (sym no_.1)) its, no_.2),
+          (own, keeps, subst (λ (l : List Piece). KeptFrom part l (pieces_of rest.own)) (pieces-append before (it ∷ [])) no_.3),
+        )
       ];
     }
 
@@ -271,7 +280,7 @@ as_read reads_debug part from to all items before step steps is other place read
     let whole_p = whole_by items (a && (b && c)) p (front_bytes steps) (may_by a b c items ready.flag) here.is_whole in
     subst (λ (s : Step). Ready reads_debug from to all items before (s ∷ steps) → Rest reads_debug part from to all before s steps → Split reads_debug part to items before (s ∷ steps)) (sym here.is_this)
     (λ ready rest. read_split reads_debug part to items before start p steps is whole_p facts.own facts.keeps
-        (rest (opens_items p.row) (read_ready reads_debug part from to all items before start p steps other ready facts.own facts.inside))) ready rest
+    (rest (opens_items p.row) (read_ready reads_debug part from to all items before start p steps other ready facts.own facts.inside))) ready rest
 
 -- a step of the part
 split_step : (reads_debug : Bool) (part : Part) (from to : ℕ) (all : List ℕ) (items : Bool) (before : List Step) (step : Step) (steps : List Step) → AllInside part from to all → (number_of part == 7) ≡ false
@@ -292,10 +301,10 @@ pub split_part : (reads_debug : Bool) (part : Part) (from to : ℕ) (all : List 
     → Ready reads_debug from to all items before steps → Split reads_debug part to items before steps
 split_part reads_debug part from to all items before [] within other ready = absurd (both_ways (is_ended before) ready.unended (ap (λ l. is_ended l) (sym (append-nil before)) ∙ ready.ends))
 split_part reads_debug part from to all items before (step ∷ steps) within other ready = elim (cases_eq (size_of before) to) [
-    | inl here ↦ at_its_end reads_debug part from to all items before (step ∷ steps) ready here
-    | inr not_here ↦ split_step reads_debug part from to all items before step steps within other ready (below_from (size_of before) to not_here ready.inside)
-        (λ later next. split_part reads_debug part from to all later (before ++ step ∷ []) steps within other next)
-  ]
+  | inl here ↦ at_its_end reads_debug part from to all items before (step ∷ steps) ready here
+  | inr not_here ↦ split_step reads_debug part from to all items before step steps within other ready (below_from (size_of before) to not_here ready.inside)
+      (λ later next. split_part reads_debug part from to all later (before ++ step ∷ []) steps within other next)
+]
   where
     below_from : (a b : ℕ) → (a ≡ b → ⊥) → a ≤ b → a < b
-    below_from a b no_ h = elim (cases_lt a b) [ | inl is ↦ is | inr is ↦ absurd (no_ (omega arith)) ]
+    below_from a b no_ h = elim (cases_lt a b) [ inl is ↦ is | inr is ↦ absurd (no_ (omega arith)) ]

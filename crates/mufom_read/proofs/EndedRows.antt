@@ -93,13 +93,13 @@ begin_row row bytes next is = promised IsBegin (Layouts.layout_of mode.Begin) ro
 pub descriptor_row : (row : Record) (bytes : List ℕ) (next : Option ℕ) → Layouts.IsWholeRecord mode.Descriptor row bytes next → IsDescriptor row
 descriptor_row row bytes next is = promised IsDescriptor (Layouts.layout_of mode.Descriptor) row 0 bytes next is
     (λ (b : ℕ) _. by_test IsDescriptor (b == 0xEC) Layouts.descriptor (Layouts.refused 1 _)
-        (λ _. λ (bits : ℕ) _ (maus : ℕ) _ (order : Option ℕ) x. (bits, maus, order, refl, its_order order x)) (λ _. tt))
+    (λ _. λ (bits : ℕ) _ (maus : ℕ) _ (order : Option ℕ) x. (bits, maus, order, refl, its_order order x)) (λ _. tt))
 
 pub offset_row : (k : ℕ) (row : Record) (bytes : List ℕ) (next : Option ℕ) → Layouts.IsWholeRecord (mode.Offset k) row bytes next → IsOffset k row
 offset_row k row bytes next is = promised (IsOffset k) (Layouts.layout_of (mode.Offset k)) row 0 bytes next is
     (λ (b : ℕ) _. by_test (IsOffset k) (b == 0xE2) (Layouts.begins_with 2 0xD7 (Layouts.numbered_offset k)) (Layouts.refused 1 _)
-        (λ _. λ (c : ℕ) _. by_test (IsOffset k) (c == 0xD7) (Layouts.numbered_offset k) (Layouts.refused 2 _)
-            (λ _. λ (n : ℕ) same (w : ℕ) _. (w, ap (λ (m : ℕ). r.Offset m w) (eqb-true n k same))) (λ _. tt)) (λ _. tt))
+    (λ _. λ (c : ℕ) _. by_test (IsOffset k) (c == 0xD7) (Layouts.numbered_offset k) (Layouts.refused 2 _)
+    (λ _. λ (n : ℕ) same (w : ℕ) _. (w, ap (λ (m : ℕ). r.Offset m w) (eqb-true n k same))) (λ _. tt)) (λ _. tt))
 
 -- ---- the other records
 
@@ -207,14 +207,14 @@ end_or_short row bytes next is = by_byte (is.0 == 0xE1) refl where
   by_byte false e = inr (promised IsShort (Layouts.coded is.0) row (0 + length is.1) is.2 next is.4 (coded_short is.0 e))
 
 pub body_short : (row : Record) (bytes : List ℕ) (next : Option ℕ) → is_module_end row ≡ false → Layouts.IsWholeRecord mode.Body row bytes next → IsShort row
-body_short row bytes next other is = elim (end_or_short row bytes next is) [ | inl end ↦ absurd (both_ways (is_module_end row) other (ap is_module_end end.0)) | inr short ↦ short ]
+body_short row bytes next other is = elim (end_or_short row bytes next is) [ inl end ↦ absurd (both_ways (is_module_end row) other (ap is_module_end end.0)) | inr short ↦ short ]
 
 end_not_short : (row : Record) → is_module_end row ≡ true → IsShort row → ⊥
 end_not_short r.ModuleEnd h short = short
 end_not_short row h short = cc
 
 pub end_bytes : (row : Record) (bytes : List ℕ) (next : Option ℕ) → is_module_end row ≡ true → Layouts.IsWholeRecord mode.Body row bytes next → (row ≡ r.ModuleEnd) × (bytes ≡ 0xE1 ∷ [])
-end_bytes row bytes next ends is = elim (end_or_short row bytes next is) [ | inl end ↦ end | inr short ↦ absurd (end_not_short row ends short) ]
+end_bytes row bytes next ends is = elim (end_or_short row bytes next is) [ inl end ↦ end | inr short ↦ absurd (end_not_short row ends short) ]
 
 pub items_short : (row : Record) (bytes : List ℕ) (next : Option ℕ) → Layouts.IsWholeRecord mode.Items row bytes next → IsShort row
 items_short row bytes next is = promised IsShort Layouts.item row 0 bytes next is item_short

@@ -130,17 +130,17 @@ first_at offsets n [] some h = ap first_present h ∙ present n some where
   present (suc n) some = refl
 first_at [] n (x ∷ parts) some h = absurd h
 first_at (zero ∷ offsets) n (x ∷ parts) some h = let both = stand_parts 0 offsets n x parts h in elim both.0 [
-    | inl here ↦ absurd (omega arith)
-    | inr none ↦ first_at offsets (n + length x) parts (omega arith) both.1 ∙ ap (λ (l : List ℕ). n + length l) none.1 ∙ omega arith
-  ]
-first_at (suc w ∷ offsets) n (x ∷ parts) some h = elim (stand_parts (suc w) offsets n x parts h).0 [ | inl here ↦ here | inr none ↦ absurd (omega (arith, none.0)) ]
+  | inl here ↦ absurd (omega arith)
+  | inr none ↦ first_at offsets (n + length x) parts (omega arith) both.1 ∙ ap (λ (l : List ℕ). n + length l) none.1 ∙ omega arith
+]
+first_at (suc w ∷ offsets) n (x ∷ parts) some h = elim (stand_parts (suc w) offsets n x parts h).0 [ inl here ↦ here | inr none ↦ absurd (omega (arith, none.0)) ]
 
 between : (w : ℕ) (offsets pre x rest : List ℕ) (parts : List (List ℕ)) → 1 ≤ length pre → StandAt (w ∷ offsets) (length pre) (x ∷ parts) → x ≡ bytes_between (w ∷ offsets) (pre ++ (x ++ rest))
-between zero offsets pre x rest parts some h = elim (stand_parts 0 offsets (length pre) x parts h).0 [ | inl here ↦ absurd (omega arith) | inr none ↦ none.1 ]
+between zero offsets pre x rest parts some h = elim (stand_parts 0 offsets (length pre) x parts h).0 [ inl here ↦ absurd (omega arith) | inr none ↦ none.1 ]
 between (suc w) offsets pre x rest parts some h = let both = stand_parts (suc w) offsets (length pre) x parts h in elim both.0 [
-    | inl here ↦ between_at (suc w) (first_present offsets) pre x rest here (first_at offsets (length pre + length x) parts (omega arith) both.1)
-    | inr none ↦ absurd (omega (arith, none.0))
-  ]
+  | inl here ↦ between_at (suc w) (first_present offsets) pre x rest here (first_at offsets (length pre + length x) parts (omega arith) both.1)
+  | inr none ↦ absurd (omega (arith, none.0))
+]
   where
     between_at : (from to : ℕ) (pre x rest : List ℕ) → from ≡ length pre → to ≡ length pre + length x → x ≡ slice_range (pre ++ (x ++ rest)) from to
     between_at from to pre x rest a b = sym (ap (take (to - from)) (drop_at pre (x ++ rest) from (sym a)) ∙ take_at x rest (to - from) (omega arith))

@@ -38,12 +38,18 @@ record ReadChunk (part : Part) (w : ℕ) (before own later steps : List Step) : 
 
 raw_chunk : (reads_debug : Bool) (part : Part) (w to : ℕ) (before steps : List Step) → is_raw reads_debug part ≡ true → (c : Chunk reads_debug part w to before steps) → RawChunk w before c.cut.own c.cut.later steps
 raw_chunk reads_debug part w to before steps is c = record {
-  split = c.cut.split; none = raw_pieces reads_debug part (pieces_of before) c.cut.own (front_bytes c.cut.later) is c.cut.is_own; stands = c.stands; offsets = c.cut.offsets;
+  split = c.cut.split;
+  none = raw_pieces reads_debug part (pieces_of before) c.cut.own (front_bytes c.cut.later) is c.cut.is_own;
+  stands = c.stands;
+  offsets = c.cut.offsets;
 }
 
 read_chunk : (reads_debug : Bool) (part : Part) (w to : ℕ) (before steps : List Step) → is_raw reads_debug part ≡ false → (c : Chunk reads_debug part w to before steps) → ReadChunk part w before c.cut.own c.cut.later steps
 read_chunk reads_debug part w to before steps is c = record {
-  split = c.cut.split; is_read = read_pieces reads_debug part (pieces_of before) c.cut.own (front_bytes c.cut.later) is c.cut.is_own; stands = c.stands; offsets = c.cut.offsets;
+  split = c.cut.split;
+  is_read = read_pieces reads_debug part (pieces_of before) c.cut.own (front_bytes c.cut.later) is c.cut.is_own;
+  stands = c.stands;
+  offsets = c.cut.offsets;
 }
 
 -- the header
@@ -59,8 +65,17 @@ record HeaderFacts (before later : List Step) (begin descriptor : Piece) (offset
 -- the parts of the file
 abbrev file_of : Piece → Piece → List Piece → List Step → List Step → List Step → List Step → List Step → List Step → List Step → FileParts
 file_of begin descriptor offsets o0 o1 o2 o3 o4 o5 o6 = record {
-  begin = begin; descriptor = descriptor; offsets = offsets; extension = front_bytes o0; environment = front_bytes o1; sections = pieces_of o2; externals = pieces_of o3;
-  debug = []; skipped = front_bytes o4; loads = pieces_of o5; trailer = pieces_of o6;
+  begin = begin;
+  descriptor = descriptor;
+  offsets = offsets;
+  extension = front_bytes o0;
+  environment = front_bytes o1;
+  sections = pieces_of o2;
+  externals = pieces_of o3;
+  debug = [];
+  skipped = front_bytes o4;
+  loads = pieces_of o5;
+  trailer = pieces_of o6;
 }
 
 chain : (own later steps : List Step) (x y : List ℕ) → steps ≡ own ++ later → x ≡ front_bytes own → front_bytes later ≡ y → front_bytes steps ≡ x ++ y
@@ -157,7 +172,8 @@ slice_from reads_debug front b0 l begin descriptor offs w0 w1 w2 w3 w4 w5 w6 w7 
     let a7 = same_offsets ((((((b0 ++ o0) ++ o1) ++ o2) ++ o3) ++ o4) ++ o5) o6 (offsets_in offs) a6 c6.offsets in
     let it = read (size_of (((((((b0 ++ o0) ++ o1) ++ o2) ++ o3) ++ o4) ++ o5) ++ o6)) last.piece in
     record {
-      f = f; end = last.piece;
+      f = f;
+      end = last.piece;
       bytes = ap front_bytes whole ∙ bytes-append b0 l ∙ (λ i. sym h.bytes i ++ d0 i);
       header = subst (λ (k : List ℕ). AreOfModes header_modes header k) d0 h.modes;
       stand = subst (λ (ws : List ℕ). StandAt ws n0 (parts_of f)) (sym values) (here_or_none w0 n0 b0 o0 (f.extension) e0 refl c0.stands, (here_or_none w1 (n0 + length (f.extension)) (b0 ++ o0) o1 (f.environment) e1 refl c1.stands, (here_or_none w2 ((n0 + length (f.extension)) + length (f.environment)) ((b0 ++ o0) ++ o1) o2 (bytes_of f.sections) e2 c2.is_read.bytes c2.stands, (here_or_none w3 (((n0 + length (f.extension)) + length (f.environment)) + length (bytes_of f.sections)) (((b0 ++ o0) ++ o1) ++ o2) o3 (bytes_of f.externals) e3 c3.is_read.bytes c3.stands, (here_or_none w4 ((((n0 + length (f.extension)) + length (f.environment)) + length (bytes_of f.sections)) + length (bytes_of f.externals)) ((((b0 ++ o0) ++ o1) ++ o2) ++ o3) o4 (f.skipped) e4 refl c4.stands, (here_or_none w5 (((((n0 + length (f.extension)) + length (f.environment)) + length (bytes_of f.sections)) + length (bytes_of f.externals)) + length (f.skipped)) (((((b0 ++ o0) ++ o1) ++ o2) ++ o3) ++ o4) o5 (bytes_of f.loads) e5 c5.is_read.bytes c5.stands, (here_or_none w6 ((((((n0 + length (f.extension)) + length (f.environment)) + length (bytes_of f.sections)) + length (bytes_of f.externals)) + length (f.skipped)) + length (bytes_of f.loads)) ((((((b0 ++ o0) ++ o1) ++ o2) ++ o3) ++ o4) ++ o5) o6 (bytes_of f.trailer) e6 c6.is_read.bytes c6.stands, ap (λ (k : ℕ). k ∷ []) (one_head w7 (size_of (((((((b0 ++ o0) ++ o1) ++ o2) ++ o3) ++ o4) ++ o5) ++ o6)) last.offset ∙ e7))))))));
@@ -165,14 +181,19 @@ slice_from reads_debug front b0 l begin descriptor offs w0 w1 w2 w3 w4 w5 w6 w7 
       externals = subst (λ (k : List ℕ). AreWhole false f.externals k) d4 c3.is_read.are_whole;
       loads = subst (λ (k : List ℕ). AreWhole false f.loads k) t c5.is_read.are_whole;
       trailer = subst (λ (k : List ℕ). AreWhole false f.trailer k) (end_bytes_of (((((((b0 ++ o0) ++ o1) ++ o2) ++ o3) ++ o4) ++ o5) ++ o6) l6 (w7 ∷ []) last) c6.is_read.are_whole;
-      no_debug = refl; skipped = skipped;
+      no_debug = refl;
+      skipped = skipped;
       keep_sections = subst (λ (k : List Piece). KeptFrom section_part k f.sections) p2 c2.is_read.keeps;
       keep_externals = subst (λ (k : List Piece). KeptFrom external_part k f.externals) p3 c3.is_read.keeps;
       keep_loads = subst (λ (k : List Piece). KeptFrom data_part k f.loads) p5 c5.is_read.keeps;
       keep_trailer = subst (λ (k : List Piece). KeptFrom trailer_part k f.trailer) p6 c6.is_read.keeps;
       based = subst (λ (k : List Piece). AllByRecursion (λ p. lacks_base k p.row ≡ false) f.sections) p3 (all_based ((b0 ++ o0) ++ o1) o2 based);
       given = subst (λ (k : List Piece). AllByRecursion (IsGiven k) f.externals) p4 (all_given (((b0 ++ o0) ++ o1) ++ o2) o3 given);
-      silent = h.silent; begins = h.begins; describes = h.describes; no_bad = h.no_bad; ends = last.own;
+      silent = h.silent;
+      begins = h.begins;
+      describes = h.describes;
+      no_bad = h.no_bad;
+      ends = last.own;
       pieces = ap pieces_of (g6 ∙ ap (λ k. (((((((b0 ++ o0) ++ o1) ++ o2) ++ o3) ++ o4) ++ o5) ++ o6) ++ k) last.is_last) ∙ pieces-append (((((((b0 ++ o0) ++ o1) ++ o2) ++ o3) ++ o4) ++ o5) ++ o6) (it ∷ []) ∙ ap (λ k. k ++ last.piece ∷ []) p7;
       offsets = ap offsets_of (g6 ∙ ap (λ k. (((((((b0 ++ o0) ++ o1) ++ o2) ++ o3) ++ o4) ++ o5) ++ o6) ++ k) last.is_last) ∙ same_offsets (((((((b0 ++ o0) ++ o1) ++ o2) ++ o3) ++ o4) ++ o5) ++ o6) (it ∷ []) (offsets_in offs) a7 (no_end_offset (size_of (((((((b0 ++ o0) ++ o1) ++ o2) ++ o3) ++ o4) ++ o5) ++ o6)) last.piece last.own);
     }
@@ -190,8 +211,10 @@ header_facts reads_debug front h =
     record {
       pieces = refl;
       bytes = ap (λ l. h.begin.bytes ++ (h.descriptor.bytes ++ l)) h.rest.bytes;
-      modes = (subst (λ (l : List ℕ). IsWholeRecord mode.Begin h.begin.row h.begin.bytes (first_of l None)) more h.begins,
-          (subst (λ (l : List ℕ). IsWholeRecord mode.Descriptor h.descriptor.row h.descriptor.bytes (first_of l None)) rest h.describes, h.rest.modes));
+      modes = (
+        subst (λ (l : List ℕ). IsWholeRecord mode.Begin h.begin.row h.begin.bytes (first_of l None)) more h.begins,
+        (subst (λ (l : List ℕ). IsWholeRecord mode.Descriptor h.descriptor.row h.descriptor.bytes (first_of l None)) rest h.describes, h.rest.modes),
+      );
       silent = header_silent h.begin h.descriptor offs first second h.rest.silent;
       begins = first;
       describes = second;
@@ -214,12 +237,12 @@ slice_chunks reads_debug front b0 l begin descriptor offs w0 w1 w2 w3 w4 w5 w6 w
     let c6 = all.1.1.1.1.1.1.0 in
     let none = debug_chunk reads_debug w4 _ _ _ later c4 in
     slice_from reads_debug front b0 l begin descriptor offs w0 w1 w2 w3 w4 w5 w6 w7 c0.cut.own c1.cut.own c2.cut.own c3.cut.own c4.cut.own c5.cut.own c6.cut.own
-        c0.cut.later c1.cut.later c2.cut.later c3.cut.later c4.cut.later c5.cut.later c6.cut.later whole h values
-        (raw_chunk reads_debug extension_part w0 _ _ _ refl c0) (raw_chunk reads_debug environment_part w1 _ _ _ refl c1)
-        (read_chunk reads_debug section_part w2 _ _ _ refl c2) (read_chunk reads_debug external_part w3 _ _ _ refl c3)
-        (record { split = c4.cut.split; none = none.pieces; stands = c4.stands; offsets = c4.cut.offsets })
-        (read_chunk reads_debug data_part w5 _ _ _ refl c5) (read_chunk reads_debug trailer_part w6 _ _ _ refl c6)
-        none.bytes c2.faultless c3.faultless all.1.1.1.1.1.1.1
+    c0.cut.later c1.cut.later c2.cut.later c3.cut.later c4.cut.later c5.cut.later c6.cut.later whole h values
+    (raw_chunk reads_debug extension_part w0 _ _ _ refl c0) (raw_chunk reads_debug environment_part w1 _ _ _ refl c1)
+    (read_chunk reads_debug section_part w2 _ _ _ refl c2) (read_chunk reads_debug external_part w3 _ _ _ refl c3)
+    (record { split = c4.cut.split; none = none.pieces; stands = c4.stands; offsets = c4.cut.offsets })
+    (read_chunk reads_debug data_part w5 _ _ _ refl c5) (read_chunk reads_debug trailer_part w6 _ _ _ refl c6)
+    none.bytes c2.faultless c3.faultless all.1.1.1.1.1.1.1
 
 slice_by : (reads_debug : Bool) (front : List Step) (h : HeaderRun reads_debug front) (offsets : List ℕ) → h.rest.offsets ≡ offsets → length offsets ≡ 8 → Sliced reads_debug front
 slice_by reads_debug front h (w0 ∷ w1 ∷ w2 ∷ w3 ∷ w4 ∷ w5 ∷ w6 ∷ w7 ∷ []) same count =
@@ -231,8 +254,8 @@ slice_by reads_debug front h (w0 ∷ w1 ∷ w2 ∷ w3 ∷ w4 ∷ w5 ∷ w6 ∷ w
     let are : offsets_of b0 ≡ offsets = header_offsets h.begin h.descriptor (pieces_of h.rest.own) facts.begins facts.describes ∙ values in
     let size : size_of b0 ≡ first_present offsets = sym (h.rest.gap (omega arith) (ap length same)) ∙ ap first_present same in
     slice_chunks reads_debug front b0 h.rest.later h.begin h.descriptor (pieces_of h.rest.own) w0 w1 w2 w3 w4 w5 w6 w7
-        (h.split ∙ ap (λ l. read 0 h.begin ∷ read (length h.begin.bytes) h.descriptor ∷ l) h.rest.split) facts values order.2.2.2.2.1
-        (chunks_of reads_debug offsets b0 h.rest.later refl order size (omega (arith, h.rest.count)) are h.rest.unended h.rest.ends h.rest.walk)
+    (h.split ∙ ap (λ l. read 0 h.begin ∷ read (length h.begin.bytes) h.descriptor ∷ l) h.rest.split) facts values order.2.2.2.2.1
+    (chunks_of reads_debug offsets b0 h.rest.later refl order size (omega (arith, h.rest.count)) are h.rest.unended h.rest.ends h.rest.walk)
 slice_by reads_debug front h offsets same count = absurd (omega arith)
 
 pub sliced_of : (reads_debug : Bool) (front : List Step) → is_ended front ≡ true → IsWalk reads_debug [] front → Sliced reads_debug front

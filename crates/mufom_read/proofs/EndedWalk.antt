@@ -63,7 +63,6 @@ taken step n = Got step n
 abbrev wanting : Taken Step
 wanting = More
 
-
 read_by : (m : Mode) (before : List Step) (rest : List ℕ) (answer : Taken Record) (step : Step) (n : ℕ)
     → IfGot answer (λ row used. (used ≤ length rest) × IsWholeRecord m row (take used rest) (first_of (drop used rest) None))
     → as_step (size_of before) rest answer ≡ taken step n → IsRead m before rest step n
@@ -145,11 +144,14 @@ walk_of reads_debug before (step ∷ steps) fits sound =
     let n = length (step_bytes step) in
     let rest = front_bytes (step ∷ steps) in
     let back : drop n rest ≡ front_bytes steps = drop_at (step_bytes step) (front_bytes steps) n refl in
-    let faults = no_fault (ended_part_fault before) (step_fault reads_debug before (next_step reads_debug before rest)) sound.1 in
-    (sound.0, faults.0, subst (λ (t : Taken Step). step_fault reads_debug before t ≡ None) sound.2 faults.1,
-    next_at reads_debug before (place_behind before) rest step n fits sound.2,
-    walk_of reads_debug (before ++ step ∷ []) steps (subst (λ (l : List ℕ). AreBytes l) back (AreBytes-drop n rest fits))
-        (subst (λ (l : List ℕ). IsSoundFrom reads_debug (before ++ step ∷ []) steps l) back sound.3))
+    let faults = no_fault (ended_part_fault before) (step_fault reads_debug before (next_step reads_debug before rest)) sound.1 in (
+      sound.0,
+      faults.0,
+      subst (λ (t : Taken Step). step_fault reads_debug before t ≡ None) sound.2 faults.1,
+      next_at reads_debug before (place_behind before) rest step n fits sound.2,
+      walk_of reads_debug (before ++ step ∷ []) steps (subst (λ (l : List ℕ). AreBytes l) back (AreBytes-drop n rest fits))
+          (subst (λ (l : List ℕ). IsSoundFrom reads_debug (before ++ step ∷ []) steps l) back sound.3),
+    )
 
 -- the bytes of a sound front that is as long as the stream are the stream
 pub all_bytes : (reads_debug : Bool) (front : List Step) (bytes : List ℕ) → AreBytes bytes → IsSoundFront reads_debug front bytes → size_of front ≡ length bytes → bytes ≡ front_bytes front

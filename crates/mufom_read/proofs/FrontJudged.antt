@@ -80,9 +80,13 @@ sound-append reads_debug before [] s rest sound open_ none next =
 sound-append reads_debug before (t ∷ a) s rest sound open_ none next =
     let n = length (step_bytes t) in
     let same = append_assoc before (t ∷ []) a in
-    let at : drop (size_of (t ∷ a)) rest ≡ drop (size_of a) (drop n rest) = ap (λ k. drop k rest) (length-append (step_bytes t) (front_bytes a)) ∙ sym (drop-drop (size_of a) n rest) in
-    (sound.0, sound.1, sound.2, sound-append reads_debug (before ++ t ∷ []) a s (drop n rest) sound.3 (ap (λ l. is_ended l) same ∙ open_)
-        ((λ i. fault_after reads_debug (same i) (sym at i)) ∙ none) ((λ i. next_step reads_debug (same i) (sym at i)) ∙ next))
+    let at : drop (size_of (t ∷ a)) rest ≡ drop (size_of a) (drop n rest) = ap (λ k. drop k rest) (length-append (step_bytes t) (front_bytes a)) ∙ sym (drop-drop (size_of a) n rest) in (
+      sound.0,
+      sound.1,
+      sound.2,
+      sound-append reads_debug (before ++ t ∷ []) a s (drop n rest) sound.3 (ap (λ l. is_ended l) same ∙ open_)
+          ((λ i. fault_after reads_debug (same i) (sym at i)) ∙ none) ((λ i. next_step reads_debug (same i) (sym at i)) ∙ next),
+    )
 
 bad_fault : (reads_debug : Bool) (front : List Step) (rest : List ℕ) (offset : ℕ) (reason : Reason) → fault_after reads_debug front rest ≡ None → next_step reads_debug front rest ≡ Bad offset reason → ⊥
 bad_fault reads_debug front rest offset reason none next = by_part (ended_part_fault front) (subst (λ (a : Taken Step). option_or (ended_part_fault front) (step_fault reads_debug front a) ≡ None) next none) where
@@ -167,9 +171,9 @@ judged_end law reads_debug bytes front fits sound ended =
 
 waiting_judged : (reads_debug : Bool) (bytes pending : List ℕ) → IsWaiting reads_debug bytes pending → (judgment : Judgment) × IsJudged reads_debug bytes judgment
 waiting_judged reads_debug bytes pending h = elim (cases_lt file_limit (length bytes)) [
-    | inl long ↦ (refusal file_limit why.FileLimit, inl (inr (inr (refl, refl, long, pending, h))))
-    | inr short ↦ (refusal (length bytes) why.Truncated, inr (refl, refl, (short, pending, h)))
-  ]
+  | inl long ↦ (refusal file_limit why.FileLimit, inl (inr (inr (refl, refl, long, pending, h))))
+  | inr short ↦ (refusal (length bytes) why.Truncated, inr (refl, refl, (short, pending, h)))
+]
 
 -- Each stream has a judgment, where an ended front is a module's file.
 pub has_judgment : EndedFrontIsModule → HasJudgment

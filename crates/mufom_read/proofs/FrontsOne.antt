@@ -65,9 +65,9 @@ stuck_end reads_debug bytes a (s ∷ more) stuck h = absurd (no_step reads_debug
 -- two sound fronts behind which nothing goes on are one
 pub one_longest : (reads_debug : Bool) (bytes : List ℕ) (a b : List Step) → IsSoundFront reads_debug a bytes → IsSoundFront reads_debug b bytes → IsStuck reads_debug a (drop (size_of a) bytes) → IsStuck reads_debug b (drop (size_of b) bytes) → a ≡ b
 one_longest reads_debug bytes a b x y stuck_a stuck_b = elim (prefix_of reads_debug [] a b bytes x y) [
-    | inl longer ↦ sym (longer.1 ∙ ap (λ l. a ++ l) (stuck_end reads_debug bytes a longer.0 stuck_a (subst (λ (l : List Step). IsSoundFront reads_debug l bytes) longer.1 y)) ∙ append-nil a)
-    | inr shorter ↦ shorter.1 ∙ ap (λ l. b ++ l) (stuck_end reads_debug bytes b shorter.0 stuck_b (subst (λ (l : List Step). IsSoundFront reads_debug l bytes) shorter.1 x)) ∙ append-nil b
-  ]
+  | inl longer ↦ sym (longer.1 ∙ ap (λ l. a ++ l) (stuck_end reads_debug bytes a longer.0 stuck_a (subst (λ (l : List Step). IsSoundFront reads_debug l bytes) longer.1 y)) ∙ append-nil a)
+  | inr shorter ↦ shorter.1 ∙ ap (λ l. b ++ l) (stuck_end reads_debug bytes b shorter.0 stuck_b (subst (λ (l : List Step). IsSoundFront reads_debug l bytes) shorter.1 x)) ∙ append-nil b
+]
 
 -- ---- what a stream is said to be
 

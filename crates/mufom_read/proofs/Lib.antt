@@ -23,3 +23,10 @@ pub mod EndedFront
 pub mod FrontsOne
 pub mod StayLaws
 pub mod FrontJudged
+pub mod WeighTrees
+pub mod WeighRecords
+pub mod WeighSums
+pub mod WeighEntries
+pub mod WeighNames
+pub mod WeighLoads
+pub mod WeighFiles

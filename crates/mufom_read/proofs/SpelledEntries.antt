@@ -138,10 +138,10 @@ said_alignment sections before behind p i n other split good row known once =
     let its : alignment_for i p.row ≡ Some n = ap (alignment_for i) row ∙ ap (λ b. cond b (Some n) None) (eq-eqb i i refl) in
     let first : first_answer (alignment_for i) sections ≡ Some n = ap (first_answer (alignment_for i)) split ∙ first_said (λ q. alignment_for i q.row) before p behind n none its in
     let here : list_any (λ k. k == i) (declared section sections) ≡ true =
-        ap (λ l. list_any (λ k. k == i) (declared section l)) split ∙ ap (list_any (λ k. k == i)) (filter_map-append (λ q. of_kind section (declared_by q.row)) before (p ∷ behind))
-        ∙ list_any-append (λ k. k == i) (declared section before) (declared section (p ∷ behind)) ∙ ap (λ b. b || list_any (λ k. k == i) (declared section (p ∷ behind))) known in
+    ap (λ l. list_any (λ k. k == i) (declared section l)) split ∙ ap (list_any (λ k. k == i)) (filter_map-append (λ q. of_kind section (declared_by q.row)) before (p ∷ behind))
+    ∙ list_any-append (λ k. k == i) (declared section before) (declared section (p ∷ behind)) ∙ ap (λ b. b || list_any (λ k. k == i) (declared section (p ∷ behind))) known in
     let all = map_all (λ q. any_of d.has_bad_alignment (section_by sections q q.row) ≡ false) (λ q. (j : ℕ) → of_kind section (declared_by q.row) ≡ Some j → is_bad (unwrap_or (first_answer (alignment_for j) sections) 1) ≡ false)
-        (λ q h. entry_aligned sections q q.row h) sections (none_each d.has_bad_alignment (λ q. section_by sections q q.row) sections good) in
+    (λ q h. entry_aligned sections q q.row h) sections (none_each d.has_bad_alignment (λ q. section_by sections q q.row) sections good) in
     ap (λ o. is_bad (unwrap_or o 1)) (sym first) ∙ declared_has section (λ j. is_bad (unwrap_or (first_answer (alignment_for j) sections) 1) ≡ false) sections all i here
 
 aligned_row : (sections before behind : List Piece) (p : Piece) (row : Record) → p.row ≡ row → sections ≡ before ++ p ∷ behind → list_any d.has_bad_alignment (sections_of sections) ≡ false → Follows before p → has_bad_alignment row ≡ false
@@ -179,7 +179,7 @@ based_row header part quiet p row h = refl
 pub all_have_bases : (header part : List Piece) → IsSilent header → list_any d.lacks_base (sections_of part) ≡ false → AllByRecursion (λ p. lacks_base (header ++ part) p.row ≡ false) part
 all_have_bases header part quiet good =
     map_all (λ p. any_of d.lacks_base (section_by part p p.row) ≡ false) (λ p. lacks_base (header ++ part) p.row ≡ false) (λ p h. based_row header part quiet p p.row h) part
-        (none_each d.lacks_base (λ p. section_by part p p.row) part good)
+    (none_each d.lacks_base (λ p. section_by part p p.row) part good)
 
 -- ---- the value of a public
 
@@ -198,14 +198,14 @@ said_value ix externals before behind p i value split good row known once =
     let none = no_answer (value_of_public i) (λ q. value_for i q q.row) (λ q h. value_quiet i q q.row h) before once in
     let its : value_for i p p.row ≡ Some (tree_in p value) = ap (value_for i p) row ∙ ap (λ b. cond b (Some (tree_in p value)) None) (eq-eqb i i refl) in
     let first : slice_get (filter_map (λ q. value_for i q q.row) externals) 0 ≡ Some (tree_in p value) =
-        ap (λ l. slice_get (filter_map (λ q. value_for i q q.row) l) 0) split ∙ first_said (λ q. value_for i q q.row) before p behind (tree_in p value) none its in
+    ap (λ l. slice_get (filter_map (λ q. value_for i q q.row) l) 0) split ∙ first_said (λ q. value_for i q q.row) before p behind (tree_in p value) none its in
     let here : list_any (λ k. k == i) (declared public externals) ≡ true =
-        ap (λ l. list_any (λ k. k == i) (declared public l)) split ∙ ap (list_any (λ k. k == i)) (filter_map-append (λ q. of_kind public (declared_by q.row)) before (p ∷ behind))
-        ∙ list_any-append (λ k. k == i) (declared public before) (declared public (p ∷ behind)) ∙ ap (λ b. b || list_any (λ k. k == i) (declared public (p ∷ behind))) known in
+    ap (λ l. list_any (λ k. k == i) (declared public l)) split ∙ ap (list_any (λ k. k == i)) (filter_map-append (λ q. of_kind public (declared_by q.row)) before (p ∷ behind))
+    ∙ list_any-append (λ k. k == i) (declared public before) (declared public (p ∷ behind)) ∙ ap (λ b. b || list_any (λ k. k == i) (declared public (p ∷ behind))) known in
     let all = map_all (λ q. any_of (λ (s : Public). d.has_other_counter None s.value) (public_by ix externals q q.row) ≡ false) (λ q. (j : ℕ) → of_kind public (declared_by q.row) ≡ Some j → d.has_other_counter None (value_of ix j externals) ≡ false)
-        (λ q h. entry_counted ix externals q q.row h) externals (none_each (λ (s : Public). d.has_other_counter None s.value) (λ q. public_by ix externals q q.row) externals good) in
+    (λ q h. entry_counted ix externals q q.row h) externals (none_each (λ (s : Public). d.has_other_counter None s.value) (λ q. public_by ix externals q q.row) externals good) in
     none_tree_back ix (tree_in p value) (ap (λ o. d.has_other_counter None (positioned ix (unwrap_or o (number 0)))) (sym first)
-        ∙ declared_has public (λ j. d.has_other_counter None (value_of ix j externals) ≡ false) externals all i here)
+    ∙ declared_has public (λ j. d.has_other_counter None (value_of ix j externals) ≡ false) externals all i here)
 
 -- publics are declared in the external part alone
 public_there : (sections before : List Piece) (i : ℕ) → list_all (λ p. stands_in section_part p.row) sections ≡ true → is_declared (sections ++ before) (public, i) ≡ true → is_declared before (public, i) ≡ true
@@ -217,7 +217,7 @@ counter_row : (ix : Indexes) (sections externals before behind : List Piece) (p 
     → list_any (λ (s : Public). d.has_other_counter None s.value) (publics_of ix externals) ≡ false → Follows (sections ++ before) p → any_of (d.has_other_counter (counter_allowed (sections ++ before) row)) (option_map (tree_in p) (expression_of row)) ≡ false
 counter_row ix sections externals before behind p (r.PublicValue i value) is own others split good follows =
     said_value ix externals before behind p i value split good is (public_there sections before i others (named_known (sections ++ before) p (public, i) (ap named_by is) follows.known))
-        (or_parts (is_assigned sections (value_of_public i)) (is_assigned before (value_of_public i)) (sym (assigned-append sections before (value_of_public i)) ∙ ap (λ o. any_of (is_assigned (sections ++ before)) o) (sym (ap assigned_by is)) ∙ follows.once)).1
+    (or_parts (is_assigned sections (value_of_public i)) (is_assigned before (value_of_public i)) (sym (assigned-append sections before (value_of_public i)) ∙ ap (λ o. any_of (is_assigned (sections ++ before)) o) (sym (ap assigned_by is)) ∙ follows.once)).1
 counter_row ix sections externals before behind p (r.PublicName i name) is own others split good follows = refl
 counter_row ix sections externals before behind p (r.PublicNote i a b ns) is own others split good follows = refl
 counter_row ix sections externals before behind p (r.ReferenceName i name) is own others split good follows = refl

@@ -35,7 +35,10 @@ pub header_is_step : (reads_debug : Bool) (k : ℕ) (before : List Step) (p : Pi
     → IsWholeRecord (header_mode k) p.row p.bytes (first_of behind None) → header_fault reads_debug (offsets_of before) (size_of before) (size_of before + length p.bytes) p.row ≡ None
     → IsStep reads_debug before (read (size_of before) p) behind
 header_is_step reads_debug k before p behind count few open_ whole is fault = record {
-  unended = open_; whole = whole; own = header_fault_at reads_debug k before p count few ∙ fault; next = header_next reads_debug k before p behind count few is;
+  unended = open_;
+  whole = whole;
+  own = header_fault_at reads_debug k before p count few ∙ fault;
+  next = header_next reads_debug k before p behind count few is;
 }
 
 -- ---- the offsets
@@ -139,10 +142,15 @@ left_here reads_debug k w end earlier before p behind count few here open_ whole
     let start = size_of before in
     let next = header_next reads_debug (suc (suc k)) before p behind count (omega arith) is in
     let fault : step_fault reads_debug before (taken (read start p) (length p.bytes)) ≡ Some (start, why.NotBuilt) =
-        header_fault_at reads_debug (suc (suc k)) before p count (omega arith)
-        ∙ (λ i. header_fault reads_debug (here i) start (start + length p.bytes) (row i)) ∙ late_fault reads_debug earlier w start (start + length p.bytes) order late in
+    header_fault_at reads_debug (suc (suc k)) before p count (omega arith)
+    ∙ (λ i. header_fault reads_debug (here i) start (start + length p.bytes) (row i)) ∙ late_fault reads_debug earlier w start (start + length p.bytes) order late in
     record {
-      own = []; later = p.bytes ++ behind; split = refl; sound = tt; unended = ap (λ l. is_ended l) (append-nil before) ∙ open_; place = start;
+      own = [];
+      later = p.bytes ++ behind;
+      split = refl;
+      sound = tt;
+      unended = ap (λ l. is_ended l) (append-nil before) ∙ open_;
+      place = start;
       fault = ap (λ (l : List Step). fault_after reads_debug l (p.bytes ++ behind)) (append-nil before) ∙ (λ i. option_or (whole i) (step_fault reads_debug before (next i))) ∙ fault;
     }
 
@@ -162,8 +170,8 @@ on_here n k reads_debug end v earlier offsets before p pieces behind at modes ta
     let size : size_of (before ++ it ∷ []) ≡ size_of before + length p.bytes = size-append before (it ∷ []) ∙ ap (λ (l : List ℕ). size_of before + length l) (append-nil p.bytes) in
     let gap = no_gap_here n k earlier offsets v (size_of before) end (size_of before + length p.bytes) pieces behind modes.1 at.many at.eight tail at.first (omega (arith, at.size, all_in)) in
     let is : IsStep reads_debug before it rest = header_is_step reads_debug (suc (suc k)) before p rest at.count (omega (arith, at.eight)) at.unended whole modes.0
-        ((λ i. header_fault reads_debug (at.here i) (size_of before) (size_of before + length p.bytes) (its i))
-        ∙ offset_kept reads_debug earlier v (size_of before) (size_of before + length p.bytes) at.ordered.0 late gap) in
+    ((λ i. header_fault reads_debug (at.here i) (size_of before) (size_of before + length p.bytes) (its i))
+    ∙ offset_kept reads_debug earlier v (size_of before) (size_of before + length p.bytes) at.ordered.0 late gap) in
     let front = before ++ it ∷ [] in
     let next : Standing (suc k) n end (earlier ++ v ∷ []) offsets front pieces = record {
       count = length-append before (it ∷ []) ∙ omega (arith, at.count);
@@ -181,11 +189,11 @@ on_here n k reads_debug end v earlier offsets before p pieces behind at modes ta
     elim (onward next) [
       | inl left ↦ inl (left_behind reads_debug before it rest is left)
       | inr on ↦ inr (record {
-          sound = subst (λ (l : List ℕ). IsSoundFrom reads_debug before (steps_of (size_of before) (p ∷ pieces)) l) (sym (append_assoc p.bytes (bytes_of pieces) behind))
-              (sound_step reads_debug before it (steps_of (size_of before + length p.bytes) pieces) rest is
-              (subst (λ (m : ℕ). IsSoundFrom reads_debug front (steps_of m pieces) rest) size on.sound));
-          now = (late, on.now);
-        })
+        sound = subst (λ (l : List ℕ). IsSoundFrom reads_debug before (steps_of (size_of before) (p ∷ pieces)) l) (sym (append_assoc p.bytes (bytes_of pieces) behind))
+            (sound_step reads_debug before it (steps_of (size_of before + length p.bytes) pieces) rest is
+            (subst (λ (m : ℕ). IsSoundFrom reads_debug front (steps_of m pieces) rest) size on.sound));
+        now = (late, on.now);
+      })
     ]
 
 by_time : (n k : ℕ) (reads_debug : Bool) (end v : ℕ) (earlier offsets : List ℕ) (before : List Step) (p : Piece) (pieces : List Piece) (behind : List ℕ) → Standing k (suc n) end earlier (v ∷ offsets) before (p ∷ pieces)
@@ -212,7 +220,7 @@ offset_walk (suc n) k reads_debug end earlier (v ∷ offsets) before (p ∷ piec
     let its : p.row ≡ r.Offset k v = row.1 ∙ ap (λ (w : ℕ). r.Offset k w) heads.0 in
     let whole : ended_part_fault before ≡ None = none_ended before end (subst (λ (l : List ℕ). Beyond end l) (sym at.here) at.passed) (omega (arith, at.size)) at.some in
     let both = by_time n k reads_debug end v earlier offsets before p pieces behind at modes heads.1 its whole (is_left_for_later reads_debug earlier v) refl
-        (λ next. offset_walk n (suc k) reads_debug end (earlier ++ v ∷ []) offsets (before ++ read (size_of before) p ∷ []) pieces behind next modes.1 heads.1) in
+    (λ next. offset_walk n (suc k) reads_debug end (earlier ++ v ∷ []) offsets (before ++ read (size_of before) p ∷ []) pieces behind next modes.1 heads.1) in
     elim both [
       | inl left ↦ inl (subst (λ (l : List ℕ). IsLeft reads_debug before l) (sym (append_assoc p.bytes (bytes_of pieces) behind)) left)
       | inr on ↦ inr on

@@ -138,9 +138,9 @@ own_row ix maus items before p pieces (r.FieldItem kind value n) its is own =
 own_row ix maus items before p pieces (r.SetPc i value) its is own =
     let listed = its_index ix maus items before p pieces (r.SetPc i value) i its is refl in
     let loads : NoneMisplaced (placed_section ix (current_section before)) (loads_by ix p (items_at_front ix maus pieces) (r.SetPc i value)) =
-        subst (λ (row : Record). NoneMisplaced (placed_section ix (current_section before)) (loads_by ix p (items_at_front ix maus pieces) row)) is its.loads in
+    subst (λ (row : Record). NoneMisplaced (placed_section ix (current_section before)) (loads_by ix p (items_at_front ix maus pieces) row)) is its.loads in
     tree_back ix (Some i) (tree_in p value) listed (its_tree ix maus items before p pieces (r.SetPc i value) value its is refl refl)
-        (or_parts (d.has_other_counter (Some (position_in ix.sections i)) (positioned ix (tree_in p value))) false loads).0
+    (or_parts (d.has_other_counter (Some (position_in ix.sections i)) (positioned ix (tree_in p value))) false loads).0
 own_row ix maus items before p pieces (r.SetSection i) its is own = refl
 own_row ix maus items before p pieces (r.Constant run) its is own = refl
 own_row ix maus items before p pieces r.Relocate its is own = refl
@@ -155,16 +155,16 @@ next_row : (ix : Indexes) (maus : ℕ) (items : Bool) (before : List Piece) (p :
 next_row ix maus items before p pieces (r.FieldItem kind value n) its is opens =
     let item = Field kind (positioned ix (tree_in p value)) (unwrap_or n maus) in
     subst (λ (o : Option ℕ). NoItemMisplaced (placed_section ix o) (items_at_front ix maus pieces)) (sym (same_section before p (ap set_by is)))
-        (item_here ix maus items before p pieces item its (ap is_item is) (ap (item_by ix maus p) is)).1
+    (item_here ix maus items before p pieces item its (ap is_item is) (ap (item_by ix maus p) is)).1
 next_row ix maus items before p pieces (r.ConstantItem run) its is opens =
     subst (λ (o : Option ℕ). NoItemMisplaced (placed_section ix o) (items_at_front ix maus pieces)) (sym (same_section before p (ap set_by is)))
-        (item_here ix maus items before p pieces (Literal (text_in p run)) its (ap is_item is) (ap (item_by ix maus p) is)).1
+    (item_here ix maus items before p pieces (Literal (text_in p run)) its (ap is_item is) (ap (item_by ix maus p) is)).1
 next_row ix maus items before p pieces r.Relocate its is opens =
     subst (λ (o : Option ℕ). NoItemMisplaced (placed_section ix o) (items_at_front ix maus pieces)) (sym (same_section before p (ap set_by is)))
-        (opened ix p (items_at_front ix maus pieces) (placed_section ix (current_section before)) p.row (ap opens_items is) (ap is_item is) its.loads)
+    (opened ix p (items_at_front ix maus pieces) (placed_section ix (current_section before)) p.row (ap opens_items is) (ap is_item is) its.loads)
 next_row ix maus items before p pieces (r.RepeatRelocate times) its is opens =
     subst (λ (o : Option ℕ). NoItemMisplaced (placed_section ix o) (items_at_front ix maus pieces)) (sym (same_section before p (ap set_by is)))
-        (opened ix p (items_at_front ix maus pieces) (placed_section ix (current_section before)) p.row (ap opens_items is) (ap is_item is) its.loads)
+    (opened ix p (items_at_front ix maus pieces) (placed_section ix (current_section before)) p.row (ap opens_items is) (ap is_item is) its.loads)
 next_row ix maus items before p pieces row its is opens = cc
 
 listed_row : (ix : Indexes) (maus : ℕ) (items : Bool) (before : List Piece) (p : Piece) (pieces : List Piece) (row : Record) → Known ix maus items before p pieces → p.row ≡ row → IsListed ix (current_section (before ++ p ∷ []))
@@ -192,9 +192,15 @@ load_counters ix maus items before (p ∷ pieces) behind whole own follow are li
     let both = and_parts (stands_in data_part p.row) _ own in
     let split = placed_parts current (loads_by ix p (items_at_front ix maus pieces) p.row) (loads_of ix maus pieces) loads in
     let known : Known ix maus items before p pieces = record {
-      are = are; listed = listed; follows = follow.0; may = where_items items p (first_of (bytes_of pieces ++ behind) None) whole.0; loads = split.0; its_items = its;
+      are = are;
+      listed = listed;
+      follows = follow.0;
+      may = where_items items p (first_of (bytes_of pieces ++ behind) None) whole.0;
+      loads = split.0;
+      its_items = its;
     } in
-    let next : behind_all current (loads_by ix p (items_at_front ix maus pieces) p.row) ≡ placed_section ix (current_section (before ++ p ∷ [])) = behind_row ix p (items_at_front ix maus pieces) (current_section before) p.row ∙ ap (placed_section ix) (sym (behind_one before p)) in
-    (own_row ix maus items before p pieces p.row known refl both.0,
-    load_counters ix maus (opens_items p.row) (before ++ p ∷ []) pieces behind whole.1 both.1 follow.1 (are_in_next ix before p both.0 are) (listed_row ix maus items before p pieces p.row known refl)
-        (subst (λ (o : Option ℕ). NoneMisplaced o (loads_of ix maus pieces)) next split.1) (next_row ix maus items before p pieces p.row known refl))
+    let next : behind_all current (loads_by ix p (items_at_front ix maus pieces) p.row) ≡ placed_section ix (current_section (before ++ p ∷ [])) = behind_row ix p (items_at_front ix maus pieces) (current_section before) p.row ∙ ap (placed_section ix) (sym (behind_one before p)) in (
+      own_row ix maus items before p pieces p.row known refl both.0,
+      load_counters ix maus (opens_items p.row) (before ++ p ∷ []) pieces behind whole.1 both.1 follow.1 (are_in_next ix before p both.0 are) (listed_row ix maus items before p pieces p.row known refl)
+          (subst (λ (o : Option ℕ). NoneMisplaced o (loads_of ix maus pieces)) next split.1) (next_row ix maus items before p pieces p.row known refl),
+    )

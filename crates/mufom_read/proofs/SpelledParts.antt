@@ -77,8 +77,8 @@ raw_sound : (reads_debug : Bool) (part : Part) (from to : ℕ) (all : List ℕ) 
 raw_sound reads_debug part from to all before [] behind within is at total = tt
 raw_sound reads_debug part from to all before (b ∷ bytes) behind within is at total =
     sound_step reads_debug before (raw b) (raw_steps bytes) (bytes ++ behind) (raw_is_step reads_debug part from to all before b (bytes ++ behind) within is at (omega arith))
-        (raw_sound reads_debug part from to all (before ++ raw b ∷ []) bytes behind within is (raw_inside part from to all before b within at)
-        (let size = size-append before (raw b ∷ []) in omega arith))
+    (raw_sound reads_debug part from to all (before ++ raw b ∷ []) bytes behind within is (raw_inside part from to all before b within at)
+    (let size = size-append before (raw b ∷ []) in omega arith))
 
 -- ---- records
 
@@ -101,8 +101,8 @@ no_rule part front p plain own keeps =
     let nested = no_bad_end part (open_blocks (placed_of front)) p.row plain.no_debug own in
     let deep = not_deep part (open_blocks (placed_of front)) p.row plain.no_debug own in
     (λ i. cond (keeps.new i) (Some why.DuplicateIndex) (cond (keeps.known i) (Some why.UnknownIndex) (cond (keeps.once i) (Some why.DuplicateValue)
-        (cond (keeps.aligned i) (Some why.BadAlignment) (cond (keeps.placed i) (Some why.NoSection) (cond (keeps.counter i) (Some why.BadP)
-        (cond (nested i) (Some why.BlockNesting) (cond (deep i) (Some why.Depth) None))))))))
+    (cond (keeps.aligned i) (Some why.BadAlignment) (cond (keeps.placed i) (Some why.NoSection) (cond (keeps.counter i) (Some why.BadP)
+    (cond (nested i) (Some why.BlockNesting) (cond (deep i) (Some why.Depth) None))))))))
 
 no_fault_here : (part : Part) (from to : ℕ) (before : List Step) (p : Piece) → IsPlain part → size_of before + length p.bytes ≤ to → stands_in part p.row ≡ true → IsKept (pieces_of before) p
     → part_record_fault before (extent part from to) (size_of before) p ≡ None
@@ -122,7 +122,7 @@ mode_here : (items a b : Bool) (p : Piece) (rest : List ℕ) (next : Option ℕ)
 mode_here items a b p rest next flag is =
     let some = record_some (items && begins_item p.bytes) p.row p.bytes next is in
     let same : (items && begins_item p.bytes) ≡ (a && (b && begins_item (p.bytes ++ rest))) =
-        (λ i. sym flag i && begins_item p.bytes) ∙ and_assoc a b (begins_item p.bytes) ∙ (λ i. a && (b && sym (begins_grown p.bytes rest some) i)) in
+    (λ i. sym flag i && begins_item p.bytes) ∙ and_assoc a b (begins_item p.bytes) ∙ (λ i. a && (b && sym (begins_grown p.bytes rest some) i)) in
     subst (λ (t : Bool). IsWholeRecord (cond t mode.Items mode.Body) p.row p.bytes next) same is
   where
     and_assoc : (x y z : Bool) → ((x && y) && z) ≡ (x && (y && z))
@@ -187,10 +187,10 @@ read_sound reads_debug part from to all items before (p ∷ pieces) behind withi
     let size : size_of front ≡ size_of before + length p.bytes = size-append before (it ∷ []) ∙ ap (λ (l : List ℕ). size_of before + length l) (append-nil p.bytes) in
     let step = read_is_step reads_debug part from to all items before p rest within is plain at flag (omega (arith, all_in, some, total)) (omega (arith, all_in, total)) own.0 own.1 are.0 in
     let later = read_sound reads_debug part from to all (opens_items p.row) front pieces behind within is plain (read_inside part from to all before p within plain at own.0 some)
-        (awaits_next from before p at.begun some) are.1 (subst (λ (l : List Piece). KeptFrom part l pieces) (sym (pieces-append before (it ∷ []))) own.2) (omega (arith, size, all_in, total)) in
+    (awaits_next from before p at.begun some) are.1 (subst (λ (l : List Piece). KeptFrom part l pieces) (sym (pieces-append before (it ∷ []))) own.2) (omega (arith, size, all_in, total)) in
     subst (λ (l : List ℕ). IsSoundFrom reads_debug before (steps_of (size_of before) (p ∷ pieces)) l) (sym (append_assoc p.bytes (bytes_of pieces) behind))
-        (sound_step reads_debug before it (steps_of (size_of before + length p.bytes) pieces) rest step
-        (subst (λ (n : ℕ). IsSoundFrom reads_debug front (steps_of n pieces) rest) size later))
+    (sound_step reads_debug before it (steps_of (size_of before + length p.bytes) pieces) rest step
+    (subst (λ (n : ℕ). IsSoundFrom reads_debug front (steps_of n pieces) rest) size later))
 
 -- ---- what fills a part
 
@@ -310,7 +310,7 @@ joint_behind reads_debug all part before own bytes behind c within at (suc n) co
     let grown : offsets_of (before ++ own) ≡ all = offsets-append before own ∙ (λ i. at.offsets i ++ c.no_offsets i) ∙ append-nil all in
     let size : size_of (before ++ own) ≡ size_of before + length bytes = size-append before own ∙ ap (λ (l : List ℕ). size_of before + length l) c.its_bytes in
     let place : part_at (before ++ own) (size_of (before ++ own) - 1) ≡ Some (extent part (size_of before) (size_of before + length bytes)) =
-        ap (λ ws. part_among parts_in_order ws (size_of (before ++ own) - 1)) grown ∙ within (size_of (before ++ own) - 1) (omega arith) (omega arith) in
+    ap (λ ws. part_among parts_in_order ws (size_of (before ++ own) - 1)) grown ∙ within (size_of (before ++ own) - 1) (omega arith) (omega arith) in
     record {
       many = omega (arith, at.many, length-append before own);
       offsets = grown;
@@ -345,8 +345,8 @@ walk_contents reads_debug all (part ∷ parts) (w ∷ offsets) before (own ∷ c
     let size : size_of (before ++ own) ≡ size_of before + length bytes = size-append before own ∙ ap (λ (l : List ℕ). size_of before + length l) c.its_bytes in
     let joint = joint_behind reads_debug all part before own bytes rest c within at (length bytes) refl in
     let later = walk_contents reads_debug all parts offsets (before ++ own) contents texts behind
-        (places_behind all part parts w (size_of before) (size_of (before ++ own)) offsets places (omega arith) (first ∙ sym size))
-        (subst (λ (n : ℕ). StandAt offsets n texts) (sym size) stand.1) (omega arith) fill.1 joint in
+    (places_behind all part parts w (size_of before) (size_of (before ++ own)) offsets places (omega arith) (first ∙ sym size))
+    (subst (λ (n : ℕ). StandAt offsets n texts) (sym size) stand.1) (omega arith) fill.1 joint in
     let same = append_assoc before own (joined contents) in
     record {
       sound = subst (λ (l : List ℕ). IsSoundFrom reads_debug before (own ++ joined contents) l) (ap (λ l. l ++ rest) c.its_bytes ∙ sym (append_assoc bytes (joined texts) behind))

@@ -55,19 +55,26 @@ pub record IsStep (reads_debug : Bool) (before : List Step) (step : Step) (behin
 
 pub sound_step : (reads_debug : Bool) (before : List Step) (step : Step) (steps : List Step) (behind : List ℕ) → IsStep reads_debug before step behind → IsSoundFrom reads_debug (before ++ step ∷ []) steps behind
     → IsSoundFrom reads_debug before (step ∷ steps) (step_bytes step ++ behind)
-sound_step reads_debug before step steps behind is later =
-    (is.unended, (λ i. option_or (is.whole i) (step_fault reads_debug before (is.next i))) ∙ is.own, is.next,
-    subst (λ (l : List ℕ). IsSoundFrom reads_debug (before ++ step ∷ []) steps l) (sym (drop_at (step_bytes step) behind (length (step_bytes step)) refl)) later)
+sound_step reads_debug before step steps behind is later = (
+  is.unended,
+  (λ i. option_or (is.whole i) (step_fault reads_debug before (is.next i))) ∙ is.own,
+  is.next,
+  subst (λ (l : List ℕ). IsSoundFrom reads_debug (before ++ step ∷ []) steps l) (sym (drop_at (step_bytes step) behind (length (step_bytes step)) refl)) later,
+)
 
 pub sound-append : (reads_debug : Bool) (before a b : List Step) (rest : List ℕ) → IsSoundFrom reads_debug before a (front_bytes a ++ rest) → IsSoundFrom reads_debug (before ++ a) b rest
     → IsSoundFrom reads_debug before (a ++ b) (front_bytes a ++ rest)
 sound-append reads_debug before [] b rest x y = subst (λ (l : List Step). IsSoundFrom reads_debug l b rest) (append-nil before) y
 sound-append reads_debug before (s ∷ a) b rest x y =
     let n = length (step_bytes s) in
-    let split : drop n (front_bytes (s ∷ a) ++ rest) ≡ front_bytes a ++ rest = ap (drop n) (append_assoc (step_bytes s) (front_bytes a) rest) ∙ drop_at (step_bytes s) (front_bytes a ++ rest) n refl in
-    (x.0, x.1, x.2, subst (λ (l : List ℕ). IsSoundFrom reads_debug (before ++ s ∷ []) (a ++ b) l) (sym split)
-        (sound-append reads_debug (before ++ s ∷ []) a b rest (subst (λ (l : List ℕ). IsSoundFrom reads_debug (before ++ s ∷ []) a l) split x.3)
-            (subst (λ (l : List Step). IsSoundFrom reads_debug l b rest) (sym (append_assoc before (s ∷ []) a)) y)))
+    let split : drop n (front_bytes (s ∷ a) ++ rest) ≡ front_bytes a ++ rest = ap (drop n) (append_assoc (step_bytes s) (front_bytes a) rest) ∙ drop_at (step_bytes s) (front_bytes a ++ rest) n refl in (
+      x.0,
+      x.1,
+      x.2,
+      subst (λ (l : List ℕ). IsSoundFrom reads_debug (before ++ s ∷ []) (a ++ b) l) (sym split)
+          (sound-append reads_debug (before ++ s ∷ []) a b rest (subst (λ (l : List ℕ). IsSoundFrom reads_debug (before ++ s ∷ []) a l) split x.3)
+          (subst (λ (l : List Step). IsSoundFrom reads_debug l b rest) (sym (append_assoc before (s ∷ []) a)) y)),
+    )
 
 -- a record stands next
 pub next_read : (reads_debug : Bool) (before : List Step) (place : Place) (m : Mode) (p : Piece) (behind : List ℕ) → place_behind before ≡ place
@@ -89,6 +96,7 @@ before_all w at to n (inl none) low = ap (λ (k : ℕ). not (k == 0) && (nat_le 
 before_all w at to n (inr there) low = middle (not (w == 0)) (nat_le w at) (nat_lt at to) (above w at (omega arith)) where
   above : (w at : ℕ) → at < w → nat_le w at ≡ false
   above w at h = grind arith
+
   middle : (a b c : Bool) → b ≡ false → (a && (b && c)) ≡ false
   middle true true c h = cc
   middle true false c h = refl

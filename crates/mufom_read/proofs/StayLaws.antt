@@ -110,10 +110,13 @@ sound_stays reads_debug before (s ∷ steps) rest more fits sound =
     let n = length (step_bytes s) in
     let same = next_stays reads_debug before rest more fits (got_no_more (next_step reads_debug before rest) s n sound.2) in
     let first = front_first reads_debug before (s ∷ steps) rest fits sound in
-    let inside : n ≤ length rest = omega (arith, ap length first.1, length-append (step_bytes s ++ front_bytes steps) first.0, length-append (step_bytes s) (front_bytes steps)) in
-    (sound.0, ap (λ a. option_or (ended_part_fault before) (step_fault reads_debug before a)) same ∙ sound.1, same ∙ sound.2,
-    subst (λ (l : List ℕ). IsSoundFrom reads_debug (before ++ s ∷ []) steps l) (sym (drop-append-le n rest more inside))
-        (sound_stays reads_debug (before ++ s ∷ []) steps (drop n rest) more (AreBytes-drop n rest fits) sound.3))
+    let inside : n ≤ length rest = omega (arith, ap length first.1, length-append (step_bytes s ++ front_bytes steps) first.0, length-append (step_bytes s) (front_bytes steps)) in (
+      sound.0,
+      ap (λ a. option_or (ended_part_fault before) (step_fault reads_debug before a)) same ∙ sound.1,
+      same ∙ sound.2,
+      subst (λ (l : List ℕ). IsSoundFrom reads_debug (before ++ s ∷ []) steps l) (sym (drop-append-le n rest more inside))
+          (sound_stays reads_debug (before ++ s ∷ []) steps (drop n rest) more (AreBytes-drop n rest fits) sound.3),
+    )
 
 -- a fault behind a front stays
 pub fault_stays : (reads_debug : Bool) (front : List Step) (rest more : List ℕ) (fault : Fault) → AreBytes rest → fault_after reads_debug front rest ≡ Some fault → fault_after reads_debug front (rest ++ more) ≡ Some fault
@@ -127,9 +130,9 @@ fault_stays reads_debug front rest more fault fits h = by_part (ended_part_fault
 -- the bytes that are judged of a longer stream begin with those of the shorter
 pub limit-append : (n : ℕ) (bytes more : List ℕ) → take n (bytes ++ more) ≡ take n bytes ++ take (n - length bytes) more
 limit-append n bytes more = elim (cases_lt n (length bytes)) [
-    | inl short ↦ take-append-le n bytes more (omega arith) ∙ sym (append-nil (take n bytes)) ∙ ap (λ k. take n bytes ++ take k more) (none n (length bytes) (omega arith))
-    | inr long ↦ beyond n bytes more long ∙ ap (λ l. l ++ take (n - length bytes) more) (sym (take_all n bytes long))
-  ]
+  | inl short ↦ take-append-le n bytes more (omega arith) ∙ sym (append-nil (take n bytes)) ∙ ap (λ k. take n bytes ++ take k more) (none n (length bytes) (omega arith))
+  | inr long ↦ beyond n bytes more long ∙ ap (λ l. l ++ take (n - length bytes) more) (sym (take_all n bytes long))
+]
   where
     none : (n k : ℕ) → n ≤ k → 0 ≡ n - k
     none n k h = omega arith

@@ -5,6 +5,8 @@ mod laws;
 mod refusal;
 mod weight_laws;
 
-pub use laws::{fronts_are_one, refusal_is_single, refusal_stays};
+pub use laws::{
+    ended_front_is_module, fronts_are_one, has_judgment, refusal_is_single, refusal_stays,
+};
 pub use refusal::{ReadRefusal, ReadStop};
 pub use weight_laws::{files_weigh_tenfold, modules_weigh_tenfold};
