@@ -28,8 +28,8 @@ pub mod FrontsOne
 pub mod StayLaws
 pub mod FrontJudged
 pub mod WeighTrees
-pub mod WeighSums
 pub mod WeighRecords
+pub mod WeighSums
 pub mod WeighEntries
 pub mod WeighNames
 pub mod WeighLoads

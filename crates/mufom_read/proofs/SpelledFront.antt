@@ -1,7 +1,7 @@
 -- A module's file is one sound front, which ends with the stream and says the module.
-use Rattle.std.proofs.Common.{◌≡◌, ℕ, zero, suc, ◌≤◌, Bool, true, false, List, [], ◌∷◌, ◌++◌, length, map, take, drop, None, MatchBool, refl, sym, ap, subst, ◌∙◌, inl, inr, arith, append_assoc, append-nil}
+use Rattle.std.proofs.Common.{◌≡◌, ℕ, ◌≤◌, Bool, true, false, List, [], ◌∷◌, ◌++◌, length, map, drop, None, MatchBool, refl, sym, ap, subst, ◌∙◌, inl, inr, arith, append_assoc, append-nil}
 use Rattle.std.specs.List.{list_any}
-use Rattle.std.proofs.lemmas.List.{drop_at}
+use Rattle.std.proofs.lemmas.List.{take_all, drop_at}
 use Rattle.mufom_numbers.specs.declared.reason.Reason.TheVariants as why
 use Rattle.mufom_records.specs.declared.record.Mode.TheVariants as mode
 use Rattle.mufom_records.specs.declared.record.Record.TheVariants as r
@@ -12,7 +12,7 @@ use Rattle.mufom_module.specs.Defects as d
 use Rattle.mufom_module.specs.Pieces.{Piece, bytes_of, section, public, reference, debug_name, declared}
 use Rattle.mufom_module.specs.RecordParts.{Part, extension_part, environment_part, section_part, external_part, debug_part, data_part, trailer_part}
 use Rattle.mufom_module.specs.Gathered.{sections_of, publics_of, references_of, marks, loads_of, starts_of}
-use Rattle.mufom_module.specs.Grammar.{FileParts, header_of, debug_bytes, parts_of, module_end, from_trailer, from_loads, from_debug, from_externals, behind_header, AreWhole, offsets_in, StandAt, IsCutInto, indexes_of, HasNames, Says}
+use Rattle.mufom_module.specs.Grammar.{file_limit, FileParts, header_of, debug_bytes, parts_of, module_end, from_trailer, from_loads, from_debug, from_externals, behind_header, AreWhole, offsets_in, StandAt, IsCutInto, indexes_of, HasNames, Says}
 use Rattle.mufom_read.specs.Fronts.{Step, read, front_bytes, size_of, pieces_of, offsets_of, Place, at_end, place_behind, parts_in_order, is_ended}
 use Rattle.mufom_read.specs.Faults.{record_fault, whole_fault, fault_after}
 use Rattle.mufom_read.specs.Judging.{IsSoundFrom, within_limit, HasFault}
@@ -294,17 +294,11 @@ said bytes reads_debug f m cut says none rows is =
 
 -- ---- the law
 
-take_all : (n : ℕ) (xs : List ℕ) → length xs ≤ n → take n xs ≡ xs
-take_all zero [] h = refl
-take_all zero (x ∷ xs) h = absurd (omega arith)
-take_all (suc n) [] h = refl
-take_all (suc n) (x ∷ xs) h = ap (λ l. x ∷ l) (take_all n xs (omega arith))
-
-pub within : (bytes : List ℕ) → length bytes ≤ 67108864 → within_limit bytes ≡ bytes
-within bytes h = take_all 67108864 bytes h
+pub within : (bytes : List ℕ) → length bytes ≤ file_limit → within_limit bytes ≡ bytes
+within bytes h = take_all file_limit bytes h
 
 -- a part that is left for later is refused
-left_refused : (reads_debug : Bool) (bytes : List ℕ) → length bytes ≤ 67108864 → (left : IsLeft reads_debug [] bytes) → HasFault reads_debug bytes left.place why.NotBuilt
+left_refused : (reads_debug : Bool) (bytes : List ℕ) → length bytes ≤ file_limit → (left : IsLeft reads_debug [] bytes) → HasFault reads_debug bytes left.place why.NotBuilt
 left_refused reads_debug bytes limit left =
     let all = within bytes limit in
     record {

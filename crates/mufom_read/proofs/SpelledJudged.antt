@@ -6,12 +6,9 @@ use Rattle.mufom_module.specs.declared.module.Parts.{Parts}
 use Rattle.mufom_module.specs.Grammar.{file_limit}
 use Rattle.mufom_module.proofs.OneModule.{one_module}
 use Rattle.mufom_read.specs.Judging.{IsSoundFront, EndsAt, IsRefusedAt, IsModule}
-use Rattle.mufom_read.specs.Laws.{JudgmentsExcludeEachOther, EndedFrontIsModule, HasJudgment, HasOneJudgment, FrontsOfModulesAreCutOff}
-use Rattle.mufom_read.proofs.EndedFront.{ended_front}
+use Rattle.mufom_read.specs.Laws.{JudgmentsExcludeEachOther}
 use Rattle.mufom_read.proofs.FrontsOne.{one_end, fault_not_ended, ended_not_waiting, not_cut}
-use Rattle.mufom_read.proofs.FrontJudged
 use Rattle.mufom_read.proofs.SpelledFront.{within, module_is_ended_front}
-use Rattle.mufom_read.proofs.WeighFiles.{files_weigh}
 
 -- a module's file is no longer than a file may be
 short : (reads_debug : Bool) (bytes : List ℕ) (m : Parts) → IsModule reads_debug bytes m → length bytes ≤ file_limit
@@ -46,15 +43,3 @@ judgments_exclude_each_other reads_debug bytes fits = record {
   whole = λ m is cut. ended_not_waiting reads_debug bytes cut.1 (length bytes) (ends_there reads_debug bytes m fits is) cut.2;
   one_module = λ m n one other. one_module m n bytes reads_debug one.0 other.0;
 }
-
-pub ended_front_is_module : EndedFrontIsModule
-ended_front_is_module = ended_front files_weigh
-
-pub has_judgment : HasJudgment
-has_judgment = FrontJudged.has_judgment ended_front_is_module
-
-pub has_one_judgment : HasOneJudgment
-has_one_judgment = FrontJudged.has_one_judgment judgments_exclude_each_other
-
-pub fronts_of_modules_are_cut_off : FrontsOfModulesAreCutOff
-fronts_of_modules_are_cut_off = FrontJudged.fronts_are_cut_off ended_front_is_module module_is_ended_front judgments_exclude_each_other

@@ -1,5 +1,5 @@
 use Rattle.mufom_read.proofs.SpelledJudged.{judgments_exclude_each_other}
-use Rattle.mufom_read.proofs.stream_laws.judgments_exclude_each_other.Goals as goal
+use Rattle.mufom_read.proofs.laws.judgments_exclude_each_other.Goals as goal
 
 pub returns : goal.returns
 returns c = judgments_exclude_each_other

@@ -1,0 +1,6 @@
+use Rattle.mufom_read.proofs.FrontJudged.{has_one_judgment}
+use Rattle.mufom_read.proofs.SpelledJudged.{judgments_exclude_each_other}
+use Rattle.mufom_read.proofs.laws.has_one_judgment.Goals as goal
+
+pub returns : goal.returns
+returns c = has_one_judgment judgments_exclude_each_other
