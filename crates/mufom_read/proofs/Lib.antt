@@ -35,3 +35,4 @@ pub mod WeighNames
 pub mod WeighLoads
 pub mod WeighFiles
 pub mod SpelledJudged
+mod Worked

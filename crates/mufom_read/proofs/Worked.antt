@@ -1,0 +1,177 @@
+-- Streams judged record by record: the definitions give each of them the answer that the format states.
+use Rattle.std.proofs.Common.{◌≡◌, ℕ, zero, suc, ◌+◌, Bool, true, false, List, [], ◌∷◌, ◌++◌, length, take, drop, Option, Some, None, refl}
+use Rattle.mufom_numbers.specs.declared.reason.Reason.{Reason}
+use Rattle.mufom_numbers.specs.declared.reason.Reason.TheVariants as why
+use Rattle.mufom_numbers.specs.declared.taken.Taken.{Taken}
+use Rattle.mufom_numbers.specs.declared.taken.Taken.TheVariants.{Got}
+use Rattle.mufom_read.specs.Fronts.{Step, size_of, next_step, is_ended}
+use Rattle.mufom_read.specs.Faults.{Fault, fault_after}
+
+-- where the module ended, what was refused, or where more bytes are wanted
+data Outcome : Type 0 where
+  ended : ℕ → Outcome
+  fault : ℕ × Reason → Outcome
+  waiting : ℕ → Outcome
+
+abbrev after_step : List Step → Taken Step → (Step → ℕ → Outcome) → Outcome
+after_step front (Got step used) next = next step used
+after_step front _ next = waiting (size_of front)
+
+abbrev after_fault : Option Fault → (ℕ → Outcome) → Outcome
+after_fault (Some f) next = fault f
+after_fault None next = next 0
+
+abbrev unless_ended : Bool → ℕ → (ℕ → Outcome) → Outcome
+unless_ended true size next = ended size
+unless_ended false size next = next 0
+
+-- what so many steps behind a front come to
+abbrev judged_from : ℕ → Bool → List Step → List ℕ → Outcome
+judged_from zero reads_debug front rest = waiting 0
+judged_from (suc k) reads_debug front rest = unless_ended (is_ended front) (size_of front) (λ _. after_fault (fault_after reads_debug front rest)
+    (λ _. after_step front (next_step reads_debug front rest) (λ step used. judged_from k reads_debug (front ++ step ∷ []) (drop used rest))))
+
+abbrev judged : List ℕ → Outcome
+judged bytes = judged_from 200 true [] bytes
+
+abbrev judged_without_debug : List ℕ → Outcome
+judged_without_debug bytes = judged_from 200 false [] bytes
+
+-- the bytes with another one at an offset
+abbrev patched : ℕ → ℕ → List ℕ → List ℕ
+patched at b bytes = take at bytes ++ b ∷ drop (at + 1) bytes
+
+-- a small absolute module
+abbrev small : List ℕ
+small = 0xE0 ∷ 0x05 ∷ 0x36 ∷ 0x38 ∷ 0x30 ∷ 0x30 ∷ 0x30 ∷ 0x01 ∷ 0x41 ∷ 0xEC ∷ 0x08 ∷ 0x04 ∷ 0xCD ∷ 0xE2 ∷ 0xD7 ∷ 0x00 ∷ 0x84 ∷ 0x00 ∷ 0x00 ∷ 0x00 ∷ 0x00 ∷ 0xE2 ∷ 0xD7 ∷ 0x01 ∷ 0x84 ∷ 0x00 ∷ 0x00 ∷ 0x00 ∷ 0x00 ∷ 0xE2 ∷ 0xD7 ∷ 0x02 ∷ 0x84 ∷ 0x00 ∷ 0x00 ∷ 0x00 ∷ 0x4D ∷ 0xE2 ∷ 0xD7 ∷ 0x03 ∷ 0x84 ∷ 0x00 ∷ 0x00 ∷ 0x00 ∷ 0x00 ∷ 0xE2 ∷ 0xD7 ∷ 0x04 ∷ 0x84 ∷ 0x00 ∷ 0x00 ∷ 0x00 ∷ 0x00 ∷ 0xE2 ∷ 0xD7 ∷ 0x05 ∷ 0x84 ∷ 0x00 ∷ 0x00 ∷ 0x00 ∷ 0x64 ∷ 0xE2 ∷ 0xD7 ∷ 0x06 ∷ 0x84 ∷ 0x00 ∷ 0x00 ∷ 0x00 ∷ 0x72 ∷ 0xE2 ∷ 0xD7 ∷ 0x07 ∷ 0x84 ∷ 0x00 ∷ 0x00 ∷ 0x00 ∷ 0x77 ∷ 0xE6 ∷ 0x01 ∷ 0xC1 ∷ 0xD3 ∷ 0xD0 ∷ 0x04 ∷ 0x63 ∷ 0x6F ∷ 0x64 ∷ 0x65 ∷ 0xE7 ∷ 0x01 ∷ 0x02 ∷ 0xE2 ∷ 0xD3 ∷ 0x01 ∷ 0x04 ∷ 0xE2 ∷ 0xCC ∷ 0x01 ∷ 0x82 ∷ 0x10 ∷ 0x00 ∷ 0xE5 ∷ 0x01 ∷ 0xE2 ∷ 0xD0 ∷ 0x01 ∷ 0x82 ∷ 0x10 ∷ 0x00 ∷ 0xED ∷ 0x04 ∷ 0x4E ∷ 0x71 ∷ 0x4E ∷ 0x75 ∷ 0xE2 ∷ 0xC7 ∷ 0x82 ∷ 0x10 ∷ 0x00 ∷ 0xE1 ∷ []
+
+-- its header and sections with this data part, or with this external or debug part alone, and the end
+abbrev with_data : List ℕ → List ℕ
+with_data part = take 100 (patched 68 0 (patched 76 (100 + length part) small)) ++ part ++ 0xE1 ∷ []
+
+abbrev with_externals : List ℕ → List ℕ
+with_externals part = take 100 (patched 44 100 (patched 60 0 (patched 68 0 (patched 76 (100 + length part) small)))) ++ part ++ 0xE1 ∷ []
+
+abbrev with_debug : List ℕ → List ℕ
+with_debug part = take 100 (patched 52 100 (patched 60 0 (patched 68 0 (patched 76 (100 + length part) small)))) ++ part ++ 0xE1 ∷ []
+
+whole : judged small ≡ ended 120
+whole = refl
+
+nothing : judged [] ≡ waiting 0
+nothing = refl
+
+cut_off : judged (take 119 small) ≡ waiting 114
+cut_off = refl
+
+other_begin : judged (patched 0 0xE1 small) ≡ fault (0, why.BadHeader)
+other_begin = refl
+
+other_descriptor : judged (patched 9 0xE2 small) ≡ fault (9, why.BadHeader)
+other_descriptor = refl
+
+bad_bits : judged (patched 10 0x89 small) ≡ fault (10, why.BadNumber)
+bad_bits = refl
+
+sixteen_bits : judged (patched 10 0x10 small) ≡ fault (9, why.BadDescriptor)
+sixteen_bits = refl
+
+no_end_offset : judged (patched 76 0x00 small) ≡ fault (69, why.OffsetOrder)
+no_end_offset = refl
+
+first_offset_late : judged (patched 36 0x4E small) ≡ fault (77, why.PartGap)
+first_offset_late = refl
+
+offset_in_a_record : judged (patched 60 0x65 small) ≡ fault (100, why.PartGap)
+offset_in_a_record = refl
+
+alignment_of_another_section : judged (patched 78 0x02 small) ≡ fault (87, why.UnknownIndex)
+alignment_of_another_section = refl
+
+alignment_of_zero : judged (patched 89 0x00 small) ≡ fault (87, why.BadAlignment)
+alignment_of_zero = refl
+
+current_section_unknown : judged (patched 101 0x02 small) ≡ fault (100, why.UnknownIndex)
+current_section_unknown = refl
+
+string_without_lead : judged (patched 108 0xE0 small) ≡ fault (114, why.BadId)
+string_without_lead = refl
+
+section_of_no_type : judged (patched 79 0xC2 small) ≡ fault (79, why.BadSectionType)
+section_of_no_type = refl
+
+bad_index : judged (with_data (0xE5 ∷ 0x89 ∷ [])) ≡ fault (101, why.BadNumber)
+bad_index = refl
+
+no_record : judged (with_data (0xE2 ∷ 0xAA ∷ [])) ≡ fault (101, why.BadRecord)
+no_record = refl
+
+left_out_record : judged (with_data (0xF2 ∷ [])) ≡ fault (100, why.UnsupportedRecord)
+left_out_record = refl
+
+left_out_function : judged (with_data (0xE2 ∷ 0xD0 ∷ 0x01 ∷ 0x01 ∷ 0x02 ∷ 0xB9 ∷ [])) ≡ fault (105, why.UnsupportedFunction)
+left_out_function = refl
+
+left_out_variable : judged (with_data (0xE2 ∷ 0xD0 ∷ 0x01 ∷ 0xC1 ∷ 0x01 ∷ [])) ≡ fault (103, why.UnsupportedVariable)
+left_out_variable = refl
+
+too_few_terms : judged (with_data (0xE2 ∷ 0xD0 ∷ 0x01 ∷ 0xA5 ∷ [])) ≡ fault (103, why.Underflow)
+too_few_terms = refl
+
+two_terms : judged (with_data (0xE2 ∷ 0xD0 ∷ 0x01 ∷ 0x01 ∷ 0x02 ∷ 0xE5 ∷ 0x01 ∷ [])) ≡ fault (105, why.SurplusTerms)
+two_terms = refl
+
+no_term : judged (with_data (0xE2 ∷ 0xD0 ∷ 0x01 ∷ 0xE5 ∷ 0x01 ∷ [])) ≡ fault (103, why.Empty)
+no_term = refl
+
+long_run : judged (with_data (0xED ∷ 0x83 ∷ 0x01 ∷ 0x00 ∷ 0x00 ∷ [])) ≡ fault (101, why.LongRun)
+long_run = refl
+
+field_of_nine_bytes : judged (with_data (0xE5 ∷ 0x01 ∷ 0xE4 ∷ 0xBE ∷ 0x00 ∷ 0x90 ∷ 0x09 ∷ 0xBF ∷ [])) ≡ fault (106, why.BadFieldSize)
+field_of_nine_bytes = refl
+
+other_bracket : judged (with_data (0xE5 ∷ 0x01 ∷ 0xE4 ∷ 0xBE ∷ 0x00 ∷ 0xBB ∷ [])) ≡ fault (105, why.BracketMismatch)
+other_bracket = refl
+
+wrong_part : judged (with_data (0xE7 ∷ 0x01 ∷ 0x02 ∷ [])) ≡ fault (100, why.WrongPart)
+wrong_part = refl
+
+no_section : judged (with_data (0xED ∷ 0x01 ∷ 0xAA ∷ [])) ≡ fault (100, why.NoSection)
+no_section = refl
+
+value_missing : judged (with_externals (0xE8 ∷ 0x20 ∷ 0x01 ∷ 0x61 ∷ [])) ≡ fault (100, why.MissingValue)
+value_missing = refl
+
+counter_in_a_public : judged (with_externals (0xE8 ∷ 0x20 ∷ 0x01 ∷ 0x61 ∷ 0xE2 ∷ 0xC9 ∷ 0x20 ∷ 0xD0 ∷ 0x01 ∷ [])) ≡ fault (104, why.BadP)
+counter_in_a_public = refl
+
+declared_twice : judged (with_externals (0xE8 ∷ 0x20 ∷ 0x01 ∷ 0x61 ∷ 0xE8 ∷ 0x20 ∷ 0x01 ∷ 0x62 ∷ [])) ≡ fault (104, why.DuplicateIndex)
+declared_twice = refl
+
+variable_never_declared : judged (with_externals (0xE8 ∷ 0x20 ∷ 0x01 ∷ 0x61 ∷ 0xE2 ∷ 0xC9 ∷ 0x20 ∷ 0xD8 ∷ 0x0B ∷ [])) ≡ fault (104, why.UnknownIndex)
+variable_never_declared = refl
+
+variable_declared_later : judged (with_externals (0xE8 ∷ 0x20 ∷ 0x01 ∷ 0x61 ∷ 0xE2 ∷ 0xC9 ∷ 0x20 ∷ 0xD8 ∷ 0x0B ∷ 0xE9 ∷ 0x0B ∷ 0x01 ∷ 0x62 ∷ [])) ≡ ended 114
+variable_declared_later = refl
+
+two_starts : judged (patched 76 0x7A (take 119 small) ++ 0xE2 ∷ 0xC7 ∷ 0x00 ∷ 0xE1 ∷ []) ≡ fault (119, why.DuplicateValue)
+two_starts = refl
+
+base_missing : judged (patched 60 0 (patched 68 0 (patched 76 0x5E (take 94 small))) ++ 0xE1 ∷ []) ≡ fault (77, why.MissingBase)
+base_missing = refl
+
+debug_part_left_for_later : judged (with_debug (0xF9 ∷ [])) ≡ fault (45, why.NotBuilt)
+debug_part_left_for_later = refl
+
+debug_part_passed_over : judged_without_debug (with_debug (0xF2 ∷ 0x20 ∷ 0xCE ∷ 0x01 ∷ [])) ≡ ended 105
+debug_part_passed_over = refl
+
+-- a relocatable module
+abbrev relocatable : List ℕ
+relocatable = 0xE0 ∷ 0x05 ∷ 0x36 ∷ 0x38 ∷ 0x30 ∷ 0x30 ∷ 0x30 ∷ 0x04 ∷ 0x70 ∷ 0x72 ∷ 0x6F ∷ 0x67 ∷ 0xEC ∷ 0x08 ∷ 0x04 ∷ 0xE2 ∷ 0xD7 ∷ 0x00 ∷ 0x84 ∷ 0x00 ∷ 0x00 ∷ 0x00 ∷ 0x4F ∷ 0xE2 ∷ 0xD7 ∷ 0x01 ∷ 0x84 ∷ 0x00 ∷ 0x00 ∷ 0x00 ∷ 0x52 ∷ 0xE2 ∷ 0xD7 ∷ 0x02 ∷ 0x84 ∷ 0x00 ∷ 0x00 ∷ 0x00 ∷ 0x55 ∷ 0xE2 ∷ 0xD7 ∷ 0x03 ∷ 0x84 ∷ 0x00 ∷ 0x00 ∷ 0x00 ∷ 0x66 ∷ 0xE2 ∷ 0xD7 ∷ 0x04 ∷ 0x84 ∷ 0x00 ∷ 0x00 ∷ 0x00 ∷ 0x00 ∷ 0xE2 ∷ 0xD7 ∷ 0x05 ∷ 0x84 ∷ 0x00 ∷ 0x00 ∷ 0x00 ∷ 0x81 ∷ 0xE2 ∷ 0xD7 ∷ 0x06 ∷ 0x84 ∷ 0x00 ∷ 0x00 ∷ 0x00 ∷ 0x9B ∷ 0xE2 ∷ 0xD7 ∷ 0x07 ∷ 0x84 ∷ 0x00 ∷ 0x00 ∷ 0x00 ∷ 0xA3 ∷ 0xF0 ∷ 0x20 ∷ 0x00 ∷ 0xF0 ∷ 0x21 ∷ 0x00 ∷ 0xE6 ∷ 0x01 ∷ 0xC3 ∷ 0xD0 ∷ 0x05 ∷ 0x2E ∷ 0x74 ∷ 0x65 ∷ 0x78 ∷ 0x74 ∷ 0xE7 ∷ 0x01 ∷ 0x02 ∷ 0xE2 ∷ 0xD3 ∷ 0x01 ∷ 0x0C ∷ 0xE8 ∷ 0x20 ∷ 0x04 ∷ 0x6D ∷ 0x61 ∷ 0x69 ∷ 0x6E ∷ 0xF1 ∷ 0xC9 ∷ 0x20 ∷ 0x0F ∷ 0x13 ∷ 0x01 ∷ 0xE2 ∷ 0xC9 ∷ 0x20 ∷ 0xD2 ∷ 0x01 ∷ 0x04 ∷ 0xA5 ∷ 0xE9 ∷ 0x0B ∷ 0x04 ∷ 0x65 ∷ 0x78 ∷ 0x69 ∷ 0x74 ∷ 0xE5 ∷ 0x01 ∷ 0xE2 ∷ 0xD0 ∷ 0x01 ∷ 0xD2 ∷ 0x01 ∷ 0xE4 ∷ 0x04 ∷ 0x4E ∷ 0x71 ∷ 0x4E ∷ 0x71 ∷ 0xBE ∷ 0xD2 ∷ 0x01 ∷ 0x04 ∷ 0xA5 ∷ 0xBF ∷ 0xBA ∷ 0xD8 ∷ 0x0B ∷ 0xD0 ∷ 0x01 ∷ 0xA6 ∷ 0xBB ∷ 0xE2 ∷ 0xC7 ∷ 0xBE ∷ 0xD2 ∷ 0x01 ∷ 0x04 ∷ 0xA5 ∷ 0xBF ∷ 0xE1 ∷ []
+
+relocatable_whole : judged relocatable ≡ ended 164
+relocatable_whole = refl
+
+relocatable_cut_off : judged (take 150 relocatable) ≡ waiting 148
+relocatable_cut_off = refl
