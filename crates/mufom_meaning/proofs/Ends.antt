@@ -50,7 +50,7 @@ leads-within s (suc k) site t q h =
     passes-In (λ v. is_or_leads (λ x y. leads_within s (suc k) q.entry.name x y) q.entry.name (mentioned s site v.0 v.1)) (variables_of t) m.0
     (Contains-In m.0 (variables_of t) m.1) (ap (is_or_leads (λ x y. leads_within s (suc k) q.entry.name x y) q.entry.name) m.2 ∙ or_true (bytes_eq h.0.entry.name q.entry.name) _ later)
 
-found_public : (test : SitedPublic → Bool) (xs : List SitedPublic) (q : SitedPublic) → find test xs ≡ Some q → StandsIn q xs
+pub found_public : (test : SitedPublic → Bool) (xs : List SitedPublic) (q : SitedPublic) → find test xs ≡ Some q → StandsIn q xs
 found_public test [] q e = absurd cc
 found_public test (x ∷ xs) q e = by_case (test x) e (found_public test xs q) where
   by_case : (b : Bool) → cond b (Some x) (find test xs) ≡ Some q → (find test xs ≡ Some q → StandsIn q xs) → StandsIn q (x ∷ xs)

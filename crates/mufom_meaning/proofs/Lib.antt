@@ -6,3 +6,4 @@ pub mod Ends
 pub mod Causes
 pub mod Lacks
 pub mod Valued
+pub mod Named

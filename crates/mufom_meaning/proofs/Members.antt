@@ -90,3 +90,26 @@ passes-In p (y ∷ ys) x (inr h) e = or_right (p y) (passes-In p ys x h e) where
   or_right : (b : Bool) → list_any p ys ≡ true → (b || list_any p ys) ≡ true
   or_right true e = refl
   or_right false e = e
+
+pub In-filter : {A : Type 0} (p : A → Bool) (x : A) → p x ≡ true → (xs : List A) → In x xs → In x (filter p xs)
+In-filter p x passes [] h = absurd h
+In-filter {A} p x passes (y ∷ ys) h = by_case (p y) refl h (In-filter p x passes ys) where
+  by_case : (b : Bool) → p y ≡ b → In x (y ∷ ys) → (In x ys → In x (filter p ys)) → In x (cond b (y ∷ filter p ys) (filter p ys))
+  by_case true e (inl same) later = inl same
+  by_case true e (inr h) later = inr (later h)
+  by_case false e (inl same) later = absurd (let clash : p y ≡ true = ap p same ∙ passes in cc)
+  by_case false e (inr h) later = later h
+
+-- a test that passes no element passes nothing of the list
+pub none-In : {A : Type 0} (p : A → Bool) (xs : List A) → ((x : A) → In x xs → p x ≡ false) → list_any p xs ≡ false
+none-In p [] h = refl
+none-In p (y ∷ ys) h = ap (λ b. b || list_any p ys) (h y (inl refl)) ∙ none-In p ys (λ x k. h x (inr k))
+
+pub list_any-same : {A : Type 0} (p q : A → Bool) → ((x : A) → p x ≡ q x) → (xs : List A) → list_any p xs ≡ list_any q xs
+list_any-same p q same [] = refl
+list_any-same p q same (x ∷ xs) = let a = same x in let b = list_any-same p q same xs in λ i. a i || b i
+
+pub get_some : {A : Type 0} (xs : List A) (i : ℕ) → i < length xs → slice_get xs i ≡ None → ⊥
+get_some [] i less e = omega (arith, less)
+get_some (x ∷ xs) zero less e = cc
+get_some (x ∷ xs) (suc i) less e = get_some xs i (omega (arith, less)) e

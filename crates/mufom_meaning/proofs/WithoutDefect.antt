@@ -16,7 +16,7 @@ use Rattle.mufom_module.specs.Contents.{debug_marks, any_of, any_expression, pla
 use Rattle.mufom_module.specs.Defects.{has_defect, defects, IsValid, counts_of, count_for, is_outside, names_outside, has_bad_place, has_bad_mark, begins_badly, declared_behind, has_other_counter, is_other_counter, misplaces_counter, is_unit_count}
 use Rattle.mufom_meaning.proofs.Members.{In, fails-In, or_false}
 
-finds-none : {A : Type 0} (p : A → Bool) (xs : List A) → find p xs ≡ None → (x : A) → In x xs → p x ≡ false
+pub finds-none : {A : Type 0} (p : A → Bool) (xs : List A) → find p xs ≡ None → (x : A) → In x xs → p x ≡ false
 finds-none p [] e x h = absurd h
 finds-none p (y ∷ ys) e x h = by_case (p y) refl e h (finds-none p ys) where
   by_case : (b : Bool) → p y ≡ b → cond b (Some y) (find p ys) ≡ None → In x (y ∷ ys) → (find p ys ≡ None → (z : _) → In z ys → p z ≡ false) → p x ≡ false
@@ -32,7 +32,7 @@ lacks_defect m valid = finds-none (has_defect m) defects valid
 abbrev pub IsInside : Parts → Tree → Type 0
 IsInside m t = (v : Letter × ℕ) → In v (variables_of t) → v.1 < count_for (counts_of m) v.0
 
-inside : (m : Parts) (t : Tree) → names_outside (counts_of m) t ≡ false → IsInside m t
+pub inside : (m : Parts) (t : Tree) → names_outside (counts_of m) t ≡ false → IsInside m t
 inside m t e v h = let low : nat_le (count_for (counts_of m) v.0) v.1 ≡ false = fails-In (is_outside (counts_of m)) (variables_of t) e v h in search rules
 
 any_option : {A : Type 0} (p : A → Bool) (o : Option A) → any_of p o ≡ false → (x : A) → In x (option_to_list o) → p x ≡ false
