@@ -10,6 +10,7 @@ use Rattle.mufom_meaning.specs.Fields.{field_bytes}
 abbrev pub Cell : Type 0
 Cell = ℕ × ℕ
 
+-- bytes at neighbouring addresses, from this one on
 abbrev pub cells_from : ℕ → List ℕ → List Cell
 cells_from a [] = []
 cells_from a (byte ∷ bytes) = (a, byte) ∷ cells_from (suc a) bytes
@@ -19,11 +20,13 @@ abbrev pub literal_cells : Option ℕ → List ℕ → List Cell
 literal_cells None bytes = []
 literal_cells (Some at) bytes = cells_from at bytes
 
+-- the cells of a field
 abbrev pub field_cells : Order → ℕ → Option ℕ → FieldKind → ℕ → Option ℕ → List Cell
 field_cells order modulus None kind size v = []
 field_cells order modulus (Some at) kind size None = []
 field_cells order modulus (Some at) kind size (Some v) = cells_from at (field_bytes order modulus kind size v)
 
+-- the cells of a step
 abbrev pub step_cells : Order → ℕ → StepReading → List Cell
 step_cells order modulus (counter_reading section v) = []
 step_cells order modulus (literal_reading section at bytes) = literal_cells at bytes

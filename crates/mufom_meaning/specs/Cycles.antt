@@ -16,11 +16,13 @@ abbrev pub mentioned_reference : Setting → Option Reference → Option SitedPu
 mentioned_reference s None = None
 mentioned_reference s (Some reference) = first_named s.publics reference.name
 
+-- the public that a variable mentions: I its public, X the first public of its name
 abbrev pub mentioned : Setting → Sited → Letter → ℕ → Option SitedPublic
 mentioned s site letters.I n = slice_get s.publics (site.first_public + n)
 mentioned s site letters.X n = mentioned_reference s (slice_get site.parts.names.references n)
 mentioned s site _ n = None
 
+-- a public has this name, or its expression leads to one that has
 abbrev pub is_or_leads : (Sited → Tree → Bool) → List ℕ → Option SitedPublic → Bool
 is_or_leads leads name None = false
 is_or_leads leads name (Some q) = bytes_eq q.entry.name name || leads q.site q.entry.value
@@ -31,6 +33,7 @@ leads_within s zero name site t = false
 leads_within s (suc k) name site t =
     list_any (λ v. is_or_leads (λ site' t'. leads_within s k name site' t') name (mentioned s site v.0 v.1)) (variables_of t)
 
+-- the same from the expression of a public
 abbrev pub leads_from : Setting → ℕ → List ℕ → Option SitedPublic → Bool
 leads_from s k name None = false
 leads_from s k name (Some q) = leads_within s k name q.site q.entry.value

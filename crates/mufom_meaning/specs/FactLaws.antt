@@ -1,11 +1,11 @@
 -- What holds of the facts about a list of modules and of the answers.
-use Rattle.std.specs.Prelude.{◌≡◌, ℕ, List, ◌++◌, length, IsTrue, ◌↔◌, ◌+◌, ◌≤◌, Some, None}
+use Rattle.std.specs.Prelude.{◌≡◌, ℕ, List, ◌++◌, length, IsTrue, ◌↔◌, ◌≤◌, Some, None}
 use Rattle.mufom_names.specs.Names.{AreDistinct}
 use Rattle.mufom_module.specs.declared.module.Parts.{Parts}
 use Rattle.mufom_plan.specs.declared.plan.Plan.{Plan}
 use Rattle.mufom_meaning.specs.Flat.{public_names, flat_starts}
 use Rattle.mufom_meaning.specs.Steps.{steps}
-use Rattle.mufom_meaning.specs.Facts.{descriptor, LinkFact, LocateFact}
+use Rattle.mufom_meaning.specs.Facts.{LinkFact, LocateFact}
 use Rattle.mufom_meaning.specs.LinkAnswer.{link_answer}
 use Rattle.mufom_meaning.specs.LocateAnswer.{locate_answer}
 use Rattle.mufom_meaning.specs.Cycles.{IsOnCycle, is_on_cycle}

@@ -4,7 +4,6 @@ use Rattle.mufom_expr.specs.declared.token.FieldKind.{FieldKind}
 use Rattle.mufom_module.specs.declared.module.Order.{Order}
 use Rattle.mufom_module.specs.declared.module.Parts.{Parts}
 use Rattle.mufom_place.specs.declared.refusal.PlaceRefusal.{PlaceRefusal}
-use Rattle.mufom_meaning.specs.Values.{value}
 
 -- the descriptor of a module: bytes of an address, and their order
 abbrev pub Descriptor : Type 0

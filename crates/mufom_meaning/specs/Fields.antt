@@ -22,6 +22,7 @@ abbrev pub bytes_of : ℕ → ℕ → List ℕ
 bytes_of zero v = []
 bytes_of (suc size) v = (v % 256) ∷ bytes_of size (v / 256)
 
+-- bytes, of which the least comes first, in the order of a module
 abbrev pub in_byte_order : Order → List ℕ → List ℕ
 in_byte_order Least bytes = bytes
 in_byte_order Most bytes = reverse bytes
@@ -33,5 +34,6 @@ field_number modulus Signed size v = if nat_lt (v + v) modulus then v else 256 ^
 field_number modulus Unsigned size v = v
 field_number modulus Either size v = v % 256 ^ size
 
+-- the bytes of a field that holds a value
 abbrev pub field_bytes : Order → ℕ → FieldKind → ℕ → ℕ → List ℕ
 field_bytes order modulus kind size v = in_byte_order order (bytes_of size (field_number modulus kind size v))

@@ -34,6 +34,7 @@ sited_from s p d (m ∷ ms) =
     record { parts = m; first_section = s; first_public = p; first_name = d }
     ∷ sited_from (s + length m.sections) (p + length m.names.publics) (d + name_count (marks_of m.debug)) ms
 
+-- the modules of a list, with their flat numbers
 abbrev pub sited : List Parts → List Sited
 sited ms = sited_from 0 0 0 ms
 
@@ -42,6 +43,7 @@ pub record SitedPublic : Type 0 where
   pub site : Sited
   pub entry : Public
 
+-- the publics of modules, in order
 abbrev pub publics_of : List Sited → List SitedPublic
 publics_of sites = flat_map (λ site. map (λ entry. record { site = site; entry = entry }) site.parts.names.publics) sites
 
@@ -49,12 +51,15 @@ publics_of sites = flat_map (λ site. map (λ entry. record { site = site; entry
 abbrev pub flat_sections : List Parts → List Section
 flat_sections ms = flat_map (λ m. m.sections) ms
 
+-- all publics
 abbrev pub flat_publics : List Parts → List SitedPublic
 flat_publics ms = publics_of (sited ms)
 
+-- all references
 abbrev pub flat_references : List Parts → List Reference
 flat_references ms = flat_map (λ m. m.names.references) ms
 
+-- all starts
 abbrev pub flat_starts : List Parts → List Tree
 flat_starts ms = flat_map (λ m. option_to_list m.start) ms
 
@@ -71,6 +76,7 @@ abbrev pub distinct : {A : Type 0} → (A → A → Bool) → List A → List A
 distinct same [] = []
 distinct same (x ∷ xs) = x ∷ filter (λ y. not (same x y)) (distinct same xs)
 
+-- a reference is strong where it is not weak
 abbrev pub is_strong : Reference → Bool
 is_strong reference = is_none reference.weak
 
@@ -87,9 +93,11 @@ unmet_references ms = filter (λ reference. not (has_name (public_names ms) refe
 abbrev pub needs : List Parts → List (List ℕ)
 needs ms = distinct bytes_eq (map (λ reference. reference.name) (filter is_strong (unmet_references ms)))
 
+-- a weak reference whose size is not 0 asks for room
 abbrev pub is_common : Reference → Bool
 is_common reference = not (common_size reference.weak == 0)
 
+-- the same name and the same size
 abbrev pub same_common : List ℕ × ℕ → List ℕ × ℕ → Bool
 same_common c d = bytes_eq c.0 d.0 && (c.1 == d.1)
 

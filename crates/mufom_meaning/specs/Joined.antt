@@ -21,16 +21,18 @@ use Rattle.mufom_module.specs.declared.module.Parts.{Parts}
 use Rattle.mufom_plan.specs.Names.{has_name}
 use Rattle.mufom_meaning.specs.Flat.{Sited, sited, flat_sections, public_names, unmet_references, distinct}
 
--- two references are the same where the name, the weak part and the notes are
+-- two weak parts are the same where size and default are
 abbrev pub same_weak : Option Weak → Option Weak → Bool
 same_weak None None = true
 same_weak (Some v) (Some w) = (v.size == w.size) && (v.default == w.default)
 same_weak None (Some w) = false
 same_weak (Some v) None = false
 
+-- two notes are the same where all their numbers are
 abbrev pub same_note : Note → Note → Bool
 same_note m n = (m.type_index == n.type_index) && (m.attribute == n.attribute) && bytes_eq m.numbers.items n.numbers.items
 
+-- two references are the same where name, weak part and notes are
 abbrev pub same_reference : Reference → Reference → Bool
 same_reference r q = bytes_eq r.name q.name && same_weak r.weak q.weak && pointwise same_note r.notes q.notes
 
@@ -60,22 +62,27 @@ joined_variable ms site letters.P n = (letters.P, site.first_section + n)
 joined_variable ms site letters.I n = (letters.I, site.first_public + n)
 joined_variable ms site letters.X n = joined_reference ms (slice_get site.parts.names.references n)
 
+-- an expression of a module of the list, with its variables by flat numbers
 abbrev pub joined_tree : List Parts → Sited → Tree → Tree
 joined_tree ms site t = with_variables (joined_variable ms site) t
 
+-- a public of a module of the list, as the link has it
 abbrev pub joined_public : List Parts → Sited → Public → Public
 joined_public ms site entry = record { name = entry.name; value = joined_tree ms site entry.value; notes = entry.notes }
 
+-- the same of an item
 abbrev pub joined_item : List Parts → Sited → Item → Item
 joined_item ms site (Literal bytes) = Literal bytes
 joined_item ms site (Field kind t size) = Field kind (joined_tree ms site t) size
 
+-- the same of a load, whose section goes by its flat number
 abbrev pub joined_load : List Parts → Sited → Load → Load
 joined_load ms site (SetSection section) = SetSection (site.first_section + section)
 joined_load ms site (SetPc section t) = SetPc (site.first_section + section) (joined_tree ms site t)
 joined_load ms site (One item) = One (joined_item ms site item)
 joined_load ms site (Repeat count items) = Repeat count (map (joined_item ms site) items)
 
+-- the same of the head of a debug block
 abbrev pub joined_head : List Parts → Sited → BlockHead → BlockHead
 joined_head ms site heads.Module = heads.Module
 joined_head ms site (heads.Global stack type_index offset) = heads.Global stack type_index (joined_tree ms site offset)
@@ -83,6 +90,7 @@ joined_head ms site (heads.Local stack type_index offset) = heads.Local stack ty
 joined_head ms site (heads.Source numbers) = heads.Source numbers
 joined_head ms site (heads.Section section_type section offset) = heads.Section section_type (site.first_section + section) (joined_tree ms site offset)
 
+-- the same of a debug mark, whose debug name goes by its flat number
 abbrev pub joined_mark : List Parts → Sited → DebugMark → DebugMark
 joined_mark ms site (block_begin head name) = block_begin (joined_head ms site head) name
 joined_mark ms site (block_end end) = block_end (option_map (joined_tree ms site) end)
@@ -98,6 +106,7 @@ pub record HasHeaderOf (M m : Parts) : Type 0 where
   pub ext : M.ext ≡ m.ext
   pub env : M.env ≡ m.env
 
+-- the header is that of the first module; an empty list has none
 abbrev pub HasFirstHeader : Parts → List Parts → Type 0
 HasFirstHeader M [] = ⊥
 HasFirstHeader M (m ∷ ms) = HasHeaderOf M m

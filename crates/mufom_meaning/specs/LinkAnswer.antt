@@ -9,12 +9,14 @@ use Rattle.mufom_place.specs.Facts.{◌or_else◌}
 use Rattle.mufom_meaning.specs.Flat.{flat_starts, public_names}
 use Rattle.mufom_meaning.specs.Facts.{descriptor, LinkFact, mismatch, duplicate, duplicate_start}
 
+-- two byte orders are the same
 abbrev pub same_order : Order → Order → Bool
 same_order Least Least = true
 same_order Most Most = true
 same_order Least Most = false
 same_order Most Least = false
 
+-- two modules have the same descriptor
 abbrev pub same_descriptor : Parts → Parts → Bool
 same_descriptor m n = (m.maus == n.maus) && same_order m.order n.order
 
@@ -28,6 +30,7 @@ abbrev pub first_duplicate : List (List ℕ) → List (List ℕ) → Option (Lis
 first_duplicate earlier [] = None
 first_duplicate earlier (name ∷ names) = if has_name earlier name then Some name else first_duplicate (name ∷ earlier) names
 
+-- more than one start
 abbrev pub two_starts : List Tree → Option LinkFact
 two_starts (first ∷ second ∷ more) = Some duplicate_start
 two_starts (first ∷ []) = None

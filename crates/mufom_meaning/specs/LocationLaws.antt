@@ -12,7 +12,7 @@ use Rattle.mufom_meaning.specs.Readings.{readings, PublicReading, MarkReading, R
 use Rattle.mufom_meaning.specs.Location.{IsLocation, located_mark}
 use Rattle.mufom_meaning.specs.Selection.{IsSelected}
 use Rattle.mufom_meaning.specs.Values.{value}
-use Rattle.mufom_meaning.specs.Steps.{steps, StepReading, counter_reading, literal_reading, field_reading}
+use Rattle.mufom_meaning.specs.Steps.{StepReading, counter_reading, literal_reading, field_reading}
 use Rattle.mufom_meaning.specs.LinkAnswer.{link_answer}
 use Rattle.mufom_meaning.specs.LocateAnswer.{locate_answer}
 use Rattle.mufom_meaning.specs.Absolute.{absolute_of, no_regions}

@@ -33,6 +33,7 @@ pub data MarkReading : Type 0 where
   note_reading : (name : ℕ) → (note : Note) → MarkReading
   value_reading : (name : ℕ) → (value : Option ℕ) → MarkReading
 
+-- what the head of a block means
 abbrev pub head_reading : Setting → Sited → BlockHead → HeadReading
 head_reading s site heads.Module = module_head
 head_reading s site (heads.Global stack type_index offset) = global_head stack type_index (value s site None offset)
@@ -41,10 +42,12 @@ head_reading s site (heads.Source numbers) = source_head numbers.items
 head_reading s site (heads.Section section_type section offset) =
     section_head section_type (site.first_section + section) (value s site None offset)
 
+-- what the end of a block means
 abbrev pub end_value : Setting → Sited → Option Tree → Option (Option ℕ)
 end_value s site None = None
 end_value s site (Some t) = Some (value s site None t)
 
+-- what a debug mark means
 abbrev pub mark_reading : Setting → Sited → DebugMark → MarkReading
 mark_reading s site (block_begin head name) = begin_reading (head_reading s site head) name
 mark_reading s site (block_end end) = end_reading (end_value s site end)
@@ -52,9 +55,12 @@ mark_reading s site (name_mark name) = name_reading name
 mark_reading s site (note_mark name note) = note_reading (site.first_name + name) note
 mark_reading s site (value_mark name t) = value_reading (site.first_name + name) (value s site None t)
 
+-- what a public means
 abbrev pub public_reading : Setting → SitedPublic → PublicReading
 public_reading s q = record { name = q.entry.name; notes = q.entry.notes; value = value s q.site None q.entry.value }
 
+-- What a list of modules means: its sections, publics, steps, starts and debug marks with their values, the names that it needs, and
+-- the room that it asks for.
 pub record Readings : Type 0 where
   pub sections : List Section
   pub publics : List PublicReading

@@ -16,6 +16,7 @@ abbrev pub provider_from : ℕ → List Parts → List ℕ → Option ℕ
 provider_from n [] name = None
 provider_from n (member ∷ members) name = if has_name (public_names (member ∷ [])) name then Some n else provider_from (suc n) members name
 
+-- the provider of a name among the members
 abbrev pub provider : List Parts → List ℕ → Option ℕ
 provider members name = provider_from 0 members name
 
@@ -24,9 +25,11 @@ abbrev pub member_at : Option Parts → List Parts
 member_at None = []
 member_at (Some m) = m ∷ []
 
+-- the members at some positions
 abbrev pub members_at : List Parts → List ℕ → List Parts
 members_at members chosen = flat_map (λ n. member_at (slice_get members n)) chosen
 
+-- the position, where there is one, is among those chosen
 abbrev pub is_among : Option ℕ → List ℕ → Bool
 is_among None chosen = true
 is_among (Some n) chosen = has_number chosen n

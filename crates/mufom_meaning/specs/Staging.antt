@@ -1,5 +1,5 @@
 -- Stages of linking: when a module stands for a list of modules, and which lists come from one another by partial links.
-use Rattle.std.specs.Prelude.{◌≡◌, ℕ, List, [], ◌∷◌, ◌++◌, length, not, IsTrue, ◌+◌}
+use Rattle.std.specs.Prelude.{◌≡◌, ℕ, List, [], ◌∷◌, ◌++◌, length, not, IsTrue}
 use Rattle.std.specs.List.{list_all, IsDistinct}
 use Rattle.mufom_names.specs.Names.{AreDistinct}
 use Rattle.mufom_module.specs.declared.module.Parts.{Parts}

@@ -5,7 +5,6 @@ use Rattle.mufom_module.specs.declared.module.Parts.{Parts}
 use Rattle.mufom_module.specs.Defects.{IsValid}
 use Rattle.mufom_module.specs.Written.{weight}
 use Rattle.mufom_plan.specs.declared.plan.Plan.{Plan}
-use Rattle.mufom_place.specs.Bases.{bases}
 use Rattle.mufom_meaning.specs.declared.located.LocatedParts.{LocatedParts}
 use Rattle.mufom_meaning.specs.Flat.{flat_sections, public_names}
 use Rattle.mufom_meaning.specs.Readings.{readings}
@@ -15,7 +14,7 @@ use Rattle.mufom_meaning.specs.Selection.{IsSelected}
 use Rattle.mufom_meaning.specs.Facts.{LinkFact, LocateFact}
 use Rattle.mufom_meaning.specs.LinkAnswer.{link_answer}
 use Rattle.mufom_meaning.specs.LocateAnswer.{locate_answer}
-use Rattle.mufom_meaning.specs.Staging.{AreValid, HaveDescriptor, HaveDescriptorOf, StandsFor, HasSettledReferences, IsStaged, linked}
+use Rattle.mufom_meaning.specs.Staging.{AreValid, HaveDescriptor, HaveDescriptorOf, StandsFor, HasSettledReferences, IsStaged}
 use Rattle.mufom_meaning.specs.Stands.{LinkFactStands, LocateFactStands}
 
 -- A partial link stands for its list: it means the same in every context, it has the list's sections and public names, and no
@@ -42,6 +41,15 @@ LinkAnswersAgree =
     (M : Parts) (ms before after : List Parts) (name : List ℕ)
     → IsJoined M ms name → HaveDescriptorOf ms ms
     → link_answer (before ++ (M ∷ after)) ≡ link_answer (before ++ (ms ++ after))
+
+-- What is answered in place of a link or a location of a list with a link is what is answered for the flat list.
+abbrev pub AnswersAgree : Type 0
+AnswersAgree =
+    (M : Parts) (ms before after : List Parts) (name : List ℕ) (plan : Plan)
+    → IsJoined M ms name → AreValid (before ++ (ms ++ after)) → HaveDescriptor M (before ++ (ms ++ after))
+    → AreDistinct (public_names (before ++ (ms ++ after)))
+    → (link_answer (before ++ (M ∷ after)) ≡ link_answer (before ++ (ms ++ after)))
+    × (locate_answer (before ++ (M ∷ after)) plan ≡ locate_answer (before ++ (ms ++ after)) plan)
 
 -- The facts about a list with a link are those about the flat list, all of them and the answered one.
 pub record FactsAgreeOn (linked flat : List Parts) (plan : Plan) : Type 0 where

@@ -60,6 +60,7 @@ abbrev pub step_reading : Setting → List Step → Step → StepReading
 step_reading s earlier (counter_step site section t) = counter_reading section (value s site (counter s earlier section) t)
 step_reading s earlier (item_step site section item) = item_reading s site section (counter s earlier section) item
 
+-- what steps mean after those before them
 abbrev pub readings_after : Setting → List Step → List Step → List StepReading
 readings_after s earlier [] = []
 readings_after s earlier (step ∷ more) = step_reading s earlier step ∷ readings_after s (step ∷ earlier) more

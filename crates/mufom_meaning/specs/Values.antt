@@ -17,6 +17,7 @@ pub record Setting : Type 0 where
   -- the base of each section, by its flat number
   pub bases : List ℕ
 
+-- the setting of a list of modules whose sections stand at these bases
 abbrev pub setting : List Parts → List ℕ → Setting
 setting ms bases = record { modulus = 2 ^ width ms; sections = flat_sections ms; publics = flat_publics ms; bases = bases }
 
@@ -24,6 +25,7 @@ setting ms bases = record { modulus = 2 ^ width ms; sections = flat_sections ms;
 abbrev pub Worth : Type 0
 Worth = Sited → Tree → Option ℕ
 
+-- what a public is worth, where there is one
 abbrev pub worth_of : Worth → Option SitedPublic → Option ℕ
 worth_of worth None = None
 worth_of worth (Some q) = worth q.site q.entry.value
@@ -38,6 +40,7 @@ abbrev pub reference_value : Worth → Option SitedPublic → Option Weak → Op
 reference_value worth (Some q) weak = worth q.site q.entry.value
 reference_value worth None weak = default_of weak
 
+-- what a reference is worth, where there is one
 abbrev pub worth_of_reference : Setting → Worth → Option Reference → Option ℕ
 worth_of_reference s worth None = None
 worth_of_reference s worth (Some reference) = reference_value worth (first_named s.publics reference.name) reference.weak

@@ -6,6 +6,11 @@
 //! its definitions; each law is the contract of a function that does nothing.
 #![tactic(auto)]
 
+mod laws;
 mod located;
 
+pub use laws::{
+    answers_agree, answers_are_facts, cycles_are_short, joined_composes, joined_stands_for,
+    link_answers_agree, selection_agrees, staged_means_the_same,
+};
 pub use located::{LocatedParts, PublicValue, Run};
