@@ -33,3 +33,4 @@ pub mod Stages
 pub mod Staging
 pub mod Tests
 pub mod WalkAnswers
+pub mod ValueLaws

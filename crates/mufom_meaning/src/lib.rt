@@ -7,10 +7,12 @@
 #![tactic(auto)]
 
 mod laws;
+mod laws_located;
 mod located;
 
 pub use laws::{
     answers_agree, answers_are_facts, cycles_are_short, joined_composes, joined_stands_for,
     link_answers_agree, selection_agrees, staged_means_the_same,
 };
+pub use laws_located::{all_valued, none_by_division, values_exist};
 pub use located::{LocatedParts, PublicValue, Run};

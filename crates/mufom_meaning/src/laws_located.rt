@@ -1,0 +1,20 @@
+//! Laws of values and of locations, each the contract of a function that does nothing.
+
+ghost use Rattle.mufom_meaning.specs.Valued.{NoneByDivision, ValuesExist};
+ghost use Rattle.mufom_meaning.specs.LocationLaws.{AllValued};
+
+/// Where no link fact stands, and none that needs no walk, an expression of modules without a
+/// defect has no value exactly where it, or a public or a counter that it goes through, divides by 0.
+pub fn none_by_division()
+    ensures { NoneByDivision }
+{}
+
+/// Where no fact stands, each expression and each counter has a value.
+pub fn values_exist()
+    ensures { ValuesExist }
+{}
+
+/// Where no fact stands, each reading has its values.
+pub fn all_valued()
+    ensures { AllValued }
+{}
