@@ -82,7 +82,7 @@ module _ (ms : List Parts) (home : Sited) (s other : Setting) (h : AreSettings m
         same_size None = refl
         same_size (Some a) = refl
 
-  loaded_agree : (earlier earlier' : List Step) → Paired R earlier earlier' → loaded_addresses s earlier ≡ loaded_addresses other earlier'
+  pub loaded_agree : (earlier earlier' : List Step) → Paired R earlier earlier' → loaded_addresses s earlier ≡ loaded_addresses other earlier'
   loaded_agree [] [] p = refl
   loaded_agree (step ∷ earlier) (step' ∷ earlier') p =
       let a = addresses_agree step step' p.0 earlier earlier' p.1 in let b = loaded_agree earlier earlier' p.1 in λ i. a i ++ b i
@@ -161,7 +161,7 @@ joined_expressions ms site (mark ∷ marks) =
     let a = joined_mark_expressions ms site mark in let b = joined_expressions ms site marks in
     (λ i. a i ++ b i) ∙ sym (map-append (joined_tree ms site) (mark_expressions mark) (expressions_of marks))
 
-group_expressions : (ms : List Parts) (sites : List Sited) → expressions_of (flat_map (λ site. map (joined_mark ms site) (marks_of site.parts.debug)) sites)
+pub group_expressions : (ms : List Parts) (sites : List Sited) → expressions_of (flat_map (λ site. map (joined_mark ms site) (marks_of site.parts.debug)) sites)
     ≡ flat_map (λ site. map (joined_tree ms site) (expressions_of (marks_of site.parts.debug))) sites
 group_expressions ms [] = refl
 group_expressions ms (site ∷ sites) =
@@ -242,7 +242,7 @@ descriptor_after : (d : Parts) (xs ys : List Parts) → HaveDescriptor d (xs ++ 
 descriptor_after d [] ys h = h
 descriptor_after d (x ∷ xs) ys h = descriptor_after d xs ys h.1
 
-descriptor_linked : (M : Parts) (ms before after : List Parts) → HaveDescriptor M (before ++ (ms ++ after)) → HaveDescriptor M (before ++ (M ∷ after))
+pub descriptor_linked : (M : Parts) (ms before after : List Parts) → HaveDescriptor M (before ++ (ms ++ after)) → HaveDescriptor M (before ++ (M ∷ after))
 descriptor_linked M ms [] after h = ((refl, refl), descriptor_after M ms after h)
 descriptor_linked M ms (b ∷ before) after h = (h.0, descriptor_linked M ms before after h.1)
 
@@ -262,7 +262,7 @@ module _ (M : Parts) (ms before after : List Parts) (name : List ℕ) (j : IsJoi
   own_loaded : lengths_loaded M.loads ≡ loaded_total ms
   own_loaded = ap lengths_loaded j.loads ∙ loaded_group ms 0 0 0 ms
 
-  same_total : loaded_total linked ≡ loaded_total flat
+  pub same_total : loaded_total linked ≡ loaded_total flat
   same_total =
       loaded_total-around before M after ∙ ap (λ n. loaded_total before + (n + loaded_total after)) own_loaded
       ∙ ap (λ n. loaded_total before + n) (sym (sum_by-append (λ m. lengths_loaded m.loads) ms after)) ∙ sym (sum_by-append (λ m. lengths_loaded m.loads) before (ms ++ after))

@@ -31,7 +31,7 @@ module _ (ms : List Parts) (home : Sited) (s other : Setting) (h : AreSettings m
   abbrev Both : Option SitedPublic → Option SitedPublic → Type 0
   Both = PairedOption (MovedPublic ms home)
 
-  first_both : (name : List ℕ) → Both (first_named s.publics name) (first_named other.publics name)
+  pub first_both : (name : List ℕ) → Both (first_named s.publics name) (first_named other.publics name)
   first_both name = same_first ms home s other h (λ x y. None) (λ x y. None) (λ x y x' y' m. refl) name
 
   public_both : (n : ℕ) → Both (slice_get s.publics n) (slice_get other.publics n)
@@ -96,7 +96,7 @@ module _ (ms : List Parts) (home : Sited) (s other : Setting) (h : AreSettings m
       ∙ list_any-map (λ v. is_or_leads (λ x y. leads_within s k name x y) name (mentioned s home v.0 v.1)) (λ v. joined_variable ms site v.0 v.1) (variables_of t)
       ∙ list_any-agrees _ _ (λ v. agree_leads (λ x y. leads_within s k name x y) (λ x y. leads_within other k name x y) (same_leads k name) name _ _ (mentioned_there site within v.0 v.1)) (variables_of t)
 
-  from_both : (k : ℕ) (name : List ℕ) (p q : Option SitedPublic) → Both p q → leads_from s k name p ≡ leads_from other k name q
+  pub from_both : (k : ℕ) (name : List ℕ) (p q : Option SitedPublic) → Both p q → leads_from s k name p ≡ leads_from other k name q
   from_both k name None None m = refl
   from_both k name (Some p) (Some q) m = same_leads k name p.site p.entry.value q.site q.entry.value m.tree
   from_both k name None (Some q) m = absurd m

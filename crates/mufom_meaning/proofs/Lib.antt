@@ -34,3 +34,15 @@ pub mod Staging
 pub mod Tests
 pub mod WalkAnswers
 pub mod ValueLaws
+pub mod JoinedSingle
+pub mod StepCounts
+pub mod SelectionSingle
+pub mod SameWalk
+pub mod LinkFacts
+pub mod FactsAlike
+pub mod Linkable
+pub mod FollowsLink
+pub mod FactsLinked
+pub mod ChangedMarks
+pub mod SingleLocation
+pub mod OwnAddresses

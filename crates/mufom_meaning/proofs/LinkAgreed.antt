@@ -69,7 +69,7 @@ same_mismatch M (n ∷ rest) [] after header h =
     by_first M n header after ∙ sym (skipped n n rest after h.1 (same_descriptor-of n n n (refl, refl) (refl, refl)))
 same_mismatch M (n ∷ rest) (b ∷ before) after header h = within M n rest header h.1 b before after
 
-same_start_count : (M : Parts) (ms before after : List Parts) (name : List ℕ) → IsJoined M ms name
+pub same_start_count : (M : Parts) (ms before after : List Parts) (name : List ℕ) → IsJoined M ms name
     → length (flat_starts (before ++ (M ∷ after))) ≡ length (flat_starts (before ++ (ms ++ after)))
 same_start_count M ms before after name j =
     let own : length (option_to_list M.start) ≡ length (flat_starts ms) = ap length j.start ∙ starts_group ms 0 0 0 ms in

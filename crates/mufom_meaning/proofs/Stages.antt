@@ -15,7 +15,8 @@ use Rattle.mufom_meaning.specs.StagingLaws.{MeansTheSame, StagedMeansTheSame}
 use Rattle.mufom_meaning.proofs.Staging.{same_readings_there}
 use Rattle.mufom_meaning.proofs.Needs.{same_names}
 use Rattle.mufom_meaning.proofs.Selected.{selection_agrees}
-use Rattle.mufom_meaning.proofs.Agreed.{answers_agree, valid_middle}
+use Rattle.mufom_meaning.proofs.Agreed.{valid_middle}
+use Rattle.mufom_meaning.proofs.FactsLinked.{facts_agree}
 use Rattle.mufom_meaning.proofs.Composed.{joined_composes}
 use Rattle.mufom_meaning.proofs.SameLocation.{location_there, same_first_header}
 
@@ -53,7 +54,7 @@ of_another d e h [] k = tt
 of_another d e h (m ∷ ms) k = ((k.0.0 ∙ sym h.0, k.0.1 ∙ sym h.1), of_another d e h ms k.1)
 
 means_itself : (leaves : List Parts) → MeansTheSame leaves leaves
-means_itself leaves = record { same_readings = λ bases. refl; same_first = refl; same_joined = λ N name. (λ h. h, λ h. h); same_link = refl; same_locate = λ plan. refl; same_location = λ plan r. (λ h. h, λ h. h); same_members = λ members chosen. (λ h. h, λ h. h) }
+means_itself leaves = record { same_readings = λ bases. refl; same_first = refl; same_joined = λ N name. (λ h. h, λ h. h); same_link_facts = λ fact. (λ h. h, λ h. h); same_locate_facts = λ plan fact. (λ h. h, λ h. h); same_link = refl; same_locate = λ plan. refl; same_location = λ plan r. (λ h. h, λ h. h); same_members = λ members chosen. (λ h. h, λ h. h) }
 
 stays_linked : (d : Parts) (ms leaves : List Parts) → IsStaged ms leaves → AreValid leaves → HaveDescriptor d leaves → AreDistinct (public_names leaves) → Stays d ms leaves
 stays_linked d _ _ (unlinked leaves) v k n = record { valid = v; descriptors = k; names = refl; first = refl; meaning = means_itself leaves }
@@ -61,12 +62,12 @@ stays_linked d _ _ (linked leaves before group after M name stages m j stay) v k
     let so_far : Stays d (before ++ (group ++ after)) leaves = stays_linked d (before ++ (group ++ after)) leaves stages v k n in
     let own = has_descriptor d M before group after j.header so_far.descriptors in
     let distinct : AreDistinct (public_names (before ++ (group ++ after))) = subst AreDistinct (sym so_far.names) n in
-    let facts = λ (plan : Plan). answers_agree M group before after name plan j so_far.valid (of_another d M own (before ++ (group ++ after)) so_far.descriptors) distinct in
+    let facts = λ (plan : Plan). facts_agree M group before after name plan j so_far.valid (of_another d M own (before ++ (group ++ after)) so_far.descriptors) distinct in
     let selected = λ (members : List Parts) (chosen : List ℕ). selection_agrees M group before after name members chosen j in
     let composes = λ (N : Parts) (outer : List ℕ). joined_composes M N group before after name outer j so_far.valid (of_another d M own (before ++ (group ++ after)) so_far.descriptors) distinct in
     let first : first_header (before ++ (M ∷ after)) ≡ first_header leaves = same_first_header M group j.header before after stay ∙ so_far.first in
-    let link : link_answer (before ++ (M ∷ after)) ≡ link_answer leaves = (facts (record { regions = [] })).0 ∙ so_far.meaning.same_link in
-    let locate : (plan : Plan) → locate_answer (before ++ (M ∷ after)) plan ≡ locate_answer leaves plan = λ plan. (facts plan).1 ∙ so_far.meaning.same_locate plan in
+    let link : link_answer (before ++ (M ∷ after)) ≡ link_answer leaves = (facts (record { regions = [] })).link_answers ∙ so_far.meaning.same_link in
+    let locate : (plan : Plan) → locate_answer (before ++ (M ∷ after)) plan ≡ locate_answer leaves plan = λ plan. (facts plan).locate_answers ∙ so_far.meaning.same_locate plan in
     let read : (b : List ℕ) → readings (before ++ (M ∷ after)) b ≡ readings leaves b
     = λ b. same_readings_there M group name j (valid_middle before group after so_far.valid) before after distinct b ∙ so_far.meaning.same_readings b in
     record {
@@ -79,6 +80,12 @@ stays_linked d _ _ (linked leaves before group after M name stages m j stay) v k
         same_first = first;
         same_joined = λ N outer.
             (λ h. (so_far.meaning.same_joined N outer).0 ((composes N outer).0 h), λ h. (composes N outer).1 ((so_far.meaning.same_joined N outer).1 h));
+        same_link_facts = λ fact.
+            let own = (facts (record { regions = [] })).link_facts fact in
+            (λ h. (so_far.meaning.same_link_facts fact).0 (own.0 h), λ h. own.1 ((so_far.meaning.same_link_facts fact).1 h));
+        same_locate_facts = λ plan fact.
+            let own = (facts plan).locate_facts fact in
+            (λ h. (so_far.meaning.same_locate_facts plan fact).0 (own.0 h), λ h. own.1 ((so_far.meaning.same_locate_facts plan fact).1 h));
         same_link = link;
         same_locate = locate;
         same_location = λ plan r. (

@@ -73,12 +73,14 @@ SelectionAgrees =
     → IsJoined M ms name
     → IsSelected (before ++ (M ∷ after)) members chosen ↔ IsSelected (before ++ (ms ++ after)) members chosen
 
--- Two lists mean the same: they have the same readings wherever the sections stand, the same facts and the same location
+-- Two lists mean the same: they have the same readings wherever the sections stand, the same link, facts, answers and location
 -- whatever the plan, and the same members.
 pub record MeansTheSame (ms leaves : List Parts) : Type 0 where
   pub same_readings : (bases : List ℕ) → readings ms bases ≡ readings leaves bases
   pub same_first : first_header ms ≡ first_header leaves
   pub same_joined : (N : Parts) (name : List ℕ) → IsJoined N ms name ↔ IsJoined N leaves name
+  pub same_link_facts : (fact : LinkFact) → LinkFactStands ms fact ↔ LinkFactStands leaves fact
+  pub same_locate_facts : (plan : Plan) (fact : LocateFact) → LocateFactStands ms plan fact ↔ LocateFactStands leaves plan fact
   pub same_link : link_answer ms ≡ link_answer leaves
   pub same_locate : (plan : Plan) → locate_answer ms plan ≡ locate_answer leaves plan
   pub same_location : (plan : Plan) (r : LocatedParts) → IsLocation ms plan r ↔ IsLocation leaves plan r

@@ -1,7 +1,7 @@
 //! Laws of values and of locations, each the contract of a function that does nothing.
 
 ghost use Rattle.mufom_meaning.specs.Valued.{NoneByDivision, ValuesExist};
-ghost use Rattle.mufom_meaning.specs.LocationLaws.{AllValued};
+ghost use Rattle.mufom_meaning.specs.LocationLaws.{AllValued, LocationIsSingle};
 
 /// Where no link fact stands, and none that needs no walk, an expression of modules without a
 /// defect has no value exactly where it, or a public or a counter that it goes through, divides by 0.
@@ -17,4 +17,9 @@ pub fn values_exist()
 /// Where no fact stands, each reading has its values.
 pub fn all_valued()
     ensures { AllValued }
+{}
+
+/// A list has one location by a plan at most.
+pub fn location_is_single()
+    ensures { LocationIsSingle }
 {}

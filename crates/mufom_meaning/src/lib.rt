@@ -7,6 +7,7 @@
 #![tactic(auto)]
 
 mod laws;
+mod laws2;
 mod laws_located;
 mod located;
 
@@ -14,5 +15,9 @@ pub use laws::{
     answers_agree, answers_are_facts, cycles_are_short, joined_composes, joined_stands_for,
     link_answers_agree, selection_agrees, staged_means_the_same,
 };
-pub use laws_located::{all_valued, none_by_division, values_exist};
+pub use laws2::{
+    counts_agree, facts_agree, joined_is_single, link_facts_grow, no_link_answer_is_linkable,
+    selection_is_single,
+};
+pub use laws_located::{all_valued, location_is_single, none_by_division, values_exist};
 pub use located::{LocatedParts, PublicValue, Run};
