@@ -46,3 +46,4 @@ pub mod FactsLinked
 pub mod ChangedMarks
 pub mod SingleLocation
 pub mod OwnAddresses
+pub mod LocationExists

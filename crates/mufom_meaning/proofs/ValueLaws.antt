@@ -40,7 +40,7 @@ length-numbered k (x ∷ xs) = ap suc (length-numbered (k + 1) xs)
 pub bases_count : (plan : Plan) (sections : List Section) → length (bases plan sections) ≡ length sections
 bases_count plan sections = length-map (numbered sections) (λ s. (site_of plan sections s).base) ∙ length-numbered 0 sections
 
-abbrev placed : List Parts → Plan → Setting
+abbrev pub placed : List Parts → Plan → Setting
 placed ms plan = setting ms (bases plan (flat_sections ms))
 
 all_named : (ms : List Parts) (plan : Plan) → AreValid ms → ((fact : LinkFact) → ¬ LinkFactStands ms fact) → ((fact : LocateFact) → ¬ StandsBeforeWalk ms plan (placed ms plan) fact)
@@ -98,7 +98,7 @@ module _ (ms : List Parts) (s : Setting) (h : HaveValues ms s) where
   pub debug_valued : (site : Sited) → In site (sited ms) → (mark : DebugMark) → In mark (marks_of site.parts.debug) → (t : Tree) → In t (mark_expressions mark) → HasValue (value s site None t)
   debug_valued site k mark m t e = some_of (value s site None t) (h.expressions None site t (inr (inr (at-In (site, t) (debug_trees ms) (in_debug_trees site k mark m t e)))))
 
-  head_located : (site : Sited) (head : BlockHead) → ((t : Tree) → In t (option_to_list (offset_of head)) → HasValue (value s site None t)) → (located : BlockHead) × (located_head (head_reading s site head) ≡ Some located)
+  pub head_located : (site : Sited) (head : BlockHead) → ((t : Tree) → In t (option_to_list (offset_of head)) → HasValue (value s site None t)) → (located : BlockHead) × (located_head (head_reading s site head) ≡ Some located)
   head_located site heads.Module k = (heads.Module, refl)
   head_located site (heads.Global stack type_index offset) k = let n = k offset (inl refl) in (heads.Global stack type_index (number n.0), ap (option_map (λ n. heads.Global stack type_index (number n))) n.1)
   head_located site (heads.Local stack type_index offset) k = let n = k offset (inl refl) in (heads.Local stack type_index (number n.0), ap (option_map (λ n. heads.Local stack type_index (number n))) n.1)

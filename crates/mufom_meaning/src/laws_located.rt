@@ -1,7 +1,7 @@
 //! Laws of values and of locations, each the contract of a function that does nothing.
 
 ghost use Rattle.mufom_meaning.specs.Valued.{NoneByDivision, ValuesExist};
-ghost use Rattle.mufom_meaning.specs.LocationLaws.{AllValued, LocationIsSingle};
+ghost use Rattle.mufom_meaning.specs.LocationLaws.{AllValued, LocationsExist, LocationIsSingle};
 
 /// Where no link fact stands, and none that needs no walk, an expression of modules without a
 /// defect has no value exactly where it, or a public or a counter that it goes through, divides by 0.
@@ -17,6 +17,11 @@ pub fn values_exist()
 /// Where no fact stands, each reading has its values.
 pub fn all_valued()
     ensures { AllValued }
+{}
+
+/// Where no fact stands against modules without a defect, there is a location.
+pub fn locations_exist()
+    ensures { LocationsExist }
 {}
 
 /// A list has one location by a plan at most.
