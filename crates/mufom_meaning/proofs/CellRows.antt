@@ -6,7 +6,7 @@ use Rattle.mufom_meaning.proofs.Members.{In, In-Contains, Contains-In}
 use Rattle.mufom_meaning.specs.AddressMap.{Cell, cells_from, run_cells, AreApart, AreRowsOf}
 
 -- cells by rising address, none below the number
-abbrev AreRising : ℕ → List Cell → Type 0
+abbrev pub AreRising : ℕ → List Cell → Type 0
 AreRising from [] = Unit {0}
 AreRising from (cell ∷ cells) = (from ≤ cell.0) × AreRising (suc cell.0) cells
 
@@ -14,7 +14,7 @@ rising-lower : (a b : ℕ) (cells : List Cell) → b ≤ a → AreRising a cells
 rising-lower a b [] less h = tt
 rising-lower a b (cell ∷ cells) less h = let low : b ≤ cell.0 = omega (arith, less, h.0) in (low, h.1)
 
-rising-In : (from : ℕ) (cells : List Cell) → AreRising from cells → (cell : Cell) → In cell cells → from ≤ cell.0
+pub rising-In : (from : ℕ) (cells : List Cell) → AreRising from cells → (cell : Cell) → In cell cells → from ≤ cell.0
 rising-In from [] h cell k = absurd k
 rising-In from (c ∷ cells) h cell (inl e) = let same : c.0 ≡ cell.0 = ap (λ (x : Cell). x.0) e in omega (arith, h.0, same)
 rising-In from (c ∷ cells) h cell (inr k) = let later = rising-In (suc c.0) cells h.1 cell k in omega (arith, h.0, later)
@@ -142,7 +142,7 @@ rising-append a (byte ∷ bytes) rest h =
     let low : a ≤ a = omega arith in let end : a + suc (length bytes) ≡ suc a + length bytes = omega arith in
     (low, rising-append (suc a) bytes rest (subst (λ n. AreRising n rest) end h))
 
-run_cells-rise : (from : ℕ) (runs : List Run) → AreApart from runs → AreRising from (run_cells runs)
+pub run_cells-rise : (from : ℕ) (runs : List Run) → AreApart from runs → AreRising from (run_cells runs)
 run_cells-rise from [] h = tt
 run_cells-rise from (run ∷ runs) h =
     let later = run_cells-rise (run.address + length run.bytes + 1) runs h.2 in

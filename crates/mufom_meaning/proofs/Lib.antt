@@ -47,3 +47,4 @@ pub mod ChangedMarks
 pub mod SingleLocation
 pub mod OwnAddresses
 pub mod LocationExists
+pub mod AbsoluteCells

@@ -38,13 +38,13 @@ cell_there a (byte ∷ bytes) cell (inr h) =
     let later = cell_there (suc a) bytes cell h in
     let less : suc later.0 < suc (length bytes) = omega (arith, later.1) in let at : cell.0 ≡ a + suc later.0 = omega (arith, later.2) in (suc later.0, less, at)
 
-row_own : (a : ℕ) (bytes : List ℕ) → HaveOwnAddresses (cells_from a bytes)
+pub row_own : (a : ℕ) (bytes : List ℕ) → HaveOwnAddresses (cells_from a bytes)
 row_own a [] = tt
 row_own a (byte ∷ bytes) = (λ other h. apart other (cell_there (suc a) bytes other h), row_own (suc a) bytes) where
   apart : (other : Cell) → (q : ℕ) × (q < length bytes) × (other.0 ≡ suc a + q) → a ≡ other.0 → ⊥
   apart other later e = omega (arith, later.2, e)
 
-own_append : (xs ys : List Cell) → HaveOwnAddresses xs → HaveOwnAddresses ys → ((x y : Cell) → In x xs → In y ys → x.0 ≡ y.0 → ⊥) → HaveOwnAddresses (xs ++ ys)
+pub own_append : (xs ys : List Cell) → HaveOwnAddresses xs → HaveOwnAddresses ys → ((x y : Cell) → In x xs → In y ys → x.0 ≡ y.0 → ⊥) → HaveOwnAddresses (xs ++ ys)
 own_append [] ys h k apart = k
 own_append (x ∷ xs) ys h k apart = (λ other m. by_case other (In-append other xs ys m), own_append xs ys h.1 k (λ a b m n. apart a b (inr m) n)) where
   by_case : (other : Cell) → In other xs ⊎ In other ys → x.0 ≡ other.0 → ⊥
