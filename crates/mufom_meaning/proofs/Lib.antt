@@ -48,3 +48,4 @@ pub mod SingleLocation
 pub mod OwnAddresses
 pub mod LocationExists
 pub mod AbsoluteCells
+pub mod AbsoluteWalk
