@@ -49,3 +49,4 @@ pub mod OwnAddresses
 pub mod LocationExists
 pub mod AbsoluteCells
 pub mod AbsoluteWalk
+pub mod AbsolutePlaces
