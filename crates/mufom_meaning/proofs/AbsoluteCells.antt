@@ -23,7 +23,7 @@ cell_at a (byte ∷ bytes) cell (inl e) =
     let same : a ≡ cell.0 = ap (λ (x : Cell). x.0) e in let at : cell.0 ≡ a + 0 = omega (arith, same) in (0, ap (λ (x : Cell). Some x.1) e, at)
 cell_at a (byte ∷ bytes) cell (inr h) = let later = cell_at (suc a) bytes cell h in let at : cell.0 ≡ a + suc later.0 = omega (arith, later.2) in (suc later.0, later.1, at)
 
-at_cell : (a : ℕ) (bytes : List ℕ) (q byte x : ℕ) → slice_get bytes q ≡ Some byte → x ≡ a + q → In (x, byte) (cells_from a bytes)
+pub at_cell : (a : ℕ) (bytes : List ℕ) (q byte x : ℕ) → slice_get bytes q ≡ Some byte → x ≡ a + q → In (x, byte) (cells_from a bytes)
 at_cell a [] q byte x e f = absurd cc
 at_cell a (b ∷ bytes) zero byte x e f = let same : b ≡ byte = cc in let at : a ≡ x = omega (arith, f) in inl (λ i. (at i, same i))
 at_cell a (b ∷ bytes) (suc q) byte x e f = inr (at_cell (suc a) bytes q byte x e (omega (arith, f)))
@@ -93,12 +93,12 @@ module _ (from to : ℕ) where
 
 -- ---- no address twice
 
-own_apart : (xs ys : List Cell) → HaveOwnAddresses (xs ++ ys) → (x y : Cell) → In x xs → In y ys → x.0 ≡ y.0 → ⊥
+pub own_apart : (xs ys : List Cell) → HaveOwnAddresses (xs ++ ys) → (x y : Cell) → In x xs → In y ys → x.0 ≡ y.0 → ⊥
 own_apart [] ys h x y m n e = m
 own_apart (z ∷ xs) ys h x y (inl same) n e = h.0 y (In-right y xs ys n) (ap (λ (c : Cell). c.0) same ∙ e)
 own_apart (z ∷ xs) ys h x y (inr m) n e = own_apart xs ys h.1 x y m n e
 
-own_behind : (xs ys : List Cell) → HaveOwnAddresses (xs ++ ys) → HaveOwnAddresses ys
+pub own_behind : (xs ys : List Cell) → HaveOwnAddresses (xs ++ ys) → HaveOwnAddresses ys
 own_behind [] ys h = h
 own_behind (x ∷ xs) ys h = own_behind xs ys h.1
 

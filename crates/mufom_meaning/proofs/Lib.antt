@@ -50,3 +50,4 @@ pub mod LocationExists
 pub mod AbsoluteCells
 pub mod AbsoluteWalk
 pub mod AbsolutePlaces
+pub mod AbsoluteFacts
