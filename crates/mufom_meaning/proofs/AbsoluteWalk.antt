@@ -24,14 +24,14 @@ use Rattle.mufom_meaning.proofs.AbsoluteCells.{cells_within, cells_at, section_c
 
 -- ---- bytes in pieces
 
-abbrev together : List (List ℕ) → List ℕ
+abbrev pub together : List (List ℕ) → List ℕ
 together ps = flat_map (λ p. p) ps
 
 abbrev HaveBytes : List (List ℕ) → Type 0
 HaveBytes [] = Unit {0}
 HaveBytes (p ∷ ps) = (0 < length p) × HaveBytes ps
 
-pieces_together : (k n : ℕ) (xs : List ℕ) → length xs ≤ n → together (pieces_within n (suc k) xs) ≡ xs
+pub pieces_together : (k n : ℕ) (xs : List ℕ) → length xs ≤ n → together (pieces_within n (suc k) xs) ≡ xs
 pieces_together k zero [] h = refl
 pieces_together k zero (x ∷ xs) h = absurd (omega (arith, h))
 pieces_together k (suc n) [] h = refl

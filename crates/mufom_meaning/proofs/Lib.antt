@@ -51,3 +51,5 @@ pub mod AbsoluteCells
 pub mod AbsoluteWalk
 pub mod AbsolutePlaces
 pub mod AbsoluteFacts
+pub mod AbsoluteCounts
+pub mod AbsoluteMarks

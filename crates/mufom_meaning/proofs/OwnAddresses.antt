@@ -21,11 +21,11 @@ use Rattle.mufom_meaning.specs.Stands.{StandsIn, put_back, IsStepAfter, IsLoaded
 use Rattle.mufom_meaning.proofs.Members.{In, In-append, In-left, In-right, In-map, at-In}
 use Rattle.mufom_meaning.proofs.CellRows.{HaveOwnAddresses}
 
-length-bytes_of : (size v : ℕ) → length (bytes_of size v) ≡ size
+pub length-bytes_of : (size v : ℕ) → length (bytes_of size v) ≡ size
 length-bytes_of zero v = refl
 length-bytes_of (suc size) v = ap suc (length-bytes_of size (v / 256))
 
-length-in_byte_order : (order : Order) (bytes : List ℕ) → length (in_byte_order order bytes) ≡ length bytes
+pub length-in_byte_order : (order : Order) (bytes : List ℕ) → length (in_byte_order order bytes) ≡ length bytes
 length-in_byte_order Least bytes = refl
 length-in_byte_order Most bytes = length-reverse bytes
 
