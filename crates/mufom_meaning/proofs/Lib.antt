@@ -53,3 +53,5 @@ pub mod AbsolutePlaces
 pub mod AbsoluteFacts
 pub mod AbsoluteCounts
 pub mod AbsoluteMarks
+pub mod CellHome
+pub mod AbsoluteRows

@@ -64,7 +64,7 @@ module _ (order : Order) (ms : List Parts) (s : Setting) (clear : (address : ℕ
   abbrev IsOf : Option ℕ → Item → Cell → Type 0
   IsOf counter item cell = (at : ℕ) × (q : ℕ) × (counter ≡ Some at) × (q < byte_count item) × (cell.0 ≡ at + q)
 
-  item_cell : (site : Sited) (section : ℕ) (o : Option ℕ) (item : Item) (cell : Cell) → In cell (step_cells order s.modulus (item_reading s site section o item)) → IsOf o item cell
+  pub item_cell : (site : Sited) (section : ℕ) (o : Option ℕ) (item : Item) (cell : Cell) → In cell (step_cells order s.modulus (item_reading s site section o item)) → IsOf o item cell
   item_cell site section None (Literal bytes) cell h = absurd h
   item_cell site section (Some at) (Literal bytes) cell h = let there = cell_there at bytes cell h in (at, there.0, refl, there.1, there.2)
   item_cell site section None (Field kind t size) cell h = absurd h
