@@ -55,3 +55,4 @@ pub mod AbsoluteCounts
 pub mod AbsoluteMarks
 pub mod CellHome
 pub mod AbsoluteRows
+pub mod AbsoluteLocated
