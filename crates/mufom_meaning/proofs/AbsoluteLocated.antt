@@ -100,7 +100,7 @@ module _ (m : Parts) (more : List Parts) (plan : Plan) (r : LocatedParts) (v : A
 
   -- ---- values
 
-  below : (site : Sited) (t : Tree) (n : ℕ) → value s site None t ≡ Some n → n < again.modulus
+  pub below : (site : Sited) (t : Tree) (n : ℕ) → value s site None t ≡ Some n → n < again.modulus
   below site t n e = let less = value_below ms (bases plan (flat_sections ms)) (width_positive m more v) site None t n e in
       subst (λ modulus. n < modulus) (sym (modulus_alone m more plan r v h)) less
 
@@ -135,7 +135,7 @@ module _ (m : Parts) (more : List Parts) (plan : Plan) (r : LocatedParts) (v : A
     by_start (Some n) e = ap (λ o. o ∷ []) (sym (number_value again home None n (start_below n e)))
 
   -- each mark of the location is located from one of the list
-  numbered_mark : (mark : DebugMark) → In mark (marks_of r.debug) → IsNumbered s again home refl refl below mark
+  pub numbered_mark : (mark : DebugMark) → In mark (marks_of r.debug) → IsNumbered s again home refl refl below mark
   numbered_mark mark k =
       let among = subst (In (Some mark)) h.debug (In-map (λ mark. Some mark) mark (marks_of r.debug) k) in
       let there = map-In located_mark (Some mark) (readings ms (bases plan (flat_sections ms))).debug among in

@@ -56,3 +56,5 @@ pub mod AbsoluteMarks
 pub mod CellHome
 pub mod AbsoluteRows
 pub mod AbsoluteLocated
+pub mod AbsoluteLoads
+pub mod AbsoluteDebug

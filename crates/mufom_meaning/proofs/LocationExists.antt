@@ -7,6 +7,7 @@ use Rattle.mufom_debug.specs.declared.item.BlockHead.{BlockHead}
 use Rattle.mufom_debug.specs.declared.item.DebugItem.{DebugItem}
 use Rattle.mufom_debug.specs.Marks.{DebugMark, block_begin, block_end, name_mark, note_mark, value_mark, marks_of, mark_expressions, offset_of}
 use Rattle.mufom_module.specs.declared.module.Parts.{Parts}
+use Rattle.mufom_module.specs.Contents.{HeadAndEnd, blocks_of}
 use Rattle.mufom_plan.specs.declared.plan.Plan.{Plan}
 use Rattle.mufom_place.specs.Bases.{bases}
 use Rattle.mufom_meaning.specs.declared.located.PublicValue.{PublicValue}
@@ -27,7 +28,7 @@ use Rattle.mufom_meaning.specs.Valued.{HaveValues}
 use Rattle.mufom_meaning.proofs.AllAnswers.{answers_are_facts}
 use Rattle.mufom_meaning.proofs.Members.{In, map-In, flat_map-In}
 use Rattle.mufom_meaning.proofs.CellRows.{rows_exist}
-use Rattle.mufom_meaning.proofs.ChangedMarks.{changed, changed_items, marks_of-append}
+use Rattle.mufom_meaning.proofs.ChangedMarks.{changed, changed_block, changed_items, marks_of-append, blocks_of-append}
 use Rattle.mufom_meaning.proofs.OwnAddresses.{own_addresses}
 use Rattle.mufom_meaning.proofs.ValueLaws.{placed, no_link_fact, no_fact_before, values_exist, public_valued, start_valued, debug_valued, head_located}
 
@@ -58,13 +59,13 @@ module _ (ms : List Parts) (s : Setting) (h : HaveValues ms s) where
       )
 
   -- a debug mark of a module with numbers in place of its expressions
-  abbrev number_there : Sited → Tree → Tree
+  abbrev pub number_there : Sited → Tree → Tree
   number_there site t = number (unwrap_or (value s site None t) 0)
 
-  abbrev head_there : Sited → BlockHead → BlockHead
+  abbrev pub head_there : Sited → BlockHead → BlockHead
   head_there site head = unwrap_or (located_head (head_reading s site head)) head
 
-  abbrev mark_there : Sited → DebugMark → DebugMark
+  abbrev pub mark_there : Sited → DebugMark → DebugMark
   mark_there site = changed (head_there site) (option_map (number_there site)) (λ n. site.first_name + n) (number_there site)
 
   value_there : (site : Sited) (t : Tree) → HasValue (value s site None t) → option_map (λ n. number n) (value s site None t) ≡ Some (number_there site t)
@@ -94,18 +95,35 @@ module _ (ms : List Parts) (s : Setting) (h : HaveValues ms s) where
       let here = mark_is site mark (debug_valued ms s h site m mark (among mark (inl refl))) in
       let later = marks_are site m marks (λ other k. among other (inr k)) in λ i. here i ∷ later i
 
-  debug_located : (sites : List Sited) → ((site : Sited) → In site sites → In site (sited ms))
-      → (items : List DebugItem) × (map (λ mark. Some mark) (marks_of items) ≡ map located_mark (flat_map (λ site. map (mark_reading s site) (marks_of site.parts.debug)) sites))
-  debug_located [] among = ([], refl)
+  abbrev pub block_there : Sited → HeadAndEnd → HeadAndEnd
+  block_there site = changed_block (head_there site) (option_map (number_there site)) (λ n. site.first_name + n) (number_there site)
+
+  -- debug items of all modules, with numbers in place of their expressions
+  pub record HasDebugThere (sites : List Sited) : Type 0 where
+    pub items : List DebugItem
+    pub marks : marks_of items ≡ flat_map (λ site. map (mark_there site) (marks_of site.parts.debug)) sites
+    pub blocks : blocks_of items ≡ flat_map (λ site. map (block_there site) (blocks_of site.parts.debug)) sites
+
+  pub debug_there : (sites : List Sited) → HasDebugThere sites
+  debug_there [] = record { items = []; marks = refl; blocks = refl }
+  debug_there (site ∷ sites) =
+      let later = debug_there sites in
+      let here = changed_items (head_there site) (option_map (number_there site)) (λ n. site.first_name + n) (number_there site) site.parts.debug in
+      record {
+        items = here.0 ++ later.items;
+        marks = marks_of-append here.0 later.items ∙ (λ i. here.1 i ++ later.marks i);
+        blocks = blocks_of-append here.0 later.items ∙ (λ i. here.2 i ++ later.blocks i);
+      }
+
+  pub debug_located : (sites : List Sited) → ((site : Sited) → In site sites → In site (sited ms))
+      → map (λ mark. Some mark) (flat_map (λ site. map (mark_there site) (marks_of site.parts.debug)) sites) ≡ map located_mark (flat_map (λ site. map (mark_reading s site) (marks_of site.parts.debug)) sites)
+  debug_located [] among = refl
   debug_located (site ∷ sites) among =
       let later = debug_located sites (λ other k. among other (inr k)) in
-      let here = changed_items (head_there site) (option_map (number_there site)) (λ n. site.first_name + n) (number_there site) site.parts.debug in
-      let own = ap (map (λ mark. Some mark)) here.1 ∙ marks_are site (among site (inl refl)) (marks_of site.parts.debug) (λ mark k. k) in (
-        here.0 ++ later.0,
-        ap (map (λ mark. Some mark)) (marks_of-append here.0 later.0) ∙ map-append (λ mark. Some mark) (marks_of here.0) (marks_of later.0)
-        ∙ (λ i. own i ++ later.1 i)
-        ∙ sym (map-append located_mark (map (mark_reading s site) (marks_of site.parts.debug)) (flat_map (λ site. map (mark_reading s site) (marks_of site.parts.debug)) sites)),
-      )
+      let own = marks_are site (among site (inl refl)) (marks_of site.parts.debug) (λ mark k. k) in
+      map-append (λ mark. Some mark) (map (mark_there site) (marks_of site.parts.debug)) (flat_map (λ site. map (mark_there site) (marks_of site.parts.debug)) sites)
+      ∙ (λ i. own i ++ later i)
+      ∙ sym (map-append located_mark (map (mark_reading s site) (marks_of site.parts.debug)) (flat_map (λ site. map (mark_reading s site) (marks_of site.parts.debug)) sites))
 
 -- the starts' values are as many as the starts
 starts_count : (s : Setting) (a b d : ℕ) (ms : List Parts) → length (flat_map (λ site. map (value s site None) (option_to_list site.parts.start)) (sited_from a b d ms)) ≡ length (flat_starts ms)
@@ -153,7 +171,7 @@ module _ (m : Parts) (more : List Parts) (plan : Plan) (v : AreValid (m ∷ more
   located : (r : LocatedParts) × IsLocation ms plan r
   located =
       let publics = publics_located ms s valued (flat_publics ms) (public_valued ms s valued) in
-      let debug = debug_located ms s valued (sited ms) (λ site k. k) in
+      let debug = debug_there ms s valued (sited ms) in
       let rows = rows_exist (address_map m.order s.modulus (readings_after s [] (steps ms))) (own_addresses m.order ms s once) in (
         record {
           processor = m.processor;
@@ -164,7 +182,7 @@ module _ (m : Parts) (more : List Parts) (plan : Plan) (v : AreValid (m ∷ more
           publics = publics.0;
           runs = rows.0;
           start = first_number starts.0;
-          debug = debug.0;
+          debug = debug.items;
         },
         record {
           links = l;
@@ -173,7 +191,7 @@ module _ (m : Parts) (more : List Parts) (plan : Plan) (v : AreValid (m ∷ more
           sections = refl;
           publics = publics.1;
           start = ap all_some one_start ∙ starts.1;
-          debug = debug.1;
+          debug = ap (map (λ mark. Some mark)) debug.marks ∙ debug_located ms s valued (sited ms) (λ site k. k);
           rows = rows.1;
         },
       )

@@ -50,7 +50,7 @@ valid_module [] v m h = absurd h
 valid_module (x ∷ ms) v m (inl e) = subst IsValid e v.0
 valid_module (x ∷ ms) v m (inr h) = valid_module ms v.1 m h
 
-sections_end : (a b d : ℕ) (ms : List Parts) (site : Sited) → In site (sited_from a b d ms) → site.first_section + length site.parts.sections ≤ a + length (flat_sections ms)
+pub sections_end : (a b d : ℕ) (ms : List Parts) (site : Sited) → In site (sited_from a b d ms) → site.first_section + length site.parts.sections ≤ a + length (flat_sections ms)
 sections_end a b d [] site h = absurd h
 sections_end a b d (m ∷ ms) site (inl e) =
     let first : a ≡ site.first_section = ap (λ (x : Sited). x.first_section) e in

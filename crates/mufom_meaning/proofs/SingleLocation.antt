@@ -27,7 +27,7 @@ head_same x y xs ys e = cc
 tail_same : {A : Type 0} (x y : A) (xs ys : List A) → ◌≡◌ {A = List A} (x ∷ xs) (y ∷ ys) → xs ≡ ys
 tail_same x y xs ys e = cc
 
-map_same : {A B : Type 0} (f : A → B) → ((x y : A) → f x ≡ f y → x ≡ y) → (xs ys : List A) → map f xs ≡ map f ys → xs ≡ ys
+pub map_same : {A B : Type 0} (f : A → B) → ((x y : A) → f x ≡ f y → x ≡ y) → (xs ys : List A) → map f xs ≡ map f ys → xs ≡ ys
 map_same f same [] [] e = refl
 map_same f same [] (y ∷ ys) e = absurd cc
 map_same f same (x ∷ xs) [] e = absurd cc

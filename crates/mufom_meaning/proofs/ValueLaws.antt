@@ -32,7 +32,7 @@ use Rattle.mufom_meaning.proofs.Lacks.{HasAllNamed, meets_none}
 use Rattle.mufom_meaning.proofs.Named.{has_all_named}
 use Rattle.mufom_meaning.proofs.Valued.{none_meets, have_values}
 
-length-numbered : {A : Type 0} (k : ℕ) (xs : List A) → length (enumerate_from k xs) ≡ length xs
+pub length-numbered : {A : Type 0} (k : ℕ) (xs : List A) → length (enumerate_from k xs) ≡ length xs
 length-numbered k [] = refl
 length-numbered k (x ∷ xs) = ap suc (length-numbered (k + 1) xs)
 
