@@ -58,3 +58,4 @@ pub mod AbsoluteRows
 pub mod AbsoluteLocated
 pub mod AbsoluteLoads
 pub mod AbsoluteDebug
+pub mod AbsoluteValid

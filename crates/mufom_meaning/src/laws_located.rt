@@ -1,7 +1,7 @@
 //! Laws of values and of locations, each the contract of a function that does nothing.
 
 ghost use Rattle.mufom_meaning.specs.Valued.{NoneByDivision, ValuesExist};
-ghost use Rattle.mufom_meaning.specs.LocationLaws.{AllValued, LocationsExist, LocationIsSingle, AbsoluteIsLocatedAsItself};
+ghost use Rattle.mufom_meaning.specs.LocationLaws.{AllValued, LocationsExist, LocationIsSingle, AbsoluteIsLocatedAsItself, AbsoluteIsValid};
 
 /// Where no link fact stands, and none that needs no walk, an expression of modules without a
 /// defect has no value exactly where it, or a public or a counter that it goes through, divides by 0.
@@ -33,4 +33,9 @@ pub fn location_is_single()
 /// itself.
 pub fn absolute_is_located_as_itself()
     ensures { AbsoluteIsLocatedAsItself }
+{}
+
+/// The module that a location is written as has no defect, where it is not too heavy.
+pub fn absolute_is_valid()
+    ensures { AbsoluteIsValid }
 {}
