@@ -23,6 +23,7 @@ use Rattle.mufom_meaning.specs.Location.{placed_section, placed_sections, locate
 use Rattle.mufom_meaning.specs.Staging.{AreValid}
 use Rattle.mufom_meaning.specs.Valued.{HaveValues}
 use Rattle.mufom_meaning.specs.Absolute.{absolute_of, no_regions}
+use Rattle.mufom_meaning.proofs.Choices.{some_same, two_false, of_lt, is_lt, of_not_lt, not_lt, of_not_le, not_le}
 use Rattle.mufom_meaning.proofs.Members.{In, flat_map-In, map-In, none-In, fails-In, or_false}
 use Rattle.mufom_meaning.proofs.NoDefects.{no_defect}
 use Rattle.mufom_meaning.proofs.Named.{site_module, valid_module, sections_end}
@@ -31,30 +32,6 @@ use Rattle.mufom_meaning.proofs.SingleLocation.{map_same}
 use Rattle.mufom_meaning.proofs.ChangedMarks.{changed}
 use Rattle.mufom_meaning.proofs.LocationExists.{head_there, number_there, mark_there, block_there, debug_there, debug_located}
 use Rattle.mufom_meaning.proofs.AbsoluteLocated.{numbered_mark}
-
-some_same : {A : Type 0} (x y : A) → ◌≡◌ {A = Option A} (Some x) (Some y) → x ≡ y
-some_same x y e = cc
-
-two_false : (a b : Bool) → a ≡ false → b ≡ false → (a || b) ≡ false
-two_false a b e f = ap (λ c. c || b) e ∙ f
-
-not_le : (a b : ℕ) → b < a → nat_le a b ≡ false
-not_le a b h = search rules
-
-of_not_le : (a b : ℕ) → nat_le a b ≡ false → b < a
-of_not_le a b h = search rules
-
-of_not_lt : (a b : ℕ) → nat_lt a b ≡ false → b ≤ a
-of_not_lt a b h = search rules
-
-not_lt : (a b : ℕ) → b ≤ a → nat_lt a b ≡ false
-not_lt a b h = search rules
-
-of_lt : (a b : ℕ) → nat_lt a b ≡ true → a < b
-of_lt a b h = search rules
-
-is_lt : (a b : ℕ) → a < b → nat_lt a b ≡ true
-is_lt a b h = search rules
 
 -- a test that fails at each number fails at a mark with numbers as expressions
 numbers_fail : (p : Tree → Bool) → ((n : ℕ) → p (number n) ≡ false) → (mark : DebugMark) → ((t : Tree) → In t (mark_expressions mark) → (n : ℕ) × (t ≡ number n)) → any_expression p mark ≡ false

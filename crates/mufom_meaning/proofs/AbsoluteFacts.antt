@@ -17,13 +17,11 @@ use Rattle.mufom_meaning.specs.Walk.{base_number, size_at, counted_from, address
 use Rattle.mufom_meaning.specs.AddressMap.{Cell, cells_from, literal_cells, address_map}
 use Rattle.mufom_meaning.specs.Facts.{in_counter, in_field, load_outside, loaded_twice, overflow}
 use Rattle.mufom_meaning.specs.Stands.{StandsIn, put_back, IsStepAfter, HasZeroDivisor, StandsInWalk}
+use Rattle.mufom_meaning.proofs.Choices.{some_same}
 use Rattle.mufom_meaning.proofs.Members.{In, In-at, map-In, In-append, In-left, get_some}
 use Rattle.mufom_meaning.proofs.CellRows.{HaveOwnAddresses}
 use Rattle.mufom_meaning.proofs.AbsoluteCells.{at_cell, own_apart, own_behind}
 use Rattle.mufom_meaning.proofs.AbsoluteWalk.{IsPlainItem, IsPlainWalk}
-
-some_same : {A : Type 0} (x y : A) → ◌≡◌ {A = Option A} (Some x) (Some y) → x ≡ y
-some_same x y e = cc
 
 literal_same : (bytes other : List ℕ) → ◌≡◌ {A = Item} (Literal bytes) (Literal other) → bytes ≡ other
 literal_same bytes other e = cc

@@ -14,6 +14,7 @@ use Rattle.mufom_module.specs.Defects.{counts_of, names_outside, has_bad_place, 
 use Rattle.mufom_module.specs.declared.module.Parts.{Parts}
 use Rattle.mufom_meaning.specs.declared.located.Run.{Run}
 use Rattle.mufom_meaning.specs.Absolute.{literal_limit, pieces_within, pieces, run_within, row_loads, loads_of_bytes, loads_between, with_section, section_loads_at, section_loads}
+use Rattle.mufom_meaning.proofs.Choices.{two_false, not_lt, not_le}
 use Rattle.mufom_meaning.proofs.Members.{In, map-In, In-append, flat_map-In}
 
 -- a load of such a module, where it has so many sections
@@ -68,15 +69,6 @@ loads_plain runs sections load h =
     at_plain (length sections) there.0.0 (omega (arith, below)) runs there.0.1 there.0.1.base load there.2
 
 -- ---- what follows of a plain load
-
-not_le : (a b : ℕ) → b < a → nat_le a b ≡ false
-not_le a b h = search rules
-
-not_lt : (a b : ℕ) → b ≤ a → nat_lt a b ≡ false
-not_lt a b h = search rules
-
-two_false : (a b : Bool) → a ≡ false → b ≡ false → (a || b) ≡ false
-two_false a b e f = ap (λ c. c || b) e ∙ f
 
 pub plain_place : (m : Parts) (load : Load) → IsPlainLoad (length m.sections) load → has_bad_place (counts_of m) load ≡ false
 plain_place m (SetSection n) h = two_false (nat_le (length m.sections) n) false (not_le (length m.sections) n h) refl

@@ -16,12 +16,10 @@ use Rattle.mufom_meaning.specs.Values.{Setting, setting, environment, value}
 use Rattle.mufom_meaning.specs.Readings.{MarkReading, mark_reading, head_reading}
 use Rattle.mufom_meaning.specs.Location.{located_head, located_mark}
 use Rattle.mufom_meaning.specs.Staging.{AreValid}
+use Rattle.mufom_meaning.proofs.Choices.{some_same}
 use Rattle.mufom_meaning.proofs.Members.{In}
 use Rattle.mufom_meaning.proofs.NoDefects.{no_defect}
 use Rattle.mufom_meaning.proofs.Causes.{worth_below, within_is}
-
-some_same : {A : Type 0} (x y : A) → ◌≡◌ {A = Option A} (Some x) (Some y) → x ≡ y
-some_same x y e = cc
 
 -- an address of valid modules has at least one bit
 pub width_positive : (m : Parts) (more : List Parts) → AreValid (m ∷ more) → 1 ≤ width (m ∷ more)

@@ -13,15 +13,13 @@ use Rattle.mufom_place.specs.Facts.{IsAt, IsUnplaced, IsMisfit, EndsPast, Covers
 use Rattle.mufom_place.proofs.FactLemmas.{refusal_sound, refusal_complete}
 use Rattle.mufom_meaning.specs.Location.{placed_section, placed_sections}
 use Rattle.mufom_meaning.specs.Absolute.{no_regions}
+use Rattle.mufom_meaning.proofs.Choices.{some_same}
 use Rattle.mufom_meaning.proofs.Members.{get_some}
 use Rattle.mufom_meaning.proofs.Tests.{enumerate_get, get_enumerate}
 
-some_same : {A : Type 0} {x y : A} → ◌≡◌ {A = Option A} (Some x) (Some y) → x ≡ y
-some_same e = cc
-
 mapped : {A B : Type 0} (f : A → B) (o : Option A) (b : B) → option_map f o ≡ Some b → (a : A) × (o ≡ Some a) × (f a ≡ b)
 mapped f None b e = absurd cc
-mapped f (Some a) b e = (a, refl, some_same e)
+mapped f (Some a) b e = (a, refl, some_same (f a) b e)
 
 module _ (plan : Plan) (sections : List Section) where
   -- the base of a section

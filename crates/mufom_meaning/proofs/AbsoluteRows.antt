@@ -20,6 +20,7 @@ use Rattle.mufom_meaning.specs.Facts.{placement, image_limit, load_outside, load
 use Rattle.mufom_meaning.specs.Stands.{StandsInWalk}
 use Rattle.mufom_meaning.specs.Staging.{AreValid}
 use Rattle.mufom_meaning.specs.Absolute.{absolute_of, no_regions, section_loads}
+use Rattle.mufom_meaning.proofs.Choices.{some_same, mapped_none}
 use Rattle.mufom_meaning.proofs.Members.{In, In-at, at-In, Contains-In, In-Contains, In-flat_map, flat_map-In}
 use Rattle.mufom_meaning.proofs.Tests.{enumerate_get, get_enumerate}
 use Rattle.mufom_meaning.proofs.Answers.{or_else_none}
@@ -33,13 +34,6 @@ use Rattle.mufom_meaning.proofs.AbsolutePlaces.{IsPlacing, placing_there, there_
 use Rattle.mufom_meaning.proofs.AbsoluteWalk.{GoodWalk, IsSettled, sections_good}
 use Rattle.mufom_meaning.proofs.AbsoluteFacts.{IsClear}
 use Rattle.mufom_meaning.proofs.AbsoluteCounts.{absolute_length, cells_count, fewer}
-
-mapped-none : {A B : Type 0} (f : A → B) (o : Option A) → option_map f o ≡ None → o ≡ None
-mapped-none f None e = refl
-mapped-none f (Some x) e = absurd cc
-
-some_same : {A : Type 0} (x y : A) → ◌≡◌ {A = Option A} (Some x) (Some y) → x ≡ y
-some_same x y e = cc
 
 module _ (m : Parts) (more : List Parts) (plan : Plan) (r : LocatedParts) (v : AreValid (m ∷ more)) (h : IsLocation (m ∷ more) plan r) where
   abbrev ms : List Parts
@@ -77,7 +71,7 @@ module _ (m : Parts) (more : List Parts) (plan : Plan) (r : LocatedParts) (v : A
   modulus_alone = ap (λ w. 2 ^ w) width_alone
 
   pub placement_none : place_refusal (width ms) plan first_sections ≡ None
-  placement_none = mapped-none placement (place_refusal (width ms) plan first_sections) (or_else_none _ _ h.locates).0
+  placement_none = mapped_none placement (place_refusal (width ms) plan first_sections) (or_else_none _ _ h.locates).0
 
   -- a section of the location
   pub placing : (t : ℕ × Section) → In t numbered_sections → (slice_get r.sections t.0 ≡ Some t.1) × IsPlacing plan first_sections t.0 t.1

@@ -23,6 +23,7 @@ use Rattle.mufom_meaning.specs.Location.{Header, located_public, IsLocation}
 use Rattle.mufom_meaning.specs.LocationLaws.{AbsoluteIsValid}
 use Rattle.mufom_meaning.specs.Staging.{AreValid}
 use Rattle.mufom_meaning.specs.Absolute.{absolute_public, absolute_of}
+use Rattle.mufom_meaning.proofs.Choices.{some_same, two_false, not_le}
 use Rattle.mufom_meaning.proofs.Members.{In, at-In, In-at, In-map, map-In, flat_map-In, none-In, fails-In, or_false}
 use Rattle.mufom_meaning.proofs.NoDefects.{no_defect}
 use Rattle.mufom_meaning.proofs.Named.{site_module, valid_module}
@@ -30,18 +31,9 @@ use Rattle.mufom_meaning.proofs.AbsolutePlaces.{IsPlacing, placing_there}
 use Rattle.mufom_meaning.proofs.AbsoluteLoads.{loads_plain, plain_place, plain_counter, plain_short, plain_size, placed-In, all_somewhere}
 use Rattle.mufom_meaning.proofs.AbsoluteDebug.{short_names, known, marks_inside, no_counters, shallow, plain_ends, declared}
 
-some_same : {A : Type 0} (x y : A) → ◌≡◌ {A = Option A} (Some x) (Some y) → x ≡ y
-some_same x y e = cc
-
-two_false : (a b : Bool) → a ≡ false → b ≡ false → (a || b) ≡ false
-two_false a b e f = ap (λ c. c || b) e ∙ f
-
 finds_nothing : {A : Type 0} (p : A → Bool) (xs : List A) → ((x : A) → p x ≡ false) → find p xs ≡ None
 finds_nothing p [] h = refl
 finds_nothing p (x ∷ xs) h = ap (λ b. cond b (Some x) (find p xs)) (h x) ∙ finds_nothing p xs h
-
-not_le : (a b : ℕ) → b < a → nat_le a b ≡ false
-not_le a b h = search rules
 
 number_start : (p : Tree → Bool) → ((n : ℕ) → p (number n) ≡ false) → (o : Option ℕ) → any_of p (option_map (λ n. number n) o) ≡ false
 number_start p fails None = refl

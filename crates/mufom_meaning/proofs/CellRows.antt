@@ -2,6 +2,7 @@
 use Rattle.std.proofs.Common.{◌≡◌, ℕ, zero, suc, ◌+◌, ◌<◌, ◌≤◌, ◌⊎◌, ◌↔◌, inl, inr, List, [], ◌∷◌, ◌++◌, map, length, Option, Some, None, Bool, true, false, refl, sym, ◌∙◌, ap, subst, cond, arith, rules}
 use Rattle.std.specs.Prelude.{slice_get, ◌==◌, nat_lt, if◌then◌else◌, Contains, flat_map}
 use Rattle.mufom_meaning.specs.declared.located.Run.{Run}
+use Rattle.mufom_meaning.proofs.Choices.{equal_numbers, of_lt, of_not_lt}
 use Rattle.mufom_meaning.proofs.Members.{In, In-Contains, Contains-In}
 use Rattle.mufom_meaning.specs.AddressMap.{Cell, cells_from, run_cells, AreApart, AreRowsOf}
 
@@ -57,9 +58,6 @@ in_front a byte (run ∷ runs) =
 abbrev rows_of : List Cell → List Run
 rows_of [] = []
 rows_of (cell ∷ cells) = in_front cell.0 cell.1 (rows_of cells)
-
-equal_numbers : (m n : ℕ) → (m == n) ≡ true → m ≡ n
-equal_numbers m n e = search rules
 
 unequal_numbers : (m n : ℕ) → (m == n) ≡ false → m ≡ n → ⊥
 unequal_numbers m n e f = let same : (m == n) ≡ true = search rules in cc
@@ -170,12 +168,6 @@ abbrev in_place : List Cell → List Cell
 in_place [] = []
 in_place (cell ∷ cells) = placed_cell cell (in_place cells)
 
-less_number : (m n : ℕ) → nat_lt m n ≡ true → m < n
-less_number m n e = search rules
-
-not_less_number : (m n : ℕ) → nat_lt m n ≡ false → n ≤ m
-not_less_number m n e = search rules
-
 placed_cell-In : (cell other : Cell) (cells : List Cell) → In other (placed_cell cell cells) → In other (cell ∷ cells)
 placed_cell-In cell other [] m = m
 placed_cell-In cell other (c ∷ cells) m = by_case (nat_lt cell.0 c.0) m (placed_cell-In cell other cells) where
@@ -200,9 +192,9 @@ placed_cell-rises : (cell : Cell) (from : ℕ) (cells : List Cell) → from ≤ 
 placed_cell-rises cell from [] low h apart = (low, tt)
 placed_cell-rises cell from (c ∷ cells) low h apart = by_case (nat_lt cell.0 c.0) refl (λ less. placed_cell-rises cell (suc c.0) cells less h.1 (λ other m. apart other (inr m))) where
   by_case : (b : Bool) → nat_lt cell.0 c.0 ≡ b → (suc c.0 ≤ cell.0 → AreRising (suc c.0) (placed_cell cell cells)) → AreRising from (if b then cell ∷ c ∷ cells else c ∷ placed_cell cell cells)
-  by_case true e later = let less : suc cell.0 ≤ c.0 = less_number cell.0 c.0 e in (low, (less, h.1))
+  by_case true e later = let less : suc cell.0 ≤ c.0 = of_lt cell.0 c.0 e in (low, (less, h.1))
   by_case false e later =
-      let under : c.0 ≤ cell.0 = not_less_number cell.0 c.0 e in
+      let under : c.0 ≤ cell.0 = of_not_lt cell.0 c.0 e in
       let differ : cell.0 ≡ c.0 → ⊥ = apart c (inl refl) in
       (h.0, later (omega (arith, under, differ)))
 

@@ -15,6 +15,7 @@ use Rattle.mufom_meaning.specs.Steps.{Step, counter_step, item_step, steps, coun
 use Rattle.mufom_meaning.specs.Facts.{Place, in_public, in_counter, in_field, in_start, in_debug}
 use Rattle.mufom_meaning.specs.Stands.{StandsIn, IsStepAfter, put_back, HasZeroDivisor}
 use Rattle.mufom_meaning.specs.Valued.{CounterPlace, counter_there, IsExpressionAt, IsMentionedIn, last_set, MeetsZeroDivisor, itself, through_name, through_counter}
+use Rattle.mufom_meaning.proofs.Choices.{some_same, mapped_none}
 use Rattle.mufom_meaning.proofs.Members.{In, In-Contains}
 use Rattle.mufom_meaning.proofs.Ends.{EndsWithin, all_end, mentioned-among}
 use Rattle.mufom_meaning.proofs.Causes.{worth_below, IsWellNamed, IsNoneBy, none_cause, zero_divisor-le, zero_divisor-none, mentioned-none, counter-none}
@@ -44,13 +45,6 @@ pub record HasAllNamed (ms : List Parts) (s : Setting) : Type 0 where
   pub loads : (step : Step) → In step (steps ms) → IsWellStep s step
   pub starts : (e : SitedTree) → StandsIn e (start_trees ms) → IsPlain s e.0 e.1
   pub marks : (e : SitedTree) → StandsIn e (debug_trees ms) → IsPlain s e.0 e.1
-
-pub equal_numbers : (m n : ℕ) → (m == n) ≡ true → m ≡ n
-equal_numbers m n e = search rules
-
-pub mapped-none : {A B : Type 0} (f : A → B) (o : Option A) → option_map f o ≡ None → o ≡ None
-mapped-none f None e = refl
-mapped-none f (Some x) e = absurd cc
 
 put_back-In : (st : Step) (earlier more : List Step) → In st more → In st (put_back earlier more)
 put_back-In st [] more h = h
@@ -112,7 +106,7 @@ module _ (ms : List Parts) (s : Setting) (h : HasAllNamed ms s) where
   meets_at earlier section site t set (inr (inr d)) = itself (Some (earlier, section)) site t d
 
   counter_meets : (earlier more : List Step) → steps ms ≡ put_back earlier more → (section : ℕ) → HasBase s section → counter s earlier section ≡ None → IsSetByNone earlier section
-  counter_meets [] more at section based e = absurd (based (mapped-none (λ base. base % s.modulus) (slice_get s.bases section) e))
+  counter_meets [] more at section based e = absurd (based (mapped_none (λ base. base % s.modulus) (slice_get s.bases section) e))
   counter_meets (counter_step site other t ∷ earlier) more at section based e =
       by_case (other == section) refl e (counter_meets earlier (counter_step site other t ∷ more) at section based) where
     by_case : (b : Bool) → (other == section) ≡ b → (if b then value s site (counter s earlier section) t else counter s earlier section) ≡ None
@@ -126,7 +120,7 @@ module _ (ms : List Parts) (s : Setting) (h : HasAllNamed ms s) where
       by_case (other == section) e (counter_meets earlier (item_step site other item ∷ more) at section based) where
     by_case : (b : Bool) → (if b then option_map (λ pc. (pc + byte_count item) % s.modulus) (counter s earlier section) else counter s earlier section) ≡ None
         → (counter s earlier section ≡ None → IsSetByNone earlier section) → IsSetByNone earlier section
-    by_case true e later = later (mapped-none (λ pc. (pc + byte_count item) % s.modulus) (counter s earlier section) e)
+    by_case true e later = later (mapped_none (λ pc. (pc + byte_count item) % s.modulus) (counter s earlier section) e)
     by_case false e later = later e
 
   -- an expression that names no counter
@@ -147,9 +141,6 @@ module _ (ms : List Parts) (s : Setting) (h : HasAllNamed ms s) where
 abbrev LastSet : Type 0
 LastSet = List Step × Sited × Tree
 
-some_same : {A : Type 0} {x y : A} → ◌≡◌ {A = Option A} (Some x) (Some y) → x ≡ y
-some_same e = cc
-
 last_set-none : (s : Setting) (earlier before : List Step) (section : ℕ) (setter : Sited) (set : Tree) → last_set earlier section ≡ Some (before, setter, set)
     → value s setter (counter s before section) set ≡ None → counter s earlier section ≡ None
 last_set-none s [] before section setter set last e = absurd cc
@@ -157,7 +148,7 @@ last_set-none s (counter_step site other t ∷ earlier) before section setter se
   by_case : (b : Bool) → (if b then Some (earlier, site, t) else last_set earlier section) ≡ Some (before, setter, set) → (last_set earlier section ≡ Some (before, setter, set) → counter s earlier section ≡ None)
       → (if b then value s site (counter s earlier section) t else counter s earlier section) ≡ None
   by_case true l later =
-      let same : ◌≡◌ {A = LastSet} (earlier, site, t) (before, setter, set) = some_same l in (λ i. value s (same i).1 (counter s (same i).0 section) (same i).2) ∙ e
+      let same : ◌≡◌ {A = LastSet} (earlier, site, t) (before, setter, set) = some_same _ _ l in (λ i. value s (same i).1 (counter s (same i).0 section) (same i).2) ∙ e
   by_case false l later = later l
 last_set-none s (item_step site other item ∷ earlier) before section setter set last e = by_case (other == section) (last_set-none s earlier before section setter set last e) where
   by_case : (b : Bool) → counter s earlier section ≡ None → (if b then option_map (λ pc. (pc + byte_count item) % s.modulus) (counter s earlier section) else counter s earlier section) ≡ None

@@ -32,6 +32,7 @@ use Rattle.mufom_meaning.specs.Walk.{SitedTree, start_trees, debug_trees}
 use Rattle.mufom_meaning.specs.Facts.{LinkFact, duplicate, LocateFact, undefined, common_unplaced, cycle}
 use Rattle.mufom_meaning.specs.Stands.{StandsIn, LinkFactStands, StandsBeforeWalk}
 use Rattle.mufom_meaning.specs.Staging.{AreValid}
+use Rattle.mufom_meaning.proofs.Choices.{of_lt, of_not_lt}
 use Rattle.mufom_meaning.proofs.Members.{In, In-at, at-In, In-map, map-In, In-flat_map, flat_map-In, In-append, In-filter, none-In, list_any-same, get_some, fails-In, or_false}
 use Rattle.mufom_meaning.proofs.WithoutDefect.{IsInside, inside, finds-none, public_inside, public_free, start_inside, start_free, mark_inside, mark_free, load_inside}
 use Rattle.mufom_meaning.proofs.Ends.{found_public}
@@ -108,12 +109,6 @@ named_at (p ∷ qs) (suc i) q e = named_at qs i q e
 name_there : (ms : List Parts) (i : ℕ) (q : SitedPublic) → slice_get (flat_publics ms) i ≡ Some q → slice_get (public_names ms) i ≡ Some q.entry.name
 name_there ms i q e = ap (λ names. slice_get names i) (sym (flat_names 0 0 0 ms)) ∙ named_at (flat_publics ms) i q e
 
-less_number : (m n : ℕ) → nat_lt m n ≡ true → m < n
-less_number m n e = search rules
-
-not_less_number : (m n : ℕ) → nat_lt m n ≡ false → n ≤ m
-not_less_number m n e = search rules
-
 finds-passes : {A : Type 0} (p : A → Bool) (xs : List A) (x : A) → find p xs ≡ Some x → p x ≡ true
 finds-passes p [] x e = absurd cc
 finds-passes p (y ∷ ys) x e = by_case (p y) refl e (finds-passes p ys x) where
@@ -136,10 +131,10 @@ single_name ms once q a = by_first (first_named (flat_publics ms) q.entry.name) 
     there = name_there ms j p e ∙ ap Some named
 
     by_order : (b : Bool) → nat_lt j a.0 ≡ b → (c : Bool) → nat_lt a.0 j ≡ c → Some p ≡ Some q
-    by_order true f c g = absurd (twice j a.0 q (less_number j a.0 f) there here)
-    by_order false f true g = absurd (twice a.0 j q (less_number a.0 j g) here there)
+    by_order true f c g = absurd (twice j a.0 q (of_lt j a.0 f) there here)
+    by_order false f true g = absurd (twice a.0 j q (of_lt a.0 j g) here there)
     by_order false f false g =
-        let low = not_less_number j a.0 f in let high = not_less_number a.0 j g in
+        let low = of_not_lt j a.0 f in let high = of_not_lt a.0 j g in
         let same : j ≡ a.0 = omega (arith, low, high) in sym e ∙ ap (slice_get (flat_publics ms)) same ∙ a.1
 
   by_first : (o : Option SitedPublic) → first_named (flat_publics ms) q.entry.name ≡ o → o ≡ Some q

@@ -18,6 +18,7 @@ use Rattle.mufom_meaning.specs.AddressMap.{Cell, cells_from, literal_cells, fiel
 use Rattle.mufom_meaning.specs.Walk.{counted_from, addresses_at, step_addresses, loaded_addresses}
 use Rattle.mufom_meaning.specs.Facts.{loaded_twice}
 use Rattle.mufom_meaning.specs.Stands.{StandsIn, put_back, IsStepAfter, IsLoadedAt, StandsInWalk}
+use Rattle.mufom_meaning.proofs.Choices.{some_same}
 use Rattle.mufom_meaning.proofs.Members.{In, In-append, In-left, In-right, In-map, at-In}
 use Rattle.mufom_meaning.proofs.CellRows.{HaveOwnAddresses}
 

@@ -16,10 +16,8 @@ use Rattle.mufom_meaning.specs.Readings.{readings, PublicReading}
 use Rattle.mufom_meaning.specs.AddressMap.{AreRowsOf, address_map}
 use Rattle.mufom_meaning.specs.Location.{Header, IsLocation, located_public}
 use Rattle.mufom_meaning.specs.LocationLaws.{LocationIsSingle}
+use Rattle.mufom_meaning.proofs.Choices.{some_same}
 use Rattle.mufom_meaning.proofs.CellRows.{rows_are_single}
-
-some_same : {A : Type 0} (x y : A) → ◌≡◌ {A = Option A} (Some x) (Some y) → x ≡ y
-some_same x y e = cc
 
 head_same : {A : Type 0} (x y : A) (xs ys : List A) → ◌≡◌ {A = List A} (x ∷ xs) (y ∷ ys) → x ≡ y
 head_same x y xs ys e = cc

@@ -14,10 +14,11 @@ use Rattle.mufom_meaning.specs.Steps.{Step, counter_step, item_step, steps, coun
 use Rattle.mufom_meaning.specs.Facts.{Place, in_public, in_counter, in_field, in_start, in_debug}
 use Rattle.mufom_meaning.specs.Stands.{StandsIn, IsStepAfter, put_back, HasZeroDivisor}
 use Rattle.mufom_meaning.specs.Valued.{CounterPlace, counter_there, IsExpressionAt, IsMentionedIn, last_set, MeetsZeroDivisor, itself, through_name, through_counter, section_of, HaveValues}
+use Rattle.mufom_meaning.proofs.Choices.{mapped_none, equal_numbers}
 use Rattle.mufom_meaning.proofs.Members.{In}
 use Rattle.mufom_meaning.proofs.Ends.{mentioned-among}
 use Rattle.mufom_meaning.proofs.Causes.{IsWellNamed}
-use Rattle.mufom_meaning.proofs.Lacks.{IsPlain, HasBase, IsWellStep, HasAllNamed, step-In, equal_numbers, mapped-none, Why, why, plain_meets, step_meets, meets_none}
+use Rattle.mufom_meaning.proofs.Lacks.{IsPlain, HasBase, IsWellStep, HasAllNamed, step-In, Why, why, plain_meets, step_meets, meets_none}
 use Rattle.mufom_loads.specs.Lengths.{byte_count}
 use Rattle.mufom_meaning.specs.Walk.{SitedTree, start_trees, debug_trees}
 
@@ -59,7 +60,7 @@ module _ (ms : List Parts) (s : Setting) (h : HasAllNamed ms s) (flat : s.public
 
     -- each counter is there
     counter_there_is : (earlier more : List Step) → steps ms ≡ put_back earlier more → (section : ℕ) → HasBase s section → counter s earlier section ≢ None
-    counter_there_is [] more at section based e = based (mapped-none (λ base. base % s.modulus) (slice_get s.bases section) e)
+    counter_there_is [] more at section based e = based (mapped_none (λ base. base % s.modulus) (slice_get s.bases section) e)
     counter_there_is (counter_step site other t ∷ earlier) more at section based e =
         by_case (other == section) refl e (counter_there_is earlier (counter_step site other t ∷ more) at section based) where
       by_case : (b : Bool) → (other == section) ≡ b → (if b then value s site (counter s earlier section) t else counter s earlier section) ≡ None → counter s earlier section ≢ None → ⊥
@@ -76,7 +77,7 @@ module _ (ms : List Parts) (s : Setting) (h : HasAllNamed ms s) (flat : s.public
         by_case (other == section) e (counter_there_is earlier (item_step site other item ∷ more) at section based) where
       by_case : (b : Bool) → (if b then option_map (λ pc. (pc + byte_count item) % s.modulus) (counter s earlier section) else counter s earlier section) ≡ None
           → counter s earlier section ≢ None → ⊥
-      by_case true e later = later (mapped-none (λ pc. (pc + byte_count item) % s.modulus) (counter s earlier section) e)
+      by_case true e later = later (mapped_none (λ pc. (pc + byte_count item) % s.modulus) (counter s earlier section) e)
       by_case false e later = later e
 
     plain_clear : (site : Sited) (t : Tree) → IsExpressionAt ms None site t → has_zero_divisor s site None t ≡ true → ⊥
