@@ -23,8 +23,9 @@ use Rattle.mufom_meaning.specs.Location.{placed_section, placed_sections, locate
 use Rattle.mufom_meaning.specs.Staging.{AreValid}
 use Rattle.mufom_meaning.specs.Valued.{HaveValues}
 use Rattle.mufom_meaning.specs.Absolute.{absolute_of, no_regions}
+use Rattle.mufom_meaning.proofs.Tests.{either_false}
 use Rattle.mufom_meaning.proofs.Choices.{some_same, two_false, of_lt, is_lt, of_not_lt, not_lt, of_not_le, not_le}
-use Rattle.mufom_meaning.proofs.Members.{In, flat_map-In, map-In, none-In, fails-In, or_false}
+use Rattle.mufom_meaning.proofs.Members.{In, flat_map-In, map-In, none-In, fails-In}
 use Rattle.mufom_meaning.proofs.NoDefects.{no_defect}
 use Rattle.mufom_meaning.proofs.Named.{site_module, valid_module, sections_end}
 use Rattle.mufom_meaning.proofs.ValueLaws.{values_exist, length-numbered}
@@ -87,11 +88,11 @@ module _ (m : Parts) (more : List Parts) (plan : Plan) (r : LocatedParts) (v : A
   names_of_marks : (parts : Parts) → IsValid parts → list_any has_long_name (marks_of parts.debug) ≡ false
   names_of_marks parts valid =
       let all = no_defect parts valid d.LongId in
-      let a = (or_false (is_long parts.processor) _ all).1 in
-      let b = (or_false (is_long parts.name) (list_any (λ s. is_long s.name) parts.sections || (list_any (λ p. is_long p.name) parts.names.publics || (list_any (λ r. is_long r.name) parts.names.references || list_any has_long_name (marks_of parts.debug)))) a).1 in
-      let c = (or_false (list_any (λ s. is_long s.name) parts.sections) (list_any (λ p. is_long p.name) parts.names.publics || (list_any (λ r. is_long r.name) parts.names.references || list_any has_long_name (marks_of parts.debug))) b).1 in
-      let e = (or_false (list_any (λ p. is_long p.name) parts.names.publics) (list_any (λ r. is_long r.name) parts.names.references || list_any has_long_name (marks_of parts.debug)) c).1 in
-      (or_false (list_any (λ r. is_long r.name) parts.names.references) (list_any has_long_name (marks_of parts.debug)) e).1
+      let a = (either_false (is_long parts.processor) _ all).1 in
+      let b = (either_false (is_long parts.name) (list_any (λ s. is_long s.name) parts.sections || (list_any (λ p. is_long p.name) parts.names.publics || (list_any (λ r. is_long r.name) parts.names.references || list_any has_long_name (marks_of parts.debug)))) a).1 in
+      let c = (either_false (list_any (λ s. is_long s.name) parts.sections) (list_any (λ p. is_long p.name) parts.names.publics || (list_any (λ r. is_long r.name) parts.names.references || list_any has_long_name (marks_of parts.debug))) b).1 in
+      let e = (either_false (list_any (λ p. is_long p.name) parts.names.publics) (list_any (λ r. is_long r.name) parts.names.references || list_any has_long_name (marks_of parts.debug)) c).1 in
+      (either_false (list_any (λ r. is_long r.name) parts.names.references) (list_any has_long_name (marks_of parts.debug)) e).1
 
   pub short_names : list_any has_long_name (marks_of r.debug) ≡ false
   short_names = marks_fail has_long_name (λ site k mark l.
@@ -144,13 +145,13 @@ module _ (m : Parts) (more : List Parts) (plan : Plan) (r : LocatedParts) (v : A
   bad_marks_fail : (parts : Parts) → IsValid parts → list_any (has_bad_mark (counts_of parts)) (marks_of parts.debug) ≡ false
   bad_marks_fail parts valid =
       let all = no_defect parts valid d.Position in
-      let a = (or_false (list_any (λ p. names_outside (counts_of parts) p.value) parts.names.publics) _ all).1 in
-      let b = (or_false (list_any (has_bad_place (counts_of parts)) parts.loads) (list_any (has_bad_mark (counts_of parts)) (marks_of parts.debug) || (any_of (names_outside (counts_of parts)) parts.start || is_none (declared_behind 0 (marks_of parts.debug)))) a).1 in
-      (or_false (list_any (has_bad_mark (counts_of parts)) (marks_of parts.debug)) (any_of (names_outside (counts_of parts)) parts.start || is_none (declared_behind 0 (marks_of parts.debug))) b).0
+      let a = (either_false (list_any (λ p. names_outside (counts_of parts) p.value) parts.names.publics) _ all).1 in
+      let b = (either_false (list_any (has_bad_place (counts_of parts)) parts.loads) (list_any (has_bad_mark (counts_of parts)) (marks_of parts.debug) || (any_of (names_outside (counts_of parts)) parts.start || is_none (declared_behind 0 (marks_of parts.debug)))) a).1 in
+      (either_false (list_any (has_bad_mark (counts_of parts)) (marks_of parts.debug)) (any_of (names_outside (counts_of parts)) parts.start || is_none (declared_behind 0 (marks_of parts.debug))) b).0
 
   sections_inside : list_any (begins_badly (counts_of (absolute_of r))) (marks_of r.debug) ≡ false
   sections_inside = marks_fail (begins_badly (counts_of (absolute_of r))) (λ site k mark l.
-      begins_inside site k mark (or_false (begins_badly (counts_of site.parts) mark) _ (fails-In (has_bad_mark (counts_of site.parts)) (marks_of site.parts.debug) (bad_marks_fail site.parts (valid_site site k)) mark l)).0)
+      begins_inside site k mark (either_false (begins_badly (counts_of site.parts) mark) _ (fails-In (has_bad_mark (counts_of site.parts)) (marks_of site.parts.debug) (bad_marks_fail site.parts (valid_site site k)) mark l)).0)
 
   pub marks_inside : list_any (has_bad_mark (counts_of (absolute_of r))) (marks_of r.debug) ≡ false
   marks_inside = none-In (has_bad_mark (counts_of (absolute_of r))) (marks_of r.debug) (λ mark k.
@@ -224,10 +225,10 @@ module _ (m : Parts) (more : List Parts) (plan : Plan) (r : LocatedParts) (v : A
   declared_parts : (parts : Parts) → IsValid parts → is_none (declared_behind 0 (marks_of parts.debug)) ≡ false
   declared_parts parts valid =
       let all = no_defect parts valid d.Position in
-      let a = (or_false (list_any (λ p. names_outside (counts_of parts) p.value) parts.names.publics) _ all).1 in
-      let b = (or_false (list_any (has_bad_place (counts_of parts)) parts.loads) (list_any (has_bad_mark (counts_of parts)) (marks_of parts.debug) || (any_of (names_outside (counts_of parts)) parts.start || is_none (declared_behind 0 (marks_of parts.debug)))) a).1 in
-      let c = (or_false (list_any (has_bad_mark (counts_of parts)) (marks_of parts.debug)) (any_of (names_outside (counts_of parts)) parts.start || is_none (declared_behind 0 (marks_of parts.debug))) b).1 in
-      (or_false (any_of (names_outside (counts_of parts)) parts.start) (is_none (declared_behind 0 (marks_of parts.debug))) c).1
+      let a = (either_false (list_any (λ p. names_outside (counts_of parts) p.value) parts.names.publics) _ all).1 in
+      let b = (either_false (list_any (has_bad_place (counts_of parts)) parts.loads) (list_any (has_bad_mark (counts_of parts)) (marks_of parts.debug) || (any_of (names_outside (counts_of parts)) parts.start || is_none (declared_behind 0 (marks_of parts.debug)))) a).1 in
+      let c = (either_false (list_any (has_bad_mark (counts_of parts)) (marks_of parts.debug)) (any_of (names_outside (counts_of parts)) parts.start || is_none (declared_behind 0 (marks_of parts.debug))) b).1 in
+      (either_false (any_of (names_outside (counts_of parts)) parts.start) (is_none (declared_behind 0 (marks_of parts.debug))) c).1
 
   -- behind the marks of a module as many more names are declared as it declares
   declared_on : (site : Sited) (marks rest : List DebugMark) (n : ℕ) → is_none (declared_behind n marks) ≡ false

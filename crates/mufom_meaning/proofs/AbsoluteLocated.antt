@@ -30,9 +30,10 @@ use Rattle.mufom_meaning.specs.LocateAnswer.{locate_answer}
 use Rattle.mufom_meaning.specs.Stands.{StandsIn, StandsBeforeWalk, StandsInWalk, LocateFactStands, HasZeroDivisor}
 use Rattle.mufom_meaning.specs.Staging.{AreValid}
 use Rattle.mufom_meaning.specs.Absolute.{absolute_public, absolute_of, no_regions}
+use Rattle.mufom_meaning.proofs.Answers.{find_at}
 use Rattle.mufom_meaning.proofs.Members.{In, In-at, at-In, map-In, In-map, flat_map-In, In-append}
 use Rattle.mufom_meaning.proofs.Names.{names_of, names_of-publics_of}
-use Rattle.mufom_meaning.proofs.Ends.{found_public}
+
 use Rattle.mufom_meaning.proofs.Linkable.{no_link_answer_is_linkable}
 use Rattle.mufom_meaning.proofs.AllAnswers.{answers_are_facts}
 use Rattle.mufom_meaning.proofs.AbsolutePlaces.{placed_again, placing_there, base_there}
@@ -210,7 +211,7 @@ module _ (m : Parts) (more : List Parts) (plan : Plan) (r : LocatedParts) (v : A
   no_circle : (k : ℕ) (name : List ℕ) (o : Option SitedPublic) → first_named (flat_publics alone) name ≡ o → ¬ IsTrue (leads_from (setting alone []) k name o)
   no_circle k name None e f = cc
   no_circle k name (Some q) e f =
-      let there = found_public _ (flat_publics alone) q e in
+      let there = (find_at _ (flat_publics alone) q e).0 in
       let none : false ≡ true = sym (leads_nowhere k name q.site q.entry.value (number_public q (In-at q (flat_publics alone) there.0 there.1))) ∙ f in cc
 
   not_before : (fact : LocateFact) → ¬ StandsBeforeWalk alone no_regions again fact

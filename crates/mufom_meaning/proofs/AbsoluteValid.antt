@@ -23,8 +23,9 @@ use Rattle.mufom_meaning.specs.Location.{Header, located_public, IsLocation}
 use Rattle.mufom_meaning.specs.LocationLaws.{AbsoluteIsValid}
 use Rattle.mufom_meaning.specs.Staging.{AreValid}
 use Rattle.mufom_meaning.specs.Absolute.{absolute_public, absolute_of}
+use Rattle.mufom_meaning.proofs.Tests.{either_false}
 use Rattle.mufom_meaning.proofs.Choices.{some_same, two_false, not_le}
-use Rattle.mufom_meaning.proofs.Members.{In, at-In, In-at, In-map, map-In, flat_map-In, none-In, fails-In, or_false}
+use Rattle.mufom_meaning.proofs.Members.{In, at-In, In-at, In-map, map-In, flat_map-In, none-In, fails-In}
 use Rattle.mufom_meaning.proofs.NoDefects.{no_defect}
 use Rattle.mufom_meaning.proofs.Named.{site_module, valid_module}
 use Rattle.mufom_meaning.proofs.AbsolutePlaces.{IsPlacing, placing_there}
@@ -72,21 +73,21 @@ module _ (m : Parts) (more : List Parts) (plan : Plan) (r : LocatedParts) (v : A
       || list_any has_long_name (debug_marks parts)))
 
   short_processor : is_long r.processor ≡ false
-  short_processor = ap (λ (x : Header). is_long x.0) (sym header) ∙ (or_false (is_long m.processor) (is_long m.name || strings_behind_name m) (no_defect m v.0 d.LongId)).0
+  short_processor = ap (λ (x : Header). is_long x.0) (sym header) ∙ (either_false (is_long m.processor) (is_long m.name || strings_behind_name m) (no_defect m v.0 d.LongId)).0
 
   behind_processor : (parts : Parts) → IsValid parts → (is_long parts.name || strings_behind_name parts) ≡ false
-  behind_processor parts valid = (or_false (is_long parts.processor) (is_long parts.name || strings_behind_name parts) (no_defect parts valid d.LongId)).1
+  behind_processor parts valid = (either_false (is_long parts.processor) (is_long parts.name || strings_behind_name parts) (no_defect parts valid d.LongId)).1
 
   short_name : is_long r.name ≡ false
-  short_name = ap (λ (x : Header). is_long x.1) (sym header) ∙ (or_false (is_long m.name) (strings_behind_name m) (behind_processor m v.0)).0
+  short_name = ap (λ (x : Header). is_long x.1) (sym header) ∙ (either_false (is_long m.name) (strings_behind_name m) (behind_processor m v.0)).0
 
   behind_name : (parts : Parts) → IsValid parts → strings_behind_name parts ≡ false
-  behind_name parts valid = (or_false (is_long parts.name) (strings_behind_name parts) (behind_processor parts valid)).1
+  behind_name parts valid = (either_false (is_long parts.name) (strings_behind_name parts) (behind_processor parts valid)).1
 
   short_sections : list_any (λ s. is_long s.name) r.sections ≡ false
   short_sections = none-In (λ s. is_long s.name) r.sections (λ section k.
       let there = of_section section k in
-      let own = (or_false (list_any (λ s. is_long s.name) there.0.sections) _ (behind_name there.0 (valid_parts there.0 there.1))).0 in
+      let own = (either_false (list_any (λ s. is_long s.name) there.0.sections) _ (behind_name there.0 (valid_parts there.0 there.1))).0 in
       ap (λ (x : Section). is_long x.name) there.2.1.0.same ∙ fails-In (λ s. is_long s.name) there.0.sections own there.2.1.0.first there.2.1.1)
 
   short_public : (p : PublicValue) → In p r.publics → is_long p.name ≡ false
@@ -96,8 +97,8 @@ module _ (m : Parts) (more : List Parts) (plan : Plan) (r : LocatedParts) (v : A
       let own = map-In (λ entry. record { site = site.0; entry = entry }) there.0 site.0.parts.names.publics site.2 in
       let parts = site.0.parts in
       let valid = valid_parts parts (site_module 0 0 0 ms site.0 site.1) in
-      let rest = (or_false (list_any (λ s. is_long s.name) parts.sections) (list_any (λ p. is_long p.name) parts.names.publics || (list_any (λ r. is_long r.name) parts.names.references || list_any has_long_name (debug_marks parts))) (behind_name parts valid)).1 in
-      let publics = (or_false (list_any (λ p. is_long p.name) parts.names.publics) _ rest).0 in
+      let rest = (either_false (list_any (λ s. is_long s.name) parts.sections) (list_any (λ p. is_long p.name) parts.names.publics || (list_any (λ r. is_long r.name) parts.names.references || list_any has_long_name (debug_marks parts))) (behind_name parts valid)).1 in
+      let publics = (either_false (list_any (λ p. is_long p.name) parts.names.publics) _ rest).0 in
       ap (λ (x : PublicReading). is_long x.name) (sym there.2) ∙ ap (λ (q : SitedPublic). is_long q.entry.name) (sym own.2) ∙ fails-In (λ p. is_long p.name) parts.names.publics publics own.0 own.1
 
   short_publics : list_any (λ p. is_long p.name) (map absolute_public r.publics) ≡ false

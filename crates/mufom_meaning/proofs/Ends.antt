@@ -13,7 +13,9 @@ use Rattle.mufom_names.specs.declared.name.Reference.{Reference}
 use Rattle.mufom_meaning.specs.Flat.{Sited, SitedPublic, first_named}
 use Rattle.mufom_meaning.specs.Values.{Setting}
 use Rattle.mufom_meaning.specs.Valued.{IsMentionedIn}
-use Rattle.mufom_meaning.proofs.Members.{In, Contains-In, passes-In, or_false}
+use Rattle.mufom_meaning.proofs.Answers.{find_at}
+use Rattle.mufom_meaning.proofs.Tests.{either_false}
+use Rattle.mufom_meaning.proofs.Members.{In, Contains-In, passes-In}
 use Rattle.mufom_meaning.specs.Stands.{StandsIn}
 use Rattle.mufom_meaning.specs.Cycles.{mentioned, mentioned_reference, is_or_leads, leads_within, leads_from}
 
@@ -50,13 +52,6 @@ leads-within s (suc k) site t q h =
     passes-In (λ v. is_or_leads (λ x y. leads_within s (suc k) q.entry.name x y) q.entry.name (mentioned s site v.0 v.1)) (variables_of t) m.0
     (Contains-In m.0 (variables_of t) m.1) (ap (is_or_leads (λ x y. leads_within s (suc k) q.entry.name x y) q.entry.name) m.2 ∙ or_true (bytes_eq h.0.entry.name q.entry.name) _ later)
 
-pub found_public : (test : SitedPublic → Bool) (xs : List SitedPublic) (q : SitedPublic) → find test xs ≡ Some q → StandsIn q xs
-found_public test [] q e = absurd cc
-found_public test (x ∷ xs) q e = by_case (test x) e (found_public test xs q) where
-  by_case : (b : Bool) → cond b (Some x) (find test xs) ≡ Some q → (find test xs ≡ Some q → StandsIn q xs) → StandsIn q (x ∷ xs)
-  by_case true e later = (0, e)
-  by_case false e later = let found = later e in (suc found.0, found.1)
-
 -- what is mentioned is a public of the list
 mentioned_public : (s : Setting) (site : Sited) (l : Letter) (n : ℕ) (q : SitedPublic) → mentioned s site l n ≡ Some q → StandsIn q s.publics
 mentioned_public s site letters.R n q e = absurd cc
@@ -67,14 +62,14 @@ mentioned_public s site letters.I n q e = (site.first_public + n, e)
 mentioned_public s site letters.X n q e = by_reference (slice_get site.parts.names.references n) e where
   by_reference : (r : Option Reference) → mentioned_reference s r ≡ Some q → StandsIn q s.publics
   by_reference None e = absurd cc
-  by_reference (Some r) e = found_public (λ p. bytes_eq p.entry.name r.name) s.publics q e
+  by_reference (Some r) e = (find_at (λ p. bytes_eq p.entry.name r.name) s.publics q e).0
 
 pub mentioned-among : (s : Setting) (site : Sited) (t : Tree) (q : SitedPublic) → IsMentionedIn s site t q → StandsIn q s.publics
 mentioned-among s site t q m = mentioned_public s site m.0.0 m.0.1 q m.2
 
 apart_from : (i : ℕ) (xs : List ℕ) → list_any (eqb i) xs ≡ false → AllByRecursion (λ y. eqb i y ≡ false) xs
 apart_from i [] e = tt
-apart_from i (x ∷ xs) e = let two = or_false (eqb i x) (list_any (eqb i) xs) e in (two.0, apart_from i xs two.1)
+apart_from i (x ∷ xs) e = let two = either_false (eqb i x) (list_any (eqb i) xs) e in (two.0, apart_from i xs two.1)
 
 below_length : {A : Type 0} (xs : List A) (i : ℕ) (x : A) → slice_get xs i ≡ Some x → i < length xs
 below_length [] i x e = absurd cc

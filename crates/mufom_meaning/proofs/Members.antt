@@ -2,6 +2,7 @@
 use Rattle.std.proofs.Common.{◌≡◌, ℕ, zero, suc, ◌+◌, ◌<◌, ◌⊎◌, inl, inr, List, [], ◌∷◌, ◌++◌, map, length, Option, Some, None, Bool, true, false, ◌||◌, refl, sym, ◌∙◌, ap, cond, arith, rules}
 use Rattle.std.specs.Prelude.{slice_get, slice_index_or, find, filter, flat_map, Contains}
 use Rattle.std.specs.List.{list_any}
+use Rattle.mufom_meaning.proofs.Tests.{either_false}
 
 -- the element stands in the list
 abbrev pub In : {A : Type 0} → A → List A → Type 0
@@ -72,15 +73,11 @@ flat_map-In {A} {B} f y (x ∷ xs) h = by_case (In-append y (f x) (flat_map f xs
   by_case (inl k) later = (x, inl refl, k)
   by_case (inr k) later = let there = later k in (there.0, inr there.1, there.2)
 
-pub or_false : (a b : Bool) → (a || b) ≡ false → (a ≡ false) × (b ≡ false)
-or_false true b e = absurd cc
-or_false false b e = (refl, e)
-
 -- a test that passes nothing of a list fails at each element
 pub fails-In : {A : Type 0} (p : A → Bool) (xs : List A) → list_any p xs ≡ false → (x : A) → In x xs → p x ≡ false
 fails-In p [] e x h = absurd h
-fails-In p (y ∷ ys) e x (inl same) = ap p (sym same) ∙ (or_false (p y) (list_any p ys) e).0
-fails-In p (y ∷ ys) e x (inr h) = fails-In p ys (or_false (p y) (list_any p ys) e).1 x h
+fails-In p (y ∷ ys) e x (inl same) = ap p (sym same) ∙ (either_false (p y) (list_any p ys) e).0
+fails-In p (y ∷ ys) e x (inr h) = fails-In p ys (either_false (p y) (list_any p ys) e).1 x h
 
 -- a test that passes an element passes the list
 pub passes-In : {A : Type 0} (p : A → Bool) (xs : List A) (x : A) → In x xs → p x ≡ true → list_any p xs ≡ true
@@ -104,10 +101,6 @@ In-filter {A} p x passes (y ∷ ys) h = by_case (p y) refl h (In-filter p x pass
 pub none-In : {A : Type 0} (p : A → Bool) (xs : List A) → ((x : A) → In x xs → p x ≡ false) → list_any p xs ≡ false
 none-In p [] h = refl
 none-In p (y ∷ ys) h = ap (λ b. b || list_any p ys) (h y (inl refl)) ∙ none-In p ys (λ x k. h x (inr k))
-
-pub list_any-same : {A : Type 0} (p q : A → Bool) → ((x : A) → p x ≡ q x) → (xs : List A) → list_any p xs ≡ list_any q xs
-list_any-same p q same [] = refl
-list_any-same p q same (x ∷ xs) = let a = same x in let b = list_any-same p q same xs in λ i. a i || b i
 
 pub get_some : {A : Type 0} (xs : List A) (i : ℕ) → i < length xs → slice_get xs i ≡ None → ⊥
 get_some [] i less e = omega (arith, less)

@@ -32,10 +32,14 @@ use Rattle.mufom_meaning.specs.Walk.{SitedTree, start_trees, debug_trees}
 use Rattle.mufom_meaning.specs.Facts.{LinkFact, duplicate, LocateFact, undefined, common_unplaced, cycle}
 use Rattle.mufom_meaning.specs.Stands.{StandsIn, LinkFactStands, StandsBeforeWalk}
 use Rattle.mufom_meaning.specs.Staging.{AreValid}
+use Rattle.mufom_meaning.proofs.Answers.{find_at, both}
+use Rattle.mufom_meaning.proofs.Names.{names_of-publics_of}
+use Rattle.mufom_meaning.proofs.Cycles.{list_any-agrees}
+use Rattle.mufom_meaning.proofs.Tests.{either_false}
 use Rattle.mufom_meaning.proofs.Choices.{of_lt, of_not_lt}
-use Rattle.mufom_meaning.proofs.Members.{In, In-at, at-In, In-map, map-In, In-flat_map, flat_map-In, In-append, In-filter, none-In, list_any-same, get_some, fails-In, or_false}
+use Rattle.mufom_meaning.proofs.Members.{In, In-at, at-In, In-map, map-In, In-flat_map, flat_map-In, In-append, In-filter, none-In, get_some, fails-In}
 use Rattle.mufom_meaning.proofs.WithoutDefect.{IsInside, inside, finds-none, public_inside, public_free, start_inside, start_free, mark_inside, mark_free, load_inside}
-use Rattle.mufom_meaning.proofs.Ends.{found_public}
+
 use Rattle.mufom_meaning.proofs.Causes.{IsWellNamed}
 use Rattle.mufom_meaning.proofs.Lacks.{IsPlain, HasBase, IsWellStep, HasAllNamed}
 
@@ -90,31 +94,13 @@ publics_end a b d (m ∷ ms) site (inr h) =
 
 -- ---- names
 
-own_names : (site : Sited) (ps : List Public) → map (λ q. q.entry.name) (publics_at site ps) ≡ map (λ entry. entry.name) ps
-own_names site [] = refl
-own_names site (p ∷ ps) = ap (λ names. p.name ∷ names) (own_names site ps)
-
-flat_names : (a b d : ℕ) (ms : List Parts) → map (λ q. q.entry.name) (publics_of (sited_from a b d ms)) ≡ public_names ms
-flat_names a b d [] = refl
-flat_names a b d (m ∷ ms) =
-    let own = own_names (first_site a b d m) m.names.publics in
-    let later = flat_names (a + length m.sections) (b + length m.names.publics) (d + name_count (marks_of m.debug)) ms in
-    map-append (λ q. q.entry.name) (publics_at (first_site a b d m) m.names.publics) (publics_of (sites_behind a b d m ms)) ∙ (λ i. own i ++ later i)
-
 named_at : (qs : List SitedPublic) (i : ℕ) (q : SitedPublic) → slice_get qs i ≡ Some q → slice_get (map (λ q. q.entry.name) qs) i ≡ Some q.entry.name
 named_at [] i q e = absurd cc
 named_at (p ∷ qs) zero q e = let same : p ≡ q = cc in ap (λ (x : SitedPublic). Some x.entry.name) same
 named_at (p ∷ qs) (suc i) q e = named_at qs i q e
 
 name_there : (ms : List Parts) (i : ℕ) (q : SitedPublic) → slice_get (flat_publics ms) i ≡ Some q → slice_get (public_names ms) i ≡ Some q.entry.name
-name_there ms i q e = ap (λ names. slice_get names i) (sym (flat_names 0 0 0 ms)) ∙ named_at (flat_publics ms) i q e
-
-finds-passes : {A : Type 0} (p : A → Bool) (xs : List A) (x : A) → find p xs ≡ Some x → p x ≡ true
-finds-passes p [] x e = absurd cc
-finds-passes p (y ∷ ys) x e = by_case (p y) refl e (finds-passes p ys x) where
-  by_case : (b : Bool) → p y ≡ b → cond b (Some y) (find p ys) ≡ Some x → (find p ys ≡ Some x → p x ≡ true) → p x ≡ true
-  by_case true f e later = let same : y ≡ x = cc in ap p (sym same) ∙ f
-  by_case false f e later = later e
+name_there ms i q e = ap (λ names. slice_get names i) (sym (names_of-publics_of 0 0 0 ms)) ∙ named_at (flat_publics ms) i q e
 
 -- where no name stands twice, a public is the first of its name
 single_name : (ms : List Parts) → ((name : List ℕ) → ¬ LinkFactStands ms (duplicate name)) → (q : SitedPublic) → StandsIn q (flat_publics ms) → first_named (flat_publics ms) q.entry.name ≡ Some q
@@ -142,8 +128,8 @@ single_name ms once q a = by_first (first_named (flat_publics ms) q.entry.name) 
       let fails : bytes_eq q.entry.name q.entry.name ≡ false = finds-none (λ p. bytes_eq p.entry.name q.entry.name) (flat_publics ms) e q (In-at q (flat_publics ms) a.0 a.1) in
       absurd (let holds : bytes_eq q.entry.name q.entry.name ≡ true = (bytes_eq-Decides q.entry.name q.entry.name).1 refl in cc)
   by_first (Some p) e =
-      let found = found_public (λ p. bytes_eq p.entry.name q.entry.name) (flat_publics ms) p e in
-      at_one p ((bytes_eq-Decides p.entry.name q.entry.name).0 (finds-passes (λ p. bytes_eq p.entry.name q.entry.name) (flat_publics ms) p e)) found.0 found.1
+      let found = find_at (λ p. bytes_eq p.entry.name q.entry.name) (flat_publics ms) p e in
+      at_one p ((bytes_eq-Decides p.entry.name q.entry.name).0 found.1) found.0.0 found.0.1
 
 -- a name that no public has
 unnamed : (ms : List Parts) (name : List ℕ) → first_named (flat_publics ms) name ≡ None → has_name (public_names ms) name ≡ false
@@ -156,7 +142,7 @@ unnamed ms name e = none-In (bytes_eq name) (public_names ms) fails where
 
   fails : (other : List ℕ) → In other (public_names ms) → bytes_eq name other ≡ false
   fails other h =
-      let there = map-In (λ q. q.entry.name) other (flat_publics ms) (subst (In other) (sym (flat_names 0 0 0 ms)) h) in
+      let there = map-In (λ q. q.entry.name) other (flat_publics ms) (subst (In other) (sym (names_of-publics_of 0 0 0 ms)) h) in
       ap (bytes_eq name) (sym there.2)
       ∙ turned there.0 (finds-none (λ p. bytes_eq p.entry.name name) (flat_publics ms) e there.0 there.1) (bytes_eq name there.0.entry.name) refl
 
@@ -168,13 +154,9 @@ In-distinct {A} same decides x (y ∷ ys) (inr h) = by_case (same y x) refl (In-
   by_case true e k = inl (decides y x e)
   by_case false e k = inr (In-filter (λ z. not (same y z)) x (ap not e) (distinct same ys) k)
 
-both_true : (a b : Bool) → (a && b) ≡ true → (a ≡ true) × (b ≡ true)
-both_true true b e = (refl, e)
-both_true false b e = absurd cc
-
 same_common-decides : (c d : List ℕ × ℕ) → same_common c d ≡ true → c ≡ d
 same_common-decides c d e =
-    let two = both_true (bytes_eq c.0 d.0) (c.1 == d.1) e in
+    let two = both (bytes_eq c.0 d.0) (c.1 == d.1) e in
     let a : c.0 ≡ d.0 = (bytes_eq-Decides c.0 d.0).0 two.0 in let b : c.1 ≡ d.1 = equal c.1 d.1 two.1 in λ i. (a i, b i) where
       equal : (m n : ℕ) → (m == n) ≡ true → m ≡ n
       equal m n e = search rules
@@ -225,7 +207,7 @@ module _ (ms : List Parts) (bs : List ℕ) (name : List ℕ) where
   leads-bases : (k : ℕ) (site : Sited) (t : Tree) → leads_within (setting ms bs) k name site t ≡ leads_within (setting ms []) k name site t
   leads-bases zero site t = refl
   leads-bases (suc k) site t =
-      list_any-same _ _ (λ v. or_leads-bases (λ x y. leads_within (setting ms bs) k name x y) (λ x y. leads_within (setting ms []) k name x y) (leads-bases k) _ _ (mentioned-bases site v.0 v.1)) (variables_of t)
+      list_any-agrees _ _ (λ v. or_leads-bases (λ x y. leads_within (setting ms bs) k name x y) (λ x y. leads_within (setting ms []) k name x y) (leads-bases k) _ _ (mentioned-bases site v.0 v.1)) (variables_of t)
 
   leads_from-bases : (k : ℕ) (o : Option SitedPublic) → leads_from (setting ms bs) k name o ≡ leads_from (setting ms []) k name o
   leads_from-bases k None = refl
@@ -255,7 +237,7 @@ module _ (s : Setting) (site : Sited) (named : (t : Tree) → IsInside site.part
   items_well None now items e step h = absurd h
   items_well (Some section) now [] e step h = absurd h
   items_well (Some section) now (item ∷ items) e step h =
-      let two = or_false (item_any (names_outside (counts_of site.parts)) item) (list_any (item_any (names_outside (counts_of site.parts))) items) e in
+      let two = either_false (item_any (names_outside (counts_of site.parts)) item) (list_any (item_any (names_outside (counts_of site.parts))) items) e in
       by_case h (item_well section (now section refl) item two.0) (items_well (Some section) now items two.1 step) where
         by_case : In step (item_steps site (Some section) (item ∷ items)) → IsWellStep s (item_step site (site.first_section + section) item)
             → (In step (item_steps site (Some section) items) → IsWellStep s step) → IsWellStep s step
@@ -276,12 +258,12 @@ module _ (s : Setting) (site : Sited) (named : (t : Tree) → IsInside site.part
       → (step : Step) → In step (steps_of site current loads) → IsWellStep s step
   loads_well current now [] good step h = absurd h
   loads_well current now (SetSection section ∷ loads) good step h =
-      let less = below section (or_false (nat_le (length site.parts.sections) section) _ (good (SetSection section) (inl refl))).0 in
+      let less = below section (either_false (nat_le (length site.parts.sections) section) _ (good (SetSection section) (inl refl))).0 in
       loads_well (Some section) (λ other e. set section other less e) loads (λ load k. good load (inr k)) step h where
         set : (section other : ℕ) → section < length site.parts.sections → Some section ≡ Some other → other < length site.parts.sections
         set section other less e = let same : section ≡ other = cc in omega (arith, less, same)
   loads_well current now (SetPc section t ∷ loads) good step h =
-      let two = or_false (nat_le (length site.parts.sections) section) (names_outside (counts_of site.parts) t) (good (SetPc section t) (inl refl)) in
+      let two = either_false (nat_le (length site.parts.sections) section) (names_outside (counts_of site.parts) t) (good (SetPc section t) (inl refl)) in
       let less = below section two.0 in
       either_well step (counter_step site (site.first_section + section) t ∷ []) (steps_of site current loads) h
       (λ k. one_only k (based section less, named t (inside site.parts t two.1)))

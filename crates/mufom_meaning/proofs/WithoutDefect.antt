@@ -14,7 +14,9 @@ use Rattle.mufom_module.specs.declared.module.Defect.{Defect}
 use Rattle.mufom_module.specs.declared.module.Defect.TheVariants as d
 use Rattle.mufom_module.specs.Contents.{debug_marks, any_of, any_expression, placed_loads}
 use Rattle.mufom_module.specs.Defects.{has_defect, defects, IsValid, counts_of, count_for, is_outside, names_outside, has_bad_place, has_bad_mark, begins_badly, declared_behind, has_other_counter, is_other_counter, misplaces_counter, is_unit_count}
-use Rattle.mufom_meaning.proofs.Members.{In, fails-In, or_false}
+use Rattle.mufom_meaning.proofs.NoDefects.{no_defect}
+use Rattle.mufom_meaning.proofs.Tests.{either_false}
+use Rattle.mufom_meaning.proofs.Members.{In, fails-In}
 
 pub finds-none : {A : Type 0} (p : A → Bool) (xs : List A) → find p xs ≡ None → (x : A) → In x xs → p x ≡ false
 finds-none p [] e x h = absurd h
@@ -23,10 +25,6 @@ finds-none p (y ∷ ys) e x h = by_case (p y) refl e h (finds-none p ys) where
   by_case true f e h later = absurd cc
   by_case false f e (inl same) later = ap p (sym same) ∙ f
   by_case false f e (inr h) later = later e x h
-
--- none of the defects stands
-pub lacks_defect : (m : Parts) → IsValid m → (defect : Defect) → In defect defects → has_defect m defect ≡ false
-lacks_defect m valid = finds-none (has_defect m) defects valid
 
 -- each variable of the expression names an entry of the module's lists
 abbrev pub IsInside : Parts → Tree → Type 0
@@ -50,49 +48,49 @@ in_mark p (value_mark name value) e t (inr h) = absurd h
 
 module _ (m : Parts) (valid : IsValid m) where
   positions : has_defect m d.Position ≡ false
-  positions = lacks_defect m valid d.Position (inr (inr (inr (inr (inr (inl refl))))))
+  positions = no_defect m valid d.Position
 
   after_publics : (list_any (has_bad_place (counts_of m)) m.loads || (list_any (has_bad_mark (counts_of m)) (debug_marks m) || (any_of (names_outside (counts_of m)) m.start || is_none (declared_behind 0 (debug_marks m))))) ≡ false
-  after_publics = (or_false (list_any (λ p. names_outside (counts_of m) p.value) m.names.publics) _ positions).1
+  after_publics = (either_false (list_any (λ p. names_outside (counts_of m) p.value) m.names.publics) _ positions).1
 
   after_loads : (list_any (has_bad_mark (counts_of m)) (debug_marks m) || (any_of (names_outside (counts_of m)) m.start || is_none (declared_behind 0 (debug_marks m)))) ≡ false
-  after_loads = (or_false (list_any (has_bad_place (counts_of m)) m.loads) _ after_publics).1
+  after_loads = (either_false (list_any (has_bad_place (counts_of m)) m.loads) _ after_publics).1
 
   after_marks : (any_of (names_outside (counts_of m)) m.start || is_none (declared_behind 0 (debug_marks m))) ≡ false
-  after_marks = (or_false (list_any (has_bad_mark (counts_of m)) (debug_marks m)) _ after_loads).1
+  after_marks = (either_false (list_any (has_bad_mark (counts_of m)) (debug_marks m)) _ after_loads).1
 
   counters : has_defect m d.MisplacedP ≡ false
-  counters = lacks_defect m valid d.MisplacedP (inr (inr (inr (inr (inr (inr (inl refl)))))))
+  counters = no_defect m valid d.MisplacedP
 
   pub public_inside : (p : Public) → In p m.names.publics → IsInside m p.value
-  public_inside p h = inside m p.value (fails-In (λ p. names_outside (counts_of m) p.value) m.names.publics (or_false _ _ positions).0 p h)
+  public_inside p h = inside m p.value (fails-In (λ p. names_outside (counts_of m) p.value) m.names.publics (either_false _ _ positions).0 p h)
 
   pub load_inside : (load : Load) → In load m.loads → has_bad_place (counts_of m) load ≡ false
-  load_inside load h = fails-In (has_bad_place (counts_of m)) m.loads (or_false (list_any (has_bad_place (counts_of m)) m.loads) _ after_publics).0 load h
+  load_inside load h = fails-In (has_bad_place (counts_of m)) m.loads (either_false (list_any (has_bad_place (counts_of m)) m.loads) _ after_publics).0 load h
 
   pub mark_inside : (mark : DebugMark) → In mark (debug_marks m) → (t : Tree) → In t (mark_expressions mark) → IsInside m t
   mark_inside mark h t k =
-      let good = fails-In (has_bad_mark (counts_of m)) (debug_marks m) (or_false (list_any (has_bad_mark (counts_of m)) (debug_marks m)) _ after_loads).0 mark h in
-      inside m t (in_mark (names_outside (counts_of m)) mark (or_false (begins_badly (counts_of m) mark) _ good).1 t k)
+      let good = fails-In (has_bad_mark (counts_of m)) (debug_marks m) (either_false (list_any (has_bad_mark (counts_of m)) (debug_marks m)) _ after_loads).0 mark h in
+      inside m t (in_mark (names_outside (counts_of m)) mark (either_false (begins_badly (counts_of m) mark) _ good).1 t k)
 
   pub start_inside : (t : Tree) → In t (option_to_list m.start) → IsInside m t
-  start_inside t h = inside m t (any_option (names_outside (counts_of m)) m.start (or_false (any_of (names_outside (counts_of m)) m.start) _ after_marks).0 t h)
+  start_inside t h = inside m t (any_option (names_outside (counts_of m)) m.start (either_false (any_of (names_outside (counts_of m)) m.start) _ after_marks).0 t h)
 
   counters_behind_publics : (any_of (has_other_counter None) m.start || (list_any (any_expression (has_other_counter None)) (debug_marks m) || list_any misplaces_counter (placed_loads m))) ≡ false
-  counters_behind_publics = (or_false (list_any (λ p. has_other_counter None p.value) m.names.publics) _ counters).1
+  counters_behind_publics = (either_false (list_any (λ p. has_other_counter None p.value) m.names.publics) _ counters).1
 
   counters_behind_start : (list_any (any_expression (has_other_counter None)) (debug_marks m) || list_any misplaces_counter (placed_loads m)) ≡ false
-  counters_behind_start = (or_false (any_of (has_other_counter None) m.start) _ counters_behind_publics).1
+  counters_behind_start = (either_false (any_of (has_other_counter None) m.start) _ counters_behind_publics).1
 
   counter_free : (t : Tree) → has_other_counter None t ≡ false → (k : ℕ) → In (letters.P, k) (variables_of t) → ⊥
   counter_free t e k h = let other : true ≡ false = fails-In (is_other_counter None) (variables_of t) e (letters.P, k) h in cc
 
   pub public_free : (p : Public) → In p m.names.publics → (k : ℕ) → In (letters.P, k) (variables_of p.value) → ⊥
-  public_free p h = counter_free p.value (fails-In (λ p. has_other_counter None p.value) m.names.publics (or_false _ _ counters).0 p h)
+  public_free p h = counter_free p.value (fails-In (λ p. has_other_counter None p.value) m.names.publics (either_false _ _ counters).0 p h)
 
   pub start_free : (t : Tree) → In t (option_to_list m.start) → (k : ℕ) → In (letters.P, k) (variables_of t) → ⊥
-  start_free t h = counter_free t (any_option (has_other_counter None) m.start (or_false (any_of (has_other_counter None) m.start) _ counters_behind_publics).0 t h)
+  start_free t h = counter_free t (any_option (has_other_counter None) m.start (either_false (any_of (has_other_counter None) m.start) _ counters_behind_publics).0 t h)
 
   pub mark_free : (mark : DebugMark) → In mark (debug_marks m) → (t : Tree) → In t (mark_expressions mark) → (k : ℕ) → In (letters.P, k) (variables_of t) → ⊥
   mark_free mark h t k =
-      counter_free t (in_mark (has_other_counter None) mark (fails-In (any_expression (has_other_counter None)) (debug_marks m) (or_false (list_any (any_expression (has_other_counter None)) (debug_marks m)) _ counters_behind_start).0 mark h) t k)
+      counter_free t (in_mark (has_other_counter None) mark (fails-In (any_expression (has_other_counter None)) (debug_marks m) (either_false (list_any (any_expression (has_other_counter None)) (debug_marks m)) _ counters_behind_start).0 mark h) t k)
