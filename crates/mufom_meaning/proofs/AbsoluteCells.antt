@@ -1,17 +1,12 @@
 -- The cells that the module of a location loads: those of the runs, section by section.
-use Rattle.std.proofs.Common.{◌≡◌, ◌≢◌, ℕ, zero, suc, ◌+◌, ◌-◌, ◌<◌, ◌≤◌, ◌⊎◌, inl, inr, max, List, [], ◌∷◌, ◌++◌, map, length, take, drop, Option, Some, None, refl, sym, ◌∙◌, ap, subst, arith, length-append}
-use Rattle.std.specs.Prelude.{slice_get, flat_map, sum_by}
+use Rattle.std.proofs.Common.{◌≡◌, ◌≢◌, ℕ, zero, suc, ◌+◌, ◌-◌, ◌<◌, ◌≤◌, inl, inr, max, List, [], ◌∷◌, ◌++◌, take, drop, Option, Some, None, refl, sym, ◌∙◌, ap, subst, arith}
+use Rattle.std.specs.Prelude.{slice_get, flat_map}
 use Rattle.std.specs.List.{enumerate_from}
-use Rattle.std.proofs.lemmas.List.{take-append-drop}
 use Rattle.mufom_sections.specs.declared.section.Section.{Section}
-use Rattle.mufom_loads.specs.declared.load.Item.TheVariants.{Literal}
-use Rattle.mufom_loads.specs.declared.load.Load.{Load}
-use Rattle.mufom_loads.specs.declared.load.Load.TheVariants.{SetSection, SetPc, One}
-use Rattle.mufom_loads.specs.Lengths.{length_loaded, lengths_loaded}
 use Rattle.mufom_meaning.specs.declared.located.Run.{Run}
 use Rattle.mufom_meaning.specs.AddressMap.{Cell, cells_from, run_cells, AreApart}
 use Rattle.mufom_meaning.specs.Absolute.{run_within}
-use Rattle.mufom_meaning.proofs.Members.{In, In-append, In-left, In-right, In-flat_map, flat_map-In}
+use Rattle.mufom_meaning.proofs.Members.{In, In-right, In-flat_map, flat_map-In}
 use Rattle.mufom_meaning.proofs.CellRows.{AreRising, HaveOwnAddresses, rising-In, run_cells-rise}
 use Rattle.mufom_meaning.proofs.OwnAddresses.{row_own, own_append}
 
@@ -159,9 +154,9 @@ pub absolute_own : (runs : List Run) → HaveOwnAddresses (run_cells runs) → (
 absolute_own runs h [] apart = tt
 absolute_own runs h (s ∷ sections) apart =
     own_append (section_cells runs s) (absolute_cells runs sections) (section_own runs h s) (absolute_own runs h sections apart.1) (λ x y m n e.
-        let there = flat_map-In (section_cells runs) y sections n in
-        let other = section_cell runs there.0 y there.2 in
-        apart.0 there.0 there.1 x.0 (section_cell runs s x m).1 (subst (LiesIn there.0) (sym e) other.1))
+    let there = flat_map-In (section_cells runs) y sections n in
+    let other = section_cell runs there.0 y there.2 in
+    apart.0 there.0 there.1 x.0 (section_cell runs s x m).1 (subst (LiesIn there.0) (sym e) other.1))
 
 numbered_above : (k : ℕ) (sections : List Section) (t : ℕ × Section) → In t (enumerate_from k sections) → k ≤ t.0
 numbered_above k [] t h = absurd h

@@ -1,6 +1,6 @@
 -- The module of a location loads as many bytes as there are cells in it, and no more than the list loads.
-use Rattle.std.proofs.Common.{◌≡◌, ◌≢◌, ℕ, zero, suc, ◌+◌, ◌<◌, ◌≤◌, ◌⊎◌, inl, inr, List, [], ◌∷◌, ◌++◌, map, length, Option, Some, None, refl, sym, ◌∙◌, ap, subst, arith, length-append, zero-add}
-use Rattle.std.specs.Prelude.{flat_map, sum_by, ◌%◌}
+use Rattle.std.proofs.Common.{◌≡◌, ◌≢◌, ℕ, suc, ◌+◌, ◌≤◌, inl, inr, List, [], ◌∷◌, map, length, Option, Some, None, refl, sym, ◌∙◌, ap, arith, length-append, zero-add}
+use Rattle.std.specs.Prelude.{flat_map}
 use Rattle.std.proofs.lemmas.List.Sums.{sum_by-append, sum_by-cons}
 use Rattle.mufom_expr.specs.Tree.{number}
 use Rattle.mufom_sections.specs.declared.section.Section.{Section}
@@ -14,7 +14,7 @@ use Rattle.mufom_meaning.specs.declared.located.Run.{Run}
 use Rattle.mufom_meaning.specs.Flat.{Sited}
 use Rattle.mufom_meaning.specs.Values.{Setting, value}
 use Rattle.mufom_meaning.specs.Counts.{step_length, lengths_of_steps}
-use Rattle.mufom_meaning.specs.Fields.{bytes_of, in_byte_order, field_number, field_bytes}
+use Rattle.mufom_meaning.specs.Fields.{bytes_of, field_number, field_bytes}
 use Rattle.mufom_meaning.specs.Steps.{Step, counter_step, item_step, counter, item_reading, readings_after}
 use Rattle.mufom_meaning.specs.AddressMap.{Cell, cells_from, field_cells, step_cells, address_map}
 use Rattle.mufom_meaning.specs.Absolute.{literal_limit, pieces, run_within, row_loads, loads_of_bytes, loads_between, with_section, section_loads_at, section_loads}

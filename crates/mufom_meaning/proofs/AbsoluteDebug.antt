@@ -1,28 +1,27 @@
 -- The debug items of a location have no defect.
-use Rattle.std.proofs.Common.{◌≡◌, ℕ, zero, suc, ◌+◌, ◌-◌, ◌<◌, ◌≤◌, ◌⊎◌, inl, inr, max, List, [], ◌∷◌, ◌++◌, map, length, Option, Some, None, Bool, true, false, not, ◌||◌, ◌&&◌, refl, sym, ◌∙◌, ap, subst, arith, rules}
-use Rattle.std.specs.Prelude.{flat_map, nat_le, nat_lt, option_map, option_to_list, unwrap_or, is_some, is_none, option_and_then, if◌then◌else◌}
+use Rattle.std.proofs.Common.{◌≡◌, ℕ, ◌+◌, ◌-◌, ◌<◌, ◌≤◌, inl, inr, max, List, [], ◌∷◌, ◌++◌, map, length, Option, Some, None, Bool, true, false, ◌||◌, ◌&&◌, refl, sym, ◌∙◌, ap, arith}
+use Rattle.std.specs.Prelude.{flat_map, nat_lt, option_map, option_to_list, unwrap_or, is_some, is_none, option_and_then, if◌then◌else◌}
 use Rattle.std.specs.List.{list_any, enumerate_from}
 use Rattle.std.proofs.lemmas.List.{length-map}
 use Rattle.mufom_expr.specs.Tree.{Tree, number}
 use Rattle.mufom_debug.specs.declared.item.BlockHead.{BlockHead}
 use Rattle.mufom_debug.specs.declared.item.BlockHead.TheVariants as heads
-use Rattle.mufom_debug.specs.Marks.{DebugMark, block_begin, block_end, name_mark, note_mark, value_mark, marks_of, mark_expressions, offset_of, open_behind, depth_from, depth_of}
+use Rattle.mufom_debug.specs.Marks.{DebugMark, block_begin, block_end, name_mark, note_mark, value_mark, marks_of, mark_expressions, offset_of, depth_from, depth_of}
 use Rattle.mufom_debug.proofs.Balance.{items_balanced}
 use Rattle.mufom_debug.proofs.Rebuilt.{same_items}
 use Rattle.mufom_module.specs.declared.module.Parts.{Parts}
 use Rattle.mufom_module.specs.declared.module.Defect.TheVariants as d
 use Rattle.mufom_module.specs.Contents.{HeadAndEnd, blocks_of, any_of, any_expression}
-use Rattle.mufom_module.specs.Defects.{IsValid, has_defect, counts_of, names_outside, has_bad_place, has_bad_mark, begins_badly, names_bad_section, has_long_name, is_long, has_long_string, has_unknown_attribute, has_other_counter, declared_behind, declared_behind_mark, ends_plainly, has_bad_end}
+use Rattle.mufom_module.specs.Defects.{IsValid, counts_of, names_outside, has_bad_place, has_bad_mark, begins_badly, names_bad_section, has_long_name, is_long, has_unknown_attribute, has_other_counter, declared_behind, ends_plainly, has_bad_end}
 use Rattle.mufom_plan.specs.declared.plan.Plan.{Plan}
 use Rattle.mufom_place.specs.Bases.{bases}
 use Rattle.mufom_meaning.specs.declared.located.LocatedParts.{LocatedParts}
 use Rattle.mufom_meaning.specs.Flat.{Sited, sited_from, sited, flat_sections, name_count}
 use Rattle.mufom_meaning.specs.Values.{Setting, setting, value}
-use Rattle.mufom_meaning.specs.Readings.{readings, mark_reading, head_reading}
-use Rattle.mufom_meaning.specs.Location.{placed_section, placed_sections, located_head, IsLocation}
+use Rattle.mufom_meaning.specs.Location.{placed_section, placed_sections, IsLocation}
 use Rattle.mufom_meaning.specs.Staging.{AreValid}
 use Rattle.mufom_meaning.specs.Valued.{HaveValues}
-use Rattle.mufom_meaning.specs.Absolute.{absolute_of, no_regions}
+use Rattle.mufom_meaning.specs.Absolute.{absolute_of}
 use Rattle.mufom_meaning.proofs.Tests.{either_false}
 use Rattle.mufom_meaning.proofs.Choices.{some_same, two_false, of_lt, is_lt, of_not_lt, not_lt, of_not_le, not_le}
 use Rattle.mufom_meaning.proofs.Members.{In, flat_map-In, map-In, none-In, fails-In}
@@ -30,7 +29,6 @@ use Rattle.mufom_meaning.proofs.NoDefects.{no_defect}
 use Rattle.mufom_meaning.proofs.Named.{site_module, valid_module, sections_end}
 use Rattle.mufom_meaning.proofs.ValueLaws.{values_exist, length-numbered}
 use Rattle.mufom_meaning.proofs.SingleLocation.{map_same}
-use Rattle.mufom_meaning.proofs.ChangedMarks.{changed}
 use Rattle.mufom_meaning.proofs.LocationExists.{head_there, number_there, mark_there, block_there, debug_there, debug_located}
 use Rattle.mufom_meaning.proofs.AbsoluteLocated.{numbered_mark}
 

@@ -1,11 +1,10 @@
 -- The loads of the module of a location are plain: sections are set, counters are set to numbers, and literals are short.
-use Rattle.std.proofs.Common.{◌≡◌, ℕ, zero, suc, ◌+◌, ◌-◌, ◌<◌, ◌≤◌, ◌⊎◌, min, inl, inr, List, [], ◌∷◌, ◌++◌, map, length, take, drop, Option, Some, None, Bool, true, false, ◌||◌, refl, sym, ◌∙◌, ap, subst, arith, rules}
-use Rattle.std.specs.Prelude.{flat_map, nat_le, nat_lt, ◌==◌}
+use Rattle.std.proofs.Common.{◌≡◌, ℕ, zero, suc, ◌+◌, ◌<◌, ◌≤◌, inl, inr, List, [], ◌∷◌, ◌++◌, length, drop, Option, Some, None, false, refl, ap, subst, arith}
+use Rattle.std.specs.Prelude.{flat_map, nat_le}
 use Rattle.std.specs.List.{list_any, enumerate_from}
 use Rattle.std.proofs.lemmas.List.{length-take}
-use Rattle.mufom_expr.specs.Tree.{Tree, number}
+use Rattle.mufom_expr.specs.Tree.{number}
 use Rattle.mufom_sections.specs.declared.section.Section.{Section}
-use Rattle.mufom_loads.specs.declared.load.Item.{Item}
 use Rattle.mufom_loads.specs.declared.load.Item.TheVariants.{Literal, Field}
 use Rattle.mufom_loads.specs.declared.load.Load.{Load}
 use Rattle.mufom_loads.specs.declared.load.Load.TheVariants.{SetSection, SetPc, One, Repeat}
@@ -15,7 +14,7 @@ use Rattle.mufom_module.specs.declared.module.Parts.{Parts}
 use Rattle.mufom_meaning.specs.declared.located.Run.{Run}
 use Rattle.mufom_meaning.specs.Absolute.{literal_limit, pieces_within, pieces, run_within, row_loads, loads_of_bytes, loads_between, with_section, section_loads_at, section_loads}
 use Rattle.mufom_meaning.proofs.Choices.{two_false, not_lt, not_le}
-use Rattle.mufom_meaning.proofs.Members.{In, map-In, In-append, flat_map-In}
+use Rattle.mufom_meaning.proofs.Members.{In, map-In, flat_map-In}
 
 -- a load of such a module, where it has so many sections
 abbrev pub IsPlainLoad : ℕ → Load → Type 0

@@ -1,6 +1,6 @@
 -- The module of a location, located alone, is located as itself.
-use Rattle.std.proofs.Common.{◌≡◌, ◌≢◌, ℕ, zero, suc, ◌+◌, ◌*◌, ◌^◌, ◌<◌, ◌≤◌, ◌⊎◌, inl, inr, List, [], ◌∷◌, ◌++◌, map, length, Option, Some, None, Bool, true, false, refl, sym, ◌∙◌, ap, subst, arith, append-nil, zero-add}
-use Rattle.std.specs.Prelude.{slice_get, option_map, option_to_list, flat_map, IsTrue}
+use Rattle.std.proofs.Common.{◌≡◌, ℕ, zero, suc, ◌+◌, ◌<◌, ◌≤◌, inl, inr, List, [], ◌∷◌, ◌++◌, map, length, Option, Some, None, true, false, refl, sym, ◌∙◌, ap, subst, arith, append-nil, zero-add}
+use Rattle.std.specs.Prelude.{slice_get, option_map, option_to_list, IsTrue}
 use Rattle.std.specs.List.{enumerate_from}
 use Rattle.mufom_expr.specs.Tree.{Tree, number}
 use Rattle.mufom_sections.specs.declared.section.Section.{Section}
@@ -14,32 +14,28 @@ use Rattle.mufom_place.specs.Facts.{place_refusal}
 use Rattle.mufom_place.proofs.FactLemmas.{refusal_complete}
 use Rattle.mufom_meaning.specs.declared.located.PublicValue.{PublicValue}
 use Rattle.mufom_meaning.specs.declared.located.LocatedParts.{LocatedParts}
-use Rattle.mufom_meaning.specs.Flat.{Sited, SitedPublic, sited, flat_sections, flat_publics, flat_starts, public_names, first_named, width}
+use Rattle.mufom_meaning.specs.Flat.{Sited, SitedPublic, sited, flat_sections, flat_publics, public_names, first_named, width}
 use Rattle.mufom_meaning.specs.Values.{Setting, setting, value, has_zero_divisor}
 use Rattle.mufom_meaning.specs.Cycles.{leads_within, leads_from}
-use Rattle.mufom_meaning.specs.Steps.{steps, readings_after}
 use Rattle.mufom_meaning.specs.Walk.{SitedTree, start_trees, debug_trees}
-use Rattle.mufom_meaning.specs.AddressMap.{AreRowsOf, address_map}
-use Rattle.mufom_meaning.specs.Readings.{readings, PublicReading, public_reading, MarkReading, mark_reading}
+use Rattle.mufom_meaning.specs.Readings.{readings, PublicReading, public_reading, mark_reading}
 use Rattle.mufom_meaning.specs.Location.{placed_section, placed_sections, located_public, located_mark, IsLocation}
 use Rattle.mufom_meaning.specs.LocationLaws.{AbsoluteIsLocatedAsItself}
-use Rattle.mufom_meaning.specs.FactLaws.{IsLinkable}
-use Rattle.mufom_meaning.specs.Facts.{LinkFact, LocateFact, placement, undefined, common_unplaced, cycle, image_limit, zero_divisor, load_outside, loaded_twice, overflow, Place, in_public, in_counter, in_field, in_start, in_debug}
+use Rattle.mufom_meaning.specs.Facts.{LocateFact, placement, undefined, common_unplaced, cycle, image_limit, zero_divisor, load_outside, loaded_twice, overflow, Place, in_public, in_counter, in_field, in_start, in_debug}
 use Rattle.mufom_meaning.specs.LinkAnswer.{link_answer}
 use Rattle.mufom_meaning.specs.LocateAnswer.{locate_answer}
-use Rattle.mufom_meaning.specs.Stands.{StandsIn, StandsBeforeWalk, StandsInWalk, LocateFactStands, HasZeroDivisor}
+use Rattle.mufom_meaning.specs.Stands.{StandsBeforeWalk, StandsInWalk, LocateFactStands, HasZeroDivisor}
 use Rattle.mufom_meaning.specs.Staging.{AreValid}
 use Rattle.mufom_meaning.specs.Absolute.{absolute_public, absolute_of, no_regions}
 use Rattle.mufom_meaning.proofs.Answers.{find_at}
-use Rattle.mufom_meaning.proofs.Members.{In, In-at, at-In, map-In, In-map, flat_map-In, In-append}
+use Rattle.mufom_meaning.proofs.Members.{In, In-at, map-In, In-map, flat_map-In}
 use Rattle.mufom_meaning.proofs.Names.{names_of, names_of-publics_of}
-
 use Rattle.mufom_meaning.proofs.Linkable.{no_link_answer_is_linkable}
 use Rattle.mufom_meaning.proofs.AllAnswers.{answers_are_facts}
 use Rattle.mufom_meaning.proofs.AbsolutePlaces.{placed_again, placing_there, base_there}
 use Rattle.mufom_meaning.proofs.AbsoluteFacts.{no_counter_divisor, no_field_divisor, no_overflow, none_outside, none_twice}
 use Rattle.mufom_meaning.proofs.AbsoluteMarks.{width_positive, value_below, number_value, IsNumbered, mark_numbered}
-use Rattle.mufom_meaning.proofs.AbsoluteRows.{sections_alone, placed_alone, width_alone, modulus_alone, placement_none, placing, settled, clear, same_cells, fewer_bytes}
+use Rattle.mufom_meaning.proofs.AbsoluteRows.{sections_alone, placed_alone, width_alone, modulus_alone, placement_none, clear, same_cells, fewer_bytes}
 
 -- an empty list behind another
 In-nil : {A : Type 0} (x : A) (xs : List A) → In x (xs ++ []) → In x xs
@@ -66,7 +62,7 @@ placed_as_they_are bs k (x ∷ sections) same =
     let here : k ≡ k + 0 = omega arith in
     let own : record x { absolute = true; base = slice_get bs k } ≡ x = ap (λ n. record x { absolute = true; base = slice_get bs n }) here ∙ same 0 x refl in
     let later = placed_as_they_are bs (k + 1) sections (λ i y e.
-        let next : (k + 1) + i ≡ k + suc i = omega arith in ap (λ n. record y { absolute = true; base = slice_get bs n }) next ∙ same (suc i) y e) in
+    let next : (k + 1) + i ≡ k + suc i = omega arith in ap (λ n. record y { absolute = true; base = slice_get bs n }) next ∙ same (suc i) y e) in
     λ i. own i ∷ later i
 
 module _ (m : Parts) (more : List Parts) (plan : Plan) (r : LocatedParts) (v : AreValid (m ∷ more)) (h : IsLocation (m ∷ more) plan r) where
@@ -242,7 +238,7 @@ module _ (m : Parts) (more : List Parts) (plan : Plan) (r : LocatedParts) (v : A
       let absolute : x.absolute ≡ true = ap (λ (y : Section). y.absolute) p.same in
       let base : slice_get again.bases (0 + i) ≡ x.base
       = ap (slice_get again.bases) (zero-add i) ∙ base_there no_regions (flat_sections alone) i x e
-          ∙ ap (λ o. Some (site_with o (placing_of (placings no_regions (flat_sections alone)) i)).base) own ∙ sym own in
+      ∙ ap (λ o. Some (site_with o (placing_of (placings no_regions (flat_sections alone)) i)).base) own ∙ sym own in
       λ j. record x { absolute = sym absolute j; base = base j }
 
   sections_there : r.sections ≡ placed_sections (bases no_regions (flat_sections alone)) (flat_sections alone)

@@ -1,6 +1,6 @@
 -- A value of a location, as the one number of an expression, has that value again.
-use Rattle.std.proofs.Common.{◌≡◌, ℕ, zero, suc, ◌+◌, ◌*◌, ◌^◌, ◌<◌, ◌≤◌, ◌⊎◌, inl, inr, List, [], ◌∷◌, map, length, Option, Some, None, Bool, true, false, not, refl, sym, ◌∙◌, ap, subst, arith, zero-add}
-use Rattle.std.specs.Prelude.{option_map, option_to_list, ◌%◌, IfSome}
+use Rattle.std.proofs.Common.{◌≡◌, ℕ, zero, suc, ◌+◌, ◌*◌, ◌^◌, ◌<◌, ◌≤◌, inl, inr, List, [], ◌∷◌, length, Option, Some, None, true, false, not, refl, sym, ◌∙◌, ap, subst, arith, zero-add}
+use Rattle.std.specs.Prelude.{option_map, IfSome}
 use Rattle.std.proofs.Math.Nat.{mod-eq_of_lt}
 use Rattle.mufom_expr.specs.Tree.{Tree, number}
 use Rattle.mufom_expr.specs.Value.{value_at}
@@ -10,10 +10,10 @@ use Rattle.mufom_debug.specs.declared.item.BlockHead.TheVariants as heads
 use Rattle.mufom_debug.specs.Marks.{DebugMark, block_begin, block_end, name_mark, note_mark, value_mark, mark_expressions}
 use Rattle.mufom_module.specs.declared.module.Parts.{Parts}
 use Rattle.mufom_module.specs.declared.module.Defect.TheVariants as d
-use Rattle.mufom_module.specs.Defects.{IsValid, is_unit_count}
+use Rattle.mufom_module.specs.Defects.{is_unit_count}
 use Rattle.mufom_meaning.specs.Flat.{Sited, width}
 use Rattle.mufom_meaning.specs.Values.{Setting, setting, environment, value}
-use Rattle.mufom_meaning.specs.Readings.{MarkReading, mark_reading, head_reading}
+use Rattle.mufom_meaning.specs.Readings.{mark_reading, head_reading}
 use Rattle.mufom_meaning.specs.Location.{located_head, located_mark}
 use Rattle.mufom_meaning.specs.Staging.{AreValid}
 use Rattle.mufom_meaning.proofs.Choices.{some_same}

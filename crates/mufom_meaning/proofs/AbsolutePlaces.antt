@@ -1,7 +1,6 @@
 -- Sections that stand at their bases are placed there again, by a plan without regions.
-use Rattle.std.proofs.Common.{◌≡◌, ◌≢◌, ℕ, zero, suc, ◌+◌, ◌*◌, ◌^◌, ◌<◌, ◌≤◌, ◌⊎◌, inl, inr, List, [], ◌∷◌, map, length, Option, Some, None, true, refl, sym, ◌∙◌, ap, subst, arith}
-use Rattle.std.specs.Prelude.{slice_get, option_map, unwrap_or}
-use Rattle.std.specs.List.{enumerate_from}
+use Rattle.std.proofs.Common.{◌≡◌, ℕ, ◌+◌, ◌^◌, ◌<◌, ◌≤◌, ◌⊎◌, inl, inr, List, Option, Some, None, true, refl, sym, ◌∙◌, ap, subst, arith}
+use Rattle.std.specs.Prelude.{slice_get, option_map}
 use Rattle.std.proofs.lemmas.Option.{slice_get-map}
 use Rattle.mufom_sections.specs.declared.section.Section.{Section}
 use Rattle.mufom_plan.specs.declared.plan.Plan.{Plan}
@@ -9,12 +8,11 @@ use Rattle.mufom_place.specs.declared.site.Site.{Site}
 use Rattle.mufom_place.specs.declared.refusal.PlaceRefusal.{PlaceRefusal}
 use Rattle.mufom_place.specs.declared.refusal.PlaceRefusal.TheVariants.{Unplaced, Misfit, Overlap, NoMemory}
 use Rattle.mufom_place.specs.Bases.{numbered, bases, site_of, site_with, placing_of, placings}
-use Rattle.mufom_place.specs.Facts.{IsAt, IsUnplaced, IsMisfit, EndsPast, Covers, IsOverlap, Stands, place_refusal}
+use Rattle.mufom_place.specs.Facts.{IsUnplaced, IsMisfit, EndsPast, Covers, IsOverlap, Stands, place_refusal}
 use Rattle.mufom_place.proofs.FactLemmas.{refusal_sound, refusal_complete}
 use Rattle.mufom_meaning.specs.Location.{placed_section, placed_sections}
 use Rattle.mufom_meaning.specs.Absolute.{no_regions}
 use Rattle.mufom_meaning.proofs.Choices.{some_same}
-use Rattle.mufom_meaning.proofs.Members.{get_some}
 use Rattle.mufom_meaning.proofs.Tests.{enumerate_get, get_enumerate}
 
 mapped : {A B : Type 0} (f : A → B) (o : Option A) (b : B) → option_map f o ≡ Some b → (a : A) × (o ≡ Some a) × (f a ≡ b)

@@ -1,6 +1,6 @@
 -- The module of a location loads the cells of the location, and the walk over its loads meets no fact.
-use Rattle.std.proofs.Common.{◌≡◌, ◌≢◌, ℕ, zero, suc, ◌+◌, ◌*◌, ◌^◌, ◌<◌, ◌≤◌, ◌⊎◌, ◌↔◌, inl, inr, List, [], ◌∷◌, ◌++◌, map, length, Option, Some, None, true, refl, sym, ◌∙◌, ap, subst, arith, append-nil, zero-add}
-use Rattle.std.specs.Prelude.{slice_get, option_map, unwrap_or, flat_map, Contains}
+use Rattle.std.proofs.Common.{◌≡◌, ℕ, ◌+◌, ◌*◌, ◌^◌, ◌<◌, ◌≤◌, ◌↔◌, inr, List, [], ◌∷◌, length, Some, None, true, refl, sym, ◌∙◌, ap, subst, arith, append-nil, zero-add}
+use Rattle.std.specs.Prelude.{slice_get, option_map, unwrap_or, Contains}
 use Rattle.std.specs.List.{enumerate_from}
 use Rattle.mufom_sections.specs.declared.section.Section.{Section}
 use Rattle.mufom_module.specs.declared.module.Parts.{Parts}
@@ -8,18 +8,17 @@ use Rattle.mufom_plan.specs.declared.plan.Plan.{Plan}
 use Rattle.mufom_place.specs.Bases.{bases, site_of, site_with, placing_of, placings}
 use Rattle.mufom_place.specs.Facts.{Covers, place_refusal}
 use Rattle.mufom_meaning.specs.declared.located.LocatedParts.{LocatedParts}
-use Rattle.mufom_meaning.specs.Flat.{Sited, sited, flat_sections, width}
+use Rattle.mufom_meaning.specs.Flat.{Sited, flat_sections, width}
 use Rattle.mufom_meaning.specs.Values.{Setting, setting}
-use Rattle.mufom_meaning.specs.Counts.{loaded_total, lengths_of_steps}
+use Rattle.mufom_meaning.specs.Counts.{loaded_total}
 use Rattle.mufom_meaning.specs.Steps.{steps, steps_of, readings_after}
-use Rattle.mufom_meaning.specs.Walk.{base_number, size_at}
+use Rattle.mufom_meaning.specs.Walk.{base_number}
 use Rattle.mufom_meaning.specs.AddressMap.{Cell, run_cells, address_map}
-use Rattle.mufom_meaning.specs.Readings.{readings}
 use Rattle.mufom_meaning.specs.Location.{Header, placed_sections, IsLocation}
 use Rattle.mufom_meaning.specs.Facts.{placement, image_limit, load_outside, loaded_twice}
 use Rattle.mufom_meaning.specs.Stands.{StandsInWalk}
 use Rattle.mufom_meaning.specs.Staging.{AreValid}
-use Rattle.mufom_meaning.specs.Absolute.{absolute_of, no_regions, section_loads}
+use Rattle.mufom_meaning.specs.Absolute.{absolute_of, no_regions}
 use Rattle.mufom_meaning.proofs.Choices.{some_same, mapped_none}
 use Rattle.mufom_meaning.proofs.Members.{In, In-at, at-In, Contains-In, In-Contains, In-flat_map, flat_map-In}
 use Rattle.mufom_meaning.proofs.Tests.{enumerate_get, get_enumerate}

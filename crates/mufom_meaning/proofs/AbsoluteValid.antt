@@ -1,6 +1,6 @@
 -- The module of a location has no defect, where it is not too heavy.
-use Rattle.std.proofs.Common.{◌≡◌, ℕ, ◌^◌, ◌<◌, ◌≤◌, ◌⊎◌, inl, inr, List, [], ◌∷◌, map, length, Option, Some, None, Bool, true, false, not, ◌||◌, ◌&&◌, refl, sym, ◌∙◌, ap, subst, cond, arith, rules}
-use Rattle.std.specs.Prelude.{slice_get, nat_le, nat_lt, ◌==◌, option_map, is_none, is_some, flat_map}
+use Rattle.std.proofs.Common.{◌≡◌, ℕ, ◌^◌, ◌<◌, List, [], ◌∷◌, map, length, Option, Some, None, Bool, false, not, ◌||◌, ◌&&◌, refl, sym, ◌∙◌, ap, subst, cond}
+use Rattle.std.specs.Prelude.{slice_get, nat_lt, ◌==◌, option_map, is_none}
 use Rattle.std.specs.List.{list_any, find, enumerate_from}
 use Rattle.mufom_expr.specs.Tree.{Tree, number}
 use Rattle.mufom_sections.specs.declared.section.Section.{Section}
@@ -11,12 +11,12 @@ use Rattle.mufom_module.specs.declared.module.Defect.{Defect}
 use Rattle.mufom_module.specs.declared.module.Defect.TheVariants as d
 use Rattle.mufom_module.specs.Contents.{any_of, any_expression, any_item, placed_loads, debug_marks}
 use Rattle.mufom_module.specs.Written.{weight}
-use Rattle.mufom_module.specs.Defects.{IsValid, has_defect, defects, counts_of, names_outside, has_bad_place, has_bad_mark, declared_behind, has_other_counter, misplaces_counter, is_long, has_long_name, has_bad_alignment, lacks_base, is_unit_count, loads_nowhere, is_long_literal, has_bad_size}
+use Rattle.mufom_module.specs.Defects.{IsValid, has_defect, defects, counts_of, names_outside, has_bad_place, has_bad_mark, declared_behind, has_other_counter, misplaces_counter, is_long, has_long_name, has_bad_alignment, lacks_base, is_unit_count, is_long_literal, has_bad_size}
 use Rattle.mufom_plan.specs.declared.plan.Plan.{Plan}
-use Rattle.mufom_place.specs.Bases.{bases, site_of}
+use Rattle.mufom_place.specs.Bases.{bases}
 use Rattle.mufom_meaning.specs.declared.located.PublicValue.{PublicValue}
 use Rattle.mufom_meaning.specs.declared.located.LocatedParts.{LocatedParts}
-use Rattle.mufom_meaning.specs.Flat.{Sited, SitedPublic, sited, flat_sections, flat_publics}
+use Rattle.mufom_meaning.specs.Flat.{SitedPublic, sited, flat_sections, flat_publics}
 use Rattle.mufom_meaning.specs.Values.{Setting, setting}
 use Rattle.mufom_meaning.specs.Readings.{PublicReading, public_reading}
 use Rattle.mufom_meaning.specs.Location.{Header, located_public, IsLocation}

@@ -1,15 +1,14 @@
 -- The walk over the loads of the module of a location: each counter is set to a number, and each literal lies in its section.
-use Rattle.std.proofs.Common.{◌≡◌, ℕ, zero, suc, ◌+◌, ◌-◌, ◌<◌, ◌≤◌, max, min, inl, inr, List, [], ◌∷◌, ◌++◌, map, length, take, drop, Option, Some, None, Bool, true, false, refl, sym, ◌∙◌, ap, subst, arith, rules, append_assoc, length-append, length-drop}
+use Rattle.std.proofs.Common.{◌≡◌, ℕ, zero, suc, ◌+◌, ◌-◌, ◌<◌, ◌≤◌, max, inl, inr, List, [], ◌∷◌, ◌++◌, map, length, take, drop, Option, Some, Bool, true, refl, sym, ◌∙◌, ap, subst, arith, rules, append_assoc, length-append, length-drop}
 use Rattle.std.specs.Prelude.{flat_map, option_map, ◌%◌, ◌==◌, if◌then◌else◌}
 use Rattle.std.proofs.Math.Nat.{mod-eq_of_lt}
 use Rattle.std.proofs.lemmas.List.{take-append-drop, length-take}
-use Rattle.mufom_expr.specs.Tree.{Tree, number}
+use Rattle.mufom_expr.specs.Tree.{number}
 use Rattle.mufom_sections.specs.declared.section.Section.{Section}
 use Rattle.mufom_loads.specs.declared.load.Item.{Item}
 use Rattle.mufom_loads.specs.declared.load.Item.TheVariants.{Literal}
 use Rattle.mufom_loads.specs.declared.load.Load.{Load}
-use Rattle.mufom_loads.specs.declared.load.Load.TheVariants.{SetSection, SetPc, One}
-use Rattle.mufom_loads.specs.Lengths.{byte_count}
+use Rattle.mufom_loads.specs.declared.load.Load.TheVariants.{One}
 use Rattle.mufom_module.specs.declared.module.Order.{Order}
 use Rattle.mufom_meaning.specs.declared.located.Run.{Run}
 use Rattle.mufom_meaning.specs.Flat.{Sited}
@@ -107,11 +106,11 @@ module _ (order : Order) (s : Setting) (site : Sited) where
   literals_good section (p ∷ ps) at earlier ready some low high inside rest cells behind =
       let whole = length-append p (together ps) in
       let later = literals_good section ps (at + length p) (item_step site section (Literal p) ∷ earlier) (ready_on earlier section at p ps ready some.1 inside) some.1
-          (omega (arith, low)) (omega (arith, high, whole)) (omega (arith, inside, whole)) rest cells behind in
+      (omega (arith, low)) (omega (arith, high, whole)) (omega (arith, inside, whole)) rest cells behind in
       let own : literal_cells (counter s earlier section) p ≡ cells_from at p = ap (λ o. literal_cells o p) ready in (
         (record { at = at; bytes = p; is = refl; counted = ready; low = low; high = omega (arith, high, whole); inside = omega (arith, inside, whole) }, later.0),
         (λ i. own i ++ later.1 i) ∙ sym (append_assoc (cells_from at p) (cells_from (at + length p) (together ps)) cells)
-        ∙ ap (λ front. front ++ cells) (sym (cells_from-append at p (together ps))),
+            ∙ ap (λ front. front ++ cells) (sym (cells_from-append at p (together ps))),
       )
 
   literal_steps : (n : ℕ) (ps : List (List ℕ)) (loads : List Load)
@@ -134,7 +133,7 @@ module _ (order : Order) (s : Setting) (site : Sited) where
       let all : together ps ≡ row.bytes = pieces_together 65534 (length row.bytes) row.bytes (omega arith) in
       let long : length (together ps) ≡ length row.bytes = ap length all in
       let walk = literals_good section ps row.address (start ∷ earlier) (ready ps (counter_set earlier section row.address (omega (arith, some, f.inside)))) (pieces_nonempty 65534 (length row.bytes) row.bytes)
-          f.low (omega (arith, f.high, long)) (omega (arith, f.inside, long)) (steps_of site (Some n) loads) cells behind in
+      f.low (omega (arith, f.high, long)) (omega (arith, f.inside, long)) (steps_of site (Some n) loads) cells behind in
       let moved = subst (λ more. GoodWalk (start ∷ earlier) more (cells_from row.address (together ps) ++ cells)) (sym (literal_steps n ps loads)) walk in
       let named = subst (λ bytes. GoodWalk (start ∷ earlier) (steps_of site (Some n) (map (λ p. One (Literal p)) ps ++ loads)) (cells_from row.address bytes ++ cells)) all moved in
       (((row.address, refl), named.0), named.1) where

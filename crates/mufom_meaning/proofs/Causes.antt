@@ -1,14 +1,12 @@
 -- Why an expression has no value: it divides by 0, or names a counter or a public that has none.
-use Rattle.std.proofs.Common.{◌≡◌, ℕ, zero, suc, ◌+◌, ◌-◌, ◌<◌, ◌≤◌, ◌⊎◌, ◌↔◌, inl, inr, List, [], ◌∷◌, ◌++◌, length, Option, Some, None, Bool, true, false, ◌||◌, refl, sym, ◌∙◌, ap, subst, cond, arith, rules}
-use Rattle.std.specs.Prelude.{slice_get, option_map, if◌then◌else◌, IsTrue, Contains, ◌==◌}
+use Rattle.std.proofs.Common.{◌≡◌, ℕ, zero, suc, ◌+◌, ◌-◌, ◌≤◌, ◌⊎◌, inl, inr, length, Option, Some, None, Bool, true, false, ◌||◌, refl, sym, ◌∙◌, ap, arith}
+use Rattle.std.specs.Prelude.{slice_get, option_map, if◌then◌else◌, Contains}
 use Rattle.mufom_expr.specs.declared.token.Letter.{Letter}
 use Rattle.mufom_expr.specs.declared.token.Letter.TheVariants as letters
-use Rattle.mufom_expr.specs.Tree.{Tree, number, variable, one, two, TwoOperands}
+use Rattle.mufom_expr.specs.Tree.{Tree, number, variable, one, two}
 use Rattle.mufom_expr.specs.Value.{Environment, value_at, variables_of, divides_by_zero, is_division, is_zero, LacksAValue}
 use Rattle.mufom_expr.proofs.ValueLaws.{none-lost, lost-none}
-use Rattle.mufom_names.specs.declared.name.Weak.{Weak}
 use Rattle.mufom_names.specs.declared.name.Reference.{Reference}
-use Rattle.mufom_module.specs.declared.module.Parts.{Parts}
 use Rattle.mufom_meaning.specs.Flat.{Sited, SitedPublic, first_named}
 use Rattle.mufom_meaning.specs.Values.{Setting, Worth, worth_of, default_of, reference_value, worth_of_reference, environment, value_within, value, has_zero_divisor}
 use Rattle.mufom_meaning.specs.Valued.{IsMentionedIn}

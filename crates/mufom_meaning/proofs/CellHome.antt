@@ -1,14 +1,13 @@
 -- Where no byte lies outside its section, each cell of the address map lies in a section.
-use Rattle.std.proofs.Common.{◌≡◌, ℕ, ◌+◌, ◌<◌, ◌≤◌, ◌⊎◌, inl, inr, List, [], ◌∷◌, length, Option, Some, None, Bool, true, false, refl, sym, ◌∙◌, ap, subst, arith, rules}
-use Rattle.std.specs.Prelude.{slice_get, option_map, unwrap_or, nat_lt, nat_le, ◌%◌}
+use Rattle.std.proofs.Common.{◌≡◌, ℕ, ◌+◌, ◌<◌, ◌≤◌, inl, inr, List, [], Option, Some, None, refl, sym, ap, subst, arith}
+use Rattle.std.specs.Prelude.{slice_get, option_map, unwrap_or, ◌%◌}
 use Rattle.mufom_sections.specs.declared.section.Section.{Section}
 use Rattle.mufom_loads.specs.declared.load.Item.{Item}
-use Rattle.mufom_loads.specs.Lengths.{byte_count}
 use Rattle.mufom_module.specs.declared.module.Order.{Order}
 use Rattle.mufom_module.specs.declared.module.Parts.{Parts}
 use Rattle.mufom_meaning.specs.Values.{Setting}
 use Rattle.mufom_meaning.specs.Flat.{Sited}
-use Rattle.mufom_meaning.specs.Steps.{Step, counter_step, item_step, steps, counter, StepReading, item_reading, step_reading, readings_after}
+use Rattle.mufom_meaning.specs.Steps.{Step, counter_step, item_step, steps, counter, item_reading, step_reading, readings_after}
 use Rattle.mufom_meaning.specs.Walk.{base_number, size_at}
 use Rattle.mufom_meaning.specs.AddressMap.{Cell, step_cells, address_map}
 use Rattle.mufom_meaning.specs.Facts.{load_outside, loaded_twice}

@@ -1,6 +1,6 @@
 -- The maximal rows of an address map: there are such rows where no address stands twice, and only one list of them.
-use Rattle.std.proofs.Common.{◌≡◌, ℕ, zero, suc, ◌+◌, ◌<◌, ◌≤◌, ◌⊎◌, ◌↔◌, inl, inr, List, [], ◌∷◌, ◌++◌, map, length, Option, Some, None, Bool, true, false, refl, sym, ◌∙◌, ap, subst, cond, arith, rules}
-use Rattle.std.specs.Prelude.{slice_get, ◌==◌, nat_lt, if◌then◌else◌, Contains, flat_map}
+use Rattle.std.proofs.Common.{◌≡◌, ℕ, suc, ◌+◌, ◌<◌, ◌≤◌, ◌↔◌, inl, inr, List, [], ◌∷◌, ◌++◌, length, Bool, true, false, refl, sym, ◌∙◌, ap, subst, arith, rules}
+use Rattle.std.specs.Prelude.{◌==◌, nat_lt, if◌then◌else◌}
 use Rattle.mufom_meaning.specs.declared.located.Run.{Run}
 use Rattle.mufom_meaning.proofs.Choices.{equal_numbers, of_lt, of_not_lt}
 use Rattle.mufom_meaning.proofs.Members.{In, In-Contains, Contains-In}
@@ -33,6 +33,7 @@ rising-equal from (x ∷ xs) (y ∷ ys) h k same = first ((same x).0 (inl refl))
       by_case : In cell (y ∷ ys) → In cell ys
       by_case (inr m) = m
       by_case (inl f) = absurd (let late = rising-In (suc x.0) xs h.1 cell m in let at : x.0 ≡ cell.0 = ap (λ (x : Cell). x.0) (e ∙ f) in omega (arith, late, at))
+
     back : In cell ys → In cell xs
     back m = by_case ((same cell).1 (inr m)) where
       by_case : In cell (x ∷ xs) → In cell xs

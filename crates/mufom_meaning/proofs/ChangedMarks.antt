@@ -2,7 +2,6 @@
 use Rattle.std.proofs.Common.{◌≡◌, ℕ, List, [], ◌∷◌, ◌++◌, Option, map, refl, sym, ap, ◌∙◌, subst, rules, append_assoc}
 use Rattle.std.proofs.lemmas.List.{map-append}
 use Rattle.mufom_expr.specs.Tree.{Tree}
-use Rattle.mufom_names.specs.declared.name.Note.{Note}
 use Rattle.mufom_debug.specs.declared.item.Block.{Block}
 use Rattle.mufom_debug.specs.declared.item.BlockHead.{BlockHead}
 use Rattle.mufom_debug.specs.declared.item.DebugItem.{DebugItem, the_lemmas, ind-DebugItem}
@@ -97,9 +96,9 @@ module _ (head : BlockHead → BlockHead) (end : Option Tree → Option Tree) (p
         let its_blocks : blocks_of_item new ≡ (head y.head, end y.end) ∷ blocks_of inner.0 = search (rules, the_lemmas) in (
           new,
           there
-          ∙ ap (λ marks. block_begin (head y.head) y.name ∷ (marks ++ block_end (end y.end) ∷ [])) inner.1
-          ∙ ap (λ marks. block_begin (head y.head) y.name ∷ marks) (sym (map-append changed (joined (map marks_of_item (map item_of y.items))) (block_end y.end ∷ [])))
-          ∙ ap (map changed) (sym same),
+              ∙ ap (λ marks. block_begin (head y.head) y.name ∷ (marks ++ block_end (end y.end) ∷ [])) inner.1
+              ∙ ap (λ marks. block_begin (head y.head) y.name ∷ marks) (sym (map-append changed (joined (map marks_of_item (map item_of y.items))) (block_end y.end ∷ [])))
+              ∙ ap (map changed) (sym same),
           its_blocks ∙ ap (λ blocks. (head y.head, end y.end) ∷ blocks) inner.2 ∙ ap (map changed_block) (sym blocks),
         )
 

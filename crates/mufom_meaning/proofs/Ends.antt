@@ -1,6 +1,6 @@
 -- Where names lead in no circle, each chain of mentions ends within as many mentions as there are publics.
-use Rattle.std.proofs.Common.{◌≡◌, ℕ, zero, suc, ◌+◌, ◌-◌, ◌<◌, ◌≤◌, ◌⊎◌, inl, inr, List, [], ◌∷◌, length, Option, Some, None, Bool, true, false, ◌||◌, refl, sym, ◌∙◌, ap, subst, cond, arith, rules, eqb}
-use Rattle.std.specs.Prelude.{slice_get, find, if◌then◌else◌, IsTrue, Contains, ◌==◌}
+use Rattle.std.proofs.Common.{◌≡◌, ℕ, zero, suc, ◌+◌, ◌<◌, ◌⊎◌, inl, inr, List, [], ◌∷◌, length, Option, Some, None, Bool, true, false, ◌||◌, refl, sym, ◌∙◌, ap, subst, arith, rules, eqb}
+use Rattle.std.specs.Prelude.{slice_get, IsTrue}
 use Rattle.std.specs.List.{list_any, IsDistinct, AllByRecursion}
 use Rattle.std.proofs.lemmas.Map.Steps.{length-le_from_distinct_below}
 use Rattle.std.specs.Str.{bytes_eq}
@@ -15,7 +15,7 @@ use Rattle.mufom_meaning.specs.Values.{Setting}
 use Rattle.mufom_meaning.specs.Valued.{IsMentionedIn}
 use Rattle.mufom_meaning.proofs.Answers.{find_at}
 use Rattle.mufom_meaning.proofs.Tests.{either_false}
-use Rattle.mufom_meaning.proofs.Members.{In, Contains-In, passes-In}
+use Rattle.mufom_meaning.proofs.Members.{Contains-In, passes-In}
 use Rattle.mufom_meaning.specs.Stands.{StandsIn}
 use Rattle.mufom_meaning.specs.Cycles.{mentioned, mentioned_reference, is_or_leads, leads_within, leads_from}
 

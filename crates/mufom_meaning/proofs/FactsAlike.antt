@@ -5,7 +5,6 @@ use Rattle.mufom_module.specs.declared.module.Parts.{Parts}
 use Rattle.mufom_plan.specs.declared.plan.Plan.{Plan}
 use Rattle.mufom_place.specs.Facts.{Stands}
 use Rattle.mufom_place.specs.Bases.{bases}
-use Rattle.mufom_names.specs.Names.{RepeatsAt}
 use Rattle.mufom_meaning.specs.Flat.{width, flat_sections, flat_starts, flat_publics, public_names, first_named, needs, commons}
 use Rattle.mufom_meaning.specs.Values.{setting}
 use Rattle.mufom_meaning.specs.Cycles.{leads_from}

@@ -10,8 +10,6 @@ use Rattle.mufom_meaning.specs.Facts.{LinkFact, LocateFact}
 use Rattle.mufom_meaning.specs.Stands.{LinkFactStands, LocateFactStands}
 use Rattle.mufom_meaning.specs.Staging.{AreValid, HaveDescriptor}
 use Rattle.mufom_meaning.specs.StagingLaws.{FactsAgree}
-use Rattle.mufom_meaning.proofs.Moved.{AreSettings, MovedPublic}
-use Rattle.mufom_meaning.proofs.Paired.{Paired-length}
 use Rattle.mufom_meaning.proofs.Cycles.{first_both, from_both}
 use Rattle.mufom_meaning.proofs.Groups.{home_of}
 use Rattle.mufom_meaning.proofs.Settings.{same_width, are_settings, same_sections}

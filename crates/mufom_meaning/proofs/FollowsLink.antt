@@ -1,17 +1,16 @@
 -- The walks over a list with a link and over the flat list have their likes in one another.
-use Rattle.std.proofs.Common.{◌≡◌, ℕ, zero, suc, List, [], ◌∷◌, ◌++◌, map, Option, Some, None, refl, sym, ◌∙◌, ap, subst}
-use Rattle.std.specs.Prelude.{slice_get, option_to_list, flat_map, IsTrue}
-use Rattle.mufom_expr.specs.declared.token.FieldKind.{FieldKind}
+use Rattle.std.proofs.Common.{◌≡◌, ℕ, zero, suc, List, [], ◌∷◌, ◌++◌, map, Some, None, refl, sym, ◌∙◌, ap, subst}
+use Rattle.std.specs.Prelude.{slice_get, option_to_list, flat_map}
 use Rattle.mufom_expr.specs.Tree.{Tree}
 use Rattle.mufom_debug.specs.Marks.{marks_of, expressions_of}
 use Rattle.mufom_loads.specs.declared.load.Item.{Item}
 use Rattle.mufom_loads.specs.declared.load.Item.TheVariants.{Literal, Field}
 use Rattle.mufom_module.specs.declared.module.Parts.{Parts}
-use Rattle.mufom_meaning.specs.Flat.{Sited, SitedPublic, sited, public_names}
+use Rattle.mufom_meaning.specs.Flat.{Sited, sited, public_names}
 use Rattle.mufom_meaning.specs.Values.{Setting, setting}
 use Rattle.mufom_meaning.specs.Steps.{Step, counter_step, item_step, steps, counter}
 use Rattle.mufom_meaning.specs.Joined.{IsJoined, joined_tree}
-use Rattle.mufom_meaning.specs.Stands.{StandsIn, put_back, IsStepAfter}
+use Rattle.mufom_meaning.specs.Stands.{put_back, IsStepAfter}
 use Rattle.mufom_meaning.specs.Staging.{AreValid}
 use Rattle.mufom_meaning.proofs.Paired.{Paired, Paired-same}
 use Rattle.mufom_meaning.proofs.Moved.{shifted, IsOfGroup, MovedTree, stays, joins, MovedPublic, AreSettings, same_value, same_has_zero_divisor}

@@ -1,5 +1,5 @@
 -- A list has one partial link under a name at most: marks determine the debug items, and all else is told by equations.
-use Rattle.std.proofs.Common.{◌≡◌, List, [], ◌∷◌, Option, Some, None, refl, sym, ◌∙◌}
+use Rattle.std.proofs.Common.{◌≡◌, [], ◌∷◌, Option, Some, None, refl, sym, ◌∙◌}
 use Rattle.std.specs.Prelude.{option_to_list}
 use Rattle.mufom_debug.proofs.Rebuilt.{same_items}
 use Rattle.mufom_meaning.specs.StagingLaws.{JoinedIsSingle}

@@ -1,20 +1,16 @@
 -- Where an expression of a list has no value, it or a public or a counter that it goes through divides by 0.
-use Rattle.std.proofs.Common.{◌≡◌, ℕ, zero, suc, ◌+◌, ◌-◌, ◌<◌, ◌≤◌, ◌⊎◌, ◌↔◌, inl, inr, List, [], ◌∷◌, ◌++◌, length, Option, Some, None, Bool, true, false, refl, sym, ◌∙◌, ap, subst, cond, arith, rules}
-use Rattle.std.specs.Prelude.{slice_get, option_map, if◌then◌else◌, IsTrue, IsSome, Contains, ◌==◌, ◌%◌}
-use Rattle.mufom_expr.specs.declared.token.FieldKind.{FieldKind}
-use Rattle.mufom_expr.specs.declared.token.Letter.{Letter}
+use Rattle.std.proofs.Common.{◌≡◌, ℕ, zero, suc, ◌+◌, ◌≤◌, ◌⊎◌, inl, inr, List, [], ◌∷◌, length, Option, Some, None, Bool, true, false, refl, sym, ◌∙◌, ap, subst, arith}
+use Rattle.std.specs.Prelude.{slice_get, option_map, if◌then◌else◌, IsTrue, ◌==◌, ◌%◌}
 use Rattle.mufom_expr.specs.declared.token.Letter.TheVariants as letters
 use Rattle.mufom_expr.specs.Tree.{Tree}
 use Rattle.mufom_expr.specs.Value.{variables_of, divides_by_zero}
-use Rattle.mufom_loads.specs.declared.load.Item.{Item}
 use Rattle.mufom_loads.specs.declared.load.Item.TheVariants.{Literal, Field}
 use Rattle.mufom_module.specs.declared.module.Parts.{Parts}
 use Rattle.mufom_meaning.specs.Flat.{Sited, SitedPublic, first_named}
 use Rattle.mufom_meaning.specs.Values.{Setting, value_within, value, has_zero_divisor}
 use Rattle.mufom_meaning.specs.Steps.{Step, counter_step, item_step, steps, counter}
-use Rattle.mufom_meaning.specs.Facts.{Place, in_public, in_counter, in_field, in_start, in_debug}
-use Rattle.mufom_meaning.specs.Stands.{StandsIn, IsStepAfter, put_back, HasZeroDivisor}
-use Rattle.mufom_meaning.specs.Valued.{CounterPlace, counter_there, IsExpressionAt, IsMentionedIn, last_set, MeetsZeroDivisor, itself, through_name, through_counter}
+use Rattle.mufom_meaning.specs.Stands.{StandsIn, put_back}
+use Rattle.mufom_meaning.specs.Valued.{CounterPlace, counter_there, IsMentionedIn, last_set, MeetsZeroDivisor, itself, through_name, through_counter}
 use Rattle.mufom_meaning.proofs.Choices.{some_same, mapped_none}
 use Rattle.mufom_meaning.proofs.Members.{In, In-Contains}
 use Rattle.mufom_meaning.proofs.Ends.{EndsWithin, all_end, mentioned-among}
@@ -64,12 +60,12 @@ module _ (ms : List Parts) (s : Setting) (h : HasAllNamed ms s) where
     by_cause (inr d) = itself None q.site q.entry.value (zero_divisor-le s zero le q.site None q.entry.value d)
   publics_meet (suc k) le q a ends e = by_cause (none_cause s (suc k) q.site None q.entry.value (h.publics q a).well e)
       (λ p m none. publics_meet k (omega (arith, le)) p (mentioned-among s q.site q.entry.value p m) (ends p m) none) where
-    by_cause : IsNoneBy s (worth_below s (suc k)) q.site None q.entry.value ⊎ (divides_by_zero (value_within s (suc k) q.site None) q.entry.value ≡ true)
-        → ((p : SitedPublic) → IsMentionedIn s q.site q.entry.value p → value_within s k p.site None p.entry.value ≡ None → MeetsZeroDivisor s None p.site p.entry.value)
-        → MeetsZeroDivisor s None q.site q.entry.value
-    by_cause (inl (inl p)) later = absurd ((h.publics q a).free p.0 p.1)
-    by_cause (inl (inr m)) later = through_name None q.site q.entry.value m.0 m.1 (later m.0 m.1 m.2)
-    by_cause (inr d) later = itself None q.site q.entry.value (zero_divisor-le s (suc k) le q.site None q.entry.value d)
+        by_cause : IsNoneBy s (worth_below s (suc k)) q.site None q.entry.value ⊎ (divides_by_zero (value_within s (suc k) q.site None) q.entry.value ≡ true)
+            → ((p : SitedPublic) → IsMentionedIn s q.site q.entry.value p → value_within s k p.site None p.entry.value ≡ None → MeetsZeroDivisor s None p.site p.entry.value)
+            → MeetsZeroDivisor s None q.site q.entry.value
+        by_cause (inl (inl p)) later = absurd ((h.publics q a).free p.0 p.1)
+        by_cause (inl (inr m)) later = through_name None q.site q.entry.value m.0 m.1 (later m.0 m.1 m.2)
+        by_cause (inr d) later = itself None q.site q.entry.value (zero_divisor-le s (suc k) le q.site None q.entry.value d)
 
   -- why an expression has no value
   abbrev pub Why : Sited → Option ℕ → Tree → Type 0
@@ -109,19 +105,19 @@ module _ (ms : List Parts) (s : Setting) (h : HasAllNamed ms s) where
   counter_meets [] more at section based e = absurd (based (mapped_none (λ base. base % s.modulus) (slice_get s.bases section) e))
   counter_meets (counter_step site other t ∷ earlier) more at section based e =
       by_case (other == section) refl e (counter_meets earlier (counter_step site other t ∷ more) at section based) where
-    by_case : (b : Bool) → (other == section) ≡ b → (if b then value s site (counter s earlier section) t else counter s earlier section) ≡ None
-        → (counter s earlier section ≡ None → IsSetByNone earlier section)
-        → (before : List Step) × (setter : Sited) × (set : Tree) × ((if b then Some (earlier, site, t) else last_set earlier section) ≡ Some (before, setter, set)) × MeetsZeroDivisor s (Some (before, section)) setter set
-    by_case true same e later =
-        let well = (h.loads (counter_step site other t) (step-In ms earlier (counter_step site other t) more at)).1 in
-        (earlier, site, t, refl, meets_at earlier section site t later (why site (counter s earlier section) t well e))
-    by_case false same e later = later e
+        by_case : (b : Bool) → (other == section) ≡ b → (if b then value s site (counter s earlier section) t else counter s earlier section) ≡ None
+            → (counter s earlier section ≡ None → IsSetByNone earlier section)
+            → (before : List Step) × (setter : Sited) × (set : Tree) × ((if b then Some (earlier, site, t) else last_set earlier section) ≡ Some (before, setter, set)) × MeetsZeroDivisor s (Some (before, section)) setter set
+        by_case true same e later =
+            let well = (h.loads (counter_step site other t) (step-In ms earlier (counter_step site other t) more at)).1 in
+            (earlier, site, t, refl, meets_at earlier section site t later (why site (counter s earlier section) t well e))
+        by_case false same e later = later e
   counter_meets (item_step site other item ∷ earlier) more at section based e =
       by_case (other == section) e (counter_meets earlier (item_step site other item ∷ more) at section based) where
-    by_case : (b : Bool) → (if b then option_map (λ pc. (pc + byte_count item) % s.modulus) (counter s earlier section) else counter s earlier section) ≡ None
-        → (counter s earlier section ≡ None → IsSetByNone earlier section) → IsSetByNone earlier section
-    by_case true e later = later (mapped_none (λ pc. (pc + byte_count item) % s.modulus) (counter s earlier section) e)
-    by_case false e later = later e
+        by_case : (b : Bool) → (if b then option_map (λ pc. (pc + byte_count item) % s.modulus) (counter s earlier section) else counter s earlier section) ≡ None
+            → (counter s earlier section ≡ None → IsSetByNone earlier section) → IsSetByNone earlier section
+        by_case true e later = later (mapped_none (λ pc. (pc + byte_count item) % s.modulus) (counter s earlier section) e)
+        by_case false e later = later e
 
   -- an expression that names no counter
   pub plain_meets : (site : Sited) (t : Tree) → IsPlain s site t → value s site None t ≡ None → MeetsZeroDivisor s None site t
@@ -161,4 +157,3 @@ meets_none s _ _ _ (itself c site t d) = zero_divisor-none s site (counter_there
 meets_none s _ _ _ (through_name c site t q m later) = mentioned-none s site (counter_there s c) t q m (meets_none s None q.site q.entry.value later)
 meets_none s _ _ _ (through_counter earlier before section n site setter t set m last later) =
     counter-none s site (counter s earlier section) t n m (last_set-none s earlier before section setter set last (meets_none s (Some (before, section)) setter set later))
-

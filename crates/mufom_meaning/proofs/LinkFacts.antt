@@ -5,8 +5,8 @@ use Rattle.std.proofs.lemmas.Grind.{flat_map-append}
 use Rattle.mufom_module.specs.declared.module.Parts.{Parts}
 use Rattle.mufom_names.specs.Names.{RepeatsAt}
 use Rattle.mufom_meaning.specs.Flat.{public_names, flat_starts}
-use Rattle.mufom_meaning.specs.Facts.{Descriptor, descriptor, LinkFact, mismatch, duplicate, duplicate_start}
-use Rattle.mufom_meaning.specs.Stands.{StandsIn, LinkFactStands}
+use Rattle.mufom_meaning.specs.Facts.{Descriptor, descriptor, mismatch, duplicate, duplicate_start}
+use Rattle.mufom_meaning.specs.Stands.{LinkFactStands}
 use Rattle.mufom_meaning.specs.Staging.{HaveDescriptor}
 use Rattle.mufom_meaning.specs.FactLaws.{LinkFactsGrow}
 

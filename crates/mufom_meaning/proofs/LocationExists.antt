@@ -1,11 +1,11 @@
 -- Where no fact stands there is a location.
-use Rattle.std.proofs.Common.{◌≡◌, ◌≢◌, ℕ, zero, suc, ◌+◌, ◌<◌, ◌⊎◌, inl, inr, List, [], ◌∷◌, ◌++◌, map, length, Option, Some, None, refl, sym, ◌∙◌, ap, subst, arith, length-append}
-use Rattle.std.specs.Prelude.{◌^◌, option_map, option_to_list, unwrap_or, flat_map}
+use Rattle.std.proofs.Common.{◌≡◌, ℕ, suc, ◌+◌, ◌<◌, inl, inr, List, [], ◌∷◌, ◌++◌, map, length, Option, Some, None, refl, sym, ◌∙◌, ap, subst, arith, length-append}
+use Rattle.std.specs.Prelude.{option_map, option_to_list, unwrap_or, flat_map}
 use Rattle.std.proofs.lemmas.List.{map-append}
 use Rattle.mufom_expr.specs.Tree.{Tree, number}
 use Rattle.mufom_debug.specs.declared.item.BlockHead.{BlockHead}
 use Rattle.mufom_debug.specs.declared.item.DebugItem.{DebugItem}
-use Rattle.mufom_debug.specs.Marks.{DebugMark, block_begin, block_end, name_mark, note_mark, value_mark, marks_of, mark_expressions, offset_of}
+use Rattle.mufom_debug.specs.Marks.{DebugMark, block_begin, block_end, name_mark, note_mark, value_mark, marks_of, mark_expressions}
 use Rattle.mufom_module.specs.declared.module.Parts.{Parts}
 use Rattle.mufom_module.specs.Contents.{HeadAndEnd, blocks_of}
 use Rattle.mufom_plan.specs.declared.plan.Plan.{Plan}
@@ -13,10 +13,10 @@ use Rattle.mufom_place.specs.Bases.{bases}
 use Rattle.mufom_meaning.specs.declared.located.PublicValue.{PublicValue}
 use Rattle.mufom_meaning.specs.declared.located.LocatedParts.{LocatedParts}
 use Rattle.mufom_meaning.specs.Flat.{Sited, SitedPublic, sited_from, sited, flat_sections, flat_publics, flat_starts, name_count}
-use Rattle.mufom_meaning.specs.Values.{Setting, setting, value}
+use Rattle.mufom_meaning.specs.Values.{Setting, value}
 use Rattle.mufom_meaning.specs.Steps.{readings_after, steps}
 use Rattle.mufom_meaning.specs.AddressMap.{address_map}
-use Rattle.mufom_meaning.specs.Readings.{readings, public_reading, MarkReading, mark_reading, head_reading}
+use Rattle.mufom_meaning.specs.Readings.{public_reading, mark_reading, head_reading}
 use Rattle.mufom_meaning.specs.Location.{placed_sections, located_public, located_head, located_mark, IsLocation}
 use Rattle.mufom_meaning.specs.LocationLaws.{HasValue, LocationsExist}
 use Rattle.mufom_meaning.specs.Facts.{duplicate_start, loaded_twice}

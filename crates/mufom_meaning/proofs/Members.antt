@@ -1,6 +1,6 @@
 -- What stands in a list, by cases on the list.
-use Rattle.std.proofs.Common.{◌≡◌, ℕ, zero, suc, ◌+◌, ◌<◌, ◌⊎◌, inl, inr, List, [], ◌∷◌, ◌++◌, map, length, Option, Some, None, Bool, true, false, ◌||◌, refl, sym, ◌∙◌, ap, cond, arith, rules}
-use Rattle.std.specs.Prelude.{slice_get, slice_index_or, find, filter, flat_map, Contains}
+use Rattle.std.proofs.Common.{◌≡◌, ℕ, zero, suc, ◌<◌, ◌⊎◌, inl, inr, List, [], ◌∷◌, ◌++◌, map, length, Some, None, Bool, true, false, ◌||◌, refl, sym, ◌∙◌, ap, cond, arith}
+use Rattle.std.specs.Prelude.{slice_get, slice_index_or, filter, flat_map, Contains}
 use Rattle.std.specs.List.{list_any}
 use Rattle.mufom_meaning.proofs.Tests.{either_false}
 

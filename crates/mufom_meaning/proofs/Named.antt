@@ -1,15 +1,14 @@
 -- A list of modules without a defect has all that its expressions name, where the facts of names do not stand.
-use Rattle.std.proofs.Common.{◌≡◌, ℕ, zero, suc, ◌+◌, ◌<◌, ◌≤◌, ◌⊎◌, inl, inr, List, [], ◌∷◌, ◌++◌, map, length, Option, Some, None, Bool, true, false, not, ◌||◌, ◌&&◌, refl, sym, ◌∙◌, ap, subst, cond, arith, rules, length-append}
-use Rattle.std.specs.Prelude.{slice_get, find, filter, flat_map, option_to_list, is_none, nat_lt, nat_le, ◌==◌, if◌then◌else◌, IsTrue}
+use Rattle.std.proofs.Common.{◌≡◌, ℕ, zero, suc, ◌+◌, ◌<◌, ◌≤◌, ◌⊎◌, inl, inr, List, [], ◌∷◌, ◌++◌, map, length, Option, Some, None, Bool, true, false, not, ◌||◌, refl, sym, ◌∙◌, ap, subst, arith, rules, length-append}
+use Rattle.std.specs.Prelude.{slice_get, filter, option_to_list, is_none, nat_lt, nat_le, ◌==◌, if◌then◌else◌}
 use Rattle.std.specs.List.{list_any}
 use Rattle.std.specs.Str.{bytes_eq}
-use Rattle.std.proofs.lemmas.List.{length-map, map-append}
+use Rattle.std.proofs.lemmas.List.{length-map}
 use Rattle.std.proofs.lemmas.Slice.Eq.{bytes_eq-Decides}
 use Rattle.mufom_expr.specs.declared.token.Letter.{Letter}
 use Rattle.mufom_expr.specs.declared.token.Letter.TheVariants as letters
 use Rattle.mufom_expr.specs.Tree.{Tree}
 use Rattle.mufom_expr.specs.Value.{variables_of}
-use Rattle.mufom_sections.specs.declared.section.Section.{Section}
 use Rattle.mufom_names.specs.declared.name.Weak.{Weak}
 use Rattle.mufom_names.specs.declared.name.Public.{Public}
 use Rattle.mufom_names.specs.declared.name.Reference.{Reference}
@@ -20,26 +19,24 @@ use Rattle.mufom_loads.specs.declared.load.Load.TheVariants.{SetSection, SetPc, 
 use Rattle.mufom_loads.specs.Lengths.{repeated}
 use Rattle.mufom_debug.specs.Marks.{marks_of, mark_expressions, expressions_of}
 use Rattle.mufom_module.specs.declared.module.Parts.{Parts}
-use Rattle.mufom_module.specs.Contents.{load_any, item_any}
-use Rattle.mufom_module.specs.Defects.{IsValid, counts_of, names_outside, names_no_section, has_bad_place}
-use Rattle.mufom_plan.specs.declared.plan.Plan.{Plan}
+use Rattle.mufom_module.specs.Contents.{item_any}
+use Rattle.mufom_module.specs.Defects.{IsValid, counts_of, names_outside, has_bad_place}
 use Rattle.mufom_plan.specs.Names.{has_name}
 use Rattle.mufom_meaning.specs.Flat.{Sited, sited_from, sited, SitedPublic, publics_of, flat_sections, flat_publics, flat_references, public_names, first_named, name_count, distinct, is_strong, is_common, common_size, same_common, unmet_references, needs, commons}
 use Rattle.mufom_meaning.specs.Values.{Setting, setting, default_of}
 use Rattle.mufom_meaning.specs.Cycles.{mentioned, mentioned_reference, is_or_leads, leads_within, leads_from, IsOnCycle}
 use Rattle.mufom_meaning.specs.Steps.{Step, counter_step, item_step, item_steps, steps_of, steps}
 use Rattle.mufom_meaning.specs.Walk.{SitedTree, start_trees, debug_trees}
-use Rattle.mufom_meaning.specs.Facts.{LinkFact, duplicate, LocateFact, undefined, common_unplaced, cycle}
-use Rattle.mufom_meaning.specs.Stands.{StandsIn, LinkFactStands, StandsBeforeWalk}
+use Rattle.mufom_meaning.specs.Facts.{duplicate}
+use Rattle.mufom_meaning.specs.Stands.{StandsIn, LinkFactStands}
 use Rattle.mufom_meaning.specs.Staging.{AreValid}
 use Rattle.mufom_meaning.proofs.Answers.{find_at, both}
 use Rattle.mufom_meaning.proofs.Names.{names_of-publics_of}
 use Rattle.mufom_meaning.proofs.Cycles.{list_any-agrees}
 use Rattle.mufom_meaning.proofs.Tests.{either_false}
 use Rattle.mufom_meaning.proofs.Choices.{of_lt, of_not_lt}
-use Rattle.mufom_meaning.proofs.Members.{In, In-at, at-In, In-map, map-In, In-flat_map, flat_map-In, In-append, In-filter, none-In, get_some, fails-In}
+use Rattle.mufom_meaning.proofs.Members.{In, In-at, at-In, In-map, map-In, In-flat_map, flat_map-In, In-append, In-filter, none-In, get_some}
 use Rattle.mufom_meaning.proofs.WithoutDefect.{IsInside, inside, finds-none, public_inside, public_free, start_inside, start_free, mark_inside, mark_free, load_inside}
-
 use Rattle.mufom_meaning.proofs.Causes.{IsWellNamed}
 use Rattle.mufom_meaning.proofs.Lacks.{IsPlain, HasBase, IsWellStep, HasAllNamed}
 

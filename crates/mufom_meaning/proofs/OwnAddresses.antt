@@ -1,9 +1,7 @@
 -- Where no address is loaded twice, no two cells of the address map have one address.
-use Rattle.std.proofs.Common.{◌≡◌, ℕ, zero, suc, ◌+◌, ◌<◌, ◌≤◌, ◌⊎◌, inl, inr, List, [], ◌∷◌, ◌++◌, map, reverse, length, Option, Some, None, refl, sym, ◌∙◌, ap, subst, arith}
-use Rattle.std.specs.Prelude.{flat_map, ◌%◌, ◌/◌, ◌-◌, ◌^◌, if◌then◌else◌}
+use Rattle.std.proofs.Common.{◌≡◌, ℕ, zero, suc, ◌+◌, ◌<◌, ◌⊎◌, inl, inr, List, [], ◌∷◌, ◌++◌, map, length, Option, Some, None, refl, ◌∙◌, ap, subst, arith}
+use Rattle.std.specs.Prelude.{◌%◌, ◌/◌}
 use Rattle.std.proofs.lemmas.List.{length-reverse}
-use Rattle.mufom_expr.specs.declared.token.FieldKind.{FieldKind}
-use Rattle.mufom_expr.specs.Tree.{Tree}
 use Rattle.mufom_loads.specs.declared.load.Item.{Item}
 use Rattle.mufom_loads.specs.declared.load.Item.TheVariants.{Literal, Field}
 use Rattle.mufom_loads.specs.Lengths.{byte_count}
@@ -12,13 +10,12 @@ use Rattle.mufom_module.specs.declared.module.Order.TheVariants.{Least, Most}
 use Rattle.mufom_module.specs.declared.module.Parts.{Parts}
 use Rattle.mufom_meaning.specs.Flat.{Sited}
 use Rattle.mufom_meaning.specs.Values.{Setting, value}
-use Rattle.mufom_meaning.specs.Steps.{Step, counter_step, item_step, steps, counter, StepReading, item_reading, step_reading, readings_after}
+use Rattle.mufom_meaning.specs.Steps.{Step, counter_step, item_step, steps, counter, item_reading, readings_after}
 use Rattle.mufom_meaning.specs.Fields.{bytes_of, in_byte_order, field_number, field_bytes}
-use Rattle.mufom_meaning.specs.AddressMap.{Cell, cells_from, literal_cells, field_cells, step_cells, address_map}
-use Rattle.mufom_meaning.specs.Walk.{counted_from, addresses_at, step_addresses, loaded_addresses}
+use Rattle.mufom_meaning.specs.AddressMap.{Cell, cells_from, field_cells, step_cells, address_map}
+use Rattle.mufom_meaning.specs.Walk.{counted_from, addresses_at, loaded_addresses}
 use Rattle.mufom_meaning.specs.Facts.{loaded_twice}
-use Rattle.mufom_meaning.specs.Stands.{StandsIn, put_back, IsStepAfter, IsLoadedAt, StandsInWalk}
-use Rattle.mufom_meaning.proofs.Choices.{some_same}
+use Rattle.mufom_meaning.specs.Stands.{put_back, IsStepAfter, StandsInWalk}
 use Rattle.mufom_meaning.proofs.Members.{In, In-append, In-left, In-right, In-map, at-In}
 use Rattle.mufom_meaning.proofs.CellRows.{HaveOwnAddresses}
 
@@ -118,7 +115,7 @@ module _ (order : Order) (ms : List Parts) (s : Setting) (clear : (address : ℕ
     joined : Own (item_step site section item ∷ earlier) more → Own earlier (item_step site section item ∷ more)
     joined later = (
       own_append (step_cells order s.modulus (item_reading s site section (counter s earlier section) item)) (cells_after (item_step site section item ∷ earlier) more)
-      (item_own site section (counter s earlier section) item) later.0 apart,
+          (item_own site section (counter s earlier section) item) later.0 apart,
       λ cell h k. by_case cell k (In-append cell (step_cells order s.modulus (item_reading s site section (counter s earlier section) item)) (cells_after (item_step site section item ∷ earlier) more) h),
     )
       where

@@ -1,20 +1,14 @@
 -- A list has one location by a plan at most.
 use Rattle.std.proofs.Common.{◌≡◌, ℕ, List, [], ◌∷◌, map, Option, Some, None, refl, sym, ◌∙◌, ap, subst}
 use Rattle.std.specs.Prelude.{◌^◌, option_to_list}
-use Rattle.mufom_debug.specs.declared.item.DebugItem.{DebugItem}
-use Rattle.mufom_debug.specs.Marks.{DebugMark, marks_of}
+use Rattle.mufom_debug.specs.Marks.{marks_of}
 use Rattle.mufom_debug.proofs.Rebuilt.{same_items}
-use Rattle.mufom_module.specs.declared.module.Order.{Order}
-use Rattle.mufom_module.specs.declared.module.Parts.{Parts}
-use Rattle.mufom_plan.specs.declared.plan.Plan.{Plan}
 use Rattle.mufom_place.specs.Bases.{bases}
 use Rattle.mufom_meaning.specs.declared.located.PublicValue.{PublicValue}
-use Rattle.mufom_meaning.specs.declared.located.Run.{Run}
-use Rattle.mufom_meaning.specs.declared.located.LocatedParts.{LocatedParts}
 use Rattle.mufom_meaning.specs.Flat.{flat_sections, width}
 use Rattle.mufom_meaning.specs.Readings.{readings, PublicReading}
 use Rattle.mufom_meaning.specs.AddressMap.{AreRowsOf, address_map}
-use Rattle.mufom_meaning.specs.Location.{Header, IsLocation, located_public}
+use Rattle.mufom_meaning.specs.Location.{Header, located_public}
 use Rattle.mufom_meaning.specs.LocationLaws.{LocationIsSingle}
 use Rattle.mufom_meaning.proofs.Choices.{some_same}
 use Rattle.mufom_meaning.proofs.CellRows.{rows_are_single}

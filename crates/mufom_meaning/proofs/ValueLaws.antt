@@ -1,11 +1,10 @@
 -- Where an expression has a value: the laws.
-use Rattle.std.proofs.Common.{◌≡◌, ◌≢◌, ℕ, suc, ◌+◌, ◌⊎◌, inl, inr, List, [], ◌∷◌, map, length, Option, Some, None, refl, sym, ◌∙◌, ap, subst}
-use Rattle.std.specs.Prelude.{option_map, option_to_list, Contains}
+use Rattle.std.proofs.Common.{◌≡◌, ◌≢◌, ℕ, suc, ◌+◌, inl, inr, List, [], ◌∷◌, map, length, Option, Some, None, refl, ◌∙◌, ap, subst}
+use Rattle.std.specs.Prelude.{option_map, option_to_list}
 use Rattle.std.specs.List.{enumerate_from}
 use Rattle.std.proofs.lemmas.List.{length-map}
 use Rattle.mufom_expr.specs.Tree.{Tree, number}
 use Rattle.mufom_sections.specs.declared.section.Section.{Section}
-use Rattle.mufom_loads.specs.declared.load.Item.{Item}
 use Rattle.mufom_loads.specs.declared.load.Item.TheVariants.{Literal, Field}
 use Rattle.mufom_debug.specs.declared.item.BlockHead.{BlockHead}
 use Rattle.mufom_debug.specs.declared.item.BlockHead.TheVariants as heads
@@ -16,16 +15,16 @@ use Rattle.mufom_place.specs.Bases.{numbered, bases, site_of}
 use Rattle.mufom_meaning.specs.Flat.{Sited, SitedPublic, sited, flat_sections, flat_publics}
 use Rattle.mufom_meaning.specs.Values.{Setting, setting, value}
 use Rattle.mufom_meaning.specs.Steps.{Step, counter_step, item_step, steps, counter, StepReading, step_reading, readings_after}
-use Rattle.mufom_meaning.specs.Walk.{SitedTree, start_trees, debug_trees}
-use Rattle.mufom_meaning.specs.Readings.{readings, PublicReading, public_reading, MarkReading, mark_reading, head_reading, end_value}
+use Rattle.mufom_meaning.specs.Walk.{start_trees, debug_trees}
+use Rattle.mufom_meaning.specs.Readings.{readings, PublicReading, public_reading, mark_reading, head_reading}
 use Rattle.mufom_meaning.specs.Location.{located_mark, located_head}
-use Rattle.mufom_meaning.specs.LocationLaws.{HasValue, StepHasValue, AreValued, AllValued}
+use Rattle.mufom_meaning.specs.LocationLaws.{HasValue, StepHasValue, AllValued}
 use Rattle.mufom_meaning.specs.Facts.{LinkFact, duplicate, LocateFact, undefined, common_unplaced, cycle, zero_divisor, Place}
 use Rattle.mufom_meaning.specs.LinkAnswer.{link_answer}
 use Rattle.mufom_meaning.specs.LocateAnswer.{locate_answer}
 use Rattle.mufom_meaning.specs.Stands.{LinkFactStands, StandsBeforeWalk, IsStepAfter, put_back, HasZeroDivisor}
 use Rattle.mufom_meaning.specs.Staging.{AreValid}
-use Rattle.mufom_meaning.specs.Valued.{CounterPlace, counter_there, IsExpressionAt, MeetsZeroDivisor, HaveValues, NoneByDivision, ValuesExist}
+use Rattle.mufom_meaning.specs.Valued.{HaveValues, NoneByDivision, ValuesExist}
 use Rattle.mufom_meaning.proofs.AllAnswers.{answers_are_facts}
 use Rattle.mufom_meaning.proofs.Members.{In, Contains-In, at-In, map-In, In-map, In-flat_map, flat_map-In}
 use Rattle.mufom_meaning.proofs.Lacks.{HasAllNamed, meets_none}

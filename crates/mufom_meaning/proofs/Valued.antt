@@ -1,11 +1,8 @@
 -- Where no fact of names and no zero divisor stands, each expression has a value.
-use Rattle.std.proofs.Common.{◌≡◌, ◌≢◌, ℕ, zero, suc, ◌⊎◌, ◌↔◌, inl, inr, List, [], ◌∷◌, length, Option, Some, None, Bool, true, false, refl, sym, ◌∙◌, ap, subst, cond, arith, rules}
-use Rattle.std.specs.Prelude.{slice_get, option_map, if◌then◌else◌, IsTrue, Contains, ◌==◌, ◌%◌, ◌+◌}
+use Rattle.std.proofs.Common.{◌≡◌, ◌≢◌, ℕ, inl, inr, List, [], ◌∷◌, Option, Some, None, Bool, true, false, refl, sym, ◌∙◌, ap, subst}
+use Rattle.std.specs.Prelude.{slice_get, option_map, if◌then◌else◌, ◌==◌, ◌%◌, ◌+◌}
 use Rattle.mufom_expr.specs.declared.token.FieldKind.{FieldKind}
-use Rattle.mufom_expr.specs.declared.token.Letter.TheVariants as letters
 use Rattle.mufom_expr.specs.Tree.{Tree}
-use Rattle.mufom_expr.specs.Value.{variables_of}
-use Rattle.mufom_loads.specs.declared.load.Item.{Item}
 use Rattle.mufom_loads.specs.declared.load.Item.TheVariants.{Literal, Field}
 use Rattle.mufom_module.specs.declared.module.Parts.{Parts}
 use Rattle.mufom_meaning.specs.Flat.{Sited, SitedPublic, flat_publics}
@@ -13,14 +10,11 @@ use Rattle.mufom_meaning.specs.Values.{Setting, value, has_zero_divisor}
 use Rattle.mufom_meaning.specs.Steps.{Step, counter_step, item_step, steps, counter}
 use Rattle.mufom_meaning.specs.Facts.{Place, in_public, in_counter, in_field, in_start, in_debug}
 use Rattle.mufom_meaning.specs.Stands.{StandsIn, IsStepAfter, put_back, HasZeroDivisor}
-use Rattle.mufom_meaning.specs.Valued.{CounterPlace, counter_there, IsExpressionAt, IsMentionedIn, last_set, MeetsZeroDivisor, itself, through_name, through_counter, section_of, HaveValues}
+use Rattle.mufom_meaning.specs.Valued.{CounterPlace, counter_there, IsExpressionAt, IsMentionedIn, MeetsZeroDivisor, itself, through_name, through_counter, section_of, HaveValues}
 use Rattle.mufom_meaning.proofs.Choices.{mapped_none, equal_numbers}
-use Rattle.mufom_meaning.proofs.Members.{In}
 use Rattle.mufom_meaning.proofs.Ends.{mentioned-among}
-use Rattle.mufom_meaning.proofs.Causes.{IsWellNamed}
-use Rattle.mufom_meaning.proofs.Lacks.{IsPlain, HasBase, IsWellStep, HasAllNamed, step-In, Why, why, plain_meets, step_meets, meets_none}
+use Rattle.mufom_meaning.proofs.Lacks.{IsPlain, HasBase, IsWellStep, HasAllNamed, step-In, Why, why, plain_meets, step_meets}
 use Rattle.mufom_loads.specs.Lengths.{byte_count}
-use Rattle.mufom_meaning.specs.Walk.{SitedTree, start_trees, debug_trees}
 
 step_based : (s : Setting) (step : Step) → IsWellStep s step → HasBase s (section_of step)
 step_based s (counter_step site section t) w = w.0
@@ -63,22 +57,22 @@ module _ (ms : List Parts) (s : Setting) (h : HasAllNamed ms s) (flat : s.public
     counter_there_is [] more at section based e = based (mapped_none (λ base. base % s.modulus) (slice_get s.bases section) e)
     counter_there_is (counter_step site other t ∷ earlier) more at section based e =
         by_case (other == section) refl e (counter_there_is earlier (counter_step site other t ∷ more) at section based) where
-      by_case : (b : Bool) → (other == section) ≡ b → (if b then value s site (counter s earlier section) t else counter s earlier section) ≡ None → counter s earlier section ≢ None → ⊥
-      by_case true same e later =
-          by_why (why ms s h site (counter s earlier section) t (h.loads (counter_step site other t) (step-In ms earlier (counter_step site other t) more at)).1 e) where
-        by_why : Why ms s h site (counter s earlier section) t → ⊥
-        by_why (inl p) = later p.2
-        by_why (inr (inl m)) = mentioned_clear site t m
-        by_why (inr (inr d)) =
-            let equal : other ≡ section = equal_numbers other section same in
-            clear (in_counter section) (earlier, site, t, (more, at ∙ ap (λ n. put_back earlier (counter_step site n t ∷ more)) equal), d)
-      by_case false same e later = later e
+          by_case : (b : Bool) → (other == section) ≡ b → (if b then value s site (counter s earlier section) t else counter s earlier section) ≡ None → counter s earlier section ≢ None → ⊥
+          by_case true same e later =
+              by_why (why ms s h site (counter s earlier section) t (h.loads (counter_step site other t) (step-In ms earlier (counter_step site other t) more at)).1 e) where
+                by_why : Why ms s h site (counter s earlier section) t → ⊥
+                by_why (inl p) = later p.2
+                by_why (inr (inl m)) = mentioned_clear site t m
+                by_why (inr (inr d)) =
+                    let equal : other ≡ section = equal_numbers other section same in
+                    clear (in_counter section) (earlier, site, t, (more, at ∙ ap (λ n. put_back earlier (counter_step site n t ∷ more)) equal), d)
+          by_case false same e later = later e
     counter_there_is (item_step site other item ∷ earlier) more at section based e =
         by_case (other == section) e (counter_there_is earlier (item_step site other item ∷ more) at section based) where
-      by_case : (b : Bool) → (if b then option_map (λ pc. (pc + byte_count item) % s.modulus) (counter s earlier section) else counter s earlier section) ≡ None
-          → counter s earlier section ≢ None → ⊥
-      by_case true e later = later (mapped_none (λ pc. (pc + byte_count item) % s.modulus) (counter s earlier section) e)
-      by_case false e later = later e
+          by_case : (b : Bool) → (if b then option_map (λ pc. (pc + byte_count item) % s.modulus) (counter s earlier section) else counter s earlier section) ≡ None
+              → counter s earlier section ≢ None → ⊥
+          by_case true e later = later (mapped_none (λ pc. (pc + byte_count item) % s.modulus) (counter s earlier section) e)
+          by_case false e later = later e
 
     plain_clear : (site : Sited) (t : Tree) → IsExpressionAt ms None site t → has_zero_divisor s site None t ≡ true → ⊥
     plain_clear site t (inl p) d =
@@ -104,17 +98,17 @@ module _ (ms : List Parts) (s : Setting) (h : HasAllNamed ms s) (flat : s.public
       by_why (inr (inr d)) = plain_clear site t at d
     expression_valued (Some c) site t (inl p) e =
         let w = h.loads (counter_step site c.1 t) (step-In ms c.0 (counter_step site c.1 t) p.0 p.1) in by_why w.0 (why ms s h site (counter s c.0 c.1) t w.1 e) where
-      by_why : HasBase s c.1 → Why ms s h site (counter s c.0 c.1) t → ⊥
-      by_why based (inl n) = counter_there_is c.0 (counter_step site c.1 t ∷ p.0) p.1 c.1 based n.2
-      by_why based (inr (inl m)) = mentioned_clear site t m
-      by_why based (inr (inr d)) = clear (in_counter c.1) (c.0, site, t, p, d)
+          by_why : HasBase s c.1 → Why ms s h site (counter s c.0 c.1) t → ⊥
+          by_why based (inl n) = counter_there_is c.0 (counter_step site c.1 t ∷ p.0) p.1 c.1 based n.2
+          by_why based (inr (inl m)) = mentioned_clear site t m
+          by_why based (inr (inr d)) = clear (in_counter c.1) (c.0, site, t, p, d)
     expression_valued (Some c) site t (inr p) e =
         let item = Field p.0 t p.1 in
         let w = h.loads (item_step site c.1 item) (step-In ms c.0 (item_step site c.1 item) p.2.0 p.2.1) in by_why w.0 (why ms s h site (counter s c.0 c.1) t w.1 e) where
-      by_why : HasBase s c.1 → Why ms s h site (counter s c.0 c.1) t → ⊥
-      by_why based (inl n) = counter_there_is c.0 (item_step site c.1 (Field p.0 t p.1) ∷ p.2.0) p.2.1 c.1 based n.2
-      by_why based (inr (inl m)) = mentioned_clear site t m
-      by_why based (inr (inr d)) = field_clear c.0 c.1 site p.0 t p.1 p.2 d
+          by_why : HasBase s c.1 → Why ms s h site (counter s c.0 c.1) t → ⊥
+          by_why based (inl n) = counter_there_is c.0 (item_step site c.1 (Field p.0 t p.1) ∷ p.2.0) p.2.1 c.1 based n.2
+          by_why based (inr (inl m)) = mentioned_clear site t m
+          by_why based (inr (inr d)) = field_clear c.0 c.1 site p.0 t p.1 p.2 d
 
     pub have_values : HaveValues ms s
     have_values = record {

@@ -1,5 +1,5 @@
 -- What a module without a defect has: its variables name entries of its lists, and a counter stands only where a load allows it.
-use Rattle.std.proofs.Common.{◌≡◌, ℕ, ◌<◌, ◌⊎◌, inl, inr, List, [], ◌∷◌, ◌++◌, Option, Some, None, Bool, true, false, ◌||◌, refl, sym, ◌∙◌, ap, cond, arith, rules}
+use Rattle.std.proofs.Common.{◌≡◌, ℕ, ◌<◌, inl, inr, List, [], ◌∷◌, Option, Some, None, Bool, true, false, ◌||◌, refl, sym, ◌∙◌, ap, cond, rules}
 use Rattle.std.specs.Prelude.{nat_le, option_to_list, is_none}
 use Rattle.std.specs.List.{find, list_any}
 use Rattle.mufom_expr.specs.declared.token.Letter.{Letter}
@@ -10,10 +10,9 @@ use Rattle.mufom_names.specs.declared.name.Public.{Public}
 use Rattle.mufom_loads.specs.declared.load.Load.{Load}
 use Rattle.mufom_debug.specs.Marks.{DebugMark, block_begin, block_end, name_mark, note_mark, value_mark, mark_expressions, offset_of}
 use Rattle.mufom_module.specs.declared.module.Parts.{Parts}
-use Rattle.mufom_module.specs.declared.module.Defect.{Defect}
 use Rattle.mufom_module.specs.declared.module.Defect.TheVariants as d
 use Rattle.mufom_module.specs.Contents.{debug_marks, any_of, any_expression, placed_loads}
-use Rattle.mufom_module.specs.Defects.{has_defect, defects, IsValid, counts_of, count_for, is_outside, names_outside, has_bad_place, has_bad_mark, begins_badly, declared_behind, has_other_counter, is_other_counter, misplaces_counter, is_unit_count}
+use Rattle.mufom_module.specs.Defects.{has_defect, IsValid, counts_of, count_for, is_outside, names_outside, has_bad_place, has_bad_mark, begins_badly, declared_behind, has_other_counter, is_other_counter, misplaces_counter}
 use Rattle.mufom_meaning.proofs.NoDefects.{no_defect}
 use Rattle.mufom_meaning.proofs.Tests.{either_false}
 use Rattle.mufom_meaning.proofs.Members.{In, fails-In}

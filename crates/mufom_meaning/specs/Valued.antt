@@ -1,5 +1,5 @@
--- Where an expression has a value: its place, what it mentions, and the divisors of value 0 on its way.
-use Rattle.std.specs.Prelude.{◌≡◌, ◌≢◌, ℕ, ◌==◌, ◌⊎◌, ◌↔◌, List, [], ◌∷◌, Option, Some, None, Contains, if◌then◌else◌, IsTrue, IsSome}
+-- Where an expression has a value (IEEE Std 695, expressions): its place, what it mentions, and the divisors of value 0 on its way.
+use Rattle.std.specs.Prelude.{◌≡◌, ◌≢◌, ℕ, ◌==◌, ◌⊎◌, ◌↔◌, List, [], ◌∷◌, Option, Some, None, Contains, if◌then◌else◌, IsTrue}
 use Rattle.mufom_expr.specs.declared.token.FieldKind.{FieldKind}
 use Rattle.mufom_expr.specs.declared.token.Letter.{Letter}
 use Rattle.mufom_expr.specs.declared.token.Letter.TheVariants as letters
@@ -18,13 +18,14 @@ use Rattle.mufom_meaning.specs.Values.{Setting, setting, value, has_zero_divisor
 use Rattle.mufom_meaning.specs.Steps.{Step, counter_step, item_step, counter}
 use Rattle.mufom_meaning.specs.Stands.{StandsIn, IsStepAfter, LinkFactStands, StandsBeforeWalk}
 use Rattle.mufom_meaning.specs.Cycles.{mentioned}
-use Rattle.mufom_meaning.specs.Walk.{SitedTree, start_trees, debug_trees}
+use Rattle.mufom_meaning.specs.Walk.{start_trees, debug_trees}
 
 -- Where an expression finds its program counter: at a section, after some steps, the latest first. A public, a start and a
 -- debug expression find none.
 abbrev pub CounterPlace : Type 0
 CounterPlace = Option (List Step × ℕ)
 
+-- the counter at a place, and none where an expression finds none
 abbrev pub counter_there : Setting → CounterPlace → Option ℕ
 counter_there s None = None
 counter_there s (Some c) = counter s c.0 c.1

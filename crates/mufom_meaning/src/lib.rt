@@ -15,9 +15,12 @@ pub use laws::{
     answers_agree, answers_are_facts, cycles_are_short, joined_composes, joined_stands_for,
     link_answers_agree, selection_agrees, staged_means_the_same,
 };
+pub use laws_located::{
+    absolute_is_located_as_itself, absolute_is_valid, all_valued, location_is_single,
+    locations_exist, none_by_division, values_exist,
+};
 pub use laws2::{
     counts_agree, facts_agree, joined_is_single, link_facts_grow, no_link_answer_is_linkable,
     selection_is_single,
 };
-pub use laws_located::{absolute_is_located_as_itself, absolute_is_valid, all_valued, location_is_single, locations_exist, none_by_division, values_exist};
 pub use located::{LocatedParts, PublicValue, Run};
