@@ -1,10 +1,16 @@
-//! A law of the marks, the contract of a function that does nothing.
+//! Laws of the marks, the contracts of functions that do nothing.
 
-ghost use Rattle.std.specs.Prelude.{List};
+ghost use Rattle.std.specs.Prelude.{◌≡◌, List};
 ghost use Rattle.mufom_debug.specs.declared.item.DebugItem.{DebugItem};
 ghost use Rattle.mufom_debug.specs.Marks.{marks_of, IsBalanced};
 
 /// Items leave as many blocks open as they found: each block is closed behind its items.
 pub fn items_are_balanced()
     ensures { (items : List DebugItem) → IsBalanced (marks_of items) }
+{}
+
+/// Marks determine the items: each end closes the block that was begun last, so different items have
+/// different marks.
+pub fn marks_determine_items()
+    ensures { (a b : List DebugItem) → marks_of a ≡ marks_of b → a ≡ b }
 {}

@@ -1,0 +1,85 @@
+-- The module that a location is written as (IEEE Std 695, an absolute object module).
+use Rattle.std.specs.Prelude.{ℕ, zero, suc, ◌+◌, ◌-◌, max, List, [], ◌∷◌, length, map, take, drop, flat_map, Option, Some, None, option_map}
+use Rattle.std.specs.List.{enumerate_from}
+use Rattle.mufom_expr.specs.Tree.{number}
+use Rattle.mufom_sections.specs.declared.section.Section.{Section}
+use Rattle.mufom_names.specs.declared.name.Public.{Public}
+use Rattle.mufom_loads.specs.declared.load.Item.TheVariants.{Literal}
+use Rattle.mufom_loads.specs.declared.load.Load.{Load}
+use Rattle.mufom_loads.specs.declared.load.Load.TheVariants.{SetSection, SetPc, One}
+use Rattle.mufom_module.specs.declared.module.Parts.{Parts}
+use Rattle.mufom_plan.specs.declared.plan.Plan.{Plan}
+use Rattle.mufom_meaning.specs.declared.located.PublicValue.{PublicValue}
+use Rattle.mufom_meaning.specs.declared.located.Run.{Run}
+use Rattle.mufom_meaning.specs.declared.located.LocatedParts.{LocatedParts}
+
+-- a literal has at most so many bytes
+abbrev pub literal_limit : ℕ
+literal_limit = 65535
+
+-- a list in pieces of a length, the last one shorter where needed, where there are at most so many pieces
+abbrev pub pieces_within : {X : Type 0} → ℕ → ℕ → List X → List (List X)
+pieces_within zero size xs = []
+pieces_within (suc n) size [] = []
+pieces_within (suc n) size (x ∷ xs) = take size (x ∷ xs) ∷ pieces_within n size (drop size (x ∷ xs))
+
+-- a list in pieces of a length, which is not 0, the last one shorter where needed
+abbrev pub pieces : {X : Type 0} → ℕ → List X → List (List X)
+pieces size xs = pieces_within (length xs) size xs
+
+-- the part of a run that lies from one address up to another
+abbrev pub run_within : ℕ → ℕ → Run → Run
+run_within from to run = record { address = max from run.address; bytes = drop (from - run.address) (take (to - run.address) run.bytes) }
+
+-- what loads a row of bytes: the counter is set to a number, and literals follow
+abbrev pub row_loads : ℕ → Run → List Load
+row_loads section row = SetPc section (number row.address) ∷ map (λ piece. One (Literal piece)) (pieces literal_limit row.bytes)
+
+-- the same, and nothing for a row without bytes
+abbrev pub loads_of_bytes : ℕ → Run → List ℕ → List Load
+loads_of_bytes section row [] = []
+loads_of_bytes section row (byte ∷ bytes) = row_loads section row
+
+-- the loads of a section that lies from one address up to another
+abbrev pub loads_between : ℕ → List Run → ℕ → ℕ → List Load
+loads_between section runs from to = flat_map (λ run. let row = run_within from to run in loads_of_bytes section row row.bytes) runs
+
+-- the section is made the current one where something is loaded
+abbrev pub with_section : ℕ → List Load → List Load
+with_section section [] = []
+with_section section (load ∷ loads) = SetSection section ∷ load ∷ loads
+
+-- the loads of a section at a base
+abbrev pub section_loads_at : ℕ → List Run → Section → Option ℕ → List Load
+section_loads_at n runs section None = []
+section_loads_at n runs section (Some base) = with_section n (loads_between n runs base (base + section.size))
+
+-- The loads of a section, by its position: for each row of loaded addresses inside it, as long as can be, its counter is set and
+-- literals follow.
+abbrev pub section_loads : List Run → ℕ × Section → List Load
+section_loads runs s = section_loads_at s.0 runs s.1 s.1.base
+
+-- a public whose value is one number
+abbrev pub absolute_public : PublicValue → Public
+absolute_public p = record { name = p.name; value = number p.value; notes = p.notes }
+
+-- The module that a location is written as. It has no extension, no environment and no references, and each of its expressions is
+-- one number.
+abbrev pub absolute_of : LocatedParts → Parts
+absolute_of r = record {
+  processor = r.processor;
+  name = r.name;
+  maus = r.maus;
+  order = r.order;
+  ext = [];
+  env = [];
+  sections = r.sections;
+  names = record { publics = map absolute_public r.publics; references = [] };
+  debug = r.debug;
+  loads = flat_map (section_loads r.runs) (enumerate_from 0 r.sections);
+  start = option_map number r.start;
+}
+
+-- the plan that has no region
+abbrev pub no_regions : Plan
+no_regions = record { regions = [] }

@@ -1,0 +1,39 @@
+-- The bytes of a field, and which values it holds.
+use Rattle.std.specs.Prelude.{ℕ, zero, suc, ◌+◌, ◌-◌, ◌%◌, ◌/◌, ◌^◌, List, [], ◌∷◌, Bool, ◌||◌, nat_lt, nat_le, if◌then◌else◌, reverse}
+use Rattle.mufom_expr.specs.declared.token.FieldKind.{FieldKind}
+use Rattle.mufom_expr.specs.declared.token.FieldKind.TheVariants.{Signed, Unsigned, Either}
+use Rattle.mufom_module.specs.declared.module.Order.{Order}
+use Rattle.mufom_module.specs.declared.module.Order.TheVariants.{Least, Most}
+
+-- A residue as a signed number: below half the address space it is that number, else that number less the address space.
+-- It fits where it lies between minus half of 256 ^ size and half of it, the latter left out.
+abbrev pub fits_signed : ℕ → ℕ → ℕ → Bool
+fits_signed modulus size v =
+    if nat_lt (v + v) modulus then nat_lt (v + v) (256 ^ size) else nat_le ((modulus - v) + (modulus - v)) (256 ^ size)
+
+-- a field of so many bytes holds the value
+abbrev pub fits : ℕ → FieldKind → ℕ → ℕ → Bool
+fits modulus Signed size v = fits_signed modulus size v
+fits modulus Unsigned size v = nat_lt v (256 ^ size)
+fits modulus Either size v = fits_signed modulus size v || nat_lt v (256 ^ size)
+
+-- so many bytes of a number, the least first
+abbrev pub bytes_of : ℕ → ℕ → List ℕ
+bytes_of zero v = []
+bytes_of (suc size) v = (v % 256) ∷ bytes_of size (v / 256)
+
+-- bytes, of which the least comes first, in the order of a module
+abbrev pub in_byte_order : Order → List ℕ → List ℕ
+in_byte_order Least bytes = bytes
+in_byte_order Most bytes = reverse bytes
+
+-- the number that a field's bytes spell: for a signed field the two's complement reading of the value, filled up by its
+-- sign where the field is wider than an address
+abbrev pub field_number : ℕ → FieldKind → ℕ → ℕ → ℕ
+field_number modulus Signed size v = if nat_lt (v + v) modulus then v else 256 ^ size - (modulus - v)
+field_number modulus Unsigned size v = v
+field_number modulus Either size v = v % 256 ^ size
+
+-- the bytes of a field that holds a value
+abbrev pub field_bytes : Order → ℕ → FieldKind → ℕ → ℕ → List ℕ
+field_bytes order modulus kind size v = in_byte_order order (bytes_of size (field_number modulus kind size v))

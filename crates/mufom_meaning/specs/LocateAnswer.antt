@@ -1,0 +1,30 @@
+-- What locating a list of modules by a plan answers in place of a location.
+use Rattle.std.specs.Prelude.{ℕ, List, map, Option, Some, None, option_map, slice_get, nat_lt, if◌then◌else◌}
+use Rattle.mufom_module.specs.declared.module.Parts.{Parts}
+use Rattle.mufom_plan.specs.declared.plan.Plan.{Plan}
+use Rattle.mufom_place.specs.Bases.{bases}
+use Rattle.mufom_place.specs.Facts.{◌or_else◌, first_some, place_refusal}
+use Rattle.mufom_meaning.specs.Flat.{public_names, needs, commons, flat_sections, width}
+use Rattle.mufom_meaning.specs.Values.{setting}
+use Rattle.mufom_meaning.specs.Facts.{LocateFact, undefined, common_unplaced, cycle, image_limit, placement}
+use Rattle.mufom_meaning.specs.Cycles.{is_on_cycle}
+use Rattle.mufom_meaning.specs.Walk.{walk_answer}
+use Rattle.mufom_meaning.specs.Counts.{loaded_total}
+
+-- a public that its own name leads back to
+abbrev pub cycle_at : List Parts → List ℕ → Option LocateFact
+cycle_at ms name = if is_on_cycle ms name then Some (cycle name) else None
+
+-- an image has at most 2 ^ 26 bytes
+abbrev pub image_limit_at : ℕ → Option LocateFact
+image_limit_at total = if nat_lt 67108864 total then Some (image_limit total) else None
+
+-- what locating the list by the plan answers in place of a location, the first in this order
+abbrev pub locate_answer : List Parts → Plan → Option LocateFact
+locate_answer ms plan = let s = setting ms (bases plan (flat_sections ms)) in
+    option_map placement (place_refusal (width ms) plan (flat_sections ms))
+    or_else (option_map undefined (slice_get (needs ms) 0)
+    or_else (option_map common_unplaced (slice_get (map (λ c. c.0) (commons ms)) 0)
+    or_else (first_some (cycle_at ms) (public_names ms)
+    or_else (image_limit_at (loaded_total ms)
+    or_else walk_answer ms s))))

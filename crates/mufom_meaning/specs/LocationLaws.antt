@@ -1,0 +1,67 @@
+-- What holds of locations and of selected members.
+use Rattle.std.specs.Prelude.{◌≡◌, ℕ, List, [], ◌∷◌, ◌≢◌, ◌<◌, Option, Some, None, ◌^◌, Contains}
+use Rattle.mufom_debug.specs.Marks.{DebugMark}
+use Rattle.mufom_module.specs.declared.module.Parts.{Parts}
+use Rattle.mufom_module.specs.Defects.{IsValid}
+use Rattle.mufom_module.specs.Written.{weight}
+use Rattle.mufom_plan.specs.declared.plan.Plan.{Plan}
+use Rattle.mufom_place.specs.Bases.{bases}
+use Rattle.mufom_meaning.specs.declared.located.LocatedParts.{LocatedParts}
+use Rattle.mufom_meaning.specs.Flat.{flat_sections}
+use Rattle.mufom_meaning.specs.Readings.{readings, PublicReading, MarkReading, Readings}
+use Rattle.mufom_meaning.specs.Location.{IsLocation, located_mark}
+use Rattle.mufom_meaning.specs.Selection.{IsSelected}
+use Rattle.mufom_meaning.specs.Values.{value}
+use Rattle.mufom_meaning.specs.Steps.{StepReading, counter_reading, literal_reading, field_reading}
+use Rattle.mufom_meaning.specs.LinkAnswer.{link_answer}
+use Rattle.mufom_meaning.specs.LocateAnswer.{locate_answer}
+use Rattle.mufom_meaning.specs.Absolute.{absolute_of, no_regions}
+use Rattle.mufom_meaning.specs.Staging.{AreValid}
+
+-- an expression has a value
+abbrev pub HasValue : Option ℕ → Type 0
+HasValue value = (n : ℕ) × (value ≡ Some n)
+
+-- a step has its counter, and what it sets or puts there a value
+abbrev pub StepHasValue : StepReading → Type 0
+StepHasValue (counter_reading section value) = HasValue value
+StepHasValue (literal_reading section at bytes) = HasValue at
+StepHasValue (field_reading section at kind size value) = HasValue at × HasValue value
+
+-- each expression has a value
+pub record AreValued (r : Readings) : Type 0 where
+  pub publics : (q : PublicReading) → Contains r.publics q → HasValue q.value
+  pub steps : (step : StepReading) → Contains r.steps step → StepHasValue step
+  pub starts : (value : Option ℕ) → Contains r.starts value → HasValue value
+  pub debug : (mark : MarkReading) → Contains r.debug mark → (located : DebugMark) × (located_mark mark ≡ Some located)
+
+-- Where no fact stands against modules without a defect, each expression has a value.
+abbrev pub AllValued : Type 0
+AllValued =
+    (ms : List Parts) (plan : Plan) → AreValid ms → link_answer ms ≡ None → locate_answer ms plan ≡ None
+    → AreValued (readings ms (bases plan (flat_sections ms)))
+
+-- Where no fact stands against modules without a defect, there is a location.
+abbrev pub LocationsExist : Type 0
+LocationsExist =
+    (ms : List Parts) (plan : Plan) → ms ≢ [] → AreValid ms → link_answer ms ≡ None → locate_answer ms plan ≡ None
+    → (r : LocatedParts) × IsLocation ms plan r
+
+-- A list has one location by a plan at most.
+abbrev pub LocationIsSingle : Type 0
+LocationIsSingle = (ms : List Parts) (plan : Plan) (r q : LocatedParts) → IsLocation ms plan r → IsLocation ms plan q → r ≡ q
+
+-- The module that a location is written as, located alone by a plan without regions, is located as itself.
+abbrev pub AbsoluteIsLocatedAsItself : Type 0
+AbsoluteIsLocatedAsItself =
+    (ms : List Parts) (plan : Plan) (r : LocatedParts) → AreValid ms → IsLocation ms plan r → IsLocation (absolute_of r ∷ []) no_regions r
+
+-- The module that a location is written as has no defect, where it is not too heavy.
+abbrev pub AbsoluteIsValid : Type 0
+AbsoluteIsValid =
+    (ms : List Parts) (plan : Plan) (r : LocatedParts) → AreValid ms → IsLocation ms plan r → weight (absolute_of r) < 2 ^ 32 → IsValid (absolute_of r)
+
+-- The members that are selected for a list are determined.
+abbrev pub SelectionIsSingle : Type 0
+SelectionIsSingle =
+    (ms members : List Parts) (chosen other : List ℕ) → IsSelected ms members chosen → IsSelected ms members other → chosen ≡ other

@@ -1,0 +1,125 @@
+-- What holds of stages of linking.
+use Rattle.std.specs.Prelude.{◌≡◌, ℕ, List, [], ◌∷◌, ◌++◌, length, ◌↔◌, ◌+◌, ◌<◌, ◌≤◌, ◌^◌, sum_by}
+use Rattle.mufom_names.specs.Names.{AreDistinct}
+use Rattle.mufom_module.specs.declared.module.Parts.{Parts}
+use Rattle.mufom_module.specs.Defects.{IsValid}
+use Rattle.mufom_module.specs.Written.{weight}
+use Rattle.mufom_plan.specs.declared.plan.Plan.{Plan}
+use Rattle.mufom_meaning.specs.declared.located.LocatedParts.{LocatedParts}
+use Rattle.mufom_meaning.specs.Flat.{flat_sections, public_names}
+use Rattle.mufom_meaning.specs.Readings.{readings}
+use Rattle.mufom_meaning.specs.Joined.{IsJoined}
+use Rattle.mufom_meaning.specs.Location.{IsLocation, first_header}
+use Rattle.mufom_meaning.specs.Selection.{IsSelected}
+use Rattle.mufom_meaning.specs.Facts.{LinkFact, LocateFact}
+use Rattle.mufom_meaning.specs.LinkAnswer.{link_answer}
+use Rattle.mufom_meaning.specs.LocateAnswer.{locate_answer}
+use Rattle.mufom_meaning.specs.Staging.{AreValid, HaveDescriptor, HaveDescriptorOf, StandsFor, HasSettledReferences, IsStaged}
+use Rattle.mufom_meaning.specs.Stands.{LinkFactStands, LocateFactStands}
+
+-- A partial link stands for its list: it means the same in every context, it has the list's sections and public names, and no
+-- reference is left to one of its own publics.
+abbrev pub JoinedStandsFor : Type 0
+JoinedStandsFor =
+    (M : Parts) (ms : List Parts) (name : List ℕ) → IsJoined M ms name → IsValid M → AreValid ms
+    → AreDistinct (public_names ms)
+    → StandsFor M ms × (M.sections ≡ flat_sections ms) × (public_names (M ∷ []) ≡ public_names ms) × HasSettledReferences M
+
+-- Links compose: the outer link of the list with the group linked is that of the flat list.
+abbrev pub JoinedComposes : Type 0
+JoinedComposes =
+    (M N : Parts) (ms before after : List Parts) (inner outer : List ℕ)
+    → IsJoined M ms inner → AreValid (before ++ (ms ++ after)) → HaveDescriptor M (before ++ (ms ++ after))
+    → AreDistinct (public_names (before ++ (ms ++ after)))
+    → (IsJoined N (before ++ (M ∷ after)) outer → IsJoined N (before ++ (ms ++ after)) outer)
+    × (IsJoined N (before ++ (ms ++ after)) outer → IsJoined N (before ++ (M ∷ after)) outer)
+
+-- What is answered in place of an outer link is the same with a group linked, also where a link fact stands: the group alone has
+-- one descriptor.
+abbrev pub LinkAnswersAgree : Type 0
+LinkAnswersAgree =
+    (M : Parts) (ms before after : List Parts) (name : List ℕ)
+    → IsJoined M ms name → HaveDescriptorOf ms ms
+    → link_answer (before ++ (M ∷ after)) ≡ link_answer (before ++ (ms ++ after))
+
+-- Nor do the link facts change, all of them.
+abbrev pub LinkFactsAgree : Type 0
+LinkFactsAgree =
+    (M : Parts) (ms before after : List Parts) (name : List ℕ) (fact : LinkFact)
+    → IsJoined M ms name → HaveDescriptorOf ms ms
+    → LinkFactStands (before ++ (M ∷ after)) fact ↔ LinkFactStands (before ++ (ms ++ after)) fact
+
+-- What is answered in place of a link or a location of a list with a link is what is answered for the flat list.
+abbrev pub AnswersAgree : Type 0
+AnswersAgree =
+    (M : Parts) (ms before after : List Parts) (name : List ℕ) (plan : Plan)
+    → IsJoined M ms name → AreValid (before ++ (ms ++ after)) → HaveDescriptor M (before ++ (ms ++ after))
+    → AreDistinct (public_names (before ++ (ms ++ after)))
+    → (link_answer (before ++ (M ∷ after)) ≡ link_answer (before ++ (ms ++ after)))
+    × (locate_answer (before ++ (M ∷ after)) plan ≡ locate_answer (before ++ (ms ++ after)) plan)
+
+-- The facts about a list with a link are those about the flat list, all of them and the answered one.
+pub record FactsAgreeOn (linked flat : List Parts) (plan : Plan) : Type 0 where
+  pub link_facts : (fact : LinkFact) → LinkFactStands linked fact ↔ LinkFactStands flat fact
+  pub locate_facts : (fact : LocateFact) → LocateFactStands linked plan fact ↔ LocateFactStands flat plan fact
+  pub link_answers : link_answer linked ≡ link_answer flat
+  pub locate_answers : locate_answer linked plan ≡ locate_answer flat plan
+
+-- This holds wherever the flat list is without a defect, has one descriptor and has no public name twice.
+abbrev pub FactsAgree : Type 0
+FactsAgree =
+    (M : Parts) (ms before after : List Parts) (name : List ℕ) (plan : Plan)
+    → IsJoined M ms name → AreValid (before ++ (ms ++ after)) → HaveDescriptor M (before ++ (ms ++ after))
+    → AreDistinct (public_names (before ++ (ms ++ after)))
+    → FactsAgreeOn (before ++ (M ∷ after)) (before ++ (ms ++ after)) plan
+
+-- The members selected for the list with a link are those selected for the flat list.
+abbrev pub SelectionAgrees : Type 0
+SelectionAgrees =
+    (M : Parts) (ms before after : List Parts) (name : List ℕ) (members : List Parts) (chosen : List ℕ)
+    → IsJoined M ms name
+    → IsSelected (before ++ (M ∷ after)) members chosen ↔ IsSelected (before ++ (ms ++ after)) members chosen
+
+-- Two lists mean the same: they have the same readings wherever the sections stand, the same link, facts, answers and location
+-- whatever the plan, and the same members.
+pub record MeansTheSame (ms leaves : List Parts) : Type 0 where
+  pub same_readings : (bases : List ℕ) → readings ms bases ≡ readings leaves bases
+  pub same_first : first_header ms ≡ first_header leaves
+  pub same_joined : (N : Parts) (name : List ℕ) → IsJoined N ms name ↔ IsJoined N leaves name
+  pub same_link_facts : (fact : LinkFact) → LinkFactStands ms fact ↔ LinkFactStands leaves fact
+  pub same_locate_facts : (plan : Plan) (fact : LocateFact) → LocateFactStands ms plan fact ↔ LocateFactStands leaves plan fact
+  pub same_link : link_answer ms ≡ link_answer leaves
+  pub same_locate : (plan : Plan) → locate_answer ms plan ≡ locate_answer leaves plan
+  pub same_location : (plan : Plan) (r : LocatedParts) → IsLocation ms plan r ↔ IsLocation leaves plan r
+  pub same_members : (members : List Parts) (chosen : List ℕ) → IsSelected ms members chosen ↔ IsSelected leaves members chosen
+
+-- Files that earlier runs linked, in whatever stages, mean what the list means that those runs began with. d is any module
+-- with the descriptor of the list.
+abbrev pub StagedMeansTheSame : Type 0
+StagedMeansTheSame =
+    (d : Parts) (ms leaves : List Parts) → IsStaged ms leaves → AreValid leaves → HaveDescriptor d leaves
+    → AreDistinct (public_names leaves)
+    → MeansTheSame ms leaves
+
+-- A list has one partial link under a name at most.
+abbrev pub JoinedIsSingle : Type 0
+JoinedIsSingle = (M N : Parts) (ms : List Parts) (name : List ℕ) → IsJoined M ms name → IsJoined N ms name → M ≡ N
+
+-- what all modules of a list weigh
+abbrev pub total_weight : List Parts → ℕ
+total_weight ms = sum_by weight ms
+
+-- the length of the first module's name
+abbrev pub first_name_length : List Parts → ℕ
+first_name_length [] = 0
+first_name_length (m ∷ ms) = length m.name
+
+-- A partial link of modules without a defect weighs no more than they do together, but for its name in the place of the first
+-- module's, and it has no defect where its name is no longer than a string may be and the sum is below 2^32.
+pub record JoinedIsSound (M : Parts) (ms : List Parts) (name : List ℕ) : Type 0 where
+  pub weighs : weight M + first_name_length ms ≤ total_weight ms + length name
+  pub valid : length name < 2 ^ 16 → total_weight ms + length name < 2 ^ 32 → IsValid M
+
+-- This holds of each partial link of modules without a defect.
+abbrev pub JoinedIsValid : Type 0
+JoinedIsValid = (M : Parts) (ms : List Parts) (name : List ℕ) → IsJoined M ms name → AreValid ms → JoinedIsSound M ms name

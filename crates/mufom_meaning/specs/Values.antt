@@ -1,0 +1,72 @@
+-- The value of an expression in a list of modules.
+use Rattle.std.specs.Prelude.{ℕ, zero, suc, ◌+◌, ◌^◌, ◌==◌, List, length, Option, Some, None, option_map, slice_get, Bool, if◌then◌else◌}
+use Rattle.mufom_expr.specs.declared.token.Letter.TheVariants as letters
+use Rattle.mufom_expr.specs.Tree.{Tree}
+use Rattle.mufom_expr.specs.Value.{Environment, value_at, divides_by_zero}
+use Rattle.mufom_sections.specs.declared.section.Section.{Section}
+use Rattle.mufom_names.specs.declared.name.Weak.{Weak}
+use Rattle.mufom_names.specs.declared.name.Reference.{Reference}
+use Rattle.mufom_module.specs.declared.module.Parts.{Parts}
+use Rattle.mufom_meaning.specs.Flat.{Sited, SitedPublic, flat_sections, flat_publics, first_named, width}
+
+-- what an expression's value depends on beside its own module: the address space, and all sections and publics
+pub record Setting : Type 0 where
+  pub modulus : ℕ
+  pub sections : List Section
+  pub publics : List SitedPublic
+  -- the base of each section, by its flat number
+  pub bases : List ℕ
+
+-- the setting of a list of modules whose sections stand at these bases
+abbrev pub setting : List Parts → List ℕ → Setting
+setting ms bases = record { modulus = 2 ^ width ms; sections = flat_sections ms; publics = flat_publics ms; bases = bases }
+
+-- what the expression of a public is worth in its module
+abbrev pub Worth : Type 0
+Worth = Sited → Tree → Option ℕ
+
+-- what a public is worth, where there is one
+abbrev pub worth_of : Worth → Option SitedPublic → Option ℕ
+worth_of worth None = None
+worth_of worth (Some q) = worth q.site q.entry.value
+
+-- a weak reference of size 0 has its default
+abbrev pub default_of : Option Weak → Option ℕ
+default_of None = None
+default_of (Some weak) = if weak.size == 0 then Some weak.default else None
+
+-- a reference has the value of the first public of its name, and its default where there is none
+abbrev pub reference_value : Worth → Option SitedPublic → Option Weak → Option ℕ
+reference_value worth (Some q) weak = worth q.site q.entry.value
+reference_value worth None weak = default_of weak
+
+-- what a reference is worth, where there is one
+abbrev pub worth_of_reference : Setting → Worth → Option Reference → Option ℕ
+worth_of_reference s worth None = None
+worth_of_reference s worth (Some reference) = reference_value worth (first_named s.publics reference.name) reference.weak
+
+-- What the variables are worth in a module, where the program counter is pc: R and L the base of a section, S its size, P
+-- the counter, I the value of a public, X that of a reference. Sections and publics go by their flat numbers, so a position
+-- past the module's own, which no valid module names, would be read from the next one. All numbers are taken modulo the
+-- address space where they are used.
+abbrev pub environment : Setting → Worth → Sited → Option ℕ → Environment
+environment s worth site pc letters.R n = slice_get s.bases (site.first_section + n)
+environment s worth site pc letters.L n = slice_get s.bases (site.first_section + n)
+environment s worth site pc letters.S n = option_map (λ section. section.size) (slice_get s.sections (site.first_section + n))
+environment s worth site pc letters.P n = pc
+environment s worth site pc letters.I n = worth_of worth (slice_get s.publics (site.first_public + n))
+environment s worth site pc letters.X n = worth_of_reference s worth (slice_get site.parts.names.references n)
+
+-- The value of an expression in a module, going through at most the given number of names on any way down. With no
+-- step left a public has no value.
+abbrev pub value_within : Setting → ℕ → Sited → Option ℕ → Tree → Option ℕ
+value_within s zero site pc t = value_at s.modulus (environment s (λ site' t'. None) site pc) t
+value_within s (suc k) site pc t = value_at s.modulus (environment s (λ site' t'. value_within s k site' None t') site pc) t
+
+-- The value: as many steps as there are publics are enough, unless the names lead in a circle.
+abbrev pub value : Setting → Sited → Option ℕ → Tree → Option ℕ
+value s site pc t = value_within s (length s.publics) site pc t
+
+-- somewhere in the expression a divisor has the value 0
+abbrev pub has_zero_divisor : Setting → Sited → Option ℕ → Tree → Bool
+has_zero_divisor s site pc t = divides_by_zero (λ part. value s site pc part) t

@@ -1,0 +1,42 @@
+use mufom_debug::DebugItem;
+use mufom_module::Order;
+use mufom_names::Note;
+use mufom_numbers::{Bytes, List};
+use mufom_sections::Section;
+
+/// A public with its value.
+#[derive(Debug, Drop)]
+pub struct PublicValue {
+    pub name: Bytes,
+    /// A residue modulo the address space, in addressable units where it is an address.
+    pub value: u64,
+    pub notes: List<Note>,
+}
+
+/// Loaded bytes at neighbouring addresses.
+#[derive(Debug, Drop)]
+pub struct Run {
+    /// The address of the first byte, in addressable units (of eight bits).
+    pub address: u64,
+    pub bytes: Bytes,
+}
+
+/// What a list of modules is once its sections have their places: nothing in it waits for a value.
+#[derive(Debug, Drop)]
+pub struct LocatedParts {
+    pub processor: Bytes,
+    pub name: Bytes,
+    /// How many minimum addressable units (of eight bits) an address has.
+    pub maus: u8,
+    pub order: Order,
+    /// Each section is absolute and has its base.
+    pub sections: List<Section>,
+    pub publics: List<PublicValue>,
+    /// The loaded bytes, in rows that are as long as can be, in order of their addresses.
+    pub runs: List<Run>,
+    /// The start address, in addressable units.
+    pub start: Option<u64>,
+    /// The debug items, with one number in place of each expression. Sections and names go by their
+    /// positions among those of the whole list.
+    pub debug: List<DebugItem>,
+}
