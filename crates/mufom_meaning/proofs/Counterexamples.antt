@@ -20,7 +20,6 @@ use Rattle.mufom_meaning.specs.Steps.{StepReading, counter_reading, literal_read
 use Rattle.mufom_meaning.specs.Readings.{Readings, HeadReading, MarkReading, mark_reading, module_head, global_head, local_head, source_head, section_head, begin_reading, end_reading, name_reading, note_reading, value_reading}
 use Rattle.mufom_meaning.specs.Joined.{joined_mark, IsJoined, joined_mark}
 use Rattle.mufom_meaning.specs.Staging.{IsContext, StandsFor}
-use Rattle.mufom_meaning.specs.Facts.{descriptor}
 use Rattle.mufom_meaning.specs.Values.{setting}
 use Rattle.mufom_meaning.proofs.Answers.{distinct_places}
 use Rattle.mufom_meaning.proofs.RowsBuilt.{a_module, relocatable, public_of, strong, weak}

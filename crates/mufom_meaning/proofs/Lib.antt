@@ -19,7 +19,9 @@ pub mod Paired
 pub mod References
 pub mod Renamed
 pub mod RowsBuilt
+pub mod RowsOfDebug
 pub mod RowsOfFacts
+pub mod RowsOfLocations
 pub mod RowsOfNames
 pub mod SameLocation
 pub mod Selected

@@ -1,6 +1,6 @@
 -- Worked examples of placement, loads, facts and selection: the definitions compute the expected answers.
 use Rattle.std.proofs.Common.{◌≡◌, ℕ, List, [], ◌∷◌, ◌++◌, map, Some, None, true, false, refl}
-use Rattle.std.specs.Prelude.{codes, ◌+◌, ◌*◌}
+use Rattle.std.specs.Prelude.{codes}
 use Rattle.mufom_expr.specs.declared.token.FieldKind.TheVariants.{Signed, Either}
 use Rattle.mufom_expr.specs.declared.token.Letter.TheVariants.{P}
 use Rattle.mufom_expr.specs.Tree.{number, variable, two, divided}

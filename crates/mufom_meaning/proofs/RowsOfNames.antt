@@ -63,6 +63,25 @@ circle = a_module [] (public_of (codes "a") (two plus (variable X 0) (number 1))
 circle_found : locate_answer circle (plan_of []) ≡ Some (cycle (codes "a"))
 circle_found = refl
 
+-- The circle is found in the link of the two as well.
+abbrev circle_linked : Parts
+circle_linked = a_module [] (public_of (codes "a") (two plus (variable I 1) (number 1)) ∷ public_of (codes "b") (two minus (variable I 0) (number 1)) ∷ []) [] []
+
+circle_is_joined : IsJoined circle_linked circle (codes "a")
+circle_is_joined = record {
+  named = refl;
+  header = record { processor = refl; maus = refl; order = refl; ext = refl; env = refl };
+  sections = refl;
+  publics = refl;
+  references = refl;
+  loads = refl;
+  start = refl;
+  debug = refl;
+}
+
+circle_found_linked : locate_answer (circle_linked ∷ []) (plan_of []) ≡ Some (cycle (codes "a"))
+circle_found_linked = refl
+
 -- A public that leads into a circle and lies on none.
 led_in : locate_answer (a_module [] (public_of (codes "c") (variable I 1) ∷ public_of (codes "a") (two plus (variable I 2) (number 1)) ∷ public_of (codes "b") (two minus (variable I 1) (number 1)) ∷ []) [] [] ∷ []) (plan_of [])
     ≡ Some (cycle (codes "a"))
