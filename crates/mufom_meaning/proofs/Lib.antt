@@ -3,6 +3,7 @@ pub mod AllAnswers
 pub mod Answers
 pub mod Chains
 pub mod Composed
+pub mod Counterexamples
 pub mod Cycles
 pub mod Distinct
 pub mod Groups
@@ -17,6 +18,11 @@ pub mod NoDefects
 pub mod Paired
 pub mod References
 pub mod Renamed
+pub mod RowsBuilt
+pub mod RowsOfDebug
+pub mod RowsOfFacts
+pub mod RowsOfLocations
+pub mod RowsOfNames
 pub mod SameLocation
 pub mod Selected
 pub mod Settings
