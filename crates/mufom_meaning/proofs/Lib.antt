@@ -41,3 +41,4 @@ pub mod Linkable
 pub mod FollowsLink
 pub mod FactsLinked
 pub mod LinkFactsLinked
+mod JoinedWeight
