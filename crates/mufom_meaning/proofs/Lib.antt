@@ -1,3 +1,12 @@
+pub mod Members
+pub mod WithoutDefect
+pub mod CellRows
+pub mod Monotone
+pub mod Ends
+pub mod Causes
+pub mod Lacks
+pub mod Valued
+pub mod Named
 pub mod Agreed
 pub mod AllAnswers
 pub mod Answers
@@ -9,7 +18,6 @@ pub mod Distinct
 pub mod Groups
 pub mod LinkAgreed
 pub mod LinkedLoads
-pub mod Monotone
 pub mod Moved
 pub mod MovedSteps
 pub mod Names
@@ -31,6 +39,7 @@ pub mod Stages
 pub mod Staging
 pub mod Tests
 pub mod WalkAnswers
+pub mod ValueLaws
 pub mod JoinedSingle
 pub mod StepCounts
 pub mod SelectionSingle
@@ -42,3 +51,16 @@ pub mod FollowsLink
 pub mod FactsLinked
 pub mod LinkFactsLinked
 mod JoinedWeight
+pub mod ChangedMarks
+pub mod SingleLocation
+pub mod OwnAddresses
+pub mod LocationExists
+pub mod AbsoluteCells
+pub mod AbsoluteWalk
+pub mod AbsolutePlaces
+pub mod AbsoluteFacts
+pub mod AbsoluteCounts
+pub mod AbsoluteMarks
+pub mod CellHome
+pub mod AbsoluteRows
+pub mod AbsoluteLocated

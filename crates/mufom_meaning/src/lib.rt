@@ -8,6 +8,7 @@
 
 mod laws;
 mod laws2;
+mod laws_located;
 mod located;
 
 pub use laws::{
@@ -18,4 +19,5 @@ pub use laws2::{
     counts_agree, facts_agree, joined_is_single, link_facts_agree, link_facts_grow,
     no_link_answer_is_linkable, selection_is_single,
 };
+pub use laws_located::{absolute_is_located_as_itself, all_valued, location_is_single, locations_exist, none_by_division, values_exist};
 pub use located::{LocatedParts, PublicValue, Run};
