@@ -64,3 +64,5 @@ pub mod AbsoluteMarks
 pub mod CellHome
 pub mod AbsoluteRows
 pub mod AbsoluteLocated
+mod JoinedEntries
+mod JoinedPlaces
