@@ -13,6 +13,7 @@ pub mod AllAnswers
 pub mod Answers
 pub mod Chains
 pub mod Composed
+pub mod Counterexamples
 pub mod Cycles
 pub mod Distinct
 pub mod Groups
@@ -26,6 +27,11 @@ pub mod NoDefects
 pub mod Paired
 pub mod References
 pub mod Renamed
+pub mod RowsBuilt
+pub mod RowsOfDebug
+pub mod RowsOfFacts
+pub mod RowsOfLocations
+pub mod RowsOfNames
 pub mod SameLocation
 pub mod Selected
 pub mod Settings
@@ -44,6 +50,7 @@ pub mod FactsAlike
 pub mod Linkable
 pub mod FollowsLink
 pub mod FactsLinked
+pub mod LinkFactsLinked
 pub mod ChangedMarks
 pub mod SingleLocation
 pub mod OwnAddresses
@@ -60,3 +67,6 @@ pub mod AbsoluteLocated
 pub mod AbsoluteLoads
 pub mod AbsoluteDebug
 pub mod AbsoluteValid
+mod JoinedWeight
+mod JoinedEntries
+mod JoinedPlaces

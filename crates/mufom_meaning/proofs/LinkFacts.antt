@@ -11,7 +11,7 @@ use Rattle.mufom_meaning.specs.Staging.{HaveDescriptor}
 use Rattle.mufom_meaning.specs.FactLaws.{LinkFactsGrow}
 
 -- a place of a list, counted in the longer list that has others before it
-abbrev place_behind : {A : Type 0} → List A → ℕ → ℕ
+abbrev pub place_behind : {A : Type 0} → List A → ℕ → ℕ
 place_behind [] n = n
 place_behind (x ∷ xs) n = suc (place_behind xs n)
 
@@ -24,7 +24,7 @@ get_front [] ys i x e = absurd cc
 get_front (y ∷ xs) ys zero x e = e
 get_front (y ∷ xs) ys (suc i) x e = get_front xs ys i x e
 
-get_behind : {A : Type 0} (xs ys : List A) (i : ℕ) → slice_get (xs ++ ys) (place_behind xs i) ≡ slice_get ys i
+pub get_behind : {A : Type 0} (xs ys : List A) (i : ℕ) → slice_get (xs ++ ys) (place_behind xs i) ≡ slice_get ys i
 get_behind [] ys i = refl
 get_behind (x ∷ xs) ys i = get_behind xs ys i
 

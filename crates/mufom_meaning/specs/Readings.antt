@@ -1,4 +1,4 @@
--- What a list of modules means at given bases. Two lists with equal readings give the same image and the same facts.
+-- What a list of modules means where its sections stand at given bases: the value of each public, step, start and debug expression.
 use Rattle.std.specs.Prelude.{ℕ, ◌+◌, List, map, flat_map, Option, Some, None, option_to_list}
 use Rattle.mufom_expr.specs.Tree.{Tree}
 use Rattle.mufom_sections.specs.declared.section.Section.{Section}

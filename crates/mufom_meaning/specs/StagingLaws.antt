@@ -42,6 +42,13 @@ LinkAnswersAgree =
     → IsJoined M ms name → HaveDescriptorOf ms ms
     → link_answer (before ++ (M ∷ after)) ≡ link_answer (before ++ (ms ++ after))
 
+-- Nor do the link facts change, all of them.
+abbrev pub LinkFactsAgree : Type 0
+LinkFactsAgree =
+    (M : Parts) (ms before after : List Parts) (name : List ℕ) (fact : LinkFact)
+    → IsJoined M ms name → HaveDescriptorOf ms ms
+    → LinkFactStands (before ++ (M ∷ after)) fact ↔ LinkFactStands (before ++ (ms ++ after)) fact
+
 -- What is answered in place of a link or a location of a list with a link is what is answered for the flat list.
 abbrev pub AnswersAgree : Type 0
 AnswersAgree =

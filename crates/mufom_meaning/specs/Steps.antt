@@ -1,4 +1,4 @@
--- What the loads of a list of modules do, step by step, and the program counter at each step.
+-- What the loads of a list of modules do, step by step, and the program counter at each step (IEEE Std 695, load commands).
 use Rattle.std.specs.Prelude.{ℕ, ◌+◌, ◌%◌, ◌==◌, List, [], ◌∷◌, ◌++◌, flat_map, Option, Some, None, option_map, slice_get, if◌then◌else◌}
 use Rattle.mufom_expr.specs.declared.token.FieldKind.{FieldKind}
 use Rattle.mufom_expr.specs.Tree.{Tree}

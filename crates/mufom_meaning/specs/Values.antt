@@ -1,4 +1,4 @@
--- The value of an expression in a list of modules.
+-- The value of an expression in a list of modules (IEEE Std 695, expressions).
 use Rattle.std.specs.Prelude.{ℕ, zero, suc, ◌+◌, ◌^◌, ◌==◌, List, length, Option, Some, None, option_map, slice_get, Bool, if◌then◌else◌}
 use Rattle.mufom_expr.specs.declared.token.Letter.TheVariants as letters
 use Rattle.mufom_expr.specs.Tree.{Tree}

@@ -1,6 +1,6 @@
 //! Laws over the definitions, each the contract of a call with no work to do.
 
-ghost use Rattle.mufom_meaning.specs.StagingLaws.{FactsAgree, JoinedIsSingle};
+ghost use Rattle.mufom_meaning.specs.StagingLaws.{FactsAgree, JoinedIsSingle, LinkFactsAgree};
 ghost use Rattle.mufom_meaning.specs.FactLaws.{CountsAgree, LinkFactsGrow, NoLinkAnswerIsLinkable};
 ghost use Rattle.mufom_meaning.specs.LocationLaws.{SelectionIsSingle};
 
@@ -34,4 +34,10 @@ pub fn no_link_answer_is_linkable()
 /// answered one.
 pub fn facts_agree()
     ensures { FactsAgree }
+{}
+
+/// The link facts about a list with a group linked are those about the flat list, also where
+/// descriptors differ or a name stands twice: the group alone has one descriptor.
+pub fn link_facts_agree()
+    ensures { LinkFactsAgree }
 {}

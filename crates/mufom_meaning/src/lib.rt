@@ -20,7 +20,7 @@ pub use laws_located::{
     locations_exist, none_by_division, values_exist,
 };
 pub use laws2::{
-    counts_agree, facts_agree, joined_is_single, link_facts_grow, no_link_answer_is_linkable,
-    selection_is_single,
+    counts_agree, facts_agree, joined_is_single, link_facts_agree, link_facts_grow,
+    no_link_answer_is_linkable, selection_is_single,
 };
 pub use located::{LocatedParts, PublicValue, Run};

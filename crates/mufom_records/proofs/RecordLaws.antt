@@ -106,9 +106,9 @@ more-record_at mode input fits e = said_more mode input (record_at mode input) (
 
 -- ---- laws
 
-later_of : (mode : Mode) (row : Record) (text rest more : List ℕ) → IsWholeRecord mode row text (first_of rest None) → IsWholeRecord mode row text (first_of (rest ++ more) None)
-later_of mode row text [] more is = record-later exact (layout_of mode) row 0 text (first_of more None) is
-later_of mode row text (b ∷ rest) more is = is
+later_of : (mode : Mode) (it : Record) (text rest more : List ℕ) → IsWholeRecord mode it text (first_of rest None) → IsWholeRecord mode it text (first_of (rest ++ more) None)
+later_of mode it text [] more is = record-later exact (layout_of mode) it 0 text (first_of more None) is
+later_of mode it text (b ∷ rest) more is = is
 
 stable_by : (mode : Mode) (input more : List ℕ) (answer : Taken Record) → Says mode input answer → (answer ≡ taken.More → ⊥) → record_at mode (input ++ more) ≡ answer
 stable_by mode input more answer (says_got row used is) wanted =

@@ -4,7 +4,7 @@ use mufom_numbers::{Reason, Taken};
 use std::test::Fail;
 
 // Whole records, each with the byte E1 behind it, in the mode that reads them, and their values.
-const RECORDS: [(Mode, &[u8], &str); 48] = [
+const RECORDS: [(Mode, &[u8], &str); 54] = [
     (
         Mode::Begin,
         &[0xE0, 0x05, 0x36, 0x38, 0x30, 0x30, 0x30, 0x01, 0x41, 0xE1],
@@ -26,9 +26,19 @@ const RECORDS: [(Mode, &[u8], &str); 48] = [
         "Descriptor(8, 4, Some(205))",
     ),
     (
+        Mode::Descriptor,
+        &[0xEC, 0x08, 0x02, 0xCC, 0xE1],
+        "Descriptor(8, 2, Some(204))",
+    ),
+    (
         Mode::Offset(2),
         &[0xE2, 0xD7, 0x02, 0x84, 0x00, 0x00, 0x00, 0x4D, 0xE1],
         "Offset(2, 77)",
+    ),
+    (
+        Mode::Offset(3),
+        &[0xE2, 0xD7, 0x81, 0x03, 0x83, 0x00, 0x01, 0x00, 0xE1],
+        "Offset(3, 256)",
     ),
     (
         Mode::Body,
@@ -59,7 +69,19 @@ const RECORDS: [(Mode, &[u8], &str); 48] = [
     ),
     (
         Mode::Body,
+        &[0xE6, 0x01, 0xC3, 0xD2, 0x00, 0x05, 0x06, 0xE1],
+        "SectionType(1, false, Some(210), Span { start: 5, len: 0 }, Some(5), Some(6), None)",
+    ),
+    (
+        Mode::Body,
         &[0xE7, 0x01, 0x02, 0xE1],
+        "Alignment(1, 2, None)",
+    ),
+    (
+        Mode::Body,
+        &[
+            0xE7, 0x01, 0x87, 0x00, 0x00, 0x00, 0x00, 0x00, 0x00, 0x02, 0xE1,
+        ],
         "Alignment(1, 2, None)",
     ),
     (
@@ -74,7 +96,17 @@ const RECORDS: [(Mode, &[u8], &str); 48] = [
     ),
     (
         Mode::Body,
+        &[0xE2, 0xD3, 0x01, 0x85, 0x01, 0x00, 0x00, 0x00, 0x00, 0xE1],
+        "SectionSize(1, 4294967296)",
+    ),
+    (
+        Mode::Body,
         &[0xE2, 0xCC, 0x01, 0x82, 0x10, 0x00, 0xE1],
+        "SectionBase(1, 4096)",
+    ),
+    (
+        Mode::Body,
+        &[0xE2, 0xCC, 0x01, 0x86, 0x00, 0x00, 0x00, 0x00, 0x10, 0x00, 0xE1],
         "SectionBase(1, 4096)",
     ),
     (
