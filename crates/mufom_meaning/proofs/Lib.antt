@@ -70,3 +70,4 @@ pub mod AbsoluteValid
 mod JoinedWeight
 mod JoinedEntries
 mod JoinedPlaces
+pub mod Enough

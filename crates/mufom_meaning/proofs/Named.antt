@@ -100,7 +100,7 @@ name_there : (ms : List Parts) (i : ℕ) (q : SitedPublic) → slice_get (flat_p
 name_there ms i q e = ap (λ names. slice_get names i) (sym (names_of-publics_of 0 0 0 ms)) ∙ named_at (flat_publics ms) i q e
 
 -- where no name stands twice, a public is the first of its name
-single_name : (ms : List Parts) → ((name : List ℕ) → ¬ LinkFactStands ms (duplicate name)) → (q : SitedPublic) → StandsIn q (flat_publics ms) → first_named (flat_publics ms) q.entry.name ≡ Some q
+pub single_name : (ms : List Parts) → ((name : List ℕ) → ¬ LinkFactStands ms (duplicate name)) → (q : SitedPublic) → StandsIn q (flat_publics ms) → first_named (flat_publics ms) q.entry.name ≡ Some q
 single_name ms once q a = by_first (first_named (flat_publics ms) q.entry.name) refl where
   twice : (i j : ℕ) (p : SitedPublic) → i < j → slice_get (public_names ms) i ≡ Some p.entry.name → slice_get (public_names ms) j ≡ Some p.entry.name → ⊥
   twice i j p less e f = once p.entry.name (j, f, (i, p.entry.name, less, e, f))
@@ -206,7 +206,7 @@ module _ (ms : List Parts) (bs : List ℕ) (name : List ℕ) where
   leads-bases (suc k) site t =
       list_any-agrees _ _ (λ v. or_leads-bases (λ x y. leads_within (setting ms bs) k name x y) (λ x y. leads_within (setting ms []) k name x y) (leads-bases k) _ _ (mentioned-bases site v.0 v.1)) (variables_of t)
 
-  leads_from-bases : (k : ℕ) (o : Option SitedPublic) → leads_from (setting ms bs) k name o ≡ leads_from (setting ms []) k name o
+  pub leads_from-bases : (k : ℕ) (o : Option SitedPublic) → leads_from (setting ms bs) k name o ≡ leads_from (setting ms []) k name o
   leads_from-bases k None = refl
   leads_from-bases k (Some q) = leads-bases k q.site q.entry.value
 
