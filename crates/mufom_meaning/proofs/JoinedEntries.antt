@@ -16,7 +16,8 @@ use Rattle.mufom_meaning.specs.Flat.{Sited, sited_from, sited, name_count}
 use Rattle.mufom_meaning.specs.Joined.{joined_item, joined_load, joined_mark}
 use Rattle.mufom_meaning.specs.Staging.{AreValid}
 use Rattle.mufom_meaning.proofs.NoDefects.{no_defect}
-use Rattle.mufom_meaning.proofs.Members.{In, none-In, map-In, flat_map-In, list_any-same}
+use Rattle.mufom_meaning.proofs.Cycles.{list_any-agrees}
+use Rattle.mufom_meaning.proofs.Members.{In, none-In, map-In, flat_map-In}
 
 -- ---- lists of entries
 
@@ -71,7 +72,7 @@ module _ (ms : List Parts) (site : Sited) where
   items-load test same (SetSection section) = refl
   items-load test same (SetPc section t) = refl
   items-load test same (One item) = same item
-  items-load test same (Repeat count items) = list_any-mapped test (joined_item ms site) items ∙ list_any-same (λ item. test (joined_item ms site item)) test same items
+  items-load test same (Repeat count items) = list_any-mapped test (joined_item ms site) items ∙ list_any-agrees (λ item. test (joined_item ms site item)) test same items
 
   open-mark : (n : ℕ) (mark : DebugMark) → open_behind n (joined_mark ms site mark) ≡ open_behind n mark
   open-mark n (block_begin head name) = refl

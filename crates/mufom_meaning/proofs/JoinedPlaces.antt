@@ -22,7 +22,8 @@ use Rattle.mufom_module.specs.Defects.{counts_of, count_for, is_outside, names_o
 use Rattle.mufom_plan.specs.Names.{has_name}
 use Rattle.mufom_meaning.specs.Flat.{Sited, sited, flat_references, public_names, unmet_references, name_count}
 use Rattle.mufom_meaning.specs.Joined.{place_of, same_reference, kept_references, joined_reference, joined_variable, joined_tree, joined_item, joined_load, joined_head, joined_mark}
-use Rattle.mufom_meaning.proofs.Members.{In, In-at, at-In, In-filter, In-flat_map, none-In, fails-In, map-In, or_false, get_some}
+use Rattle.mufom_meaning.proofs.Members.{In, In-at, at-In, In-filter, In-flat_map, none-In, fails-In, map-In, get_some}
+use Rattle.mufom_meaning.proofs.Tests.{either_false}
 use Rattle.mufom_meaning.proofs.Named.{site_module}
 use Rattle.mufom_meaning.proofs.References.{Among-distinct, get-place_of, same_reference-decides}
 use Rattle.mufom_meaning.proofs.Renamed.{variables_of-with_variables}
@@ -64,6 +65,10 @@ name-within (first ∷ names) name e = by_case (bytes_eq name first) refl e (nam
     by_head : (b : Bool) → place_of (λ other. bytes_eq other name) names < length names → cond b 0 (suc (place_of (λ other. bytes_eq other name) names)) < suc (length names)
     by_head true less = omega arith
     by_head false less = omega (arith, less)
+
+-- these loads keep to the rules, whichever section is current before them
+abbrev pub KeepRules : List Load → Type 0
+KeepRules loads = (now : Option ℕ) → (list_any misplaces_counter (placed_from now loads) ≡ false) × (list_any loads_nowhere (placed_from now loads) ≡ false)
 
 module _ (M : Parts) (ms : List Parts) (site : Sited) (fits : Fits M ms site) where
   -- ---- variables
@@ -184,7 +189,7 @@ module _ (M : Parts) (ms : List Parts) (site : Sited) (fits : Fits M ms site) wh
 
   pub load-inside : (load : Load) → has_bad_place (counts_of site.parts) load ≡ false → has_bad_place (counts_of M) (joined_load ms site load) ≡ false
   load-inside load e =
-      let both = or_false (names_no_section (counts_of site.parts) load) (load_any (names_outside (counts_of site.parts)) load) e in
+      let both = either_false (names_no_section (counts_of site.parts) load) (load_any (names_outside (counts_of site.parts)) load) e in
       ap (λ b. b || load_any (names_outside (counts_of M)) (joined_load ms site load)) (load-section load both.0)
       ∙ load-fails (names_outside (counts_of site.parts)) (names_outside (counts_of M)) tree-inside load both.1
 
@@ -204,7 +209,7 @@ module _ (M : Parts) (ms : List Parts) (site : Sited) (fits : Fits M ms site) wh
 
   pub mark-inside : (mark : DebugMark) → has_bad_mark (counts_of site.parts) mark ≡ false → has_bad_mark (counts_of M) (joined_mark ms site mark) ≡ false
   mark-inside mark e =
-      let both = or_false (begins_badly (counts_of site.parts) mark) (any_expression (names_outside (counts_of site.parts)) mark) e in
+      let both = either_false (begins_badly (counts_of site.parts) mark) (any_expression (names_outside (counts_of site.parts)) mark) e in
       ap (λ b. b || any_expression (names_outside (counts_of M)) (joined_mark ms site mark)) (mark-section mark both.0)
       ∙ mark-fails (names_outside (counts_of site.parts)) (names_outside (counts_of M)) tree-inside mark both.1
 
@@ -214,10 +219,6 @@ module _ (M : Parts) (ms : List Parts) (site : Sited) (fits : Fits M ms site) wh
   abbrev Runs : Option ℕ → Option ℕ → Type 0
   Runs None now = Unit {0}
   Runs (Some k) now = now ≡ Some (site.first_section + k)
-
-  -- these loads keep to the rules, whichever section is current before them
-  abbrev pub KeepRules : List Load → Type 0
-  KeepRules loads = (now : Option ℕ) → (list_any misplaces_counter (placed_from now loads) ≡ false) × (list_any loads_nowhere (placed_from now loads) ≡ false)
 
   and_false : (b : Bool) → (b && false) ≡ false
   and_false true = refl
@@ -238,23 +239,23 @@ module _ (M : Parts) (ms : List Parts) (site : Sited) (fits : Fits M ms site) wh
       × (list_any loads_nowhere (placed_from now (map (joined_load ms site) loads ++ more)) ≡ false)
   loads-keep [] more current now runs e f keep = keep now
   loads-keep (SetSection section ∷ loads) more current now runs e f keep =
-      let rest = loads-keep loads more (Some section) (Some (site.first_section + section)) refl e (or_false (is_none current && false) _ f).1 keep in
+      let rest = loads-keep loads more (Some section) (Some (site.first_section + section)) refl e (either_false (is_none current && false) _ f).1 keep in
       (rest.0, ap (λ b. b || list_any loads_nowhere (placed_from (Some (site.first_section + section)) (map (joined_load ms site) loads ++ more))) (and_false (is_none now)) ∙ rest.1)
   loads-keep (SetPc section t ∷ loads) more current now runs e f keep =
-      let own = or_false (has_other_counter (Some section) t) (list_any misplaces_counter (placed_from current loads)) e in
-      let rest = loads-keep loads more current now runs own.1 (or_false (is_none current && false) _ f).1 keep in
+      let own = either_false (has_other_counter (Some section) t) (list_any misplaces_counter (placed_from current loads)) e in
+      let rest = loads-keep loads more current now runs own.1 (either_false (is_none current && false) _ f).1 keep in
       let here : has_other_counter (Some (site.first_section + section)) (joined_tree ms site t) ≡ false = tree-counter (Some section) t own.0 in (
         ap (λ b. b || list_any misplaces_counter (placed_from now (map (joined_load ms site) loads ++ more))) here ∙ rest.0,
         ap (λ b. b || list_any loads_nowhere (placed_from now (map (joined_load ms site) loads ++ more))) (and_false (is_none now)) ∙ rest.1)
   loads-keep (One item ∷ loads) more None now runs e f keep = absurd cc
   loads-keep (One item ∷ loads) more (Some k) now runs e f keep =
-      let own = or_false (load_any (has_other_counter (Some k)) (One item)) (list_any misplaces_counter (placed_from (Some k) loads)) e in
+      let own = either_false (load_any (has_other_counter (Some k)) (One item)) (list_any misplaces_counter (placed_from (Some k) loads)) e in
       let rest = loads-keep loads more (Some k) now runs own.1 f keep in (
         ap (λ b. b || list_any misplaces_counter (placed_from now (map (joined_load ms site) loads ++ more))) (item-load (One item) k now runs own.0) ∙ rest.0,
         ap (λ b. b || list_any loads_nowhere (placed_from now (map (joined_load ms site) loads ++ more))) (placed now k runs) ∙ rest.1)
   loads-keep (Repeat count items ∷ loads) more None now runs e f keep = absurd cc
   loads-keep (Repeat count items ∷ loads) more (Some k) now runs e f keep =
-      let own = or_false (load_any (has_other_counter (Some k)) (Repeat count items)) (list_any misplaces_counter (placed_from (Some k) loads)) e in
+      let own = either_false (load_any (has_other_counter (Some k)) (Repeat count items)) (list_any misplaces_counter (placed_from (Some k) loads)) e in
       let rest = loads-keep loads more (Some k) now runs own.1 f keep in (
         ap (λ b. b || list_any misplaces_counter (placed_from now (map (joined_load ms site) loads ++ more))) (item-load (Repeat count items) k now runs own.0) ∙ rest.0,
         ap (λ b. b || list_any loads_nowhere (placed_from now (map (joined_load ms site) loads ++ more))) (placed now k runs) ∙ rest.1)

@@ -71,3 +71,4 @@ mod JoinedWeight
 mod JoinedEntries
 mod JoinedPlaces
 pub mod Enough
+mod JoinedValid

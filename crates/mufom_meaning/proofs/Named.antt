@@ -77,7 +77,7 @@ sites_behind a b d m ms = sited_from (a + length m.sections) (b + length m.names
 publics_count : (site : Sited) (publics : List Public) (rest : List SitedPublic) → length (publics_at site publics ++ rest) ≡ length publics + length rest
 publics_count site publics rest = length-append (publics_at site publics) rest ∙ ap (λ n. n + length rest) (length-map publics (λ entry. record { site = site; entry = entry }))
 
-publics_end : (a b d : ℕ) (ms : List Parts) (site : Sited) → In site (sited_from a b d ms) → site.first_public + length site.parts.names.publics ≤ b + length (publics_of (sited_from a b d ms))
+pub publics_end : (a b d : ℕ) (ms : List Parts) (site : Sited) → In site (sited_from a b d ms) → site.first_public + length site.parts.names.publics ≤ b + length (publics_of (sited_from a b d ms))
 publics_end a b d [] site h = absurd h
 publics_end a b d (m ∷ ms) site (inl e) =
     let first : b ≡ site.first_public = ap (λ (x : Sited). x.first_public) e in
