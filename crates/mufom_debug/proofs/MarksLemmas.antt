@@ -10,7 +10,7 @@ use Rattle.mufom_debug.specs.Marks.{DebugMark, block_begin, block_end, joined, m
 pub marks-Block : (b : Block-F DebugItem (Unit {0})) → marks_of_item (block_case b) ≡ block_begin b.head b.name ∷ (marks_of b.items ++ block_end b.end ∷ [])
 marks-Block b = search (rules, the_lemmas)
 
-joined-append : (xs ys : List (List DebugMark)) → joined (xs ++ ys) ≡ joined xs ++ joined ys
+pub joined-append : {X : Type 0} (xs ys : List (List X)) → joined (xs ++ ys) ≡ joined xs ++ joined ys
 joined-append [] ys = refl
 joined-append (x ∷ xs) ys = ap (λ rest. x ++ rest) (joined-append xs ys) ∙ sym (append_assoc x (joined xs) (joined ys))
 

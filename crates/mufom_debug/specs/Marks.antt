@@ -17,9 +17,9 @@ pub data DebugMark : Type 0 where
   value_mark : (name : ℕ) → (value : Tree) → DebugMark
 
 -- the lists one after another
-abbrev pub joined : List (List DebugMark) → List DebugMark
+abbrev pub joined : {X : Type 0} → List (List X) → List X
 joined [] = []
-joined (marks ∷ more) = marks ++ joined more
+joined (xs ∷ more) = xs ++ joined more
 
 -- one level of a block, with each item inside already seen as its marks
 abbrev pub block_step : Block-F (List DebugMark) (List DebugMark) → List DebugMark

@@ -2,4 +2,15 @@ pub mod Variables
 pub mod Walks
 pub mod WeightLaws
 pub mod Valid
+pub mod MadeLemmas
+pub mod SpelledLaws
+pub mod OneModule
+pub mod Cutting
 mod Worked
+mod WorkedAbsolute
+mod WorkedProgram
+mod WorkedLibrary
+mod WorkedEmpty
+mod WorkedDebug
+mod WorkedDebugFile
+mod WorkedBad

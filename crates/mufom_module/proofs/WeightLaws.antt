@@ -5,6 +5,7 @@ use Rattle.mufom_expr.specs.declared.token.FieldKind.{FieldKind}
 use Rattle.mufom_expr.specs.declared.token.Token.{Token}
 use Rattle.mufom_expr.specs.declared.token.Token.TheVariants.{Number, Var, Fun}
 use Rattle.mufom_expr.specs.Tree.{Tree, tokens_of}
+use Rattle.mufom_records.specs.Layouts.{comma, closing}
 use Rattle.mufom_sections.specs.declared.section.Purpose.{Purpose}
 use Rattle.mufom_sections.specs.declared.section.Purpose.TheVariants as purpose
 use Rattle.mufom_sections.specs.declared.section.Section.{Section}
@@ -18,7 +19,7 @@ use Rattle.mufom_loads.specs.declared.load.Load.{Load}
 use Rattle.mufom_loads.specs.declared.load.Load.TheVariants.{SetSection, SetPc, One, Repeat}
 use Rattle.mufom_debug.specs.declared.item.BlockHead.{BlockHead}
 use Rattle.mufom_debug.specs.declared.item.BlockHead.TheVariants as heads
-use Rattle.mufom_debug.specs.Marks.{DebugMark, block_begin, block_end, name_mark, note_mark, value_mark, marks_of}
+use Rattle.mufom_debug.specs.Marks.{DebugMark, block_begin, block_end, name_mark, note_mark, value_mark, joined, marks_of}
 use Rattle.mufom_module.specs.declared.module.Parts.{Parts}
 use Rattle.mufom_module.specs.Written as w
 use Rattle.mufom_module.specs.Written.{widest, weight}
@@ -163,7 +164,7 @@ length-debug_records n (mark ∷ marks) =
 
 length-field : (kind : FieldKind) (value : Tree) (size : ℕ) → length (w.field widest kind value size) ≡ 12 + expression_weight value
 length-field kind value size =
-    let all = length-append (w.expression widest value) (w.comma ∷ (w.number widest size ++ w.closing kind ∷ [])) in
+    let all = length-append (w.expression widest value) (comma ∷ (w.number widest size ++ closing kind ∷ [])) in
     let its = length-expression value in
     omega (arith, all, its)
 
@@ -209,7 +210,7 @@ length-offsets_from at [] = refl
 length-offsets_from at ([] ∷ rest) = let its = length-offsets_from at rest in omega (arith, its)
 length-offsets_from at ((b ∷ bytes) ∷ rest) = let its = length-offsets_from (at + length (b ∷ bytes)) rest in omega (arith, its)
 
-length-joined : (a b c d e f g : List ℕ) → length (w.joined (a ∷ b ∷ c ∷ d ∷ e ∷ f ∷ g ∷ [])) ≡ length a + length b + length c + length d + length e + length f + length g
+length-joined : (a b c d e f g : List ℕ) → length (joined (a ∷ b ∷ c ∷ d ∷ e ∷ f ∷ g ∷ [])) ≡ length a + length b + length c + length d + length e + length f + length g
 length-joined a b c d e f g =
     let la = length-append a (b ++ (c ++ (d ++ (e ++ (f ++ (g ++ [])))))) in
     let lb = length-append b (c ++ (d ++ (e ++ (f ++ (g ++ []))))) in
@@ -233,7 +234,7 @@ length-external m =
     let references = length-each_from (w.reference widest) reference_weight length-reference 0 m.names.references in
     length-append (w.each (w.public widest) m.names.publics) (w.each (w.reference widest) m.names.references) ∙ (λ i. publics i + references i)
 
-length-parts : (m : Parts) → length (w.joined (w.parts widest m)) ≡ length m.ext + length m.env + sum_by section_weight m.sections
+length-parts : (m : Parts) → length (joined (w.parts widest m)) ≡ length m.ext + length m.env + sum_by section_weight m.sections
     + (sum_by public_weight m.names.publics + sum_by reference_weight m.names.references) + marks_weight (marks_of m.debug) + sum_by load_weight m.loads + start_weight m.start
 length-parts m =
     let sections = length-each_from (w.section widest) section_weight length-section 0 m.sections in
@@ -251,8 +252,8 @@ whole a b c =
     let lc = length-append c (0xE1 ∷ []) in
     omega (arith, la, lb, lc)
 
-length-form : (m : Parts) → length (w.form widest m) ≡ length (w.module_begin widest m) + length (w.each (w.offset_record widest) (w.offsets widest m)) + length (w.joined (w.parts widest m)) + 1
-length-form m = whole (w.module_begin widest m) (w.each (w.offset_record widest) (w.offsets widest m)) (w.joined (w.parts widest m))
+length-form : (m : Parts) → length (w.form widest m) ≡ length (w.module_begin widest m) + length (w.each (w.offset_record widest) (w.offsets widest m)) + length (joined (w.parts widest m)) + 1
+length-form m = whole (w.module_begin widest m) (w.each (w.offset_record widest) (w.offsets widest m)) (joined (w.parts widest m))
 
 eight : (m : Parts) → length (w.each (w.offset_record widest) (w.offsets widest m)) ≡ 128
 eight m =

@@ -1,6 +1,6 @@
 -- What stands in a module: the expressions of its loads and debug items, its blocks, and its loads with the section that
 -- is current before each (IEEE Std 695, module structure).
-use Rattle.std.specs.Prelude.{ℕ, Bool, List, [], ◌∷◌, ◌++◌, map, false, Option, Some, None}
+use Rattle.std.specs.Prelude.{ℕ, Bool, List, [], ◌∷◌, map, false, Option, Some, None}
 use Rattle.std.specs.List.{list_any}
 use Rattle.mufom_expr.specs.Tree.{Tree}
 use Rattle.mufom_loads.specs.declared.load.Item.{Item}
@@ -10,7 +10,7 @@ use Rattle.mufom_loads.specs.declared.load.Load.TheVariants.{SetSection, SetPc, 
 use Rattle.mufom_debug.specs.declared.item.BlockHead.{BlockHead}
 use Rattle.mufom_debug.specs.declared.item.DebugItem.{DebugItem, fold-DebugItem}
 use Rattle.mufom_debug.specs.declared.item.DebugItem.TheOpen.{DebugItem-F, Block-F}
-use Rattle.mufom_debug.specs.Marks.{DebugMark, block_begin, block_end, name_mark, note_mark, value_mark, marks_of, offset_of}
+use Rattle.mufom_debug.specs.Marks.{DebugMark, block_begin, block_end, name_mark, note_mark, value_mark, joined, marks_of, offset_of}
 use Rattle.mufom_module.specs.declared.module.Parts.{Parts}
 
 -- the value, where there is one, passes the test
@@ -68,10 +68,6 @@ placed_loads m = placed_from None m.loads
 -- the heads and ends of all blocks, at any depth
 abbrev pub HeadAndEnd : Type 0
 HeadAndEnd = BlockHead × Option Tree
-
-abbrev pub joined : List (List HeadAndEnd) → List HeadAndEnd
-joined [] = []
-joined (blocks ∷ more) = blocks ++ joined more
 
 abbrev pub block_step : Block-F (List HeadAndEnd) (List HeadAndEnd) → List HeadAndEnd
 block_step b = (b.head, b.end) ∷ joined b.items

@@ -5,6 +5,8 @@ use Rattle.mufom_expr.specs.declared.token.Letter.{Letter}
 use Rattle.mufom_expr.specs.declared.token.Letter.TheVariants.{I, L, P, R, S, X}
 use Rattle.mufom_expr.specs.Tree.{Tree}
 use Rattle.mufom_expr.specs.Value.{variables_of}
+use Rattle.mufom_records.specs.Fields.{is_one_of}
+use Rattle.mufom_records.specs.Layouts.{debug_attributes}
 use Rattle.mufom_sections.specs.declared.section.Section.{Section}
 use Rattle.mufom_loads.specs.declared.load.Item.{Item}
 use Rattle.mufom_loads.specs.declared.load.Item.TheVariants.{Literal, Field}
@@ -191,15 +193,12 @@ is_loading (Repeat count items) = true
 abbrev pub loads_nowhere : Option ℕ × Load → Bool
 loads_nowhere p = is_none p.0 && is_loading p.1
 
--- the attributes that a note of a debug name may have
-abbrev pub known_attributes : List ℕ
-known_attributes = 1 ∷ 2 ∷ 3 ∷ 4 ∷ 5 ∷ 7 ∷ 8 ∷ 10 ∷ []
-
+-- a note of a debug name with another attribute than the format has
 abbrev pub has_unknown_attribute : DebugMark → Bool
 has_unknown_attribute (block_begin head name) = false
 has_unknown_attribute (block_end end) = false
 has_unknown_attribute (name_mark name) = false
-has_unknown_attribute (note_mark name note) = not (list_any (λ a. a == note.attribute) known_attributes)
+has_unknown_attribute (note_mark name note) = not (is_one_of debug_attributes note.attribute)
 has_unknown_attribute (value_mark name value) = false
 
 -- the kinds of blocks that have no expression at their end

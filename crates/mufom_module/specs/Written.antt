@@ -6,11 +6,12 @@ use Rattle.mufom_numbers.specs.Spelling.{shortest_number, shortest_lead}
 use Rattle.mufom_expr.specs.declared.token.Letter.{Letter}
 use Rattle.mufom_expr.specs.declared.token.Letter.TheVariants.{I, L, P, R, S, X}
 use Rattle.mufom_expr.specs.declared.token.FieldKind.{FieldKind}
-use Rattle.mufom_expr.specs.declared.token.FieldKind.TheVariants.{Signed, Unsigned, Either}
+use Rattle.mufom_expr.specs.declared.token.FieldKind.TheVariants.{Either}
 use Rattle.mufom_expr.specs.declared.token.Token.{Token}
 use Rattle.mufom_expr.specs.declared.token.Token.TheVariants.{Number, Var, Fun}
 use Rattle.mufom_expr.specs.Codes.{letter_byte, function_byte}
 use Rattle.mufom_expr.specs.Tree.{Tree, tokens_of}
+use Rattle.mufom_records.specs.Layouts.{comma, opening, closing}
 use Rattle.mufom_sections.specs.declared.section.Purpose.{Purpose}
 use Rattle.mufom_sections.specs.declared.section.Purpose.TheVariants as purpose
 use Rattle.mufom_sections.specs.declared.section.Section.{Section}
@@ -24,7 +25,7 @@ use Rattle.mufom_loads.specs.declared.load.Load.{Load}
 use Rattle.mufom_loads.specs.declared.load.Load.TheVariants.{SetSection, SetPc, One, Repeat}
 use Rattle.mufom_debug.specs.declared.item.BlockHead.{BlockHead}
 use Rattle.mufom_debug.specs.declared.item.BlockHead.TheVariants as heads
-use Rattle.mufom_debug.specs.Marks.{DebugMark, block_begin, block_end, name_mark, note_mark, value_mark, marks_of, kind_number}
+use Rattle.mufom_debug.specs.Marks.{DebugMark, block_begin, block_end, name_mark, note_mark, value_mark, joined, marks_of, kind_number}
 use Rattle.mufom_module.specs.declared.module.Order.{Order}
 use Rattle.mufom_module.specs.declared.module.Order.TheVariants.{Least, Most}
 use Rattle.mufom_module.specs.declared.module.Parts.{Parts}
@@ -50,11 +51,6 @@ each_from n write (x ∷ xs) = write n x ++ each_from (n + 1) write xs
 abbrev pub each : {X : Type 0} → (ℕ → X → List ℕ) → List X → List ℕ
 each write xs = each_from 0 write xs
 
--- the bytes of lists, one after another
-abbrev pub joined : List (List ℕ) → List ℕ
-joined [] = []
-joined (bytes ∷ more) = bytes ++ joined more
-
 -- ---- the indexes that a written file uses
 
 abbrev pub section_index : ℕ → ℕ
@@ -77,21 +73,6 @@ index_of P position = section_index position
 index_of R position = section_index position
 index_of S position = section_index position
 index_of X position = reference_index position
-
--- ---- brackets
-
-abbrev pub opening : FieldKind → ℕ
-opening Signed = 0xBA
-opening Unsigned = 0xBC
-opening Either = 0xBE
-
-abbrev pub closing : FieldKind → ℕ
-closing Signed = 0xBB
-closing Unsigned = 0xBD
-closing Either = 0xBF
-
-abbrev pub comma : ℕ
-comma = 0x90
 
 -- ---- the records, in a style
 module _ (style : Style) where
@@ -240,7 +221,7 @@ module _ (style : Style) where
   -- ASG, with the expression in brackets
   abbrev pub start : Option Tree → List ℕ
   start None = []
-  start (Some value) = 0xE2 ∷ 0xC7 ∷ 0xBE ∷ (expression value ++ 0xBF ∷ [])
+  start (Some value) = 0xE2 ∷ 0xC7 ∷ opening Either ∷ (expression value ++ closing Either ∷ [])
 
   -- publics, then references
   abbrev pub external : Parts → List ℕ

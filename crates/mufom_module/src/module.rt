@@ -1,6 +1,7 @@
 ghost use Rattle.std.specs.Prelude.{◌≡◌, ◌<◌, ◌^◌};
 ghost use Rattle.mufom_module.specs.Written.{weight};
 ghost use Rattle.mufom_module.specs.Defects.{IsValid};
+ghost use Rattle.mufom_module.specs.Made.{IsMade};
 
 use crate::weight::module_weight;
 use mufom_debug::DebugItem;
@@ -81,6 +82,7 @@ pub struct Module {
 impl Model for Module {
     ghost use Rattle.mufom_module.specs.declared.module.Parts.{Parts};
     ghost use Rattle.mufom_module.specs.Defects.{IsValid};
+    ghost use Rattle.mufom_module.specs.Made.{IsMade};
     ghost use Rattle.std.specs.Coded.{codes};
     ghost use Rattle.mufom_expr.specs.TreeCode.{tree_code};
     ghost use Rattle.mufom_debug.specs.contracts.item.DebugItem as debug_item;
@@ -91,22 +93,24 @@ impl Model for Module {
 
     ghost view = { λ m. m.parts };
 
-    ghost invariant = { λ m. IsValid m.parts };
+    ghost invariant = { λ m. IsValid m.parts × IsMade m.parts };
 }
 
 impl Module {
     // The module of these parts.
     pub(crate) fn of(parts: Parts) -> Module
-        requires { IsValid parts }
+        requires valid { IsValid parts }
+        requires made { IsMade parts }
         ensures { result ≡ parts }
     {
         Module { parts }
     }
 
-    /// The parts, which have no defect. Takes no memory.
+    /// The parts, which have no defect, and what their types hold. Takes no memory.
     pub fn parts(&self) -> &Parts
         ensures same { result.now ≡ self.now }
         ensures valid { IsValid self.now }
+        ensures made { IsMade self.now }
     {
         &self.parts
     }
@@ -124,6 +128,7 @@ impl Module {
     pub fn into_parts(self) -> Parts
         ensures same { result ≡ self }
         ensures valid { IsValid result }
+        ensures made { IsMade result }
     {
         let Module { parts } = self;
         parts

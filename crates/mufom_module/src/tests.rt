@@ -3,7 +3,7 @@ use arrayvec::ArrayVec;
 use mufom_debug::{Block, BlockHead, DebugItem};
 use mufom_expr::{Builder, ExprFault, FieldKind, Function, Letter, Postfix, Token};
 use mufom_loads::{Item, Load};
-use mufom_names::{NameTable, Note};
+use mufom_names::{NameTable, Note, Public};
 use mufom_numbers::{Bytes, List, NoMemory};
 use mufom_sections::{Purpose, Section};
 use std::alloc::Global;
@@ -237,13 +237,33 @@ fn field(alloc: Global, size: u8) -> Result<List<Load>, ExprFault> {
     Ok(loads)
 }
 
+// An absolute section of four bytes at 4, without a purpose.
+fn section_at_four(alloc: Global) -> Result<Section, NoMemory> {
+    Ok(Section {
+        name: Bytes::from_slice(alloc, b"t")?,
+        absolute: true,
+        purpose: None,
+        size: 4,
+        align: 1,
+        base: Some(4),
+    })
+}
+
+// A module of this section and a field of so many bytes in it.
+fn with_field(alloc: Global, size: u8) -> Result<Parts, ExprFault> {
+    let mut parts = small(alloc).map_err(|_| ExprFault::NoMemory)?;
+    let section = section_at_four(alloc).map_err(|_| ExprFault::NoMemory)?;
+    parts.sections = list(alloc, section).map_err(|_| ExprFault::NoMemory)?;
+    parts.loads = field(alloc, size)?;
+    parts.start = None;
+    Ok(parts)
+}
+
 #[test]
 fn a_field_of_nine_bytes_is_refused(rt: HostRuntime) {
-    let mut parts = small(rt.alloc()).expect(&rt, "memory");
-    parts.loads = field(rt.alloc(), 4).expect(&rt, "memory");
+    let parts = with_field(rt.alloc(), 4).expect(&rt, "memory");
     assert_eq!(rt; refusal(parts), None);
-    let mut parts = small(rt.alloc()).expect(&rt, "memory");
-    parts.loads = field(rt.alloc(), 9).expect(&rt, "memory");
+    let parts = with_field(rt.alloc(), 9).expect(&rt, "memory");
     assert_eq!(rt; refusal(parts), Some(Defect::FieldSize));
 }
 
@@ -258,4 +278,42 @@ fn a_module_block_has_no_end_expression(rt: HostRuntime) {
     };
     parts.debug = list(rt.alloc(), DebugItem::Block(block)).expect(&rt, "memory");
     assert_eq!(rt; refusal(parts), Some(Defect::Nesting));
+}
+
+// The value of the public at this position.
+fn value_of(alloc: Global, public: u32) -> Result<Postfix, ExprFault> {
+    let mut builder = Builder::new(alloc);
+    builder.push(Token::Var(Letter::I, public))?;
+    builder.finish()
+}
+
+// A public that has the value of another one.
+fn public(alloc: Global, other: u32) -> Result<Public, ExprFault> {
+    let name = Bytes::from_slice(alloc, &other.to_be_bytes());
+    Ok(Public {
+        name: name.map_err(|_| ExprFault::NoMemory)?,
+        value: value_of(alloc, other)?,
+        notes: List::new(alloc),
+    })
+}
+
+// So many publics, each with the value of the one at the same place from the other end.
+fn publics(alloc: Global, count: u32) -> Result<List<Public>, ExprFault> {
+    let mut publics = List::new(alloc);
+    for n in 0..count {
+        let next = public(alloc, count - 1 - n)?;
+        publics.push(next).map_err(|_| ExprFault::NoMemory)?;
+    }
+    Ok(publics)
+}
+
+#[test]
+fn twenty_thousand_publics_name_one_another(rt: HostRuntime) {
+    let mut parts = small(rt.alloc()).expect(&rt, "memory");
+    parts.names.publics = publics(rt.alloc(), 20_000).expect(&rt, "memory");
+    let Ok(module) = assemble(parts) else {
+        panic!(rt; "no module");
+    };
+    // Each weighs 24, the four bytes of its name, and ten for its variable.
+    assert_eq!(rt; module.weight(), 298 + 20_000 * 38);
 }

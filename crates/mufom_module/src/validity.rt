@@ -1,7 +1,9 @@
 ghost use Rattle.std.specs.Prelude.{◌≡◌, IfOk, IfErr, Some};
 ghost use Rattle.std.specs.List.{find};
 ghost use Rattle.mufom_module.specs.Defects.{has_defect, first_defect, IsValid};
+ghost use Rattle.mufom_module.specs.Made.{IsMade};
 
+use crate::made::tell;
 use crate::module::{Defect, Module, Parts};
 use crate::rules::{
     has_bad_alignment, has_bad_end, has_bad_position, has_bad_size, has_bad_units,
@@ -71,11 +73,15 @@ fn first_defect(parts: &Parts) -> Option<Defect>
 pub fn assemble(parts: Parts) -> Result<Module, (Parts, Defect)>
     ensures same { IfOk result (λ m. m ≡ parts) }
     ensures valid { IfOk result (λ m. IsValid m) }
+    ensures made { IfOk result (λ m. IsMade m) }
     ensures back { IfErr result (λ e. e.0 ≡ parts) }
     ensures first { IfErr result (λ e. first_defect parts ≡ Some e.1) }
 {
     match first_defect(&parts) {
-        None => Ok(Module::of(parts)),
+        None => {
+            tell(&parts);
+            Ok(Module::of(parts))
+        }
         Some(defect) => Err((parts, defect)),
     }
 }

@@ -8,14 +8,14 @@ use Rattle.mufom_plan.specs.declared.plan.Region.{Region}
 use Rattle.mufom_plan.specs.Names.{listed_names}
 use Rattle.mufom_place.specs.declared.site.Waiting.{Waiting}
 use Rattle.mufom_place.specs.Bases.{aligned_up, packed}
-use Rattle.mufom_place.specs.Packing.{end_of, joined, placings_from}
+use Rattle.mufom_place.specs.Packing.{end_of, placings_from}
 
 pub packed-append : (region address : ℕ) (xs ys : List Waiting) → packed region address (xs ++ ys) ≡ packed region address xs ++ packed region (end_of address xs) ys
 packed-append region address [] ys = refl
 packed-append region address (w ∷ xs) ys = ap (λ more. record { section = w.section; region = region; base = aligned_up w.align address } ∷ more) (packed-append region (aligned_up w.align address + w.size) xs ys)
 
 -- the entries of some lists joined
-pub joined-map : (waiting : List ℕ → List Waiting) (entries : List (List ℕ)) → joined (map waiting entries) ≡ flat_map waiting entries
+pub joined-map : (waiting : List ℕ → List Waiting) (entries : List (List ℕ)) → flat_map (λ xs. xs) (map waiting entries) ≡ flat_map waiting entries
 joined-map waiting [] = refl
 joined-map waiting (entry ∷ entries) = ap (λ more. waiting entry ++ more) (joined-map waiting entries)
 
@@ -38,7 +38,7 @@ placings_from-waiting waiting n (region ∷ regions) =
     (λ i. take (long i) (all i)) ∙ take-front (map waiting region.sections) (map waiting (listed_names regions)) in
     let back : drop (length region.sections) (map waiting (listed_names (region ∷ regions))) ≡ map waiting (listed_names regions) =
     (λ i. drop (long i) (all i)) ∙ drop-front (map waiting region.sections) (map waiting (listed_names regions)) in
-    (λ i. packed n region.base (joined (front i)) ++ placings_from (n + 1) regions (back i))
+    (λ i. packed n region.base (flat_map (λ xs. xs) (front i)) ++ placings_from (n + 1) regions (back i))
     ∙ (λ i. packed n region.base (joined-map waiting region.sections i) ++ placings_from-waiting waiting (n + 1) regions i)
 
 pub sum_by-part : (entries : List (List Waiting)) (start count : ℕ) → sum_by length (take count (drop start entries)) ≤ sum_by length entries

@@ -16,12 +16,8 @@ abbrev pub end_of : ℕ → List Waiting → ℕ
 end_of address [] = address
 end_of address (w ∷ more) = end_of (aligned_up w.align address + w.size) more
 
--- the sections at some entries, one entry behind another
-abbrev pub joined : List (List Waiting) → List Waiting
-joined entries = flat_map (λ waiting. waiting) entries
-
 -- the bases that regions give, the first at this position, where the sections of each wait at as many entries as its list has names
 abbrev pub placings_from : ℕ → List Region → List (List Waiting) → List Placing
 placings_from n [] entries = []
 placings_from n (region ∷ regions) entries =
-    packed n region.base (joined (take (length region.sections) entries)) ++ placings_from (n + 1) regions (drop (length region.sections) entries)
+    packed n region.base (flat_map (λ waiting. waiting) (take (length region.sections) entries)) ++ placings_from (n + 1) regions (drop (length region.sections) entries)

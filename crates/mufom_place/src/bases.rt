@@ -1,9 +1,9 @@
 //! The bases that the regions of a plan give to the sections that wait.
 
-ghost use Rattle.std.specs.Prelude.{◌≡◌, ◌≤◌, ◌<◌, ◌+◌, ◌*◌, ◌^◌, ◌++◌, ℕ, None, IfOk, OnOk, length, sum_by, vec_len, All, slice_index_or};
+ghost use Rattle.std.specs.Prelude.{◌≡◌, ◌≤◌, ◌<◌, ◌+◌, ◌*◌, ◌^◌, ◌++◌, ℕ, None, IfOk, OnOk, length, sum_by, vec_len, All, flat_map, slice_index_or};
 ghost use Rattle.mufom_plan.specs.Names.{listed_names};
 ghost use Rattle.mufom_place.specs.Bases.{aligned_up as least_multiple, packed, placing_of};
-ghost use Rattle.mufom_place.specs.Packing.{IsAlignedWaiting, end_of, joined, placings_from};
+ghost use Rattle.mufom_place.specs.Packing.{IsAlignedWaiting, end_of, placings_from};
 
 use crate::site::{Placing, Waiting};
 use mufom_numbers::{List, NoMemory};
@@ -56,7 +56,7 @@ fn pack_region(
 ) -> Result<(), NoMemory>
     requires aligned { All (All IsAlignedWaiting) entries.now }
     requires room { sum_by length entries.now < 2 ^ 32 }
-    ensures { OnOk result (placings.new ≡ placings.old ++ packed region base (joined entries.now)) }
+    ensures { OnOk result (placings.new ≡ placings.old ++ packed region base (flat_map (λ waiting. waiting) entries.now)) }
 {
     let mut end = base as u128;
     for waiting in entries {

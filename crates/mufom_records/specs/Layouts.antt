@@ -93,17 +93,31 @@ purposes = 0xD0 ∷ 0xC4 ∷ 0xD2 ∷ []
 abbrev pub comma : ℕ
 comma = 0x90
 
+-- the bracket that opens a field of a kind
+abbrev pub opening : FieldKind → ℕ
+opening Signed = 0xBA
+opening Unsigned = 0xBC
+opening Either = 0xBE
+
 -- of a signed, an unsigned and an either field
 abbrev pub opening_brackets : List ℕ
-opening_brackets = 0xBA ∷ 0xBC ∷ 0xBE ∷ []
+opening_brackets = opening Signed ∷ opening Unsigned ∷ opening Either ∷ []
+
+-- the partner of an opening bracket is the byte after it
+abbrev pub partner : ℕ → ℕ
+partner bracket = bracket + 1
+
+-- the bracket that closes a field of a kind
+abbrev pub closing : FieldKind → ℕ
+closing kind = partner (opening kind)
 
 -- the kind of field that an opening bracket begins
 abbrev pub kind_of : ℕ → FieldKind
-kind_of b = if b == 0xBA then Signed else (if b == 0xBC then Unsigned else Either)
+kind_of b = if b == opening Signed then Signed else (if b == opening Unsigned then Unsigned else Either)
 
 -- the partner of an opening bracket is the next byte
 abbrev pub closed_by : ℕ → Layout → Layout
-closed_by opening rest = byte ▹ λ b. if b == opening + 1 then rest else refused 1 BracketMismatch
+closed_by bracket rest = byte ▹ λ b. if b == partner bracket then rest else refused 1 BracketMismatch
 
 -- ---- rows, each after its code
 
@@ -211,25 +225,25 @@ repeat = any_number ▹ λ times. byte ▹ λ b. repeated times b
 -- ASG behind its opening bracket, or without one: an expression, and then the partner of the bracket
 abbrev pub start_by_bracket : Option ℕ → Layout
 start_by_bracket None = expression ▹ λ value. whole (r.Start value)
-start_by_bracket (Some opening) = expression ▹ λ value. closed_by opening (whole (r.Start value))
+start_by_bracket (Some bracket) = expression ▹ λ value. closed_by bracket (whole (r.Start value))
 
 -- ASG: an expression, alone or in a pair of brackets of any kind
 abbrev pub start_address : Layout
-start_address = letter opening_brackets ▹ λ opening. start_by_bracket opening
+start_address = letter opening_brackets ▹ λ bracket. start_by_bracket bracket
 
 -- a field of an LR behind its expression and its comma, where there is one: the size, and the closing bracket
 abbrev pub item_by_comma : ℕ → Span → Option ℕ → Layout
-item_by_comma opening value None = closed_by opening (whole (r.FieldItem (kind_of opening) value None))
-item_by_comma opening value (Some comma_) = field_size ▹ λ n. closed_by opening (whole (r.FieldItem (kind_of opening) value (Some n)))
+item_by_comma bracket value None = closed_by bracket (whole (r.FieldItem (kind_of bracket) value None))
+item_by_comma bracket value (Some comma_) = field_size ▹ λ n. closed_by bracket (whole (r.FieldItem (kind_of bracket) value (Some n)))
 
 -- an item behind its opening bracket, or one without a bracket
 abbrev pub item_by_bracket : Option ℕ → Layout
 item_by_bracket None = constant r.ConstantItem
-item_by_bracket (Some opening) = expression ▹ λ value. letter (comma ∷ []) ▹ λ c. item_by_comma opening value c
+item_by_bracket (Some bracket) = expression ▹ λ value. letter (comma ∷ []) ▹ λ c. item_by_comma bracket value c
 
 -- an item of an LR: literal bytes, or a field in brackets with a comma and a size that may be absent
 abbrev pub item : Layout
-item = letter opening_brackets ▹ λ opening. item_by_bracket opening
+item = letter opening_brackets ▹ λ bracket. item_by_bracket bracket
 
 -- ---- codes
 

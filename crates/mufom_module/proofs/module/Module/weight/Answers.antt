@@ -9,5 +9,5 @@ pub returns : goal.returns
 returns c =
     let parts = c.self.inside.parts in
     let whole : c.module_weight.result ≡ capped (weight parts) = c.module_weight.ensures ∙ ap capped (sym (weight-sum parts)) in
-    let less : weight parts < 2 ^ 32 = weighs_less parts c.self.invariant in
+    let less : weight parts < 2 ^ 32 = weighs_less parts c.self.invariant.0 in
     rw (← c.self.view_is) (record { value = omega (arith, whole, less); bound = omega (arith, whole, less) })

@@ -1,0 +1,122 @@
+-- A relocatable module with all parts but the debug part, record by record: its 164 bytes are its file.
+use Rattle.std.proofs.Common.{ℕ, true, false, List, [], ◌∷◌, Some, None, refl, inl, inr}
+use Rattle.mufom_expr.specs.Tree.{Tree, number, variable, two, plus, minus}
+use Rattle.mufom_expr.specs.declared.token.Letter.TheVariants as letters
+use Rattle.mufom_expr.specs.declared.token.FieldKind.TheVariants as kinds
+use Rattle.mufom_records.specs.declared.record.Record.TheVariants as r
+use Rattle.mufom_records.specs.Fields.{span_at, items_of}
+use Rattle.mufom_sections.specs.declared.section.Purpose.TheVariants as purposes
+use Rattle.mufom_loads.specs.declared.load.Item.TheVariants as items
+use Rattle.mufom_loads.specs.declared.load.Load.TheVariants as loads
+use Rattle.mufom_module.specs.declared.module.Order.TheVariants as orders
+use Rattle.mufom_module.specs.declared.module.Parts.{Parts}
+use Rattle.mufom_module.specs.Written.{weight}
+use Rattle.mufom_module.specs.Defects.{IsValid}
+use Rattle.mufom_module.specs.RecordParts.{section_part, external_part, debug_part, data_part, trailer_part}
+use Rattle.mufom_module.specs.Grammar.{FileParts, header_of, module_end, behind_header, from_externals, from_debug, from_loads, from_trailer, IsCutInto, indexes_of, records_of, HasNames, Says, SpellsModule}
+use Rattle.mufom_module.proofs.Cutting.{piece, is_part, is_header, is_within, follow-by_test}
+
+-- the base of the section and 4
+abbrev entry : Tree
+entry = two plus (variable letters.R 0) (number 4)
+
+abbrev program : Parts
+program = record {
+  processor = 0x36 ∷ 0x38 ∷ 0x30 ∷ 0x30 ∷ 0x30 ∷ [];
+  name = 0x70 ∷ 0x72 ∷ 0x6F ∷ 0x67 ∷ [];
+  maus = 4;
+  order = orders.Most;
+  ext = 0xF0 ∷ 0x20 ∷ 0x00 ∷ [];
+  env = 0xF0 ∷ 0x21 ∷ 0x00 ∷ [];
+  sections = record { name = 0x2E ∷ 0x74 ∷ 0x65 ∷ 0x78 ∷ 0x74 ∷ []; absolute = false; purpose = Some purposes.Code; size = 12; align = 2; base = None } ∷ [];
+  names = record {
+    publics = record { name = 0x6D ∷ 0x61 ∷ 0x69 ∷ 0x6E ∷ []; value = entry; notes = record { type_index = 15; attribute = 19; numbers = items_of (1 ∷ []) } ∷ [] } ∷ [];
+    references = record { name = 0x65 ∷ 0x78 ∷ 0x69 ∷ 0x74 ∷ []; weak = None; notes = [] } ∷ [];
+  };
+  debug = [];
+  loads = loads.SetSection 0
+      ∷ loads.SetPc 0 (variable letters.R 0)
+      ∷ loads.One (items.Literal (0x4E ∷ 0x71 ∷ 0x4E ∷ 0x71 ∷ []))
+      ∷ loads.One (items.Field kinds.Either entry 4)
+      ∷ loads.One (items.Field kinds.Signed (two minus (variable letters.X 0) (variable letters.P 0)) 4)
+      ∷ [];
+  start = Some entry;
+}
+
+program_is_valid : IsValid program
+unfolding weight
+program_is_valid = refl
+
+abbrev program_bytes : List ℕ
+program_bytes = 0xE0 ∷ 0x05 ∷ 0x36 ∷ 0x38 ∷ 0x30 ∷ 0x30 ∷ 0x30 ∷ 0x04 ∷ 0x70 ∷ 0x72 ∷ 0x6F ∷ 0x67 ∷ 0xEC ∷ 0x08 ∷ 0x04 ∷ 0xE2 ∷ 0xD7 ∷ 0x00 ∷ 0x84 ∷ 0x00 ∷ 0x00 ∷ 0x00 ∷ 0x4F ∷ 0xE2 ∷ 0xD7 ∷ 0x01 ∷ 0x84 ∷ 0x00 ∷ 0x00 ∷ 0x00 ∷ 0x52 ∷ 0xE2 ∷ 0xD7 ∷ 0x02 ∷ 0x84 ∷ 0x00 ∷ 0x00 ∷ 0x00 ∷ 0x55 ∷ 0xE2 ∷ 0xD7 ∷ 0x03 ∷ 0x84 ∷ 0x00 ∷ 0x00 ∷ 0x00 ∷ 0x66 ∷ 0xE2 ∷ 0xD7 ∷ 0x04 ∷ 0x84 ∷ 0x00 ∷ 0x00 ∷ 0x00 ∷ 0x00 ∷ 0xE2 ∷ 0xD7 ∷ 0x05 ∷ 0x84 ∷ 0x00 ∷ 0x00 ∷ 0x00 ∷ 0x81 ∷ 0xE2 ∷ 0xD7 ∷ 0x06 ∷ 0x84 ∷ 0x00 ∷ 0x00 ∷ 0x00 ∷ 0x9B ∷ 0xE2 ∷ 0xD7 ∷ 0x07 ∷ 0x84 ∷ 0x00 ∷ 0x00 ∷ 0x00 ∷ 0xA3 ∷ 0xF0 ∷ 0x20 ∷ 0x00 ∷ 0xF0 ∷ 0x21 ∷ 0x00 ∷ 0xE6 ∷ 0x01 ∷ 0xC3 ∷ 0xD0 ∷ 0x05 ∷ 0x2E ∷ 0x74 ∷ 0x65 ∷ 0x78 ∷ 0x74 ∷ 0xE7 ∷ 0x01 ∷ 0x02 ∷ 0xE2 ∷ 0xD3 ∷ 0x01 ∷ 0x0C ∷ 0xE8 ∷ 0x20 ∷ 0x04 ∷ 0x6D ∷ 0x61 ∷ 0x69 ∷ 0x6E ∷ 0xF1 ∷ 0xC9 ∷ 0x20 ∷ 0x0F ∷ 0x13 ∷ 0x01 ∷ 0xE2 ∷ 0xC9 ∷ 0x20 ∷ 0xD2 ∷ 0x01 ∷ 0x04 ∷ 0xA5 ∷ 0xE9 ∷ 0x0B ∷ 0x04 ∷ 0x65 ∷ 0x78 ∷ 0x69 ∷ 0x74 ∷ 0xE5 ∷ 0x01 ∷ 0xE2 ∷ 0xD0 ∷ 0x01 ∷ 0xD2 ∷ 0x01 ∷ 0xE4 ∷ 0x04 ∷ 0x4E ∷ 0x71 ∷ 0x4E ∷ 0x71 ∷ 0xBE ∷ 0xD2 ∷ 0x01 ∷ 0x04 ∷ 0xA5 ∷ 0xBF ∷ 0xBA ∷ 0xD8 ∷ 0x0B ∷ 0xD0 ∷ 0x01 ∷ 0xA6 ∷ 0xBB ∷ 0xE2 ∷ 0xC7 ∷ 0xBE ∷ 0xD2 ∷ 0x01 ∷ 0x04 ∷ 0xA5 ∷ 0xBF ∷ 0xE1 ∷ []
+
+abbrev program_file : FileParts
+program_file = record {
+  begin = piece (r.ModuleBegin (span_at 2 5) (span_at 8 4)) (0xE0 ∷ 0x05 ∷ 0x36 ∷ 0x38 ∷ 0x30 ∷ 0x30 ∷ 0x30 ∷ 0x04 ∷ 0x70 ∷ 0x72 ∷ 0x6F ∷ 0x67 ∷ []);
+  descriptor = piece (r.Descriptor 8 4 None) (0xEC ∷ 0x08 ∷ 0x04 ∷ []);
+  offsets = piece (r.Offset 0 79) (0xE2 ∷ 0xD7 ∷ 0x00 ∷ 0x84 ∷ 0x00 ∷ 0x00 ∷ 0x00 ∷ 0x4F ∷ [])
+      ∷ piece (r.Offset 1 82) (0xE2 ∷ 0xD7 ∷ 0x01 ∷ 0x84 ∷ 0x00 ∷ 0x00 ∷ 0x00 ∷ 0x52 ∷ [])
+      ∷ piece (r.Offset 2 85) (0xE2 ∷ 0xD7 ∷ 0x02 ∷ 0x84 ∷ 0x00 ∷ 0x00 ∷ 0x00 ∷ 0x55 ∷ [])
+      ∷ piece (r.Offset 3 102) (0xE2 ∷ 0xD7 ∷ 0x03 ∷ 0x84 ∷ 0x00 ∷ 0x00 ∷ 0x00 ∷ 0x66 ∷ [])
+      ∷ piece (r.Offset 4 0) (0xE2 ∷ 0xD7 ∷ 0x04 ∷ 0x84 ∷ 0x00 ∷ 0x00 ∷ 0x00 ∷ 0x00 ∷ [])
+      ∷ piece (r.Offset 5 129) (0xE2 ∷ 0xD7 ∷ 0x05 ∷ 0x84 ∷ 0x00 ∷ 0x00 ∷ 0x00 ∷ 0x81 ∷ [])
+      ∷ piece (r.Offset 6 155) (0xE2 ∷ 0xD7 ∷ 0x06 ∷ 0x84 ∷ 0x00 ∷ 0x00 ∷ 0x00 ∷ 0x9B ∷ [])
+      ∷ piece (r.Offset 7 163) (0xE2 ∷ 0xD7 ∷ 0x07 ∷ 0x84 ∷ 0x00 ∷ 0x00 ∷ 0x00 ∷ 0xA3 ∷ [])
+      ∷ [];
+  extension = 0xF0 ∷ 0x20 ∷ 0x00 ∷ [];
+  environment = 0xF0 ∷ 0x21 ∷ 0x00 ∷ [];
+  sections = piece (r.SectionType 1 false (Some 0xD0) (span_at 5 5) None None None) (0xE6 ∷ 0x01 ∷ 0xC3 ∷ 0xD0 ∷ 0x05 ∷ 0x2E ∷ 0x74 ∷ 0x65 ∷ 0x78 ∷ 0x74 ∷ [])
+      ∷ piece (r.Alignment 1 2 None) (0xE7 ∷ 0x01 ∷ 0x02 ∷ [])
+      ∷ piece (r.SectionSize 1 12) (0xE2 ∷ 0xD3 ∷ 0x01 ∷ 0x0C ∷ [])
+      ∷ [];
+  externals = piece (r.PublicName 32 (span_at 3 4)) (0xE8 ∷ 0x20 ∷ 0x04 ∷ 0x6D ∷ 0x61 ∷ 0x69 ∷ 0x6E ∷ [])
+      ∷ piece (r.PublicNote 32 15 19 (items_of (1 ∷ []))) (0xF1 ∷ 0xC9 ∷ 0x20 ∷ 0x0F ∷ 0x13 ∷ 0x01 ∷ [])
+      ∷ piece (r.PublicValue 32 (span_at 3 4)) (0xE2 ∷ 0xC9 ∷ 0x20 ∷ 0xD2 ∷ 0x01 ∷ 0x04 ∷ 0xA5 ∷ [])
+      ∷ piece (r.ReferenceName 11 (span_at 3 4)) (0xE9 ∷ 0x0B ∷ 0x04 ∷ 0x65 ∷ 0x78 ∷ 0x69 ∷ 0x74 ∷ [])
+      ∷ [];
+  debug = [];
+  skipped = [];
+  loads = piece (r.SetSection 1) (0xE5 ∷ 0x01 ∷ [])
+      ∷ piece (r.SetPc 1 (span_at 3 2)) (0xE2 ∷ 0xD0 ∷ 0x01 ∷ 0xD2 ∷ 0x01 ∷ [])
+      ∷ piece r.Relocate (0xE4 ∷ [])
+      ∷ piece (r.ConstantItem (span_at 1 4)) (0x04 ∷ 0x4E ∷ 0x71 ∷ 0x4E ∷ 0x71 ∷ [])
+      ∷ piece (r.FieldItem kinds.Either (span_at 1 4) None) (0xBE ∷ 0xD2 ∷ 0x01 ∷ 0x04 ∷ 0xA5 ∷ 0xBF ∷ [])
+      ∷ piece (r.FieldItem kinds.Signed (span_at 1 5) None) (0xBA ∷ 0xD8 ∷ 0x0B ∷ 0xD0 ∷ 0x01 ∷ 0xA6 ∷ 0xBB ∷ [])
+      ∷ [];
+  trailer = piece (r.Start (span_at 3 4)) (0xE2 ∷ 0xC7 ∷ 0xBE ∷ 0xD2 ∷ 0x01 ∷ 0x04 ∷ 0xA5 ∷ 0xBF ∷ [])
+      ∷ [];
+}
+
+program_is_cut : IsCutInto program_bytes true program_file
+program_is_cut = record {
+  all = refl;
+  limit = is_within program_bytes refl;
+  header = is_header (header_of program_file) (behind_header program_file) refl refl;
+  offsets = (inl refl, (inl refl, (inl refl, (inl refl, (inr (refl, refl), (inl refl, (inl refl, refl)))))));
+  sections = is_part section_part program_file.sections (from_externals program_file) refl refl refl;
+  externals = is_part external_part program_file.externals (from_debug program_file) refl refl refl;
+  debug = is_part debug_part program_file.debug (from_loads program_file) refl refl refl;
+  debug_read = refl;
+  loads = is_part data_part program_file.loads (from_trailer program_file) refl refl refl;
+  trailer = is_part trailer_part program_file.trailer module_end refl refl refl;
+}
+
+program_has_names : HasNames program_file
+program_has_names = record { follow = follow-by_test [] (records_of program_file) refl; values = refl; valued = refl }
+
+program_says : Says program_file (indexes_of program_file) program
+program_says = record {
+  begin = (refl, refl);
+  descriptor = (refl, refl, inr refl);
+  extension = refl;
+  environment = refl;
+  sections = refl;
+  publics = refl;
+  references = refl;
+  debug = refl;
+  loads = refl;
+  start = refl;
+}
+
+program_spells : SpellsModule program program_bytes true
+program_spells = (program_file, program_is_cut, program_has_names, program_says, program_is_valid)

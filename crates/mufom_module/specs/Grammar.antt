@@ -1,0 +1,218 @@
+-- When bytes are the file of a module, as a relation on the whole file (IEEE Std 695, module structure, in this project's
+-- profile).
+use Rattle.std.specs.Prelude.{◌≡◌, ◌⊎◌, ℕ, ◌+◌, ◌≤◌, Bool, true, false, not, ◌&&◌, List, [], ◌∷◌, ◌++◌, length, filter_map, Option, Some, None, option_to_list, MatchBool}
+use Rattle.std.specs.List.{list_all, list_any}
+use Rattle.mufom_expr.specs.Spelled.{Indexes}
+use Rattle.mufom_records.specs.declared.record.Mode.{Mode}
+use Rattle.mufom_records.specs.declared.record.Mode.TheVariants as mode
+use Rattle.mufom_records.specs.declared.record.Record.{Record}
+use Rattle.mufom_records.specs.declared.record.Record.TheVariants as r
+use Rattle.mufom_records.specs.Fields.{first_of}
+use Rattle.mufom_records.specs.Layouts.{IsWholeRecord}
+use Rattle.mufom_debug.specs.Marks.{marks_of}
+use Rattle.mufom_module.specs.declared.module.Order.{Order}
+use Rattle.mufom_module.specs.declared.module.Order.TheVariants.{Least, Most}
+use Rattle.mufom_module.specs.declared.module.Parts.{Parts}
+use Rattle.mufom_module.specs.Contents.{any_of}
+use Rattle.mufom_module.specs.Defects.{IsValid}
+use Rattle.mufom_module.specs.Pieces.{Piece, bytes_of, text_in, section, public, reference, debug_name, declared_by, declared, is_declared, named_in_expression, named_at_once, value_of_public, assigned_by, is_assigned}
+use Rattle.mufom_module.specs.RecordParts.{Part, section_part, external_part, debug_part, data_part, trailer_part, stands_in, opens_items, mode_of, is_loading, is_set_section}
+use Rattle.mufom_module.specs.Gathered.{sections_of, publics_of, references_of, marks, loads_of, starts_of}
+
+-- a file cut into its parts
+pub record FileParts : Type 0 where
+  -- MB
+  pub begin : Piece
+  -- AD
+  pub descriptor : Piece
+  -- the ASW records
+  pub offsets : List Piece
+  pub extension : List ℕ
+  pub environment : List ℕ
+  pub sections : List Piece
+  pub externals : List Piece
+  pub debug : List Piece
+  -- the bytes of a debug part that is not read
+  pub skipped : List ℕ
+  pub loads : List Piece
+  pub trailer : List Piece
+
+-- ---- the bytes
+
+-- the records of the header
+abbrev pub header_of : FileParts → List Piece
+header_of f = f.begin ∷ f.descriptor ∷ f.offsets
+
+-- the bytes of the debug part
+abbrev pub debug_bytes : FileParts → List ℕ
+debug_bytes f = bytes_of f.debug ++ f.skipped
+
+-- the bytes of the extension, environment, section, external, debug, data and trailer parts
+abbrev pub parts_of : FileParts → List (List ℕ)
+parts_of f = f.extension ∷ f.environment ∷ bytes_of f.sections ∷ bytes_of f.externals ∷ debug_bytes f ∷ bytes_of f.loads ∷ bytes_of f.trailer ∷ []
+
+-- ME
+abbrev pub module_end : List ℕ
+module_end = 0xE1 ∷ []
+
+-- the bytes from the trailer part, from the data part, and so on, up to the end of the file
+abbrev pub from_trailer : FileParts → List ℕ
+from_trailer f = bytes_of f.trailer ++ module_end
+
+abbrev pub from_loads : FileParts → List ℕ
+from_loads f = bytes_of f.loads ++ from_trailer f
+
+abbrev pub from_debug : FileParts → List ℕ
+from_debug f = debug_bytes f ++ from_loads f
+
+abbrev pub from_externals : FileParts → List ℕ
+from_externals f = bytes_of f.externals ++ from_debug f
+
+abbrev pub from_sections : FileParts → List ℕ
+from_sections f = bytes_of f.sections ++ from_externals f
+
+-- all bytes behind the header
+abbrev pub behind_header : FileParts → List ℕ
+behind_header f = f.extension ++ (f.environment ++ from_sections f)
+
+-- ---- records that fill a part
+
+-- the records are whole ones of these modes, one each, with these bytes behind them
+abbrev pub AreOfModes : List Mode → List Piece → List ℕ → Type 0
+AreOfModes [] [] behind = Unit {0}
+AreOfModes (m ∷ modes) (p ∷ pieces) behind = IsWholeRecord m p.row p.bytes (first_of (bytes_of pieces ++ behind) None) × AreOfModes modes pieces behind
+AreOfModes _ _ behind = ⊥
+
+-- MB, AD, and the offsets of the seven parts and of the end
+abbrev pub header_modes : List Mode
+header_modes = mode.Begin ∷ mode.Descriptor ∷ mode.Offset 0 ∷ mode.Offset 1 ∷ mode.Offset 2 ∷ mode.Offset 3 ∷ mode.Offset 4
+    ∷ mode.Offset 5 ∷ mode.Offset 6 ∷ mode.Offset 7 ∷ []
+
+-- whole records, and items where items may stand and behind an LR, with these bytes behind them
+abbrev pub AreWhole : Bool → List Piece → List ℕ → Type 0
+AreWhole items [] behind = Unit {0}
+AreWhole items (p ∷ pieces) behind = IsWholeRecord (mode_of items p.bytes) p.row p.bytes (first_of (bytes_of pieces ++ behind) None) × AreWhole (opens_items p.row) pieces behind
+
+-- whole records of this part, which begins with no item
+pub record IsPart (part : Part) (pieces : List Piece) (behind : List ℕ) : Type 0 where
+  pub are_whole : AreWhole false pieces behind
+  pub own : list_all (λ p. stands_in part p.row) pieces ≡ true
+
+-- ---- offsets
+
+-- the value of an ASW record
+abbrev pub offset_in : Record → Option ℕ
+offset_in (r.Offset _ value) = Some value
+offset_in _ = None
+
+-- W0 to W7
+abbrev pub offsets_in : List Piece → List ℕ
+offsets_in pieces = filter_map (λ p. offset_in p.row) pieces
+
+-- each offset is the place where its part begins, or 0 where the part is empty; the last is the place where they end
+abbrev pub StandAt : List ℕ → ℕ → List (List ℕ) → Type 0
+StandAt offsets at [] = offsets ≡ at ∷ []
+StandAt [] at (bytes ∷ parts) = ⊥
+StandAt (w ∷ offsets) at (bytes ∷ parts) = ((w ≡ at) ⊎ ((w ≡ 0) × (bytes ≡ []))) × StandAt offsets (at + length bytes) parts
+
+-- the most bytes of a file
+abbrev pub file_limit : ℕ
+file_limit = 67108864
+
+-- The file is these parts. The debug part is read, or its bytes are passed over.
+pub record IsCutInto (bytes : List ℕ) (reads_debug : Bool) (f : FileParts) : Type 0 where
+  pub all : bytes ≡ bytes_of (header_of f) ++ behind_header f
+  pub limit : length bytes ≤ file_limit
+  pub header : AreOfModes header_modes (header_of f) (behind_header f)
+  pub offsets : StandAt (offsets_in f.offsets) (length (bytes_of (header_of f))) (parts_of f)
+  pub sections : IsPart section_part f.sections (from_externals f)
+  pub externals : IsPart external_part f.externals (from_debug f)
+  pub debug : IsPart debug_part f.debug (from_loads f)
+  pub debug_read : MatchBool reads_debug (f.skipped ≡ []) (f.debug ≡ [])
+  pub loads : IsPart data_part f.loads (from_trailer f)
+  pub trailer : IsPart trailer_part f.trailer module_end
+
+-- ---- names
+
+-- the index lists of the file
+abbrev pub indexes_of : FileParts → Indexes
+indexes_of f = record {
+  sections = declared section f.sections;
+  publics = declared public f.externals;
+  references = declared reference f.externals;
+  debug_names = declared debug_name f.debug;
+}
+
+-- the records of the parts, in the order of the file
+abbrev pub records_of : FileParts → List Piece
+records_of f = f.sections ++ (f.externals ++ (f.debug ++ (f.loads ++ f.trailer)))
+
+-- the record declares an index that its kind has
+abbrev pub declares_again : List Piece → Record → Bool
+declares_again before row = any_of (is_declared before) (declared_by row)
+
+-- it says for an index what may be said once, and was said
+abbrev pub says_again : List Piece → Record → Bool
+says_again before row = any_of (is_assigned before) (assigned_by row)
+
+-- it names an index that is not declared
+abbrev pub names_unknown : List Piece → Piece → Bool
+names_unknown before p = not (list_all (is_declared before) (named_at_once p))
+
+-- it is an LD, an LR or an RE, and no section is set
+abbrev pub has_no_section : List Piece → Record → Bool
+has_no_section before row = is_loading row && not (list_any (λ q. is_set_section q.row) before)
+
+-- what a record must keep to, after those before it in the file
+pub record Follows (before : List Piece) (p : Piece) : Type 0 where
+  pub new : declares_again before p.row ≡ false
+  pub known : names_unknown before p ≡ false
+  pub once : says_again before p.row ≡ false
+  pub placed : has_no_section before p.row ≡ false
+
+-- each record keeps to it, after those before it
+abbrev pub FollowFrom : List Piece → List Piece → Type 0
+FollowFrom before [] = Unit {0}
+FollowFrom before (p ∷ pieces) = Follows before p × FollowFrom (before ++ p ∷ []) pieces
+
+-- the indexes of the file are declared once, and those that it names are declared
+pub record HasNames (f : FileParts) : Type 0 where
+  pub follow : FollowFrom [] (records_of f)
+  -- the variables of a public's value are declared up to the end of the external part
+  pub values : list_all (λ p. list_all (is_declared (f.sections ++ f.externals)) (named_in_expression p)) f.externals ≡ true
+  -- each public has a value
+  pub valued : list_all (λ i. is_assigned f.externals (value_of_public i)) (declared public f.externals) ≡ true
+
+-- ---- the module
+
+-- the letter of an order of bytes; no letter is the most significant byte first
+abbrev pub IsLetterOf : Order → Option ℕ → Type 0
+IsLetterOf Least letter = letter ≡ Some 0xCC
+IsLetterOf Most letter = (letter ≡ Some 0xCD) ⊎ (letter ≡ None)
+
+-- MB gives the processor and the module's name
+abbrev pub NamesModule : Parts → Piece → Record → Type 0
+NamesModule m p (r.ModuleBegin processor name) = (text_in p processor ≡ m.processor) × (text_in p name ≡ m.name)
+NamesModule m p _ = ⊥
+
+-- AD gives 8 bits to an addressable unit, the units of an address, and the order of bytes
+abbrev pub Describes : Parts → Record → Type 0
+Describes m (r.Descriptor bits maus letter) = (bits ≡ 8) × (maus ≡ m.maus) × IsLetterOf m.order letter
+Describes m _ = ⊥
+
+-- what the parts say is what the module has
+pub record Says (f : FileParts) (ix : Indexes) (m : Parts) : Type 0 where
+  pub begin : NamesModule m f.begin f.begin.row
+  pub descriptor : Describes m f.descriptor.row
+  pub extension : m.ext ≡ f.extension
+  pub environment : m.env ≡ f.environment
+  pub sections : m.sections ≡ sections_of f.sections
+  pub publics : m.names.publics ≡ publics_of ix f.externals
+  pub references : m.names.references ≡ references_of f.externals
+  pub debug : marks_of m.debug ≡ marks ix f.debug
+  pub loads : m.loads ≡ loads_of ix m.maus f.loads
+  pub start : option_to_list m.start ≡ starts_of ix f.trailer
+
+-- The bytes are a file of the module; its debug part is read, or passed over.
+abbrev pub SpellsModule : Parts → List ℕ → Bool → Type 0
+SpellsModule m bytes reads_debug = (f : FileParts) × IsCutInto bytes reads_debug f × HasNames f × Says f (indexes_of f) m × IsValid m

@@ -1,0 +1,25 @@
+//! Laws of what a file says, each the contract of a function that does nothing.
+
+ghost use Rattle.std.specs.Prelude.{◌≡◌, ℕ, Bool, List, true};
+ghost use Rattle.mufom_expr.specs.Tree.{Tree};
+ghost use Rattle.mufom_expr.specs.Terms.{the_term};
+ghost use Rattle.mufom_expr.specs.TokenAt.{tokens_in};
+ghost use Rattle.mufom_expr.specs.Spelled.{SpellsTree, Indexes, IsIndexed};
+ghost use Rattle.mufom_module.specs.declared.module.Parts.{Parts};
+ghost use Rattle.mufom_module.specs.Pieces.{positioned, are_listed};
+ghost use Rattle.mufom_module.specs.Grammar.{SpellsModule};
+
+/// The expression of a record is the tree that its bytes spell.
+pub fn expressions_are_as_spelled()
+    ensures { (tree : Tree) (bytes : List ℕ) → SpellsTree tree bytes → the_term (tokens_in bytes) ≡ tree }
+{}
+
+/// Each position stands for the index that the file has in its place.
+pub fn positions_stand_for_indexes()
+    ensures { (ix : Indexes) (tree : Tree) → are_listed ix tree ≡ true → IsIndexed ix (positioned ix tree) tree }
+{}
+
+/// A file is one module: bytes that are its file are the file of no other.
+pub fn a_file_is_one_module()
+    ensures { (m n : Parts) (bytes : List ℕ) (reads_debug : Bool) → SpellsModule m bytes reads_debug → SpellsModule n bytes reads_debug → m ≡ n }
+{}
