@@ -9,7 +9,7 @@ use Rattle.mufom_debug.specs.declared.item.DebugItem.TheOpen.{Block-F, DebugItem
 use Rattle.mufom_debug.specs.declared.item.DebugItem.TheFolds as folds
 use Rattle.mufom_debug.specs.declared.item.DebugItem.TheViews.{roll-DebugItem, roll-Block}
 use Rattle.mufom_debug.specs.Marks.{DebugMark, block_begin, block_end, name_mark, note_mark, value_mark, joined, item_step, block_step, marks_of_item, marks_of}
-use Rattle.mufom_module.specs.Contents.{HeadAndEnd, blocks_of_item, blocks_of, block_step as blocks_step, item_step as blocks_item_step, joined as blocks_joined}
+use Rattle.mufom_module.specs.Contents.{HeadAndEnd, blocks_of_item, blocks_of, block_step as blocks_step, item_step as blocks_item_step}
 
 abbrev marks_of_block : Block → List DebugMark
 marks_of_block b = folds.fold-Block (List DebugMark) (List DebugMark) item_step block_step b
@@ -75,13 +75,13 @@ module _ (head : BlockHead → BlockHead) (end : Option Tree → Option Tree) (p
         let none : blocks_of_item (roll-DebugItem (DebugItem-F.Value (place name) (tree t))) ≡ [] = search (rules, the_lemmas) in
         (roll-DebugItem (DebugItem-F.Value (place name) (tree t)), there ∙ ap (map changed) (sym same), none ∙ ap (map changed_block) (sym blocks))
 
-    items_level : (es : List I) → HasItems (joined (map marks_of_item (map item_of es)), blocks_joined (map blocks_of_item (map item_of es)))
+    items_level : (es : List I) → HasItems (joined (map marks_of_item (map item_of es)), joined (map blocks_of_item (map item_of es)))
     items_level [] = ([], refl, refl)
     items_level (e ∷ es) =
         let here = p e in let later = items_level es in (
           here.0 ∷ later.0,
           (λ i. here.1 i ++ later.1 i) ∙ sym (map-append changed (marks_of_item (item_of e)) (joined (map marks_of_item (map item_of es)))),
-          (λ i. here.2 i ++ later.2 i) ∙ sym (map-append changed_block (blocks_of_item (item_of e)) (blocks_joined (map blocks_of_item (map item_of es)))),
+          (λ i. here.2 i ++ later.2 i) ∙ sym (map-append changed_block (blocks_of_item (item_of e)) (joined (map blocks_of_item (map item_of es)))),
         )
 
     block_level : (y : Block-F I B) → ChangesBlock (roll-Block (folds.map-Block I B DebugItem Block item_of block_of y))

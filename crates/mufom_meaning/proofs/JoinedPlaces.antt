@@ -246,19 +246,22 @@ module _ (M : Parts) (ms : List Parts) (site : Sited) (fits : Fits M ms site) wh
       let rest = loads-keep loads more current now runs own.1 (either_false (is_none current && false) _ f).1 keep in
       let here : has_other_counter (Some (site.first_section + section)) (joined_tree ms site t) ≡ false = tree-counter (Some section) t own.0 in (
         ap (λ b. b || list_any misplaces_counter (placed_from now (map (joined_load ms site) loads ++ more))) here ∙ rest.0,
-        ap (λ b. b || list_any loads_nowhere (placed_from now (map (joined_load ms site) loads ++ more))) (and_false (is_none now)) ∙ rest.1)
+        ap (λ b. b || list_any loads_nowhere (placed_from now (map (joined_load ms site) loads ++ more))) (and_false (is_none now)) ∙ rest.1,
+      )
   loads-keep (One item ∷ loads) more None now runs e f keep = absurd cc
   loads-keep (One item ∷ loads) more (Some k) now runs e f keep =
       let own = either_false (load_any (has_other_counter (Some k)) (One item)) (list_any misplaces_counter (placed_from (Some k) loads)) e in
       let rest = loads-keep loads more (Some k) now runs own.1 f keep in (
         ap (λ b. b || list_any misplaces_counter (placed_from now (map (joined_load ms site) loads ++ more))) (item-load (One item) k now runs own.0) ∙ rest.0,
-        ap (λ b. b || list_any loads_nowhere (placed_from now (map (joined_load ms site) loads ++ more))) (placed now k runs) ∙ rest.1)
+        ap (λ b. b || list_any loads_nowhere (placed_from now (map (joined_load ms site) loads ++ more))) (placed now k runs) ∙ rest.1,
+      )
   loads-keep (Repeat count items ∷ loads) more None now runs e f keep = absurd cc
   loads-keep (Repeat count items ∷ loads) more (Some k) now runs e f keep =
       let own = either_false (load_any (has_other_counter (Some k)) (Repeat count items)) (list_any misplaces_counter (placed_from (Some k) loads)) e in
       let rest = loads-keep loads more (Some k) now runs own.1 f keep in (
         ap (λ b. b || list_any misplaces_counter (placed_from now (map (joined_load ms site) loads ++ more))) (item-load (Repeat count items) k now runs own.0) ∙ rest.0,
-        ap (λ b. b || list_any loads_nowhere (placed_from now (map (joined_load ms site) loads ++ more))) (placed now k runs) ∙ rest.1)
+        ap (λ b. b || list_any loads_nowhere (placed_from now (map (joined_load ms site) loads ++ more))) (placed now k runs) ∙ rest.1,
+      )
 
   -- ---- debug names
 

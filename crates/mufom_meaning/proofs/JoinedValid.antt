@@ -140,7 +140,7 @@ debug_of ms (site ∷ sites) =
     let own = changed_items (joined_head ms site) (option_map (joined_tree ms site)) (λ n. site.first_name + n) (joined_tree ms site) site.parts.debug in
     let rest = debug_of ms sites in
     let own_marks : marks_of own.0 ≡ map (joined_mark ms site) (marks_of site.parts.debug) =
-        own.1 ∙ map-agrees (changed (joined_head ms site) (option_map (joined_tree ms site)) (λ n. site.first_name + n) (joined_tree ms site)) (joined_mark ms site) (mark-changed ms site) (marks_of site.parts.debug) in
+    own.1 ∙ map-agrees (changed (joined_head ms site) (option_map (joined_tree ms site)) (λ n. site.first_name + n) (joined_tree ms site)) (joined_mark ms site) (mark-changed ms site) (marks_of site.parts.debug) in
     record {
       items = own.0 ++ rest.items;
       marks = marks_of-append own.0 rest.items ∙ (λ i. own_marks i ++ rest.marks i);
@@ -302,10 +302,24 @@ module _ (M : Parts) (ms : List Parts) (name : List ℕ) (j : IsJoined M ms name
 
   no_defects : length name < 2 ^ 16 → total_weight ms + length name < 2 ^ 32 → IsValid M
   no_defects short light = find-nothing (has_defect M) defects (
-      depth, (long_id short, (units, (
-      sections_fail has_bad_alignment (λ m valid. no_defect m valid kinds.BadAlign), (
-      sections_fail lacks_base (λ m valid. no_defect m valid kinds.MissingBase), (
-      position, (misplaced, (no_section, (long_run, (field_size, (attribute, (nesting, (too_heavy light, tt)))))))))))))
+    depth,
+    (
+      long_id short,
+      (
+        units,
+        (
+          sections_fail has_bad_alignment (λ m valid. no_defect m valid kinds.BadAlign),
+          (
+            sections_fail lacks_base (λ m valid. no_defect m valid kinds.MissingBase),
+            (
+              position,
+              (misplaced, (no_section, (long_run, (field_size, (attribute, (nesting, (too_heavy light, tt))))))),
+            ),
+          ),
+        ),
+      ),
+    ),
+  )
 
 pub joined_is_valid : JoinedIsValid
 joined_is_valid M ms name j v = record { weighs = joined_weighs M ms name j; valid = no_defects M ms name j v }

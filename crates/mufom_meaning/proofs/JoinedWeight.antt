@@ -166,15 +166,15 @@ joined_weighs M ms name j =
     let frame = frames M ms name j.named j.header in
     let a : sum_by section_weight M.sections ≡ sum_by (λ m. sum_by section_weight m.sections) ms = ap (sum_by section_weight) j.sections ∙ sum-flat section_weight (λ m. m.sections) ms in
     let b : sum_by public_weight M.names.publics ≡ sum_by (λ m. sum_by public_weight m.names.publics) ms =
-        ap (sum_by public_weight) j.publics ∙ sum-sited public_weight (λ m. m.names.publics) (joined_public ms) (public-joined ms) 0 0 0 ms in
+    ap (sum_by public_weight) j.publics ∙ sum-sited public_weight (λ m. m.names.publics) (joined_public ms) (public-joined ms) 0 0 0 ms in
     let c0 : sum_by reference_weight M.names.references ≡ sum_by reference_weight (kept_references ms) = ap (sum_by reference_weight) j.references in
     let c = kept-lighter ms in
     let d : sum_by mark_weight (marks_of M.debug) ≡ sum_by (λ m. sum_by mark_weight (marks_of m.debug)) ms =
-        ap (sum_by mark_weight) j.debug ∙ sum-sited mark_weight (λ m. marks_of m.debug) (joined_mark ms) (mark-joined ms) 0 0 0 ms in
+    ap (sum_by mark_weight) j.debug ∙ sum-sited mark_weight (λ m. marks_of m.debug) (joined_mark ms) (mark-joined ms) 0 0 0 ms in
     let e : sum_by load_weight M.loads ≡ sum_by (λ m. sum_by load_weight m.loads) ms =
-        ap (sum_by load_weight) j.loads ∙ sum-sited load_weight (λ m. m.loads) (joined_load ms) (load-joined ms) 0 0 0 ms in
+    ap (sum_by load_weight) j.loads ∙ sum-sited load_weight (λ m. m.loads) (joined_load ms) (load-joined ms) 0 0 0 ms in
     let start = start-sum M.start in
     let f : start_sum M.start ≡ sum_by (λ m. sum_by (λ t. 4 + expression_weight t) (option_to_list m.start)) ms =
-        ap (sum_by (λ (t : Tree). 4 + expression_weight t)) j.start
-        ∙ sum-sited (λ (t : Tree). 4 + expression_weight t) (λ m. option_to_list m.start) (joined_tree ms) (λ site t. ap (λ n. 4 + n) (expression-renamed (joined_variable ms site) t)) 0 0 0 ms in
+    ap (sum_by (λ (t : Tree). 4 + expression_weight t)) j.start
+    ∙ sum-sited (λ (t : Tree). 4 + expression_weight t) (λ m. option_to_list m.start) (joined_tree ms) (λ site t. ap (λ n. 4 + n) (expression-renamed (joined_variable ms site) t)) 0 0 0 ms in
     omega (arith, all, own, frame, a, b, c0, c, d, e, start, f)

@@ -1,5 +1,0 @@
-use Rattle.mufom_meaning.proofs.AbsoluteLocated.{absolute_is_located_as_itself}
-use Rattle.mufom_meaning.proofs.laws_located.absolute_is_located_as_itself.Goals as goal
-
-pub returns : goal.returns
-returns c = absolute_is_located_as_itself

@@ -1,5 +1,0 @@
-use Rattle.mufom_meaning.proofs.AbsoluteValid.{absolute_is_valid}
-use Rattle.mufom_meaning.proofs.laws_located.absolute_is_valid.Goals as goal
-
-pub returns : goal.returns
-returns c = absolute_is_valid

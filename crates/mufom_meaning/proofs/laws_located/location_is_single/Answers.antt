@@ -1,5 +1,0 @@
-use Rattle.mufom_meaning.proofs.SingleLocation.{location_is_single}
-use Rattle.mufom_meaning.proofs.laws_located.location_is_single.Goals as goal
-
-pub returns : goal.returns
-returns c = location_is_single

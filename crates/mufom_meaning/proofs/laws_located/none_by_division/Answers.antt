@@ -1,5 +1,0 @@
-use Rattle.mufom_meaning.proofs.ValueLaws.{none_by_division}
-use Rattle.mufom_meaning.proofs.laws_located.none_by_division.Goals as goal
-
-pub returns : goal.returns
-returns c = none_by_division

@@ -1,5 +1,0 @@
-use Rattle.mufom_meaning.proofs.ValueLaws.{values_exist}
-use Rattle.mufom_meaning.proofs.laws_located.values_exist.Goals as goal
-
-pub returns : goal.returns
-returns c = values_exist
