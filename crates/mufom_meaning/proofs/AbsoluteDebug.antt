@@ -15,6 +15,7 @@ use Rattle.mufom_module.specs.Contents.{HeadAndEnd, blocks_of, any_of, any_expre
 use Rattle.mufom_module.specs.Defects.{IsValid, counts_of, names_outside, has_bad_place, has_bad_mark, begins_badly, names_bad_section, has_long_name, is_long, has_unknown_attribute, has_other_counter, declared_behind, ends_plainly, has_bad_end}
 use Rattle.mufom_plan.specs.declared.plan.Plan.{Plan}
 use Rattle.mufom_place.specs.Bases.{bases}
+use Rattle.mufom_meaning.specs.Readings.{readings}
 use Rattle.mufom_meaning.specs.declared.located.LocatedParts.{LocatedParts}
 use Rattle.mufom_meaning.specs.Flat.{Sited, sited_from, sited, flat_sections, name_count}
 use Rattle.mufom_meaning.specs.Values.{Setting, setting, value}
@@ -61,6 +62,7 @@ module _ (m : Parts) (more : List Parts) (plan : Plan) (r : LocatedParts) (v : A
   valid_site site k = valid_module ms v site.parts (site_module 0 0 0 ms site k)
 
   marks_there : marks_of r.debug ≡ flat_map (λ site. map (there site) (marks_of site.parts.debug)) (sited ms)
+  unfolding readings
   marks_there = map_same (λ mark. Some mark) some_same (marks_of r.debug) (flat_map (λ site. map (there site) (marks_of site.parts.debug)) (sited ms))
       (h.debug ∙ sym (debug_located ms s valued (sited ms) (λ site k. k)))
 

@@ -84,6 +84,7 @@ module _ (m : Parts) (more : List Parts) (plan : Plan) (r : LocatedParts) (v : A
   -- ---- the link
 
   same_names : public_names alone ≡ public_names ms
+  unfolding readings
   same_names =
       append-nil (map (λ entry. entry.name) (map absolute_public r.publics)) ∙ names_of_publics r.publics ∙ ap (map (λ (x : PublicReading). x.name)) h.publics
       ∙ names_of_readings s (flat_publics ms) ∙ names_of-publics_of 0 0 0 ms
@@ -102,6 +103,7 @@ module _ (m : Parts) (more : List Parts) (plan : Plan) (r : LocatedParts) (v : A
       subst (λ modulus. n < modulus) (sym (modulus_alone m more plan r v h)) less
 
   public_below : (p : PublicValue) → In p r.publics → p.value < again.modulus
+  unfolding readings
   public_below p k =
       let there = map-In (public_reading s) (located_public p) (flat_publics ms) (subst (In (located_public p)) h.publics (In-map located_public p r.publics k)) in
       below there.0.site there.0.entry.value p.value (ap (λ (x : PublicReading). x.value) there.2)
@@ -115,17 +117,20 @@ module _ (m : Parts) (more : List Parts) (plan : Plan) (r : LocatedParts) (v : A
       λ i. record { name = p.name; notes = p.notes; value = sym own i } ∷ later i
 
   publics_there : map located_public r.publics ≡ (readings alone (bases no_regions (flat_sections alone))).publics
+  unfolding readings
   publics_there =
       publics_again r.publics public_below
       ∙ ap (map (public_reading again)) (sym (append-nil (map (λ entry. record { site = home; entry = entry }) (map absolute_public r.publics))))
 
   start_below : (n : ℕ) → r.start ≡ Some n → n < again.modulus
+  unfolding readings
   start_below n e =
       let among : In (Some n) (map (λ v. Some v) (option_to_list r.start)) = subst (λ o. In (Some n) (map (λ v. Some v) (option_to_list o))) (sym e) (inl refl) in
       let there = flat_map-In (λ site. map (value s site None) (option_to_list site.parts.start)) (Some n) (sited ms) (subst (In (Some n)) h.start among) in
       let own = map-In (value s there.0 None) (Some n) (option_to_list there.0.parts.start) there.2 in below there.0 own.0 n own.2
 
   start_there : map (λ v. Some v) (option_to_list r.start) ≡ (readings alone (bases no_regions (flat_sections alone))).starts
+  unfolding readings
   start_there = by_start r.start refl where
     by_start : (o : Option ℕ) → r.start ≡ o → map (λ v. Some v) (option_to_list o) ≡ map (value again home None) (option_to_list (option_map (λ n. number n) o)) ++ []
     by_start None e = refl
@@ -133,6 +138,7 @@ module _ (m : Parts) (more : List Parts) (plan : Plan) (r : LocatedParts) (v : A
 
   -- each mark of the location is located from one of the list
   pub numbered_mark : (mark : DebugMark) → In mark (marks_of r.debug) → IsNumbered s again home refl refl below mark
+  unfolding readings
   numbered_mark mark k =
       let among = subst (In (Some mark)) h.debug (In-map (λ mark. Some mark) mark (marks_of r.debug) k) in
       let there = map-In located_mark (Some mark) (readings ms (bases plan (flat_sections ms))).debug among in
@@ -146,6 +152,7 @@ module _ (m : Parts) (more : List Parts) (plan : Plan) (r : LocatedParts) (v : A
       let own = (numbered_mark mark (among mark (inl refl))).read in let later = marks_again marks (λ other k. among other (inr k)) in λ i. sym own i ∷ later i
 
   debug_there : map (λ mark. Some mark) (marks_of r.debug) ≡ map located_mark (readings alone (bases no_regions (flat_sections alone))).debug
+  unfolding readings
   debug_there = marks_again (marks_of r.debug) (λ mark k. k) ∙ ap (map located_mark) (sym (append-nil (map (mark_reading again home) (marks_of r.debug))))
 
   -- ---- the facts
@@ -245,6 +252,7 @@ module _ (m : Parts) (more : List Parts) (plan : Plan) (r : LocatedParts) (v : A
   sections_there = sym (sections_alone m more plan r v h) ∙ sym (placed_as_they_are again.bases 0 (flat_sections alone) stays)
 
   pub located_as_itself : IsLocation alone no_regions r
+  unfolding readings
   located_as_itself = record {
     links = links;
     locates = locates;

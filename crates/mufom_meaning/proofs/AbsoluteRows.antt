@@ -7,7 +7,9 @@ use Rattle.mufom_module.specs.declared.module.Parts.{Parts}
 use Rattle.mufom_plan.specs.declared.plan.Plan.{Plan}
 use Rattle.mufom_place.specs.Bases.{bases, site_of, site_with, placing_of, placings}
 use Rattle.mufom_place.specs.Facts.{Covers, place_refusal}
+use Rattle.mufom_meaning.specs.Readings.{readings}
 use Rattle.mufom_meaning.specs.declared.located.LocatedParts.{LocatedParts}
+use Rattle.mufom_meaning.specs.LocateAnswer.{locate_answer}
 use Rattle.mufom_meaning.specs.Flat.{Sited, flat_sections, width}
 use Rattle.mufom_meaning.specs.Values.{Setting, setting}
 use Rattle.mufom_meaning.specs.Counts.{loaded_total}
@@ -70,6 +72,7 @@ module _ (m : Parts) (more : List Parts) (plan : Plan) (r : LocatedParts) (v : A
   modulus_alone = ap (λ w. 2 ^ w) width_alone
 
   pub placement_none : place_refusal (width ms) plan first_sections ≡ None
+  unfolding locate_answer
   placement_none = mapped_none placement (place_refusal (width ms) plan first_sections) (or_else_none _ _ h.locates).0
 
   -- a section of the location
@@ -174,6 +177,7 @@ module _ (m : Parts) (more : List Parts) (plan : Plan) (r : LocatedParts) (v : A
   map_there = address_map r.order s.modulus (readings_after s [] (steps ms))
 
   in_cells : (cell : Cell) → In cell (run_cells r.runs) → In cell cells
+  unfolding readings
   in_cells cell k = at_home cell (cell_home r.order ms s once never_outside cell (Contains-In cell map_there ((h.rows.same cell).1 (In-Contains cell (run_cells r.runs) k)))) k
 
   in_runs : (cell : Cell) → In cell cells → In cell (run_cells r.runs)
@@ -187,6 +191,7 @@ module _ (m : Parts) (more : List Parts) (plan : Plan) (r : LocatedParts) (v : A
 
   -- it loads no more than the list
   pub fewer_bytes : loaded_total alone ≤ 67108864
+  unfolding readings
   fewer_bytes =
       let total : loaded_total alone ≡ length cells = zero-add _ ∙ absolute_length r.runs numbered_sections in
       let few = fewer cells map_there own (λ cell k. Contains-In cell map_there ((h.rows.same cell).1 (In-Contains cell (run_cells r.runs) (in_runs cell k)))) in

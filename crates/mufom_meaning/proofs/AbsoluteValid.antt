@@ -18,7 +18,7 @@ use Rattle.mufom_meaning.specs.declared.located.PublicValue.{PublicValue}
 use Rattle.mufom_meaning.specs.declared.located.LocatedParts.{LocatedParts}
 use Rattle.mufom_meaning.specs.Flat.{SitedPublic, sited, flat_sections, flat_publics}
 use Rattle.mufom_meaning.specs.Values.{Setting, setting}
-use Rattle.mufom_meaning.specs.Readings.{PublicReading, public_reading}
+use Rattle.mufom_meaning.specs.Readings.{PublicReading, public_reading, readings}
 use Rattle.mufom_meaning.specs.Location.{Header, located_public, IsLocation}
 use Rattle.mufom_meaning.specs.LocationLaws.{AbsoluteIsValid}
 use Rattle.mufom_meaning.specs.Staging.{AreValid}
@@ -91,6 +91,7 @@ module _ (m : Parts) (more : List Parts) (plan : Plan) (r : LocatedParts) (v : A
       ap (λ (x : Section). is_long x.name) there.2.1.0.same ∙ fails-In (λ s. is_long s.name) there.0.sections own there.2.1.0.first there.2.1.1)
 
   short_public : (p : PublicValue) → In p r.publics → is_long p.name ≡ false
+  unfolding readings
   short_public p k =
       let there = map-In (public_reading s) (located_public p) (flat_publics ms) (subst (In (located_public p)) h.publics (In-map located_public p r.publics k)) in
       let site = flat_map-In (λ site. map (λ entry. record { site = site; entry = entry }) site.parts.names.publics) there.0 (sited ms) there.1 in

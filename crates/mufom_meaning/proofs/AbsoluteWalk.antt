@@ -76,12 +76,14 @@ module _ (order : Order) (s : Setting) (site : Sited) where
   GoodWalk earlier more cells = IsPlainWalk s earlier more × (address_map order s.modulus (readings_after s earlier more) ≡ cells)
 
   counter_set : (earlier : List Step) (section a : ℕ) → a < s.modulus → counter s (counter_step site section (number a) ∷ earlier) section ≡ Some a
+  unfolding counter
   counter_set earlier section a less =
       ap (λ (b : Bool). if b then value s site (counter s earlier section) (number a) else counter s earlier section) (equal_self section)
       ∙ within_is s (length s.publics) site (counter s earlier section) (number a) ∙ ap (λ n. Some n) (mod-eq_of_lt less)
 
   counter_on : (earlier : List Step) (section at : ℕ) (p : List ℕ) → counter s earlier section ≡ Some at → at + length p < s.modulus
       → counter s (item_step site section (Literal p) ∷ earlier) section ≡ Some (at + length p)
+  unfolding counter
   counter_on earlier section at p e less =
       ap (λ (b : Bool). if b then option_map (λ pc. (pc + length p) % s.modulus) (counter s earlier section) else counter s earlier section) (equal_self section)
       ∙ ap (option_map (λ pc. (pc + length p) % s.modulus)) e ∙ ap (λ n. Some n) (mod-eq_of_lt less)

@@ -20,6 +20,7 @@ worth_below s zero = λ site t. None
 worth_below s (suc k) = λ site t. value_within s k site None t
 
 pub within_is : (s : Setting) (k : ℕ) (site : Sited) (pc : Option ℕ) (t : Tree) → value_within s k site pc t ≡ value_at s.modulus (environment s (worth_below s k) site pc) t
+unfolding value_within
 within_is s zero site pc t = refl
 within_is s (suc k) site pc t = refl
 

@@ -16,11 +16,11 @@ use Rattle.mufom_debug.specs.Marks.{DebugMark, block_begin, block_end, name_mark
 use Rattle.mufom_module.specs.declared.module.Parts.{Parts}
 use Rattle.mufom_meaning.specs.Flat.{Sited, flat_sections, public_names, name_count}
 use Rattle.mufom_meaning.specs.LinkAnswer.{first_duplicate}
-use Rattle.mufom_meaning.specs.Steps.{StepReading, counter_reading, literal_reading, field_reading}
-use Rattle.mufom_meaning.specs.Readings.{Readings, HeadReading, MarkReading, mark_reading, module_head, global_head, local_head, source_head, section_head, begin_reading, end_reading, name_reading, note_reading, value_reading}
+use Rattle.mufom_meaning.specs.Steps.{counter, StepReading, counter_reading, literal_reading, field_reading}
+use Rattle.mufom_meaning.specs.Readings.{readings, Readings, HeadReading, MarkReading, mark_reading, module_head, global_head, local_head, source_head, section_head, begin_reading, end_reading, name_reading, note_reading, value_reading}
 use Rattle.mufom_meaning.specs.Joined.{joined_mark, IsJoined, joined_mark}
 use Rattle.mufom_meaning.specs.Staging.{IsContext, StandsFor}
-use Rattle.mufom_meaning.specs.Values.{setting}
+use Rattle.mufom_meaning.specs.Values.{setting, value_within}
 use Rattle.mufom_meaning.proofs.Answers.{distinct_places}
 use Rattle.mufom_meaning.proofs.RowsBuilt.{a_module, relocatable, public_of, strong, weak}
 use Rattle.mufom_meaning.proofs.RowsOfNames.{crossed_a, crossed_b, crossed_link, with_default}
@@ -77,6 +77,7 @@ unmoved_is_not_joined : ¬ IsJoined unmoved (crossed_a ∷ crossed_b ∷ []) (co
 unmoved_is_not_joined j = let e : 0 ≡ 1 = ap (first_place 1) j.publics in omega (arith, e)
 
 unmoved_does_not_stand : ¬ StandsFor unmoved (crossed_a ∷ crossed_b ∷ [])
+unfolding readings counter value_within
 unmoved_does_not_stand stands =
     let e : 257 ≡ 261 = ap (public_value 1) (stands [] [] (256 ∷ 260 ∷ []) (alone crossed_a (crossed_b ∷ []) (256 ∷ 260 ∷ []) refl refl)) in omega (arith, e)
 
@@ -99,6 +100,7 @@ merged_is_not_joined : ¬ IsJoined merged defaults (codes "a")
 merged_is_not_joined j = absurd (let e : length (weak (codes "x") 0 1 ∷ []) ≡ length (weak (codes "x") 0 1 ∷ weak (codes "x") 0 2 ∷ []) = ap length j.references in cc)
 
 merged_does_not_stand : ¬ StandsFor merged defaults
+unfolding readings counter value_within
 merged_does_not_stand stands =
     let e : 1 ≡ 2
     = ap (λ r. field_value (slice_get r.steps 1)) (stands [] [] (0 ∷ 1 ∷ []) (alone (with_default 1) (with_default 2 ∷ []) (0 ∷ 1 ∷ []) refl refl)) in omega (arith, e)
@@ -114,6 +116,7 @@ narrow_is_not_joined : ¬ IsJoined narrow (wide ∷ []) (codes "a")
 narrow_is_not_joined j = absurd (let e = j.header.maus in cc)
 
 narrow_does_not_stand : ¬ StandsFor narrow (wide ∷ [])
+unfolding readings counter value_within
 narrow_does_not_stand stands =
     let e : 4464 ≡ 70000 = ap (public_value 0) (stands [] [] [] (alone wide [] [] refl refl)) in omega (arith, e)
 
@@ -179,6 +182,7 @@ read_section (Some (note_reading name note)) = 0
 read_section (Some (value_reading name value)) = 0
 
 unmoved_block_does_not_stand : ¬ StandsFor unmoved_block both_blocks
+unfolding readings
 unmoved_block_does_not_stand stands =
     let own = λ (marks : List DebugMark). map (mark_reading (setting (unmoved_block ∷ []) (0 ∷ 0 ∷ [])) own_site) marks ++ [] in
     let s = setting both_blocks (0 ∷ 0 ∷ []) in

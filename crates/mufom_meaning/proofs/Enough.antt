@@ -57,6 +57,7 @@ module _ (s : Setting) (worth other : Worth) (site : Sited) (pc : Option ℕ) (t
 
 -- from the length of the longest chain of mentions on, more steps give the same
 pub value_within-ends : (s : Setting) (k d : ℕ) (site : Sited) (pc : Option ℕ) (t : Tree) → EndsWithin s k site t → value_within s (d + k) site pc t ≡ value_within s k site pc t
+unfolding value_within
 value_within-ends s zero d site pc t ends =
     within_is s (d + 0) site pc t ∙ same_value s (worth_below s (d + 0)) (worth_below s 0) site pc t (λ q m. absurd (ends q m)) ∙ sym (within_is s 0 site pc t)
 value_within-ends s (suc k) d site pc t ends =

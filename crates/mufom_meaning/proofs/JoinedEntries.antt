@@ -1,5 +1,5 @@
 -- Tests that see neither positions nor expressions, on the entries of a partial link.
-use Rattle.std.proofs.Common.{◌≡◌, ℕ, ◌+◌, ◌-◌, ◌≤◌, max, List, [], ◌∷◌, ◌++◌, map, flat_map, length, Option, Some, None, Bool, true, false, ◌||◌, refl, sym, ◌∙◌, ap, arith, rules}
+use Rattle.std.proofs.Common.{◌≡◌, ℕ, ◌+◌, ◌≤◌, max, List, [], ◌∷◌, ◌++◌, map, flat_map, length, Bool, false, ◌||◌, refl, sym, ◌∙◌, ap, arith, rules}
 use Rattle.std.specs.Prelude.{nat_lt}
 use Rattle.std.specs.List.{list_any}
 use Rattle.mufom_loads.specs.declared.load.Item.{Item}
@@ -11,8 +11,8 @@ use Rattle.mufom_debug.proofs.Balance.{items_balanced}
 use Rattle.mufom_module.specs.declared.module.Parts.{Parts}
 use Rattle.mufom_module.specs.declared.module.Defect.TheVariants as kinds
 use Rattle.mufom_module.specs.Contents.{any_item, debug_marks}
-use Rattle.mufom_module.specs.Defects.{IsValid, has_defect, has_long_name, has_unknown_attribute, is_long_literal, has_bad_size}
-use Rattle.mufom_meaning.specs.Flat.{Sited, sited_from, sited, name_count}
+use Rattle.mufom_module.specs.Defects.{IsValid, has_long_name, has_unknown_attribute, is_long_literal, has_bad_size}
+use Rattle.mufom_meaning.specs.Flat.{Sited, sited_from, name_count}
 use Rattle.mufom_meaning.specs.Joined.{joined_item, joined_load, joined_mark}
 use Rattle.mufom_meaning.specs.Staging.{AreValid}
 use Rattle.mufom_meaning.proofs.NoDefects.{no_defect}

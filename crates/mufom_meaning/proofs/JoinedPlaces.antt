@@ -1,5 +1,5 @@
 -- The positions and program counters of a partial link are those of its own lists.
-use Rattle.std.proofs.Common.{◌≡◌, ℕ, zero, suc, ◌+◌, ◌<◌, ◌≤◌, List, [], ◌∷◌, ◌++◌, map, flat_map, length, Option, Some, None, Bool, true, false, not, ◌||◌, ◌&&◌, refl, sym, ◌∙◌, ap, subst, cond, arith, rules}
+use Rattle.std.proofs.Common.{◌≡◌, ℕ, zero, suc, ◌+◌, ◌<◌, ◌≤◌, List, [], ◌∷◌, ◌++◌, map, length, Option, Some, None, Bool, true, false, not, ◌||◌, ◌&&◌, refl, sym, ◌∙◌, ap, cond, arith, rules}
 use Rattle.std.specs.Prelude.{nat_le, nat_lt, slice_get, is_none, option_map, option_and_then, ◌==◌, if◌then◌else◌}
 use Rattle.std.specs.List.{list_any}
 use Rattle.std.specs.Str.{bytes_eq}
@@ -15,14 +15,14 @@ use Rattle.mufom_loads.specs.declared.load.Load.{Load}
 use Rattle.mufom_loads.specs.declared.load.Load.TheVariants.{SetSection, SetPc, One, Repeat}
 use Rattle.mufom_debug.specs.declared.item.BlockHead.{BlockHead}
 use Rattle.mufom_debug.specs.declared.item.BlockHead.TheVariants as heads
-use Rattle.mufom_debug.specs.Marks.{DebugMark, block_begin, block_end, name_mark, note_mark, value_mark, marks_of, offset_of}
+use Rattle.mufom_debug.specs.Marks.{DebugMark, block_begin, block_end, name_mark, note_mark, value_mark, offset_of}
 use Rattle.mufom_module.specs.declared.module.Parts.{Parts}
-use Rattle.mufom_module.specs.Contents.{any_of, any_expression, load_any, item_any, current_behind, placed_from}
-use Rattle.mufom_module.specs.Defects.{counts_of, count_for, is_outside, names_outside, names_no_section, has_bad_place, names_bad_section, begins_badly, has_bad_mark, declared_behind_mark, declared_behind, is_this, is_other_counter, has_other_counter, counter_of, misplaces_counter, is_loading, loads_nowhere}
+use Rattle.mufom_module.specs.Contents.{any_of, any_expression, load_any, item_any, placed_from}
+use Rattle.mufom_module.specs.Defects.{counts_of, is_outside, names_outside, names_no_section, has_bad_place, names_bad_section, begins_badly, has_bad_mark, declared_behind, is_this, is_other_counter, has_other_counter, misplaces_counter, loads_nowhere}
 use Rattle.mufom_plan.specs.Names.{has_name}
 use Rattle.mufom_meaning.specs.Flat.{Sited, sited, flat_references, public_names, unmet_references, name_count}
 use Rattle.mufom_meaning.specs.Joined.{place_of, same_reference, kept_references, joined_reference, joined_variable, joined_tree, joined_item, joined_load, joined_head, joined_mark}
-use Rattle.mufom_meaning.proofs.Members.{In, In-at, at-In, In-filter, In-flat_map, none-In, fails-In, map-In, get_some}
+use Rattle.mufom_meaning.proofs.Members.{In, In-at, at-In, In-filter, In-flat_map, none-In, fails-In, get_some}
 use Rattle.mufom_meaning.proofs.Tests.{either_false}
 use Rattle.mufom_meaning.proofs.Named.{site_module}
 use Rattle.mufom_meaning.proofs.References.{Among-distinct, get-place_of, same_reference-decides}

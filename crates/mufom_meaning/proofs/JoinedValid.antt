@@ -1,7 +1,7 @@
 -- A partial link of modules without a defect has none.
-use Rattle.std.proofs.Common.{◌≡◌, ℕ, zero, suc, ◌+◌, ◌<◌, ◌≤◌, ◌^◌, List, [], ◌∷◌, ◌++◌, map, filter, flat_map, length, Option, Some, None, Bool, true, false, not, ◌||◌, ◌&&◌, inl, inr, refl, sym, ◌∙◌, ap, cond, arith, rules, append-nil, length-append}
-use Rattle.std.proofs.lemmas.List.{length-map, map-append}
-use Rattle.std.specs.Prelude.{nat_lt, nat_le, option_map, option_to_list, is_none, is_some}
+use Rattle.std.proofs.Common.{◌≡◌, ℕ, ◌+◌, ◌<◌, ◌^◌, List, [], ◌∷◌, ◌++◌, map, filter, flat_map, length, Option, Some, None, Bool, true, false, not, ◌||◌, ◌&&◌, inl, inr, refl, sym, ◌∙◌, ap, cond, arith}
+use Rattle.std.proofs.lemmas.List.{length-map}
+use Rattle.std.specs.Prelude.{nat_lt, option_map, option_to_list, is_none, is_some}
 use Rattle.std.specs.List.{list_any, find, AllByRecursion}
 use Rattle.mufom_expr.specs.Tree.{Tree}
 use Rattle.mufom_sections.specs.declared.section.Section.{Section}
@@ -12,16 +12,15 @@ use Rattle.mufom_debug.specs.declared.item.DebugItem.{DebugItem}
 use Rattle.mufom_debug.specs.Marks.{DebugMark, block_begin, block_end, name_mark, note_mark, value_mark, marks_of, depth_of, depth_from}
 use Rattle.mufom_debug.proofs.Rebuilt.{same_items}
 use Rattle.mufom_module.specs.declared.module.Parts.{Parts}
-use Rattle.mufom_module.specs.declared.module.Defect.{Defect}
 use Rattle.mufom_module.specs.declared.module.Defect.TheVariants as kinds
 use Rattle.mufom_module.specs.Written.{weight}
 use Rattle.mufom_module.specs.Contents.{any_of, any_expression, any_item, debug_marks, placed_loads, placed_from, HeadAndEnd, blocks_of}
-use Rattle.mufom_module.specs.Defects.{IsValid, has_defect, defects, first_defect, is_long, has_long_name, is_unit_count, has_bad_alignment, lacks_base, is_long_literal, has_bad_size, counts_of, names_outside, has_bad_place, has_bad_mark, declared_behind, has_other_counter, misplaces_counter, loads_nowhere, has_unknown_attribute, ends_plainly, has_bad_end}
+use Rattle.mufom_module.specs.Defects.{IsValid, has_defect, defects, is_long, has_long_name, is_unit_count, has_bad_alignment, lacks_base, is_long_literal, has_bad_size, counts_of, names_outside, has_bad_place, has_bad_mark, declared_behind, has_other_counter, misplaces_counter, loads_nowhere, has_unknown_attribute, ends_plainly, has_bad_end}
 use Rattle.mufom_plan.specs.Names.{has_name}
 use Rattle.mufom_meaning.specs.Flat.{Sited, sited_from, sited, flat_sections, flat_references, flat_publics, public_names, unmet_references, distinct, name_count}
-use Rattle.mufom_meaning.specs.Joined.{joined_tree, joined_public, joined_load, joined_head, joined_mark, joined_item, kept_references, same_reference, HasFirstHeader, IsJoined}
+use Rattle.mufom_meaning.specs.Joined.{joined_tree, joined_public, joined_load, joined_head, joined_mark, kept_references, same_reference, HasFirstHeader, IsJoined}
 use Rattle.mufom_meaning.specs.Staging.{AreValid}
-use Rattle.mufom_meaning.specs.StagingLaws.{total_weight, first_name_length, JoinedIsSound, JoinedIsValid}
+use Rattle.mufom_meaning.specs.StagingLaws.{total_weight, JoinedIsValid}
 use Rattle.mufom_meaning.proofs.Tests.{either_false}
 use Rattle.mufom_meaning.proofs.Choices.{two_false, not_lt, not_le}
 use Rattle.mufom_meaning.proofs.NoDefects.{no_defect}
@@ -29,7 +28,7 @@ use Rattle.mufom_meaning.proofs.Members.{In, fails-In, none-In}
 use Rattle.mufom_meaning.proofs.Named.{site_module, valid_module, sections_end, publics_end}
 use Rattle.mufom_meaning.proofs.Names.{names_of-publics_of}
 use Rattle.mufom_meaning.proofs.Needs.{own_names}
-use Rattle.mufom_meaning.proofs.ChangedMarks.{changed, changed_block, changed_items, marks_of-append, blocks_of-append}
+use Rattle.mufom_meaning.proofs.ChangedMarks.{changed, changed_items, marks_of-append, blocks_of-append}
 use Rattle.mufom_meaning.proofs.JoinedWeight.{joined_weighs}
 use Rattle.mufom_meaning.proofs.JoinedEntries.{none-joined, none-flat, long-mark, attribute-mark, long-item, size-item, items-load, depth-joined}
 use Rattle.mufom_meaning.proofs.JoinedPlaces.{Fits, KeepRules, tree-inside, tree-counter, load-inside, mark-inside, mark-fails, loads-keep, names-declared}

@@ -1,6 +1,6 @@
 -- What a partial link weighs.
-use Rattle.std.proofs.Common.{◌≡◌, ℕ, ◌+◌, ◌≤◌, List, [], ◌∷◌, ◌++◌, map, filter, flat_map, length, Option, Some, None, Bool, true, false, not, cond, refl, sym, ◌∙◌, ap, arith, sum_by}
-use Rattle.std.specs.Prelude.{option_to_list, option_map}
+use Rattle.std.proofs.Common.{◌≡◌, ℕ, ◌+◌, ◌≤◌, List, [], ◌∷◌, map, filter, flat_map, length, Option, Some, None, Bool, true, false, not, cond, refl, sym, ◌∙◌, ap, arith, sum_by}
+use Rattle.std.specs.Prelude.{option_to_list}
 use Rattle.std.proofs.lemmas.List.Sums.{sum_by-append, sum_by-cons}
 use Rattle.mufom_expr.specs.declared.token.Letter.{Letter}
 use Rattle.mufom_expr.specs.declared.token.Token.{Token}
@@ -10,7 +10,6 @@ use Rattle.mufom_expr.specs.Renamed.{renamed_token}
 use Rattle.mufom_expr.specs.Value.{with_variables}
 use Rattle.mufom_expr.proofs.TermsLemmas.{renamed_tokens-tokens_of}
 use Rattle.mufom_names.specs.declared.name.Public.{Public}
-use Rattle.mufom_names.specs.declared.name.Reference.{Reference}
 use Rattle.mufom_loads.specs.declared.load.Item.{Item}
 use Rattle.mufom_loads.specs.declared.load.Item.TheVariants.{Literal, Field}
 use Rattle.mufom_loads.specs.declared.load.Load.{Load}
@@ -20,9 +19,9 @@ use Rattle.mufom_debug.specs.declared.item.BlockHead.TheVariants as heads
 use Rattle.mufom_debug.specs.Marks.{DebugMark, block_begin, block_end, name_mark, note_mark, value_mark, marks_of}
 use Rattle.mufom_module.specs.declared.module.Parts.{Parts}
 use Rattle.mufom_module.specs.Written.{weight}
-use Rattle.mufom_module.specs.Weights.{token_weight, expression_weight, section_weight, public_weight, notes_weight, reference_weight, head_weight, mark_weight, item_weight, items_weight, load_weight, start_weight, frame_weight, parts_weight}
+use Rattle.mufom_module.specs.Weights.{token_weight, expression_weight, section_weight, public_weight, notes_weight, reference_weight, head_weight, mark_weight, item_weight, load_weight, start_weight, frame_weight}
 use Rattle.mufom_module.proofs.WeightLaws.{weight-sum}
-use Rattle.mufom_meaning.specs.Flat.{Sited, sited_from, sited, name_count, flat_sections, flat_references, unmet_references, public_names, distinct}
+use Rattle.mufom_meaning.specs.Flat.{Sited, sited_from, name_count, flat_references, unmet_references, public_names, distinct}
 use Rattle.mufom_meaning.specs.Joined.{joined_variable, joined_tree, joined_public, joined_item, joined_load, joined_head, joined_mark, kept_references, same_reference, HasHeaderOf, HasFirstHeader, IsJoined}
 use Rattle.mufom_meaning.specs.StagingLaws.{total_weight, first_name_length}
 use Rattle.mufom_plan.specs.Names.{has_name}

@@ -102,6 +102,7 @@ module _ (ms : List Parts) (s : Setting) (h : HasAllNamed ms s) where
   meets_at earlier section site t set (inr (inr d)) = itself (Some (earlier, section)) site t d
 
   counter_meets : (earlier more : List Step) → steps ms ≡ put_back earlier more → (section : ℕ) → HasBase s section → counter s earlier section ≡ None → IsSetByNone earlier section
+  unfolding counter
   counter_meets [] more at section based e = absurd (based (mapped_none (λ base. base % s.modulus) (slice_get s.bases section) e))
   counter_meets (counter_step site other t ∷ earlier) more at section based e =
       by_case (other == section) refl e (counter_meets earlier (counter_step site other t ∷ more) at section based) where
@@ -139,6 +140,7 @@ LastSet = List Step × Sited × Tree
 
 last_set-none : (s : Setting) (earlier before : List Step) (section : ℕ) (setter : Sited) (set : Tree) → last_set earlier section ≡ Some (before, setter, set)
     → value s setter (counter s before section) set ≡ None → counter s earlier section ≡ None
+unfolding counter
 last_set-none s [] before section setter set last e = absurd cc
 last_set-none s (counter_step site other t ∷ earlier) before section setter set last e = by_case (other == section) last (λ l. last_set-none s earlier before section setter set l e) where
   by_case : (b : Bool) → (if b then Some (earlier, site, t) else last_set earlier section) ≡ Some (before, setter, set) → (last_set earlier section ≡ Some (before, setter, set) → counter s earlier section ≡ None)

@@ -72,3 +72,4 @@ mod JoinedEntries
 mod JoinedPlaces
 pub mod Enough
 mod JoinedValid
+pub mod Unfolding

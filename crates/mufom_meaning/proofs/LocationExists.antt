@@ -16,7 +16,7 @@ use Rattle.mufom_meaning.specs.Flat.{Sited, SitedPublic, sited_from, sited, flat
 use Rattle.mufom_meaning.specs.Values.{Setting, value}
 use Rattle.mufom_meaning.specs.Steps.{readings_after, steps}
 use Rattle.mufom_meaning.specs.AddressMap.{address_map}
-use Rattle.mufom_meaning.specs.Readings.{public_reading, mark_reading, head_reading}
+use Rattle.mufom_meaning.specs.Readings.{public_reading, mark_reading, head_reading, readings}
 use Rattle.mufom_meaning.specs.Location.{placed_sections, located_public, located_head, located_mark, IsLocation}
 use Rattle.mufom_meaning.specs.LocationLaws.{HasValue, LocationsExist}
 use Rattle.mufom_meaning.specs.Facts.{duplicate_start, loaded_twice}
@@ -169,6 +169,7 @@ module _ (m : Parts) (more : List Parts) (plan : Plan) (v : AreValid (m ∷ more
       let two : 1 < length (flat_starts ms) = omega (arith, less, count) in no_link_fact ms l duplicate_start two)
 
   located : (r : LocatedParts) × IsLocation ms plan r
+  unfolding readings
   located =
       let publics = publics_located ms s valued (flat_publics ms) (public_valued ms s valued) in
       let debug = debug_there ms s valued (sited ms) in

@@ -106,10 +106,3 @@ pub get_some : {A : Type 0} (xs : List A) (i : ℕ) → i < length xs → slice_
 get_some [] i less e = omega (arith, less)
 get_some (x ∷ xs) zero less e = cc
 get_some (x ∷ xs) (suc i) less e = get_some xs i (omega (arith, less)) e
-
-pub or_false : (a b : Bool) → (a || b) ≡ false → (a ≡ false) × (b ≡ false)
-or_false a b e = either_false a b e
-
-pub list_any-same : {A : Type 0} (p q : A → Bool) → ((x : A) → p x ≡ q x) → (xs : List A) → list_any p xs ≡ list_any q xs
-list_any-same p q same [] = refl
-list_any-same p q same (x ∷ xs) = let a = same x in let b = list_any-same p q same xs in λ i. a i || b i

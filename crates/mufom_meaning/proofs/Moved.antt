@@ -159,6 +159,7 @@ module _ (ms : List Parts) (home : Sited) (s other : Setting) (h : AreSettings m
 pub same_value_within : (ms : List Parts) (home : Sited) (s other : Setting) → AreSettings ms home s other → (k : ℕ) (pc : Option ℕ)
     (site : Sited) (t : Tree) (site' : Sited) (t' : Tree) → MovedTree ms home site t site' t'
     → value_within s k site pc t ≡ value_within other k site' pc t'
+unfolding value_within
 same_value_within ms home s other h zero pc site t site' t' m =
     same_step ms home s other h (λ x y. None) (λ x y. None) (λ x y x' y' n. refl) pc site t site' t' m
 same_value_within ms home s other h (suc k) pc site t site' t' m =

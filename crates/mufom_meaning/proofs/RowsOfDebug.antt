@@ -9,7 +9,7 @@ use Rattle.mufom_debug.specs.declared.item.DebugItem.{DebugItem, Block as block_
 use Rattle.mufom_debug.specs.Marks.{DebugMark, block_begin, block_end, name_mark, note_mark, value_mark, marks_of}
 use Rattle.mufom_module.specs.declared.module.Parts.{Parts}
 use Rattle.mufom_meaning.specs.Flat.{Sited}
-use Rattle.mufom_meaning.specs.Values.{setting}
+use Rattle.mufom_meaning.specs.Values.{setting, value_within}
 use Rattle.mufom_meaning.specs.Readings.{readings, MarkReading, mark_reading, module_head, global_head, begin_reading, end_reading, name_reading, note_reading, value_reading}
 use Rattle.mufom_meaning.specs.Location.{located_mark}
 use Rattle.mufom_meaning.proofs.RowsBuilt.{a_module, relocatable}
@@ -47,6 +47,7 @@ its_readings = begin_reading module_head (codes "prog") ∷ name_reading (codes 
     ∷ note_reading 1 note ∷ value_reading 1 (Some 258) ∷ end_reading (Some (Some 271)) ∷ end_reading None ∷ []
 
 reads : (readings (debugged ∷ []) (256 ∷ [])).debug ≡ its_readings
+unfolding readings value_within
 reads = ap (λ marks. map (mark_reading (setting (debugged ∷ []) (256 ∷ [])) the_site) marks ++ []) has_marks
 
 locates : map located_mark its_readings

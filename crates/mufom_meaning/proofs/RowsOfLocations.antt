@@ -10,6 +10,10 @@ use Rattle.mufom_loads.specs.declared.load.Item.TheVariants.{Literal, Field}
 use Rattle.mufom_loads.specs.declared.load.Load.TheVariants.{SetSection, SetPc, One}
 use Rattle.mufom_module.specs.declared.module.Order.TheVariants.{Most}
 use Rattle.mufom_module.specs.declared.module.Parts.{Parts}
+use Rattle.mufom_meaning.specs.Readings.{readings}
+use Rattle.mufom_meaning.specs.Values.{value_within}
+use Rattle.mufom_meaning.specs.Steps.{counter}
+use Rattle.mufom_meaning.specs.LocateAnswer.{locate_answer}
 use Rattle.mufom_meaning.specs.declared.located.LocatedParts.{LocatedParts}
 use Rattle.mufom_meaning.specs.AddressMap.{Cell, cells_from, AreRowsOf}
 use Rattle.mufom_meaning.specs.Facts.{mismatch, duplicate_start}
@@ -46,6 +50,7 @@ small_located = record {
 }
 
 small_is_located : IsLocation (small ∷ []) no_regions small_located
+unfolding locate_answer counter value_within readings
 small_is_located = record {
   links = refl;
   locates = refl;
@@ -105,6 +110,7 @@ both_located = record {
 }
 
 both_are_located : IsLocation (program ∷ library ∷ []) (plan_of (region_at 8192 256 (codes ".text" ∷ []) ∷ [])) both_located
+unfolding locate_answer counter value_within readings
 both_are_located = record {
   links = refl;
   locates = refl;
@@ -119,6 +125,7 @@ both_are_located = record {
 -- Sums wrap at the end of the address space.
 wrapped : image_of (a_module (absolute_at 4 4 ∷ []) [] [] (SetSection 0 ∷ One (Field Either (two plus (number 4294967292) (variable R 0)) 4) ∷ []) ∷ []) no_regions
     ≡ (4, 0) ∷ (5, 0) ∷ (6, 0) ∷ (7, 0) ∷ []
+unfolding readings counter value_within
 wrapped = refl
 
 -- Two widths, and two starts.

@@ -9,6 +9,8 @@ use Rattle.mufom_loads.specs.declared.load.Load.TheVariants.{SetSection, One}
 use Rattle.mufom_module.specs.declared.module.Parts.{Parts}
 use Rattle.mufom_plan.specs.declared.plan.Plan.{Plan}
 use Rattle.mufom_place.specs.Bases.{bases}
+use Rattle.mufom_meaning.specs.Values.{value_within}
+use Rattle.mufom_meaning.specs.Steps.{counter}
 use Rattle.mufom_meaning.specs.Flat.{sited, flat_sections}
 use Rattle.mufom_meaning.specs.Readings.{readings}
 use Rattle.mufom_meaning.specs.Joined.{IsJoined, joined_public, joined_load, kept_references}
@@ -34,9 +36,11 @@ crossed_bases = refl
 
 crossed_image : image_of (crossed_a ∷ crossed_b ∷ []) low_plan
     ≡ (256, 0) ∷ (257, 0) ∷ (258, 1) ∷ (259, 5) ∷ (260, 0) ∷ (261, 0) ∷ (262, 1) ∷ (263, 2) ∷ []
+unfolding readings counter value_within
 crossed_image = refl
 
 crossed_fine : locate_answer (crossed_a ∷ crossed_b ∷ []) low_plan ≡ None
+unfolding locate_answer counter value_within
 crossed_fine = refl
 
 crossed_links : link_answer (crossed_a ∷ crossed_b ∷ []) ≡ None
@@ -61,6 +65,7 @@ circle = a_module [] (public_of (codes "a") (two plus (variable X 0) (number 1))
     ∷ []
 
 circle_found : locate_answer circle (plan_of []) ≡ Some (cycle (codes "a"))
+unfolding locate_answer
 circle_found = refl
 
 -- The circle is found in the link of the two as well.
@@ -80,11 +85,13 @@ circle_is_joined = record {
 }
 
 circle_found_linked : locate_answer (circle_linked ∷ []) (plan_of []) ≡ Some (cycle (codes "a"))
+unfolding locate_answer
 circle_found_linked = refl
 
 -- A public that leads into a circle and lies on none.
 led_in : locate_answer (a_module [] (public_of (codes "c") (variable I 1) ∷ public_of (codes "a") (two plus (variable I 2) (number 1)) ∷ public_of (codes "b") (two minus (variable I 1) (number 1)) ∷ []) [] [] ∷ []) (plan_of [])
     ≡ Some (cycle (codes "a"))
+unfolding locate_answer
 led_in = refl
 
 -- Weak references keep their own defaults, until a public has the name.
@@ -95,6 +102,7 @@ abbrev pub at_zero : Plan
 at_zero = plan_of (region_at 0 256 (codes "t" ∷ []) ∷ [])
 
 defaults_used : image_of (with_default 1 ∷ with_default 2 ∷ []) at_zero ≡ (0, 1) ∷ (1, 2) ∷ []
+unfolding readings counter value_within
 defaults_used = refl
 
 defaults_kept : kept_references (with_default 1 ∷ with_default 2 ∷ []) ≡ weak (codes "x") 0 1 ∷ weak (codes "x") 0 2 ∷ []
@@ -107,6 +115,7 @@ abbrev with_public : List Parts
 with_public = with_default 1 ∷ with_default 2 ∷ a_module [] (public_of (codes "x") (number 7) ∷ []) [] [] ∷ []
 
 public_used : image_of with_public at_zero ≡ (0, 7) ∷ (1, 7) ∷ []
+unfolding readings counter value_within
 public_used = refl
 
 references_gone : kept_references with_public ≡ []
@@ -131,7 +140,9 @@ crossed_is_joined = record {
 }
 
 crossed_link_image : image_of (crossed_link ∷ []) low_plan ≡ image_of (crossed_a ∷ crossed_b ∷ []) low_plan
+unfolding readings counter value_within
 crossed_link_image = refl
 
 crossed_link_readings : readings (crossed_link ∷ []) (256 ∷ 260 ∷ []) ≡ readings (crossed_a ∷ crossed_b ∷ []) (256 ∷ 260 ∷ [])
+unfolding readings value_within counter
 crossed_link_readings = refl

@@ -126,6 +126,7 @@ module _ (ms : List Parts) (s : Setting) (h : HaveValues ms s) where
   reading_valued x m = let there = reading-of s [] (steps ms) x m in subst StepHasValue there.4 (step_valued there.0 there.1 (there.2, there.3))
 
 pub all_valued : AllValued
+unfolding readings
 all_valued ms plan v l e = let s = placed ms plan in let h = values_exist ms plan v l e in record {
   publics = λ q m. let there = map-In (public_reading s) q (flat_publics ms) (Contains-In q (map (public_reading s) (flat_publics ms)) m) in
       subst (λ (q : PublicReading). HasValue q.value) there.2 (public_valued ms s h there.0 there.1);

@@ -54,6 +54,7 @@ module _ (ms : List Parts) (s : Setting) (h : HasAllNamed ms s) (flat : s.public
 
     -- each counter is there
     counter_there_is : (earlier more : List Step) → steps ms ≡ put_back earlier more → (section : ℕ) → HasBase s section → counter s earlier section ≢ None
+    unfolding counter
     counter_there_is [] more at section based e = based (mapped_none (λ base. base % s.modulus) (slice_get s.bases section) e)
     counter_there_is (counter_step site other t ∷ earlier) more at section based e =
         by_case (other == section) refl e (counter_there_is earlier (counter_step site other t ∷ more) at section based) where

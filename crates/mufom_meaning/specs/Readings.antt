@@ -71,7 +71,7 @@ pub record Readings : Type 0 where
   pub commons : List (List ℕ × ℕ)
 
 -- what the modules mean where the sections stand at the bases
-abbrev pub readings : List Parts → List ℕ → Readings
+unfoldable pub readings : List Parts → List ℕ → Readings
 readings ms bases = let s = setting ms bases in record {
   sections = s.sections;
   publics = map (public_reading s) s.publics;

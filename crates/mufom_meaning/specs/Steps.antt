@@ -37,7 +37,7 @@ steps ms = flat_map (λ site. steps_of site None site.parts.loads) (sited ms)
 -- The counter of a section after some steps, the latest first: the value of the last step that set it, and the lengths
 -- of what the section was loaded with since; the section's base where no step set it. The value is found with the
 -- counter before it. It is none where that value is none.
-abbrev pub counter : Setting → List Step → ℕ → Option ℕ
+unfoldable pub counter : Setting → List Step → ℕ → Option ℕ
 counter s [] section = option_map (λ base. base % s.modulus) (slice_get s.bases section)
 counter s (counter_step site other t ∷ earlier) section =
     if other == section then value s site (counter s earlier section) t else counter s earlier section
