@@ -24,7 +24,8 @@ pub fn counts_agree()
     ensures { CountsAgree }
 {}
 
-/// A chain of mentions that comes back has one that is no longer than the list of publics.
+/// Some chain of mentions leads back to a name exactly where one no longer than the list of publics
+/// does.
 pub fn cycles_are_short()
     ensures { CyclesAreShort }
 {}

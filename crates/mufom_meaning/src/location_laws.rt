@@ -9,17 +9,18 @@ pub fn none_by_division()
     ensures { NoneByDivision }
 {}
 
-/// Where no fact stands, each expression and each counter has a value.
+/// Where no fact stands against modules without a defect, each expression and each counter has a value.
 pub fn values_exist()
     ensures { ValuesExist }
 {}
 
-/// Where no fact stands, each reading has its values.
+/// Where no fact stands against modules without a defect, each reading has its values.
 pub fn all_valued()
     ensures { AllValued }
 {}
 
-/// Where no fact stands against modules without a defect, there is a location.
+/// Where no fact stands against a list of modules without a defect, which is not empty, there is a
+/// location.
 pub fn locations_exist()
     ensures { LocationsExist }
 {}
