@@ -32,7 +32,6 @@ use Rattle.mufom_meaning.specs.LinkAnswer.{first_mismatch, first_duplicate, same
 use Rattle.mufom_meaning.specs.LocateAnswer.{cycle_at, image_limit_at, locate_answer}
 use Rattle.mufom_meaning.specs.Counts.{loaded_total}
 use Rattle.mufom_meaning.specs.Walk.{zero_divisor_at, public_fact, counted_from, outside_at, first_twice, addresses_at, step_addresses, loaded_addresses, overflow_at, item_fact, step_fact, steps_fact, SitedTree, start_trees, debug_trees, start_fact, debug_fact, walk_answer}
-use Rattle.mufom_meaning.specs.StagingLaws.{AnswersAgree}
 use Rattle.mufom_meaning.proofs.Paired.{Paired, Paired-same}
 use Rattle.mufom_meaning.proofs.Moved.{shifted, IsOfGroup, MovedTree, stays, joins, MovedPublic, AreSettings, same_value, same_has_zero_divisor}
 use Rattle.mufom_meaning.proofs.MovedSteps.{MovedStep, counters, literals, fields, same_counter}
@@ -323,6 +322,7 @@ module _ (M : Parts) (ms before after : List Parts) (name : List ℕ) (j : IsJoi
       λ i. (if a i then Some (cycle s) else None) or_else b i
 
   same_locate_answer : (plan : Plan) → locate_answer linked plan ≡ locate_answer flat plan
+  unfolding locate_answer
   same_locate_answer plan =
       let sections = same_sections M ms name j before after in
       let placed : bases plan (flat_sections linked) ≡ bases plan (flat_sections flat) = ap (bases plan) sections in
@@ -342,6 +342,10 @@ module _ (M : Parts) (ms before after : List Parts) (name : List ℕ) (j : IsJoi
       or_else walk i))))
 
 -- what is answered in place of a link or a location is what is answered for the flat list
-pub answers_agree : AnswersAgree
+pub answers_agree : (M : Parts) (ms before after : List Parts) (name : List ℕ) (plan : Plan)
+    → IsJoined M ms name → AreValid (before ++ (ms ++ after)) → HaveDescriptor M (before ++ (ms ++ after))
+    → AreDistinct (public_names (before ++ (ms ++ after)))
+    → (link_answer (before ++ (M ∷ after)) ≡ link_answer (before ++ (ms ++ after)))
+    × (locate_answer (before ++ (M ∷ after)) plan ≡ locate_answer (before ++ (ms ++ after)) plan)
 answers_agree M ms before after name plan j valid descriptors names =
     (same_link_answer M ms before after name j valid descriptors names, same_locate_answer M ms before after name j valid descriptors names plan)

@@ -152,12 +152,14 @@ module _ (ms : List Parts) (plan : Plan) where
     from (Some found) h = absurd cc
 
   locate_sound : (fact : LocateFact) → locate_answer ms plan ≡ Some fact → Stands fact
+  unfolding locate_answer
   locate_sound fact e = first (or_else_some (option_map placement refusal) (option_map undefined (slice_get (needs ms) 0) or_else after_needs) fact e) where
     first : (option_map placement refusal ≡ Some fact) ⊎ ((option_map placement refusal ≡ None) × ((option_map undefined (slice_get (needs ms) 0) or_else after_needs) ≡ Some fact)) → Stands fact
     first (inl h) = place_sound fact h
     first (inr h) = fourth (no_placement h.0) fact h.1
 
   locate_complete : locate_answer ms plan ≡ None → (fact : LocateFact) → ¬ LocateFactStands ms plan fact
+  unfolding locate_answer
   locate_complete e fact h =
       let p = or_else_none (option_map placement refusal) (option_map undefined (slice_get (needs ms) 0) or_else after_needs) e in
       let d = or_else_none (option_map undefined (slice_get (needs ms) 0)) after_needs p.1 in

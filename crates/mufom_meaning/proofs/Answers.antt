@@ -163,7 +163,7 @@ no_duplicate before (name ∷ names) e s j h = by_case (has_name before name) re
   by_case false f e zero h later = let same : name ≡ s = cc in ap (has_name before) (sym same) ∙ f
   by_case false f e (suc j) h later = has_name-tail name before s (later e s j h)
 
-distinct_places : (before names : List (List ℕ)) → first_duplicate before names ≡ None → (s : List ℕ) (i j : ℕ) → i < j → slice_get names i ≡ Some s → slice_get names j ≡ Some s → ⊥
+pub distinct_places : (before names : List (List ℕ)) → first_duplicate before names ≡ None → (s : List ℕ) (i j : ℕ) → i < j → slice_get names i ≡ Some s → slice_get names j ≡ Some s → ⊥
 distinct_places before [] e s i j less a b = cc
 distinct_places before (name ∷ names) e s i zero less a b = omega arith
 distinct_places before (name ∷ names) e s zero (suc j) less a b = by_case (has_name before name) e (no_duplicate (name ∷ before) names) where

@@ -1,14 +1,24 @@
+pub mod Choices
+pub mod Members
+pub mod WithoutDefect
+pub mod CellRows
+pub mod Monotone
+pub mod Ends
+pub mod Causes
+pub mod Lacks
+pub mod Valued
+pub mod Named
 pub mod Agreed
 pub mod AllAnswers
 pub mod Answers
 pub mod Chains
 pub mod Composed
+pub mod Counterexamples
 pub mod Cycles
 pub mod Distinct
 pub mod Groups
 pub mod LinkAgreed
 pub mod LinkedLoads
-pub mod Monotone
 pub mod Moved
 pub mod MovedSteps
 pub mod Names
@@ -17,6 +27,11 @@ pub mod NoDefects
 pub mod Paired
 pub mod References
 pub mod Renamed
+pub mod RowsBuilt
+pub mod RowsOfDebug
+pub mod RowsOfFacts
+pub mod RowsOfLocations
+pub mod RowsOfNames
 pub mod SameLocation
 pub mod Selected
 pub mod Settings
@@ -25,6 +40,7 @@ pub mod Stages
 pub mod Staging
 pub mod Tests
 pub mod WalkAnswers
+pub mod ValueLaws
 pub mod JoinedSingle
 pub mod StepCounts
 pub mod SelectionSingle
@@ -35,3 +51,25 @@ pub mod Linkable
 pub mod FollowsLink
 pub mod FactsLinked
 pub mod LinkFactsLinked
+pub mod ChangedMarks
+pub mod SingleLocation
+pub mod OwnAddresses
+pub mod LocationExists
+pub mod AbsoluteCells
+pub mod AbsoluteWalk
+pub mod AbsolutePlaces
+pub mod AbsoluteFacts
+pub mod AbsoluteCounts
+pub mod AbsoluteMarks
+pub mod CellHome
+pub mod AbsoluteRows
+pub mod AbsoluteLocated
+pub mod AbsoluteLoads
+pub mod AbsoluteDebug
+pub mod AbsoluteValid
+mod JoinedWeight
+mod JoinedEntries
+mod JoinedPlaces
+pub mod Enough
+mod JoinedValid
+pub mod Unfolding

@@ -53,6 +53,7 @@ module _ (s : Setting) (w v : Worth) (k : (site : Sited) (t : Tree) → Keeps (w
 
 -- one more step of names keeps a value
 pub value_within-more : (s : Setting) (k : ℕ) (site : Sited) (pc : Option ℕ) (t : Tree) (v : ℕ) → value_within s k site pc t ≡ Some v → value_within s (suc k) site pc t ≡ Some v
+unfolding value_within
 value_within-more s zero site pc t =
     value_at-keeps s.modulus _ _ (environment-keeps s (λ x y. None) (λ x y. value_within s zero x None y) (λ x y v e. absurd cc) site pc) t
 value_within-more s (suc k) site pc t =

@@ -14,7 +14,8 @@ use Rattle.mufom_meaning.specs.Flat.{Sited, SitedPublic, public_names, first_nam
 use Rattle.mufom_meaning.specs.Values.{Setting, Worth, worth_of, reference_value, worth_of_reference, environment, value_within, value, has_zero_divisor}
 use Rattle.mufom_meaning.specs.Joined.{joined_tree, joined_variable, joined_reference, kept_references, place_of, same_reference}
 use Rattle.mufom_meaning.proofs.Paired.{Paired, PairedOption, Paired-get, Paired-find, Paired-length}
-use Rattle.mufom_meaning.proofs.Renamed.{value_at-with_variables, value_at-agrees}
+use Rattle.mufom_expr.proofs.ValueLaws.{value_at-renamed}
+use Rattle.mufom_meaning.proofs.Renamed.{value_at-agrees}
 use Rattle.mufom_meaning.proofs.References.{Among, Among-filter, Among-distinct, get-place_of, get-length, same_reference-decides}
 
 -- the place that a module of a group has in a list where the group stands at home
@@ -150,7 +151,7 @@ module _ (ms : List Parts) (home : Sited) (s other : Setting) (h : AreSettings m
   same_step pc _ _ _ _ (stays site t) =
       value_at-agrees s.modulus _ _ (same_outside site pc) t ∙ ap (λ m. value_at m (environment other v site pc) t) h.modulus
   same_step pc _ _ _ _ (joins site t within) =
-      value_at-with_variables s.modulus (environment s w home pc) (joined_variable ms site) t
+      value_at-renamed s.modulus (environment s w home pc) (joined_variable ms site) t
       ∙ value_at-agrees s.modulus _ _ (same_inside site within pc) t
       ∙ ap (λ m. value_at m (environment other v (shifted home site) pc) t) h.modulus
 
@@ -158,6 +159,7 @@ module _ (ms : List Parts) (home : Sited) (s other : Setting) (h : AreSettings m
 pub same_value_within : (ms : List Parts) (home : Sited) (s other : Setting) → AreSettings ms home s other → (k : ℕ) (pc : Option ℕ)
     (site : Sited) (t : Tree) (site' : Sited) (t' : Tree) → MovedTree ms home site t site' t'
     → value_within s k site pc t ≡ value_within other k site' pc t'
+unfolding value_within
 same_value_within ms home s other h zero pc site t site' t' m =
     same_step ms home s other h (λ x y. None) (λ x y. None) (λ x y x' y' n. refl) pc site t site' t' m
 same_value_within ms home s other h (suc k) pc site t site' t' m =

@@ -36,6 +36,7 @@ module _ (ms : List Parts) (home : Sited) (s other : Setting) (h : AreSettings m
 
   counter_after : (step step' : Step) → R step step' → (earlier earlier' : List Step) (wanted : ℕ) → counter s earlier wanted ≡ counter other earlier' wanted
       → counter s (step ∷ earlier) wanted ≡ counter other (step' ∷ earlier') wanted
+  unfolding counter
   counter_after _ _ (counters site site' section section' t t' e m) earlier earlier' wanted before =
       let set : value s site (counter s earlier wanted) t ≡ value other site' (counter other earlier' wanted) t'
       = same_value ms home s other h (counter s earlier wanted) site t site' t' m ∙ ap (λ pc. value other site' pc t') before in
@@ -50,6 +51,7 @@ module _ (ms : List Parts) (home : Sited) (s other : Setting) (h : AreSettings m
       chosen section section' wanted e _ _ _ _ moved before
 
   pub same_counter : (earlier earlier' : List Step) → Paired R earlier earlier' → (wanted : ℕ) → counter s earlier wanted ≡ counter other earlier' wanted
+  unfolding counter
   same_counter [] [] p wanted =
       ap (λ bases. option_map (λ base. base % s.modulus) (slice_get bases wanted)) h.bases ∙ ap (λ m. option_map (λ base. base % m) (slice_get other.bases wanted)) h.modulus
   same_counter (step ∷ earlier) (step' ∷ earlier') p wanted = counter_after step step' p.0 earlier earlier' wanted (same_counter earlier earlier' p.1 wanted)

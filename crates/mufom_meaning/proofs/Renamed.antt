@@ -6,17 +6,6 @@ use Rattle.mufom_expr.specs.declared.token.Letter.{Letter}
 use Rattle.mufom_expr.specs.Tree.{Tree, number, variable, one, two}
 use Rattle.mufom_expr.specs.Value.{Environment, value_at, with_variables, variables_of, both, one_value, two_value}
 
--- renamed variables are looked up under their new names
-pub value_at-with_variables : (m : ℕ) (env : Environment) (rename : Letter → ℕ → Letter × ℕ) (t : Tree)
-    → value_at m env (with_variables rename t) ≡ value_at m (λ letter n. env (rename letter n).0 (rename letter n).1) t
-value_at-with_variables m env rename (number n) = refl
-value_at-with_variables m env rename (variable letter n) = refl
-value_at-with_variables m env rename (one f a) = ap (option_map (one_value m f)) (value_at-with_variables m env rename a)
-value_at-with_variables m env rename (two f a b) =
-    let left = value_at-with_variables m env rename a in
-    let right = value_at-with_variables m env rename b in
-    ap (λ x. both (two_value m f) x (value_at m env (with_variables rename b))) left ∙ ap (both (two_value m f) (value_at m (λ letter n. env (rename letter n).0 (rename letter n).1) a)) right
-
 -- environments that agree give one value
 pub value_at-agrees : (m : ℕ) (env other : Environment) → ((letter : Letter) (n : ℕ) → env letter n ≡ other letter n) → (t : Tree)
     → value_at m env t ≡ value_at m other t

@@ -25,6 +25,7 @@ width-first_header (m ∷ ms) = refl
 module _ (ms leaves : List Parts) (plan : Plan) (link : link_answer ms ≡ link_answer leaves) (locate : locate_answer ms plan ≡ locate_answer leaves plan)
     (same : (b : List ℕ) → readings ms b ≡ readings leaves b) (first : first_header ms ≡ first_header leaves) where
   sections : flat_sections ms ≡ flat_sections leaves
+  unfolding readings
   sections = ap (λ (x : Readings). x.sections) (same [])
 
   placed : bases plan (flat_sections ms) ≡ bases plan (flat_sections leaves)

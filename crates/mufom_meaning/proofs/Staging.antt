@@ -128,6 +128,7 @@ module _ (M : Parts) (ms : List Parts) (name : List ℕ) (j : IsJoined M ms name
       (IsOfGroup ms) (mark_there ms home s other settings) (sited ms) (are_of_group 0 0 0 ms))))
 
   pub same_readings_there : readings (before ++ (M ∷ after)) bases ≡ readings (before ++ (ms ++ after)) bases
+  unfolding readings
   same_readings_there =
       let a = same_sections M ms name j before after in
       let b = same_publics in let c = same_steps in let d = same_starts in let e = same_debug in

@@ -29,7 +29,7 @@ AllAnswersAreFacts = (ms : List Parts) (plan : Plan) → AnswersAreFacts ms plan
 abbrev pub LinkFactsGrow : Type 0
 LinkFactsGrow = (before ms after : List Parts) (fact : LinkFact) → LinkFactStands ms fact → LinkFactStands (before ++ (ms ++ after)) fact
 
--- where nothing is answered in place of a link, the list has one descriptor and no public name twice
+-- where nothing is answered in place of a link, the list has one descriptor, no public name twice and no more than one start
 pub record IsLinkable (ms : List Parts) : Type 0 where
   pub descriptor : HaveDescriptorOf ms ms
   pub names : AreDistinct (public_names ms)

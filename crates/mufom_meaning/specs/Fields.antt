@@ -1,4 +1,4 @@
--- The bytes of a field, and which values it holds.
+-- The bytes of a field, and which values it holds (IEEE Std 695, load with relocation).
 use Rattle.std.specs.Prelude.{ℕ, zero, suc, ◌+◌, ◌-◌, ◌%◌, ◌/◌, ◌^◌, List, [], ◌∷◌, Bool, ◌||◌, nat_lt, nat_le, if◌then◌else◌, reverse}
 use Rattle.mufom_expr.specs.declared.token.FieldKind.{FieldKind}
 use Rattle.mufom_expr.specs.declared.token.FieldKind.TheVariants.{Signed, Unsigned, Either}

@@ -19,3 +19,4 @@ pub mod Staging
 pub mod StagingLaws
 pub mod FactLaws
 pub mod LocationLaws
+pub mod Valued

@@ -20,7 +20,7 @@ abbrev pub image_limit_at : ℕ → Option LocateFact
 image_limit_at total = if nat_lt 67108864 total then Some (image_limit total) else None
 
 -- what locating the list by the plan answers in place of a location, the first in this order
-abbrev pub locate_answer : List Parts → Plan → Option LocateFact
+unfoldable pub locate_answer : List Parts → Plan → Option LocateFact
 locate_answer ms plan = let s = setting ms (bases plan (flat_sections ms)) in
     option_map placement (place_refusal (width ms) plan (flat_sections ms))
     or_else (option_map undefined (slice_get (needs ms) 0)

@@ -41,7 +41,7 @@ AllValued =
     (ms : List Parts) (plan : Plan) → AreValid ms → link_answer ms ≡ None → locate_answer ms plan ≡ None
     → AreValued (readings ms (bases plan (flat_sections ms)))
 
--- Where no fact stands against modules without a defect, there is a location.
+-- Where no fact stands against a list of modules without a defect, which is not empty, there is a location.
 abbrev pub LocationsExist : Type 0
 LocationsExist =
     (ms : List Parts) (plan : Plan) → ms ≢ [] → AreValid ms → link_answer ms ≡ None → locate_answer ms plan ≡ None

@@ -1,4 +1,4 @@
--- What a list of modules means at given bases. Two lists with equal readings give the same image and the same facts.
+-- What a list of modules means where its sections stand at given bases: the value of each public, step, start and debug expression.
 use Rattle.std.specs.Prelude.{ℕ, ◌+◌, List, map, flat_map, Option, Some, None, option_to_list}
 use Rattle.mufom_expr.specs.Tree.{Tree}
 use Rattle.mufom_sections.specs.declared.section.Section.{Section}
@@ -71,7 +71,7 @@ pub record Readings : Type 0 where
   pub commons : List (List ℕ × ℕ)
 
 -- what the modules mean where the sections stand at the bases
-abbrev pub readings : List Parts → List ℕ → Readings
+unfoldable pub readings : List Parts → List ℕ → Readings
 readings ms bases = let s = setting ms bases in record {
   sections = s.sections;
   publics = map (public_reading s) s.publics;

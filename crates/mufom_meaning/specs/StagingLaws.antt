@@ -49,15 +49,6 @@ LinkFactsAgree =
     → IsJoined M ms name → HaveDescriptorOf ms ms
     → LinkFactStands (before ++ (M ∷ after)) fact ↔ LinkFactStands (before ++ (ms ++ after)) fact
 
--- What is answered in place of a link or a location of a list with a link is what is answered for the flat list.
-abbrev pub AnswersAgree : Type 0
-AnswersAgree =
-    (M : Parts) (ms before after : List Parts) (name : List ℕ) (plan : Plan)
-    → IsJoined M ms name → AreValid (before ++ (ms ++ after)) → HaveDescriptor M (before ++ (ms ++ after))
-    → AreDistinct (public_names (before ++ (ms ++ after)))
-    → (link_answer (before ++ (M ∷ after)) ≡ link_answer (before ++ (ms ++ after)))
-    × (locate_answer (before ++ (M ∷ after)) plan ≡ locate_answer (before ++ (ms ++ after)) plan)
-
 -- The facts about a list with a link are those about the flat list, all of them and the answered one.
 pub record FactsAgreeOn (linked flat : List Parts) (plan : Plan) : Type 0 where
   pub link_facts : (fact : LinkFact) → LinkFactStands linked fact ↔ LinkFactStands flat fact

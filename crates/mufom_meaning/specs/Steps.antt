@@ -1,4 +1,4 @@
--- What the loads of a list of modules do, step by step, and the program counter at each step.
+-- What the loads of a list of modules do, step by step, and the program counter at each step (IEEE Std 695, load commands).
 use Rattle.std.specs.Prelude.{ℕ, ◌+◌, ◌%◌, ◌==◌, List, [], ◌∷◌, ◌++◌, flat_map, Option, Some, None, option_map, slice_get, if◌then◌else◌}
 use Rattle.mufom_expr.specs.declared.token.FieldKind.{FieldKind}
 use Rattle.mufom_expr.specs.Tree.{Tree}
@@ -35,9 +35,9 @@ abbrev pub steps : List Parts → List Step
 steps ms = flat_map (λ site. steps_of site None site.parts.loads) (sited ms)
 
 -- The counter of a section after some steps, the latest first: the value of the last step that set it, and the lengths
--- of what the section was loaded with since; the section's base where no step set it. The value is found with the
--- counter before it. It is none where that value is none.
-abbrev pub counter : Setting → List Step → ℕ → Option ℕ
+-- of what the section was loaded with since; the section's base where no step set it. That value is found with the
+-- counter before it, and a counter behind a value that is none has none either.
+unfoldable pub counter : Setting → List Step → ℕ → Option ℕ
 counter s [] section = option_map (λ base. base % s.modulus) (slice_get s.bases section)
 counter s (counter_step site other t ∷ earlier) section =
     if other == section then value s site (counter s earlier section) t else counter s earlier section

@@ -1,4 +1,4 @@
--- The value of an expression in a list of modules.
+-- The value of an expression in a list of modules (IEEE Std 695, expressions).
 use Rattle.std.specs.Prelude.{ℕ, zero, suc, ◌+◌, ◌^◌, ◌==◌, List, length, Option, Some, None, option_map, slice_get, Bool, if◌then◌else◌}
 use Rattle.mufom_expr.specs.declared.token.Letter.TheVariants as letters
 use Rattle.mufom_expr.specs.Tree.{Tree}
@@ -59,7 +59,7 @@ environment s worth site pc letters.X n = worth_of_reference s worth (slice_get 
 
 -- The value of an expression in a module, going through at most the given number of names on any way down. With no
 -- step left a public has no value.
-abbrev pub value_within : Setting → ℕ → Sited → Option ℕ → Tree → Option ℕ
+unfoldable pub value_within : Setting → ℕ → Sited → Option ℕ → Tree → Option ℕ
 value_within s zero site pc t = value_at s.modulus (environment s (λ site' t'. None) site pc) t
 value_within s (suc k) site pc t = value_at s.modulus (environment s (λ site' t'. value_within s k site' None t') site pc) t
 

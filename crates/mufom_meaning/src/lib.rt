@@ -3,19 +3,24 @@
 //!
 //! The crate has definitions and laws, and the parts of a location as types. It stands on the crates
 //! of a module's values and on `mufom_plan` and `mufom_place`. Linking, selecting and locating share
-//! its definitions; each law is the contract of a function that does nothing.
+//! its definitions; each law is the contract of a function that does nothing. The main one is
+//! [`staged_means_the_same`]: whatever way a list was linked in stages, it means the same.
 #![tactic(auto)]
 
-mod laws;
-mod laws2;
+mod fact_laws;
 mod located;
+mod location_laws;
+mod staging_laws;
 
-pub use laws::{
-    answers_agree, answers_are_facts, cycles_are_short, joined_composes, joined_stands_for,
-    link_answers_agree, selection_agrees, staged_means_the_same,
-};
-pub use laws2::{
-    counts_agree, facts_agree, joined_is_single, link_facts_agree, link_facts_grow,
-    no_link_answer_is_linkable, selection_is_single,
+pub use fact_laws::{
+    answers_are_facts, counts_agree, cycles_are_short, link_facts_grow, no_link_answer_is_linkable,
 };
 pub use located::{LocatedParts, PublicValue, Run};
+pub use location_laws::{
+    absolute_is_located_as_itself, absolute_is_valid, all_valued, location_is_single,
+    locations_exist, none_by_division, selection_is_single, values_exist,
+};
+pub use staging_laws::{
+    facts_agree, joined_composes, joined_is_single, joined_is_valid, joined_stands_for,
+    link_answers_agree, link_facts_agree, selection_agrees, staged_means_the_same,
+};

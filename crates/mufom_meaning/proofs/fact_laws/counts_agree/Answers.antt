@@ -1,0 +1,5 @@
+use Rattle.mufom_meaning.proofs.StepCounts.{counts_agree}
+use Rattle.mufom_meaning.proofs.fact_laws.counts_agree.Goals as goal
+
+pub returns : goal.returns
+returns c = counts_agree

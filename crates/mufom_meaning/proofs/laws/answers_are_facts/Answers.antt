@@ -1,5 +1,0 @@
-use Rattle.mufom_meaning.proofs.AllAnswers.{answers_are_facts}
-use Rattle.mufom_meaning.proofs.laws.answers_are_facts.Goals as goal
-
-pub returns : goal.returns
-returns c = answers_are_facts

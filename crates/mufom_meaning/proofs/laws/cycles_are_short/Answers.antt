@@ -1,5 +1,0 @@
-use Rattle.mufom_meaning.proofs.Chains.{cycles_are_short}
-use Rattle.mufom_meaning.proofs.laws.cycles_are_short.Goals as goal
-
-pub returns : goal.returns
-returns c = cycles_are_short

@@ -1,5 +1,0 @@
-use Rattle.mufom_meaning.proofs.Selected.{selection_agrees}
-use Rattle.mufom_meaning.proofs.laws.selection_agrees.Goals as goal
-
-pub returns : goal.returns
-returns c = selection_agrees

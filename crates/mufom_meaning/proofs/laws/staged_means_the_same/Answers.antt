@@ -1,5 +1,0 @@
-use Rattle.mufom_meaning.proofs.Stages.{staged_means_the_same}
-use Rattle.mufom_meaning.proofs.laws.staged_means_the_same.Goals as goal
-
-pub returns : goal.returns
-returns c = staged_means_the_same

@@ -1,5 +1,0 @@
-use Rattle.mufom_meaning.proofs.StepCounts.{counts_agree}
-use Rattle.mufom_meaning.proofs.laws2.counts_agree.Goals as goal
-
-pub returns : goal.returns
-returns c = counts_agree

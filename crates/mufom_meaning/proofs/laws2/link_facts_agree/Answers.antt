@@ -1,5 +1,0 @@
-use Rattle.mufom_meaning.proofs.LinkFactsLinked.{link_facts_agree}
-use Rattle.mufom_meaning.proofs.laws2.link_facts_agree.Goals as goal
-
-pub returns : goal.returns
-returns c = link_facts_agree

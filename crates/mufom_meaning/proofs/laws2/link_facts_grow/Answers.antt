@@ -1,5 +1,0 @@
-use Rattle.mufom_meaning.proofs.LinkFacts.{link_facts_grow}
-use Rattle.mufom_meaning.proofs.laws2.link_facts_grow.Goals as goal
-
-pub returns : goal.returns
-returns c = link_facts_grow

@@ -1,5 +1,0 @@
-use Rattle.mufom_meaning.proofs.Linkable.{no_link_answer_is_linkable}
-use Rattle.mufom_meaning.proofs.laws2.no_link_answer_is_linkable.Goals as goal
-
-pub returns : goal.returns
-returns c = no_link_answer_is_linkable

@@ -1,5 +1,0 @@
-use Rattle.mufom_meaning.proofs.SelectionSingle.{selection_is_single}
-use Rattle.mufom_meaning.proofs.laws2.selection_is_single.Goals as goal
-
-pub returns : goal.returns
-returns c = selection_is_single

@@ -1,0 +1,5 @@
+use Rattle.mufom_meaning.proofs.FactsLinked.{facts_agree}
+use Rattle.mufom_meaning.proofs.staging_laws.facts_agree.Goals as goal
+
+pub returns : goal.returns
+returns c = facts_agree

@@ -1,0 +1,5 @@
+use Rattle.mufom_meaning.proofs.JoinedSingle.{joined_is_single}
+use Rattle.mufom_meaning.proofs.staging_laws.joined_is_single.Goals as goal
+
+pub returns : goal.returns
+returns c = joined_is_single

@@ -1,0 +1,5 @@
+use Rattle.mufom_meaning.proofs.Selected.{selection_agrees}
+use Rattle.mufom_meaning.proofs.staging_laws.selection_agrees.Goals as goal
+
+pub returns : goal.returns
+returns c = selection_agrees

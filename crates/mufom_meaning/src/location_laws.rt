@@ -1,0 +1,47 @@
+//! Laws of values, locations and selections, each the contract of a function that does nothing.
+
+ghost use Rattle.mufom_meaning.specs.Valued.{NoneByDivision, ValuesExist};
+ghost use Rattle.mufom_meaning.specs.LocationLaws.{AllValued, LocationsExist, LocationIsSingle, AbsoluteIsLocatedAsItself, AbsoluteIsValid, SelectionIsSingle};
+
+/// Where no link fact stands, and none that needs no walk, an expression of modules without a
+/// defect has no value exactly where it, or a public or a counter that it goes through, divides by 0.
+pub fn none_by_division()
+    ensures { NoneByDivision }
+{}
+
+/// Where no fact stands against modules without a defect, each expression and each counter has a value.
+pub fn values_exist()
+    ensures { ValuesExist }
+{}
+
+/// Where no fact stands against modules without a defect, each reading has its values.
+pub fn all_valued()
+    ensures { AllValued }
+{}
+
+/// Where no fact stands against a list of modules without a defect, which is not empty, there is a
+/// location.
+pub fn locations_exist()
+    ensures { LocationsExist }
+{}
+
+/// A list has one location by a plan at most.
+pub fn location_is_single()
+    ensures { LocationIsSingle }
+{}
+
+/// The module that a location is written as, located alone by a plan without regions, is located as
+/// itself.
+pub fn absolute_is_located_as_itself()
+    ensures { AbsoluteIsLocatedAsItself }
+{}
+
+/// The module that a location is written as has no defect, where it is not too heavy.
+pub fn absolute_is_valid()
+    ensures { AbsoluteIsValid }
+{}
+
+/// The members that are selected for a list are determined.
+pub fn selection_is_single()
+    ensures { SelectionIsSingle }
+{}
