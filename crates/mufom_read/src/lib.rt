@@ -1,4 +1,8 @@
-//! Modules from the bytes of their files.
+//! What the bytes of a file are: a module, a refusal at an offset, or the front of a module's file.
+//!
+//! A stream is judged record by record, by what stands before each. The crate has the definitions and
+//! their laws; it stands on `mufom_module` for the file of a module and on `mufom_records`. Its main
+//! law is [`has_one_judgment`]: each stream is one of the three, and one alone.
 #![tactic(auto)]
 
 mod laws;
