@@ -85,16 +85,16 @@ its_order None h = tt
 its_order (Some b) h = h
 
 pub begin_row : (row : Record) (bytes : List ℕ) (next : Option ℕ) → Layouts.IsWholeRecord mode.Begin row bytes next → IsBegin row
-begin_row row bytes next is = promised IsBegin (Layouts.layout_of mode.Begin) row 0 bytes next is
+begin_row it bytes next is = promised IsBegin (Layouts.layout_of mode.Begin) it 0 bytes next is
     (λ (b : ℕ) _. by_test IsBegin (b == 0xE0) Layouts.module_begin (Layouts.refused 1 _) (λ _. λ (processor : Span) x (name : Span) y. (processor, name, refl, x, y)) (λ _. tt))
 
 pub descriptor_row : (row : Record) (bytes : List ℕ) (next : Option ℕ) → Layouts.IsWholeRecord mode.Descriptor row bytes next → IsDescriptor row
-descriptor_row row bytes next is = promised IsDescriptor (Layouts.layout_of mode.Descriptor) row 0 bytes next is
+descriptor_row it bytes next is = promised IsDescriptor (Layouts.layout_of mode.Descriptor) it 0 bytes next is
     (λ (b : ℕ) _. by_test IsDescriptor (b == 0xEC) Layouts.descriptor (Layouts.refused 1 _)
     (λ _. λ (bits : ℕ) _ (maus : ℕ) _ (order : Option ℕ) x. (bits, maus, order, refl, its_order order x)) (λ _. tt))
 
 pub offset_row : (k : ℕ) (row : Record) (bytes : List ℕ) (next : Option ℕ) → Layouts.IsWholeRecord (mode.Offset k) row bytes next → IsOffset k row
-offset_row k row bytes next is = promised (IsOffset k) (Layouts.layout_of (mode.Offset k)) row 0 bytes next is
+offset_row k it bytes next is = promised (IsOffset k) (Layouts.layout_of (mode.Offset k)) it 0 bytes next is
     (λ (b : ℕ) _. by_test (IsOffset k) (b == 0xE2) (Layouts.begins_with 2 0xD7 (Layouts.numbered_offset k)) (Layouts.refused 1 _)
     (λ _. λ (c : ℕ) _. by_test (IsOffset k) (c == 0xD7) (Layouts.numbered_offset k) (Layouts.refused 2 _)
     (λ _. λ (n : ℕ) same (w : ℕ) _. (w, ap (λ (m : ℕ). r.Offset m w) (eqb-true n k same))) (λ _. tt)) (λ _. tt))
@@ -215,4 +215,4 @@ pub end_bytes : (row : Record) (bytes : List ℕ) (next : Option ℕ) → is_mod
 end_bytes row bytes next ends is = elim (end_or_short row bytes next is) [ inl end ↦ end | inr short ↦ absurd (end_not_short row ends short) ]
 
 pub items_short : (row : Record) (bytes : List ℕ) (next : Option ℕ) → Layouts.IsWholeRecord mode.Items row bytes next → IsShort row
-items_short row bytes next is = promised IsShort Layouts.item row 0 bytes next is item_short
+items_short it bytes next is = promised IsShort Layouts.item it 0 bytes next is item_short

@@ -45,10 +45,10 @@ item_first : (row : Record) (bytes : List ℕ) (next : Option ℕ) → IsWholeRe
 item_first row bytes next is = item_first_by row bytes is.1 is.2 next is.0 is.3 is.4 is.5
 
 record_first : (m : Mode) (row : Record) (bytes : List ℕ) (next : Option ℕ) → IsWholeRecord m row bytes next → 1 ≤ length bytes
-record_first mode.Begin row bytes next is = byte_first _ row 0 bytes next is
-record_first mode.Descriptor row bytes next is = byte_first _ row 0 bytes next is
-record_first (mode.Offset k) row bytes next is = byte_first _ row 0 bytes next is
-record_first mode.Body row bytes next is = byte_first _ row 0 bytes next is
+record_first mode.Begin it bytes next is = byte_first _ it 0 bytes next is
+record_first mode.Descriptor it bytes next is = byte_first _ it 0 bytes next is
+record_first (mode.Offset k) it bytes next is = byte_first _ it 0 bytes next is
+record_first mode.Body it bytes next is = byte_first _ it 0 bytes next is
 record_first mode.Items row bytes next is = item_first row bytes next is
 
 read_some : (m : Mode) (before : List Step) (rest : List ℕ) (step : Step) (n : ℕ) → IsRead m before rest step n → (1 ≤ n) × (n ≤ length rest)

@@ -181,8 +181,8 @@ paid_from p price (Layouts.field f rest) row at before bytes next n (x, front, b
     (its ∙ sym (append_assoc before front back)) (ap (λ m. m + length front) start ∙ sym (length-append before front)) (omega (arith, few, long))
     (pays x (in_piece p f x at before front back (first_of back next) first its start))
 
-paid : (p : Piece) (price : Record → ℕ) (layout : Layout) (next : Option ℕ) → Layouts.SpellsRecord layout p.row 0 p.bytes next → Pays p price layout 0 → price p.row ≤ 10 * length p.bytes
-paid p price layout next is pays = paid_from p price layout p.row 0 [] p.bytes next 0 is refl refl (omega arith) pays
+paid : (p : Piece) (price : Record → ℕ) (layout : Layout) (next : Option ℕ) → Layouts.SpellsRecord layout (p.row) 0 p.bytes next → Pays p price layout 0 → price p.row ≤ 10 * length p.bytes
+paid p price layout next is pays = paid_from p price layout (p.row) 0 [] p.bytes next 0 is refl refl (omega arith) pays
 
 by_test : (p : Piece) (price : Record → ℕ) (n : ℕ) (test : Bool) (a b : Layout) → Pays p price a n → Pays p price b n → Pays p price (cond test a b) n
 by_test p price n true a b x y = x
