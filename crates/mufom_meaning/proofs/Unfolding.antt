@@ -16,7 +16,7 @@ use Rattle.mufom_meaning.specs.Steps.{Step, counter_step, item_step, steps, coun
 use Rattle.mufom_meaning.specs.Readings.{readings, public_reading, mark_reading}
 use Rattle.mufom_meaning.specs.Facts.{undefined, common_unplaced, placement}
 use Rattle.mufom_meaning.specs.Counts.{loaded_total}
-use Rattle.mufom_meaning.specs.Walk.{walk_answer}
+use Rattle.mufom_meaning.specs.Walk.{step_fact, steps_fact, walk_answer}
 use Rattle.mufom_meaning.specs.LocateAnswer.{locate_answer, cycle_at, image_limit_at}
 
 -- with no step left a public has no value
@@ -70,6 +70,10 @@ pub readings-debug : (ms : List Parts) (placed : List ℕ)
     → (readings ms placed).debug ≡ flat_map (λ site. map (mark_reading (setting ms placed) site) (marks_of site.parts.debug)) (sited ms)
 unfolding readings
 readings-debug ms placed = refl
+
+-- a walk over steps meets what the first has, or else what the others have behind it
+pub steps_fact-cons : (s : Setting) (earlier : List Step) (step : Step) (more : List Step) → steps_fact s earlier (step ∷ more) ≡ (step_fact s earlier step or_else steps_fact s (step ∷ earlier) more)
+steps_fact-cons s earlier step more = refl
 
 -- the answers in their order
 pub locate_answer-order : (ms : List Parts) (plan : Plan) → locate_answer ms plan

@@ -69,17 +69,21 @@ placed_loads m = placed_from None m.loads
 abbrev pub HeadAndEnd : Type 0
 HeadAndEnd = BlockHead × Option Tree
 
+-- one level of a block, with the blocks inside it already found
 abbrev pub block_step : Block-F (List HeadAndEnd) (List HeadAndEnd) → List HeadAndEnd
 block_step b = (b.head, b.end) ∷ joined b.items
 
+-- one level of an item, with the blocks inside it already found
 abbrev pub item_step : DebugItem-F (List HeadAndEnd) (List HeadAndEnd) → List HeadAndEnd
 item_step (DebugItem-F.Block blocks) = blocks
 item_step (DebugItem-F.Name name) = []
 item_step (DebugItem-F.Note name note) = []
 item_step (DebugItem-F.Value name value) = []
 
+-- the blocks of an item, at any depth
 abbrev pub blocks_of_item : DebugItem → List HeadAndEnd
 blocks_of_item = fold-DebugItem (List HeadAndEnd) (List HeadAndEnd) item_step block_step
 
+-- the blocks of items, at any depth
 abbrev pub blocks_of : List DebugItem → List HeadAndEnd
 blocks_of items = joined (map blocks_of_item items)

@@ -111,6 +111,7 @@ names_bad_section n (heads.Source numbers) = false
 names_bad_section n (heads.Local stack type_index offset) = false
 names_bad_section n (heads.Section section_type section offset) = nat_le n.sections section
 
+-- a mark that begins a block of a section which the module does not have
 abbrev pub begins_badly : Counts → DebugMark → Bool
 begins_badly n (block_begin head name) = names_bad_section n head
 begins_badly n (block_end end) = false
@@ -146,6 +147,7 @@ has_bad_position m = let n = counts_of m in
 
 -- ---- program counters
 
+-- the section is this one
 abbrev pub is_this : Option ℕ → ℕ → Bool
 is_this None place = false
 is_this (Some section) place = section == place
@@ -170,6 +172,7 @@ counter_of current (SetPc section value) = Some section
 counter_of current (One item) = current
 counter_of current (Repeat count items) = current
 
+-- a load, with the section that is current before it, that names another program counter than it may
 abbrev pub misplaces_counter : Option ℕ × Load → Bool
 misplaces_counter p = load_any (has_other_counter (counter_of p.0 p.1)) p.1
 
@@ -215,6 +218,7 @@ has_bad_end block = ends_plainly block.0 && is_some block.1
 
 -- ---- marks of the debug part, by the rule that they break
 
+-- the mark breaks the rule
 abbrev pub breaks : Rule → DebugMark → Bool
 breaks rules.Length mark = has_long_name mark
 breaks (rules.Position counts) mark = has_bad_mark counts mark
@@ -223,6 +227,7 @@ breaks rules.Attribute mark = has_unknown_attribute mark
 
 -- ---- all of them
 
+-- the parts have the defect
 abbrev pub has_defect : Parts → Defect → Bool
 has_defect m d.Depth = nat_lt 32 (depth_of (debug_marks m))
 has_defect m d.LongId = has_long_string m

@@ -75,6 +75,7 @@ sections_of part = filter_map (λ p. section_by part p p.row) part
 
 -- ---- names
 
+-- a note of these numbers
 abbrev pub note_of : ℕ → ℕ → ArrayVec ℕ → Note
 note_of type_index attribute ns = record { type_index = type_index; attribute = attribute; numbers = ns }
 
@@ -153,7 +154,7 @@ marks ix part = filter_map (λ p. mark_by ix p p.row) part
 
 -- ---- loads
 
--- the item that a record is; a field without a size has the size of an address
+-- the item that a record is; where no size is given a field is as wide as an address
 abbrev pub item_by : Indexes → ℕ → Piece → Record → Option Item
 item_by ix maus p (r.ConstantItem run) = Some (Literal (text_in p run))
 item_by ix maus p (r.FieldItem kind value n) = Some (Field kind (positioned ix (tree_in p value)) (unwrap_or n maus))

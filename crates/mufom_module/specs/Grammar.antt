@@ -59,15 +59,19 @@ module_end = 0xE1 ∷ []
 abbrev pub from_trailer : FileParts → List ℕ
 from_trailer f = bytes_of f.trailer ++ module_end
 
+-- the bytes from the data part on
 abbrev pub from_loads : FileParts → List ℕ
 from_loads f = bytes_of f.loads ++ from_trailer f
 
+-- the bytes from the debug part on
 abbrev pub from_debug : FileParts → List ℕ
 from_debug f = debug_bytes f ++ from_loads f
 
+-- the bytes from the external part on
 abbrev pub from_externals : FileParts → List ℕ
 from_externals f = bytes_of f.externals ++ from_debug f
 
+-- the bytes from the section part on
 abbrev pub from_sections : FileParts → List ℕ
 from_sections f = bytes_of f.sections ++ from_externals f
 

@@ -45,14 +45,17 @@ pub record IsMadeNote (note : Note) : Type 0 where
   pub few : length note.numbers.items ≤ 4
   pub numbers : All IsNumber note.numbers.items
 
+-- a size and a default are numbers
 abbrev pub IsMadeWeak : Weak → Type 0
 IsMadeWeak weak = IsNumber weak.size × IsNumber weak.default
 
+-- a name of bytes, an expression, and notes
 pub record IsMadePublic (p : Public) : Type 0 where
   pub name : AreBytes p.name
   pub value : IsMadeTree p.value
   pub notes : All IsMadeNote p.notes
 
+-- a name of bytes, what makes it weak, and notes
 pub record IsMadeReference (r : Reference) : Type 0 where
   pub name : AreBytes r.name
   pub weak : IfSome r.weak IsMadeWeak
@@ -63,6 +66,7 @@ abbrev pub IsMadeItem : Item → Type 0
 IsMadeItem (Literal bytes) = AreBytes bytes
 IsMadeItem (Field kind value size) = IsMadeTree value × (size < 256)
 
+-- what a load names and holds
 abbrev pub IsMadeLoad : Load → Type 0
 IsMadeLoad (SetSection section) = IsPosition section
 IsMadeLoad (SetPc section value) = IsPosition section × IsMadeTree value
@@ -77,6 +81,7 @@ IsMadeHead (heads.Source numbers) = (length numbers.items ≤ 6) × All IsNumber
 IsMadeHead (heads.Local stack type_index offset) = IsNumber stack × IsNumber type_index × IsMadeTree offset
 IsMadeHead (heads.Section section_type section offset) = IsNumber section_type × IsPosition section × IsMadeTree offset
 
+-- what a mark of the debug part names and holds
 abbrev pub IsMadeMark : DebugMark → Type 0
 IsMadeMark (block_begin head name) = IsMadeHead head × AreBytes name
 IsMadeMark (block_end value) = IfSome value IsMadeTree

@@ -41,6 +41,7 @@ pub data Kind : Type 0 where
   reference : Kind
   debug_name : Kind
 
+-- two kinds are one
 abbrev pub is_same_kind : Kind → Kind → Bool
 is_same_kind section section = true
 is_same_kind public public = true
@@ -150,6 +151,7 @@ pub data Once : Type 0 where
   section_base : ℕ → Once
   start_address : Once
 
+-- two records say the same thing of the same index
 abbrev pub is_same_saying : Once → Once → Bool
 is_same_saying (value_of_public i) (value_of_public j) = i == j
 is_same_saying (weakness i) (weakness j) = i == j

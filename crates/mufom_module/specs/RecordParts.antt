@@ -61,6 +61,7 @@ part_of (r.RepeatConstant _ _) = Some data_part
 part_of (r.RepeatRelocate _) = Some data_part
 part_of (r.Start _) = Some trailer_part
 
+-- the part is this one
 abbrev pub is_this_part : Part → Option Part → Bool
 is_this_part part None = false
 is_this_part part (Some other) = number_of part == number_of other

@@ -22,32 +22,40 @@ use Rattle.mufom_module.specs.declared.module.Parts.{Parts}
 abbrev pub capped : ℕ → ℕ
 capped n = min n (2 ^ 64 - 1)
 
+-- a number nine bytes, a variable its letter and its index, a function its byte
 abbrev pub token_weight : Token → ℕ
 token_weight (Number n) = 9
 token_weight (Var letter place) = 10
 token_weight (Fun f) = 1
 
+-- an expression, the sum over its tokens
 abbrev pub expression_weight : Tree → ℕ
 expression_weight tree = sum_by token_weight (tokens_of tree)
 
+-- the same of one that may be absent
 abbrev pub optional_expression_weight : Option Tree → ℕ
 optional_expression_weight None = 0
 optional_expression_weight (Some tree) = expression_weight tree
 
+-- A S are two letters, C is one
 abbrev pub section_letters_weight : Bool → ℕ
 section_letters_weight true = 2
 section_letters_weight false = 1
 
+-- the letter of a purpose, if there is one
 abbrev pub purpose_weight : Option Purpose → ℕ
 purpose_weight None = 0
 purpose_weight (Some purpose) = 1
 
+-- SA, which an alignment of 1 does without
 abbrev pub alignment_weight : ℕ → ℕ
 alignment_weight align = if align == 1 then 0 else 19
 
+-- ASS, which a size of 0 does without
 abbrev pub size_weight : ℕ → ℕ
 size_weight size = if size == 0 then 0 else 20
 
+-- ASL, which needs a base
 abbrev pub base_weight : Option ℕ → ℕ
 base_weight None = 0
 base_weight (Some base) = 20
@@ -57,25 +65,32 @@ abbrev pub section_weight : Section → ℕ
 section_weight s = 13 + section_letters_weight s.absolute + purpose_weight s.purpose + length s.name
     + alignment_weight s.align + size_weight s.size + base_weight s.base
 
+-- a note with its numbers
 abbrev pub note_weight : Note → ℕ
 note_weight note = 29 + 9 * length note.numbers.items
 
+-- all notes of a name
 abbrev pub notes_weight : List Note → ℕ
 notes_weight notes = sum_by note_weight notes
 
+-- NI, the notes and ASI
 abbrev pub public_weight : Public → ℕ
 public_weight p = 24 + length p.name + notes_weight p.notes + expression_weight p.value
 
+-- the default of WX, which one of 0 does without
 abbrev pub default_weight : ℕ → ℕ
 default_weight default = if default == 0 then 0 else 9
 
+-- WX, which a strong reference does without
 abbrev pub weak_weight : Option Weak → ℕ
 weak_weight None = 0
 weak_weight (Some w) = 19 + default_weight w.default
 
+-- NX, the notes and WX
 abbrev pub reference_weight : Reference → ℕ
 reference_weight r = 13 + length r.name + notes_weight r.notes + weak_weight r.weak
 
+-- what the kind of a block adds to its BB
 abbrev pub head_weight : BlockHead → ℕ
 head_weight heads.Module = 0
 head_weight (heads.Global stack type_index offset) = 18 + expression_weight offset
@@ -83,6 +98,7 @@ head_weight (heads.Source ns) = 9 * length ns.items
 head_weight (heads.Local stack type_index offset) = 18 + expression_weight offset
 head_weight (heads.Section section_type section offset) = 18 + expression_weight offset
 
+-- one record of the debug part
 abbrev pub mark_weight : DebugMark → ℕ
 mark_weight (block_begin head name) = 22 + length name + head_weight head
 mark_weight (block_end value) = 1 + optional_expression_weight value
@@ -90,22 +106,27 @@ mark_weight (name_mark name) = 13 + length name
 mark_weight (note_mark name note) = note_weight note
 mark_weight (value_mark name value) = 11 + expression_weight value
 
+-- all records of the debug part
 abbrev pub marks_weight : List DebugMark → ℕ
 marks_weight marks = sum_by mark_weight marks
 
+-- an item of an LR
 abbrev pub item_weight : Item → ℕ
 item_weight (Literal bytes) = 9 + length bytes
 item_weight (Field kind value size) = 12 + expression_weight value
 
+-- all items of an LR
 abbrev pub items_weight : List Item → ℕ
 items_weight items = sum_by item_weight items
 
+-- one load
 abbrev pub load_weight : Load → ℕ
 load_weight (SetSection section) = 10
 load_weight (SetPc section value) = 11 + expression_weight value
 load_weight (One item) = 1 + item_weight item
 load_weight (Repeat count items) = 11 + items_weight items
 
+-- ASG with its brackets, if there is a start
 abbrev pub start_weight : Option Tree → ℕ
 start_weight None = 0
 start_weight (Some value) = 4 + expression_weight value

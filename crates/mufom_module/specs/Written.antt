@@ -48,20 +48,25 @@ abbrev pub each_from : {X : Type 0} → ℕ → (ℕ → X → List ℕ) → Lis
 each_from n write [] = []
 each_from n write (x ∷ xs) = write n x ++ each_from (n + 1) write xs
 
+-- the forms of all entries of a list
 abbrev pub each : {X : Type 0} → (ℕ → X → List ℕ) → List X → List ℕ
 each write xs = each_from 0 write xs
 
 -- ---- the indexes that a written file uses
 
+-- sections count from 1
 abbrev pub section_index : ℕ → ℕ
 section_index position = position + 1
 
+-- publics count from 32
 abbrev pub public_index : ℕ → ℕ
 public_index position = position + 32
 
+-- references count from 11
 abbrev pub reference_index : ℕ → ℕ
 reference_index position = position + 11
 
+-- debug names count from 32
 abbrev pub debug_name_index : ℕ → ℕ
 debug_name_index position = position + 32
 
@@ -76,6 +81,7 @@ index_of X position = reference_index position
 
 -- ---- the records, in a style
 module _ (style : Style) where
+  -- a number in the style
   abbrev pub number : ℕ → List ℕ
   number n = style.number n
 
@@ -87,23 +93,28 @@ module _ (style : Style) where
   abbrev pub counted : List ℕ → List ℕ
   counted bytes = number (length bytes) ++ bytes
 
+  -- a token: a number, a letter with its index, or the byte of a function
   abbrev pub token : Token → List ℕ
   token (Number n) = number n
   token (Var letter position) = letter_byte letter ∷ number (index_of letter position)
   token (Fun f) = function_byte f ∷ []
 
+  -- the tokens of an expression, one after another
   abbrev pub expression : Tree → List ℕ
   expression tree = each (λ _. token) (tokens_of tree)
 
+  -- numbers, one after another
   abbrev pub numbers : List ℕ → List ℕ
   numbers ns = each (λ _. number) ns
 
   -- ---- sections
 
+  -- the letters of a section: A S of an absolute one, and else C
   abbrev pub section_letters : Bool → List ℕ
   section_letters true = 0xC1 ∷ 0xD3 ∷ []
   section_letters false = 0xC3 ∷ []
 
+  -- the letter of a purpose, if there is one
   abbrev pub purpose_letter : Option Purpose → List ℕ
   purpose_letter None = []
   purpose_letter (Some purpose.Code) = 0xD0 ∷ []
@@ -114,19 +125,20 @@ module _ (style : Style) where
   abbrev pub section_record : ℕ → Section → List ℕ
   section_record i s = 0xE6 ∷ (number i ++ (section_letters s.absolute ++ (purpose_letter s.purpose ++ string s.name)))
 
-  -- SA where the alignment is not 1
+  -- SA, but for an alignment of 1
   abbrev pub alignment_record : ℕ → ℕ → List ℕ
   alignment_record i align = if align == 1 then [] else 0xE7 ∷ (number i ++ number align)
 
-  -- ASS where the size is not 0
+  -- ASS, but for a size of 0
   abbrev pub size_record : ℕ → ℕ → List ℕ
   size_record i size = if size == 0 then [] else 0xE2 ∷ 0xD3 ∷ (number i ++ number size)
 
-  -- ASL where there is a base
+  -- ASL, of a section with a base
   abbrev pub base_record : ℕ → Option ℕ → List ℕ
   base_record i None = []
   base_record i (Some base) = 0xE2 ∷ 0xCC ∷ (number i ++ number base)
 
+  -- all records of a section
   abbrev pub section : ℕ → Section → List ℕ
   section position s = let i = section_index position in
       section_record i s ++ (alignment_record i s.align ++ (size_record i s.size ++ base_record i s.base))
@@ -146,6 +158,7 @@ module _ (style : Style) where
   abbrev pub default_number : ℕ → List ℕ
   default_number default = if default == 0 then [] else number default
 
+  -- WX, of a weak reference alone
   abbrev pub weak : ℕ → Option Weak → List ℕ
   weak i None = []
   weak i (Some w) = 0xF4 ∷ (number i ++ (number w.size ++ default_number w.default))
@@ -157,6 +170,7 @@ module _ (style : Style) where
 
   -- ---- debug items
 
+  -- what the kind of a block adds to its BB
   abbrev pub head_fields : BlockHead → List ℕ
   head_fields heads.Module = []
   head_fields (heads.Global stack type_index offset) = number stack ++ (number type_index ++ expression offset)
@@ -164,11 +178,12 @@ module _ (style : Style) where
   head_fields (heads.Local stack type_index offset) = number stack ++ (number type_index ++ expression offset)
   head_fields (heads.Section section_type section offset) = number section_type ++ (number (section_index section) ++ expression offset)
 
+  -- the expression of BE, if there is one
   abbrev pub end_expression : Option Tree → List ℕ
   end_expression None = []
   end_expression (Some value) = expression value
 
-  -- the record of a mark, where n names stand before it; a block's size is written as 0
+  -- the record of a mark, where n names stand before it; 0 stands for the size of a block
   abbrev pub debug_record : ℕ → DebugMark → List ℕ
   debug_record n (block_begin head name) = 0xF8 ∷ (number (kind_number head) ++ (number 0 ++ (string name ++ head_fields head)))
   debug_record n (block_end value) = 0xF9 ∷ end_expression value
@@ -184,12 +199,14 @@ module _ (style : Style) where
   names_behind n (note_mark name its) = n
   names_behind n (value_mark name value) = n
 
+  -- the records of marks, where so many names stand before them
   abbrev pub debug_records : ℕ → List DebugMark → List ℕ
   debug_records n [] = []
   debug_records n (mark ∷ marks) = debug_record n mark ++ debug_records (names_behind n mark) marks
 
   -- ---- loads
 
+  -- a field in its brackets, with comma and size
   abbrev pub field : FieldKind → Tree → ℕ → List ℕ
   field kind value size = opening kind ∷ (expression value ++ (comma ∷ (number size ++ closing kind ∷ [])))
 
@@ -232,6 +249,7 @@ module _ (style : Style) where
   parts m = m.ext ∷ m.env ∷ each section m.sections ∷ external m
       ∷ debug_records 0 (marks_of m.debug) ∷ each (λ _. load) m.loads ∷ start m.start ∷ []
 
+  -- the letter of an order of bytes
   abbrev pub order_letter : Order → ℕ
   order_letter Least = 0xCC
   order_letter Most = 0xCD

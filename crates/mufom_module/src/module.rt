@@ -46,30 +46,30 @@ pub struct Parts {
 pub enum Defect {
     /// More than 32 debug blocks are open at once.
     Depth,
-    /// A string is longer than 65,535 bytes.
+    /// A string of more than 65,535 bytes.
     LongId,
-    /// An address has not 2, 3 or 4 addressable units.
+    /// Another number of addressable units in an address than 2, 3 or 4.
     BadMaus,
-    /// An alignment is 0 or above 2,147,483,648.
+    /// An alignment of 0, or of more than 2^31.
     BadAlign,
-    /// A section with the letters of an absolute one has no base.
+    /// No base for a section with the letters of an absolute one.
     MissingBase,
-    /// A position is not in its list, or a debug name is used before it is declared.
+    /// Something names an entry that is not in its list, or a debug name ahead of its declaration.
     Position,
-    /// A program counter stands in a public, a start or a debug expression, or is that of another
-    /// section than the one that the load sets or goes to.
+    /// The program counter of a section is named where no load goes to it or sets it: by a public, the
+    /// start or a debug item, or by a load of another section.
     MisplacedP,
-    /// An item or a repeat stands before the first section is set.
+    /// A load comes while no section is set yet.
     NoSection,
-    /// A literal is longer than 65,535 bytes.
+    /// A literal of more than 65,535 bytes.
     LongRun,
-    /// A field has not 1 to 8 bytes.
+    /// Another size of a field than 1 to 8 bytes.
     FieldSize,
-    /// The attribute of a debug note is not 1, 2, 3, 4, 5, 7, 8 or 10.
+    /// A debug note with an attribute that is not known.
     Attribute,
-    /// A module or source block has an expression at its end.
+    /// An expression at the end of a module block or a source block.
     Nesting,
-    /// The weight is 4,294,967,296 or more.
+    /// A weight that 32 bits cannot hold.
     Weight,
 }
 

@@ -9,3 +9,4 @@ pub mod RecordLaws
 pub mod SameBytes
 pub mod PostfixLaws
 mod Worked
+pub mod ShortLaws

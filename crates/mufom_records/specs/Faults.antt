@@ -19,7 +19,7 @@ use Rattle.mufom_records.specs.Layouts.{Layout, whole, refused, field, layout_of
 abbrev pub EndsTokens : List ℕ → Type 0
 EndsTokens bytes = BeginsWith (λ b. begins_token b ≡ false) bytes
 
--- a token stands first that finds its terms, or finds too few
+-- a token stands first of which this holds
 abbrev pub BeginsWithToken : (Token → Type 0) → List ℕ → Type 0
 BeginsWithToken Is bytes = (token : Token) × (text : List ℕ) × (rest : List ℕ) × SpellsToken token text × Is token × (bytes ≡ text ++ rest)
 

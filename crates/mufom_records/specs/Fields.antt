@@ -1,6 +1,6 @@
 -- The fields of records and their spellings (IEEE Std 695, MUFOM commands). A field's spelling depends on where it
 -- begins, since strings, runs of bytes and expressions are kept as parts of the input, and on the byte that follows it,
--- since an optional field is absent only before a byte that cannot begin it.
+-- since a field that may be absent is so only where that byte could not begin it.
 use Rattle.std.specs.Prelude.{◌≡◌, ℕ, ◌+◌, ◌<◌, ◌≤◌, Bool, true, false, List, [], ◌∷◌, ◌++◌, length, Option, Some, None, ◌==◌}
 use Rattle.std.specs.List.{list_any}
 use Rattle.arrayvec.specs.ArrayVec.{ArrayVec}

@@ -1,6 +1,6 @@
 //! Laws of records, each the contract of a function that does nothing.
 
-ghost use Rattle.std.specs.Prelude.{◌≡◌, ◌≢◌, ℕ, List, ◌++◌, None, Option};
+ghost use Rattle.std.specs.Prelude.{◌≡◌, ◌≢◌, ◌<◌, ℕ, List, ◌++◌, length, None, Option};
 ghost use Rattle.mufom_numbers.specs.Spelling.{AreBytes};
 ghost use Rattle.mufom_records.specs.declared.record.Mode.{Mode};
 ghost use Rattle.mufom_records.specs.declared.record.Record.{Record};
@@ -26,4 +26,10 @@ pub fn whole_records_at_one_place_are_one()
 /// are told by their positions behind its first byte.
 pub fn bytes_determine_the_record()
     ensures { (mode : Mode) (r s : Record) (text : List ℕ) (next other : Option ℕ) → IsWholeRecord mode r text next → IsWholeRecord mode s text other → r ≡ s }
+{}
+
+/// An input of which more is wanted has fewer than 131,077 bytes: the longest record of which the end may
+/// not stand yet is MB with two strings of 65,535 bytes.
+pub fn unended_inputs_are_short()
+    ensures { (mode : Mode) (input : List ℕ) → AreBytes input → record_at mode input ≡ Taken.More → length input < 131077 }
 {}

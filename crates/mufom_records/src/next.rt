@@ -195,11 +195,10 @@ fn next(input: &[u8], mode: Mode) -> Taken<Record>
 /// Reads the record at the front of the input that stands next in this mode, and says how many bytes
 /// it takes. Takes no memory.
 ///
-/// The fields are read from left to right. `Bad` is the first fault and the position of the byte at
-/// which it is named: a fault of a number's value stands as soon as the number is whole, one of a
-/// token as soon as the token is, and any other as soon as its byte is there. `More` comes where no
-/// fault stands and the input ends inside a field, before one that must follow, or where an optional
-/// one could still begin. Strings, literal bytes and expressions are positions in the input, and
+/// `Bad` is the first fault from the left, and the position of the byte at which it is named. A number
+/// or a token is judged once it is whole, anything else once its byte is there. `More` is answered for
+/// the front of a record without a fault: where the input ends within a field, before one that is
+/// wanted, or where one that may be absent could begin. Strings, literal bytes and expressions are positions in the input, and
 /// literal bytes are not looked at.
 pub fn next_record(input: &[u8], mode: Mode) -> Taken<Record>
     // What is taken is the front of the input, and a whole record before the byte that follows.
