@@ -15,11 +15,11 @@ use Rattle.mufom_module.specs.Defects as d
 use Rattle.mufom_module.specs.Written.{weight}
 use Rattle.mufom_module.specs.Pieces.{Piece}
 use Rattle.mufom_module.specs.RecordParts.{Part, section_part, external_part, data_part, trailer_part, stands_in}
-use Rattle.mufom_module.specs.Grammar.{header_of, from_externals, from_debug, from_trailer, module_end, file_limit, IsCutInto, indexes_of}
-use Rattle.mufom_read.specs.Fronts.{Step, pieces_of}
+use Rattle.mufom_module.specs.Grammar.{header_of, from_externals, from_debug, from_trailer, module_end, file_limit, IsCutInto, indexes_of, SpellsModule}
+use Rattle.mufom_read.specs.Fronts.{Step, front_bytes, pieces_of, size_of, is_ended}
 use Rattle.mufom_read.specs.Faults.{has_bad_alignment, is_bad_descriptor, set_by, current_section}
-use Rattle.mufom_read.specs.Judging.{IsSoundFrom}
-use Rattle.mufom_read.specs.Said.{indexes_in}
+use Rattle.mufom_read.specs.Judging.{IsSoundFrom, IsSoundFront}
+use Rattle.mufom_read.specs.Said.{indexes_in, IsSaidBy}
 use Rattle.mufom_read.specs.Laws.{FilesWeighTenfold, EndedFrontIsModule}
 use Rattle.mufom_read.proofs.EndedWalk.{all_bytes, walk_of}
 use Rattle.mufom_read.proofs.EndedRows.{IsShort}
@@ -167,14 +167,33 @@ is_valid reads_debug front s small =
 
 -- ---- the law
 
--- A sound front that ends with the stream is a module's file, where what a file says weighs at most ten times the file.
-pub ended_front : FilesWeighTenfold → EndedFrontIsModule
-ended_front weigh reads_debug front bytes fits limit sound ends size =
-    let same = all_bytes reads_debug front bytes fits sound size in
-    let walk = walk_of reads_debug [] front (subst (λ (l : List ℕ). AreBytes l) same fits) (subst (λ (l : List ℕ). IsSoundFrom reads_debug [] front l) same sound) in
-    let s = sliced_of reads_debug front ends walk in
+-- The bytes of a front that is cut into its parts are the file of what these say, where what a file says weighs at most ten
+-- times the file.
+spelled_by : FilesWeighTenfold → (reads_debug : Bool) (front : List Step) (bytes : List ℕ) → AreBytes bytes → length bytes ≤ file_limit → bytes ≡ front_bytes front
+    → (s : Sliced reads_debug front) → SpellsModule (said_by reads_debug front s) bytes reads_debug
+spelled_by weigh reads_debug front bytes fits limit same s =
     let m = said_by reads_debug front s in
     let cut = subst (λ (l : List ℕ). IsCutInto l reads_debug s.f) (sym same) (cut_into reads_debug front s (subst (λ (l : List ℕ). length l ≤ file_limit) same limit)) in
     let names = has_names reads_debug front s in
     let tenfold : weight m ≤ 10 * length bytes = weigh reads_debug bytes s.f m fits cut names (says reads_debug front s) in
-    (m, (s.f, cut, names, says reads_debug front s, is_valid reads_debug front s (light (weight m) (length bytes) tenfold limit)), is_said reads_debug front s)
+    (s.f, cut, names, says reads_debug front s, is_valid reads_debug front s (light (weight m) (length bytes) tenfold limit))
+
+sliced_from : (reads_debug : Bool) (front : List Step) (bytes : List ℕ) → AreBytes bytes → IsSoundFront reads_debug front bytes → is_ended front ≡ true → bytes ≡ front_bytes front → Sliced reads_debug front
+sliced_from reads_debug front bytes fits sound ends same =
+    sliced_of reads_debug front ends (walk_of reads_debug [] front (subst (λ (l : List ℕ). AreBytes l) same fits) (subst (λ (l : List ℕ). IsSoundFrom reads_debug [] front l) same sound))
+
+-- A sound front that ends with the stream is cut into its parts, and is the file of what they say.
+pub ended_sliced : FilesWeighTenfold → (reads_debug : Bool) (front : List Step) (bytes : List ℕ) → AreBytes bytes → length bytes ≤ file_limit → IsSoundFront reads_debug front bytes
+    → is_ended front ≡ true → size_of front ≡ length bytes → (s : Sliced reads_debug front) × SpellsModule (said_by reads_debug front s) bytes reads_debug
+ended_sliced weigh reads_debug front bytes fits limit sound ends size =
+    let same = all_bytes reads_debug front bytes fits sound size in
+    (sliced_from reads_debug front bytes fits sound ends same, spelled_by weigh reads_debug front bytes fits limit same (sliced_from reads_debug front bytes fits sound ends same))
+
+said_front : (reads_debug : Bool) (front : List Step) (bytes : List ℕ) → (s : Sliced reads_debug front) → SpellsModule (said_by reads_debug front s) bytes reads_debug → (m : Parts) × SpellsModule m bytes reads_debug × IsSaidBy front m
+said_front reads_debug front bytes s spells = (said_by reads_debug front s, spells, is_said reads_debug front s)
+
+-- It is a module's file.
+pub ended_front : FilesWeighTenfold → EndedFrontIsModule
+ended_front weigh reads_debug front bytes fits limit sound ends size =
+    let both = ended_sliced weigh reads_debug front bytes fits limit sound ends size in
+    said_front reads_debug front bytes both.0 both.1

@@ -222,7 +222,7 @@ some_length (b ∷ more) some = omega arith
 cut_by : ModuleIsEndedFront → JudgmentsExcludeEachOther → (reads_debug : Bool) (bytes more : List ℕ) (m : Parts) → AreBytes (bytes ++ more) → more ≢ [] → IsModule reads_debug (bytes ++ more) m
     → (judgment : Judgment) → IsJudged reads_debug bytes judgment → IsTruncated reads_debug bytes
 cut_by law exclude reads_debug bytes more m fits some is (module_of n) its =
-    let ends = end_goes_on reads_debug bytes more (length bytes) fits (ends_there law reads_debug bytes n (AreBytes-front bytes more fits) its) in
+    let ends = end_goes_on reads_debug bytes more (length bytes) (AreBytes-front bytes more fits) (ends_there law reads_debug bytes n (AreBytes-front bytes more fits) its) in
     let long = length-append bytes more in
     let longer = some_length more some in
     absurd ((exclude reads_debug (bytes ++ more) fits).not_module m (length bytes) why.AfterEnd is (inr (inl (refl, ends, omega arith))))

@@ -111,16 +111,20 @@ one_fault reads_debug bytes place other reason why_ a b =
     let pair : (place, reason) ≡ (other, why_) = cc in
     (ap (λ (p : Fault). p.0) pair, ap (λ (p : Fault). p.1) pair)
 
+-- whatever numbers the stream has
+pub one_refusal : (reads_debug : Bool) (bytes : List ℕ) (place other : ℕ) (reason why_ : Reason) → IsRefusedAt reads_debug bytes place reason → IsRefusedAt reads_debug bytes other why_ → (place ≡ other) × (reason ≡ why_)
+one_refusal reads_debug bytes place other reason why_ (inl a) (inl b) = one_fault reads_debug bytes place other reason why_ a b
+one_refusal reads_debug bytes place other reason why_ (inl a) (inr (inl b)) = absurd (fault_not_ended reads_debug bytes place other reason a b.1)
+one_refusal reads_debug bytes place other reason why_ (inl a) (inr (inr b)) = absurd (fault_not_waiting reads_debug bytes b.3 place reason a b.4)
+one_refusal reads_debug bytes place other reason why_ (inr (inl a)) (inl b) = absurd (fault_not_ended reads_debug bytes other place why_ b a.1)
+one_refusal reads_debug bytes place other reason why_ (inr (inl a)) (inr (inl b)) = (one_end reads_debug bytes place other a.1 b.1, a.0 ∙ sym b.0)
+one_refusal reads_debug bytes place other reason why_ (inr (inl a)) (inr (inr b)) = absurd (ended_not_waiting reads_debug bytes b.3 place a.1 b.4)
+one_refusal reads_debug bytes place other reason why_ (inr (inr a)) (inl b) = absurd (fault_not_waiting reads_debug bytes a.3 other why_ b a.4)
+one_refusal reads_debug bytes place other reason why_ (inr (inr a)) (inr (inl b)) = absurd (ended_not_waiting reads_debug bytes a.3 other b.1 a.4)
+one_refusal reads_debug bytes place other reason why_ (inr (inr a)) (inr (inr b)) = (a.1 ∙ sym b.1, a.0 ∙ sym b.0)
+
 pub refusal_is_single : RefusalIsSingle
-refusal_is_single reads_debug bytes place other reason why_ fits (inl a) (inl b) = one_fault reads_debug bytes place other reason why_ a b
-refusal_is_single reads_debug bytes place other reason why_ fits (inl a) (inr (inl b)) = absurd (fault_not_ended reads_debug bytes place other reason a b.1)
-refusal_is_single reads_debug bytes place other reason why_ fits (inl a) (inr (inr b)) = absurd (fault_not_waiting reads_debug bytes b.3 place reason a b.4)
-refusal_is_single reads_debug bytes place other reason why_ fits (inr (inl a)) (inl b) = absurd (fault_not_ended reads_debug bytes other place why_ b a.1)
-refusal_is_single reads_debug bytes place other reason why_ fits (inr (inl a)) (inr (inl b)) = (one_end reads_debug bytes place other a.1 b.1, a.0 ∙ sym b.0)
-refusal_is_single reads_debug bytes place other reason why_ fits (inr (inl a)) (inr (inr b)) = absurd (ended_not_waiting reads_debug bytes b.3 place a.1 b.4)
-refusal_is_single reads_debug bytes place other reason why_ fits (inr (inr a)) (inl b) = absurd (fault_not_waiting reads_debug bytes a.3 other why_ b a.4)
-refusal_is_single reads_debug bytes place other reason why_ fits (inr (inr a)) (inr (inl b)) = absurd (ended_not_waiting reads_debug bytes a.3 other b.1 a.4)
-refusal_is_single reads_debug bytes place other reason why_ fits (inr (inr a)) (inr (inr b)) = (a.1 ∙ sym b.1, a.0 ∙ sym b.0)
+refusal_is_single reads_debug bytes place other reason why_ fits = one_refusal reads_debug bytes place other reason why_
 
 -- a stream that is cut off is not refused
 pub not_cut : (reads_debug : Bool) (bytes : List ℕ) (place : ℕ) (reason : Reason) → IsTruncated reads_debug bytes → IsRefusedAt reads_debug bytes place reason → ⊥

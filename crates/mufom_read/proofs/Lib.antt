@@ -1,3 +1,20 @@
+pub mod TableLaws
+pub mod RuleLaws
+pub mod TreeLaws
+pub mod WholeLaws
+pub mod SaidLaws
+pub mod NameLaws
+pub mod FrontLaws
+pub mod AddLaws
+pub mod JudgeLaws
+pub mod OwnParts
+pub mod NearFaults
+pub mod RecordFacts
+pub mod StepLaws
+pub mod PlaceLaws
+pub mod PartBytes
+pub mod RawLaws
+pub mod TakeLaws
 pub mod EndedWalk
 pub mod EndedRows
 pub mod SpelledBegin
@@ -13,6 +30,7 @@ pub mod EndedTrees
 pub mod EndedGood
 pub mod EndedEntries
 pub mod EndedLoads
+pub mod LoadLaws
 pub mod SpelledWalk
 pub mod SpelledHeader
 pub mod SpelledParts
@@ -34,5 +52,11 @@ pub mod WeighEntries
 pub mod WeighNames
 pub mod WeighLoads
 pub mod WeighFiles
+pub mod BuildLaws
 pub mod SpelledJudged
 mod Worked
+pub mod PieceLaws
+pub mod FeedLaws
+pub mod ShortLaws
+pub mod FinishLaws
+pub mod SourceLaws

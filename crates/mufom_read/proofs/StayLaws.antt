@@ -18,7 +18,7 @@ use Rattle.mufom_records.proofs.RecordLaws.{record_at-got, record_at-stable}
 use Rattle.mufom_module.specs.Grammar.{file_limit}
 use Rattle.mufom_read.specs.Fronts.{Step, read, step_bytes, front_bytes, size_of, pieces_of, Extent, Place, in_header, in_part, at_end, place_behind, header_mode, is_raw, awaits_items, body_mode, as_step, raw_step, step_in, step_at, next_step}
 use Rattle.mufom_read.specs.Faults.{Fault, ended_part_fault, step_fault, fault_after}
-use Rattle.mufom_read.specs.Judging.{IsSoundFrom, IsSoundFront, within_limit, HasFault, EndsAt, IsWaiting}
+use Rattle.mufom_read.specs.Judging.{IsSoundFrom, IsSoundFront, within_limit, HasFault, EndsAt, IsWaiting, IsRefusedAt}
 use Rattle.mufom_read.specs.Laws.{RefusalStays}
 use Rattle.mufom_read.proofs.EndedWalk.{taken, the_piece, front_first}
 
@@ -157,11 +157,11 @@ within-append bytes more = limit-append file_limit bytes more
 front_inside : (reads_debug : Bool) (front : List Step) (bytes : List ℕ) → AreBytes bytes → IsSoundFront reads_debug front bytes → size_of front ≤ length bytes
 front_inside reads_debug front bytes fits sound = let first = front_first reads_debug [] front bytes fits sound in omega (arith, ap length first.1, length-append (front_bytes front) first.0)
 
-pub fault_goes_on : (reads_debug : Bool) (bytes more : List ℕ) (place : ℕ) (reason : Reason) → AreBytes (bytes ++ more) → HasFault reads_debug bytes place reason → HasFault reads_debug (bytes ++ more) place reason
+pub fault_goes_on : (reads_debug : Bool) (bytes more : List ℕ) (place : ℕ) (reason : Reason) → AreBytes bytes → HasFault reads_debug bytes place reason → HasFault reads_debug (bytes ++ more) place reason
 fault_goes_on reads_debug bytes more place reason fits h =
     let judged = within_limit bytes in
     let behind = take (file_limit - length bytes) more in
-    let its = AreBytes-take file_limit bytes (AreBytes-front bytes more fits) in
+    let its = AreBytes-take file_limit bytes fits in
     let grows = within-append bytes more in
     let inside = front_inside reads_debug h.front judged its h.sound in
     record {
@@ -172,9 +172,9 @@ fault_goes_on reads_debug bytes more place reason fits h =
           ∙ fault_stays reads_debug h.front (drop (size_of h.front) judged) behind (place, reason) (AreBytes-drop (size_of h.front) judged its) h.fault;
     }
 
-pub end_goes_on : (reads_debug : Bool) (bytes more : List ℕ) (place : ℕ) → AreBytes (bytes ++ more) → EndsAt reads_debug bytes place → EndsAt reads_debug (bytes ++ more) place
+pub end_goes_on : (reads_debug : Bool) (bytes more : List ℕ) (place : ℕ) → AreBytes bytes → EndsAt reads_debug bytes place → EndsAt reads_debug (bytes ++ more) place
 end_goes_on reads_debug bytes more place fits h =
-    let its = AreBytes-take file_limit bytes (AreBytes-front bytes more fits) in
+    let its = AreBytes-take file_limit bytes fits in
     record {
       front = h.front;
       sound = subst (λ (l : List ℕ). IsSoundFront reads_debug h.front l) (sym (within-append bytes more)) (sound_stays reads_debug [] h.front (within_limit bytes) (take (file_limit - length bytes) more) its h.sound);
@@ -196,11 +196,15 @@ waiting_goes_on reads_debug bytes other pending same h = record {
   behind = h.behind ∙ ap (drop (size_of h.front)) same;
 }
 
-pub refusal_stays : RefusalStays
-refusal_stays reads_debug bytes more place reason fits (inl h) = inl (fault_goes_on reads_debug bytes more place reason fits h)
-refusal_stays reads_debug bytes more place reason fits (inr (inl h)) =
+-- whatever numbers stand behind the bytes
+pub refusal_goes_on : (reads_debug : Bool) (bytes more : List ℕ) (place : ℕ) (reason : Reason) → AreBytes bytes → IsRefusedAt reads_debug bytes place reason → IsRefusedAt reads_debug (bytes ++ more) place reason
+refusal_goes_on reads_debug bytes more place reason fits (inl h) = inl (fault_goes_on reads_debug bytes more place reason fits h)
+refusal_goes_on reads_debug bytes more place reason fits (inr (inl h)) =
     let long = length-append bytes more in let below : place < length bytes = h.2 in
     inr (inl (h.0, end_goes_on reads_debug bytes more place fits h.1, omega arith))
-refusal_stays reads_debug bytes more place reason fits (inr (inr h)) =
+refusal_goes_on reads_debug bytes more place reason fits (inr (inr h)) =
     let long = length-append bytes more in let above : file_limit < length bytes = h.2 in
     inr (inr (h.0, h.1, omega arith, h.3, waiting_goes_on reads_debug bytes (bytes ++ more) h.3 (same_judged bytes more h.2) h.4))
+
+pub refusal_stays : RefusalStays
+refusal_stays reads_debug bytes more place reason fits refused = refusal_goes_on reads_debug bytes more place reason (AreBytes-front bytes more fits) refused

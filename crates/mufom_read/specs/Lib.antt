@@ -3,3 +3,9 @@ pub mod Faults
 pub mod Judging
 pub mod Said
 pub mod Laws
+pub mod PartsOfCode
+pub mod Kept
+pub mod FrontOfCode
+pub mod Reader
+pub mod Built
+pub mod Source

@@ -1,18 +1,41 @@
-//! What the bytes of a file are: a module, a refusal at an offset, or the front of a module's file.
+//! What the bytes of a file are: a module, a refusal at an offset, or the front of a module's file; and
+//! the reader that answers so.
 //!
-//! A stream is judged record by record, by what stands before each. The crate has the definitions and
-//! their laws; it stands on `mufom_module` for the file of a module and on `mufom_records`. Its main
-//! law is [`has_one_judgment`]: each stream is one of the three, and one alone.
+//! A stream is judged record by record, by what stands before each. A [`Reader`] takes it in pieces: it
+//! keeps the records without a fault with which the stream begins, what they declare and say once, and
+//! the bytes behind them. The crate stands on `mufom_module` for the file of a module and on
+//! `mufom_records`. Its main clause is that of [`Reader::feed`]: a refusal is answered exactly where the
+//! stream so far is refused, however it was cut; its main law is [`has_one_judgment`].
 #![tactic(auto)]
 
+mod build;
+mod front;
+mod header;
+mod kept;
 mod laws;
+mod loads;
+mod names;
+mod notes;
+mod part;
+mod positions;
+mod reader;
 mod refusal;
+mod rules;
+mod sections;
+mod source;
+mod state;
+mod tables;
+#[cfg(test)]
+mod tests;
 mod weight_laws;
+mod whole;
 
 pub use laws::{
     ended_front_is_module, fronts_are_one, fronts_of_modules_are_cut_off, has_judgment,
     has_one_judgment, judgments_exclude_each_other, module_is_ended_front, refusal_is_single,
     refusal_stays,
 };
+pub use reader::Reader;
 pub use refusal::{ReadRefusal, ReadStop};
+pub use source::{SourceStop, read_module};
 pub use weight_laws::{files_weigh_tenfold, modules_weigh_tenfold};

@@ -1,0 +1,343 @@
+-- The rules for a record, read off the tables, are the rules behind a front.
+use Rattle.std.proofs.Common.{◌≡◌, ℕ, ◌&&◌, ◌||◌, Bool, true, false, not, true≢false, List, [], ◌∷◌, Option, Some, None, is_none, filter_map, map, option_to_list, cond, refl, sym, ap, ◌∙◌, append-nil}
+use Rattle.std.specs.List.{list_any, list_all, last_or}
+use Rattle.std.proofs.lemmas.List.Folds.{list_all-append}
+use Rattle.mufom_numbers.specs.declared.reason.Reason.{Reason}
+use Rattle.mufom_numbers.specs.declared.reason.Reason.TheVariants as why
+use Rattle.mufom_expr.specs.declared.token.Letter.{Letter}
+use Rattle.mufom_expr.specs.declared.token.Letter.TheVariants.{I, L, P, R, S, X}
+use Rattle.mufom_expr.specs.Tree.{Tree}
+use Rattle.mufom_expr.specs.Value.{variables_of}
+use Rattle.mufom_records.specs.declared.record.Record.{Record}
+use Rattle.mufom_records.specs.declared.record.Record.TheVariants as r
+use Rattle.std.specs.List.{cons_option}
+use Rattle.mufom_debug.specs.Marks.{joined}
+use Rattle.mufom_module.specs.Contents.{any_of}
+use Rattle.mufom_module.specs.Defects.{has_other_counter}
+use Rattle.mufom_module.specs.Pieces.{Piece, FileIndex, is_declared, named_by, named_in_expression, is_public_value, index_of_variable, tree_of_piece}
+use Rattle.mufom_module.specs.RecordParts.{debug_part, stands_in, is_loading, is_set_section}
+use Rattle.mufom_module.specs.Grammar.{declares_again, says_again, names_unknown, has_no_section}
+use Rattle.mufom_read.specs.Fronts.{Step, pieces_of, placed_of}
+use Rattle.mufom_read.specs.Faults.{set_by, counter_allowed, misplaces_counter, OpenBlock, open_blocks, ends_badly, is_too_deep, has_bad_alignment, rule_broken}
+use Rattle.mufom_read.specs.Kept.{tables_of, sayings, declares_again_in, says_again_in, is_declared_in, is_unknown, names_unknown_in, has_no_section_in, counter_allowed_in, misplaces_counter_in, rule_broken_in}
+use Rattle.mufom_read.proofs.TableLaws.{alignment-has, size-has, base-has, value-has, weakness-has}
+
+pub declares : (ps : List Piece) (row : Record) → stands_in debug_part row ≡ false → declares_again_in (tables_of ps) row ≡ declares_again ps row
+declares ps (r.ModuleBegin a b) plain = refl
+declares ps (r.Descriptor a b c) plain = refl
+declares ps (r.Offset a b) plain = refl
+declares ps r.ModuleEnd plain = refl
+declares ps (r.SectionType a b c d e f g) plain = refl
+declares ps (r.Alignment a b c) plain = refl
+declares ps (r.SectionSize a b) plain = refl
+declares ps (r.SectionBase a b) plain = refl
+declares ps (r.PublicName a b) plain = refl
+declares ps (r.PublicValue a b) plain = refl
+declares ps (r.PublicNote a b c d) plain = refl
+declares ps (r.ReferenceName a b) plain = refl
+declares ps (r.WeakReference a b c) plain = refl
+declares ps (r.ReferenceNote a b c d) plain = refl
+declares ps (r.BlockBegin a b c d) plain = absurd (true≢false plain)
+declares ps (r.BlockEnd a) plain = absurd (true≢false plain)
+declares ps (r.DebugName a b) plain = absurd (true≢false plain)
+declares ps (r.DebugValue a b) plain = absurd (true≢false plain)
+declares ps (r.DebugNote a b c d) plain = absurd (true≢false plain)
+declares ps (r.SetSection a) plain = refl
+declares ps (r.SetPc a b) plain = refl
+declares ps (r.Constant a) plain = refl
+declares ps r.Relocate plain = refl
+declares ps (r.ConstantItem a) plain = refl
+declares ps (r.FieldItem a b c) plain = refl
+declares ps (r.RepeatConstant a b) plain = refl
+declares ps (r.RepeatRelocate a) plain = refl
+declares ps (r.Start a) plain = refl
+
+pub says : (ps : List Piece) (row : Record) → says_again_in (tables_of ps) row ≡ says_again ps row
+says ps (r.ModuleBegin a b) = refl
+says ps (r.Descriptor a b c) = refl
+says ps (r.Offset a b) = refl
+says ps r.ModuleEnd = refl
+says ps (r.SectionType a b c d e f g) = refl
+says ps (r.Alignment a b c) = alignment-has a (sayings ps)
+says ps (r.SectionSize a b) = size-has a (sayings ps)
+says ps (r.SectionBase a b) = base-has a (sayings ps)
+says ps (r.PublicName a b) = refl
+says ps (r.PublicValue a b) = value-has a (sayings ps)
+says ps (r.PublicNote a b c d) = refl
+says ps (r.ReferenceName a b) = refl
+says ps (r.WeakReference a b c) = weakness-has a (sayings ps)
+says ps (r.ReferenceNote a b c d) = refl
+says ps (r.BlockBegin a b c d) = refl
+says ps (r.BlockEnd a) = refl
+says ps (r.DebugName a b) = refl
+says ps (r.DebugValue a b) = refl
+says ps (r.DebugNote a b c d) = refl
+says ps (r.SetSection a) = refl
+says ps (r.SetPc a b) = refl
+says ps (r.Constant a) = refl
+says ps r.Relocate = refl
+says ps (r.ConstantItem a) = refl
+says ps (r.FieldItem a b c) = refl
+says ps (r.RepeatConstant a b) = refl
+says ps (r.RepeatRelocate a) = refl
+says ps (r.Start a) = refl
+
+-- ---- indexes that are named
+
+named-entry : (ps : List Piece) (row : Record) → stands_in debug_part row ≡ false → list_all (is_declared_in (tables_of ps)) (option_to_list (named_by row)) ≡ list_all (is_declared ps) (option_to_list (named_by row))
+named-entry ps (r.ModuleBegin a b) plain = refl
+named-entry ps (r.Descriptor a b c) plain = refl
+named-entry ps (r.Offset a b) plain = refl
+named-entry ps r.ModuleEnd plain = refl
+named-entry ps (r.SectionType a b c d e f g) plain = refl
+named-entry ps (r.Alignment a b c) plain = refl
+named-entry ps (r.SectionSize a b) plain = refl
+named-entry ps (r.SectionBase a b) plain = refl
+named-entry ps (r.PublicName a b) plain = refl
+named-entry ps (r.PublicValue a b) plain = refl
+named-entry ps (r.PublicNote a b c d) plain = refl
+named-entry ps (r.ReferenceName a b) plain = refl
+named-entry ps (r.WeakReference a b c) plain = refl
+named-entry ps (r.ReferenceNote a b c d) plain = refl
+named-entry ps (r.BlockBegin a b c d) plain = absurd (true≢false plain)
+named-entry ps (r.BlockEnd a) plain = absurd (true≢false plain)
+named-entry ps (r.DebugName a b) plain = absurd (true≢false plain)
+named-entry ps (r.DebugValue a b) plain = absurd (true≢false plain)
+named-entry ps (r.DebugNote a b c d) plain = absurd (true≢false plain)
+named-entry ps (r.SetSection a) plain = refl
+named-entry ps (r.SetPc a b) plain = refl
+named-entry ps (r.Constant a) plain = refl
+named-entry ps r.Relocate plain = refl
+named-entry ps (r.ConstantItem a) plain = refl
+named-entry ps (r.FieldItem a b c) plain = refl
+named-entry ps (r.RepeatConstant a b) plain = refl
+named-entry ps (r.RepeatRelocate a) plain = refl
+named-entry ps (r.Start a) plain = refl
+
+declared-variable : (ps : List Piece) (v : Letter × ℕ) → is_declared_in (tables_of ps) (index_of_variable v) ≡ is_declared ps (index_of_variable v)
+declared-variable ps (I, i) = refl
+declared-variable ps (L, i) = refl
+declared-variable ps (P, i) = refl
+declared-variable ps (R, i) = refl
+declared-variable ps (S, i) = refl
+declared-variable ps (X, i) = refl
+
+known-variables : (ps : List Piece) (vs : List (Letter × ℕ)) → list_any (is_unknown (tables_of ps)) vs ≡ not (list_all (is_declared ps) (map index_of_variable vs))
+known-variables ps [] = refl
+known-variables ps (v ∷ vs) =
+    ap (λ b. not b || list_any (is_unknown (tables_of ps)) vs) (declared-variable ps v)
+    ∙ ap (λ b. not (is_declared ps (index_of_variable v)) || b) (known-variables ps vs)
+    ∙ or-not (is_declared ps (index_of_variable v)) (list_all (is_declared ps) (map index_of_variable vs)) where
+      or-not : (a b : Bool) → (not a || not b) ≡ not (a && b)
+      or-not true b = refl
+      or-not false b = refl
+
+-- the variables of an expression, where there is one
+pub known-tree : (ps : List Piece) (tree : Option Tree) → any_of (λ t. list_any (is_unknown (tables_of ps)) (variables_of t)) tree ≡ not (list_all (is_declared ps) (map index_of_variable (joined (map variables_of (option_to_list tree)))))
+known-tree ps None = refl
+known-tree ps (Some t) = known-variables ps (variables_of t) ∙ ap (λ vs. not (list_all (is_declared ps) (map index_of_variable vs))) (sym (append-nil (variables_of t)))
+
+unknown : (ps : List Piece) (p : Piece) → stands_in debug_part p.row ≡ false → names_unknown_in (tables_of ps) p.row (tree_of_piece p) ≡ names_unknown ps p
+unknown ps p plain =
+    ap (λ b. not b || (not (is_public_value p.row) && any_of (λ t. list_any (is_unknown (tables_of ps)) (variables_of t)) (tree_of_piece p))) (named-entry ps p.row plain)
+    ∙ ap (λ b. not (entry) || (not (is_public_value p.row) && b)) (known-tree ps (tree_of_piece p))
+    ∙ by_case entry (is_public_value p.row)
+    ∙ ap not (sym (list_all-append (is_declared ps) (option_to_list (named_by p.row)) (if_waits (is_public_value p.row)))) where
+      entry : Bool
+      entry = list_all (is_declared ps) (option_to_list (named_by p.row))
+
+      if_waits : Bool → List FileIndex
+      if_waits b = cond b [] (named_in_expression p)
+
+      by_case : (a b : Bool) → (not a || (not b && not (list_all (is_declared ps) (named_in_expression p)))) ≡ not (a && list_all (is_declared ps) (cond b [] (named_in_expression p)))
+      by_case true true = refl
+      by_case true false = refl
+      by_case false b = refl
+
+-- ---- the current section
+
+current-from : (o : Option ℕ) (ps : List Piece) → is_none (last_or o (filter_map (λ p. set_by p.row) ps)) ≡ (is_none o && not (list_any (λ q. is_set_section q.row) ps))
+current-from None [] = refl
+current-from (Some i) [] = refl
+current-from o (p ∷ ps) = by_row p.row (λ o. current-from o ps) where
+  nothing : (o : Option ℕ) → (is_none o && false) ≡ false
+  nothing None = refl
+  nothing (Some i) = refl
+
+  by_row : (row : Record) → ((o : Option ℕ) → is_none (last_or o (filter_map (λ q. set_by q.row) ps)) ≡ (is_none o && not (list_any (λ q. is_set_section q.row) ps))) → is_none (last_or o (cons_option (set_by row) (filter_map (λ q. set_by q.row) ps))) ≡ (is_none o && not (is_set_section row || list_any (λ q. is_set_section q.row) ps))
+  by_row (r.ModuleBegin a b) rest = rest o
+  by_row (r.Descriptor a b c) rest = rest o
+  by_row (r.Offset a b) rest = rest o
+  by_row r.ModuleEnd rest = rest o
+  by_row (r.SectionType a b c d e f g) rest = rest o
+  by_row (r.Alignment a b c) rest = rest o
+  by_row (r.SectionSize a b) rest = rest o
+  by_row (r.SectionBase a b) rest = rest o
+  by_row (r.PublicName a b) rest = rest o
+  by_row (r.PublicValue a b) rest = rest o
+  by_row (r.PublicNote a b c d) rest = rest o
+  by_row (r.ReferenceName a b) rest = rest o
+  by_row (r.WeakReference a b c) rest = rest o
+  by_row (r.ReferenceNote a b c d) rest = rest o
+  by_row (r.BlockBegin a b c d) rest = rest o
+  by_row (r.BlockEnd a) rest = rest o
+  by_row (r.DebugName a b) rest = rest o
+  by_row (r.DebugValue a b) rest = rest o
+  by_row (r.DebugNote a b c d) rest = rest o
+  by_row (r.SetSection a) rest = rest (Some a) ∙ sym (nothing o)
+  by_row (r.SetPc a b) rest = rest o
+  by_row (r.Constant a) rest = rest o
+  by_row r.Relocate rest = rest o
+  by_row (r.ConstantItem a) rest = rest o
+  by_row (r.FieldItem a b c) rest = rest o
+  by_row (r.RepeatConstant a b) rest = rest o
+  by_row (r.RepeatRelocate a) rest = rest o
+  by_row (r.Start a) rest = rest o
+
+no-section : (ps : List Piece) (row : Record) → has_no_section_in (tables_of ps) row ≡ has_no_section ps row
+no-section ps row = ap (λ b. is_loading row && b) (current-from None ps)
+
+allowed : (ps : List Piece) (row : Record) → counter_allowed_in (tables_of ps) row ≡ counter_allowed ps row
+allowed ps (r.ModuleBegin a b) = refl
+allowed ps (r.Descriptor a b c) = refl
+allowed ps (r.Offset a b) = refl
+allowed ps r.ModuleEnd = refl
+allowed ps (r.SectionType a b c d e f g) = refl
+allowed ps (r.Alignment a b c) = refl
+allowed ps (r.SectionSize a b) = refl
+allowed ps (r.SectionBase a b) = refl
+allowed ps (r.PublicName a b) = refl
+allowed ps (r.PublicValue a b) = refl
+allowed ps (r.PublicNote a b c d) = refl
+allowed ps (r.ReferenceName a b) = refl
+allowed ps (r.WeakReference a b c) = refl
+allowed ps (r.ReferenceNote a b c d) = refl
+allowed ps (r.BlockBegin a b c d) = refl
+allowed ps (r.BlockEnd a) = refl
+allowed ps (r.DebugName a b) = refl
+allowed ps (r.DebugValue a b) = refl
+allowed ps (r.DebugNote a b c d) = refl
+allowed ps (r.SetSection a) = refl
+allowed ps (r.SetPc a b) = refl
+allowed ps (r.Constant a) = refl
+allowed ps r.Relocate = refl
+allowed ps (r.ConstantItem a) = refl
+allowed ps (r.FieldItem a b c) = refl
+allowed ps (r.RepeatConstant a b) = refl
+allowed ps (r.RepeatRelocate a) = refl
+allowed ps (r.Start a) = refl
+
+misplaced : (ps : List Piece) (p : Piece) → misplaces_counter_in (tables_of ps) p.row (tree_of_piece p) ≡ misplaces_counter ps p
+misplaced ps p = ap (λ o. any_of (has_other_counter o) (tree_of_piece p)) (allowed ps p.row)
+
+-- ---- debug blocks
+
+no-nesting : (blocks : List OpenBlock) (row : Record) → stands_in debug_part row ≡ false → ends_badly blocks row ≡ false
+no-nesting [] (r.ModuleBegin a b) plain = refl
+no-nesting (m ∷ bs) (r.ModuleBegin a b) plain = refl
+no-nesting [] (r.Descriptor a b c) plain = refl
+no-nesting (m ∷ bs) (r.Descriptor a b c) plain = refl
+no-nesting [] (r.Offset a b) plain = refl
+no-nesting (m ∷ bs) (r.Offset a b) plain = refl
+no-nesting [] r.ModuleEnd plain = refl
+no-nesting (m ∷ bs) r.ModuleEnd plain = refl
+no-nesting [] (r.SectionType a b c d e f g) plain = refl
+no-nesting (m ∷ bs) (r.SectionType a b c d e f g) plain = refl
+no-nesting [] (r.Alignment a b c) plain = refl
+no-nesting (m ∷ bs) (r.Alignment a b c) plain = refl
+no-nesting [] (r.SectionSize a b) plain = refl
+no-nesting (m ∷ bs) (r.SectionSize a b) plain = refl
+no-nesting [] (r.SectionBase a b) plain = refl
+no-nesting (m ∷ bs) (r.SectionBase a b) plain = refl
+no-nesting [] (r.PublicName a b) plain = refl
+no-nesting (m ∷ bs) (r.PublicName a b) plain = refl
+no-nesting [] (r.PublicValue a b) plain = refl
+no-nesting (m ∷ bs) (r.PublicValue a b) plain = refl
+no-nesting [] (r.PublicNote a b c d) plain = refl
+no-nesting (m ∷ bs) (r.PublicNote a b c d) plain = refl
+no-nesting [] (r.ReferenceName a b) plain = refl
+no-nesting (m ∷ bs) (r.ReferenceName a b) plain = refl
+no-nesting [] (r.WeakReference a b c) plain = refl
+no-nesting (m ∷ bs) (r.WeakReference a b c) plain = refl
+no-nesting [] (r.ReferenceNote a b c d) plain = refl
+no-nesting (m ∷ bs) (r.ReferenceNote a b c d) plain = refl
+no-nesting [] (r.BlockBegin a b c d) plain = absurd (true≢false plain)
+no-nesting (m ∷ bs) (r.BlockBegin a b c d) plain = absurd (true≢false plain)
+no-nesting [] (r.BlockEnd a) plain = absurd (true≢false plain)
+no-nesting (m ∷ bs) (r.BlockEnd a) plain = absurd (true≢false plain)
+no-nesting [] (r.DebugName a b) plain = absurd (true≢false plain)
+no-nesting (m ∷ bs) (r.DebugName a b) plain = absurd (true≢false plain)
+no-nesting [] (r.DebugValue a b) plain = absurd (true≢false plain)
+no-nesting (m ∷ bs) (r.DebugValue a b) plain = absurd (true≢false plain)
+no-nesting [] (r.DebugNote a b c d) plain = absurd (true≢false plain)
+no-nesting (m ∷ bs) (r.DebugNote a b c d) plain = absurd (true≢false plain)
+no-nesting [] (r.SetSection a) plain = refl
+no-nesting (m ∷ bs) (r.SetSection a) plain = refl
+no-nesting [] (r.SetPc a b) plain = refl
+no-nesting (m ∷ bs) (r.SetPc a b) plain = refl
+no-nesting [] (r.Constant a) plain = refl
+no-nesting (m ∷ bs) (r.Constant a) plain = refl
+no-nesting [] r.Relocate plain = refl
+no-nesting (m ∷ bs) r.Relocate plain = refl
+no-nesting [] (r.ConstantItem a) plain = refl
+no-nesting (m ∷ bs) (r.ConstantItem a) plain = refl
+no-nesting [] (r.FieldItem a b c) plain = refl
+no-nesting (m ∷ bs) (r.FieldItem a b c) plain = refl
+no-nesting [] (r.RepeatConstant a b) plain = refl
+no-nesting (m ∷ bs) (r.RepeatConstant a b) plain = refl
+no-nesting [] (r.RepeatRelocate a) plain = refl
+no-nesting (m ∷ bs) (r.RepeatRelocate a) plain = refl
+no-nesting [] (r.Start a) plain = refl
+no-nesting (m ∷ bs) (r.Start a) plain = refl
+
+no-depth : (blocks : List OpenBlock) (row : Record) → stands_in debug_part row ≡ false → is_too_deep blocks row ≡ false
+no-depth blocks (r.ModuleBegin a b) plain = refl
+no-depth blocks (r.Descriptor a b c) plain = refl
+no-depth blocks (r.Offset a b) plain = refl
+no-depth blocks r.ModuleEnd plain = refl
+no-depth blocks (r.SectionType a b c d e f g) plain = refl
+no-depth blocks (r.Alignment a b c) plain = refl
+no-depth blocks (r.SectionSize a b) plain = refl
+no-depth blocks (r.SectionBase a b) plain = refl
+no-depth blocks (r.PublicName a b) plain = refl
+no-depth blocks (r.PublicValue a b) plain = refl
+no-depth blocks (r.PublicNote a b c d) plain = refl
+no-depth blocks (r.ReferenceName a b) plain = refl
+no-depth blocks (r.WeakReference a b c) plain = refl
+no-depth blocks (r.ReferenceNote a b c d) plain = refl
+no-depth blocks (r.BlockBegin a b c d) plain = absurd (true≢false plain)
+no-depth blocks (r.BlockEnd a) plain = absurd (true≢false plain)
+no-depth blocks (r.DebugName a b) plain = absurd (true≢false plain)
+no-depth blocks (r.DebugValue a b) plain = absurd (true≢false plain)
+no-depth blocks (r.DebugNote a b c d) plain = absurd (true≢false plain)
+no-depth blocks (r.SetSection a) plain = refl
+no-depth blocks (r.SetPc a b) plain = refl
+no-depth blocks (r.Constant a) plain = refl
+no-depth blocks r.Relocate plain = refl
+no-depth blocks (r.ConstantItem a) plain = refl
+no-depth blocks (r.FieldItem a b c) plain = refl
+no-depth blocks (r.RepeatConstant a b) plain = refl
+no-depth blocks (r.RepeatRelocate a) plain = refl
+no-depth blocks (r.Start a) plain = refl
+
+-- ---- all of them
+
+-- the first of eight rules that is broken
+abbrev first_broken : (a b c d e f g h : Bool) → Option Reason
+first_broken a b c d e f g h = cond a (Some why.DuplicateIndex) (cond b (Some why.UnknownIndex) (cond c (Some why.DuplicateValue) (cond d (Some why.BadAlignment)
+    (cond e (Some why.NoSection) (cond f (Some why.BadP) (cond g (Some why.BlockNesting) (cond h (Some why.Depth) None)))))))
+
+-- The rule that the tables show to be broken is the first that the record breaks.
+pub rule_broken-tables : (front : List Step) (p : Piece) → stands_in debug_part p.row ≡ false → rule_broken_in (tables_of (pieces_of front)) p.row (tree_of_piece p) ≡ rule_broken front p
+rule_broken-tables front p plain =
+    let ps = pieces_of front in
+    let t = tables_of ps in
+    let blocks = open_blocks (placed_of front) in
+    let row = p.row in
+    ap (λ x. first_broken x (names_unknown_in t row (tree_of_piece p)) (says_again_in t row) (has_bad_alignment row) (has_no_section_in t row) (misplaces_counter_in t row (tree_of_piece p)) false false) (declares ps row plain)
+    ∙ ap (λ x. first_broken (declares_again ps row) x (says_again_in t row) (has_bad_alignment row) (has_no_section_in t row) (misplaces_counter_in t row (tree_of_piece p)) false false) (unknown ps p plain)
+    ∙ ap (λ x. first_broken (declares_again ps row) (names_unknown ps p) x (has_bad_alignment row) (has_no_section_in t row) (misplaces_counter_in t row (tree_of_piece p)) false false) (says ps row)
+    ∙ ap (λ x. first_broken (declares_again ps row) (names_unknown ps p) (says_again ps row) (has_bad_alignment row) x (misplaces_counter_in t row (tree_of_piece p)) false false) (no-section ps row)
+    ∙ ap (λ x. first_broken (declares_again ps row) (names_unknown ps p) (says_again ps row) (has_bad_alignment row) (has_no_section ps row) x false false) (misplaced ps p)
+    ∙ ap (λ x. first_broken (declares_again ps row) (names_unknown ps p) (says_again ps row) (has_bad_alignment row) (has_no_section ps row) (misplaces_counter ps p) x false) (sym (no-nesting blocks row plain))
+    ∙ ap (λ x. first_broken (declares_again ps row) (names_unknown ps p) (says_again ps row) (has_bad_alignment row) (has_no_section ps row) (misplaces_counter ps p) (ends_badly blocks row) x) (sym (no-depth blocks row plain))

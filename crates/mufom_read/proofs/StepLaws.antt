@@ -1,0 +1,164 @@
+-- Steps behind a front, as the code takes them.
+use Rattle.std.proofs.Common.{◌≡◌, ◌≢◌, ℕ, ◌<◌, ◌==◌, ◌&&◌, Bool, true, false, not, true≢false, nat_lt, nat_le, List, [], ◌∷◌, ◌++◌, length, drop, Option, Some, None, is_some, option_map, cond, get_or, refl, sym, ap, subst, ◌∙◌, append-nil, ltb-true, ◌⊎◌, inl, inr}
+use Rattle.std.specs.Option.{option_or}
+use Rattle.std.proofs.lemmas.Bool.{and_parts}
+use Rattle.std.specs.List.{last_or}
+use Rattle.mufom_numbers.specs.declared.taken.Taken.{Taken}
+use Rattle.mufom_numbers.specs.declared.taken.Taken.TheVariants.{Got}
+use Rattle.mufom_records.specs.Reading.{record_at}
+use Rattle.mufom_module.specs.RecordParts.{Part, number_of, extension_part, environment_part, section_part, external_part, debug_part, data_part, trailer_part}
+use Rattle.mufom_read.specs.declared.front.Front.{Front}
+use Rattle.mufom_read.specs.declared.front.Place as code
+use Rattle.mufom_read.specs.declared.front.Place.TheVariants as place
+use Rattle.mufom_read.specs.declared.front.Next.{Next}
+use Rattle.mufom_read.specs.declared.front.Next.TheVariants as next
+use Rattle.mufom_read.specs.declared.part.Extent as extents
+use Rattle.mufom_read.specs.declared.refusal.ReadRefusal.{ReadRefusal}
+use Rattle.mufom_read.specs.Fronts.{Step, step_bytes, size_of, offsets_of, Extent, in_part, first_present, part_among, parts_in_order, place_behind, is_raw, raw_step, as_step, step_at, next_step, ends_with, is_ended}
+use Rattle.mufom_read.specs.Faults.{step_fault, ended_part_fault, fault_after}
+use Rattle.mufom_read.specs.PartsOfCode.{as_part, as_extent}
+use Rattle.mufom_read.specs.Kept.{piece_of_kept, as_fault}
+use Rattle.mufom_read.specs.FrontOfCode.{IsFrontOf, IsNotDebug, IsRead, as_place, mode_at, HasJudged, HasGone, HasStepped}
+use Rattle.mufom_read.proofs.FrontLaws.{ended-front}
+use Rattle.mufom_read.proofs.PlaceLaws.{part-found}
+
+nothing : {A : Type 0} {x : A} → Some x ≡ None → ⊥
+nothing e = true≢false (ap is_some e)
+
+-- ---- where a byte stands
+
+-- it stands before its part's end
+among-within : (parts : List Part) (os : List ℕ) (at : ℕ) (e : Extent) → part_among parts os at ≡ Some e → at < e.to
+among-within [] os at e found = absurd (nothing (sym found))
+among-within (part ∷ parts) [] at e found = absurd (nothing (sym found))
+among-within (part ∷ parts) (w ∷ os) at e found = by_case _ refl found (among-within parts os at e) where
+  here : Extent
+  here = record { part = part; from = w; to = first_present os }
+
+  the_end : Option Extent → ℕ
+  the_end None = 0
+  the_end (Some x) = x.to
+
+  by_case : (test : Bool) → test ≡ (not (w == 0) && (nat_le w at && nat_lt at (first_present os))) → cond test (Some here) (part_among parts os at) ≡ Some e → (part_among parts os at ≡ Some e → at < e.to) → at < e.to
+  by_case false is found behind = behind found
+  by_case true is found behind = subst (λ n. at < n) (ap the_end found) (ltb-true at (first_present os) (and_parts _ _ (and_parts _ _ (sym is)).1).1)
+
+-- ---- a debug part that would be read
+
+-- a part that is not the first of these is among the others
+passed : (test : Bool) (x e : Extent) (o : Option Extent) → cond test (Some x) o ≡ Some e → (test ≡ false) ⊎ (x.part ≢ debug_part) → e.part ≡ debug_part → o ≡ Some e
+passed false x e o found other is = found
+passed true x e o found (inl never) is = absurd (true≢false never)
+passed true x e o found (inr other) is = absurd (other (part_of_some x e found ∙ is)) where
+  part_of_some : (x e : Extent) → Some x ≡ Some e → x.part ≡ e.part
+  part_of_some x e same = ap (λ (o : Option Extent). the_part o) same where
+    the_part : Option Extent → Part
+    the_part None = debug_part
+    the_part (Some y) = y.part
+
+ext : extension_part ≢ debug_part
+ext same = true≢false (ap (λ p. number_of p == 0) same)
+
+env : environment_part ≢ debug_part
+env same = true≢false (ap (λ p. number_of p == 1) same)
+
+sec : section_part ≢ debug_part
+sec same = true≢false (ap (λ p. number_of p == 2) same)
+
+nam : external_part ≢ debug_part
+nam same = true≢false (ap (λ p. number_of p == 3) same)
+
+dat : data_part ≢ debug_part
+dat same = true≢false (ap (λ p. number_of p == 5) same)
+
+tra : trailer_part ≢ debug_part
+tra same = true≢false (ap (λ p. number_of p == 6) same)
+
+-- where the offset of the debug part is 0, no byte stands in it
+no-debug : (os : List ℕ) (at : ℕ) (e : Extent) → part_among parts_in_order os at ≡ Some e → e.part ≡ debug_part → get_or os 4 0 ≡ 0 → ⊥
+no-debug [] at e found is absent = nothing (sym found)
+no-debug (a ∷ []) at e found is absent = nothing (sym (passed _ _ e _ found (inr ext) is))
+no-debug (a ∷ b ∷ []) at e found is absent = nothing (sym (passed _ _ e _ (passed _ _ e _ found (inr ext) is) (inr env) is))
+no-debug (a ∷ b ∷ c ∷ []) at e found is absent = nothing (sym (passed _ _ e _ (passed _ _ e _ (passed _ _ e _ found (inr ext) is) (inr env) is) (inr sec) is))
+no-debug (a ∷ b ∷ c ∷ d ∷ []) at e found is absent = nothing (sym (passed _ _ e _ (passed _ _ e _ (passed _ _ e _ (passed _ _ e _ found (inr ext) is) (inr env) is) (inr sec) is) (inr nam) is))
+no-debug (a ∷ b ∷ c ∷ d ∷ w ∷ os) at e found is absent =
+    let fourth = passed _ _ e _ (passed _ _ e _ (passed _ _ e _ (passed _ _ e _ found (inr ext) is) (inr env) is) (inr sec) is) (inr nam) is in
+    behind os (passed _ _ e _ fourth (inl (ap (λ n. not (n == 0) && (nat_le w at && nat_lt at (first_present os))) absent)) is) where
+      behind : (os : List ℕ) → part_among (data_part ∷ trailer_part ∷ []) os at ≡ Some e → ⊥
+      behind [] found = nothing (sym found)
+      behind (a ∷ []) found = nothing (sym (passed _ _ e _ found (inr dat) is))
+      behind (a ∷ b ∷ os) found = nothing (sym (passed _ _ e _ (passed _ _ e _ found (inr dat) is) (inr tra) is))
+
+-- ---- where a step is read
+
+-- where a part is read, it is no debug part
+pub not-debug : (reads_debug : Bool) (f : Front) (front : List Step) (at : code.Place) (e : extents.Extent) → IsFrontOf reads_debug f front → at ≡ place.Part e → as_place at ≡ place_behind front
+    → is_raw reads_debug (as_part e.part) ≡ false → as_part e.part ≢ debug_part
+not-debug reads_debug f front at e is here same unread debug =
+    let found = part-found front at e here same in
+    let reads : reads_debug ≡ true = not_not reads_debug (sym (ap (is_raw reads_debug) debug) ∙ unread) in
+    no-debug (offsets_of front) (size_of front) (as_extent e) found.1 debug (is.later reads) where
+      not_not : (b : Bool) → not b ≡ false → b ≡ true
+      not_not true e = refl
+      not_not false e = absurd (true≢false e)
+
+-- a place that is read is in no debug part
+pub not-debug-at : (reads_debug : Bool) (f : Front) (front : List Step) (at : code.Place) → IsFrontOf reads_debug f front → as_place at ≡ place_behind front → IsRead reads_debug at → IsNotDebug at
+not-debug-at reads_debug f front (place.Header k) is same unread = tt
+not-debug-at reads_debug f front (place.Part e) is same unread = not-debug reads_debug f front (place.Part e) e is refl same unread
+not-debug-at reads_debug f front place.End is same unread = tt
+
+step-read : (reads_debug : Bool) (front : List Step) (at : code.Place) (rest : List ℕ) → IsRead reads_debug at
+    → step_at reads_debug front (as_place at) rest ≡ as_step (size_of front) rest (record_at (mode_at front (as_place at) rest) rest)
+step-read reads_debug front (place.Header k) rest is = refl
+step-read reads_debug front (place.Part e) rest is = ap (λ b. cond b (raw_step rest) (as_step (size_of front) rest (record_at (mode_at front (in_part (as_extent e)) rest) rest))) is
+step-read reads_debug front place.End rest is = refl
+
+gone-by : (reads_debug : Bool) (front : List Step) (rest : List ℕ) (stands : Taken Step) (new : Front) (done : Next) → is_ended front ≡ false → ended_part_fault front ≡ None → next_step reads_debug front rest ≡ stands
+    → HasJudged reads_debug front stands rest new done → HasGone reads_debug front rest new done
+gone-by reads_debug front rest stands new (next.Took n) unended whole here (step, got, count, clean, some, within, is) =
+    let bytes : size_of (step ∷ []) ≡ length (step_bytes step) = ap length (append-nil (step_bytes step)) in
+    (step ∷ [], is, (unended, ap (λ o. option_or o (step_fault reads_debug front (next_step reads_debug front rest))) whole ∙ ap (step_fault reads_debug front) here ∙ clean, here ∙ got ∙ ap (Got step) (sym count), tt), bytes ∙ count, some, within)
+gone-by reads_debug front rest stands new next.More unended whole here (is, more) = (is, here ∙ more)
+gone-by reads_debug front rest stands new (next.Refused f) unended whole here fault = ap (step_fault reads_debug front) here ∙ fault
+
+-- a step that is read
+pub read-gone : (reads_debug : Bool) (front : List Step) (at : code.Place) (rest : List ℕ) (new : Front) (done : Next) → is_ended front ≡ false → ended_part_fault front ≡ None → as_place at ≡ place_behind front → IsRead reads_debug at
+    → HasJudged reads_debug front (as_step (size_of front) rest (record_at (mode_at front (as_place at) rest) rest)) rest new done → HasGone reads_debug front rest new done
+read-gone reads_debug front at rest new done unended whole same is judged =
+    gone-by reads_debug front rest _ new done unended whole (ap (λ pl. step_at reads_debug front pl rest) (sym same) ∙ step-read reads_debug front at rest is) judged
+
+-- a byte of a part stands before its end
+pub part-within : (front : List Step) (at : code.Place) (e : extents.Extent) → at ≡ place.Part e → as_place at ≡ place_behind front → size_of front < e.to
+part-within front at e here same = among-within parts_in_order (offsets_of front) (size_of front) (as_extent e) (part-found front at e here same).1
+
+-- ---- the part that ends behind a step
+
+-- a step behind which the module has ended
+pub stepped-end : (reads_debug : Bool) (front : List Step) (rest : List ℕ) (new : Front) (n : ℕ) → HasGone reads_debug front rest new (next.Took n) → true ≡ ends_with (option_map piece_of_kept (last_or None new.kept)) → HasStepped reads_debug front rest new (next.Took n)
+stepped-end reads_debug front rest new n (steps, is, sound, size, some, within) end =
+    (steps, is, sound, size, some, within, λ unended. absurd (true≢false (ended-front reads_debug new (front ++ steps) true is end ∙ unended)))
+
+-- one behind which no part ends with a fault
+pub stepped-whole : (reads_debug : Bool) (front : List Step) (rest : List ℕ) (new : Front) (n : ℕ) → HasGone reads_debug front rest new (next.Took n)
+    → ((steps : List Step) → IsFrontOf reads_debug new steps → None ≡ ended_part_fault steps) → HasStepped reads_debug front rest new (next.Took n)
+stepped-whole reads_debug front rest new n (steps, is, sound, size, some, within) whole = (steps, is, sound, size, some, within, λ unended. sym (whole (front ++ steps) is))
+
+-- one behind which a part ends with a fault
+pub stepped-fault : (reads_debug : Bool) (front : List Step) (rest : List ℕ) (new : Front) (n : ℕ) (f : ReadRefusal) → HasGone reads_debug front rest new (next.Took n) → false ≡ ends_with (option_map piece_of_kept (last_or None new.kept))
+    → ((steps : List Step) → IsFrontOf reads_debug new steps → Some (as_fault f) ≡ ended_part_fault steps) → HasStepped reads_debug front rest new (next.Refused f)
+stepped-fault reads_debug front rest new n f (steps, is, sound, size, some, within) unended fault = (
+  steps,
+  sound,
+  sym (ended-front reads_debug new (front ++ steps) false is unended),
+  ap (λ o. option_or o (step_fault reads_debug (front ++ steps) (next_step reads_debug (front ++ steps) (drop (size_of steps) rest)))) (sym (fault (front ++ steps) is)),
+)
+
+-- one with a fault
+pub stepped-refused : (reads_debug : Bool) (front : List Step) (rest : List ℕ) (new : Front) (f : ReadRefusal) → is_ended front ≡ false → ended_part_fault front ≡ None → HasGone reads_debug front rest new (next.Refused f) → HasStepped reads_debug front rest new (next.Refused f)
+stepped-refused reads_debug front rest new f unended whole fault = (
+  [],
+  tt,
+  subst (λ (fr : List Step). is_ended fr ≡ false) (sym (append-nil front)) unended,
+  ap (λ (fr : List Step). fault_after reads_debug fr rest) (append-nil front) ∙ ap (λ o. option_or o (step_fault reads_debug front (next_step reads_debug front rest))) whole ∙ fault,
+)

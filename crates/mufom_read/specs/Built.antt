@@ -1,0 +1,133 @@
+-- What the code gathers from the records of a front for the module that they say (IEEE Std 695, module structure).
+use Rattle.std.specs.Prelude.{◌≡◌, ℕ, ◌<◌, ◌≤◌, ◌==◌, Bool, true, List, [], ◌∷◌, ◌++◌, length, map, filter_map, position, slice_get, Option, Some, None, option_and_then, option_to_list, unwrap_or, if◌then◌else◌}
+use Rattle.std.specs.List.{cons_option}
+use Rattle.mufom_numbers.specs.Spelling.{AreBytes}
+use Rattle.mufom_expr.specs.Tree.{Tree}
+use Rattle.mufom_expr.specs.Spelled.{Indexes}
+use Rattle.mufom_records.specs.declared.record.Record.{Record}
+use Rattle.mufom_records.specs.declared.record.Record.TheVariants as r
+use Rattle.mufom_names.specs.declared.name.Note.{Note}
+use Rattle.mufom_names.specs.declared.name.Weak.{Weak}
+use Rattle.mufom_module.specs.declared.module.Parts.{Parts}
+use Rattle.mufom_module.specs.Grammar.{NamesModule, Describes, file_limit}
+use Rattle.mufom_module.specs.Pieces.{Piece, tree_in, Kind, public, reference}
+use Rattle.mufom_module.specs.Gathered.{answers, note_of, public_note_for, reference_note_for, sections_of, publics_of, references_of, loads_of, starts_of}
+use Rattle.mufom_read.specs.declared.tables.Tables.{Tables}
+use Rattle.mufom_read.specs.declared.front.Front.{Front}
+use Rattle.mufom_read.specs.declared.sections.SectionFacts.{SectionFacts}
+use Rattle.mufom_read.specs.declared.notes.Named.{Named}
+use Rattle.mufom_read.specs.declared.notes.Named.TheVariants as named
+use Rattle.mufom_read.specs.Fronts.{Step, size_of, is_ended}
+use Rattle.mufom_read.specs.Judging.{IsSoundFront}
+use Rattle.mufom_read.specs.Kept.{piece_of_kept}
+use Rattle.mufom_read.specs.FrontOfCode.{IsFrontOf}
+
+-- ---- by the tables
+
+-- the index lists of the tables
+abbrev pub indexes_by : Tables → Indexes
+indexes_by t = record { sections = t.sections; publics = t.publics; references = t.references; debug_names = [] }
+
+-- what is said for an index, of what is said for these indexes, in their order
+abbrev pub said_at : {X : Type 0} → List ℕ → List X → ℕ → Option X
+said_at indexes said i = option_and_then (λ k. slice_get said k) (position (λ j. j == i) indexes)
+
+-- ---- sections
+
+-- the size that a record says, of whichever section
+abbrev pub size_in : Record → Option ℕ
+size_in (r.SectionSize i n) = Some n
+size_in _ = None
+
+-- the alignment that it says
+abbrev pub alignment_in : Record → Option ℕ
+alignment_in (r.Alignment i n _) = Some n
+alignment_in _ = None
+
+-- the base that it says
+abbrev pub base_in : Record → Option ℕ
+base_in (r.SectionBase i n) = Some n
+base_in _ = None
+
+-- the sizes, alignments and bases that records say, in order
+abbrev pub section_facts : List Piece → SectionFacts
+section_facts ps = record { sizes = answers size_in ps; alignments = answers alignment_in ps; bases = answers base_in ps }
+
+-- those with what one more record says
+abbrev pub with_facts : SectionFacts → Record → SectionFacts
+with_facts f row = record { sizes = f.sizes ++ cons_option (size_in row) []; alignments = f.alignments ++ cons_option (alignment_in row) []; bases = f.bases ++ cons_option (base_in row) [] }
+
+-- ---- names
+
+-- the value that a record says, of whichever public
+abbrev pub value_in : Piece → Record → Option Tree
+value_in p (r.PublicValue i value) = Some (tree_in p value)
+value_in p _ = None
+
+-- the values that records say, in order
+abbrev pub values_in : List Piece → List Tree
+values_in ps = filter_map (λ p. value_in p p.row) ps
+
+-- what it says that makes a reference weak, whichever it is
+abbrev pub weak_in : Record → Option Weak
+weak_in (r.WeakReference i n default) = Some (record { size = n; default = unwrap_or default 0 })
+weak_in _ = None
+
+-- the kind of index that such a name has
+abbrev pub kind_of : Named → Kind
+kind_of named.Public = public
+kind_of named.Reference = reference
+
+-- no notes yet, where the record declares such a name
+abbrev pub none_for : Named → Record → Option (List Note)
+none_for named.Public (r.PublicName i name) = Some []
+none_for named.Reference (r.ReferenceName i name) = Some []
+none_for _ _ = None
+
+-- the note that a record is of such a name, with the index of the name
+abbrev pub note_in : Named → Record → Option (ℕ × Note)
+note_in named.Public (r.PublicNote i type_index attribute ns) = Some (i, note_of type_index attribute ns)
+note_in named.Reference (r.ReferenceNote i type_index attribute ns) = Some (i, note_of type_index attribute ns)
+note_in _ _ = None
+
+-- the note of the name with this index
+abbrev pub note_for : Named → ℕ → Record → Option Note
+note_for named.Public i row = public_note_for i row
+note_for named.Reference i row = reference_note_for i row
+
+-- the notes of the name with this index, in order
+abbrev pub notes_for : Named → ℕ → List Piece → List Note
+notes_for which i ps = answers (note_for which i) ps
+
+-- those with one more, of this index
+abbrev pub notes_with : ℕ → Note → (ℕ → List Note) → ℕ → List Note
+notes_with index note notes i = if i == index then notes i ++ note ∷ [] else notes i
+
+-- ---- the module
+
+-- What the records and the bytes that the code keeps say is what the module has.
+pub record IsSaidByKept (f : Front) (m : Parts) : Type 0 where
+  pub begin : Piece
+  pub descriptor : Piece
+  pub behind : List Piece
+  pub pieces : map piece_of_kept f.kept ≡ begin ∷ descriptor ∷ behind
+  pub begins : NamesModule m begin begin.row
+  pub describes : Describes m descriptor.row
+  pub small : m.maus < 256
+  pub extension : m.ext ≡ f.extension
+  pub environment : m.env ≡ f.environment
+  pub sections : m.sections ≡ sections_of (map piece_of_kept f.kept)
+  pub publics : m.names.publics ≡ publics_of (indexes_by f.tables) (map piece_of_kept f.kept)
+  pub references : m.names.references ≡ references_of (map piece_of_kept f.kept)
+  pub debug : m.debug ≡ []
+  pub loads : m.loads ≡ loads_of (indexes_by f.tables) m.maus (map piece_of_kept f.kept)
+  pub start : option_to_list m.start ≡ starts_of (indexes_by f.tables) (map piece_of_kept f.kept)
+
+-- The code keeps this front; it is sound, ends with the stream of these bytes, and is the whole of it.
+pub record IsWhole (reads_debug : Bool) (f : Front) (front : List Step) (bytes : List ℕ) : Type 0 where
+  pub kept : IsFrontOf reads_debug f front
+  pub fits : AreBytes bytes
+  pub limit : length bytes ≤ file_limit
+  pub sound : IsSoundFront reads_debug front bytes
+  pub ends : is_ended front ≡ true
+  pub all : size_of front ≡ length bytes

@@ -1,0 +1,204 @@
+-- What the code keeps of the records of a front: which indexes they declare, and which they give a value.
+use Rattle.std.specs.Prelude.{ℕ, zero, suc, ◌<◌, ◌-◌, ◌^◌, ◌==◌, ◌||◌, ◌&&◌, Bool, true, false, not, List, [], ◌∷◌, ◌++◌, length, filter_map, Option, Some, None, is_none, option_to_list, if◌then◌else◌}
+use Rattle.std.specs.List.{list_any, list_all}
+use Rattle.mufom_numbers.specs.declared.reason.Reason.{Reason}
+use Rattle.mufom_numbers.specs.declared.reason.Reason.TheVariants as why
+use Rattle.mufom_expr.specs.declared.token.Letter.{Letter}
+use Rattle.mufom_expr.specs.Tree.{Tree}
+use Rattle.mufom_expr.specs.Value.{variables_of}
+use Rattle.mufom_records.specs.declared.record.Record.{Record}
+use Rattle.mufom_records.specs.declared.record.Record.TheVariants as r
+use Rattle.mufom_module.specs.Contents.{any_of}
+use Rattle.mufom_module.specs.Defects.{has_other_counter}
+use Rattle.mufom_module.specs.RecordParts.{is_loading}
+use Rattle.mufom_module.specs.Pieces.{Piece, Kind, FileIndex, section, public, reference, debug_name, declared, named_by, is_public_value, tree_of_piece, index_of_variable, Once, value_of_public, weakness, alignment, section_size, section_base, start_address, assigned_by, is_assigned}
+use Rattle.mufom_read.specs.declared.tables.Tables.{Tables}
+use Rattle.std.specs.Option.{option_or}
+use Rattle.mufom_records.specs.Parts.{HasParts}
+use Rattle.mufom_read.specs.declared.kept.KeptRecord.{KeptRecord}
+use Rattle.mufom_read.specs.declared.refusal.ReadRefusal.{ReadRefusal}
+use Rattle.mufom_read.specs.Fronts.{Placed}
+use Rattle.mufom_read.specs.Faults.{Fault, fault_if, current_section, has_bad_alignment, absolute_declared, public_declared}
+
+-- ---- what records say once
+
+-- the index that has its alignment, size, base, value or weakness said
+abbrev pub alignment_said : Once → Option ℕ
+alignment_said (alignment i) = Some i
+alignment_said _ = None
+
+abbrev pub size_said : Once → Option ℕ
+size_said (section_size i) = Some i
+size_said _ = None
+
+abbrev pub base_said : Once → Option ℕ
+base_said (section_base i) = Some i
+base_said _ = None
+
+abbrev pub value_said : Once → Option ℕ
+value_said (value_of_public i) = Some i
+value_said _ = None
+
+abbrev pub weakness_said : Once → Option ℕ
+weakness_said (weakness i) = Some i
+weakness_said _ = None
+
+-- what records say once, in order
+abbrev pub sayings : List Piece → List Once
+sayings pieces = filter_map (λ p. assigned_by p.row) pieces
+
+-- ---- the tables
+
+-- the tables of records
+abbrev pub tables_of : List Piece → Tables
+tables_of pieces = record {
+  sections = declared section pieces;
+  publics = declared public pieces;
+  references = declared reference pieces;
+  alignments = filter_map alignment_said (sayings pieces);
+  sizes = filter_map size_said (sayings pieces);
+  bases = filter_map base_said (sayings pieces);
+  values = filter_map value_said (sayings pieces);
+  weaknesses = filter_map weakness_said (sayings pieces);
+  current = current_section pieces;
+  has_start = is_assigned pieces start_address;
+}
+
+-- the tables with what one more record declares or says
+abbrev pub with_row : Tables → Record → Tables
+with_row t (r.SectionType i _ _ _ _ _ _) = record t { sections = t.sections ++ i ∷ [] }
+with_row t (r.PublicName i _) = record t { publics = t.publics ++ i ∷ [] }
+with_row t (r.ReferenceName i _) = record t { references = t.references ++ i ∷ [] }
+with_row t (r.Alignment i _ _) = record t { alignments = t.alignments ++ i ∷ [] }
+with_row t (r.SectionSize i _) = record t { sizes = t.sizes ++ i ∷ [] }
+with_row t (r.SectionBase i _) = record t { bases = t.bases ++ i ∷ [] }
+with_row t (r.PublicValue i _) = record t { values = t.values ++ i ∷ [] }
+with_row t (r.WeakReference i _ _) = record t { weaknesses = t.weaknesses ++ i ∷ [] }
+with_row t (r.SetSection i) = record t { current = Some i }
+with_row t (r.Start _) = record t { has_start = true }
+with_row t _ = t
+
+abbrev pub has : List ℕ → ℕ → Bool
+has indexes index = list_any (λ i. i == index) indexes
+
+-- the record declares an index that its table has
+abbrev pub declares_again_in : Tables → Record → Bool
+declares_again_in t (r.SectionType i _ _ _ _ _ _) = has t.sections i
+declares_again_in t (r.PublicName i _) = has t.publics i
+declares_again_in t (r.ReferenceName i _) = has t.references i
+declares_again_in t _ = false
+
+-- the record says for an index what the tables have it say
+abbrev pub says_again_in : Tables → Record → Bool
+says_again_in t (r.PublicValue i _) = has t.values i
+says_again_in t (r.WeakReference i _ _) = has t.weaknesses i
+says_again_in t (r.Alignment i _ _) = has t.alignments i
+says_again_in t (r.SectionSize i _) = has t.sizes i
+says_again_in t (r.SectionBase i _) = has t.bases i
+says_again_in t (r.Start _) = t.has_start
+says_again_in t _ = false
+
+abbrev pub is_new : Tables → Record → Bool
+is_new t row = not (declares_again_in t row) && not (says_again_in t row)
+
+-- ---- the rules, read off the tables
+
+-- the indexes of a kind; debug names have no table yet
+abbrev pub entries_in : Tables → Kind → List ℕ
+entries_in t section = t.sections
+entries_in t public = t.publics
+entries_in t reference = t.references
+entries_in t debug_name = []
+
+-- the index is declared
+abbrev pub is_declared_in : Tables → FileIndex → Bool
+is_declared_in t index = has (entries_in t index.0) index.1
+
+-- a variable that names no entry
+abbrev pub is_unknown : Tables → Letter × ℕ → Bool
+is_unknown t v = not (is_declared_in t (index_of_variable v))
+
+abbrev pub names_unknown_entry_in : Tables → Record → Bool
+names_unknown_entry_in t row = not (list_all (is_declared_in t) (option_to_list (named_by row)))
+
+-- the record, with this expression, names an index that is not declared
+abbrev pub names_unknown_in : Tables → Record → Option Tree → Bool
+names_unknown_in t row tree = names_unknown_entry_in t row || (not (is_public_value row) && any_of (λ e. list_any (is_unknown t) (variables_of e)) tree)
+
+abbrev pub has_no_section_in : Tables → Record → Bool
+has_no_section_in t row = is_loading row && is_none t.current
+
+abbrev pub counter_allowed_in : Tables → Record → Option ℕ
+counter_allowed_in t (r.SetPc i value) = Some i
+counter_allowed_in t (r.FieldItem kind value size) = t.current
+counter_allowed_in t _ = None
+
+abbrev pub misplaces_counter_in : Tables → Record → Option Tree → Bool
+misplaces_counter_in t row tree = any_of (has_other_counter (counter_allowed_in t row)) tree
+
+-- the first rule that the record, with this expression, breaks
+abbrev pub rule_broken_in : Tables → Record → Option Tree → Option Reason
+rule_broken_in t row tree = if declares_again_in t row then Some why.DuplicateIndex
+    else (if names_unknown_in t row tree then Some why.UnknownIndex
+    else (if says_again_in t row then Some why.DuplicateValue
+    else (if has_bad_alignment row then Some why.BadAlignment
+    else (if has_no_section_in t row then Some why.NoSection
+    else (if misplaces_counter_in t row tree then Some why.BadP else None)))))
+
+-- ---- parts as wholes, read off the tables
+
+abbrev pub lacks_base_in : Tables → Record → Bool
+lacks_base_in t row = any_of (λ i. not (has t.bases i)) (absolute_declared row)
+
+abbrev pub lacks_value_in : Tables → Record → Bool
+lacks_value_in t row = any_of (λ i. not (has t.values i)) (public_declared row)
+
+-- a public's value with a variable that names no entry
+abbrev pub has_unknown_value_in : Tables → Piece → Bool
+has_unknown_value_in t p = is_public_value p.row && any_of (λ e. list_any (is_unknown t) (variables_of e)) (tree_of_piece p)
+
+abbrev pub section_fault_in : Tables → Placed → Option Fault
+section_fault_in t p = fault_if (lacks_base_in t p.1.row) p.0 why.MissingBase
+
+abbrev pub external_fault_in : Tables → Placed → Option Fault
+external_fault_in t p = option_or (fault_if (has_unknown_value_in t p.1) p.0 why.UnknownIndex) (fault_if (lacks_value_in t p.1.row) p.0 why.MissingValue)
+
+-- ---- records that are kept
+
+-- a record with its bytes
+abbrev pub piece_of_kept : KeptRecord → Piece
+piece_of_kept k = record { row = k.row; bytes = k.bytes }
+
+abbrev pub as_piece : Record → List ℕ → Piece
+as_piece row bytes = record { row = row; bytes = bytes }
+
+abbrev pub kept_record : ℕ → Record → List ℕ → KeptRecord
+kept_record start row bytes = record { start = start; row = row; bytes = bytes }
+
+-- and its offset
+abbrev pub placed : KeptRecord → Placed
+placed k = (k.start, piece_of_kept k)
+
+-- the strings, the runs and the expressions of the record stand in its bytes
+abbrev pub HasOwnParts : KeptRecord → Type 0
+HasOwnParts k = HasParts k.bytes k.row
+
+-- a refusal as a fault
+abbrev pub as_fault : ReadRefusal → Fault
+as_fault f = (f.place, f.reason)
+
+-- the first number that is not 0
+abbrev pub first_or : ℕ → ℕ → ℕ
+first_or zero w = w
+first_or (suc v) w = suc v
+
+-- no table is full
+pub record HasRoom (t : Tables) : Type 0 where
+  pub sections : length t.sections < 2 ^ 32 - 1
+  pub publics : length t.publics < 2 ^ 32 - 1
+  pub references : length t.references < 2 ^ 32 - 1
+  pub alignments : length t.alignments < 2 ^ 32 - 1
+  pub sizes : length t.sizes < 2 ^ 32 - 1
+  pub bases : length t.bases < 2 ^ 32 - 1
+  pub values : length t.values < 2 ^ 32 - 1
+  pub weaknesses : length t.weaknesses < 2 ^ 32 - 1

@@ -1,0 +1,193 @@
+//! The module that the records and the unread bytes of a whole front say.
+
+ghost use Rattle.std.specs.Prelude.{◌≡◌, ◌<◌, ℕ, Bool, List, ◌∷◌, All, map, slice_get, IfOk};
+ghost use Rattle.mufom_module.specs.declared.module.Order as module_order;
+ghost use Rattle.mufom_module.specs.declared.module.Parts as module_parts;
+ghost use Rattle.mufom_module.specs.Pieces as pieces;
+ghost use Rattle.mufom_module.specs.Gathered as gathered;
+ghost use Rattle.mufom_module.specs.Defects.{IsValid};
+ghost use Rattle.mufom_module.specs.Grammar.{NamesModule, Describes, IsLetterOf, SpellsModule};
+ghost use Rattle.mufom_read.specs.Fronts.{Step};
+ghost use Rattle.mufom_read.specs.Kept.{piece_of_kept, tables_of, HasOwnParts};
+ghost use Rattle.mufom_read.specs.Built.{indexes_by, IsSaidByKept, IsWhole};
+
+use crate::front::Front;
+use crate::kept::KeptRecord;
+use crate::loads::loads_of;
+use crate::names::{publics_of, references_of};
+use crate::positions::value_in;
+use crate::sections::sections_of;
+use crate::tables::Tables;
+use mufom_expr::Postfix;
+use mufom_module::{Module, Order, Parts, assemble};
+use mufom_names::NameTable;
+use mufom_numbers::{Bytes, List, NoMemory};
+use mufom_records::Record;
+use std::alloc::Global;
+
+// The first record.
+fn begin_of(kept: &[KeptRecord]) -> &KeptRecord
+    requires { (begin descriptor : pieces.Piece) × (behind : List pieces.Piece) × (map piece_of_kept kept.now ≡ begin ∷ descriptor ∷ behind) }
+    ensures first { (begin descriptor : pieces.Piece) (behind : List pieces.Piece) → map piece_of_kept kept.now ≡ begin ∷ descriptor ∷ behind → piece_of_kept result.now ≡ begin }
+    ensures own { All HasOwnParts kept.now → HasOwnParts result.now }
+{
+    match kept {
+        [begin, ..] => begin,
+        [] => unreachable!(),
+    }
+}
+
+// The second record.
+fn descriptor_of(kept: &[KeptRecord]) -> &KeptRecord
+    requires { (begin descriptor : pieces.Piece) × (behind : List pieces.Piece) × (map piece_of_kept kept.now ≡ begin ∷ descriptor ∷ behind) }
+    ensures { (begin descriptor : pieces.Piece) (behind : List pieces.Piece) → map piece_of_kept kept.now ≡ begin ∷ descriptor ∷ behind → piece_of_kept result.now ≡ descriptor }
+{
+    match kept {
+        [_, descriptor, ..] => descriptor,
+        _ => unreachable!(),
+    }
+}
+
+// The processor and the name of the module, which the record gives.
+fn names_of(alloc: Global, begin: &KeptRecord) -> Result<(Bytes, Bytes), NoMemory>
+    requires own { HasOwnParts begin.now }
+    requires begins { (m : module_parts.Parts) × NamesModule m (piece_of_kept begin.now) begin.now.row }
+    ensures { IfOk result (λ names. (m : module_parts.Parts) → NamesModule m (piece_of_kept begin.now) begin.now.row → (names.0 ≡ m.processor) × (names.1 ≡ m.name)) }
+{
+    match &begin.row {
+        Record::ModuleBegin(processor, name) => {
+            let processor = begin.copy_text(alloc, *processor)?;
+            let name = begin.copy_text(alloc, *name)?;
+            Ok((processor, name))
+        }
+        _ => unreachable!(),
+    }
+}
+
+// The order of bytes that a letter gives.
+fn order_of(letter: Option<u8>) -> Order
+    ensures { (order : module_order.Order) → IsLetterOf order letter → result ≡ order }
+{
+    match letter {
+        Some(0xCC) => Order::Least,
+        _ => Order::Most,
+    }
+}
+
+// The units of an address and the order of bytes, which the record gives.
+fn layout_of(descriptor: &Record) -> (u8, Order)
+    requires { (m : module_parts.Parts) × Describes m descriptor.now × (m.maus < 256) }
+    ensures { (m : module_parts.Parts) → Describes m descriptor.now → (result.0 ≡ m.maus) × (result.1 ≡ m.order) }
+{
+    match descriptor {
+        Record::Descriptor(_, maus, letter) => (*maus as u8, order_of(*letter)),
+        _ => unreachable!(),
+    }
+}
+
+// The start address that the record gives, if it gives one.
+fn start_by(
+    alloc: Global,
+    tables: &Tables,
+    record: &KeptRecord,
+) -> Result<Option<Postfix>, NoMemory>
+    requires { HasOwnParts «record».now }
+    ensures { IfOk result (λ start. start ≡ gathered.start_by (indexes_by tables.now) (piece_of_kept «record».now) «record».now.row) }
+{
+    match &record.row {
+        Record::Start(span) => {
+            let value = value_in(alloc, tables, record, *span)?;
+            Ok(Some(value))
+        }
+        _ => Ok(None),
+    }
+}
+
+// The first start address that the records give.
+fn start_of(
+    alloc: Global,
+    tables: &Tables,
+    kept: &[KeptRecord],
+) -> Result<Option<Postfix>, NoMemory>
+    requires { All HasOwnParts kept.now }
+    ensures { IfOk result (λ start. start ≡ slice_get (gathered.starts_of (indexes_by tables.now) (map piece_of_kept kept.now)) 0) }
+{
+    for record in kept {
+        let start = start_by(alloc, tables, record)?;
+        if start.is_some() {
+            return Ok(start);
+        }
+    }
+    Ok(None)
+}
+
+// The publics and the references.
+fn name_table(alloc: Global, tables: &Tables, kept: &[KeptRecord]) -> Result<NameTable, NoMemory>
+    requires own { All HasOwnParts kept.now }
+    requires tables { tables.now ≡ tables_of (map piece_of_kept kept.now) }
+    ensures publics { IfOk result (λ names. names.publics ≡ gathered.publics_of (indexes_by tables.now) (map piece_of_kept kept.now)) }
+    ensures references { IfOk result (λ names. names.references ≡ gathered.references_of (map piece_of_kept kept.now)) }
+{
+    let publics = publics_of(alloc, tables, kept)?;
+    let references = references_of(alloc, tables, kept)?;
+    Ok(NameTable {
+        publics,
+        references,
+    })
+}
+
+// The parts of the module that the front says.
+fn parts_of(alloc: Global, front: Front) -> Result<Parts, NoMemory>
+    requires own { All HasOwnParts front.kept }
+    requires tables { front.tables ≡ tables_of (map piece_of_kept front.kept) }
+    requires said { (m : module_parts.Parts) × IsSaidByKept front m }
+    ensures { IfOk result (λ parts. (m : module_parts.Parts) → IsSaidByKept front m → parts ≡ m) }
+{
+    let Front {
+        kept,
+        tables,
+        extension,
+        environment,
+        ..
+    } = front;
+    let records = kept.as_slice();
+    let (processor, name) = names_of(alloc, begin_of(records))?;
+    let (maus, order) = layout_of(&descriptor_of(records).row);
+    let sections = sections_of(alloc, &tables, records)?;
+    let names = name_table(alloc, &tables, records)?;
+    let loads = loads_of(alloc, &tables, maus, records)?;
+    let start = start_of(alloc, &tables, records)?;
+    Ok(Parts {
+        processor,
+        name,
+        maus,
+        order,
+        ext: extension,
+        env: environment,
+        sections,
+        names,
+        debug: List::new(alloc),
+        loads,
+        start,
+    })
+}
+
+// The module of parts that have no defect.
+fn assembled(parts: Parts) -> Module
+    requires { IsValid parts }
+    ensures { result ≡ parts }
+{
+    match assemble(parts) {
+        Ok(module) => module,
+        Err(_) => unreachable!(),
+    }
+}
+
+/// The module that a front says, which is sound, has ended, and is the whole stream.
+pub(crate) fn module_of(alloc: Global, front: Front) -> Result<Module, NoMemory>
+    requires { (reads_debug : Bool) × (steps : List Step) × (bytes : List ℕ) × IsWhole reads_debug front steps bytes }
+    ensures { IfOk result (λ m. (reads_debug : Bool) (steps : List Step) (bytes : List ℕ) → IsWhole reads_debug front steps bytes → SpellsModule m bytes reads_debug) }
+{
+    let parts = parts_of(alloc, front)?;
+    Ok(assembled(parts))
+}

@@ -1,0 +1,95 @@
+//! The records of a front, with their bytes.
+
+ghost use Rattle.std.specs.Prelude.{◌≡◌, ◌+◌, ◌≤◌, length, slice_range, IfOk, IfSome};
+ghost use Rattle.mufom_records.specs.Parts.{LiesIn, IsExpressionIn, HasParts};
+ghost use Rattle.mufom_module.specs.Pieces as pieces;
+ghost use Rattle.mufom_read.specs.Kept.{piece_of_kept};
+
+use mufom_expr::Postfix;
+use mufom_numbers::{Bytes, NoMemory, Span};
+use mufom_records::{BlockTail, Record, postfix_of};
+use std::alloc::Global;
+
+/// A record of the stream, its bytes, and the offset of the first of them.
+#[derive(Debug, Drop)]
+pub(crate) struct KeptRecord {
+    pub start: u64,
+    pub row: Record,
+    pub bytes: Bytes,
+}
+
+// The offset of a block, of the kinds that have one.
+fn offset_of(block: &BlockTail) -> Option<Span>
+    ensures { result ≡ pieces.offset_of_block block.now }
+{
+    match block {
+        BlockTail::Module => None,
+        BlockTail::Scope { offset, .. } => Some(*offset),
+        BlockTail::Source(_) => None,
+        BlockTail::Section { offset, .. } => Some(*offset),
+    }
+}
+
+// Where the expression of a record stands in its bytes.
+fn expression_of(record: &Record) -> Option<Span>
+    ensures { result ≡ pieces.expression_of «record».now }
+{
+    match record {
+        Record::PublicValue(_, value) => Some(*value),
+        Record::BlockBegin(_, _, _, block) => offset_of(block),
+        Record::BlockEnd(value) => *value,
+        Record::DebugValue(_, value) => Some(*value),
+        Record::SetPc(_, value) => Some(*value),
+        Record::FieldItem(_, value, _) => Some(*value),
+        Record::Start(value) => Some(*value),
+        _ => None,
+    }
+}
+
+// The bytes of a part of these.
+fn part_of(bytes: &[u8], span: Span) -> &[u8]
+    requires { span.start + span.len ≤ length bytes.now }
+    ensures { result.now ≡ slice_range bytes.now span.start (span.start + span.len) }
+{
+    &bytes[span.start..span.start + span.len]
+}
+
+impl KeptRecord {
+    /// The bytes of a part of the record.
+    pub(crate) fn text(&self, span: Span) -> &[u8]
+        requires { LiesIn self.now.bytes span }
+        ensures { result.now ≡ pieces.text_in (piece_of_kept self.now) span }
+    {
+        part_of(self.bytes.as_slice(), span)
+    }
+
+    /// A copy of them.
+    pub(crate) fn copy_text(&self, alloc: Global, span: Span) -> Result<Bytes, NoMemory>
+        requires { LiesIn self.now.bytes span }
+        ensures { IfOk result (λ bytes. bytes ≡ pieces.text_in (piece_of_kept self.now) span) }
+    {
+        Bytes::from_slice(alloc, self.text(span))
+    }
+
+    /// The expression at a part of the record, over the indexes of the file.
+    pub(crate) fn tree(&self, alloc: Global, span: Span) -> Result<Postfix, NoMemory>
+        requires { IsExpressionIn self.now.bytes span }
+        ensures { IfOk result (λ tree. tree ≡ pieces.tree_in (piece_of_kept self.now) span) }
+    {
+        postfix_of(alloc, self.text(span))
+    }
+
+    /// The record's expression; none has more than one.
+    pub(crate) fn expression(&self, alloc: Global) -> Result<Option<Postfix>, NoMemory>
+        requires { HasParts self.now.bytes self.now.row }
+        ensures { IfOk result (λ tree. tree ≡ pieces.tree_of_piece (piece_of_kept self.now)) }
+    {
+        match expression_of(&self.row) {
+            None => Ok(None),
+            Some(span) => {
+                let tree = self.tree(alloc, span)?;
+                Ok(Some(tree))
+            }
+        }
+    }
+}

@@ -1,0 +1,85 @@
+//! The positions of entries, by the indexes of the file.
+
+ghost use Rattle.std.specs.Prelude.{◌≡◌, IfOk, option_map};
+ghost use Rattle.mufom_expr.specs.Spelled.{list_of};
+ghost use Rattle.mufom_records.specs.Parts.{IsExpressionIn};
+ghost use Rattle.mufom_module.specs.Pieces as pieces;
+ghost use Rattle.mufom_read.specs.Kept.{piece_of_kept};
+ghost use Rattle.mufom_read.specs.Built.{indexes_by, said_at};
+
+use crate::kept::KeptRecord;
+use crate::tables::Tables;
+use mufom_expr::{Letter, Postfix, VarMap};
+use mufom_numbers::{List, NoMemory, Span};
+use mufom_sections::IndexTable;
+use std::alloc::Global;
+
+/// The position of an index that the table has.
+pub(crate) fn position_in(table: &IndexTable, index: u32) -> u32
+    ensures { result ≡ pieces.position_in table.now index }
+{
+    table.position(index).unwrap_or(0)
+}
+
+/// What is said for an index, of what is said for the indexes of the table, in their order.
+pub(crate) fn said_at<'a, T>(table: &IndexTable, said: &'a List<T>, index: u32) -> Option<&'a T>
+    ensures { option_map (λ item. item.now) result ≡ said_at table.now said.now index }
+{
+    match table.position(index) {
+        None => None,
+        Some(place) => said.get(place as usize),
+    }
+}
+
+// The entries that a variable's letter names.
+fn entries(tables: &Tables, letter: Letter) -> &IndexTable
+    ensures { result.now ≡ list_of (indexes_by tables.now) letter }
+{
+    match letter {
+        Letter::I => &tables.publics,
+        Letter::X => &tables.references,
+        Letter::L => &tables.sections,
+        Letter::P => &tables.sections,
+        Letter::R => &tables.sections,
+        Letter::S => &tables.sections,
+    }
+}
+
+/// What puts the position of the entry in the place of its index.
+#[derive(Clone, Copy)]
+pub(crate) struct Positions<'a> {
+    pub tables: &'a Tables,
+}
+
+impl VarMap for Positions<'_> {
+    ghost meaning = { λ map letter index. pieces.positioned_variable (indexes_by map.tables.now) letter index };
+
+    fn map(&self, letter: Letter, index: u32) -> (Letter, u32) {
+        (letter, position_in(entries(self.tables, letter), index))
+    }
+}
+
+/// The expression with positions in place of the indexes of the file.
+pub(crate) fn positioned(
+    alloc: Global,
+    tables: &Tables,
+    tree: &Postfix,
+) -> Result<Postfix, NoMemory>
+    ensures { IfOk result (λ p. p ≡ pieces.positioned (indexes_by tables.now) tree.now) }
+{
+    tree.map_vars(alloc, &Positions { tables })
+}
+
+/// The expression at a part of the record, with positions in place of indexes.
+pub(crate) fn value_in(
+    alloc: Global,
+    tables: &Tables,
+    record: &KeptRecord,
+    span: Span,
+) -> Result<Postfix, NoMemory>
+    requires { IsExpressionIn «record».now.bytes span }
+    ensures { IfOk result (λ tree. tree ≡ pieces.positioned (indexes_by tables.now) (pieces.tree_in (piece_of_kept «record».now) span)) }
+{
+    let tree = record.tree(alloc, span)?;
+    positioned(alloc, tables, &tree)
+}

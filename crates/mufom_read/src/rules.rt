@@ -1,0 +1,242 @@
+//! The rules for a whole record in its part, behind the records before it.
+
+ghost use Rattle.std.specs.Prelude.{◌≡◌, ◌∷◌, [], ◌&&◌, not, false, option_map, List};
+ghost use Rattle.std.specs.List.{list_any};
+ghost use Rattle.mufom_expr.specs.Mentions.{variables_in};
+ghost use Rattle.mufom_expr.specs.Value.{variables_of};
+ghost use Rattle.mufom_module.specs.Contents.{any_of};
+ghost use Rattle.mufom_module.specs.Defects as defects;
+ghost use Rattle.mufom_module.specs.Pieces as pieces;
+ghost use Rattle.mufom_module.specs.RecordParts as parts;
+ghost use Rattle.mufom_read.specs.Fronts.{Step, pieces_of};
+ghost use Rattle.mufom_read.specs.Faults as faults;
+ghost use Rattle.mufom_read.specs.Kept.{tables_of, declares_again_in, says_again_in, entries_in, is_unknown, names_unknown_entry_in, names_unknown_in, has_no_section_in, counter_allowed_in, misplaces_counter_in, rule_broken_in};
+
+use crate::tables::{Tables, has};
+use mufom_expr::{Letter, Postfix, Token};
+use mufom_numbers::Reason;
+use mufom_records::Record;
+use mufom_sections::IndexTable;
+
+// ---- indexes
+
+// The entries that a variable's letter names.
+fn entries(tables: &Tables, letter: Letter) -> &IndexTable
+    ensures { result.now ≡ entries_in tables.now (pieces.kind_of_letter letter) }
+{
+    match letter {
+        Letter::I => &tables.publics,
+        Letter::X => &tables.references,
+        Letter::L => &tables.sections,
+        Letter::P => &tables.sections,
+        Letter::R => &tables.sections,
+        Letter::S => &tables.sections,
+    }
+}
+
+// Whether the record declares an index that its kind has.
+fn declares_again(tables: &Tables, record: &Record) -> bool
+    ensures { result ≡ declares_again_in tables.now «record».now }
+{
+    match record {
+        Record::SectionType(i, ..) => has(&tables.sections, *i),
+        Record::PublicName(i, _) => has(&tables.publics, *i),
+        Record::ReferenceName(i, _) => has(&tables.references, *i),
+        _ => false,
+    }
+}
+
+// Whether the index that the record speaks of, and does not declare, is not declared.
+fn names_unknown_entry(tables: &Tables, record: &Record) -> bool
+    requires { parts.stands_in parts.debug_part «record».now ≡ false }
+    ensures { result ≡ names_unknown_entry_in tables.now «record».now }
+{
+    match record {
+        Record::Alignment(i, ..) => !has(&tables.sections, *i),
+        Record::SectionSize(i, _) => !has(&tables.sections, *i),
+        Record::SectionBase(i, _) => !has(&tables.sections, *i),
+        Record::PublicValue(i, _) => !has(&tables.publics, *i),
+        Record::PublicNote(i, ..) => !has(&tables.publics, *i),
+        Record::WeakReference(i, ..) => !has(&tables.references, *i),
+        Record::ReferenceNote(i, ..) => !has(&tables.references, *i),
+        Record::SetSection(i) => !has(&tables.sections, *i),
+        Record::SetPc(i, _) => !has(&tables.sections, *i),
+        _ => false,
+    }
+}
+
+// Whether the token is a variable that names no entry.
+fn token_is_unknown(tables: &Tables, token: Token) -> bool
+    ensures { result ≡ list_any (is_unknown tables.now) (variables_in (token ∷ [])) }
+{
+    match token {
+        Token::Var(letter, index) => !has(entries(tables, letter), index),
+        Token::Number(_) => false,
+        Token::Fun(_) => false,
+    }
+}
+
+// Whether a token is such a variable.
+fn tokens_are_unknown(tables: &Tables, tokens: &[Token]) -> bool
+    ensures { result ≡ list_any (λ t. list_any (is_unknown tables.now) (variables_in (t ∷ []))) tokens.now }
+{
+    tokens.iter().any(|token| token_is_unknown(tables, *token))
+}
+
+/// Whether a variable of the expression names no entry.
+pub(crate) fn has_unknown_variable(tables: &Tables, tree: &Postfix) -> bool
+    ensures { result ≡ list_any (is_unknown tables.now) (variables_of tree.now) }
+{
+    tokens_are_unknown(tables, tree.tokens())
+}
+
+/// Whether the record is the value of a public, whose variables may be declared later.
+pub(crate) fn is_public_value(record: &Record) -> bool
+    ensures { result ≡ pieces.is_public_value «record».now }
+{
+    matches!(record, Record::PublicValue(..))
+}
+
+// Whether the expression of the record has such a variable, and is not to wait.
+fn has_unknown_variable_now(tables: &Tables, record: &Record, tree: Option<&Postfix>) -> bool
+    ensures { result ≡ (not (pieces.is_public_value «record».now) && any_of (λ e. list_any (is_unknown tables.now) (variables_of e)) (option_map (λ t. t.now) tree.entry)) }
+{
+    match tree {
+        None => false,
+        Some(tree) => !is_public_value(record) && has_unknown_variable(tables, tree),
+    }
+}
+
+// Whether the record names an index that is not declared.
+fn names_unknown(tables: &Tables, record: &Record, tree: Option<&Postfix>) -> bool
+    requires { parts.stands_in parts.debug_part «record».now ≡ false }
+    ensures { result ≡ names_unknown_in tables.now «record».now (option_map (λ t. t.now) tree.entry) }
+{
+    names_unknown_entry(tables, record) || has_unknown_variable_now(tables, record, tree)
+}
+
+// Whether the record says for an index what was said.
+fn says_again(tables: &Tables, record: &Record) -> bool
+    ensures { result ≡ says_again_in tables.now «record».now }
+{
+    match record {
+        Record::PublicValue(i, _) => has(&tables.values, *i),
+        Record::WeakReference(i, ..) => has(&tables.weaknesses, *i),
+        Record::Alignment(i, ..) => has(&tables.alignments, *i),
+        Record::SectionSize(i, _) => has(&tables.sizes, *i),
+        Record::SectionBase(i, _) => has(&tables.bases, *i),
+        Record::Start(_) => tables.has_start,
+        _ => false,
+    }
+}
+
+// ---- the rest
+
+// Whether the alignment is not 1 to 2^31.
+fn has_bad_alignment(record: &Record) -> bool
+    ensures { result ≡ faults.has_bad_alignment «record».now }
+{
+    match record {
+        Record::Alignment(_, n, _) => *n == 0 || *n > 2_147_483_648,
+        _ => false,
+    }
+}
+
+// Whether the record is LD, LR or RE.
+fn is_loading(record: &Record) -> bool
+    ensures { result ≡ parts.is_loading «record».now }
+{
+    match record {
+        Record::Constant(_) => true,
+        Record::Relocate => true,
+        Record::RepeatConstant(..) => true,
+        Record::RepeatRelocate(_) => true,
+        _ => false,
+    }
+}
+
+// Whether the record loads, and no section is set.
+fn has_no_section(tables: &Tables, record: &Record) -> bool
+    ensures { result ≡ has_no_section_in tables.now «record».now }
+{
+    is_loading(record) && tables.current.is_none()
+}
+
+// The section whose program counter the record's expression may name.
+fn counter_allowed(tables: &Tables, record: &Record) -> Option<u32>
+    ensures { result ≡ counter_allowed_in tables.now «record».now }
+{
+    match record {
+        Record::SetPc(i, _) => Some(*i),
+        Record::FieldItem(..) => tables.current,
+        _ => None,
+    }
+}
+
+// Whether the token is a program counter of another section than this one.
+fn is_other_counter(allowed: Option<u32>, token: Token) -> bool
+    ensures { result ≡ list_any (defects.is_other_counter allowed) (variables_in (token ∷ [])) }
+{
+    match token {
+        Token::Var(Letter::P, section) => allowed != Some(section),
+        _ => false,
+    }
+}
+
+// Whether a token is such a program counter.
+fn tokens_are_other_counters(allowed: Option<u32>, tokens: &[Token]) -> bool
+    ensures { result ≡ list_any (λ t. list_any (defects.is_other_counter allowed) (variables_in (t ∷ []))) tokens.now }
+{
+    tokens.iter().any(|token| is_other_counter(allowed, *token))
+}
+
+// Whether such a program counter stands in the expression.
+fn has_other_counter(allowed: Option<u32>, tree: &Postfix) -> bool
+    ensures { result ≡ defects.has_other_counter allowed tree.now }
+{
+    tokens_are_other_counters(allowed, tree.tokens())
+}
+
+// Whether the expression of the record names a program counter that it may not name.
+fn misplaces_counter(tables: &Tables, record: &Record, tree: Option<&Postfix>) -> bool
+    ensures { result ≡ misplaces_counter_in tables.now «record».now (option_map (λ t. t.now) tree.entry) }
+{
+    match tree {
+        None => false,
+        Some(tree) => has_other_counter(counter_allowed(tables, record), tree),
+    }
+}
+
+// The first rule that the record, with this expression, breaks.
+fn first_broken(tables: &Tables, record: &Record, tree: Option<&Postfix>) -> Option<Reason>
+    requires { parts.stands_in parts.debug_part «record».now ≡ false }
+    ensures { result ≡ rule_broken_in tables.now «record».now (option_map (λ t. t.now) tree.entry) }
+{
+    if declares_again(tables, record) {
+        Some(Reason::DuplicateIndex)
+    } else if names_unknown(tables, record, tree) {
+        Some(Reason::UnknownIndex)
+    } else if says_again(tables, record) {
+        Some(Reason::DuplicateValue)
+    } else if has_bad_alignment(record) {
+        Some(Reason::BadAlignment)
+    } else if has_no_section(tables, record) {
+        Some(Reason::NoSection)
+    } else if misplaces_counter(tables, record, tree) {
+        Some(Reason::BadP)
+    } else {
+        None
+    }
+}
+
+/// The first rule that the record, with this expression, breaks behind those before it.
+pub(crate) fn rule_broken(
+    tables: &Tables,
+    record: &Record,
+    tree: Option<&Postfix>,
+) -> Option<Reason>
+    requires { parts.stands_in parts.debug_part «record».now ≡ false }
+    ensures { (front : List Step) (p : pieces.Piece) → tables.now ≡ tables_of (pieces_of front) → p.row ≡ «record».now → pieces.tree_of_piece p ≡ option_map (λ t. t.now) tree.entry → result ≡ faults.rule_broken front p }
+{
+    first_broken(tables, record, tree)
+}

@@ -1,0 +1,144 @@
+//! The module of a source.
+
+ghost use Rattle.std.specs.Prelude.{◌≡◌, ◌≢◌, ◌↔◌, ◌<◌, ◌≤◌, ℕ, List, [], length, take, Some, Err, IfOk, IfSome};
+ghost use Rattle.mufom_numbers.specs.declared.reason.Reason.{Reason};
+ghost use Rattle.mufom_host.specs.World.{KeepsAllButLeft, KeepsAllButReads, Rose};
+ghost use Rattle.mufom_module.specs.Grammar.{file_limit};
+ghost use Rattle.mufom_read.specs.Judging.{IsModule};
+ghost use Rattle.mufom_read.specs.Reader.{HasRead, reads_debug_of};
+ghost use Rattle.mufom_read.specs.Source.{IsRefusedWithin, IsPastLimit, ReadsModule, HasFed, HasReadPiece, HasReadAll};
+
+use crate::reader::Reader;
+use crate::refusal::{ReadRefusal, ReadStop};
+use mufom_host::{Failed, Source};
+use mufom_module::Module;
+use std::alloc::Global;
+
+// How many bytes are asked for at once.
+const BUFFER: usize = 65_536;
+
+/// Why a source gives no module.
+#[derive(Clone, Copy, Debug, PartialEq, Eq)]
+pub enum SourceStop {
+    Refused(ReadRefusal),
+    /// The source has more bytes than may be read, of which the first are not refused.
+    Limit,
+    Fault,
+    NoMemory,
+}
+
+impl From<ReadStop> for SourceStop {
+    ghost use Rattle.std.specs.Prelude.{◌≡◌};
+    ghost use Rattle.mufom_read.specs.Source.{stop_by};
+
+    ghost from_gives = { λ stop made. made ≡ stop_by stop };
+
+    fn from(stop: ReadStop) -> Self {
+        match stop {
+            ReadStop::Refused(refusal) => SourceStop::Refused(refusal),
+            ReadStop::NoMemory => SourceStop::NoMemory,
+        }
+    }
+}
+
+// Feeds the first bytes of the buffer, so many, of which no more may be read than this.
+fn feed_within(
+    reader: &mut Reader,
+    buffer: &[u8],
+    count: usize,
+    room: u64,
+) -> Result<(), SourceStop>
+    requires { count ≤ length buffer.now }
+    ensures fed { (stream : List ℕ) → HasRead reader.old stream → HasFed room stream (take count buffer.now) reader.new result }
+    ensures reads_debug { reads_debug_of reader.new ≡ reads_debug_of reader.old }
+    ensures fault { result ≢ Err SourceStop.Fault }
+{
+    if count as u64 <= room {
+        reader.feed(&buffer[..count])?;
+        return Ok(());
+    }
+    reader.feed(&buffer[..room as usize])?;
+    Err(SourceStop::Limit)
+}
+
+// Reads once, and answers how many bytes came.
+fn read_piece<S: Source>(
+    source: &mut S,
+    reader: &mut Reader,
+    buffer: &mut [u8],
+    room: u64,
+) -> Result<usize, SourceStop>
+    requires { 0 < length buffer.old }
+    ensures read { (stream : List ℕ) → HasRead reader.old stream → HasReadPiece room (S.meaning source.old).left (S.meaning source.new).left stream reader.new result }
+    ensures reads_debug { reads_debug_of reader.new ≡ reads_debug_of reader.old }
+    ensures fault { result ≡ Err SourceStop.Fault → Rose (S.faults source.old).reads (S.faults source.new).reads }
+    ensures stays { KeepsAllButLeft (S.meaning source.old) (S.meaning source.new) }
+    ensures counts { KeepsAllButReads (S.faults source.old) (S.faults source.new) }
+    ensures later { (S.faults source.old).reads ≤ (S.faults source.new).reads }
+{
+    match source.read(buffer) {
+        Err(Failed) => Err(SourceStop::Fault),
+        Ok(count) => {
+            feed_within(reader, buffer, count, room)?;
+            Ok(count)
+        }
+    }
+}
+
+// Reads to the end of the source, and answers how many bytes it gave.
+fn read_all<S: Source>(
+    source: &mut S,
+    reader: &mut Reader,
+    buffer: &mut [u8],
+    limit: u64,
+) -> Result<u64, SourceStop>
+    requires buffer { 0 < length buffer.old }
+    requires begins { HasRead reader.old [] }
+    ensures read { HasReadAll limit (S.meaning source.old).left (S.meaning source.new).left reader.new result }
+    ensures reads_debug { reads_debug_of reader.new ≡ reads_debug_of reader.old }
+    ensures fault { result ≡ Err SourceStop.Fault → Rose (S.faults source.old).reads (S.faults source.new).reads }
+    ensures stays { KeepsAllButLeft (S.meaning source.old) (S.meaning source.new) }
+    ensures counts { KeepsAllButReads (S.faults source.old) (S.faults source.new) }
+    ensures later { (S.faults source.old).reads ≤ (S.faults source.new).reads }
+{
+    let mut length = 0;
+    loop {
+        let count = read_piece(source, reader, buffer, limit - length)?;
+        if count == 0 {
+            return Ok(length);
+        }
+        length += count as u64;
+    }
+}
+
+/// The module of the bytes that the source has left, and how many they are. At most `limit` bytes are
+/// read, which is at most 67,108,864, and a refused source is not read further.
+pub fn read_module<S: Source>(
+    alloc: Global,
+    source: &mut S,
+    limit: u64,
+    reads_debug: bool,
+) -> Result<(Module, u64), SourceStop>
+    requires { limit ≤ file_limit }
+    // Each answer but a fault and want of memory has its cause in the bytes that were left.
+    ensures reads { ReadsModule reads_debug limit (S.meaning source.old).left (S.meaning source.new).left result }
+    // The module of all bytes that were left, and how many they are; none is left then.
+    ensures ok { IfOk result (λ r. IfSome (S.meaning source.old).left (λ left. IsModule reads_debug left r.0 × (r.1 ≡ length left) × (r.1 ≤ limit) × ((S.meaning source.new).left ≡ Some []))) }
+    ensures refused { (place : ℕ) (reason : Reason) → IfSome (S.meaning source.old).left (λ left. result ≢ Err SourceStop.NoMemory → result ≢ Err SourceStop.Fault
+        → (result ≡ Err (SourceStop.Refused (record { place = place; reason = reason }))) ↔ IsRefusedWithin reads_debug limit left place reason) }
+    ensures limit { IfSome (S.meaning source.old).left (λ left. result ≢ Err SourceStop.NoMemory → result ≢ Err SourceStop.Fault → (result ≡ Err SourceStop.Limit) ↔ IsPastLimit reads_debug limit left) }
+    ensures fault { result ≡ Err SourceStop.Fault → Rose (S.faults source.old).reads (S.faults source.new).reads }
+    ensures stays { KeepsAllButLeft (S.meaning source.old) (S.meaning source.new) }
+    ensures counts { KeepsAllButReads (S.faults source.old) (S.faults source.new) }
+    ensures later { (S.faults source.old).reads ≤ (S.faults source.new).reads }
+{
+    let Ok(mut buffer) = vec![in alloc; 0u8; BUFFER] else {
+        return Err(SourceStop::NoMemory);
+    };
+    let Ok(mut reader) = Reader::new(alloc, reads_debug) else {
+        return Err(SourceStop::NoMemory);
+    };
+    let length = read_all(source, &mut reader, &mut buffer, limit)?;
+    let module = reader.finish()?;
+    Ok((module, length))
+}

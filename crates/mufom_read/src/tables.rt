@@ -1,0 +1,95 @@
+//! What the records of a front declare and say once, by index.
+
+ghost use Rattle.std.specs.Prelude.{◌≡◌, ◌++◌, ◌∷◌, [], ◌<◌, ◌^◌, ◌-◌, ◌==◌, false, true, length, OnOk};
+ghost use Rattle.std.specs.List.{list_any};
+ghost use Rattle.mufom_read.specs.Kept.{tables_of, with_row, is_new, HasRoom};
+
+use mufom_numbers::NoMemory;
+use mufom_records::Record;
+use mufom_sections::IndexTable;
+use std::alloc::Global;
+
+/// The indexes that records declare or give a value to, each list in the order of the file.
+#[derive(Debug, Drop)]
+pub(crate) struct Tables {
+    pub sections: IndexTable,
+    pub publics: IndexTable,
+    pub references: IndexTable,
+    /// The sections that have an alignment, a size and a base.
+    pub alignments: IndexTable,
+    pub sizes: IndexTable,
+    pub bases: IndexTable,
+    /// The publics that have a value.
+    pub values: IndexTable,
+    /// The references that are weak.
+    pub weaknesses: IndexTable,
+    /// The section that was set last.
+    pub current: Option<u32>,
+    pub has_start: bool,
+}
+
+/// Whether the table has the index.
+pub(crate) fn has(table: &IndexTable, index: u32) -> bool
+    ensures { result ≡ list_any (λ i. i == index) table.now }
+{
+    table.position(index).is_some()
+}
+
+// Adds an index that the table does not have.
+fn add(table: &mut IndexTable, index: u32) -> Result<(), NoMemory>
+    requires room { length table.old < 2 ^ 32 - 1 }
+    requires new { list_any (λ i. i == index) table.old ≡ false }
+    ensures { OnOk result (table.new ≡ table.old ++ index ∷ []) }
+{
+    match table.add(index) {
+        Ok(_) => Ok(()),
+        Err(_) => Err(NoMemory),
+    }
+}
+
+impl Tables {
+    /// Those of no records. Takes no memory.
+    pub(crate) fn new(alloc: Global) -> Tables
+        ensures { result ≡ tables_of [] }
+    {
+        Tables {
+            sections: IndexTable::new(alloc),
+            publics: IndexTable::new(alloc),
+            references: IndexTable::new(alloc),
+            alignments: IndexTable::new(alloc),
+            sizes: IndexTable::new(alloc),
+            bases: IndexTable::new(alloc),
+            values: IndexTable::new(alloc),
+            weaknesses: IndexTable::new(alloc),
+            current: None,
+            has_start: false,
+        }
+    }
+
+    /// Adds what one more record declares or says.
+    pub(crate) fn add(&mut self, record: &Record) -> Result<(), NoMemory>
+        requires room { HasRoom self.old }
+        requires new { is_new self.old «record».now ≡ true }
+        ensures { OnOk result (self.new ≡ with_row self.old «record».now) }
+    {
+        match record {
+            Record::SectionType(i, ..) => add(&mut self.sections, *i),
+            Record::PublicName(i, _) => add(&mut self.publics, *i),
+            Record::ReferenceName(i, _) => add(&mut self.references, *i),
+            Record::Alignment(i, ..) => add(&mut self.alignments, *i),
+            Record::SectionSize(i, _) => add(&mut self.sizes, *i),
+            Record::SectionBase(i, _) => add(&mut self.bases, *i),
+            Record::PublicValue(i, _) => add(&mut self.values, *i),
+            Record::WeakReference(i, ..) => add(&mut self.weaknesses, *i),
+            Record::SetSection(i) => {
+                self.current = Some(*i);
+                Ok(())
+            }
+            Record::Start(_) => {
+                self.has_start = true;
+                Ok(())
+            }
+            _ => Ok(()),
+        }
+    }
+}

@@ -1,0 +1,491 @@
+ghost use Rattle.std.specs.Prelude.{◌<◌};
+
+use crate::{ReadRefusal, ReadStop, Reader, SourceStop, read_module};
+use mufom_host::{Host, MemHost};
+use mufom_module::Module;
+use mufom_numbers::{Bytes, List, Reason, Text};
+use std::alloc::Global;
+use std::test::Fail;
+
+// An absolute section of four bytes at 1000, loaded whole, with its start address.
+const PLAIN: [u8; 120] = [
+    0xE0, 0x05, 0x36, 0x38, 0x30, 0x30, 0x30, 0x01, 0x41, 0xEC, 0x08, 0x04, 0xCD, 0xE2, 0xD7, 0x00,
+    0x84, 0x00, 0x00, 0x00, 0x00, 0xE2, 0xD7, 0x01, 0x84, 0x00, 0x00, 0x00, 0x00, 0xE2, 0xD7, 0x02,
+    0x84, 0x00, 0x00, 0x00, 0x4D, 0xE2, 0xD7, 0x03, 0x84, 0x00, 0x00, 0x00, 0x00, 0xE2, 0xD7, 0x04,
+    0x84, 0x00, 0x00, 0x00, 0x00, 0xE2, 0xD7, 0x05, 0x84, 0x00, 0x00, 0x00, 0x64, 0xE2, 0xD7, 0x06,
+    0x84, 0x00, 0x00, 0x00, 0x72, 0xE2, 0xD7, 0x07, 0x84, 0x00, 0x00, 0x00, 0x77, 0xE6, 0x01, 0xC1,
+    0xD3, 0xD0, 0x04, 0x63, 0x6F, 0x64, 0x65, 0xE7, 0x01, 0x02, 0xE2, 0xD3, 0x01, 0x04, 0xE2, 0xCC,
+    0x01, 0x82, 0x10, 0x00, 0xE5, 0x01, 0xE2, 0xD0, 0x01, 0x82, 0x10, 0x00, 0xED, 0x04, 0x4E, 0x71,
+    0x4E, 0x75, 0xE2, 0xC7, 0x82, 0x10, 0x00, 0xE1,
+];
+
+// A relocatable section with raw parts, a public with a note, a reference, fields and a start.
+const PROGRAM: [u8; 164] = [
+    0xE0, 0x05, 0x36, 0x38, 0x30, 0x30, 0x30, 0x04, 0x70, 0x72, 0x6F, 0x67, 0xEC, 0x08, 0x04, 0xE2,
+    0xD7, 0x00, 0x84, 0x00, 0x00, 0x00, 0x4F, 0xE2, 0xD7, 0x01, 0x84, 0x00, 0x00, 0x00, 0x52, 0xE2,
+    0xD7, 0x02, 0x84, 0x00, 0x00, 0x00, 0x55, 0xE2, 0xD7, 0x03, 0x84, 0x00, 0x00, 0x00, 0x66, 0xE2,
+    0xD7, 0x04, 0x84, 0x00, 0x00, 0x00, 0x00, 0xE2, 0xD7, 0x05, 0x84, 0x00, 0x00, 0x00, 0x81, 0xE2,
+    0xD7, 0x06, 0x84, 0x00, 0x00, 0x00, 0x9B, 0xE2, 0xD7, 0x07, 0x84, 0x00, 0x00, 0x00, 0xA3, 0xF0,
+    0x20, 0x00, 0xF0, 0x21, 0x00, 0xE6, 0x01, 0xC3, 0xD0, 0x05, 0x2E, 0x74, 0x65, 0x78, 0x74, 0xE7,
+    0x01, 0x02, 0xE2, 0xD3, 0x01, 0x0C, 0xE8, 0x20, 0x04, 0x6D, 0x61, 0x69, 0x6E, 0xF1, 0xC9, 0x20,
+    0x0F, 0x13, 0x01, 0xE2, 0xC9, 0x20, 0xD2, 0x01, 0x04, 0xA5, 0xE9, 0x0B, 0x04, 0x65, 0x78, 0x69,
+    0x74, 0xE5, 0x01, 0xE2, 0xD0, 0x01, 0xD2, 0x01, 0xE4, 0x04, 0x4E, 0x71, 0x4E, 0x71, 0xBE, 0xD2,
+    0x01, 0x04, 0xA5, 0xBF, 0xBA, 0xD8, 0x0B, 0xD0, 0x01, 0xA6, 0xBB, 0xE2, 0xC7, 0xBE, 0xD2, 0x01,
+    0x04, 0xA5, 0xBF, 0xE1,
+];
+
+// A relocatable section and the public that the program refers to.
+const LIBRARY: [u8; 111] = [
+    0xE0, 0x05, 0x36, 0x38, 0x30, 0x30, 0x30, 0x03, 0x6C, 0x69, 0x62, 0xEC, 0x08, 0x04, 0xE2, 0xD7,
+    0x00, 0x84, 0x00, 0x00, 0x00, 0x00, 0xE2, 0xD7, 0x01, 0x84, 0x00, 0x00, 0x00, 0x00, 0xE2, 0xD7,
+    0x02, 0x84, 0x00, 0x00, 0x00, 0x4E, 0xE2, 0xD7, 0x03, 0x84, 0x00, 0x00, 0x00, 0x5C, 0xE2, 0xD7,
+    0x04, 0x84, 0x00, 0x00, 0x00, 0x00, 0xE2, 0xD7, 0x05, 0x84, 0x00, 0x00, 0x00, 0x68, 0xE2, 0xD7,
+    0x06, 0x84, 0x00, 0x00, 0x00, 0x00, 0xE2, 0xD7, 0x07, 0x84, 0x00, 0x00, 0x00, 0x6E, 0xE6, 0x01,
+    0xC3, 0xD0, 0x05, 0x2E, 0x74, 0x65, 0x78, 0x74, 0xE2, 0xD3, 0x01, 0x02, 0xE8, 0x20, 0x04, 0x65,
+    0x78, 0x69, 0x74, 0xE2, 0xC9, 0x20, 0xD2, 0x01, 0xE5, 0x01, 0xED, 0x02, 0x4E, 0x75, 0xE1,
+];
+
+// What the program says.
+const PROGRAM_TEXT: &str =
+    "Parts { processor: List { items: [54, 56, 48, 48, 48] }, name: List { items: [112, \
+    114, 111, 103] }, maus: 4, order: Most, ext: List { items: [240, 32, 0] }, env: List \
+    { items: [240, 33, 0] }, sections: List { items: [Section { name: List { items: [46, \
+    116, 101, 120, 116] }, absolute: false, purpose: Some(Code), size: 12, align: 2, \
+    base: None }] }, names: NameTable { publics: List { items: [Public { name: List { \
+    items: [109, 97, 105, 110] }, value: Postfix { tokens: [Var(R, 0), Number(4), \
+    Fun(Plus)] }, notes: List { items: [Note { type_index: 15, attribute: 19, numbers: \
+    [1] }] } }] }, references: List { items: [Reference { name: List { items: [101, 120, \
+    105, 116] }, weak: None, notes: List { items: [] } }] } }, debug: List { items: [] \
+    }, loads: List { items: [SetSection(0), SetPc { section: 0, value: Postfix { tokens: \
+    [Var(R, 0)] } }, One(Literal(List { items: [78, 113, 78, 113] })), One(Field { kind: \
+    Either, value: Postfix { tokens: [Var(R, 0), Number(4), Fun(Plus)] }, size: 4 }), \
+    One(Field { kind: Signed, value: Postfix { tokens: [Var(X, 0), Var(P, 0), \
+    Fun(Minus)] }, size: 4 })] }, start: Some(Postfix { tokens: [Var(R, 0), Number(4), \
+    Fun(Plus)] }) }";
+
+// Where a row's bytes go: in place of a byte of the plain module; or as its data, debug or external part.
+#[derive(Clone, Copy)]
+enum Row {
+    Byte(usize, u8),
+    Data(&'static [u8]),
+    Debug(&'static [u8]),
+    External(&'static [u8]),
+}
+
+// A row, the offset at which it is refused, and why.
+type Refused = (Row, u64, Reason);
+
+const REFUSED: [Refused; 49] = [
+    (Row::Byte(0, 0xE1), 0, Reason::BadHeader),
+    (Row::Byte(9, 0xE2), 9, Reason::BadHeader),
+    (Row::Byte(15, 0x01), 13, Reason::BadHeader),
+    (Row::Byte(14, 0xD3), 13, Reason::BadHeader),
+    (Row::Byte(10, 0x89), 10, Reason::BadNumber),
+    (Row::Byte(10, 0x10), 9, Reason::BadDescriptor),
+    (Row::Byte(11, 0x05), 9, Reason::BadDescriptor),
+    (Row::Byte(76, 0x00), 69, Reason::OffsetOrder),
+    (Row::Byte(60, 0x40), 53, Reason::OffsetOrder),
+    (Row::Byte(36, 0x4E), 77, Reason::PartGap),
+    (Row::Byte(60, 0x63), 94, Reason::PartGap),
+    (Row::Byte(78, 0x02), 87, Reason::UnknownIndex),
+    (Row::Byte(89, 0x00), 87, Reason::BadAlignment),
+    (Row::Byte(101, 0x02), 100, Reason::UnknownIndex),
+    (Row::Byte(108, 0xE0), 114, Reason::BadId),
+    (Row::Byte(79, 0xC2), 79, Reason::BadSectionType),
+    (Row::Byte(52, 0x01), 45, Reason::OffsetOrder),
+    (Row::Byte(52, 0x4E), 45, Reason::NotBuilt),
+    (Row::Byte(119, 0xE4), 119, Reason::WrongPart),
+    (Row::Data(&[0xE5, 0x89]), 101, Reason::BadNumber),
+    (Row::Data(&[0xE2, 0xAA]), 101, Reason::BadRecord),
+    (Row::Data(&[0xF2]), 100, Reason::UnsupportedRecord),
+    (
+        Row::Data(&[0xE2, 0xD0, 0x01, 0x01, 0x02, 0xB9]),
+        105,
+        Reason::UnsupportedFunction,
+    ),
+    (
+        Row::Data(&[0xE2, 0xD0, 0x01, 0xC1, 0x01]),
+        103,
+        Reason::UnsupportedVariable,
+    ),
+    (Row::Data(&[0xE2, 0xD0, 0x01, 0xA5]), 103, Reason::Underflow),
+    (
+        Row::Data(&[0xE2, 0xD0, 0x01, 0x01, 0x02, 0xE5, 0x01]),
+        105,
+        Reason::SurplusTerms,
+    ),
+    (
+        Row::Data(&[0xE2, 0xD0, 0x01, 0xE5, 0x01]),
+        103,
+        Reason::Empty,
+    ),
+    (
+        Row::Data(&[0xED, 0x83, 0x01, 0x00, 0x00]),
+        101,
+        Reason::LongRun,
+    ),
+    (
+        Row::Data(&[0xE5, 0x01, 0xE4, 0xBE, 0x00, 0x90, 0x09, 0xBF]),
+        106,
+        Reason::BadFieldSize,
+    ),
+    (
+        Row::Data(&[0xE5, 0x01, 0xE4, 0xBE, 0x00, 0xBB]),
+        105,
+        Reason::BracketMismatch,
+    ),
+    (Row::Data(&[0xE7, 0x01, 0x02]), 100, Reason::WrongPart),
+    (Row::Data(&[0xED, 0x01, 0xAA]), 100, Reason::NoSection),
+    (Row::Data(&[0xE4]), 100, Reason::NoSection),
+    (Row::Data(&[0xE5, 0x01, 0xE1]), 102, Reason::WrongPart),
+    (
+        Row::Data(&[0xE5, 0x01, 0xE2, 0xD0, 0x01, 0xD0, 0x02]),
+        102,
+        Reason::UnknownIndex,
+    ),
+    (
+        Row::Data(&[0xE5, 0x01, 0xE2, 0xD0, 0x01, 0xE0]),
+        105,
+        Reason::Empty,
+    ),
+    (Row::Data(&[0x00]), 100, Reason::BadRecord),
+    (
+        Row::Data(&[0xF8, 0x07, 0x00, 0x00]),
+        101,
+        Reason::UnsupportedBlock,
+    ),
+    (
+        Row::Data(&[0xF1, 0xCE, 0x20, 0x00, 0x06]),
+        104,
+        Reason::UnsupportedAttribute,
+    ),
+    (Row::Debug(&[0xF9]), 45, Reason::NotBuilt),
+    (
+        Row::External(&[0xE8, 0x20, 0x01, 0x61]),
+        100,
+        Reason::MissingValue,
+    ),
+    (
+        Row::External(&[0xE8, 0x20, 0x01, 0x61, 0xE2, 0xC9, 0x20, 0xD0, 0x01]),
+        104,
+        Reason::BadP,
+    ),
+    (
+        Row::External(&[0xE8, 0x20, 0x01, 0x61, 0xE2, 0xC9, 0x20, 0xC9, 0x21]),
+        104,
+        Reason::UnknownIndex,
+    ),
+    (
+        Row::External(&[0xE8, 0x20, 0x01, 0x61, 0xE8, 0x20, 0x01, 0x62]),
+        104,
+        Reason::DuplicateIndex,
+    ),
+    (
+        Row::External(&[
+            0xE8, 0x20, 0x01, 0x61, 0xE2, 0xC9, 0x20, 0x00, 0xE2, 0xC9, 0x20, 0x01,
+        ]),
+        108,
+        Reason::DuplicateValue,
+    ),
+    (
+        Row::External(&[0xE2, 0xC9, 0x20, 0x00]),
+        100,
+        Reason::UnknownIndex,
+    ),
+    (
+        Row::External(&[0xE9, 0x0B, 0x01, 0x61, 0xF4, 0x0B, 0x04, 0xF4, 0x0B, 0x04]),
+        107,
+        Reason::DuplicateValue,
+    ),
+    (
+        Row::External(&[0xF1, 0xC9, 0x20, 0x00, 0x00, 0x00, 0x00]),
+        100,
+        Reason::UnknownIndex,
+    ),
+    (
+        Row::External(&[
+            0xE8, 0x20, 0x01, 0x61, 0xE8, 0x21, 0x01, 0x62, 0xE2, 0xC9, 0x21, 0xC9, 0x22,
+        ]),
+        100,
+        Reason::MissingValue,
+    ),
+];
+
+// The bytes of the parts, one after another, with some bytes changed: each by its place.
+fn changed(alloc: Global, parts: &[&[u8]], changes: &[(usize, u8)]) -> Result<Vec<u8>, Fail> {
+    let mut all = Vec::new(alloc);
+    for part in parts {
+        all.extend_from_slice(part)?;
+    }
+    for (place, byte) in changes {
+        if let Some(old) = all.get_mut(*place) {
+            *old = *byte;
+        }
+    }
+    Ok(all)
+}
+
+// The header of the plain module with other offsets.
+fn header(alloc: Global, offsets: [u16; 8]) -> Result<Vec<u8>, Fail> {
+    let mut all = changed(alloc, &[&PLAIN[..13]], &[])?;
+    for number in 0..8u8 {
+        let [high, low] = offsets[number as usize].to_be_bytes();
+        all.extend_from_slice(&[0xE2, 0xD7, number, 0x84, 0, 0, high, low])?;
+    }
+    Ok(all)
+}
+
+// The plain module with this header and part, and with no other part behind its section.
+fn with_part(alloc: Global, offsets: [u16; 8], part: &[u8]) -> Result<Vec<u8>, Fail> {
+    let header = header(alloc, offsets)?;
+    changed(alloc, &[&header, &PLAIN[77..100], part, &[0xE1]], &[])
+}
+
+fn stream(alloc: Global, row: Row) -> Result<Vec<u8>, Fail> {
+    match row {
+        Row::Byte(place, byte) => changed(alloc, &[&PLAIN], &[(place, byte)]),
+        Row::Data(part) => with_part(alloc, [0, 0, 77, 0, 0, 100, 0, end_behind(part)], part),
+        Row::Debug(part) => with_part(alloc, [0, 0, 77, 0, 100, 0, 0, end_behind(part)], part),
+        Row::External(part) => with_part(alloc, [0, 0, 77, 100, 0, 0, 0, end_behind(part)], part),
+    }
+}
+
+// Where ME stands behind a part that begins at 100.
+fn end_behind(part: &[u8]) -> u16 {
+    u16::try_from(part.len().saturating_add(100)).unwrap_or(u16::MAX)
+}
+
+// The module of a stream that is fed in pieces of so many bytes, or why there is none.
+fn read(
+    alloc: Global,
+    stream: &[u8],
+    size: usize,
+    reads_debug: bool,
+) -> Result<Result<Module, ReadStop>, Fail>
+    requires { 0 < size }
+{
+    let mut reader = Reader::new(alloc, reads_debug)?;
+    for piece in stream.chunks(size) {
+        if let Err(stop) = reader.feed(piece) {
+            return Ok(Err(stop));
+        }
+    }
+    Ok(reader.finish())
+}
+
+fn refused(place: u64, reason: Reason) -> Option<ReadStop> {
+    Some(ReadStop::Refused(ReadRefusal { place, reason }))
+}
+
+fn stop(
+    alloc: Global,
+    stream: &[u8],
+    size: usize,
+    reads_debug: bool,
+) -> Result<Option<ReadStop>, Fail>
+    requires { 0 < size }
+{
+    match read(alloc, stream, size, reads_debug)? {
+        Ok(_) => Ok(None),
+        Err(stop) => Ok(Some(stop)),
+    }
+}
+
+#[test]
+fn each_reason_has_its_place(rt: HostRuntime) -> Result<(), Fail> {
+    let alloc = rt.alloc();
+    for (row, place, reason) in &REFUSED {
+        let stream = stream(alloc, *row)?;
+        let wanted = refused(*place, *reason);
+        assert_eq!(rt; stop(alloc, &stream, 1000, true)?, wanted, "{stream:?}");
+        assert_eq!(rt; stop(alloc, &stream, 1, true)?, wanted, "{stream:?}");
+        assert_eq!(rt; stop(alloc, &stream, 7, true)?, wanted, "{stream:?}");
+    }
+    Ok(())
+}
+
+#[test]
+fn modules_are_read_whole_and_byte_by_byte(rt: HostRuntime) -> Result<(), Fail> {
+    let alloc = rt.alloc();
+    for stream in [PLAIN.as_slice(), PROGRAM.as_slice(), LIBRARY.as_slice()] {
+        assert_eq!(rt; stop(alloc, stream, 1000, true)?, None);
+        assert_eq!(rt; stop(alloc, stream, 1, true)?, None);
+        assert_eq!(rt; stop(alloc, stream, 3, false)?, None);
+    }
+    Ok(())
+}
+
+#[test]
+fn a_front_of_a_module_is_truncated(rt: HostRuntime) -> Result<(), Fail> {
+    let alloc = rt.alloc();
+    for length in 0..PROGRAM.len() {
+        let stop = stop(alloc, &PROGRAM[..length], 1000, true)?;
+        assert_eq!(rt; stop, refused(length as u64, Reason::Truncated));
+    }
+    Ok(())
+}
+
+#[test]
+fn a_byte_behind_the_end_is_refused(rt: HostRuntime) -> Result<(), Fail> {
+    let alloc = rt.alloc();
+    let stream = changed(alloc, &[&PLAIN, &[0]], &[])?;
+    assert_eq!(rt;
+        stop(alloc, &stream, 1000, true)?,
+        refused(120, Reason::AfterEnd)
+    );
+    assert_eq!(rt;
+        stop(alloc, &stream, 1, true)?,
+        refused(120, Reason::AfterEnd)
+    );
+    Ok(())
+}
+
+#[test]
+fn a_stop_is_answered_again(rt: HostRuntime) -> Result<(), Fail> {
+    let mut reader = Reader::new(rt.alloc(), true)?;
+    let stop = ReadStop::Refused(ReadRefusal {
+        place: 0,
+        reason: Reason::BadHeader,
+    });
+    assert_eq!(rt; reader.feed(&[0xE1]), Err(stop));
+    assert_eq!(rt; reader.feed(&[]), Err(stop));
+    assert_eq!(rt; reader.feed(&PLAIN), Err(stop));
+    assert!(rt; matches!(reader.finish(), Err(again) if again == stop));
+    Ok(())
+}
+
+#[test]
+fn a_second_start_is_refused(rt: HostRuntime) -> Result<(), Fail> {
+    let alloc = rt.alloc();
+    let start: &[u8] = &[0xE2, 0xC7, 0x00, 0xE1];
+    let stream = changed(alloc, &[&PLAIN[..119], start], &[(76, 0x7A)])?;
+    assert_eq!(rt;
+        stop(alloc, &stream, 1000, true)?,
+        refused(119, Reason::DuplicateValue)
+    );
+    Ok(())
+}
+
+#[test]
+fn an_absolute_section_has_a_base(rt: HostRuntime) -> Result<(), Fail> {
+    let alloc = rt.alloc();
+    let changes = [(60, 0), (68, 0), (76, 0x5E)];
+    let stream = changed(alloc, &[&PLAIN[..94], &[0xE1]], &changes)?;
+    assert_eq!(rt;
+        stop(alloc, &stream, 1000, true)?,
+        refused(77, Reason::MissingBase)
+    );
+    Ok(())
+}
+
+// A counter that is set to an expression of 256 tokens.
+fn long_expression(alloc: Global) -> Result<Vec<u8>, Fail> {
+    let mut part = changed(alloc, &[&[0xE2, 0xD0, 0x01, 0x00]], &[])?;
+    for _ in 0..127 {
+        part.extend_from_slice(&[0x00, 0xA5])?;
+    }
+    part.push(0x00)?;
+    Ok(part)
+}
+
+#[test]
+fn a_256th_token_is_refused(rt: HostRuntime) -> Result<(), Fail> {
+    let alloc = rt.alloc();
+    let part = long_expression(alloc)?;
+    let offsets = [0, 0, 77, 0, 0, 100, 0, end_behind(&part)];
+    let mut stream = with_part(alloc, offsets, &part)?;
+    assert_eq!(rt;
+        stop(alloc, &stream, 1000, true)?,
+        refused(358, Reason::TooLong)
+    );
+    stream.truncate(358);
+    assert_eq!(rt;
+        stop(alloc, &stream, 1000, true)?,
+        refused(358, Reason::Truncated)
+    );
+    Ok(())
+}
+
+fn zeros(alloc: Global, count: usize) -> Result<Vec<u8>, Fail> {
+    Ok(vec![in alloc; 0u8; count]?)
+}
+
+#[test]
+fn a_stream_beyond_the_limit_is_refused(rt: HostRuntime) -> Result<(), Fail> {
+    let alloc = rt.alloc();
+    let changes = [(20, 0x4D), (36, 0), (60, 0), (68, 0), (73, 4), (76, 0)];
+    let header = changed(alloc, &[&PLAIN[..77]], &changes)?;
+    let piece = zeros(alloc, 1_048_576)?;
+    let mut reader = Reader::new(alloc, true)?;
+    assert_eq!(rt; reader.feed(&header), Ok(()));
+    for _ in 0..63 {
+        assert_eq!(rt; reader.feed(&piece), Ok(()));
+    }
+    let stop = ReadStop::Refused(ReadRefusal {
+        place: 67_108_864,
+        reason: Reason::FileLimit,
+    });
+    assert_eq!(rt; reader.feed(&piece), Err(stop));
+    Ok(())
+}
+
+#[test]
+fn a_debug_part_is_passed_over(rt: HostRuntime) -> Result<(), Fail> {
+    let alloc = rt.alloc();
+    let stream = stream(alloc, Row::Debug(&[0x00, 0x89, 0xFF]))?;
+    assert_eq!(rt; stop(alloc, &stream, 1000, false)?, None);
+    assert_eq!(rt; stop(alloc, &stream, 1, false)?, None);
+    assert_eq!(rt;
+        stop(alloc, &stream, 1, true)?,
+        refused(45, Reason::NotBuilt)
+    );
+    Ok(())
+}
+
+// How many bytes wait behind a stream.
+fn pending_behind(alloc: Global, stream: &[u8]) -> Result<usize, Fail> {
+    let mut reader = Reader::new(alloc, true)?;
+    let _ = reader.feed(stream);
+    Ok(reader.pending())
+}
+
+#[test]
+fn bytes_behind_whole_records_are_pending(rt: HostRuntime) -> Result<(), Fail> {
+    let alloc = rt.alloc();
+    assert_eq!(rt; pending_behind(alloc, &[])?, 0);
+    assert_eq!(rt; pending_behind(alloc, &PROGRAM[..8])?, 8);
+    assert_eq!(rt; pending_behind(alloc, &PROGRAM[..81])?, 0);
+    assert_eq!(rt; pending_behind(alloc, &PROGRAM[..96])?, 1);
+    Ok(())
+}
+
+#[test]
+fn what_the_records_say_is_what_the_module_has(rt: HostRuntime) -> Result<(), Fail> {
+    let module = read(rt.alloc(), &PROGRAM, 5, true)?.expect(&rt, "a module");
+    let parts = format!(in rt.alloc(); "{:?}", module.parts())?;
+    assert_eq!(rt; parts.as_str(), PROGRAM_TEXT);
+    Ok(())
+}
+
+fn host(alloc: Global) -> Result<MemHost, Fail> {
+    let mut files = List::new(alloc);
+    files.push((
+        Text::from_str(alloc, "a")?,
+        Bytes::from_slice(alloc, &PLAIN)?,
+    ))?;
+    Ok(MemHost::new(alloc, files, List::new(alloc), List::new(alloc), 1000)?)
+}
+
+#[test]
+fn a_source_is_read_within_its_limit(rt: HostRuntime) -> Result<(), Fail> {
+    let alloc = rt.alloc();
+    let mut source = host(alloc)?;
+    let _ = source.open("a");
+    let stop = read_module(alloc, &mut source, 119, true);
+    assert!(rt; matches!(stop, Err(SourceStop::Limit)));
+    let mut source = host(alloc)?;
+    let _ = source.open("a");
+    let read = read_module(alloc, &mut source, 120, true);
+    assert!(rt; matches!(read, Ok((_, 120))));
+    Ok(())
+}
