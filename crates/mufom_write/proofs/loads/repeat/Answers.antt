@@ -1,0 +1,8 @@
+use Rattle.std.proofs.Common.{refl}
+use Rattle.mufom_write.proofs.loads.repeat.Goals as goal
+
+pub returns-in_err-numbered : goal.returns-in_err-numbered
+returns-in_err-numbered g c = let l = g.met.K.Output in l.stops _ _ _ _ _ _ _ c.in_err-numbered.ensures c.from_residual.ensures.0 refl
+
+pub returns : goal.returns
+returns g c = let l = g.met.K.Output in l.joins _ _ _ _ _ _ _ c.in_ok-numbered.ensures (c.repeated.ensures) refl

@@ -1,0 +1,132 @@
+//! The records of debug items.
+
+ghost use Rattle.std.specs.Prelude.{◌≡◌, ◌∷◌, ◌++◌, ◌+◌, ◌<◌, ◌^◌, false, ℕ, length, OnOk};
+ghost use Rattle.std.specs.List.{list_any};
+ghost use Rattle.mufom_debug.specs.Marks.{block_begin, block_end, name_mark, note_mark, value_mark, marks_of, marks_of_item};
+ghost use Rattle.mufom_module.specs.Written as written;
+ghost use Rattle.mufom_module.specs.Written.{shortest};
+ghost use Rattle.mufom_module.specs.Defects.{is_long, has_long_name};
+ghost use Rattle.mufom_write.specs.Writing.{names_behind_all};
+
+use crate::fields::{expression, number, numbered, numbers, string};
+use crate::names::{name_record, note};
+use crate::output::Output;
+use mufom_debug::{BlockHead, DebugItem};
+use mufom_expr::Postfix;
+use mufom_host::Failed;
+use mufom_names::Note;
+use mufom_numbers::Bytes;
+
+// Two numbers, and the expression of a block's begin.
+fn scope<K: Output>(out: &mut K, first: u64, second: u64, offset: &Postfix) -> Result<(), Failed>
+    ensures { K.takes out.old out.new (written.number shortest first ++ (written.number shortest second ++ written.expression shortest offset.now)) result }
+{
+    number(out, first)?;
+    number(out, second)?;
+    expression(out, offset)
+}
+
+// What the kind of a block adds to its begin.
+fn head_fields<K: Output>(out: &mut K, head: &BlockHead) -> Result<(), Failed>
+    ensures { K.takes out.old out.new (written.head_fields shortest head.now) result }
+{
+    match head {
+        BlockHead::Module => Ok(()),
+        BlockHead::Source { numbers: all } => numbers(out, all.as_slice()),
+        BlockHead::Global {
+            stack,
+            type_index,
+            offset,
+        } => scope(out, *stack, *type_index, offset),
+        BlockHead::Local {
+            stack,
+            type_index,
+            offset,
+        } => scope(out, *stack, *type_index, offset),
+        BlockHead::Section {
+            section_type,
+            section,
+            offset,
+        } => scope(out, *section_type, *section as u64 + 1, offset),
+    }
+}
+
+// BB, with the size 0.
+fn block_begin<K: Output>(out: &mut K, head: &BlockHead, name: &Bytes) -> Result<(), Failed>
+    requires { is_long name.now ≡ false }
+    ensures { (n : ℕ) → K.takes out.old out.new (written.debug_record shortest n (block_begin head.now name.now)) result }
+{
+    numbered(out, &[0xF8], head.kind() as u64)?;
+    number(out, 0)?;
+    string(out, name)?;
+    head_fields(out, head)
+}
+
+// The expression at the end of a block, where there is one.
+fn end_expression<K: Output>(out: &mut K, end: &Option<Postfix>) -> Result<(), Failed>
+    ensures { K.takes out.old out.new (written.end_expression shortest end.now) result }
+{
+    match end {
+        Some(value) => expression(out, value),
+        None => Ok(()),
+    }
+}
+
+// BE.
+fn block_end<K: Output>(out: &mut K, end: &Option<Postfix>) -> Result<(), Failed>
+    ensures { (n : ℕ) → K.takes out.old out.new (written.debug_record shortest n (block_end end.now)) result }
+{
+    out.put(&[0xF9])?;
+    end_expression(out, end)
+}
+
+// ASN.
+fn value_record<K: Output>(out: &mut K, name: u32, value: &Postfix) -> Result<(), Failed>
+    ensures { (n : ℕ) → K.takes out.old out.new (written.debug_record shortest n (value_mark name value.now)) result }
+{
+    numbered(out, &[0xE2, 0xCE], name as u64 + 32)?;
+    expression(out, value)
+}
+
+// An item; `names` counts the names that stand before it, and then behind it.
+#[cycle(writing)]
+fn debug_item<K: Output>(out: &mut K, item: &DebugItem, names: &mut u64) -> Result<(), Failed>
+    requires short { list_any has_long_name (marks_of_item item.now) ≡ false }
+    requires few { names.old + length (marks_of_item item.now) < 2 ^ 63 }
+    ensures takes { K.takes out.old out.new (written.debug_records shortest names.old (marks_of_item item.now)) result }
+    ensures names { OnOk result (names.new ≡ names_behind_all names.old (marks_of_item item.now)) }
+{
+    match item {
+        DebugItem::Block(block) => {
+            block_begin(out, &block.head, &block.name)?;
+            debug_items(out, block.items.as_slice(), names)?;
+            block_end(out, &block.end)
+        }
+        DebugItem::Name(name) => {
+            let index = *names + 32;
+            *names += 1;
+            name_record(out, 0xF0, index, name)
+        }
+        DebugItem::Note { name, note: its } => note(out, 0xCE, *name as u64 + 32, its),
+        DebugItem::Value { name, value } => value_record(out, *name, value),
+    }
+}
+
+/// The items, one after another; `names` counts the names that stand before them, and then behind
+/// them.
+#[cycle(writing)]
+pub(crate) fn debug_items<K: Output>(
+    out: &mut K,
+    items: &[DebugItem],
+    names: &mut u64,
+) -> Result<(), Failed>
+    requires short { list_any has_long_name (marks_of items.now) ≡ false }
+    requires few { names.old + length (marks_of items.now) < 2 ^ 63 }
+    ensures takes { K.takes out.old out.new (written.debug_records shortest names.old (marks_of items.now)) result }
+    ensures names { OnOk result (names.new ≡ names_behind_all names.old (marks_of items.now)) }
+{
+    for place in 0..items.len() {
+        debug_item(out, &items[place], names)?;
+    }
+    Ok(())
+}

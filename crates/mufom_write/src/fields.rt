@@ -1,0 +1,152 @@
+//! Numbers, strings and expressions.
+
+ghost use Rattle.std.specs.Prelude.{◌≡◌, ◌++◌, false};
+ghost use Rattle.mufom_expr.specs.Codes.{letter_byte, function_byte};
+ghost use Rattle.mufom_records.specs.Layouts.{opening, closing};
+ghost use Rattle.mufom_module.specs.Written as written;
+ghost use Rattle.mufom_module.specs.Written.{shortest};
+ghost use Rattle.mufom_module.specs.Defects.{is_long};
+
+use crate::output::Output;
+use mufom_expr::{FieldKind, Function, Letter, Postfix, Token};
+use mufom_host::Failed;
+use mufom_numbers::{Bytes, id_lead, number_spelling};
+
+/// A number.
+pub(crate) fn number<K: Output>(out: &mut K, value: u64) -> Result<(), Failed>
+    ensures { K.takes out.old out.new (written.number shortest value) result }
+{
+    out.put(number_spelling(value).as_slice())
+}
+
+/// The bytes of a command, and a number behind them.
+pub(crate) fn numbered<K: Output>(out: &mut K, command: &[u8], value: u64) -> Result<(), Failed>
+    ensures { K.takes out.old out.new (command.now ++ written.number shortest value) result }
+{
+    out.put(command)?;
+    number(out, value)
+}
+
+/// The numbers, one after another.
+pub(crate) fn numbers<K: Output>(out: &mut K, values: &[u64]) -> Result<(), Failed>
+    ensures { K.takes out.old out.new (written.numbers shortest values.now) result }
+{
+    for value in values {
+        number(out, *value)?;
+    }
+    Ok(())
+}
+
+/// A string: its lead and its bytes.
+pub(crate) fn string<K: Output>(out: &mut K, text: &Bytes) -> Result<(), Failed>
+    requires { is_long text.now ≡ false }
+    ensures { K.takes out.old out.new (written.string shortest text.now) result }
+{
+    out.put(id_lead(text.len() as u16).as_slice())?;
+    out.put(text.as_slice())
+}
+
+/// Bytes behind their number.
+pub(crate) fn counted<K: Output>(out: &mut K, bytes: &Bytes) -> Result<(), Failed>
+    ensures { K.takes out.old out.new (written.counted shortest bytes.now) result }
+{
+    number(out, bytes.len() as u64)?;
+    out.put(bytes.as_slice())
+}
+
+// ---- expressions
+
+fn letter_byte(letter: Letter) -> u8
+    ensures { result ≡ letter_byte letter }
+{
+    match letter {
+        Letter::I => 0xC9,
+        Letter::L => 0xCC,
+        Letter::P => 0xD0,
+        Letter::R => 0xD2,
+        Letter::S => 0xD3,
+        Letter::X => 0xD8,
+    }
+}
+
+fn function_byte(function: Function) -> u8
+    ensures { result ≡ function_byte function }
+{
+    match function {
+        Function::Abs => 0xA2,
+        Function::Neg => 0xA3,
+        Function::Plus => 0xA5,
+        Function::Minus => 0xA6,
+        Function::Divide => 0xA7,
+        Function::Times => 0xA8,
+        Function::Max => 0xA9,
+        Function::Min => 0xAA,
+        Function::Mod => 0xAB,
+        Function::Less => 0xAC,
+        Function::Greater => 0xAD,
+        Function::Equal => 0xAE,
+        Function::Unequal => 0xAF,
+        Function::And => 0xB0,
+        Function::Or => 0xB1,
+        Function::Xor => 0xB2,
+    }
+}
+
+// The index that the file has for the entry at this position of the letter's list.
+fn index_of(letter: Letter, position: u32) -> u64
+    ensures { result ≡ written.index_of letter position }
+{
+    match letter {
+        Letter::I => position as u64 + 32,
+        Letter::X => position as u64 + 11,
+        Letter::L => position as u64 + 1,
+        Letter::P => position as u64 + 1,
+        Letter::R => position as u64 + 1,
+        Letter::S => position as u64 + 1,
+    }
+}
+
+fn token<K: Output>(out: &mut K, token: Token) -> Result<(), Failed>
+    ensures { K.takes out.old out.new (written.token shortest token) result }
+{
+    match token {
+        Token::Number(value) => number(out, value),
+        Token::Var(letter, position) => {
+            numbered(out, &[letter_byte(letter)], index_of(letter, position))
+        }
+        Token::Fun(function) => out.put(&[function_byte(function)]),
+    }
+}
+
+/// An expression: its tokens, operands before functions.
+pub(crate) fn expression<K: Output>(out: &mut K, value: &Postfix) -> Result<(), Failed>
+    ensures { K.takes out.old out.new (written.expression shortest value.now) result }
+{
+    let tokens = value.tokens();
+    for next in tokens {
+        token(out, *next)?;
+    }
+    Ok(())
+}
+
+/// The bracket before an expression.
+pub(crate) fn opening(kind: FieldKind) -> u8
+    ensures { result ≡ opening kind }
+{
+    match kind {
+        FieldKind::Signed => 0xBA,
+        FieldKind::Unsigned => 0xBC,
+        FieldKind::Either => 0xBE,
+    }
+}
+
+/// The bracket behind an expression.
+pub(crate) fn closing(kind: FieldKind) -> u8
+    ensures { result ≡ closing kind }
+{
+    match kind {
+        FieldKind::Signed => 0xBB,
+        FieldKind::Unsigned => 0xBD,
+        FieldKind::Either => 0xBF,
+    }
+}

@@ -1,0 +1,153 @@
+//! The records of loads, and of the start.
+
+ghost use Rattle.std.specs.Prelude.{◌∷◌, ◌++◌, [], Some};
+ghost use Rattle.mufom_records.specs.Layouts.{comma, closing};
+ghost use Rattle.mufom_module.specs.Written as written;
+ghost use Rattle.mufom_module.specs.Written.{shortest, each};
+
+use crate::fields::{closing, counted, expression, number, numbered, opening};
+use crate::output::Output;
+use mufom_expr::{FieldKind, Postfix};
+use mufom_host::Failed;
+use mufom_loads::{Item, Load};
+use mufom_numbers::Bytes;
+
+// What stands behind the expression of a field: a comma, the size, and the closing bracket.
+fn field_end<K: Output>(out: &mut K, kind: FieldKind, size: u8) -> Result<(), Failed>
+    ensures { K.takes out.old out.new (comma ∷ (written.number shortest size ++ closing kind ∷ [])) result }
+{
+    numbered(out, &[0x90], size as u64)?;
+    out.put(&[closing(kind)])
+}
+
+fn field<K: Output>(out: &mut K, kind: FieldKind, value: &Postfix, size: u8) -> Result<(), Failed>
+    ensures { K.takes out.old out.new (written.field shortest kind value.now size) result }
+{
+    out.put(&[opening(kind)])?;
+    expression(out, value)?;
+    field_end(out, kind, size)
+}
+
+// An item of an LR.
+fn item<K: Output>(out: &mut K, item: &Item) -> Result<(), Failed>
+    ensures { K.takes out.old out.new (written.item shortest item.now) result }
+{
+    match item {
+        Item::Literal(bytes) => counted(out, bytes),
+        Item::Field { kind, value, size } => field(out, *kind, value, *size),
+    }
+}
+
+fn items<K: Output>(out: &mut K, items: &[Item]) -> Result<(), Failed>
+    ensures { K.takes out.old out.new (each (λ _. written.item shortest) items.now) result }
+{
+    for place in 0..items.len() {
+        item(out, &items[place])?;
+    }
+    Ok(())
+}
+
+// LD.
+fn literal_record<K: Output>(out: &mut K, bytes: &Bytes) -> Result<(), Failed>
+    ensures { K.takes out.old out.new (0xED ∷ written.counted shortest bytes.now) result }
+{
+    out.put(&[0xED])?;
+    counted(out, bytes)
+}
+
+// LR of one field.
+fn field_record<K: Output>(
+    out: &mut K,
+    kind: FieldKind,
+    value: &Postfix,
+    size: u8,
+) -> Result<(), Failed>
+    ensures { K.takes out.old out.new (0xE4 ∷ written.field shortest kind value.now size) result }
+{
+    out.put(&[0xE4])?;
+    field(out, kind, value, size)
+}
+
+// LD of a literal, or LR of a field.
+fn single<K: Output>(out: &mut K, item: &Item) -> Result<(), Failed>
+    ensures { K.takes out.old out.new (written.single shortest item.now) result }
+{
+    match item {
+        Item::Literal(bytes) => literal_record(out, bytes),
+        Item::Field { kind, value, size } => field_record(out, *kind, value, *size),
+    }
+}
+
+// LR of items.
+fn items_record<K: Output>(out: &mut K, list: &[Item]) -> Result<(), Failed>
+    ensures { K.takes out.old out.new (0xE4 ∷ each (λ _. written.item shortest) list.now) result }
+{
+    out.put(&[0xE4])?;
+    items(out, list)
+}
+
+// What is repeated: exactly one literal as LD, anything else as LR of its items.
+fn repeated<K: Output>(out: &mut K, list: &[Item]) -> Result<(), Failed>
+    ensures { K.takes out.old out.new (written.repeated shortest list.now) result }
+{
+    match list {
+        [first] => single(out, first),
+        _ => items_record(out, list),
+    }
+}
+
+// ASP.
+fn counter_record<K: Output>(out: &mut K, section: u32, value: &Postfix) -> Result<(), Failed>
+    ensures { K.takes out.old out.new (0xE2 ∷ 0xD0 ∷ (written.number shortest (written.section_index section) ++ written.expression shortest value.now)) result }
+{
+    numbered(out, &[0xE2, 0xD0], section as u64 + 1)?;
+    expression(out, value)
+}
+
+// RE, and what is repeated.
+fn repeat<K: Output>(out: &mut K, count: u64, items: &[Item]) -> Result<(), Failed>
+    ensures { K.takes out.old out.new (0xF7 ∷ (written.number shortest count ++ written.repeated shortest items.now)) result }
+{
+    numbered(out, &[0xF7], count)?;
+    repeated(out, items)
+}
+
+fn load<K: Output>(out: &mut K, load: &Load) -> Result<(), Failed>
+    ensures { K.takes out.old out.new (written.load shortest load.now) result }
+{
+    match load {
+        Load::SetSection(section) => numbered(out, &[0xE5], *section as u64 + 1),
+        Load::SetPc { section, value } => counter_record(out, *section, value),
+        Load::One(one) => single(out, one),
+        Load::Repeat { count, items } => repeat(out, *count, items.as_slice()),
+    }
+}
+
+/// The data part.
+pub(crate) fn loads<K: Output>(out: &mut K, loads: &[Load]) -> Result<(), Failed>
+    ensures { K.takes out.old out.new (each (λ _. written.load shortest) loads.now) result }
+{
+    for place in 0..loads.len() {
+        load(out, &loads[place])?;
+    }
+    Ok(())
+}
+
+// ASG, with the expression in brackets.
+fn start_record<K: Output>(out: &mut K, value: &Postfix) -> Result<(), Failed>
+    ensures { K.takes out.old out.new (written.start shortest (Some value.now)) result }
+{
+    out.put(&[0xE2, 0xC7, 0xBE])?;
+    expression(out, value)?;
+    out.put(&[0xBF])
+}
+
+/// ASG, where there is a start.
+pub(crate) fn start<K: Output>(out: &mut K, start: &Option<Postfix>) -> Result<(), Failed>
+    ensures { K.takes out.old out.new (written.start shortest start.now) result }
+{
+    match start {
+        Some(value) => start_record(out, value),
+        None => Ok(()),
+    }
+}

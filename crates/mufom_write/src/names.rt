@@ -1,0 +1,137 @@
+//! The records of publics, references and their notes.
+
+ghost use Rattle.std.specs.Prelude.{◌≡◌, ◌∷◌, ◌++◌, ◌<◌, ◌^◌, false, Some};
+ghost use Rattle.std.specs.List.{list_any};
+ghost use Rattle.mufom_module.specs.Written as written;
+ghost use Rattle.mufom_module.specs.Written.{shortest, each};
+ghost use Rattle.mufom_module.specs.Defects.{is_long};
+
+use crate::fields::{expression, number, numbered, numbers, string};
+use crate::output::Output;
+use mufom_expr::Postfix;
+use mufom_host::Failed;
+use mufom_names::{Note, Public, Reference, Weak};
+use mufom_numbers::Bytes;
+
+/// ATI, ATX or ATN, by the letter of the kind of the name.
+pub(crate) fn note<K: Output>(
+    out: &mut K,
+    letter: u8,
+    index: u64,
+    note: &Note,
+) -> Result<(), Failed>
+    ensures { K.takes out.old out.new (written.note shortest letter index note.now) result }
+{
+    numbered(out, &[0xF1, letter], index)?;
+    number(out, note.type_index)?;
+    number(out, note.attribute)?;
+    numbers(out, note.numbers.as_slice())
+}
+
+fn notes<K: Output>(out: &mut K, letter: u8, index: u64, notes: &[Note]) -> Result<(), Failed>
+    ensures { K.takes out.old out.new (each (λ _. written.note shortest letter index) notes.now) result }
+{
+    for place in 0..notes.len() {
+        note(out, letter, index, &notes[place])?;
+    }
+    Ok(())
+}
+
+// ---- publics
+
+// The bytes of a command, the index of a name, and the name: NI, NX and NN.
+pub(crate) fn name_record<K: Output>(
+    out: &mut K,
+    command: u8,
+    index: u64,
+    name: &Bytes,
+) -> Result<(), Failed>
+    requires { is_long name.now ≡ false }
+    ensures { K.takes out.old out.new (command ∷ (written.number shortest index ++ written.string shortest name.now)) result }
+{
+    numbered(out, &[command], index)?;
+    string(out, name)
+}
+
+// ASI.
+fn value_record<K: Output>(out: &mut K, index: u64, value: &Postfix) -> Result<(), Failed>
+    ensures { K.takes out.old out.new (0xE2 ∷ 0xC9 ∷ (written.number shortest index ++ written.expression shortest value.now)) result }
+{
+    numbered(out, &[0xE2, 0xC9], index)?;
+    expression(out, value)
+}
+
+fn public<K: Output>(out: &mut K, position: usize, public: &Public) -> Result<(), Failed>
+    requires short { is_long public.now.name ≡ false }
+    requires few { position < 2 ^ 63 }
+    ensures { K.takes out.old out.new (written.public shortest position public.now) result }
+{
+    let index = position as u64 + 32;
+    name_record(out, 0xE8, index, &public.name)?;
+    notes(out, 0xC9, index, public.notes.as_slice())?;
+    value_record(out, index, &public.value)
+}
+
+/// The publics of the external part.
+pub(crate) fn publics<K: Output>(out: &mut K, publics: &[Public]) -> Result<(), Failed>
+    requires { list_any (λ p. is_long p.name) publics.now ≡ false }
+    ensures { K.takes out.old out.new (each (written.public shortest) publics.now) result }
+{
+    for place in 0..publics.len() {
+        public(out, place, &publics[place])?;
+    }
+    Ok(())
+}
+
+// ---- references
+
+// The default of a weak reference, where it is not 0.
+fn default_number<K: Output>(out: &mut K, default: u64) -> Result<(), Failed>
+    ensures { K.takes out.old out.new (written.default_number shortest default) result }
+{
+    if default == 0 {
+        return Ok(());
+    }
+    number(out, default)
+}
+
+// WX.
+fn weak_record<K: Output>(out: &mut K, index: u64, weak: Weak) -> Result<(), Failed>
+    ensures { K.takes out.old out.new (written.weak shortest index (Some weak)) result }
+{
+    numbered(out, &[0xF4], index)?;
+    number(out, weak.size)?;
+    default_number(out, weak.default)
+}
+
+// WX, where the reference is weak.
+fn weak<K: Output>(out: &mut K, index: u64, weak: Option<Weak>) -> Result<(), Failed>
+    ensures { K.takes out.old out.new (written.weak shortest index weak) result }
+{
+    match weak {
+        Some(weak) => weak_record(out, index, weak),
+        None => Ok(()),
+    }
+}
+
+fn reference<K: Output>(out: &mut K, position: usize, reference: &Reference) -> Result<(), Failed>
+    requires short { is_long reference.now.name ≡ false }
+    requires few { position < 2 ^ 63 }
+    ensures { K.takes out.old out.new (written.reference shortest position reference.now) result }
+{
+    let index = position as u64 + 11;
+    name_record(out, 0xE9, index, &reference.name)?;
+    notes(out, 0xD8, index, reference.notes.as_slice())?;
+    weak(out, index, reference.weak)
+}
+
+/// The references of the external part.
+pub(crate) fn references<K: Output>(out: &mut K, references: &[Reference]) -> Result<(), Failed>
+    requires { list_any (λ r. is_long r.name) references.now ≡ false }
+    ensures { K.takes out.old out.new (each (written.reference shortest) references.now) result }
+{
+    for place in 0..references.len() {
+        reference(out, place, &references[place])?;
+    }
+    Ok(())
+}

@@ -1,0 +1,106 @@
+//! The records of sections.
+
+ghost use Rattle.std.specs.Prelude.{◌≡◌, ◌++◌, ◌<◌, ◌^◌, false};
+ghost use Rattle.std.specs.List.{list_any};
+ghost use Rattle.mufom_module.specs.Written as written;
+ghost use Rattle.mufom_module.specs.Written.{shortest, each};
+ghost use Rattle.mufom_module.specs.Defects.{is_long};
+
+use crate::fields::{number, numbered, string};
+use crate::output::Output;
+use mufom_host::Failed;
+use mufom_sections::{Purpose, Section};
+
+fn letters<K: Output>(out: &mut K, absolute: bool) -> Result<(), Failed>
+    ensures { K.takes out.old out.new (written.section_letters shortest absolute) result }
+{
+    if absolute {
+        out.put(&[0xC1, 0xD3])
+    } else {
+        out.put(&[0xC3])
+    }
+}
+
+fn purpose_letter<K: Output>(out: &mut K, purpose: Option<Purpose>) -> Result<(), Failed>
+    ensures { K.takes out.old out.new (written.purpose_letter shortest purpose) result }
+{
+    match purpose {
+        None => Ok(()),
+        Some(Purpose::Code) => out.put(&[0xD0]),
+        Some(Purpose::Data) => out.put(&[0xC4]),
+        Some(Purpose::Rom) => out.put(&[0xD2]),
+    }
+}
+
+// ST.
+fn section_record<K: Output>(out: &mut K, index: u64, section: &Section) -> Result<(), Failed>
+    requires { is_long section.now.name ≡ false }
+    ensures { K.takes out.old out.new (written.section_record shortest index section.now) result }
+{
+    numbered(out, &[0xE6], index)?;
+    letters(out, section.absolute)?;
+    purpose_letter(out, section.purpose)?;
+    string(out, &section.name)
+}
+
+// The bytes of a command, the index of a section, and a number.
+fn setting<K: Output>(out: &mut K, command: &[u8], index: u64, value: u64) -> Result<(), Failed>
+    ensures { K.takes out.old out.new (command.now ++ (written.number shortest index ++ written.number shortest value)) result }
+{
+    out.put(command)?;
+    number(out, index)?;
+    number(out, value)
+}
+
+// SA, where the alignment is not 1.
+fn alignment_record<K: Output>(out: &mut K, index: u64, align: u64) -> Result<(), Failed>
+    ensures { K.takes out.old out.new (written.alignment_record shortest index align) result }
+{
+    if align == 1 {
+        return Ok(());
+    }
+    setting(out, &[0xE7], index, align)
+}
+
+// ASS, where the size is not 0.
+fn size_record<K: Output>(out: &mut K, index: u64, size: u64) -> Result<(), Failed>
+    ensures { K.takes out.old out.new (written.size_record shortest index size) result }
+{
+    if size == 0 {
+        return Ok(());
+    }
+    setting(out, &[0xE2, 0xD3], index, size)
+}
+
+// ASL, where there is a base.
+fn base_record<K: Output>(out: &mut K, index: u64, base: Option<u64>) -> Result<(), Failed>
+    ensures { K.takes out.old out.new (written.base_record shortest index base) result }
+{
+    match base {
+        Some(base) => setting(out, &[0xE2, 0xCC], index, base),
+        None => Ok(()),
+    }
+}
+
+fn section<K: Output>(out: &mut K, position: usize, section: &Section) -> Result<(), Failed>
+    requires short { is_long section.now.name ≡ false }
+    requires few { position < 2 ^ 63 }
+    ensures { K.takes out.old out.new (written.section shortest position section.now) result }
+{
+    let index = position as u64 + 1;
+    section_record(out, index, section)?;
+    alignment_record(out, index, section.align)?;
+    size_record(out, index, section.size)?;
+    base_record(out, index, section.base)
+}
+
+/// The section part.
+pub(crate) fn sections<K: Output>(out: &mut K, sections: &[Section]) -> Result<(), Failed>
+    requires { list_any (λ s. is_long s.name) sections.now ≡ false }
+    ensures { K.takes out.old out.new (each (written.section shortest) sections.now) result }
+{
+    for place in 0..sections.len() {
+        section(out, place, &sections[place])?;
+    }
+    Ok(())
+}

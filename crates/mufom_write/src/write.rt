@@ -1,0 +1,49 @@
+ghost use Rattle.std.specs.Prelude.{◌≡◌, ◌≤◌, OnOk, OnErr};
+ghost use Rattle.mufom_host.specs.World.{MakingGrowsBy, MakingGrowsByFront, KeepsAllButMaking, KeepsAllButWrites, Rose};
+ghost use Rattle.mufom_module.specs.Written.{written};
+ghost use Rattle.mufom_module.specs.Defects.{IsValid};
+
+use crate::measure::layout_of;
+use crate::output::Output;
+use crate::parts::{all_parts, module_begin, offset_records};
+use mufom_host::{Failed, Sink};
+use mufom_module::{Module, Parts};
+use thiserror::Error;
+
+/// Why a module is not written.
+#[derive(Clone, Copy, Debug, PartialEq, Eq, Error)]
+pub enum WriteStop {
+    #[error("a write failed")]
+    Fault,
+}
+
+// The whole file, with ME at its end.
+fn write_form<K: Output>(out: &mut K, parts: &Parts) -> Result<(), Failed>
+    requires { IsValid parts.now }
+    ensures { K.takes out.old out.new (written parts.now) result }
+{
+    let layout = layout_of(parts);
+    module_begin(out, parts)?;
+    offset_records(out, &layout.offsets)?;
+    all_parts(out, parts)?;
+    out.put(&[0xE1])
+}
+
+/// Writes the written form of the module to the file being made, record by record, at least one
+/// `write` for each. Takes no memory.
+///
+/// `Fault` comes only where a write failed and the count of such faults rose; a front of the written
+/// form may then be in the file.
+pub fn write_module<K: Sink>(module: &Module, sink: &mut K) -> Result<(), WriteStop>
+    ensures whole { OnOk result (MakingGrowsBy (K.meaning sink.old).making (K.meaning sink.new).making (written «module».now)) }
+    ensures front { OnErr result (MakingGrowsByFront (K.meaning sink.old).making (K.meaning sink.new).making (written «module».now)) }
+    ensures stays { KeepsAllButMaking (K.meaning sink.old) (K.meaning sink.new) }
+    ensures later { (K.faults sink.old).writes ≤ (K.faults sink.new).writes }
+    ensures cause { OnErr result (Rose (K.faults sink.old).writes (K.faults sink.new).writes) }
+    ensures counts { KeepsAllButWrites (K.faults sink.old) (K.faults sink.new) }
+{
+    match write_form(sink, module.parts()) {
+        Ok(()) => Ok(()),
+        Err(Failed) => Err(WriteStop::Fault),
+    }
+}
