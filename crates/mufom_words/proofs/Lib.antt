@@ -1,0 +1,5 @@
+pub mod Accepted
+pub mod Apps
+pub mod Counts
+pub mod Refusals
+mod Worked

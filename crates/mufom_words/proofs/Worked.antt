@@ -1,0 +1,222 @@
+-- The answers for words that are written out.
+use Rattle.std.proofs.Common.{◌≡◌, ◌==◌, ℕ, Bool, zero, suc, true, false, length, List, [], ◌∷◌, Some, None, Result, Ok, Err, codes, refl}
+use Rattle.clap.specs.Faults.{fault_of, is_simple_and_free}
+use Rattle.clap.specs.Simple.{App, matches_of}
+use Rattle.clap.specs.declared.error.kind.ErrorKind.TheVariants as kind
+use Rattle.clap.proofs.OnLiterals.{clap_on_literals}
+use Rattle.mufom_words.specs.declared.command.Command.{Command}
+use Rattle.mufom_words.specs.declared.command.Verb.TheVariants as verb
+use Rattle.mufom_words.specs.declared.options.Setting.TheVariants as setting
+use Rattle.mufom_words.specs.declared.stop.UsageFault.TheVariants as fault
+use Rattle.mufom_words.specs.declared.stop.WordsStop.{WordsStop}
+use Rattle.mufom_words.specs.declared.stop.WordsStop.TheVariants as stop
+use Rattle.mufom_words.specs.Answer.{answer_of}
+use Rattle.mufom_words.specs.Options.{Given, Text, app_with, given_by}
+
+abbrev Answer : Type 0
+Answer = Result Command WordsStop
+
+-- ---- no command
+
+no_word : answer_of [] ≡ Err (stop.Usage fault.NoCommand)
+no_word = refl
+
+another_word : answer_of (codes "dmup" ∷ codes "a" ∷ []) ≡ Err (stop.Usage fault.NoCommand)
+another_word = refl
+
+help_is_no_command : answer_of (codes "--help" ∷ []) ≡ Err (stop.Usage fault.NoCommand)
+help_is_no_command = refl
+
+-- ---- options
+
+flag : answer_of (codes "show" ∷ codes "--no-debug" ∷ codes "a" ∷ []) ≡ Ok (record { verb = verb.Show; no_debug = true; files = codes "a" ∷ [] })
+unfolding clap_on_literals
+flag = refl
+
+flag_behind_files : answer_of (codes "check" ∷ codes "a" ∷ codes "b" ∷ codes "--no-debug" ∷ []) ≡ Ok (record { verb = verb.Check; no_debug = true; files = codes "a" ∷ codes "b" ∷ [] })
+unfolding clap_on_literals
+flag_behind_files = refl
+
+flag_between_files : answer_of (codes "check" ∷ codes "a" ∷ codes "--no-debug" ∷ codes "b" ∷ []) ≡ Ok (record { verb = verb.Check; no_debug = true; files = codes "a" ∷ codes "b" ∷ [] })
+unfolding clap_on_literals
+flag_between_files = refl
+
+no_flag : answer_of (codes "dump" ∷ codes "a" ∷ []) ≡ Ok (record { verb = verb.Dump; no_debug = false; files = codes "a" ∷ [] })
+unfolding clap_on_literals
+no_flag = refl
+
+options_end : answer_of (codes "check" ∷ codes "--" ∷ codes "-x" ∷ codes "--no-debug" ∷ []) ≡ Ok (record { verb = verb.Check; no_debug = false; files = codes "-x" ∷ codes "--no-debug" ∷ [] })
+unfolding clap_on_literals
+options_end = refl
+
+options_end_once : answer_of (codes "check" ∷ codes "--" ∷ codes "--" ∷ []) ≡ Ok (record { verb = verb.Check; no_debug = false; files = codes "--" ∷ [] })
+unfolding clap_on_literals
+options_end_once = refl
+
+dash : answer_of (codes "show" ∷ codes "-" ∷ []) ≡ Ok (record { verb = verb.Show; no_debug = false; files = codes "-" ∷ [] })
+unfolding clap_on_literals
+dash = refl
+
+help_is_a_file : answer_of (codes "show" ∷ codes "help" ∷ []) ≡ Ok (record { verb = verb.Show; no_debug = false; files = codes "help" ∷ [] })
+unfolding clap_on_literals
+help_is_a_file = refl
+
+unknown_option : answer_of (codes "check" ∷ codes "-x" ∷ []) ≡ Err (stop.Usage fault.BadWords)
+unfolding clap_on_literals
+unknown_option = refl
+
+no_help : answer_of (codes "show" ∷ codes "--help" ∷ codes "a" ∷ []) ≡ Err (stop.Usage fault.BadWords)
+unfolding clap_on_literals
+no_help = refl
+
+front_of_an_option : answer_of (codes "show" ∷ codes "--no-deb" ∷ codes "a" ∷ []) ≡ Err (stop.Usage fault.BadWords)
+unfolding clap_on_literals
+front_of_an_option = refl
+
+flag_with_a_value : answer_of (codes "show" ∷ codes "--no-debug=true" ∷ codes "a" ∷ []) ≡ Err (stop.Usage fault.BadWords)
+unfolding clap_on_literals
+flag_with_a_value = refl
+
+twice : answer_of (codes "show" ∷ codes "--no-debug" ∷ codes "--no-debug" ∷ codes "a" ∷ []) ≡ Err (stop.Usage fault.BadWords)
+unfolding clap_on_literals
+twice = refl
+
+dump_has_no_option : answer_of (codes "dump" ∷ codes "--no-debug" ∷ codes "a" ∷ []) ≡ Err (stop.Usage fault.BadWords)
+unfolding clap_on_literals
+dump_has_no_option = refl
+
+-- ---- files
+
+show_without_file : answer_of (codes "show" ∷ []) ≡ Err (stop.Usage fault.NoFile)
+unfolding clap_on_literals
+show_without_file = refl
+
+check_without_file : answer_of (codes "check" ∷ codes "--no-debug" ∷ []) ≡ Err (stop.Usage fault.NoFile)
+unfolding clap_on_literals
+check_without_file = refl
+
+dump_without_file : answer_of (codes "dump" ∷ []) ≡ Err (stop.Usage fault.NoFile)
+unfolding clap_on_literals
+dump_without_file = refl
+
+show_two_files : answer_of (codes "show" ∷ codes "a" ∷ codes "b" ∷ []) ≡ Err (stop.Usage fault.FileCount)
+unfolding clap_on_literals
+show_two_files = refl
+
+dump_two_files : answer_of (codes "dump" ∷ codes "a" ∷ codes "a" ∷ []) ≡ Err (stop.Usage fault.FileCount)
+unfolding clap_on_literals
+dump_two_files = refl
+
+bracket : answer_of (codes "show" ∷ codes "]" ∷ []) ≡ Err (stop.Usage fault.StrayBracket)
+unfolding clap_on_literals
+bracket = refl
+
+open_bracket : answer_of (codes "dump" ∷ codes "[" ∷ codes "a" ∷ codes "]" ∷ []) ≡ Err (stop.Usage fault.StrayBracket)
+unfolding clap_on_literals
+open_bracket = refl
+
+plus : answer_of (codes "check" ∷ codes "+" ∷ []) ≡ Err (stop.Usage fault.BadMembers)
+unfolding clap_on_literals
+plus = refl
+
+empty_name : answer_of (codes "show" ∷ [] ∷ []) ≡ Ok (record { verb = verb.Show; no_debug = false; files = [] ∷ [] })
+unfolding clap_on_literals
+empty_name = refl
+
+-- ---- the order of faults
+
+option_before_bracket : answer_of (codes "check" ∷ codes "]" ∷ codes "-x" ∷ []) ≡ Err (stop.Usage fault.BadWords)
+unfolding clap_on_literals
+option_before_bracket = refl
+
+bracket_before_plus : answer_of (codes "check" ∷ codes "a" ∷ codes "[" ∷ codes "+" ∷ []) ≡ Err (stop.Usage fault.StrayBracket)
+unfolding clap_on_literals
+bracket_before_plus = refl
+
+plus_before_bracket : answer_of (codes "check" ∷ codes "+" ∷ codes "]" ∷ []) ≡ Err (stop.Usage fault.BadMembers)
+unfolding clap_on_literals
+plus_before_bracket = refl
+
+bracket_before_count : answer_of (codes "show" ∷ codes "a" ∷ codes "b" ∷ codes "]" ∷ []) ≡ Err (stop.Usage fault.StrayBracket)
+unfolding clap_on_literals
+bracket_before_count = refl
+
+bracket_behind_options_end : answer_of (codes "check" ∷ codes "--" ∷ codes "[" ∷ []) ≡ Err (stop.Usage fault.StrayBracket)
+unfolding clap_on_literals
+bracket_behind_options_end = refl
+
+-- ---- the limit
+
+abbrev repeated : ℕ → Text → List Text
+repeated zero word = []
+repeated (suc n) word = word ∷ repeated n word
+
+too_many_files : answer_of (codes "check" ∷ repeated 1025 (codes "a")) ≡ Err (stop.TooManyFiles 1025)
+unfolding clap_on_literals
+too_many_files = refl
+
+-- the last of as many as may be
+abbrev last_counts : Answer → Bool
+last_counts (Ok command) = length command.files == 1024
+last_counts (Err s) = false
+
+most_files_pass : last_counts (answer_of (codes "check" ∷ repeated 1024 (codes "a"))) ≡ true
+unfolding clap_on_literals
+most_files_pass = refl
+
+count_before_limit : answer_of (codes "show" ∷ repeated 1025 (codes "a")) ≡ Err (stop.Usage fault.FileCount)
+unfolding clap_on_literals
+count_before_limit = refl
+
+-- ---- options that the commands above have not
+
+abbrev linking : App
+linking = app_with (codes "link") (setting.NoDebug ∷ setting.Name ∷ setting.Out ∷ [])
+
+abbrev locating : App
+locating = app_with (codes "locate") (setting.NoDebug ∷ setting.Plan ∷ setting.Out ∷ [])
+
+linking_is_simple : is_simple_and_free linking ≡ true
+linking_is_simple = refl
+
+locating_is_simple : is_simple_and_free locating ≡ true
+locating_is_simple = refl
+
+abbrev given_to : App → List Text → Given
+given_to app words = given_by (matches_of app words)
+
+linked : given_to linking (codes "link" ∷ codes "-oc" ∷ codes "a" ∷ codes "[" ∷ codes "b" ∷ codes "--no-debug" ∷ codes "]" ∷ codes "--" ∷ codes "+" ∷ codes "-m" ∷ [])
+    ≡ record { no_debug = true; name = None; plan = None; out = Some (codes "c"); files = codes "a" ∷ codes "[" ∷ codes "b" ∷ codes "]" ∷ codes "+" ∷ codes "-m" ∷ [] }
+unfolding clap_on_literals
+linked = refl
+
+named : given_to linking (codes "link" ∷ codes "a" ∷ codes "--name=n" ∷ codes "-o" ∷ codes "-" ∷ [])
+    ≡ record { no_debug = false; name = Some (codes "n"); plan = None; out = Some (codes "-"); files = codes "a" ∷ [] }
+unfolding clap_on_literals
+named = refl
+
+planned : given_to locating (codes "locate" ∷ codes "--plan" ∷ codes "p" ∷ codes "-o=c" ∷ codes "a" ∷ [])
+    ≡ record { no_debug = false; name = None; plan = Some (codes "p"); out = Some (codes "c"); files = codes "a" ∷ [] }
+unfolding clap_on_literals
+planned = refl
+
+empty_values : given_to locating (codes "locate" ∷ codes "--plan=" ∷ codes "-o" ∷ [] ∷ codes "a" ∷ [])
+    ≡ record { no_debug = false; name = None; plan = Some []; out = Some []; files = codes "a" ∷ [] }
+unfolding clap_on_literals
+empty_values = refl
+
+empty_values_pass : fault_of locating (codes "locate" ∷ codes "--plan=" ∷ codes "-o" ∷ [] ∷ codes "a" ∷ []) ≡ []
+unfolding clap_on_literals
+empty_values_pass = refl
+
+no_out : fault_of locating (codes "locate" ∷ codes "a" ∷ []) ≡ kind.MissingRequiredArgument ∷ []
+unfolding clap_on_literals
+no_out = refl
+
+plan_twice : fault_of locating (codes "locate" ∷ codes "--plan" ∷ codes "p" ∷ codes "--plan=q" ∷ codes "-oc" ∷ codes "a" ∷ []) ≡ kind.ArgumentConflict ∷ []
+unfolding clap_on_literals
+plan_twice = refl
+
+no_value : fault_of locating (codes "locate" ∷ codes "a" ∷ codes "-o" ∷ []) ≡ kind.InvalidValue ∷ []
+unfolding clap_on_literals
+no_value = refl

@@ -1,0 +1,58 @@
+//! The options of each command, as a command of `clap`.
+
+ghost use Rattle.std.specs.Prelude.{◌≡◌, IfOk, false};
+ghost use Rattle.clap.specs.Simple.{app_of};
+ghost use Rattle.clap.specs.Walk.{rule_of};
+ghost use Rattle.mufom_words.specs.Options.{app_for, files_rule, rule_for};
+
+use crate::command::Verb;
+use clap::{Arg, ArgAction};
+use std::alloc::{AllocError, Global};
+
+/// What an option sets.
+#[derive(Clone, Copy, Debug, PartialEq, Eq)]
+pub(crate) enum Setting {
+    /// `--no-debug`
+    NoDebug,
+    /// `--name NAME`
+    Name,
+    /// `--plan PLAN`
+    Plan,
+    /// `-o OUT`, which must stand.
+    Out,
+}
+
+// The option that sets this.
+fn option_of<'a>(alloc: Global, setting: Setting) -> Arg<'a>
+    ensures rule { rule_of result ≡ rule_for setting }
+    ensures local { result.global ≡ false }
+{
+    match setting {
+        Setting::NoDebug => Arg::new(alloc, "no_debug")
+            .long("no-debug")
+            .action(ArgAction::SetTrue),
+        Setting::Name => Arg::new(alloc, "name").long("name"),
+        Setting::Plan => Arg::new(alloc, "plan").long("plan"),
+        Setting::Out => Arg::new(alloc, "out").short('o').required(true),
+    }
+}
+
+// All words that are no option.
+fn files<'a>(alloc: Global) -> Arg<'a>
+    ensures rule { rule_of result ≡ files_rule }
+    ensures local { result.global ≡ false }
+{
+    Arg::new(alloc, "files").action(ArgAction::Append)
+}
+
+/// The command of `clap` that reads the words of a verb. It has no help option.
+pub(crate) fn command_of<'a>(alloc: Global, verb: Verb) -> Result<clap::Command<'a>, AllocError>
+    ensures { IfOk result (λ command. app_of command ≡ app_for verb) }
+{
+    let name: &'a str = verb.name();
+    let mut command = clap::Command::new(alloc, name).disable_help_flag(true);
+    for setting in verb.settings() {
+        command = command.arg(option_of(alloc, *setting))?;
+    }
+    command.arg(files(alloc))
+}

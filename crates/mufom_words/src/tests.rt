@@ -1,0 +1,202 @@
+ghost use Rattle.std.specs.Prelude.{◌<◌, ◌^◌, IfOk, length, vec_len};
+
+use crate::{Command, UsageFault, Verb, WordsStop, read_words};
+use std::alloc::Global;
+use std::process::Abort;
+use std::test::Fail;
+
+fn words(alloc: Global, words: &[&str]) -> Result<Vec<String>, Fail>
+    requires { length words.now < 2 ^ 32 }
+    ensures { IfOk result (λ list. vec_len list < 2 ^ 32) }
+{
+    let mut list = Vec::new(alloc);
+    for word in words {
+        list.push(word.to_string(alloc)?)?;
+    }
+    Ok(list)
+}
+
+fn command(alloc: Global, line: &[&str]) -> Result<Command, Fail>
+    requires { length line.now < 2 ^ 32 }
+{
+    let words = words(alloc, line)?;
+    read_words(alloc, words.as_slice()).map_err(|_| Fail::from("the words are a command"))
+}
+
+// Why the words are no command.
+fn stop(alloc: Global, line: &[&str]) -> Result<Option<WordsStop>, Fail>
+    requires { length line.now < 2 ^ 32 }
+{
+    let words = words(alloc, line)?;
+    match read_words(alloc, words.as_slice()) {
+        Ok(_) => Ok(None),
+        Err(stop) => Ok(Some(stop)),
+    }
+}
+
+fn gives(
+    rt: &impl Abort,
+    alloc: Global,
+    line: &[&str],
+    verb: Verb,
+    no_debug: bool,
+    files: &[&str],
+) -> Result<(), Fail>
+    requires { length line.now < 2 ^ 32 }
+{
+    let command = command(alloc, line)?;
+    assert_eq!(rt; command.verb, verb);
+    assert_eq!(rt; command.no_debug, no_debug);
+    assert_eq!(rt; command.files.len(), files.len());
+    for (name, file) in command.files.as_slice().iter().zip(files) {
+        assert_eq!(rt; name.as_str(), *file);
+    }
+    Ok(())
+}
+
+fn fails(rt: &impl Abort, alloc: Global, line: &[&str], fault: UsageFault) -> Result<(), Fail>
+    requires { length line.now < 2 ^ 32 }
+{
+    assert_eq!(rt; stop(alloc, line)?, Some(WordsStop::Usage(fault)));
+    Ok(())
+}
+
+#[test]
+fn commands_have_their_files_in_order(rt: HostRuntime) -> Result<(), Fail> {
+    let alloc = rt.alloc();
+    gives(&rt, alloc, &["show", "a"], Verb::Show, false, &["a"])?;
+    gives(&rt, alloc, &["dump", "a"], Verb::Dump, false, &["a"])?;
+    gives(
+        &rt,
+        alloc,
+        &["check", "b", "a", "b"],
+        Verb::Check,
+        false,
+        &["b", "a", "b"],
+    )
+}
+
+#[test]
+fn an_option_stands_before_between_and_behind_files(rt: HostRuntime) -> Result<(), Fail> {
+    let alloc = rt.alloc();
+    gives(
+        &rt,
+        alloc,
+        &["show", "--no-debug", "a"],
+        Verb::Show,
+        true,
+        &["a"],
+    )?;
+    gives(
+        &rt,
+        alloc,
+        &["check", "a", "--no-debug", "b"],
+        Verb::Check,
+        true,
+        &["a", "b"],
+    )?;
+    gives(
+        &rt,
+        alloc,
+        &["check", "a", "b", "--no-debug"],
+        Verb::Check,
+        true,
+        &["a", "b"],
+    )
+}
+
+#[test]
+fn two_dashes_end_the_options_and_one_names_a_file(rt: HostRuntime) -> Result<(), Fail> {
+    let alloc = rt.alloc();
+    gives(
+        &rt,
+        alloc,
+        &["check", "--", "--no-debug", "-x"],
+        Verb::Check,
+        false,
+        &["--no-debug", "-x"],
+    )?;
+    gives(
+        &rt,
+        alloc,
+        &["check", "-", "a"],
+        Verb::Check,
+        false,
+        &["-", "a"],
+    )?;
+    gives(&rt, alloc, &["show", "help"], Verb::Show, false, &["help"])?;
+    gives(&rt, alloc, &["show", ""], Verb::Show, false, &[""])
+}
+
+#[test]
+fn words_without_a_command_are_refused(rt: HostRuntime) -> Result<(), Fail> {
+    let alloc = rt.alloc();
+    fails(&rt, alloc, &[], UsageFault::NoCommand)?;
+    fails(&rt, alloc, &["dmup", "a"], UsageFault::NoCommand)?;
+    fails(&rt, alloc, &["--help"], UsageFault::NoCommand)?;
+    fails(&rt, alloc, &["Show", "a"], UsageFault::NoCommand)
+}
+
+#[test]
+fn options_that_a_command_has_not_are_refused(rt: HostRuntime) -> Result<(), Fail> {
+    let alloc = rt.alloc();
+    fails(&rt, alloc, &["check", "-x"], UsageFault::BadWords)?;
+    fails(&rt, alloc, &["show", "--help"], UsageFault::BadWords)?;
+    fails(&rt, alloc, &["show", "-h", "a"], UsageFault::BadWords)?;
+    fails(
+        &rt,
+        alloc,
+        &["dump", "--no-debug", "a"],
+        UsageFault::BadWords,
+    )?;
+    fails(
+        &rt,
+        alloc,
+        &["show", "--no-debug=true", "a"],
+        UsageFault::BadWords,
+    )?;
+    fails(
+        &rt,
+        alloc,
+        &["show", "--no-debug", "a", "--no-debug"],
+        UsageFault::BadWords,
+    )
+}
+
+#[test]
+fn words_that_name_no_file_are_refused(rt: HostRuntime) -> Result<(), Fail> {
+    let alloc = rt.alloc();
+    fails(&rt, alloc, &["dump"], UsageFault::NoFile)?;
+    fails(&rt, alloc, &["show"], UsageFault::NoFile)?;
+    fails(&rt, alloc, &["check", "--"], UsageFault::NoFile)?;
+    fails(&rt, alloc, &["show", "]"], UsageFault::StrayBracket)?;
+    fails(&rt, alloc, &["check", "+"], UsageFault::BadMembers)?;
+    fails(&rt, alloc, &["show", "a", "b"], UsageFault::FileCount)?;
+    fails(&rt, alloc, &["dump", "a", "b"], UsageFault::FileCount)
+}
+
+#[test]
+fn the_first_fault_is_answered(rt: HostRuntime) -> Result<(), Fail> {
+    let alloc = rt.alloc();
+    fails(&rt, alloc, &["check", "]", "-x"], UsageFault::BadWords)?;
+    fails(&rt, alloc, &["check", "+", "["], UsageFault::BadMembers)?;
+    fails(
+        &rt,
+        alloc,
+        &["check", "a", "[", "+"],
+        UsageFault::StrayBracket,
+    )?;
+    fails(&rt, alloc, &["dump", "a", "b", "+"], UsageFault::BadMembers)
+}
+
+#[test]
+fn files_are_at_most_1024(rt: HostRuntime) -> Result<(), Fail> {
+    let alloc = rt.alloc();
+    let mut line = ["a"; 1026];
+    line[0] = "check";
+    let most = command(alloc, &line[..1025])?;
+    assert_eq!(rt; most.files.len(), 1024);
+    assert_eq!(rt; stop(alloc, &line)?, Some(WordsStop::TooManyFiles(1025)));
+    line[0] = "show";
+    fails(&rt, alloc, &line, UsageFault::FileCount)
+}
