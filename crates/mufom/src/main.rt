@@ -4,6 +4,8 @@
 //! It stands on `mufom_command`, whose contract says what every answer means, and on `mufom_host`.
 #![tactic(auto)]
 
+ghost use Rattle.std.specs.Prelude.{◌<◌, ◌^◌, IfOk, vec_len};
+
 use mufom_command::run;
 use mufom_host::RealHost;
 use std::env;
@@ -17,7 +19,9 @@ const BAD_WORDS: u8 = 2;
 const NO_MEMORY: u8 = 5;
 
 // The command line's words without the program's name, or the status where they can't be had.
-fn words(rt: &HostRuntime) -> Result<Vec<String>, u8> {
+fn words(rt: &HostRuntime) -> Result<Vec<String>, u8>
+    ensures { IfOk result (λ words. vec_len words < 2 ^ 32) }
+{
     let mut arguments = match env::args(rt) {
         Ok(arguments) => arguments,
         Err(error) if error.kind() == ErrorKind::OutOfMemory => return Err(NO_MEMORY),

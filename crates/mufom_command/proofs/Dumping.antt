@@ -5,7 +5,7 @@ use Rattle.mufom_host.specs.World.{Faults, Meaning, NamedFile, GrowsBy, GrowsByF
 use Rattle.mufom_command.specs.declared.outcome.Outcome.{Outcome}
 use Rattle.mufom_command.specs.declared.outcome.Outcome.TheVariants as outcome
 use Rattle.mufom_command.specs.declared.outcome.Refusal.TheVariants as why
-use Rattle.mufom_command.specs.declared.outcome.ReadRefusal.{ReadRefusal}
+use Rattle.mufom_read.specs.declared.refusal.ReadRefusal.{ReadRefusal}
 use Rattle.mufom_command.specs.Plain.{BeginsModule, HasBadHeader, Image, IsPlainModule, Refuses, most_bytes}
 use Rattle.mufom_command.specs.Run.{Dumps, FileHas, IsEnoughOf}
 use Rattle.mufom_command.specs.Text.{dump_text}

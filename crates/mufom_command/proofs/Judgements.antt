@@ -1,7 +1,7 @@
 -- Each file has one judgement.
 use Rattle.std.proofs.Common.{◌≡◌, ℕ, ◌%◌, ◌^◌, List, [], ◌∷◌, ◌++◌, refl, sym, ap, subst, ◌∙◌, inl, inr, arith}
 use Rattle.mufom_command.specs.declared.fields.Stop.TheVariants.{More}
-use Rattle.mufom_command.specs.declared.outcome.ReadRefusal.{ReadRefusal}
+use Rattle.mufom_read.specs.declared.refusal.ReadRefusal.{ReadRefusal}
 use Rattle.mufom_command.specs.Plain.{BeginsModule, Chain, Image, IsChain, IsCutOffChain, IsPlainModule, Refuses, as_image}
 use Rattle.mufom_command.proofs.Exact.{same_value}
 use Rattle.mufom_command.proofs.ChainLaws.{plain_is_read, read, stopped}

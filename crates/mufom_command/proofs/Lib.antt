@@ -9,3 +9,6 @@ pub mod Lengths
 pub mod Dumping
 pub mod Telling
 pub mod Judgements
+pub mod LineLaws
+pub mod InputLaws
+pub mod Verdicts

@@ -1,13 +1,15 @@
 -- An answer, and the complaint behind it.
-use Rattle.std.proofs.Common.{◌≡◌, ◌⊎◌, ℕ, List, [], ◌∷◌, Option, OnSome, sym, ap, subst, ◌∙◌, inl, inr}
+use Rattle.std.proofs.Common.{◌≡◌, ℕ, List, [], ◌∷◌, length, take, Option, IfSome, OnSome, sym, ap, subst, ◌∙◌, inl, inr}
 use Rattle.mufom_host.specs.World.{Faults, Meaning, GrowsBy, GrowsByFront, KeepsAllButComplaints, KeepsAllButErr, Rose}
 use Rattle.mufom_command.specs.declared.outcome.Input.TheVariants as input
 use Rattle.mufom_command.specs.declared.outcome.Outcome.{Outcome}
 use Rattle.mufom_command.specs.declared.outcome.Outcome.TheVariants as outcome
 use Rattle.mufom_command.specs.declared.outcome.Refusal.TheVariants as refusal
 use Rattle.mufom_command.specs.Plain.{Image, IsPlainModule}
-use Rattle.mufom_command.specs.Text.{dump_text}
-use Rattle.mufom_command.specs.Run.{Answers, Dumps, FileHas, MayLackMemory}
+use Rattle.mufom_command.specs.Inputs.{ComeTo, accepted}
+use Rattle.mufom_command.specs.Text.{check_text, dump_text}
+use Rattle.mufom_command.specs.Run.{Answers, Checks, Dumps, FileHas, IsOpenedCount, IsToldAs, MayLackMemory, OpensFront, stop_answer}
+use Rattle.mufom_module.specs.declared.module.Parts.{Parts}
 
 module _ (name : List ℕ) (old mid new : Meaning) (before between now : Faults) (stays : KeepsAllButErr mid new) (counts : KeepsAllButComplaints between now) where
   out_same : mid.out ≡ new.out
@@ -23,6 +25,8 @@ module _ (name : List ℕ) (old mid new : Meaning) (before between now : Faults)
   pub dumps_then_told : (o : Outcome) → Dumps name old mid before between o → Dumps name old new before now o
   dumps_then_told outcome.Done d = subst (λ (out : Option (List ℕ)). FileHas name old.files (λ bytes. (image : Image) × IsPlainModule image bytes × GrowsBy old.out out (dump_text image))) out_same d
   dumps_then_told (outcome.Refused (refusal.Read i r)) d = (d.0, d.1, sym out_same ∙ d.2)
+  dumps_then_told (outcome.Refused (refusal.InputLimit i)) d = absurd d
+  dumps_then_told (outcome.Refused (refusal.TooManyFiles count)) d = absurd d
   dumps_then_told (outcome.Usage f) d = absurd d
   dumps_then_told (outcome.ReadFault (input.File i)) d = (d.0, subst (λ (n : ℕ). Rose before.reads n) reads_same d.1, sym out_same ∙ d.2)
   dumps_then_told outcome.WriteFault d =
@@ -33,6 +37,8 @@ module _ (name : List ℕ) (old mid new : Meaning) (before between now : Faults)
   pub dumps_without_memory : (o : Outcome) → MayLackMemory o → Dumps name old mid before between o → Dumps name old new before now outcome.NoMemory
   dumps_without_memory outcome.Done may d = absurd may
   dumps_without_memory (outcome.Refused (refusal.Read i r)) may d = sym out_same ∙ d.2
+  dumps_without_memory (outcome.Refused (refusal.InputLimit i)) may d = absurd d
+  dumps_without_memory (outcome.Refused (refusal.TooManyFiles count)) may d = absurd d
   dumps_without_memory (outcome.Usage f) may d = absurd may
   dumps_without_memory (outcome.ReadFault (input.File i)) may d = sym out_same ∙ d.2
   dumps_without_memory outcome.WriteFault may d = absurd may
@@ -41,25 +47,78 @@ module _ (name : List ℕ) (old mid new : Meaning) (before between now : Faults)
   opened_then_told : OnSome mid.opened (GrowsBy old.opened mid.opened (name ∷ [])) → OnSome new.opened (GrowsBy old.opened new.opened (name ∷ []))
   opened_then_told names = subst (λ (o : Option (List (List ℕ))). OnSome o (GrowsBy old.opened o (name ∷ []))) (sym (ap (λ (m : Meaning). m.opened) stays)) names
 
-pub answers_then_told : (words : List (List ℕ)) (old mid new : Meaning) (before between now : Faults) (o result : Outcome) → KeepsAllButErr mid new → KeepsAllButComplaints between now
-    → (result ≡ o) ⊎ ((result ≡ outcome.NoMemory) × MayLackMemory o) → Answers words old mid before between o → Answers words old new before now result
-answers_then_told words old mid new before between now o result stays counts (inl same) (inl usage) =
-    inl (record {
-      fault = (usage.fault.0, same ∙ usage.fault.1, usage.fault.2);
-      kept = stays ∙ ap (λ (m : Meaning). record m { err = new.err }) usage.kept;
-    })
-answers_then_told words old mid new before between now o result stays counts (inr lack) (inl usage) = absurd (subst (λ (x : Outcome). MayLackMemory x) usage.fault.1 lack.1)
-answers_then_told words old mid new before between now o result stays counts (inl same) (inr dump) =
-    inr (record {
-      name = dump.name;
-      named = dump.named;
-      answer = subst (λ (x : Outcome). Dumps dump.name old new before now x) (sym same) (dumps_then_told dump.name old mid new before between now stays counts o dump.answer);
-      opened = opened_then_told dump.name old mid new before between now stays counts dump.opened;
-    })
-answers_then_told words old mid new before between now o result stays counts (inr lack) (inr dump) =
-    inr (record {
-      name = dump.name;
-      named = dump.named;
-      answer = subst (λ (x : Outcome). Dumps dump.name old new before now x) (sym lack.0) (dumps_without_memory dump.name old mid new before between now stays counts o lack.1 dump.answer);
-      opened = opened_then_told dump.name old mid new before between now stays counts dump.opened;
-    })
+module _ (names : List (List ℕ)) (old mid new : Meaning) (before between now : Faults) (stays : KeepsAllButErr mid new) (counts : KeepsAllButComplaints between now) where
+  checks_out_same : mid.out ≡ new.out
+  checks_out_same = sym (ap (λ (m : Meaning). m.out) stays)
+
+  -- so of the answer to `check`
+  pub checks_then_told : (o : Outcome) → Checks names old mid before between o → Checks names old new before now o
+  checks_then_told outcome.Done d = subst (λ (out : Option (List ℕ)). IfSome old.files (λ files. (ms : List Parts) × ComeTo files names (accepted ms) × GrowsBy old.out out (check_text ms))) checks_out_same d
+  checks_then_told (outcome.Refused (refusal.Read i r)) d = (d.0, sym checks_out_same ∙ d.1)
+  checks_then_told (outcome.Refused (refusal.InputLimit i)) d = (d.0, sym checks_out_same ∙ d.1)
+  checks_then_told (outcome.Refused (refusal.TooManyFiles count)) d = absurd d
+  checks_then_told (outcome.Usage f) d = absurd d
+  checks_then_told (outcome.ReadFault (input.File i)) d = (subst (λ (n : ℕ). Rose before.reads n) (sym (ap (λ (f : Faults). f.reads) counts)) d.0, d.1, sym checks_out_same ∙ d.2)
+  checks_then_told outcome.WriteFault d = (
+    subst (λ (n : ℕ). Rose before.writes n) (sym (ap (λ (f : Faults). f.writes) counts)) d.0,
+    subst (λ (out : Option (List ℕ)). IfSome old.files (λ files. (ms : List Parts) × ComeTo files names (accepted ms) × GrowsByFront old.out out (check_text ms))) checks_out_same d.1,
+  )
+  checks_then_told outcome.NoMemory d = sym checks_out_same ∙ d
+
+  pub checks_without_memory : (o : Outcome) → MayLackMemory o → Checks names old mid before between o → Checks names old new before now outcome.NoMemory
+  checks_without_memory outcome.Done may d = absurd may
+  checks_without_memory (outcome.Refused (refusal.Read i r)) may d = sym checks_out_same ∙ d.1
+  checks_without_memory (outcome.Refused (refusal.InputLimit i)) may d = sym checks_out_same ∙ d.1
+  checks_without_memory (outcome.Refused (refusal.TooManyFiles count)) may d = absurd d
+  checks_without_memory (outcome.Usage f) may d = absurd may
+  checks_without_memory (outcome.ReadFault (input.File i)) may d = sym checks_out_same ∙ d.2
+  checks_without_memory outcome.WriteFault may d = absurd may
+  checks_without_memory outcome.NoMemory may d = absurd may
+
+  pub front_then_told : (o result : Outcome) → IsToldAs o result → OpensFront names old mid o → OpensFront names old new result
+  front_then_told o result told front = record {
+    count = front.count;
+    exact = counted o result told front.count front.exact;
+    within = front.within;
+    opened = subst (λ (names_now : Option (List (List ℕ))). OnSome names_now (GrowsBy old.opened names_now (take front.count names))) (sym (ap (λ (m : Meaning). m.opened) stays)) front.opened;
+  } where
+    counted : (o result : Outcome) → IsToldAs o result → (count : ℕ) → IsOpenedCount (length names) o count → IsOpenedCount (length names) result count
+    counted o result (inl same) count exact = subst (λ (x : Outcome). IsOpenedCount (length names) x count) (sym same) exact
+    counted o result (inr lack) count exact = subst (λ (x : Outcome). IsOpenedCount (length names) x count) (sym lack.0) tt
+
+-- told of what was told is told of the first
+told_twice : (a o result : Outcome) → IsToldAs a o → IsToldAs o result → IsToldAs a result
+told_twice a o result (inl first) (inl second) = inl (second ∙ first)
+told_twice a o result (inl first) (inr lack) = inr (lack.0, subst (λ (x : Outcome). MayLackMemory x) first lack.1)
+told_twice a o result (inr lack) (inl second) = inr (second ∙ lack.0, lack.1)
+told_twice a o result (inr lack) (inr again) = inr (again.0, lack.1)
+
+module _ (words : List (List ℕ)) (old mid new : Meaning) (before between now : Faults) (o result : Outcome) (stays : KeepsAllButErr mid new) (counts : KeepsAllButComplaints between now) where
+  dump_answer : (name : List ℕ) → IsToldAs o result → Dumps name old mid before between o → Dumps name old new before now result
+  dump_answer name (inl same) d = subst (λ (x : Outcome). Dumps name old new before now x) (sym same) (dumps_then_told name old mid new before between now stays counts o d)
+  dump_answer name (inr lack) d = subst (λ (x : Outcome). Dumps name old new before now x) (sym lack.0) (dumps_without_memory name old mid new before between now stays counts o lack.1 d)
+
+  check_answer : (names : List (List ℕ)) → IsToldAs o result → Checks names old mid before between o → Checks names old new before now result
+  check_answer names (inl same) d = subst (λ (x : Outcome). Checks names old new before now x) (sym same) (checks_then_told names old mid new before between now stays counts o d)
+  check_answer names (inr lack) d = subst (λ (x : Outcome). Checks names old new before now x) (sym lack.0) (checks_without_memory names old mid new before between now stays counts o lack.1 d)
+
+  pub answers_then_told : IsToldAs o result → Answers words old mid before between o → Answers words old new before now result
+  answers_then_told told (inl stopped) =
+      inl (record {
+        fault = (stopped.fault.0, told_twice (stop_answer stopped.fault.0) o result stopped.fault.1 told, stopped.fault.2);
+        kept = stays ∙ ap (λ (m : Meaning). record m { err = new.err }) stopped.kept;
+      })
+  answers_then_told told (inr (inl dump)) =
+      inr (inl (record {
+        name = dump.name;
+        named = dump.named;
+        answer = dump_answer dump.name told dump.answer;
+        opened = opened_then_told dump.name old mid new before between now stays counts dump.opened;
+      }))
+  answers_then_told told (inr (inr check)) =
+      inr (inr (record {
+        names = check.names;
+        named = check.named;
+        answer = check_answer check.names told check.answer;
+        opened = front_then_told check.names old mid new before between now stays counts o result told check.opened;
+      }))

@@ -63,9 +63,13 @@ abbrev pub usage_text : UsageFault → Text
 usage_text usage.NoCommand = codes "no command"
 usage_text usage.BadWords = codes "bad words"
 usage_text usage.NoFile = codes "no file"
+usage_text usage.StrayBracket = codes "stray bracket"
+usage_text usage.BadMembers = codes "bad members"
 
 abbrev pub refusal_text : Refusal → Text
 refusal_text (refusal.Read n r) = codes "file " ++ decimal n ++ codes " at " ++ decimal r.place ++ codes ": " ++ reason_text r.reason
+refusal_text (refusal.InputLimit n) = codes "file " ++ decimal n ++ codes ": InputLimit"
+refusal_text (refusal.TooManyFiles n) = codes "TooManyFiles " ++ decimal n
 
 abbrev pub input_text : Input → Text
 input_text (input.File n) = codes "file " ++ decimal n

@@ -4,7 +4,7 @@ use Rattle.std.specs.Prelude.{◌≡◌, ◌≢◌, ◌⊎◌, ℕ, ◌+◌, ◌
 use Rattle.mufom_numbers.specs.Spelling.{IsCutOff}
 use Rattle.mufom_numbers.specs.declared.reason.Reason.{Reason}
 use Rattle.mufom_numbers.specs.declared.reason.Reason.TheVariants as why
-use Rattle.mufom_command.specs.declared.outcome.ReadRefusal.{ReadRefusal}
+use Rattle.mufom_read.specs.declared.refusal.ReadRefusal.{ReadRefusal}
 use Rattle.mufom_command.specs.declared.plain.Assigned.{Assigned}
 use Rattle.mufom_command.specs.declared.plain.Offset.{Offset}
 use Rattle.mufom_command.specs.declared.plain.SectionPart.{SectionPart}

@@ -1,15 +1,18 @@
 -- What a run answers, what it has done to the outside then, and what it says.
-use Rattle.std.specs.Prelude.{◌≡◌, ◌⊎◌, ℕ, ◌<◌, ◌≤◌, List, [], ◌∷◌, ◌++◌, length, Option, Some, Ok, Err, IfSome, OnSome}
+use Rattle.std.specs.Prelude.{◌≡◌, ◌⊎◌, ℕ, ◌+◌, ◌<◌, ◌≤◌, List, [], ◌∷◌, ◌++◌, length, take, Option, Some, Ok, Err, IfSome, OnSome}
 use Rattle.mufom_host.specs.World.{Meaning, Faults, NamedFile, Rose, GrowsBy, GrowsByFront, file_named}
 use Rattle.mufom_command.specs.declared.outcome.Input.TheVariants as input
 use Rattle.mufom_command.specs.declared.outcome.Outcome.{Outcome}
 use Rattle.mufom_command.specs.declared.outcome.Outcome.TheVariants as outcome
 use Rattle.mufom_command.specs.declared.outcome.Refusal.TheVariants as refusal
-use Rattle.mufom_command.specs.declared.outcome.UsageFault.{UsageFault}
+use Rattle.mufom_command.specs.declared.words.WordsStop.{WordsStop}
+use Rattle.mufom_command.specs.declared.words.WordsStop.TheVariants as stop
 use Rattle.mufom_command.specs.Complaint.{complaint}
+use Rattle.mufom_command.specs.Inputs.{ComeTo, accepted, refused, past_limit}
 use Rattle.mufom_command.specs.Plain.{Image, IsPlainModule, Refuses, most_bytes}
-use Rattle.mufom_command.specs.Text.{dump_text}
-use Rattle.mufom_command.specs.Words.{dumped_file}
+use Rattle.mufom_command.specs.Text.{check_text, dump_text}
+use Rattle.mufom_command.specs.Words.{command_of, dump_file, check_files}
+use Rattle.mufom_module.specs.declared.module.Parts.{Parts}
 
 -- the file with this name has bytes of which the fact holds; nothing is said where the files are not told
 abbrev pub FileHas : List ℕ → Option (List NamedFile) → (List ℕ → Type 0) → Type 0
@@ -23,26 +26,79 @@ IsEnoughOf all bytes = (all ≡ bytes) ⊎ ((most_bytes < length bytes) × ((res
 abbrev pub Dumps : List ℕ → Meaning → Meaning → Faults → Faults → Outcome → Type 0
 Dumps name old new before now outcome.Done = FileHas name old.files (λ bytes. (image : Image) × IsPlainModule image bytes × GrowsBy old.out new.out (dump_text image))
 Dumps name old new before now (outcome.Refused (refusal.Read i r)) = (i ≡ 0) × FileHas name old.files (λ bytes. Refuses bytes r) × (new.out ≡ old.out)
+Dumps name old new before now (outcome.Refused (refusal.InputLimit i)) = ⊥
+Dumps name old new before now (outcome.Refused (refusal.TooManyFiles count)) = ⊥
 Dumps name old new before now (outcome.Usage f) = ⊥
 Dumps name old new before now (outcome.ReadFault (input.File i)) = (i ≡ 0) × Rose before.reads now.reads × (new.out ≡ old.out)
 Dumps name old new before now outcome.WriteFault = Rose before.writes now.writes × FileHas name old.files (λ bytes. (image : Image) × IsPlainModule image bytes × GrowsByFront old.out new.out (dump_text image))
 Dumps name old new before now outcome.NoMemory = new.out ≡ old.out
 
--- the words name no file to dump, and nothing was touched
-pub record IsUsage (words : List (List ℕ)) (old new : Meaning) (result : Outcome) : Type 0 where
-  pub fault : (f : UsageFault) × (result ≡ outcome.Usage f) × (dumped_file words ≡ Err f)
+-- What the answer to `check` says of the files with these names, of the faults in this call, and of what was printed.
+abbrev pub Checks : List (List ℕ) → Meaning → Meaning → Faults → Faults → Outcome → Type 0
+Checks names old new before now outcome.Done = IfSome old.files (λ files. (ms : List Parts) × ComeTo files names (accepted ms) × GrowsBy old.out new.out (check_text ms))
+Checks names old new before now (outcome.Refused (refusal.Read i r)) = IfSome old.files (λ files. ComeTo files names (refused i r)) × (new.out ≡ old.out)
+Checks names old new before now (outcome.Refused (refusal.InputLimit i)) = IfSome old.files (λ files. ComeTo files names (past_limit i)) × (new.out ≡ old.out)
+Checks names old new before now (outcome.Refused (refusal.TooManyFiles count)) = ⊥
+Checks names old new before now (outcome.Usage f) = ⊥
+Checks names old new before now (outcome.ReadFault (input.File i)) =
+    Rose before.reads now.reads × IfSome old.files (λ files. (ms : List Parts) × ComeTo files (take i names) (accepted ms)) × (new.out ≡ old.out)
+Checks names old new before now outcome.WriteFault =
+    Rose before.writes now.writes × IfSome old.files (λ files. (ms : List Parts) × ComeTo files names (accepted ms) × GrowsByFront old.out new.out (check_text ms))
+Checks names old new before now outcome.NoMemory = new.out ≡ old.out
+
+-- How many of so many files were opened: all where all were read, and none behind the one that stopped the run.
+abbrev pub IsOpenedCount : ℕ → Outcome → ℕ → Type 0
+IsOpenedCount files outcome.Done count = count ≡ files
+IsOpenedCount files (outcome.Refused (refusal.Read i r)) count = count ≡ i + 1
+IsOpenedCount files (outcome.Refused (refusal.InputLimit i)) count = count ≡ i + 1
+IsOpenedCount files (outcome.ReadFault (input.File i)) count = count ≡ i + 1
+IsOpenedCount files outcome.WriteFault count = count ≡ files
+IsOpenedCount files _ count = Unit {0}
+
+-- a front of the files was opened, in their order
+pub record OpensFront (names : List (List ℕ)) (old new : Meaning) (result : Outcome) : Type 0 where
+  pub count : ℕ
+  pub exact : IsOpenedCount (length names) result count
+  pub within : count ≤ length names
+  pub opened : OnSome new.opened (GrowsBy old.opened new.opened (take count names))
+
+-- no memory may have been found for the line of these
+abbrev pub MayLackMemory : Outcome → Type 0
+MayLackMemory (outcome.Refused _) = Unit {0}
+MayLackMemory (outcome.ReadFault _) = Unit {0}
+MayLackMemory _ = ⊥
+
+-- the answer is this, or that no memory was found for its line
+abbrev pub IsToldAs : Outcome → Outcome → Type 0
+IsToldAs answer result = (result ≡ answer) ⊎ ((result ≡ outcome.NoMemory) × MayLackMemory answer)
+
+-- the answer to words that are no command
+abbrev pub stop_answer : WordsStop → Outcome
+stop_answer (stop.Usage f) = outcome.Usage f
+stop_answer (stop.TooManyFiles count) = outcome.Refused (refusal.TooManyFiles count)
+
+-- the words are no command, and nothing was touched
+pub record IsStopped (words : List (List ℕ)) (old new : Meaning) (result : Outcome) : Type 0 where
+  pub fault : (s : WordsStop) × IsToldAs (stop_answer s) result × (command_of words ≡ Err s)
   pub kept : new ≡ record old { err = new.err }
 
--- the words name a file, which alone was opened
+-- the words name a file to dump, which alone was opened
 pub record IsDump (words : List (List ℕ)) (old new : Meaning) (before now : Faults) (result : Outcome) : Type 0 where
   pub name : List ℕ
-  pub named : dumped_file words ≡ Ok name
+  pub named : command_of words ≡ Ok (dump_file name)
   pub answer : Dumps name old new before now result
   pub opened : OnSome new.opened (GrowsBy old.opened new.opened (name ∷ []))
 
+-- the words name files to check, and no other was opened
+pub record IsCheck (words : List (List ℕ)) (old new : Meaning) (before now : Faults) (result : Outcome) : Type 0 where
+  pub names : List (List ℕ)
+  pub named : command_of words ≡ Ok (check_files names)
+  pub answer : Checks names old new before now result
+  pub opened : OpensFront names old new result
+
 -- The answer is that of the words.
 abbrev pub Answers : List (List ℕ) → Meaning → Meaning → Faults → Faults → Outcome → Type 0
-Answers words old new before now result = IsUsage words old new result ⊎ IsDump words old new before now result
+Answers words old new before now result = IsStopped words old new result ⊎ (IsDump words old new before now result ⊎ IsCheck words old new before now result)
 
 -- the line is added to the complaints, or the front of it where a complaint failed in this call
 abbrev pub Tells : Meaning → Meaning → Faults → Faults → List ℕ → Type 0
@@ -53,15 +109,9 @@ abbrev pub Complains : Meaning → Meaning → Faults → Faults → Outcome →
 Complains old new before now outcome.Done = new.err ≡ old.err
 Complains old new before now result = Tells old new before now (complaint result)
 
--- a file is opened and text printed; nothing else is touched
-abbrev pub DumpsAlone : Meaning → Meaning → Type 0
-DumpsAlone old new = new ≡ record old { left = new.left; out = new.out; opened = new.opened }
-
--- no memory may have been found for the line of these
-abbrev pub MayLackMemory : Outcome → Type 0
-MayLackMemory (outcome.Refused _) = Unit {0}
-MayLackMemory (outcome.ReadFault _) = Unit {0}
-MayLackMemory _ = ⊥
+-- files are opened and text printed; nothing else is touched
+abbrev pub ReadsAndPrints : Meaning → Meaning → Type 0
+ReadsAndPrints old new = new ≡ record old { left = new.left; out = new.out; opened = new.opened }
 
 -- no count falls
 pub record NoneFalls (before now : Faults) : Type 0 where

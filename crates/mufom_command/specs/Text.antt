@@ -1,7 +1,10 @@
--- The text of an image.
-use Rattle.std.specs.Prelude.{ℕ, ◌+◌, ◌%◌, ◌==◌, ◌||◌, Bool, true, false, List, [], ◌∷◌, ◌++◌, codes, if◌then◌else◌}
+-- What is printed: the text of an image, and the lines on files that were checked.
+use Rattle.std.specs.Prelude.{ℕ, ◌+◌, ◌%◌, ◌==◌, ◌&&◌, ◌||◌, not, nat_le, Bool, true, false, List, [], ◌∷◌, ◌++◌, length, filter, flat_map, codes, if◌then◌else◌}
 use Rattle.std.specs.Int.{bytes_high_first}
+use Rattle.std.specs.Fmt.{decimal}
 use Rattle.hex.specs.Hex.{encode_upper}
+use Rattle.mufom_debug.specs.Marks.{DebugMark, block_begin, block_end, name_mark, note_mark, value_mark, marks_of}
+use Rattle.mufom_module.specs.declared.module.Parts.{Parts}
 use Rattle.mufom_command.specs.Plain.{Image}
 
 abbrev pub Text : Type 0
@@ -35,3 +38,46 @@ row_text first a (b ∷ bytes) = line_start first a ++ (codes " " ++ encode_uppe
 -- The image lines, and the start line.
 abbrev pub dump_text : Image → Text
 dump_text image = row_text true image.address image.bytes ++ line (codes "start " ++ address 4 image.start)
+
+-- bytes 20 to 7E but for the quote and the backslash
+abbrev pub stands_for_itself : ℕ → Bool
+stands_for_itself b = nat_le 0x20 b && (nat_le b 0x7E && (not (b == 0x22) && not (b == 0x5C)))
+
+-- any other byte is a backslash, `x` and two upper-case hexadecimal digits
+abbrev pub quoted_byte : ℕ → Text
+quoted_byte b = if stands_for_itself b then b ∷ [] else 0x5C ∷ 0x78 ∷ encode_upper (b ∷ [])
+
+-- a name in double quotes
+abbrev pub quoted : List ℕ → Text
+quoted name = 0x22 ∷ (flat_map quoted_byte name ++ 0x22 ∷ [])
+
+-- a mark that is an item of its own: each but the end of a block
+abbrev pub is_item : DebugMark → Bool
+is_item (block_begin head name) = true
+is_item (block_end end) = false
+is_item (name_mark name) = true
+is_item (note_mark name note) = true
+is_item (value_mark name value) = true
+
+-- the debug items at all depths
+abbrev pub item_count : List DebugMark → ℕ
+item_count marks = length (filter is_item marks)
+
+-- what a line says behind the name
+abbrev pub counts_text : Parts → Text
+counts_text m = codes ": sections " ++ decimal (length m.sections) ++ codes " publics " ++ decimal (length m.names.publics)
+    ++ codes " references " ++ decimal (length m.names.references) ++ codes " loads " ++ decimal (length m.loads)
+    ++ codes " debug " ++ decimal (item_count (marks_of m.debug))
+
+-- the line of a file with this number, and this module
+abbrev pub check_line : ℕ → Parts → Text
+check_line number m = line (codes "file " ++ decimal number ++ codes " " ++ quoted m.name ++ counts_text m)
+
+-- the lines of files that are numbered from here on
+abbrev pub check_lines : ℕ → List Parts → Text
+check_lines number [] = []
+check_lines number (m ∷ ms) = check_line number m ++ check_lines (number + 1) ms
+
+-- One line for each file, in their order.
+abbrev pub check_text : List Parts → Text
+check_text ms = check_lines 0 ms

@@ -1,21 +1,24 @@
 //! The top call.
 
-ghost use Rattle.std.specs.Prelude.{◌≡◌, ◌⊎◌, ◌≤◌, ◌∷◌, [], map, IfErr, IfOk, OnSome};
+ghost use Rattle.std.specs.Prelude.{◌≡◌, ◌⊎◌, ◌<◌, ◌≤◌, ◌^◌, ◌∷◌, [], length, map, IfErr, IfOk, OnSome};
 ghost use Rattle.std.specs.String.{string_bytes};
 ghost use Rattle.mufom_host.specs.World.{GrowsBy, KeepsAllButComplaints, KeepsAllButErr};
 ghost use Rattle.mufom_command.specs.Complaint.{complaint};
 ghost use Rattle.mufom_command.specs.Plain.{IsPlainModule, Refuses, Image as PlainImage};
-ghost use Rattle.mufom_command.specs.Run.{Answers, Complains, MayLackMemory, Tells, Dumps, DumpsAlone, MakesNothing, NoneFalls};
+ghost use Rattle.mufom_command.specs.Run.{Answers, Checks, Complains, IsToldAs, Tells, Dumps, MakesNothing, NoneFalls, OpensFront, ReadsAndPrints};
 ghost use Rattle.mufom_command.specs.Text.{dump_text};
 
 use crate::complaint::{fault_line, refusal_line, usage_line};
+use crate::inputs::read_files;
 use crate::judging::judge;
+use crate::lines::module_lines;
 use crate::load::load;
-use crate::outcome::{Outcome, ReadRefusal, Refusal};
+use crate::outcome::{Outcome, Refusal};
 use crate::text::image_text;
-use crate::words::dump_name;
+use crate::words::{Command, WordsStop, read_words};
 use mufom_host::{Failed, Host};
 use mufom_numbers::NoMemory;
+use mufom_read::ReadRefusal;
 use std::alloc::Global;
 
 // The text of a plain module's image, or why there is none.
@@ -36,7 +39,7 @@ fn located_text(alloc: Global, bytes: &[u8]) -> Result<Vec<u8>, Outcome>
 fn dump<H: Host>(alloc: Global, name: &str, host: &mut H) -> Outcome
     ensures answer { Dumps name.now (H.meaning host.old) (H.meaning host.new) (H.faults host.old) (H.faults host.new) result }
     ensures opened { OnSome (H.meaning host.new).opened (GrowsBy (H.meaning host.old).opened (H.meaning host.new).opened (name.now ∷ [])) }
-    ensures stays { DumpsAlone (H.meaning host.old) (H.meaning host.new) }
+    ensures stays { ReadsAndPrints (H.meaning host.old) (H.meaning host.new) }
     ensures counts { NoneFalls (H.faults host.old) (H.faults host.new) }
 {
     let bytes = match load(alloc, name, host) {
@@ -48,6 +51,27 @@ fn dump<H: Host>(alloc: Global, name: &str, host: &mut H) -> Outcome
         Err(stop) => return stop,
     };
     match host.print(text.as_slice()) {
+        Ok(()) => Outcome::Done,
+        Err(Failed) => Outcome::WriteFault,
+    }
+}
+
+// Reads the files with these names and prints a line for each; the answer is not complained yet.
+fn check<H: Host>(alloc: Global, names: &[String], host: &mut H) -> Outcome
+    requires { length names.now < 2 ^ 32 }
+    ensures answer { Checks (map (λ name. string_bytes name) names.now) (H.meaning host.old) (H.meaning host.new) (H.faults host.old) (H.faults host.new) result }
+    ensures opened { OpensFront (map (λ name. string_bytes name) names.now) (H.meaning host.old) (H.meaning host.new) result }
+    ensures stays { ReadsAndPrints (H.meaning host.old) (H.meaning host.new) }
+    ensures counts { NoneFalls (H.faults host.old) (H.faults host.new) }
+{
+    let modules = match read_files(alloc, names, host) {
+        Ok(modules) => modules,
+        Err(stop) => return stop,
+    };
+    let Ok(lines) = module_lines(alloc, modules.as_slice()) else {
+        return Outcome::NoMemory;
+    };
+    match host.print(lines.as_slice()) {
         Ok(()) => Outcome::Done,
         Err(Failed) => Outcome::WriteFault,
     }
@@ -81,7 +105,7 @@ fn out_of_memory<H: Host>(host: &mut H) -> Outcome
 // Complains an outcome that is not `Done`, which then stays what it is. Where there is no memory
 // for the line of a refused input or a read fault, that is the outcome.
 fn complain<H: Host>(alloc: Global, outcome: Outcome, host: &mut H) -> Outcome
-    ensures same { (result ≡ outcome) ⊎ ((result ≡ Outcome.NoMemory) × MayLackMemory outcome) }
+    ensures same { IsToldAs outcome result }
     ensures complains { Complains (H.meaning host.old) (H.meaning host.new) (H.faults host.old) (H.faults host.new) result }
     ensures stays { KeepsAllButErr (H.meaning host.old) (H.meaning host.new) }
     ensures counts { KeepsAllButComplaints (H.faults host.old) (H.faults host.new) }
@@ -92,7 +116,7 @@ fn complain<H: Host>(alloc: Global, outcome: Outcome, host: &mut H) -> Outcome
         Outcome::Usage(fault) => tell(usage_line(fault).as_bytes(), host),
         Outcome::WriteFault => tell(b"write fault\n", host),
         Outcome::NoMemory => tell(b"out of memory\n", host),
-        Outcome::Refused(Refusal::Read(file, refusal)) => match refusal_line(alloc, file, refusal) {
+        Outcome::Refused(refusal) => match refusal_line(alloc, refusal) {
             Ok(line) => tell(line.as_bytes(), host),
             Err(NoMemory) => return out_of_memory(host),
         },
@@ -106,22 +130,26 @@ fn complain<H: Host>(alloc: Global, outcome: Outcome, host: &mut H) -> Outcome
 
 // What the words ask for is done; the answer is not complained yet.
 fn answer<H: Host>(alloc: Global, words: &[String], host: &mut H) -> Outcome
+    requires { length words.now < 2 ^ 32 }
     ensures answers { Answers (map (λ word. string_bytes word) words.now) (H.meaning host.old) (H.meaning host.new) (H.faults host.old) (H.faults host.new) result }
-    ensures stays { DumpsAlone (H.meaning host.old) (H.meaning host.new) }
+    ensures stays { ReadsAndPrints (H.meaning host.old) (H.meaning host.new) }
     ensures counts { NoneFalls (H.faults host.old) (H.faults host.new) }
 {
-    match dump_name(words) {
-        Ok(name) => dump(alloc, name, host),
-        Err(fault) => Outcome::Usage(fault),
+    match read_words(words) {
+        Ok(Command::Dump(name)) => dump(alloc, name, host),
+        Ok(Command::Check(names)) => check(alloc, names, host),
+        Err(WordsStop::Usage(fault)) => Outcome::Usage(fault),
+        Err(WordsStop::TooManyFiles(count)) => Outcome::Refused(Refusal::TooManyFiles(count)),
     }
 }
 
-/// Runs the command that the words name: `dump FILE`.
+/// Runs the command that the words name: `dump FILE` or `check FILE ...`.
 ///
-/// `words` are the command line's words without the program's name. Every outcome but `Done`
-/// complains one line; a complaint that fails does not change the outcome.
+/// `words` are the command line's words without the program's name, fewer than 2^32. Every outcome
+/// but `Done` complains one line; a complaint that fails does not change the outcome.
 pub fn run<H: Host>(alloc: Global, words: &[String], host: &mut H) -> Outcome
-    // The answer is that of the words, of the file's bytes, and of the faults in this call.
+    requires { length words.now < 2 ^ 32 }
+    // The answer is that of the words, of the files' bytes, and of the faults in this call.
     ensures answers { Answers (map (λ word. string_bytes word) words.now) (H.meaning host.old) (H.meaning host.new) (H.faults host.old) (H.faults host.new) result }
     // Every answer but Done complains its line.
     ensures complains { Complains (H.meaning host.old) (H.meaning host.new) (H.faults host.old) (H.faults host.new) result }

@@ -4,8 +4,9 @@ ghost use Rattle.std.specs.Prelude.{◌≡◌, IfOk};
 ghost use Rattle.std.specs.String.{string_bytes};
 ghost use Rattle.mufom_command.specs.Complaint.{complaint, reason_text};
 
-use crate::outcome::{Input, Outcome, ReadRefusal, Refusal, UsageFault};
+use crate::outcome::{Input, Outcome, Refusal, UsageFault};
 use mufom_numbers::{NoMemory, Reason};
+use mufom_read::ReadRefusal;
 use std::alloc::Global;
 
 fn reason_name(reason: Reason) -> &'static str
@@ -57,19 +58,40 @@ pub(crate) fn usage_line(fault: UsageFault) -> &'static str
         UsageFault::NoCommand => "usage: no command\n",
         UsageFault::BadWords => "usage: bad words\n",
         UsageFault::NoFile => "usage: no file\n",
+        UsageFault::StrayBracket => "usage: stray bracket\n",
+        UsageFault::BadMembers => "usage: bad members\n",
     }
 }
 
-pub(crate) fn refusal_line(
-    alloc: Global,
-    file: u32,
-    refusal: ReadRefusal,
-) -> Result<String, NoMemory>
+// The line of a file that is refused.
+fn read_line(alloc: Global, file: u32, refusal: ReadRefusal) -> Result<String, NoMemory>
     ensures { IfOk result (λ text. string_bytes text ≡ complaint (Outcome.Refused (Refusal.Read file refusal))) }
 {
     let place = refusal.place;
     let reason = reason_name(refusal.reason);
     Ok(format!(in alloc; "refused: file {file} at {place}: {reason}\n")?)
+}
+
+fn limit_line(alloc: Global, file: u32) -> Result<String, NoMemory>
+    ensures { IfOk result (λ text. string_bytes text ≡ complaint (Outcome.Refused (Refusal.InputLimit file))) }
+{
+    Ok(format!(in alloc; "refused: file {file}: InputLimit\n")?)
+}
+
+fn count_line(alloc: Global, count: u32) -> Result<String, NoMemory>
+    ensures { IfOk result (λ text. string_bytes text ≡ complaint (Outcome.Refused (Refusal.TooManyFiles count))) }
+{
+    Ok(format!(in alloc; "refused: TooManyFiles {count}\n")?)
+}
+
+pub(crate) fn refusal_line(alloc: Global, refusal: Refusal) -> Result<String, NoMemory>
+    ensures { IfOk result (λ text. string_bytes text ≡ complaint (Outcome.Refused refusal)) }
+{
+    match refusal {
+        Refusal::Read(file, refusal) => read_line(alloc, file, refusal),
+        Refusal::InputLimit(file) => limit_line(alloc, file),
+        Refusal::TooManyFiles(count) => count_line(alloc, count),
+    }
 }
 
 pub(crate) fn fault_line(alloc: Global, input: Input) -> Result<String, NoMemory>

@@ -5,9 +5,9 @@ ghost use Rattle.mufom_command.specs.Plain.{IsDescribed, NamesOneSection, FillsS
 ghost use Rattle.mufom_command.specs.Reading.{as_header, as_data, as_chain};
 
 use crate::fields::Stop;
-use crate::outcome::ReadRefusal;
 use crate::plain::{Chain, DataPart, Header, Offset, SectionPart, read_chain};
 use mufom_numbers::Reason;
+use mufom_read::ReadRefusal;
 
 /// How many bytes a file may have to be read so far.
 pub(crate) const MOST_BYTES: usize = 1_048_576;

@@ -1,7 +1,7 @@
 ghost use Rattle.std.specs.Prelude.{◌≡◌};
 ghost use Rattle.mufom_command.specs.Complaint.{status_of};
 
-use mufom_numbers::Reason;
+use mufom_read::ReadRefusal;
 
 /// Why the words of a run are no command.
 #[derive(Clone, Copy, Debug, PartialEq, Eq)]
@@ -12,13 +12,10 @@ pub enum UsageFault {
     BadWords,
     /// No file.
     NoFile,
-}
-
-/// A file's bytes are no module: the position of the fault in bytes, and the reason.
-#[derive(Clone, Copy, Debug, PartialEq, Eq)]
-pub struct ReadRefusal {
-    pub place: u64,
-    pub reason: Reason,
+    /// A bracket, where no group of files is asked for.
+    StrayBracket,
+    /// A `+`, where no member files are asked for.
+    BadMembers,
 }
 
 /// An input of a run.
@@ -33,6 +30,10 @@ pub enum Input {
 pub enum Refusal {
     /// The bytes of the file with this number are no module.
     Read(u32, ReadRefusal),
+    /// The bytes of the files so far are too many in the file with this number.
+    InputLimit(u32),
+    /// The words have so many files, which are too many.
+    TooManyFiles(u32),
 }
 
 /// How a run ended.

@@ -1,12 +1,15 @@
-use crate::{Input, Outcome, ReadRefusal, Refusal, UsageFault, run};
+ghost use Rattle.std.specs.Prelude.{◌<◌, ◌^◌, IfOk, length, vec_len};
+
+use crate::{Input, Outcome, Refusal, UsageFault, run};
 use mufom_host::MemHost;
 use mufom_numbers::{Bytes, List, Reason, Text};
+use mufom_read::ReadRefusal;
 use std::alloc::Global;
 use std::process::Abort;
 use std::test::Fail;
 
 // An absolute section of four bytes at 1000, loaded whole, with its start address.
-const PLAIN: [u8; 120] = [
+pub(crate) const PLAIN: [u8; 120] = [
     0xE0, 0x05, 0x36, 0x38, 0x30, 0x30, 0x30, 0x01, 0x41, 0xEC, 0x08, 0x04, 0xCD, 0xE2, 0xD7, 0x00,
     0x84, 0x00, 0x00, 0x00, 0x00, 0xE2, 0xD7, 0x01, 0x84, 0x00, 0x00, 0x00, 0x00, 0xE2, 0xD7, 0x02,
     0x84, 0x00, 0x00, 0x00, 0x4D, 0xE2, 0xD7, 0x03, 0x84, 0x00, 0x00, 0x00, 0x00, 0xE2, 0xD7, 0x04,
@@ -19,9 +22,9 @@ const PLAIN: [u8; 120] = [
 
 const IMAGE: &[u8] = b"00001000: 4E 71 4E 75\nstart 00001000\n";
 
-const ROOM: usize = 1_048_576;
+pub(crate) const ROOM: usize = 1_048_576;
 
-fn numbers(alloc: Global, calls: &[u64]) -> Result<List<u64>, Fail> {
+pub(crate) fn numbers(alloc: Global, calls: &[u64]) -> Result<List<u64>, Fail> {
     let mut list = List::new(alloc);
     for call in calls {
         list.push(*call)?;
@@ -37,7 +40,10 @@ fn host(alloc: Global, file: &[u8], reads: &[u64], writes: &[u64]) -> Result<Mem
     Ok(MemHost::new(alloc, files, reads, writes, ROOM)?)
 }
 
-fn words(alloc: Global, words: &[&str]) -> Result<Vec<String>, Fail> {
+pub(crate) fn words(alloc: Global, words: &[&str]) -> Result<Vec<String>, Fail>
+    requires { length words.now < 2 ^ 32 }
+    ensures { IfOk result (λ list. vec_len list < 2 ^ 32) }
+{
     let mut list = Vec::new(alloc);
     for word in words {
         list.push(word.to_string(alloc)?)?;
@@ -180,7 +186,9 @@ fn a_failed_complaint_changes_no_answer(rt: HostRuntime) -> Result<(), Fail> {
     )
 }
 
-fn usage(alloc: Global, line: &[&str]) -> Result<Outcome, Fail> {
+fn usage(alloc: Global, line: &[&str]) -> Result<Outcome, Fail>
+    requires { length line.now < 2 ^ 32 }
+{
     let mut host = host(alloc, &PLAIN, &[], &[])?;
     let words = words(alloc, line)?;
     Ok(run(alloc, words.as_slice(), &mut host))

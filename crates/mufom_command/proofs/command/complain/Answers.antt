@@ -1,6 +1,5 @@
-use Rattle.std.proofs.Common.{ℕ, List, sym, subst, ◌∙◌}
-use Rattle.mufom_command.specs.declared.outcome.Outcome.{Outcome}
-use Rattle.mufom_command.specs.Run.{Complains, Tells}
+use Rattle.std.proofs.Common.{ℕ, List, subst, ◌∙◌}
+use Rattle.mufom_command.specs.Run.{Tells}
 use Rattle.mufom_command.proofs.command.complain.Goals as goal
 
 pub returns-in-Ok-fault_line-clause-complains : goal.returns-in-Ok-fault_line-clause-complains
@@ -8,4 +7,4 @@ returns-in-Ok-fault_line-clause-complains g c =
     let old = g.H.World.meaning c.args.host.now in let new = g.H.World.meaning c.tell-in-Ok-fault_line.new.host in
     let before = g.H.World.faults c.args.host.now in let now = g.H.World.faults c.tell-in-Ok-fault_line.new.host in
     let line = c.as_bytes-in-Ok-fault_line.ensures.value ∙ c.in-Ok-fault_line.ensures in
-    subst (λ (o : Outcome). Complains old new before now o) (sym c.in-ReadFault.is) (subst (λ (t : List ℕ). Tells old new before now t) line c.tell-in-Ok-fault_line.ensures.tells)
+    subst (λ (t : List ℕ). Tells old new before now t) line c.tell-in-Ok-fault_line.ensures.tells

@@ -1,4 +1,5 @@
 use Rattle.mufom_command.proofs.Judgements.{not_both, one_image, one_refusal}
+use Rattle.mufom_command.proofs.Verdicts.{one_verdict}
 use Rattle.mufom_command.proofs.laws.judgements_exclude.Goals as goal
 
 pub returns-clause-not_both : goal.returns-clause-not_both
@@ -9,3 +10,6 @@ returns-clause-one_image c = one_image
 
 pub returns-clause-one_refusal : goal.returns-clause-one_refusal
 returns-clause-one_refusal c = one_refusal
+
+pub returns-clause-one_verdict : goal.returns-clause-one_verdict
+returns-clause-one_verdict c = one_verdict

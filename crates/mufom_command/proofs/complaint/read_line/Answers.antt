@@ -2,7 +2,7 @@ use Rattle.std.proofs.Common.{◌≡◌, ◌++◌, ◌∷◌, [], codes, ap, ◌
 use Rattle.std.specs.Fmt.{decimal}
 use Rattle.mufom_command.specs.Text.{Text, line}
 use Rattle.mufom_command.specs.Complaint.{reason_text}
-use Rattle.mufom_command.proofs.complaint.refusal_line.Goals as goal
+use Rattle.mufom_command.proofs.complaint.read_line.Goals as goal
 
 regroup : (file place reason : Text) → codes "refused: file " ++ (file ++ (codes " at " ++ (place ++ (codes ": " ++ (reason ++ 10 ∷ [])))))
     ≡ line (codes "refused: " ++ (codes "file " ++ file ++ codes " at " ++ place ++ codes ": " ++ reason))

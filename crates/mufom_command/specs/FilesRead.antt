@@ -1,0 +1,35 @@
+-- What opening and reading one module file answers.
+use Rattle.std.specs.Prelude.{◌≡◌, ℕ, ◌≤◌, true, List, length, Option}
+use Rattle.mufom_host.specs.World.{NamedFile, Faults, Rose}
+use Rattle.mufom_module.specs.declared.module.Parts.{Parts}
+use Rattle.mufom_read.specs.declared.source.SourceStop.{SourceStop}
+use Rattle.mufom_read.specs.declared.source.SourceStop.TheVariants as stop
+use Rattle.mufom_read.specs.Judging.{IsModule}
+use Rattle.mufom_read.specs.Source.{IsRefusedWithin, IsPastLimit}
+use Rattle.mufom_command.specs.declared.outcome.Input.TheVariants as input
+use Rattle.mufom_command.specs.declared.outcome.Outcome.{Outcome}
+use Rattle.mufom_command.specs.declared.outcome.Outcome.TheVariants as outcome
+use Rattle.mufom_command.specs.declared.outcome.Refusal.TheVariants as refusal
+use Rattle.mufom_command.specs.Run.{FileHas}
+
+-- the bytes are those of this module, they are so many, and no more than may be read
+abbrev pub HasModule : ℕ → Parts → ℕ → List ℕ → Type 0
+HasModule limit m count bytes = IsModule true bytes m × (count ≡ length bytes) × (length bytes ≤ limit)
+
+-- the answer where the file with this number was not read
+abbrev pub stop_of : ℕ → SourceStop → Outcome
+stop_of number (stop.Refused r) = outcome.Refused (refusal.Read number r)
+stop_of number stop.Limit = outcome.Refused (refusal.InputLimit number)
+stop_of number stop.Fault = outcome.ReadFault (input.File number)
+stop_of number stop.NoMemory = outcome.NoMemory
+
+-- Why the file with this name and number was not read.
+abbrev pub FileStops : List ℕ → ℕ → ℕ → Option (List NamedFile) → Faults → Faults → Outcome → Type 0
+FileStops name number limit files before now outcome.Done = ⊥
+FileStops name number limit files before now (outcome.Refused (refusal.Read i r)) = (i ≡ number) × FileHas name files (λ bytes. IsRefusedWithin true limit bytes r.place r.reason)
+FileStops name number limit files before now (outcome.Refused (refusal.InputLimit i)) = (i ≡ number) × FileHas name files (λ bytes. IsPastLimit true limit bytes)
+FileStops name number limit files before now (outcome.Refused (refusal.TooManyFiles count)) = ⊥
+FileStops name number limit files before now (outcome.Usage f) = ⊥
+FileStops name number limit files before now (outcome.ReadFault (input.File i)) = (i ≡ number) × Rose before.reads now.reads
+FileStops name number limit files before now outcome.WriteFault = ⊥
+FileStops name number limit files before now outcome.NoMemory = Unit {0}

@@ -1,0 +1,88 @@
+//! Reading the module files of a run, in their order.
+
+ghost use Rattle.std.specs.Prelude.{◌≡◌, ◌<◌, ◌≤◌, ◌^◌, ◌∷◌, [], length, map, IfErr, IfOk, IfSome, OnSome};
+ghost use Rattle.std.specs.String.{string_bytes};
+ghost use Rattle.mufom_host.specs.World.{GrowsBy, KeepsAllButOpened, KeepsAllButReads};
+ghost use Rattle.mufom_command.specs.FilesRead.{FileStops, HasModule, stop_of};
+ghost use Rattle.mufom_command.specs.Inputs.{ComeTo, accepted, most_input_bytes};
+ghost use Rattle.mufom_command.specs.Run.{Checks, FileHas, OpensFront};
+
+use crate::outcome::{Input, Outcome, Refusal};
+use mufom_host::{Failed, Host};
+use mufom_module::Module;
+use mufom_numbers::{List, NoMemory};
+use mufom_read::{SourceStop, read_module};
+use std::alloc::Global;
+
+// How many bytes the module files of a run have at most, all together.
+const MOST_INPUT_BYTES: u64 = 67_108_864;
+
+// The answer where the file with this number was not read.
+fn stop_of(file: u32, stop: SourceStop) -> Outcome
+    ensures { result ≡ stop_of file stop }
+{
+    match stop {
+        SourceStop::Refused(refusal) => Outcome::Refused(Refusal::Read(file, refusal)),
+        SourceStop::Limit => Outcome::Refused(Refusal::InputLimit(file)),
+        SourceStop::Fault => Outcome::ReadFault(Input::File(file)),
+        SourceStop::NoMemory => Outcome::NoMemory,
+    }
+}
+
+// Opens the file with this name and number, and reads its module, of at most so many bytes.
+fn read_file<H: Host>(
+    alloc: Global,
+    name: &str,
+    file: u32,
+    limit: u64,
+    host: &mut H,
+) -> Result<(Module, u64), Outcome>
+    requires { limit ≤ most_input_bytes }
+    ensures read { IfOk result (λ read. FileHas name.now (H.meaning host.old).files (HasModule limit read.0 read.1)) }
+    ensures stops { IfErr result (λ stop. FileStops name.now file limit (H.meaning host.old).files (H.faults host.old) (H.faults host.new) stop) }
+    ensures opened { OnSome (H.meaning host.new).opened (GrowsBy (H.meaning host.old).opened (H.meaning host.new).opened (name.now ∷ [])) }
+    ensures opens { IfOk result (λ read. GrowsBy (H.meaning host.old).opened (H.meaning host.new).opened (name.now ∷ [])) }
+    ensures stays { KeepsAllButOpened (H.meaning host.old) (H.meaning host.new) }
+    ensures counts { KeepsAllButReads (H.faults host.old) (H.faults host.new) }
+    ensures later { (H.faults host.old).reads ≤ (H.faults host.new).reads }
+{
+    let Ok(()) = host.open(name) else {
+        return Err(Outcome::ReadFault(Input::File(file)));
+    };
+    match read_module(alloc, host, limit, true) {
+        Ok((module, length)) => Ok((module, length)),
+        Err(stop) => Err(stop_of(file, stop)),
+    }
+}
+
+/// Reads the modules of the files with these names.
+pub(crate) fn read_files<H: Host>(
+    alloc: Global,
+    names: &[String],
+    host: &mut H,
+) -> Result<List<Module>, Outcome>
+    requires { length names.now < 2 ^ 32 }
+    ensures read { IfOk result (λ modules. IfSome (H.meaning host.old).files (λ files. ComeTo files (map (λ name. string_bytes name) names.now) (accepted modules))) }
+    ensures all { IfOk result (λ modules. GrowsBy (H.meaning host.old).opened (H.meaning host.new).opened (map (λ name. string_bytes name) names.now)) }
+    ensures stops { IfErr result (λ stop. Checks (map (λ name. string_bytes name) names.now) (H.meaning host.old) (H.meaning host.new) (H.faults host.old) (H.faults host.new) stop) }
+    ensures opened { IfErr result (λ stop. OpensFront (map (λ name. string_bytes name) names.now) (H.meaning host.old) (H.meaning host.new) stop) }
+    ensures stays { KeepsAllButOpened (H.meaning host.old) (H.meaning host.new) }
+    ensures counts { KeepsAllButReads (H.faults host.old) (H.faults host.new) }
+    ensures later { (H.faults host.old).reads ≤ (H.faults host.new).reads }
+{
+    let mut modules = List::new(alloc);
+    let mut room = MOST_INPUT_BYTES;
+    for number in 0..names.len() {
+        let name = names[number].as_str();
+        let (module, length) = match read_file(alloc, name, number as u32, room, host) {
+            Ok(read) => read,
+            Err(stop) => return Err(stop),
+        };
+        room = room.saturating_sub(length);
+        match modules.push(module) {
+            Ok(()) => {}
+            Err(NoMemory) => return Err(Outcome::NoMemory),
+        }
+    }
+    Ok(modules)
+}
