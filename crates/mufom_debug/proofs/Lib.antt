@@ -1,3 +1,4 @@
 pub mod MarksLemmas
 pub mod Balance
 pub mod Rebuilt
+pub mod NameCounts

@@ -4,7 +4,7 @@ use Rattle.std.proofs.lemmas.List.{take_more, map-append}
 use Rattle.std.proofs.lemmas.Grind.{flat_map-append}
 use Rattle.mufom_debug.specs.declared.item.DebugItem.{DebugItem, Block as block_case, the_lemmas}
 use Rattle.mufom_debug.specs.declared.item.DebugItem.TheOpen.{Block-F}
-use Rattle.mufom_debug.specs.Marks.{DebugMark, block_begin, block_end, joined, marks_of_item, marks_of, mark_expressions, expressions_of}
+use Rattle.mufom_debug.specs.Marks.{block_begin, block_end, joined, marks_of_item, marks_of, mark_expressions, expressions_of}
 
 -- the marks of a block are its begin, the marks of its items, and its end
 pub marks-Block : (b : Block-F DebugItem (Unit {0})) → marks_of_item (block_case b) ≡ block_begin b.head b.name ∷ (marks_of b.items ++ block_end b.end ∷ [])

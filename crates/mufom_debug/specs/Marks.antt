@@ -48,6 +48,19 @@ open_behind opened (name_mark name) = opened
 open_behind opened (note_mark name note) = opened
 open_behind opened (value_mark name value) = opened
 
+-- how many debug names are declared behind a mark, where so many are before it
+abbrev pub names_behind : ℕ → DebugMark → ℕ
+names_behind n (block_begin head name) = n
+names_behind n (block_end end) = n
+names_behind n (name_mark name) = n + 1
+names_behind n (note_mark name note) = n
+names_behind n (value_mark name value) = n
+
+-- the same of marks, one after another
+abbrev pub names_behind_all : ℕ → List DebugMark → ℕ
+names_behind_all n [] = n
+names_behind_all n (mark ∷ marks) = names_behind_all (names_behind n mark) marks
+
 -- how many blocks are open at once at most, where so many are open before the marks
 abbrev pub depth_from : ℕ → List DebugMark → ℕ
 depth_from opened [] = opened

@@ -19,7 +19,7 @@ use Rattle.mufom_loads.specs.declared.load.Load.{Load}
 use Rattle.mufom_loads.specs.declared.load.Load.TheVariants.{SetSection, SetPc, One, Repeat}
 use Rattle.mufom_debug.specs.declared.item.BlockHead.{BlockHead}
 use Rattle.mufom_debug.specs.declared.item.BlockHead.TheVariants as heads
-use Rattle.mufom_debug.specs.Marks.{DebugMark, block_begin, block_end, name_mark, note_mark, value_mark, joined, marks_of}
+use Rattle.mufom_debug.specs.Marks.{DebugMark, block_begin, block_end, name_mark, note_mark, value_mark, joined, marks_of, names_behind}
 use Rattle.mufom_module.specs.declared.module.Parts.{Parts}
 use Rattle.mufom_module.specs.Written as w
 use Rattle.mufom_module.specs.Written.{widest, weight}
@@ -47,11 +47,11 @@ length-token n (Fun f) = refl
 length-expression : (t : Tree) → length (w.expression widest t) ≡ expression_weight t
 length-expression t = length-each_from (λ _. w.token widest) token_weight length-token 0 (tokens_of t)
 
-length-letters : (b : Bool) → length (w.section_letters widest b) ≡ section_letters_weight b
+length-letters : (b : Bool) → length (w.section_letters b) ≡ section_letters_weight b
 length-letters true = refl
 length-letters false = refl
 
-length-purpose : (p : Option Purpose) → length (w.purpose_letter widest p) ≡ purpose_weight p
+length-purpose : (p : Option Purpose) → length (w.purpose_letter p) ≡ purpose_weight p
 length-purpose None = refl
 length-purpose (Some purpose.Code) = refl
 length-purpose (Some purpose.Data) = refl
@@ -74,8 +74,8 @@ length-base i (Some base) = refl
 length-section_record : (i : ℕ) (s : Section) → length (w.section_record widest i s) ≡ 13 + section_letters_weight s.absolute + purpose_weight s.purpose + length s.name
 length-section_record i s =
     let name = w.string widest s.name in
-    let letters = w.section_letters widest s.absolute in
-    let use_letter = w.purpose_letter widest s.purpose in
+    let letters = w.section_letters s.absolute in
+    let use_letter = w.purpose_letter s.purpose in
     let outer = length-append letters (use_letter ++ name) in
     let inner = length-append use_letter name in
     let first = length-letters s.absolute in
@@ -157,7 +157,7 @@ length-debug_record n (value_mark name value) = let its = length-expression valu
 length-debug_records : (n : ℕ) (marks : List DebugMark) → length (w.debug_records widest n marks) ≡ marks_weight marks
 length-debug_records n [] = refl
 length-debug_records n (mark ∷ marks) =
-    let next = w.names_behind widest n mark in
+    let next = names_behind n mark in
     let rest = length-debug_records next marks in
     let own = length-debug_record n mark in
     length-append (w.debug_record widest n mark) (w.debug_records widest next marks) ∙ (λ i. own i + rest i) ∙ sym (sum_by-cons mark_weight mark marks)
@@ -205,7 +205,7 @@ length-offset_records n [] = refl
 length-offset_records n (x ∷ xs) = let rest = length-offset_records (n + 1) xs in omega (arith, rest)
 
 -- there is an offset for each part, and one for the end
-length-offsets_from : (at : ℕ) (parts : List (List ℕ)) → length (w.offsets_from widest at parts) ≡ 1 + length parts
+pub length-offsets_from : (at : ℕ) (parts : List (List ℕ)) → length (w.offsets_from at parts) ≡ 1 + length parts
 length-offsets_from at [] = refl
 length-offsets_from at ([] ∷ rest) = let its = length-offsets_from at rest in omega (arith, its)
 length-offsets_from at ((b ∷ bytes) ∷ rest) = let its = length-offsets_from (at + length (b ∷ bytes)) rest in omega (arith, its)
@@ -224,7 +224,7 @@ length-joined a b c d e f g =
 length-module_begin : (m : Parts) → length (w.module_begin widest m) ≡ 27 + length m.processor + length m.name
 length-module_begin m =
     let text = w.string widest m.processor in
-    let outer = length-append (0xE0 ∷ (text ++ w.string widest m.name)) (0xEC ∷ (w.number widest 8 ++ (w.number widest m.maus ++ w.order_letter widest m.order ∷ []))) in
+    let outer = length-append (0xE0 ∷ (text ++ w.string widest m.name)) (0xEC ∷ (w.number widest 8 ++ (w.number widest m.maus ++ w.order_letter m.order ∷ []))) in
     let inner = length-append text (w.string widest m.name) in
     omega (arith, outer, inner)
 

@@ -25,7 +25,7 @@ use Rattle.mufom_loads.specs.declared.load.Load.{Load}
 use Rattle.mufom_loads.specs.declared.load.Load.TheVariants.{SetSection, SetPc, One, Repeat}
 use Rattle.mufom_debug.specs.declared.item.BlockHead.{BlockHead}
 use Rattle.mufom_debug.specs.declared.item.BlockHead.TheVariants as heads
-use Rattle.mufom_debug.specs.Marks.{DebugMark, block_begin, block_end, name_mark, note_mark, value_mark, joined, marks_of, kind_number}
+use Rattle.mufom_debug.specs.Marks.{DebugMark, block_begin, block_end, name_mark, note_mark, value_mark, joined, marks_of, kind_number, names_behind}
 use Rattle.mufom_module.specs.declared.module.Order.{Order}
 use Rattle.mufom_module.specs.declared.module.Order.TheVariants.{Least, Most}
 use Rattle.mufom_module.specs.declared.module.Parts.{Parts}
@@ -79,6 +79,29 @@ index_of R position = section_index position
 index_of S position = section_index position
 index_of X position = reference_index position
 
+-- the letters of a section: A S of an absolute one, and else C
+abbrev pub section_letters : Bool → List ℕ
+section_letters true = 0xC1 ∷ 0xD3 ∷ []
+section_letters false = 0xC3 ∷ []
+
+-- the letter of a purpose, if there is one
+abbrev pub purpose_letter : Option Purpose → List ℕ
+purpose_letter None = []
+purpose_letter (Some purpose.Code) = 0xD0 ∷ []
+purpose_letter (Some purpose.Data) = 0xC4 ∷ []
+purpose_letter (Some purpose.Rom) = 0xD2 ∷ []
+
+-- the letter of an order of bytes
+abbrev pub order_letter : Order → ℕ
+order_letter Least = 0xCC
+order_letter Most = 0xCD
+
+-- the offsets of parts that begin at a place, and then the place where they end; an empty part is absent
+abbrev pub offsets_from : ℕ → List (List ℕ) → List ℕ
+offsets_from at [] = at ∷ []
+offsets_from at ([] ∷ rest) = 0 ∷ offsets_from at rest
+offsets_from at ((b ∷ bytes) ∷ rest) = at ∷ offsets_from (at + length (b ∷ bytes)) rest
+
 -- ---- the records, in a style
 module _ (style : Style) where
   -- a number in the style
@@ -108,18 +131,6 @@ module _ (style : Style) where
   numbers ns = each (λ _. number) ns
 
   -- ---- sections
-
-  -- the letters of a section: A S of an absolute one, and else C
-  abbrev pub section_letters : Bool → List ℕ
-  section_letters true = 0xC1 ∷ 0xD3 ∷ []
-  section_letters false = 0xC3 ∷ []
-
-  -- the letter of a purpose, if there is one
-  abbrev pub purpose_letter : Option Purpose → List ℕ
-  purpose_letter None = []
-  purpose_letter (Some purpose.Code) = 0xD0 ∷ []
-  purpose_letter (Some purpose.Data) = 0xC4 ∷ []
-  purpose_letter (Some purpose.Rom) = 0xD2 ∷ []
 
   -- the declaration, ST
   abbrev pub section_record : ℕ → Section → List ℕ
@@ -191,14 +202,6 @@ module _ (style : Style) where
   debug_record n (note_mark name its) = note 0xCE (debug_name_index name) its
   debug_record n (value_mark name value) = 0xE2 ∷ 0xCE ∷ (number (debug_name_index name) ++ expression value)
 
-  -- how many names stand behind a mark
-  abbrev pub names_behind : ℕ → DebugMark → ℕ
-  names_behind n (block_begin head name) = n
-  names_behind n (block_end value) = n
-  names_behind n (name_mark name) = n + 1
-  names_behind n (note_mark name its) = n
-  names_behind n (value_mark name value) = n
-
   -- the records of marks, where so many names stand before them
   abbrev pub debug_records : ℕ → List DebugMark → List ℕ
   debug_records n [] = []
@@ -249,11 +252,6 @@ module _ (style : Style) where
   parts m = m.ext ∷ m.env ∷ each section m.sections ∷ external m
       ∷ debug_records 0 (marks_of m.debug) ∷ each (λ _. load) m.loads ∷ start m.start ∷ []
 
-  -- the letter of an order of bytes
-  abbrev pub order_letter : Order → ℕ
-  order_letter Least = 0xCC
-  order_letter Most = 0xCD
-
   -- MB and AD
   abbrev pub module_begin : Parts → List ℕ
   module_begin m = (0xE0 ∷ (string m.processor ++ string m.name)) ++ (0xEC ∷ (number 8 ++ (number m.maus ++ order_letter m.order ∷ [])))
@@ -261,12 +259,6 @@ module _ (style : Style) where
   -- the ASW record of a part; its offset always takes four bytes
   abbrev pub offset_record : ℕ → ℕ → List ℕ
   offset_record k offset = 0xE2 ∷ 0xD7 ∷ (number k ++ 0x84 ∷ to_be_bytes w32 offset)
-
-  -- the offsets of parts that begin at a place, and then the place where they end; an empty part is absent
-  abbrev pub offsets_from : ℕ → List (List ℕ) → List ℕ
-  offsets_from at [] = at ∷ []
-  offsets_from at ([] ∷ rest) = 0 ∷ offsets_from at rest
-  offsets_from at ((b ∷ bytes) ∷ rest) = at ∷ offsets_from (at + length (b ∷ bytes)) rest
 
   -- the length of MB, AD and the eight ASW records
   abbrev pub header_length : Parts → ℕ

@@ -34,7 +34,7 @@ offset_pieces k (offset ∷ offsets) = piece (r.Offset k offset) (w.offset_recor
 abbrev pub file_of : Parts → FileParts
 file_of m = record {
   begin = piece (r.ModuleBegin (text_at 1 m.processor) (module_name_at m.processor m.name)) (0xE0 ∷ (w.string shortest m.processor ++ w.string shortest m.name));
-  descriptor = piece (r.Descriptor 8 m.maus (Some (w.order_letter shortest m.order))) (0xEC ∷ (w.number shortest 8 ++ (w.number shortest m.maus ++ w.order_letter shortest m.order ∷ [])));
+  descriptor = piece (r.Descriptor 8 m.maus (Some (w.order_letter m.order))) (0xEC ∷ (w.number shortest 8 ++ (w.number shortest m.maus ++ w.order_letter m.order ∷ [])));
   offsets = offset_pieces 0 (w.offsets shortest m);
   extension = m.ext;
   environment = m.env;
@@ -122,13 +122,13 @@ offsets-modes k (suc n) (offset ∷ offsets) behind count few fit = (
 
 -- ---- the offsets
 
-offsets_in-pieces : (k : ℕ) (offsets : List ℕ) → offsets_in (offset_pieces k offsets) ≡ offsets
+pub offsets_in-pieces : (k : ℕ) (offsets : List ℕ) → offsets_in (offset_pieces k offsets) ≡ offsets
 offsets_in-pieces k [] = refl
 offsets_in-pieces k (offset ∷ offsets) = ap (λ (l : List ℕ). offset ∷ l) (offsets_in-pieces (k + 1) offsets)
 
-stand-at : (at : ℕ) (parts : List (List ℕ)) → StandAt (w.offsets_from shortest at parts) at parts
+stand-at : (at : ℕ) (parts : List (List ℕ)) → StandAt (w.offsets_from at parts) at parts
 stand-at at [] = refl
-stand-at at ([] ∷ parts) = (inr (refl, refl), subst (λ (n : ℕ). StandAt (w.offsets_from shortest at parts) n parts) (omega arith) (stand-at at parts))
+stand-at at ([] ∷ parts) = (inr (refl, refl), subst (λ (n : ℕ). StandAt (w.offsets_from at parts) n parts) (omega arith) (stand-at at parts))
 stand-at at ((b ∷ bytes) ∷ parts) = (inl refl, stand-at (at + length (b ∷ bytes)) parts)
 
 module _ (m : Parts) (fits : IsFittingModule m) where

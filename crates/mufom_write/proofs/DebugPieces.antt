@@ -9,10 +9,10 @@ use Rattle.mufom_records.specs.Fields.{is_one_of}
 use Rattle.mufom_records.specs.Layouts.{debug_attributes}
 use Rattle.mufom_debug.specs.declared.item.BlockHead.{BlockHead}
 use Rattle.mufom_debug.specs.declared.item.BlockHead.TheVariants as heads
-use Rattle.mufom_debug.specs.Marks.{DebugMark, block_begin, block_end, name_mark, note_mark, value_mark, kind_number}
+use Rattle.mufom_debug.specs.Marks.{DebugMark, block_begin, block_end, name_mark, note_mark, value_mark, kind_number, names_behind}
 use Rattle.mufom_module.specs.Pieces.{Piece, bytes_of}
 use Rattle.mufom_module.specs.RecordParts.{debug_part}
-use Rattle.mufom_module.specs.Written.{shortest, section_index, debug_name_index, names_behind}
+use Rattle.mufom_module.specs.Written.{shortest, section_index, debug_name_index}
 use Rattle.mufom_module.specs.Written as w
 use Rattle.mufom_module.specs.Defects.{is_long}
 use Rattle.mufom_write.proofs.Rows.{IsSpelledNote, name_at, value_at, text_at, debug_name-whole, debug_note-whole, debug_value-whole}
@@ -33,11 +33,11 @@ mark_piece n mark = piece (mark_row n mark) (w.debug_record shortest n mark)
 
 abbrev pub mark_pieces : ℕ → List DebugMark → List Piece
 mark_pieces n [] = []
-mark_pieces n (mark ∷ marks) = mark_piece n mark ∷ mark_pieces (names_behind shortest n mark) marks
+mark_pieces n (mark ∷ marks) = mark_piece n mark ∷ mark_pieces (names_behind n mark) marks
 
 pub marks-bytes : (n : ℕ) (marks : List DebugMark) → bytes_of (mark_pieces n marks) ≡ w.debug_records shortest n marks
 marks-bytes n [] = refl
-marks-bytes n (mark ∷ marks) = ap (λ (l : List ℕ). w.debug_record shortest n mark ++ l) (marks-bytes (names_behind shortest n mark) marks)
+marks-bytes n (mark ∷ marks) = ap (λ (l : List ℕ). w.debug_record shortest n mark ++ l) (marks-bytes (names_behind n mark) marks)
 
 -- ---- each is whole
 
@@ -62,7 +62,7 @@ IsFittingMark n (value_mark name value) = (debug_name_index name < 2 ^ 32) × Is
 
 abbrev pub AreFittingMarks : ℕ → List DebugMark → Type 0
 AreFittingMarks n [] = Unit {0}
-AreFittingMarks n (mark ∷ marks) = IsFittingMark n mark × AreFittingMarks (names_behind shortest n mark) marks
+AreFittingMarks n (mark ∷ marks) = IsFittingMark n mark × AreFittingMarks (names_behind n mark) marks
 
 head-spelled : (head : BlockHead) → IsFittingHead head → IsSpelledHead head
 head-spelled heads.Module fits = tt
@@ -86,4 +86,4 @@ mark-piece n (value_mark name value) fits =
 
 pub marks-pieces : (n : ℕ) (marks : List DebugMark) → AreFittingMarks n marks → AllByRecursion (IsPiece debug_part) (mark_pieces n marks)
 marks-pieces n [] fit = tt
-marks-pieces n (mark ∷ marks) fit = (mark-piece n mark fit.0, marks-pieces (names_behind shortest n mark) marks fit.1)
+marks-pieces n (mark ∷ marks) fit = (mark-piece n mark fit.0, marks-pieces (names_behind n mark) marks fit.1)

@@ -22,12 +22,12 @@ use Rattle.mufom_debug.specs.declared.item.BlockHead.TheVariants as heads
 use Rattle.mufom_debug.specs.Marks.{DebugMark, block_begin, block_end, name_mark, note_mark, value_mark, marks_of, offset_of}
 use Rattle.mufom_module.specs.declared.module.Parts.{Parts}
 use Rattle.mufom_module.specs.declared.module.Defect.TheVariants as d
-use Rattle.mufom_module.specs.Contents.{any_of, any_item, item_any}
+use Rattle.mufom_module.specs.Contents.{any_of, any_item, item_any, placed_loads}
 use Rattle.mufom_module.specs.Weights.{section_weight, public_weight, reference_weight, mark_weight}
-use Rattle.mufom_module.specs.Written.{weight, names_behind, shortest}
+use Rattle.mufom_module.specs.Written.{weight, shortest}
 use Rattle.mufom_module.specs.Written as w
 use Rattle.mufom_module.specs.Made.{IsNumber, IsMadeTree, IsMadeSection, IsMadeNote, IsMadeWeak, IsMadePublic, IsMadeReference, IsMadeItem, IsMadeLoad, IsMadeHead, IsMadeMark, IsMade}
-use Rattle.mufom_module.specs.Defects.{is_long, has_long_name, counts_of, names_outside, has_bad_place, names_no_section, names_bad_section, has_bad_mark, declared_behind, has_unknown_attribute, is_long_literal, has_bad_size, has_defect, defects, IsValid}
+use Rattle.mufom_module.specs.Defects.{is_long, has_long_name, counts_of, names_outside, has_bad_place, loads_nowhere, names_no_section, names_bad_section, has_bad_mark, declared_behind, has_unknown_attribute, is_long_literal, has_bad_size, has_defect, defects, IsValid}
 use Rattle.mufom_module.proofs.WeightLaws.{weight-sum}
 use Rattle.mufom_module.proofs.Valid.{weighs_less}
 use Rattle.mufom_write.proofs.Shorter.{eight-offsets}
@@ -272,6 +272,10 @@ inside m long position =
 
 pub inside_module : (m : Parts) → IsValid m → IsInside m
 inside_module m valid = let none = missed (has_defect m) defects valid in inside m none.1.0 none.1.1.1.1.1.0
+
+-- nothing is loaded before a section is set
+pub loads-placed : (m : Parts) → IsValid m → list_any loads_nowhere (placed_loads m) ≡ false
+loads-placed m valid = let none = missed (has_defect m) defects valid in none.1.1.1.1.1.1.1.0
 
 publics-fit : (m : Parts) (publics : List Public) → AreFew m → AllByRecursion IsMadePublic publics → list_any (λ p. is_long p.name) publics ≡ false
     → list_any (λ p. names_outside (counts_of m) p.value) publics ≡ false → AllByRecursion IsFittingPublic publics

@@ -41,7 +41,7 @@ begin-whole processor name next hp bp hn bn = (
 )
 
 order-whole : (maus : ℕ) (order : Order) (next : Option ℕ) → maus < 2 ^ 64
-    → IsWholeRecord mode.Descriptor (r.Descriptor 8 maus (Some (w.order_letter shortest order))) (0xEC ∷ 8 ∷ (w.number shortest maus ++ w.order_letter shortest order ∷ [])) next
+    → IsWholeRecord mode.Descriptor (r.Descriptor 8 maus (Some (w.order_letter order))) (0xEC ∷ 8 ∷ (w.number shortest maus ++ w.order_letter order ∷ [])) next
 order-whole maus Least next hm = (
   0xEC,
   0xEC ∷ [],
@@ -75,7 +75,7 @@ order-whole maus Most next hm = (
 
 -- AD
 pub descriptor-whole : (maus : ℕ) (order : Order) (next : Option ℕ) → maus < 2 ^ 64
-    → IsWholeRecord mode.Descriptor (r.Descriptor 8 maus (Some (w.order_letter shortest order))) (0xEC ∷ (w.number shortest 8 ++ (w.number shortest maus ++ w.order_letter shortest order ∷ []))) next
+    → IsWholeRecord mode.Descriptor (r.Descriptor 8 maus (Some (w.order_letter order))) (0xEC ∷ (w.number shortest 8 ++ (w.number shortest maus ++ w.order_letter order ∷ []))) next
 descriptor-whole = order-whole
 
 four_bytes : (n : ℕ) → n < 2 ^ 32 → SpellsNumber n (0x84 ∷ to_be_bytes w32 n)

@@ -21,3 +21,8 @@ pub mod SaidLoads
 pub mod SaidSections
 pub mod SaidNames
 pub mod Naming
+pub mod Known
+pub mod NamingNames
+pub mod NamingDebug
+pub mod NamingLoads
+pub mod NamingFile

@@ -55,7 +55,7 @@ unless-unsaid : (b : Bool) (p : Piece) (once : Once) → is_assigned (p ∷ []) 
 unless-unsaid true p once h = refl
 unless-unsaid false p once h = h
 
-not_same : (i j : ℕ) → (i ≡ j → ⊥) → ((i == j) || false) ≡ false
+pub not_same : (i j : ℕ) → (i ≡ j → ⊥) → ((i == j) || false) ≡ false
 not_same i j differ = ap (λ (b : Bool). b || false) (ne_eqb i j differ)
 
 -- a follow of a record that is there or not
@@ -63,10 +63,10 @@ unless-follow : (b : Bool) (before : List Piece) (p : Piece) → Follows before 
 unless-follow true before p h = tt
 unless-follow false before p h = (h, tt)
 
--- what a record before which the section was declared keeps to
-setting-follows : (before : List Piece) (i : ℕ) (p : Piece) → named_at_once p ≡ (section, i) ∷ [] → declares_again before p.row ≡ false → has_no_section before p.row ≡ false
-    → is_declared before (section, i) ≡ true → says_again before p.row ≡ false → Follows before p
-setting-follows before i p names new placed known once = record {
+-- what a record keeps to that names one index, which is declared before it
+pub index-follows : (before : List Piece) (index : FileIndex) (p : Piece) → named_at_once p ≡ index ∷ [] → declares_again before p.row ≡ false → has_no_section before p.row ≡ false
+    → is_declared before index ≡ true → says_again before p.row ≡ false → Follows before p
+index-follows before index p names new placed known once = record {
   new = new;
   known = ap (λ (l : List FileIndex). not (list_all (is_declared before) l)) names ∙ ap (λ (b : Bool). not (b && true)) known;
   once = once;
@@ -78,7 +78,7 @@ declared-more before xs index h =
     ap (list_any (λ j. j == index.1)) (declared-append index.0 before xs)
     ∙ list_any-append (λ j. j == index.1) (declared index.0 before) (declared index.0 xs) ∙ ap (λ (b : Bool). b || list_any (λ j. j == index.1) (declared index.0 xs)) h
 
-or_true : (b : Bool) → (b || true) ≡ true
+pub or_true : (b : Bool) → (b || true) ≡ true
 or_true true = refl
 or_true false = refl
 
@@ -106,7 +106,7 @@ declared-here before n s =
 
 base-follows : (before : List Piece) (i : ℕ) (base : Option ℕ) → is_declared before (section, i) ≡ true → is_assigned before (section_base i) ≡ false → FollowFrom before (base_pieces i base)
 base-follows before i None known unsaid = tt
-base-follows before i (Some base) known unsaid = (setting-follows before i (base_piece i base) refl refl refl known unsaid, tt)
+base-follows before i (Some base) known unsaid = (index-follows before (section, i) (base_piece i base) refl refl refl known unsaid, tt)
 
 settings-follow : (before : List Piece) (i : ℕ) (s : Section) → is_declared before (section, i) ≡ true → is_assigned before (alignment i) ≡ false → is_assigned before (section_size i) ≡ false
     → is_assigned before (section_base i) ≡ false → FollowFrom before (settings i s)
@@ -118,9 +118,9 @@ settings-follow before i s known aligned sized based =
     let last = unsaid-append (before ++ a) b (section_base i) third (unless-unsaid (s.size == 0) (size_piece i s.size) (section_base i) refl) in
     let behind = declared-more before a (section, i) known in
     follow-append before a (b ++ base_pieces i s.base)
-    (unless-follow (s.align == 1) before (alignment_piece i s.align) (setting-follows before i (alignment_piece i s.align) refl refl refl known aligned))
+    (unless-follow (s.align == 1) before (alignment_piece i s.align) (index-follows before (section, i) (alignment_piece i s.align) refl refl refl known aligned))
     (follow-append (before ++ a) b (base_pieces i s.base)
-    (unless-follow (s.size == 0) (before ++ a) (size_piece i s.size) (setting-follows (before ++ a) i (size_piece i s.size) refl refl refl behind second))
+    (unless-follow (s.size == 0) (before ++ a) (size_piece i s.size) (index-follows (before ++ a) (section, i) (size_piece i s.size) refl refl refl behind second))
     (base-follows ((before ++ a) ++ b) i s.base (declared-more (before ++ a) b (section, i) behind) last))
 
 section-follows : (before : List Piece) (n : ℕ) (s : Section) → BeforeSection before n → FollowFrom before (section_pieces n s)
@@ -136,14 +136,14 @@ base-unsaid : (i : ℕ) (base : Option ℕ) (once : Once) → ((b : ℕ) → is_
 base-unsaid i None once h = refl
 base-unsaid i (Some base) once h = h base
 
-section-unsaid : (n : ℕ) (s : Section) (once : Once) → is_assigned (alignment_piece (n + 1) s.align ∷ []) once ≡ false → is_assigned (size_piece (n + 1) s.size ∷ []) once ≡ false
+pub section-unsaid : (n : ℕ) (s : Section) (once : Once) → is_assigned (alignment_piece (n + 1) s.align ∷ []) once ≡ false → is_assigned (size_piece (n + 1) s.size ∷ []) once ≡ false
     → ((b : ℕ) → is_assigned (base_piece (n + 1) b ∷ []) once ≡ false) → is_assigned (section_pieces n s) once ≡ false
 section-unsaid n s once a b c =
     let i = n + 1 in
     unsaid-append (alignment_pieces i s.align) (size_pieces i s.size ++ base_pieces i s.base) once (unless-unsaid (s.align == 1) (alignment_piece i s.align) once a)
     (unsaid-append (size_pieces i s.size) (base_pieces i s.base) once (unless-unsaid (s.size == 0) (size_piece i s.size) once b) (base-unsaid i s.base once c))
 
-counting-more : (first n : ℕ) → counting first n ++ (first + n) ∷ [] ≡ counting first (suc n)
+pub counting-more : (first n : ℕ) → counting first n ++ (first + n) ∷ [] ≡ counting first (suc n)
 counting-more first zero = let same : first + 0 ≡ first = omega arith in ap (λ (x : ℕ). x ∷ []) same
 counting-more first (suc n) =
     let same : first + suc n ≡ first + 1 + n = omega arith in

@@ -74,29 +74,29 @@ pub part-within : (xs : List (List ℕ)) (i : ℕ) → i < length xs → length 
 part-within xs i inside = let next = next-length xs i inside in let rest = joined-rest xs i in omega (arith, next, rest)
 
 offsets-next : (at : ℕ) (bytes : List ℕ) (rest : List (List ℕ))
-    → w.offsets_from shortest at (bytes ∷ rest) ≡ cond (length bytes == 0) 0 at ∷ w.offsets_from shortest (at + length bytes) rest
-offsets-next at [] rest = ap (λ (n : ℕ). 0 ∷ w.offsets_from shortest n rest) (omega arith)
-offsets-next at (b ∷ bytes) rest = ap (λ (none : Bool). cond none 0 at ∷ w.offsets_from shortest (at + length (b ∷ bytes)) rest) (sym (ne_eqb (length (b ∷ bytes)) 0 (λ h. omega (arith, h))))
+    → w.offsets_from at (bytes ∷ rest) ≡ cond (length bytes == 0) 0 at ∷ w.offsets_from (at + length bytes) rest
+offsets-next at [] rest = ap (λ (n : ℕ). 0 ∷ w.offsets_from n rest) (omega arith)
+offsets-next at (b ∷ bytes) rest = ap (λ (none : Bool). cond none 0 at ∷ w.offsets_from (at + length (b ∷ bytes)) rest) (sym (ne_eqb (length (b ∷ bytes)) 0 (λ h. omega (arith, h))))
 
 pub place-step : (at i v len : ℕ) (parts : List (List ℕ)) (offsets all : List ℕ) → i < length parts → i < length offsets → len ≡ length (get_or parts i []) → v ≡ cond (len == 0) 0 at
-    → take i offsets ++ w.offsets_from shortest at (drop i parts) ≡ all
-    → take (i + 1) (slice_set offsets i v) ++ w.offsets_from shortest (at + len) (drop (i + 1) parts) ≡ all
+    → take i offsets ++ w.offsets_from at (drop i parts) ≡ all
+    → take (i + 1) (slice_set offsets i v) ++ w.offsets_from (at + len) (drop (i + 1) parts) ≡ all
 place-step at i v len parts offsets all inside within is place h =
     let behind = drop (i + 1) parts in
     let bytes = get_or parts i [] in
-    let next : w.offsets_from shortest at (drop i parts) ≡ v ∷ w.offsets_from shortest (at + len) behind =
-    ap (w.offsets_from shortest at) (drop_more parts i [] inside) ∙ offsets-next at bytes behind
-    ∙ ap (λ (n : ℕ). cond (n == 0) 0 at ∷ w.offsets_from shortest (at + n) behind) (sym is)
-    ∙ ap (λ (n : ℕ). n ∷ w.offsets_from shortest (at + len) behind) (sym place) in
-    ap (λ (l : List ℕ). l ++ w.offsets_from shortest (at + len) behind) (take_more_set offsets i v within)
-    ∙ append_assoc (take i offsets) (v ∷ []) (w.offsets_from shortest (at + len) behind)
+    let next : w.offsets_from at (drop i parts) ≡ v ∷ w.offsets_from (at + len) behind =
+    ap (w.offsets_from at) (drop_more parts i [] inside) ∙ offsets-next at bytes behind
+    ∙ ap (λ (n : ℕ). cond (n == 0) 0 at ∷ w.offsets_from (at + n) behind) (sym is)
+    ∙ ap (λ (n : ℕ). n ∷ w.offsets_from (at + len) behind) (sym place) in
+    ap (λ (l : List ℕ). l ++ w.offsets_from (at + len) behind) (take_more_set offsets i v within)
+    ∙ append_assoc (take i offsets) (v ∷ []) (w.offsets_from (at + len) behind)
     ∙ ap (λ (l : List ℕ). take i offsets ++ l) (sym next) ∙ h
 
 -- the last offset is the place where the parts end
 pub place-last : (at i : ℕ) (parts : List (List ℕ)) (offsets all : List ℕ) → length parts ≤ i → length offsets ≡ i + 1
-    → take i offsets ++ w.offsets_from shortest at (drop i parts) ≡ all → slice_set offsets i at ≡ all
+    → take i offsets ++ w.offsets_from at (drop i parts) ≡ all → slice_set offsets i at ≡ all
 place-last at i parts offsets all past count h =
-    let ends : w.offsets_from shortest at (drop i parts) ≡ at ∷ [] = ap (w.offsets_from shortest at) (drop_all i parts past) in
+    let ends : w.offsets_from at (drop i parts) ≡ at ∷ [] = ap (w.offsets_from at) (drop_all i parts past) in
     let size : length (slice_set offsets i at) ≤ i + 1 = length-kept offsets i at count in
     sym (take_all (i + 1) (slice_set offsets i at) size) ∙ take_more_set offsets i at (omega (arith, count)) ∙ ap (λ (l : List ℕ). take i offsets ++ l) (sym ends) ∙ h
   where
@@ -110,9 +110,9 @@ pub place-full : (v len at : ℕ) → (len ≡ 0 → ⊥) → v ≡ at → v ≡
 place-full v len at some h = h ∙ ap (λ (b : Bool). cond b 0 at) (sym (ne_eqb len 0 some))
 
 -- each offset is at most the place where the parts end
-pub offsets-fit : (at : ℕ) (parts : List (List ℕ)) → at + length (joined parts) < 2 ^ 32 → All (λ offset. offset < 2 ^ 32) (w.offsets_from shortest at parts)
+pub offsets-fit : (at : ℕ) (parts : List (List ℕ)) → at + length (joined parts) < 2 ^ 32 → All (λ offset. offset < 2 ^ 32) (w.offsets_from at parts)
 offsets-fit at [] few = All-cons (λ offset. offset < 2 ^ 32) at [] (omega (arith, few)) (All-nil (λ offset. offset < 2 ^ 32))
-offsets-fit at ([] ∷ rest) few = All-cons (λ offset. offset < 2 ^ 32) 0 (w.offsets_from shortest at rest) (omega arith) (offsets-fit at rest few)
+offsets-fit at ([] ∷ rest) few = All-cons (λ offset. offset < 2 ^ 32) 0 (w.offsets_from at rest) (omega arith) (offsets-fit at rest few)
 offsets-fit at ((b ∷ bytes) ∷ rest) few =
     let whole = length-append (b ∷ bytes) (joined rest) in
-    All-cons (λ offset. offset < 2 ^ 32) at (w.offsets_from shortest (at + length (b ∷ bytes)) rest) (omega (arith, few)) (offsets-fit (at + length (b ∷ bytes)) rest (omega (arith, few, whole)))
+    All-cons (λ offset. offset < 2 ^ 32) at (w.offsets_from (at + length (b ∷ bytes)) rest) (omega (arith, few)) (offsets-fit (at + length (b ∷ bytes)) rest (omega (arith, few, whole)))

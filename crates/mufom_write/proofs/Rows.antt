@@ -179,8 +179,8 @@ section_name-spells i absolute letter name at next code short bytes =
     )
 
 named_section-spells : (i : ℕ) (absolute : Bool) (p : Option Purpose) (name : List ℕ) (at : ℕ) (next : Option ℕ) → IsCode next → is_long name ≡ false → AreBytes name
-    → SpellsRecord (named_section i absolute) (r.SectionType i absolute (letter_for p) (text_at (at + length (w.purpose_letter shortest p)) name) None None None) at
-    (w.purpose_letter shortest p ++ w.string shortest name) next
+    → SpellsRecord (named_section i absolute) (r.SectionType i absolute (letter_for p) (text_at (at + length (w.purpose_letter p)) name) None None None) at
+    (w.purpose_letter p ++ w.string shortest name) next
 named_section-spells i absolute None name at next code short bytes =
     (None, [], w.string shortest name, (refl, lead-stops (length name) name next), section_name-spells i absolute None name (at + 0) next code short bytes, refl)
 named_section-spells i absolute (Some purpose.Code) name at next code short bytes =
@@ -197,28 +197,28 @@ purpose_place i false = 1 + length (w.number shortest i) + 1
 
 -- where its name stands
 abbrev pub section_name_at : ℕ → Section → Span
-section_name_at i s = text_at (purpose_place i s.absolute + length (w.purpose_letter shortest s.purpose)) s.name
+section_name_at i s = text_at (purpose_place i s.absolute + length (w.purpose_letter s.purpose)) s.name
 
 abbrev pub section_row : ℕ → Section → Record
 section_row i s = r.SectionType i s.absolute (letter_for s.purpose) (section_name_at i s) None None None
 
 section_type-spells : (i : ℕ) (absolute : Bool) (p : Option Purpose) (name : List ℕ) (next : Option ℕ) → IsCode next → i < 2 ^ 32 → is_long name ≡ false → AreBytes name
-    → SpellsRecord section_type (r.SectionType i absolute (letter_for p) (text_at (purpose_place i absolute + length (w.purpose_letter shortest p)) name) None None None) 1
-    (w.number shortest i ++ (w.section_letters shortest absolute ++ (w.purpose_letter shortest p ++ w.string shortest name))) next
+    → SpellsRecord section_type (r.SectionType i absolute (letter_for p) (text_at (purpose_place i absolute + length (w.purpose_letter p)) name) None None None) 1
+    (w.number shortest i ++ (w.section_letters absolute ++ (w.purpose_letter p ++ w.string shortest name))) next
 section_type-spells i true p name next code hi short bytes = (
   i,
   w.number shortest i,
-  0xC1 ∷ 0xD3 ∷ (w.purpose_letter shortest p ++ w.string shortest name),
+  0xC1 ∷ 0xD3 ∷ (w.purpose_letter p ++ w.string shortest name),
   spells_index i hi,
   (
     0xC1,
     0xC1 ∷ [],
-    0xD3 ∷ (w.purpose_letter shortest p ++ w.string shortest name),
+    0xD3 ∷ (w.purpose_letter p ++ w.string shortest name),
     refl,
     (
       0xD3,
       0xD3 ∷ [],
-      w.purpose_letter shortest p ++ w.string shortest name,
+      w.purpose_letter p ++ w.string shortest name,
       refl,
       named_section-spells i true p name (1 + length (w.number shortest i) + 1 + 1) next code short bytes,
       refl,
@@ -230,12 +230,12 @@ section_type-spells i true p name next code hi short bytes = (
 section_type-spells i false p name next code hi short bytes = (
   i,
   w.number shortest i,
-  0xC3 ∷ (w.purpose_letter shortest p ++ w.string shortest name),
+  0xC3 ∷ (w.purpose_letter p ++ w.string shortest name),
   spells_index i hi,
   (
     0xC3,
     0xC3 ∷ [],
-    w.purpose_letter shortest p ++ w.string shortest name,
+    w.purpose_letter p ++ w.string shortest name,
     refl,
     named_section-spells i false p name (1 + length (w.number shortest i) + 1) next code short bytes,
     refl,
@@ -247,7 +247,7 @@ pub section-whole : (i : ℕ) (s : Section) → i < 2 ^ 32 → is_long s.name �
 section-whole i s hi short bytes next code = (
   0xE6,
   0xE6 ∷ [],
-  w.number shortest i ++ (w.section_letters shortest s.absolute ++ (w.purpose_letter shortest s.purpose ++ w.string shortest s.name)),
+  w.number shortest i ++ (w.section_letters s.absolute ++ (w.purpose_letter s.purpose ++ w.string shortest s.name)),
   refl,
   section_type-spells i s.absolute s.purpose s.name next code hi short bytes,
   refl,

@@ -1,4 +1,4 @@
--- What is written of a module is cut into records that say what the module has.
+-- What is written of a module spells it.
 use Rattle.std.proofs.Common.{◌≡◌, ℕ, ◌+◌, ◌≤◌, true, List, [], ◌∷◌, ◌++◌, length, Some, refl, sym, subst, inl, arith}
 use Rattle.std.specs.Prelude.{slice_range}
 use Rattle.mufom_expr.specs.Spelled.{Indexes}
@@ -10,19 +10,20 @@ use Rattle.mufom_module.specs.Written.{written, shortest}
 use Rattle.mufom_module.specs.Written as w
 use Rattle.mufom_module.specs.Defects.{IsValid}
 use Rattle.mufom_module.specs.Made.{IsMade}
-use Rattle.mufom_module.specs.Grammar.{file_limit, indexes_of, IsLetterOf, Says, FileParts, IsCutInto}
+use Rattle.mufom_module.specs.Grammar.{file_limit, indexes_of, IsLetterOf, Says, SpellsModule}
 use Rattle.mufom_write.proofs.Rows.{text_at}
 use Rattle.mufom_write.proofs.HeaderRows.{module_name_at}
 use Rattle.mufom_write.proofs.Indexed.{written_indexes}
 use Rattle.mufom_write.proofs.CutFile.{IsFittingModule, file_of, cut}
-use Rattle.mufom_write.proofs.Fitting.{IsInside, inside_module, module-fits}
+use Rattle.mufom_write.proofs.Fitting.{IsInside, inside_module, loads-placed, module-fits}
+use Rattle.mufom_write.proofs.NamingFile.{has-names}
 use Rattle.mufom_write.proofs.Texts.{string-between, string-last}
 use Rattle.mufom_write.proofs.SaidDebug.{names_in, declared-names, marks-back}
 use Rattle.mufom_write.proofs.SaidLoads.{loads-back, start-back}
 use Rattle.mufom_write.proofs.SaidNames.{declared-publics, declared-references, publics-back, references-back}
 use Rattle.mufom_write.proofs.SaidSections.{declared-sections, sections-back}
 
-letter-of : (order : Order) → IsLetterOf order (Some (w.order_letter shortest order))
+letter-of : (order : Order) → IsLetterOf order (Some (w.order_letter order))
 letter-of Least = refl
 letter-of Most = inl refl
 
@@ -42,7 +43,7 @@ module _ (m : Parts) where
       let d = declared-names 0 (marks_of m.debug) in
       λ i. record { sections = s i; publics = p i; references = r i; debug_names = d i }
 
-  says : IsFittingModule m → IsInside m → Says (file_of m) (indexes_of (file_of m)) m
+  pub says : IsFittingModule m → IsInside m → Says (file_of m) (indexes_of (file_of m)) m
   says fits its = subst (λ (ix : Indexes). Says (file_of m) ix m) (sym indexes-are) (record {
     begin = (processor-back m.processor m.name, name-back m.processor m.name);
     descriptor = (refl, refl, letter-of m.order);
@@ -56,6 +57,9 @@ module _ (m : Parts) where
     start = sym (start-back m (names_in (marks_of m.debug)) m.start fits.start its.start);
   })
 
--- what is written is cut into records that say the module
-pub said : (m : Parts) → IsValid m → IsMade m → length (written m) ≤ file_limit → (f : FileParts) × IsCutInto (written m) true f × Says f (indexes_of f) m
-said m valid made few = let fits = module-fits m valid made in (file_of m, cut m fits few, says m fits (inside_module m valid))
+-- what is written spells the module
+pub said : (m : Parts) → IsValid m → IsMade m → length (written m) ≤ file_limit → SpellsModule m (written m) true
+said m valid made few =
+    let fits = module-fits m valid made in
+    let its = inside_module m valid in
+    (file_of m, cut m fits few, has-names m fits its (loads-placed m valid), says m fits its, valid)

@@ -6,12 +6,12 @@ use Rattle.std.proofs.lemmas.Bool.{or_parts, leb-false, ltb-true}
 use Rattle.mufom_expr.specs.Tree.{Tree}
 use Rattle.mufom_debug.specs.declared.item.BlockHead.{BlockHead}
 use Rattle.mufom_debug.specs.declared.item.BlockHead.TheVariants as heads
-use Rattle.mufom_debug.specs.Marks.{DebugMark, block_begin, block_end, name_mark, note_mark, value_mark, offset_of}
+use Rattle.mufom_debug.specs.Marks.{DebugMark, block_begin, block_end, name_mark, note_mark, value_mark, offset_of, names_behind}
 use Rattle.mufom_module.specs.declared.module.Parts.{Parts}
 use Rattle.mufom_module.specs.Contents.{any_of}
 use Rattle.mufom_module.specs.Pieces.{declared, debug_name, tree_in, positioned}
 use Rattle.mufom_module.specs.Gathered.{mark_by, marks}
-use Rattle.mufom_module.specs.Written.{shortest, section_index, debug_name_index, names_behind}
+use Rattle.mufom_module.specs.Written.{shortest, section_index, debug_name_index}
 use Rattle.mufom_module.specs.Written as w
 use Rattle.mufom_module.specs.Defects.{counts_of, names_outside, names_bad_section, has_bad_mark, declared_behind}
 use Rattle.mufom_names.specs.declared.name.Note.{Note}
@@ -107,8 +107,8 @@ module _ (m : Parts) (k : ℕ) where
   note-back n name its within = ap (λ (place : ℕ). Some (note_mark place its)) (position_in-counting 32 k name within)
 
   next-mark : (n : ℕ) (mark : DebugMark) (rest : List DebugMark) → mark_by (written_indexes m k) (mark_piece n mark) (mark_row n mark) ≡ Some mark
-      → marks (written_indexes m k) (mark_pieces (names_behind shortest n mark) rest) ≡ rest → marks (written_indexes m k) (mark_pieces n (mark ∷ rest)) ≡ mark ∷ rest
-  next-mark n mark rest first later = (λ i. cons_option (first i) (marks (written_indexes m k) (mark_pieces (names_behind shortest n mark) rest))) ∙ ap (λ (l : List DebugMark). mark ∷ l) later
+      → marks (written_indexes m k) (mark_pieces (names_behind n mark) rest) ≡ rest → marks (written_indexes m k) (mark_pieces n (mark ∷ rest)) ≡ mark ∷ rest
+  next-mark n mark rest first later = (λ i. cons_option (first i) (marks (written_indexes m k) (mark_pieces (names_behind n mark) rest))) ∙ ap (λ (l : List DebugMark). mark ∷ l) later
 
   pub marks-back : (n : ℕ) (ms : List DebugMark) → AreFittingMarks n ms → list_any (has_bad_mark (counts_of m)) ms ≡ false → is_none (declared_behind n ms) ≡ false → n + names_in ms ≤ k
       → marks (written_indexes m k) (mark_pieces n ms) ≡ ms

@@ -27,31 +27,31 @@ use Rattle.mufom_write.proofs.Texts.{string-last, text-last, tree-back}
 -- ---- what is asked of records
 
 -- notes that an asking passes over
-public_notes-nothing : {Y : Type 0} (ask : Piece → Option Y) (k i : ℕ) (notes : List Note) → ((note : Note) → ask (public_note_piece i note) ≡ None)
+pub public_notes-nothing : {Y : Type 0} (ask : Piece → Option Y) (k i : ℕ) (notes : List Note) → ((note : Note) → ask (public_note_piece i note) ≡ None)
     → filter_map ask (pieces_from k (λ _ note. public_note_piece i note ∷ []) notes) ≡ []
 public_notes-nothing ask k i [] none = refl
 public_notes-nothing {Y = Y} ask k i (note ∷ notes) none =
     let rest = public_notes-nothing ask (k + 1) i notes none in
     (λ j. cons_option (none note j) (rest j))
 
-reference_notes-nothing : {Y : Type 0} (ask : Piece → Option Y) (k i : ℕ) (notes : List Note) → ((note : Note) → ask (reference_note_piece i note) ≡ None)
+pub reference_notes-nothing : {Y : Type 0} (ask : Piece → Option Y) (k i : ℕ) (notes : List Note) → ((note : Note) → ask (reference_note_piece i note) ≡ None)
     → filter_map ask (pieces_from k (λ _ note. reference_note_piece i note ∷ []) notes) ≡ []
 reference_notes-nothing ask k i [] none = refl
 reference_notes-nothing {Y = Y} ask k i (note ∷ notes) none =
     let rest = reference_notes-nothing ask (k + 1) i notes none in
     (λ j. cons_option (none note j) (rest j))
 
-public-nothing : {Y : Type 0} (ask : Piece → Option Y) (i : ℕ) (p : Public) → ((note : Note) → ask (public_note_piece i note) ≡ None) → ask (public_value_piece i p) ≡ None
+pub public-nothing : {Y : Type 0} (ask : Piece → Option Y) (i : ℕ) (p : Public) → ((note : Note) → ask (public_note_piece i note) ≡ None) → ask (public_value_piece i p) ≡ None
     → filter_map ask (public_note_pieces i p.notes ++ public_value_piece i p ∷ []) ≡ []
 public-nothing {Y = Y} ask i p notes value =
     let first = public_notes-nothing ask 0 i p.notes notes in
     filter_map-append ask (public_note_pieces i p.notes) (public_value_piece i p ∷ []) ∙ (λ j. first j ++ cons_option (value j) [])
 
-weak-nothing : {Y : Type 0} (ask : Piece → Option Y) (i : ℕ) (weak : Option Weak) → ((x : Weak) → ask (weak_piece i x) ≡ None) → filter_map ask (weak_pieces i weak) ≡ []
+pub weak-nothing : {Y : Type 0} (ask : Piece → Option Y) (i : ℕ) (weak : Option Weak) → ((x : Weak) → ask (weak_piece i x) ≡ None) → filter_map ask (weak_pieces i weak) ≡ []
 weak-nothing ask i None none = refl
 weak-nothing {Y = Y} ask i (Some weak) none = λ j. cons_option (none weak j) []
 
-reference-nothing : {Y : Type 0} (ask : Piece → Option Y) (i : ℕ) (r : Reference) → ((note : Note) → ask (reference_note_piece i note) ≡ None) → ((x : Weak) → ask (weak_piece i x) ≡ None)
+pub reference-nothing : {Y : Type 0} (ask : Piece → Option Y) (i : ℕ) (r : Reference) → ((note : Note) → ask (reference_note_piece i note) ≡ None) → ((x : Weak) → ask (weak_piece i x) ≡ None)
     → filter_map ask (reference_note_pieces i r.notes ++ weak_pieces i r.weak) ≡ []
 reference-nothing ask i r notes weak =
     let first = reference_notes-nothing ask 0 i r.notes notes in

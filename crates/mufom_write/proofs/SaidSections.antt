@@ -138,15 +138,15 @@ purpose-back (Some purpose.Code) = refl
 purpose-back (Some purpose.Data) = refl
 purpose-back (Some purpose.Rom) = refl
 
-place-is : (i : ℕ) (absolute : Bool) → purpose_place i absolute ≡ 1 + length (w.number shortest i) + length (w.section_letters shortest absolute)
+place-is : (i : ℕ) (absolute : Bool) → purpose_place i absolute ≡ 1 + length (w.number shortest i) + length (w.section_letters absolute)
 place-is i true = omega arith
 place-is i false = omega arith
 
 name-back : (i : ℕ) (s : Section) → text_in (declaration i s) (section_name_at i s) ≡ s.name
 name-back i s =
     let a = w.number shortest i in
-    let b = w.section_letters shortest s.absolute in
-    let c = w.purpose_letter shortest s.purpose in
+    let b = w.section_letters s.absolute in
+    let c = w.purpose_letter s.purpose in
     let place = place-is i s.absolute in
     let one = length-append a (b ++ c) in
     let two = length-append b c in

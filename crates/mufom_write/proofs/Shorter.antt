@@ -21,14 +21,14 @@ use Rattle.mufom_loads.specs.declared.load.Load.{Load}
 use Rattle.mufom_loads.specs.declared.load.Load.TheVariants.{SetSection, SetPc, One, Repeat}
 use Rattle.mufom_debug.specs.declared.item.BlockHead.{BlockHead}
 use Rattle.mufom_debug.specs.declared.item.BlockHead.TheVariants as heads
-use Rattle.mufom_debug.specs.Marks.{DebugMark, block_begin, block_end, name_mark, note_mark, value_mark, joined, marks_of, kind_number}
+use Rattle.mufom_debug.specs.Marks.{DebugMark, block_begin, block_end, name_mark, note_mark, value_mark, joined, marks_of, kind_number, names_behind}
 use Rattle.mufom_module.specs.declared.module.Parts.{Parts}
 use Rattle.mufom_module.specs.Written as w
 use Rattle.mufom_module.specs.Written.{Style, shortest, weight}
 use Rattle.mufom_module.specs.Weights.{token_weight, expression_weight, optional_expression_weight, section_letters_weight, purpose_weight, alignment_weight, size_weight, base_weight, section_weight, note_weight, notes_weight, public_weight, default_weight, weak_weight, reference_weight, head_weight, mark_weight, marks_weight, item_weight, items_weight, load_weight, start_weight, parts_weight}
 use Rattle.mufom_module.specs.Defects.{IsValid}
 use Rattle.mufom_module.proofs.Valid.{weighs_less}
-use Rattle.mufom_module.proofs.WeightLaws.{weight-sum}
+use Rattle.mufom_module.proofs.WeightLaws.{length-offsets_from, weight-sum}
 
 -- entries whose forms are at most so long, wherever they stand
 each-within : {X : Type 0} (write : ℕ → X → List ℕ) (size : X → ℕ) → ((n : ℕ) (x : X) → length (write n x) ≤ size x)
@@ -115,11 +115,11 @@ module _ (style : Style) (number-within : (n : ℕ) → length (style.number n) 
       let second = expression-within t in
       omega (arith, both, first, second)
 
-  letters-within : (b : Bool) → length (w.section_letters style b) ≤ section_letters_weight b
+  letters-within : (b : Bool) → length (w.section_letters b) ≤ section_letters_weight b
   letters-within true = omega arith
   letters-within false = omega arith
 
-  purpose-within : (p : Option Purpose) → length (w.purpose_letter style p) ≤ purpose_weight p
+  purpose-within : (p : Option Purpose) → length (w.purpose_letter p) ≤ purpose_weight p
   purpose-within None = omega arith
   purpose-within (Some purpose.Code) = omega arith
   purpose-within (Some purpose.Data) = omega arith
@@ -138,8 +138,8 @@ module _ (style : Style) (number-within : (n : ℕ) → length (style.number n) 
   section_record-within : (i : ℕ) (s : Section) → length (w.section_record style i s) ≤ 13 + section_letters_weight s.absolute + purpose_weight s.purpose + length s.name
   section_record-within i s =
       let name = w.string style s.name in
-      let letters = w.section_letters style s.absolute in
-      let use_letter = w.purpose_letter style s.purpose in
+      let letters = w.section_letters s.absolute in
+      let use_letter = w.purpose_letter s.purpose in
       let whole = length-append (style.number i) (letters ++ (use_letter ++ name)) in
       let outer = length-append letters (use_letter ++ name) in
       let inner = length-append use_letter name in
@@ -255,7 +255,7 @@ module _ (style : Style) (number-within : (n : ℕ) → length (style.number n) 
   marks-within : (n : ℕ) (marks : List DebugMark) → length (w.debug_records style n marks) ≤ marks_weight marks
   marks-within n [] = omega arith
   marks-within n (mark ∷ marks) =
-      let next = w.names_behind style n mark in
+      let next = names_behind n mark in
       let rest = marks-within next marks in
       let own = mark-within n mark in
       let whole = length-append (w.debug_record style n mark) (w.debug_records style next marks) in
@@ -314,16 +314,11 @@ module _ (style : Style) (number-within : (n : ℕ) → length (style.number n) 
       let its = length-append (style.number n) (0x84 ∷ to_be_bytes w32 x) in
       omega (arith, rest, own, whole, its)
 
-  length-offsets_from : (at : ℕ) (parts : List (List ℕ)) → length (w.offsets_from style at parts) ≡ 1 + length parts
-  length-offsets_from at [] = refl
-  length-offsets_from at ([] ∷ rest) = let its = length-offsets_from at rest in omega (arith, its)
-  length-offsets_from at ((b ∷ bytes) ∷ rest) = let its = length-offsets_from (at + length (b ∷ bytes)) rest in omega (arith, its)
-
   module_begin-within : (m : Parts) → length (w.module_begin style m) ≤ 27 + length m.processor + length m.name
   module_begin-within m =
       let processor = w.string style m.processor in
       let name = w.string style m.name in
-      let letter = w.order_letter style m.order ∷ [] in
+      let letter = w.order_letter m.order ∷ [] in
       let outer = length-append (0xE0 ∷ (processor ++ name)) (0xEC ∷ (style.number 8 ++ (style.number m.maus ++ letter))) in
       let inner = length-append processor name in
       let units = length-append (style.number 8) (style.number m.maus ++ letter) in
@@ -383,7 +378,7 @@ short-lead len = either (nat_lt len 128) (nat_lt len 256) where
 
 -- a file has an offset for each part and one for the end
 pub eight-offsets : (m : Parts) → length (w.offsets shortest m) ≡ 8
-eight-offsets m = length-offsets_from shortest short-number short-lead (w.header_length shortest m) (w.parts shortest m)
+eight-offsets m = length-offsets_from (w.header_length shortest m) (w.parts shortest m)
 
 -- a valid module's written form has fewer than 2^32 bytes
 pub written-fits : (m : Parts) → IsValid m → length (w.written m) < 2 ^ 32

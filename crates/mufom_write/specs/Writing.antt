@@ -1,10 +1,8 @@
 -- What a writer does to the file that is being made.
-use Rattle.std.specs.Prelude.{◌≡◌, ℕ, ◌+◌, List, [], ◌∷◌, length, Result, Ok}
+use Rattle.std.specs.Prelude.{◌≡◌, ℕ, ◌+◌, List, length, Result, Ok}
 use Rattle.mufom_host.specs.declared.world.Failed.{Failed}
 use Rattle.mufom_host.specs.World.{Meaning, Faults, WritesAll, HasCause, KeepsAllButMaking, KeepsAllButWrites}
-use Rattle.mufom_debug.specs.Marks.{DebugMark}
 use Rattle.mufom_module.specs.Weights.{capped}
-use Rattle.mufom_module.specs.Written.{shortest, names_behind}
 
 -- the file being made grows by all of the bytes, or on a failure by the front of them, and all else stays
 pub record Writes (old new : Meaning) (before now : Faults) (bytes : List ℕ) (result : Result (Unit {0}) Failed) : Type 0 where
@@ -21,8 +19,3 @@ pub record Counts (before now : ℕ) (bytes : List ℕ) (result : Result (Unit {
 -- Bytes were put between the two: whatever is put of the rest from the second on makes all of them from the first on.
 pub record LeadsTo {S : Type 0} (takes : S → S → List ℕ → Result (Unit {0}) Failed → Type 0) (start now : S) (rest all : List ℕ) : Type 0 where
   pub leads : (s : S) (r : Result (Unit {0}) Failed) → takes now s rest r → takes start s all r
-
--- how many names stand behind marks, where n stand before them
-abbrev pub names_behind_all : ℕ → List DebugMark → ℕ
-names_behind_all n [] = n
-names_behind_all n (mark ∷ marks) = names_behind_all (names_behind shortest n mark) marks

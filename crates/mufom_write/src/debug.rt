@@ -2,13 +2,14 @@
 
 ghost use Rattle.std.specs.Prelude.{◌≡◌, ◌∷◌, ◌++◌, ◌+◌, ◌<◌, ◌^◌, false, ℕ, length, OnOk};
 ghost use Rattle.std.specs.List.{list_any};
-ghost use Rattle.mufom_debug.specs.Marks.{block_begin, block_end, name_mark, note_mark, value_mark, marks_of, marks_of_item};
+ghost use Rattle.mufom_debug.specs.Marks.{block_begin, block_end, name_mark, note_mark, value_mark, marks_of, marks_of_item, names_behind_all};
 ghost use Rattle.mufom_module.specs.Written as written;
 ghost use Rattle.mufom_module.specs.Written.{shortest};
 ghost use Rattle.mufom_module.specs.Defects.{is_long, has_long_name};
-ghost use Rattle.mufom_write.specs.Writing.{names_behind_all};
 
-use crate::fields::{expression, number, numbered, numbers, string};
+use crate::fields::{
+    FIRST_DEBUG_NAME, FIRST_SECTION, expression, number, numbered, numbers, string,
+};
 use crate::names::{name_record, note};
 use crate::output::Output;
 use mufom_debug::{BlockHead, DebugItem};
@@ -47,7 +48,7 @@ fn head_fields<K: Output>(out: &mut K, head: &BlockHead) -> Result<(), Failed>
             section_type,
             section,
             offset,
-        } => scope(out, *section_type, *section as u64 + 1, offset),
+        } => scope(out, *section_type, *section as u64 + FIRST_SECTION, offset),
     }
 }
 
@@ -84,7 +85,7 @@ fn block_end<K: Output>(out: &mut K, end: &Option<Postfix>) -> Result<(), Failed
 fn value_record<K: Output>(out: &mut K, name: u32, value: &Postfix) -> Result<(), Failed>
     ensures { (n : ℕ) → K.takes out.old out.new (written.debug_record shortest n (value_mark name value.now)) result }
 {
-    numbered(out, &[0xE2, 0xCE], name as u64 + 32)?;
+    numbered(out, &[0xE2, 0xCE], name as u64 + FIRST_DEBUG_NAME)?;
     expression(out, value)
 }
 
@@ -103,11 +104,11 @@ fn debug_item<K: Output>(out: &mut K, item: &DebugItem, names: &mut u64) -> Resu
             block_end(out, &block.end)
         }
         DebugItem::Name(name) => {
-            let index = *names + 32;
+            let index = *names + FIRST_DEBUG_NAME;
             *names += 1;
             name_record(out, 0xF0, index, name)
         }
-        DebugItem::Note { name, note: its } => note(out, 0xCE, *name as u64 + 32, its),
+        DebugItem::Note { name, note: its } => note(out, 0xCE, *name as u64 + FIRST_DEBUG_NAME, its),
         DebugItem::Value { name, value } => value_record(out, *name, value),
     }
 }

@@ -12,6 +12,18 @@ use mufom_expr::{FieldKind, Function, Letter, Postfix, Token};
 use mufom_host::Failed;
 use mufom_numbers::{Bytes, id_lead, number_spelling};
 
+/// The index that the file has for its first section.
+pub(crate) const FIRST_SECTION: u64 = 1;
+
+/// The same for its first public.
+pub(crate) const FIRST_PUBLIC: u64 = 32;
+
+/// The same for its first reference.
+pub(crate) const FIRST_REFERENCE: u64 = 11;
+
+/// The same for its first debug name.
+pub(crate) const FIRST_DEBUG_NAME: u64 = 32;
+
 /// A number.
 pub(crate) fn number<K: Output>(out: &mut K, value: u64) -> Result<(), Failed>
     ensures { K.takes out.old out.new (written.number shortest value) result }
@@ -97,12 +109,12 @@ fn index_of(letter: Letter, position: u32) -> u64
     ensures { result ≡ written.index_of letter position }
 {
     match letter {
-        Letter::I => position as u64 + 32,
-        Letter::X => position as u64 + 11,
-        Letter::L => position as u64 + 1,
-        Letter::P => position as u64 + 1,
-        Letter::R => position as u64 + 1,
-        Letter::S => position as u64 + 1,
+        Letter::I => position as u64 + FIRST_PUBLIC,
+        Letter::X => position as u64 + FIRST_REFERENCE,
+        Letter::L => position as u64 + FIRST_SECTION,
+        Letter::P => position as u64 + FIRST_SECTION,
+        Letter::R => position as u64 + FIRST_SECTION,
+        Letter::S => position as u64 + FIRST_SECTION,
     }
 }
 

@@ -4,13 +4,12 @@
 //! `thiserror`, and takes no memory. All records are written by functions over one trait, whose two
 //! implementations write to a sink and count bytes. Its main clause is that of [`write_module`]: the
 //! file being made grows by exactly the written form, or a write failed, its count of faults rose,
-//! and the file grew by a front of that form. [`layout`] answers where the parts of the form begin
-//! and how long it is.
+//! and the file grew by a front of that form; and the form, where it is no longer than a file may be,
+//! is a file of the module. [`layout`] answers where the parts of the form begin and how long it is.
 #![tactic(auto)]
 
 mod debug;
 mod fields;
-mod laws;
 mod loads;
 mod measure;
 mod names;
@@ -22,7 +21,6 @@ mod sections;
 mod tests;
 mod write;
 
-pub use laws::what_is_written_says_its_module;
 pub use measure::layout;
 pub use places::Layout;
 pub use write::{WriteStop, write_module};

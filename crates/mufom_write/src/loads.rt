@@ -5,7 +5,7 @@ ghost use Rattle.mufom_records.specs.Layouts.{comma, closing};
 ghost use Rattle.mufom_module.specs.Written as written;
 ghost use Rattle.mufom_module.specs.Written.{shortest, each};
 
-use crate::fields::{closing, counted, expression, number, numbered, opening};
+use crate::fields::{FIRST_SECTION, closing, counted, expression, number, numbered, opening};
 use crate::output::Output;
 use mufom_expr::{FieldKind, Postfix};
 use mufom_host::Failed;
@@ -100,7 +100,7 @@ fn repeated<K: Output>(out: &mut K, list: &[Item]) -> Result<(), Failed>
 fn counter_record<K: Output>(out: &mut K, section: u32, value: &Postfix) -> Result<(), Failed>
     ensures { K.takes out.old out.new (0xE2 ∷ 0xD0 ∷ (written.number shortest (written.section_index section) ++ written.expression shortest value.now)) result }
 {
-    numbered(out, &[0xE2, 0xD0], section as u64 + 1)?;
+    numbered(out, &[0xE2, 0xD0], section as u64 + FIRST_SECTION)?;
     expression(out, value)
 }
 
@@ -116,7 +116,7 @@ fn load<K: Output>(out: &mut K, load: &Load) -> Result<(), Failed>
     ensures { K.takes out.old out.new (written.load shortest load.now) result }
 {
     match load {
-        Load::SetSection(section) => numbered(out, &[0xE5], *section as u64 + 1),
+        Load::SetSection(section) => numbered(out, &[0xE5], *section as u64 + FIRST_SECTION),
         Load::SetPc { section, value } => counter_record(out, *section, value),
         Load::One(one) => single(out, one),
         Load::Repeat { count, items } => repeat(out, *count, items.as_slice()),

@@ -30,7 +30,7 @@ fn part_length(parts: &Parts, number: usize) -> u64
     counter.bytes
 }
 
-// Where the parts begin, one after another.
+/// Where the parts begin, one after another, and the length of the whole form.
 pub(crate) fn layout_of(parts: &Parts) -> Layout
     requires { IsValid parts.now }
     ensures offsets { result.offsets ≡ form.offsets shortest parts.now }

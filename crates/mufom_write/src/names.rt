@@ -6,7 +6,9 @@ ghost use Rattle.mufom_module.specs.Written as written;
 ghost use Rattle.mufom_module.specs.Written.{shortest, each};
 ghost use Rattle.mufom_module.specs.Defects.{is_long};
 
-use crate::fields::{expression, number, numbered, numbers, string};
+use crate::fields::{
+    FIRST_PUBLIC, FIRST_REFERENCE, expression, number, numbered, numbers, string,
+};
 use crate::output::Output;
 use mufom_expr::Postfix;
 use mufom_host::Failed;
@@ -39,7 +41,7 @@ fn notes<K: Output>(out: &mut K, letter: u8, index: u64, notes: &[Note]) -> Resu
 
 // ---- publics
 
-// The bytes of a command, the index of a name, and the name: NI, NX and NN.
+/// The byte of a command, the index of a name, and the name: NI, NX and NN.
 pub(crate) fn name_record<K: Output>(
     out: &mut K,
     command: u8,
@@ -66,7 +68,7 @@ fn public<K: Output>(out: &mut K, position: usize, public: &Public) -> Result<()
     requires few { position < 2 ^ 63 }
     ensures { K.takes out.old out.new (written.public shortest position public.now) result }
 {
-    let index = position as u64 + 32;
+    let index = position as u64 + FIRST_PUBLIC;
     name_record(out, 0xE8, index, &public.name)?;
     notes(out, 0xC9, index, public.notes.as_slice())?;
     value_record(out, index, &public.value)
@@ -119,7 +121,7 @@ fn reference<K: Output>(out: &mut K, position: usize, reference: &Reference) -> 
     requires few { position < 2 ^ 63 }
     ensures { K.takes out.old out.new (written.reference shortest position reference.now) result }
 {
-    let index = position as u64 + 11;
+    let index = position as u64 + FIRST_REFERENCE;
     name_record(out, 0xE9, index, &reference.name)?;
     notes(out, 0xD8, index, reference.notes.as_slice())?;
     weak(out, index, reference.weak)

@@ -18,7 +18,7 @@ use mufom_module::{Order, Parts};
 // ---- the header
 
 fn order_letter(order: Order) -> u8
-    ensures { result ≡ written.order_letter shortest order }
+    ensures { result ≡ written.order_letter order }
 {
     match order {
         Order::Least => 0xCC,
@@ -38,7 +38,7 @@ fn begin_record<K: Output>(out: &mut K, parts: &Parts) -> Result<(), Failed>
 
 // AD.
 fn descriptor_record<K: Output>(out: &mut K, parts: &Parts) -> Result<(), Failed>
-    ensures { K.takes out.old out.new (0xEC ∷ (written.number shortest 8 ++ (written.number shortest parts.now.maus ++ written.order_letter shortest parts.now.order ∷ []))) result }
+    ensures { K.takes out.old out.new (0xEC ∷ (written.number shortest 8 ++ (written.number shortest parts.now.maus ++ written.order_letter parts.now.order ∷ []))) result }
 {
     numbered(out, &[0xEC], 8)?;
     number(out, parts.maus as u64)?;

@@ -6,13 +6,13 @@ ghost use Rattle.mufom_module.specs.Written as written;
 ghost use Rattle.mufom_module.specs.Written.{shortest, each};
 ghost use Rattle.mufom_module.specs.Defects.{is_long};
 
-use crate::fields::{number, numbered, string};
+use crate::fields::{FIRST_SECTION, number, numbered, string};
 use crate::output::Output;
 use mufom_host::Failed;
 use mufom_sections::{Purpose, Section};
 
 fn letters<K: Output>(out: &mut K, absolute: bool) -> Result<(), Failed>
-    ensures { K.takes out.old out.new (written.section_letters shortest absolute) result }
+    ensures { K.takes out.old out.new (written.section_letters absolute) result }
 {
     if absolute {
         out.put(&[0xC1, 0xD3])
@@ -22,7 +22,7 @@ fn letters<K: Output>(out: &mut K, absolute: bool) -> Result<(), Failed>
 }
 
 fn purpose_letter<K: Output>(out: &mut K, purpose: Option<Purpose>) -> Result<(), Failed>
-    ensures { K.takes out.old out.new (written.purpose_letter shortest purpose) result }
+    ensures { K.takes out.old out.new (written.purpose_letter purpose) result }
 {
     match purpose {
         None => Ok(()),
@@ -87,7 +87,7 @@ fn section<K: Output>(out: &mut K, position: usize, section: &Section) -> Result
     requires few { position < 2 ^ 63 }
     ensures { K.takes out.old out.new (written.section shortest position section.now) result }
 {
-    let index = position as u64 + 1;
+    let index = position as u64 + FIRST_SECTION;
     section_record(out, index, section)?;
     alignment_record(out, index, section.align)?;
     size_record(out, index, section.size)?;

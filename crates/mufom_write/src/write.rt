@@ -1,7 +1,8 @@
-ghost use Rattle.std.specs.Prelude.{◌≡◌, ◌≤◌, OnOk, OnErr};
+ghost use Rattle.std.specs.Prelude.{◌≡◌, ◌≤◌, true, length, OnOk, OnErr};
 ghost use Rattle.mufom_host.specs.World.{MakingGrowsBy, MakingGrowsByFront, KeepsAllButMaking, KeepsAllButWrites, Rose};
 ghost use Rattle.mufom_module.specs.Written.{written};
 ghost use Rattle.mufom_module.specs.Defects.{IsValid};
+ghost use Rattle.mufom_module.specs.Grammar.{file_limit, SpellsModule};
 
 use crate::measure::layout_of;
 use crate::output::Output;
@@ -13,6 +14,7 @@ use thiserror::Error;
 /// Why a module is not written.
 #[derive(Clone, Copy, Debug, PartialEq, Eq, Error)]
 pub enum WriteStop {
+    /// A write failed, and was counted.
     #[error("a write failed")]
     Fault,
 }
@@ -32,11 +34,13 @@ fn write_form<K: Output>(out: &mut K, parts: &Parts) -> Result<(), Failed>
 /// Writes the written form of the module to the file being made, record by record, at least one
 /// `write` for each. Takes no memory.
 ///
-/// `Fault` comes only where a write failed and the count of such faults rose; a front of the written
-/// form may then be in the file.
+/// The written form, where it is no longer than a file may be, is a file of this module. `Fault` comes
+/// only where a write failed and the count of such faults rose; a front of the written form may then be
+/// in the file.
 pub fn write_module<K: Sink>(module: &Module, sink: &mut K) -> Result<(), WriteStop>
     ensures whole { OnOk result (MakingGrowsBy (K.meaning sink.old).making (K.meaning sink.new).making (written «module».now)) }
     ensures front { OnErr result (MakingGrowsByFront (K.meaning sink.old).making (K.meaning sink.new).making (written «module».now)) }
+    ensures spells { length (written «module».now) ≤ file_limit → SpellsModule «module».now (written «module».now) true }
     ensures stays { KeepsAllButMaking (K.meaning sink.old) (K.meaning sink.new) }
     ensures later { (K.faults sink.old).writes ≤ (K.faults sink.new).writes }
     ensures cause { OnErr result (Rose (K.faults sink.old).writes (K.faults sink.new).writes) }

@@ -1,12 +1,12 @@
 use Rattle.std.proofs.Common.{◌≡◌, ℕ, List, ◌+◌, ◌++◌, drop, length, refl, sym, ap, subst, ◌∙◌, arith, length-append}
 use Rattle.mufom_debug.specs.declared.item.DebugItem.{DebugItem}
-use Rattle.mufom_debug.specs.Marks.{marks_of, marks_of_item}
+use Rattle.mufom_debug.specs.Marks.{marks_of, marks_of_item, names_behind_all}
 use Rattle.mufom_module.specs.Written.{shortest, debug_records}
 use Rattle.mufom_module.specs.Defects.{has_long_name}
 use Rattle.mufom_module.proofs.Walks.{any_mark_next}
-use Rattle.mufom_write.specs.Writing.{names_behind_all}
 use Rattle.mufom_write.proofs.Loops.{leads-step, leads-stop}
-use Rattle.mufom_write.proofs.Marking.{records-append, names-append, names-bound, marks-next, records-Block, records-Value, names-Block, or_last, however_ok}
+use Rattle.mufom_debug.proofs.NameCounts.{names-append, names-bound, marks-next, names-Block}
+use Rattle.mufom_write.proofs.Marking.{records-append, records-Block, records-Value, or_last, however_ok}
 use Rattle.mufom_write.proofs.debug.+writing.Goals as goal
 
 pub debug_item-returns-in_err-block_begin-in-Block-clause-takes : goal.debug_item-returns-in_err-block_begin-in-Block-clause-takes

@@ -1,9 +1,9 @@
 use Rattle.std.proofs.Common.{◌≡◌, ◌+◌, ◌<◌, ◌^◌, false, drop, length}
 use Rattle.std.specs.List.{list_any}
-use Rattle.mufom_debug.specs.Marks.{marks_of}
+use Rattle.mufom_debug.specs.Marks.{marks_of, names_behind_all}
 use Rattle.mufom_module.specs.Written.{shortest, debug_records}
 use Rattle.mufom_module.specs.Defects.{has_long_name}
-use Rattle.mufom_write.specs.Writing.{LeadsTo, names_behind_all}
+use Rattle.mufom_write.specs.Writing.{LeadsTo}
 use Rattle.mufom_write.proofs.debug.+writing.Given as goal
 
 abbrev pub invariant-debug_items-loop-place : goal.invariant-debug_items-loop-place
