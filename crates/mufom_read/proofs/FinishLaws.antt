@@ -1,5 +1,6 @@
 -- What a reader answers for a whole stream.
-use Rattle.std.proofs.Common.{◌≡◌, ◌≢◌, ◌⊎◌, ◌↔◌, inl, inr, ℕ, true, false, true≢false, List, length, drop, Some, Result, Ok, Err, refl, sym, ap, subst, ◌∙◌}
+use Rattle.std.proofs.Common.{◌≡◌, ◌≢◌, ◌⊎◌, ◌↔◌, inl, inr, ℕ, Bool, true, false, true≢false, List, length, drop, Some, Result, Ok, Err, refl, sym, ap, subst, ◌∙◌}
+use Rattle.std.specs.Prelude.{IfOk}
 use Rattle.mufom_numbers.specs.declared.reason.Reason.{Reason}
 use Rattle.mufom_numbers.specs.declared.reason.Reason.TheVariants as why
 use Rattle.mufom_numbers.specs.Spelling.{AreBytes}
@@ -14,6 +15,8 @@ use Rattle.mufom_read.specs.Judging.{IsSoundFront, within_limit, EndsAt, IsWaiti
 use Rattle.mufom_read.specs.Reader.{IsReading, IsWanting, Knows}
 use Rattle.mufom_read.specs.Built.{IsWhole}
 use Rattle.mufom_read.proofs.FrontsOne.{ended_not_waiting, not_cut, refusal_is_single}
+use Rattle.mufom_module.proofs.OneModule.{one_module}
+use Rattle.mufom_read.proofs.SpelledJudged.{judgments_exclude_each_other}
 use Rattle.mufom_read.proofs.PieceLaws.{whole-within}
 use Rattle.mufom_read.proofs.FeedLaws.{the_refusal, reading-not-refused}
 
@@ -87,3 +90,14 @@ finish-whole {M} r stream is m place reason ended = (λ e. absurd (ok_err e), te
 
 pub finish-module : (r : State) (stream : List ℕ) (m : Parts) → IsReading r stream → SpellsModule m stream r.reads_debug → IsModule r.reads_debug stream m
 finish-module r stream m is spells = (spells, λ place refused. reading-not-refused r stream place why.NotBuilt is refused)
+
+-- a stream that is a module's is answered as that module, unless memory ran out
+pub finish-file : (reads_debug : Bool) (stream : List ℕ) (m : Parts) (result : Result Parts ReadStop) → AreBytes stream → IfOk result (λ n. IsModule reads_debug stream n)
+    → ((place : ℕ) (reason : Reason) → result ≡ Err (stop.Refused (the_refusal place reason)) → IsJudged reads_debug stream (refusal place reason)) → IsModule reads_debug stream m → result ≢ Err stop.NoMemory
+    → result ≡ Ok m
+finish-file reads_debug stream m (Ok n) bytes ok refused is memory = ap (λ x. Ok x) (one_module n m stream reads_debug ok.0 is.0)
+finish-file reads_debug stream m (Err (stop.Refused f)) bytes ok refused is memory = absurd (excluded (refused f.place f.reason refl)) where
+  excluded : IsJudged reads_debug stream (refusal f.place f.reason) → ⊥
+  excluded (inl here) = (judgments_exclude_each_other reads_debug stream bytes).not_module m f.place f.reason is here
+  excluded (inr cut) = (judgments_exclude_each_other reads_debug stream bytes).whole m is cut.2
+finish-file reads_debug stream m (Err stop.NoMemory) bytes ok refused is memory = absurd (memory refl)

@@ -146,7 +146,7 @@ within_length : (bytes : List ℕ) → length (within_limit bytes) ≡ min file_
 within_length bytes = length-take file_limit bytes
 
 -- a stream that is a module's is not refused for what is left for later
-not_refused : (reads_debug : Bool) (bytes : List ℕ) (place other : ℕ) → EndsAt reads_debug bytes other → IsRefusedAt reads_debug bytes place why.NotBuilt → ⊥
+pub not_refused : (reads_debug : Bool) (bytes : List ℕ) (place other : ℕ) → EndsAt reads_debug bytes other → IsRefusedAt reads_debug bytes place why.NotBuilt → ⊥
 not_refused reads_debug bytes place other ends (inl h) = fault_not_ended reads_debug bytes place other why.NotBuilt h ends
 not_refused reads_debug bytes place other ends (inr (inl h)) = let e : why.NotBuilt ≡ why.AfterEnd = h.0 in cc
 not_refused reads_debug bytes place other ends (inr (inr h)) = let e : why.NotBuilt ≡ why.FileLimit = h.0 in cc

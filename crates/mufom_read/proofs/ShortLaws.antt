@@ -1,6 +1,5 @@
 -- How many bytes stand behind a front that waits: fewer than the longest record has whose end may not stand yet.
 use Rattle.std.proofs.Common.{◌≡◌, ◌⊎◌, inl, inr, ℕ, ◌<◌, Bool, true, false, cond, List, [], ◌∷◌, length, refl, sym, ap, subst, arith, length-drop}
-use Rattle.mufom_numbers.specs.declared.reason.Reason.{Reason}
 use Rattle.mufom_numbers.specs.declared.taken.Taken.{Taken}
 use Rattle.mufom_numbers.specs.declared.taken.Taken.TheVariants as taken
 use Rattle.mufom_numbers.specs.Spelling.{AreBytes}

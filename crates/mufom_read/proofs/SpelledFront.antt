@@ -25,7 +25,7 @@ use Rattle.mufom_read.proofs.EndedGathered.{AreSorted, all_pieces, same_sections
 use Rattle.mufom_read.proofs.EndedSlicing.{grown, same_pieces}
 use Rattle.mufom_read.proofs.EndedSaid.{extension_between, environment_between}
 use Rattle.mufom_read.proofs.SpelledWalk.{steps_of, raw_steps, steps_bytes, steps_pieces, raw_none, IsStep, sound_step, sound-append, next_read}
-use Rattle.mufom_read.proofs.SpelledHeader.{IsLeft}
+use Rattle.mufom_read.proofs.SpelledHeader.{AreNow, IsLeft}
 use Rattle.mufom_read.proofs.SpelledParts.{IsPlain, Joint, Content, raw_content, read_content, Contents, walk_contents}
 use Rattle.mufom_read.proofs.SpelledKept.{section_whole, external_whole, debug_whole}
 use Rattle.mufom_read.proofs.SpelledOffsets.{debug_none, HeaderRows, header_rows, HeaderSound, header_front, header_joint, header_size}
@@ -298,8 +298,8 @@ pub within : (bytes : List ℕ) → length bytes ≤ file_limit → within_limit
 within bytes h = take_all file_limit bytes h
 
 -- a part that is left for later is refused
-left_refused : (reads_debug : Bool) (bytes : List ℕ) → length bytes ≤ file_limit → (left : IsLeft reads_debug [] bytes) → HasFault reads_debug bytes left.place why.NotBuilt
-left_refused reads_debug bytes limit left =
+left_refused : (reads_debug : Bool) (offsets bytes : List ℕ) → length bytes ≤ file_limit → (left : IsLeft reads_debug [] offsets [] bytes) → HasFault reads_debug bytes left.place why.NotBuilt
+left_refused reads_debug offsets bytes limit left =
     let all = within bytes limit in
     record {
       front = left.own;
@@ -331,6 +331,17 @@ module_is_ended_front reads_debug bytes m fits ((f, cut, names, says, valid), no
     let good = sound_module m valid in
     let rows = header_rows f (behind_header f) cut.header in
     elim (header_front reads_debug f (behind_header f) cut.header rows (no_bad_descriptor f m good rows.describes says.descriptor) cut.offsets) [
-      | inl left ↦ absurd (let here = subst (λ (l : List ℕ). IsLeft reads_debug [] l) (sym cut.all) left in now here.place (inl (left_refused reads_debug bytes cut.limit here)))
+      | inl left ↦ absurd (let here = subst (λ (l : List ℕ). IsLeft reads_debug [] (offsets_in f.offsets) [] l) (sym cut.all) left in now here.place (inl (left_refused reads_debug (offsets_in f.offsets) bytes cut.limit here)))
+      | inr header ↦ front_when_sound bytes reads_debug f m cut names says good rows header
+    ]
+
+-- the same of a file none of whose offsets is left for later
+pub file_is_ended_front : (bytes : List ℕ) (reads_debug : Bool) (f : FileParts) (m : Parts) → IsCutInto bytes reads_debug f → HasNames f → Says f (indexes_of f) m → d.IsValid m → AreNow reads_debug [] (offsets_in f.offsets)
+    → IsFrontOf reads_debug bytes m
+file_is_ended_front bytes reads_debug f m cut names says valid now =
+    let good = sound_module m valid in
+    let rows = header_rows f (behind_header f) cut.header in
+    elim (header_front reads_debug f (behind_header f) cut.header rows (no_bad_descriptor f m good rows.describes says.descriptor) cut.offsets) [
+      | inl left ↦ absurd (left.late now)
       | inr header ↦ front_when_sound bytes reads_debug f m cut names says good rows header
     ]

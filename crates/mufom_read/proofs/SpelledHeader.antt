@@ -1,5 +1,6 @@
 -- The header of a module's file as steps: a sound front, or the offset of a debug part that is left for later.
-use Rattle.std.proofs.Common.{◌≡◌, ◌⊎◌, ℕ, zero, suc, ◌+◌, ◌<◌, ◌≤◌, Bool, true, false, not, ◌==◌, ◌&&◌, List, [], ◌∷◌, ◌++◌, length, Some, None, refl, sym, ap, subst, ◌∙◌, inl, inr, arith, append_assoc, append-nil, eq-eqb, ne_eqb, length-append}
+use Rattle.std.proofs.Common.{◌≡◌, ◌⊎◌, ℕ, zero, suc, ◌+◌, ◌<◌, ◌≤◌, Bool, true, false, true≢false, not, ◌==◌, ◌&&◌, List, [], ◌∷◌, ◌++◌, length, Some, None, refl, sym, ap, subst, ◌∙◌, inl, inr, arith, append_assoc, append-nil, eq-eqb, ne_eqb, length-append}
+use Rattle.std.specs.Prelude.{get_or}
 use Rattle.std.specs.Option.{option_or}
 use Rattle.mufom_numbers.specs.declared.reason.Reason.TheVariants as why
 use Rattle.mufom_records.specs.declared.record.Mode.TheVariants as mode
@@ -49,8 +50,9 @@ abbrev pub AreNow : Bool → List ℕ → List ℕ → Type 0
 AreNow reads_debug earlier [] = Unit {0}
 AreNow reads_debug earlier (w ∷ offsets) = (is_left_for_later reads_debug earlier w ≡ false) × AreNow reads_debug (earlier ++ w ∷ []) offsets
 
--- a sound front, behind which a part is left for later
-pub record IsLeft (reads_debug : Bool) (before : List Step) (rest : List ℕ) : Type 0 where
+-- a sound front, behind which a part is left for later: one of these offsets is its
+pub record IsLeft (reads_debug : Bool) (earlier offsets : List ℕ) (before : List Step) (rest : List ℕ) : Type 0 where
+  pub late : AreNow reads_debug earlier offsets → ⊥
   pub own : List Step
   pub later : List ℕ
   pub split : rest ≡ front_bytes own ++ later
@@ -78,10 +80,12 @@ pub record Standing (k n : ℕ) (end : ℕ) (earlier offsets : List ℕ) (before
   pub some : 1 ≤ end
   pub first : first_present (earlier ++ offsets) ≡ end
 
-pub left_behind : (reads_debug : Bool) (before : List Step) (step : Step) (behind : List ℕ) → IsStep reads_debug before step behind → IsLeft reads_debug (before ++ step ∷ []) behind → IsLeft reads_debug before (step_bytes step ++ behind)
-left_behind reads_debug before step behind is left =
+pub left_behind : (reads_debug : Bool) (early earlier some offsets : List ℕ) (before : List Step) (step : Step) (behind : List ℕ) → (AreNow reads_debug earlier offsets → AreNow reads_debug early some)
+    → IsStep reads_debug before step behind → IsLeft reads_debug early some (before ++ step ∷ []) behind → IsLeft reads_debug earlier offsets before (step_bytes step ++ behind)
+left_behind reads_debug early earlier some offsets before step behind now is left =
     let same = append_assoc before (step ∷ []) left.own in
     record {
+      late = λ all. left.late (now all);
       own = step ∷ left.own;
       later = left.later;
       split = ap (λ l. step_bytes step ++ l) left.split ∙ sym (append_assoc (step_bytes step) (front_bytes left.own) left.later);
@@ -131,16 +135,17 @@ cons_parts : (a b : ℕ) (xs ys : List ℕ) → a ∷ xs ≡ b ∷ ys → (a ≡
 cons_parts a b xs ys h = (cc, cc)
 
 -- where the first of these offsets is left for later
-left_here : (reads_debug : Bool) (k w end : ℕ) (earlier : List ℕ) (before : List Step) (p : Piece) (behind : List ℕ) → length before ≡ suc (suc k) → k < 8 → offsets_of before ≡ earlier → is_ended before ≡ false
+left_here : (reads_debug : Bool) (k w end : ℕ) (earlier offsets : List ℕ) (before : List Step) (p : Piece) (behind : List ℕ) → length before ≡ suc (suc k) → k < 8 → offsets_of before ≡ earlier → is_ended before ≡ false
     → ended_part_fault before ≡ None → IsWholeRecord (mode.Offset k) p.row p.bytes (first_of behind None) → p.row ≡ r.Offset k w → is_out_of_order earlier w ≡ false → is_left_for_later reads_debug earlier w ≡ true
-    → IsLeft reads_debug before (p.bytes ++ behind)
-left_here reads_debug k w end earlier before p behind count few here open_ whole is row order late =
+    → IsLeft reads_debug earlier (w ∷ offsets) before (p.bytes ++ behind)
+left_here reads_debug k w end earlier offsets before p behind count few here open_ whole is row order late =
     let start = size_of before in
     let next = header_next reads_debug (suc (suc k)) before p behind count (omega arith) is in
     let fault : step_fault reads_debug before (taken (read start p) (length p.bytes)) ≡ Some (start, why.NotBuilt) =
     header_fault_at reads_debug (suc (suc k)) before p count (omega arith)
     ∙ (λ i. header_fault reads_debug (here i) start (start + length p.bytes) (row i)) ∙ late_fault reads_debug earlier w start (start + length p.bytes) order late in
     record {
+      late = λ now. true≢false (sym late ∙ now.0);
       own = [];
       later = p.bytes ++ behind;
       split = refl;
@@ -152,13 +157,13 @@ left_here reads_debug k w end earlier before p behind count few here open_ whole
 
 -- the rest of a walk behind the first of these records
 abbrev Onward : Bool → ℕ → ℕ → ℕ → List ℕ → List ℕ → List Step → List Piece → List ℕ → Type 0
-Onward reads_debug n k end earlier offsets front pieces behind = Standing k n end earlier offsets front pieces → IsLeft reads_debug front (bytes_of pieces ++ behind) ⊎ IsOn reads_debug front pieces behind earlier offsets
+Onward reads_debug n k end earlier offsets front pieces behind = Standing k n end earlier offsets front pieces → IsLeft reads_debug earlier offsets front (bytes_of pieces ++ behind) ⊎ IsOn reads_debug front pieces behind earlier offsets
 
 -- a step that is not left for later
 on_here : (n k : ℕ) (reads_debug : Bool) (end v : ℕ) (earlier offsets : List ℕ) (before : List Step) (p : Piece) (pieces : List Piece) (behind : List ℕ) → Standing k (suc n) end earlier (v ∷ offsets) before (p ∷ pieces)
     → AreOfModes (modes_from k (suc n)) (p ∷ pieces) behind → offsets_in pieces ≡ offsets → p.row ≡ r.Offset k v → ended_part_fault before ≡ None → is_left_for_later reads_debug earlier v ≡ false
     → Onward reads_debug n (suc k) end (earlier ++ v ∷ []) offsets (before ++ read (size_of before) p ∷ []) pieces behind
-    → IsLeft reads_debug before (p.bytes ++ (bytes_of pieces ++ behind)) ⊎ IsOn reads_debug before (p ∷ pieces) behind earlier (v ∷ offsets)
+    → IsLeft reads_debug earlier (v ∷ offsets) before (p.bytes ++ (bytes_of pieces ++ behind)) ⊎ IsOn reads_debug before (p ∷ pieces) behind earlier (v ∷ offsets)
 on_here n k reads_debug end v earlier offsets before p pieces behind at modes tail its whole late onward =
     let it = read (size_of before) p in
     let rest = bytes_of pieces ++ behind in
@@ -183,7 +188,7 @@ on_here n k reads_debug end v earlier offsets before p pieces behind at modes ta
       first = ap first_present (append_assoc earlier (v ∷ []) offsets) ∙ at.first;
     } in
     elim (onward next) [
-      | inl left ↦ inl (left_behind reads_debug before it rest is left)
+      | inl left ↦ inl (left_behind reads_debug (earlier ++ v ∷ []) earlier offsets (v ∷ offsets) before it rest (λ now. now.1) is left)
       | inr on ↦ inr (record {
         sound = subst (λ (l : List ℕ). IsSoundFrom reads_debug before (steps_of (size_of before) (p ∷ pieces)) l) (sym (append_assoc p.bytes (bytes_of pieces) behind))
             (sound_step reads_debug before it (steps_of (size_of before + length p.bytes) pieces) rest is
@@ -195,14 +200,14 @@ on_here n k reads_debug end v earlier offsets before p pieces behind at modes ta
 by_time : (n k : ℕ) (reads_debug : Bool) (end v : ℕ) (earlier offsets : List ℕ) (before : List Step) (p : Piece) (pieces : List Piece) (behind : List ℕ) → Standing k (suc n) end earlier (v ∷ offsets) before (p ∷ pieces)
     → AreOfModes (modes_from k (suc n)) (p ∷ pieces) behind → offsets_in pieces ≡ offsets → p.row ≡ r.Offset k v → ended_part_fault before ≡ None → (late : Bool) → is_left_for_later reads_debug earlier v ≡ late
     → Onward reads_debug n (suc k) end (earlier ++ v ∷ []) offsets (before ++ read (size_of before) p ∷ []) pieces behind
-    → IsLeft reads_debug before (p.bytes ++ (bytes_of pieces ++ behind)) ⊎ IsOn reads_debug before (p ∷ pieces) behind earlier (v ∷ offsets)
+    → IsLeft reads_debug earlier (v ∷ offsets) before (p.bytes ++ (bytes_of pieces ++ behind)) ⊎ IsOn reads_debug before (p ∷ pieces) behind earlier (v ∷ offsets)
 by_time n k reads_debug end v earlier offsets before p pieces behind at modes tail its whole true late onward =
-    inl (left_here reads_debug k v end earlier before p (bytes_of pieces ++ behind) at.count (omega (arith, at.eight)) at.here at.unended whole modes.0 its at.ordered.0 late)
+    inl (left_here reads_debug k v end earlier offsets before p (bytes_of pieces ++ behind) at.count (omega (arith, at.eight)) at.here at.unended whole modes.0 its at.ordered.0 late)
 by_time n k reads_debug end v earlier offsets before p pieces behind at modes tail its whole false late onward =
     on_here n k reads_debug end v earlier offsets before p pieces behind at modes tail its whole late onward
 
 pub offset_walk : (n k : ℕ) (reads_debug : Bool) (end : ℕ) (earlier offsets : List ℕ) (before : List Step) (pieces : List Piece) (behind : List ℕ) → Standing k n end earlier offsets before pieces
-    → AreOfModes (modes_from k n) pieces behind → offsets_in pieces ≡ offsets → IsLeft reads_debug before (bytes_of pieces ++ behind) ⊎ IsOn reads_debug before pieces behind earlier offsets
+    → AreOfModes (modes_from k n) pieces behind → offsets_in pieces ≡ offsets → IsLeft reads_debug earlier offsets before (bytes_of pieces ++ behind) ⊎ IsOn reads_debug before pieces behind earlier offsets
 offset_walk zero k reads_debug end earlier [] before [] behind at modes values = inr (record { sound = tt; now = tt })
 offset_walk zero k reads_debug end earlier (w ∷ offsets) before [] behind at modes values = absurd cc
 offset_walk zero k reads_debug end earlier offsets before (p ∷ pieces) behind at modes values = absurd modes
@@ -218,6 +223,35 @@ offset_walk (suc n) k reads_debug end earlier (v ∷ offsets) before (p ∷ piec
     let both = by_time n k reads_debug end v earlier offsets before p pieces behind at modes heads.1 its whole (is_left_for_later reads_debug earlier v) refl
     (λ next. offset_walk n (suc k) reads_debug end (earlier ++ v ∷ []) offsets (before ++ read (size_of before) p ∷ []) pieces behind next modes.1 heads.1) in
     elim both [
-      | inl left ↦ inl (subst (λ (l : List ℕ). IsLeft reads_debug before l) (sym (append_assoc p.bytes (bytes_of pieces) behind)) left)
+      | inl left ↦ inl (subst (λ (l : List ℕ). IsLeft reads_debug earlier (v ∷ offsets) before l) (sym (append_assoc p.bytes (bytes_of pieces) behind)) left)
       | inr on ↦ inr on
     ]
+
+-- ---- offsets of which that of the debug part is 0
+
+not_late : (reads_debug its absent : Bool) → its ≡ false → (reads_debug && (its && not absent)) ≡ false
+not_late true its absent other = ap (λ b. b && not absent) other
+not_late false its absent other = refl
+
+absent_not_late : (reads_debug its absent : Bool) → absent ≡ true → (reads_debug && (its && not absent)) ≡ false
+absent_not_late true true absent none = ap not none
+absent_not_late true false absent none = refl
+absent_not_late false its absent none = refl
+
+now_beyond : (reads_debug : Bool) (earlier offsets : List ℕ) → 4 < length earlier → AreNow reads_debug earlier offsets
+now_beyond reads_debug earlier [] past = tt
+now_beyond reads_debug earlier (w ∷ offsets) past = (
+  not_late reads_debug (length earlier == 4) (w == 0) (ne_eqb (length earlier) 4 (λ same. omega (arith, same, past))),
+  now_beyond reads_debug (earlier ++ w ∷ []) offsets (omega (arith, past, one_more earlier w)),
+)
+
+pub now_when_absent : (reads_debug : Bool) (k : ℕ) (earlier offsets : List ℕ) → length earlier + k ≡ 4 → get_or offsets k 0 ≡ 0 → AreNow reads_debug earlier offsets
+now_when_absent reads_debug k earlier [] at none = tt
+now_when_absent reads_debug zero earlier (w ∷ offsets) at none = (
+  absent_not_late reads_debug (length earlier == 4) (w == 0) (eq-eqb w 0 none),
+  now_beyond reads_debug (earlier ++ w ∷ []) offsets (omega (arith, at, one_more earlier w)),
+)
+now_when_absent reads_debug (suc k) earlier (w ∷ offsets) at none = (
+  not_late reads_debug (length earlier == 4) (w == 0) (ne_eqb (length earlier) 4 (λ same. omega (arith, same, at))),
+  now_when_absent reads_debug k (earlier ++ w ∷ []) offsets (omega (arith, at, one_more earlier w)) none,
+)

@@ -1,14 +1,18 @@
 -- A module's file is not refused and not cut off, and is the file of one module.
-use Rattle.std.proofs.Common.{◌≡◌, ℕ, ◌<◌, ◌≤◌, Bool, List, length, sym, subst, inl, inr, arith}
+use Rattle.std.proofs.Common.{◌≡◌, ℕ, ◌<◌, ◌≤◌, Bool, List, [], length, refl, sym, subst, inl, inr, arith}
 use Rattle.mufom_numbers.specs.declared.reason.Reason.{Reason}
 use Rattle.mufom_numbers.specs.Spelling.{AreBytes}
 use Rattle.mufom_module.specs.declared.module.Parts.{Parts}
-use Rattle.mufom_module.specs.Grammar.{file_limit}
+use Rattle.mufom_module.specs.Defects.{IsValid}
+use Rattle.mufom_module.specs.Grammar.{file_limit, FileParts, offsets_in, IsCutInto, HasNames, Says, indexes_of}
 use Rattle.mufom_module.proofs.OneModule.{one_module}
+use Rattle.mufom_read.specs.Fronts.{size_of}
 use Rattle.mufom_read.specs.Judging.{IsSoundFront, EndsAt, IsRefusedAt, IsModule}
 use Rattle.mufom_read.specs.Laws.{JudgmentsExcludeEachOther}
 use Rattle.mufom_read.proofs.FrontsOne.{one_end, fault_not_ended, ended_not_waiting, not_cut}
-use Rattle.mufom_read.proofs.SpelledFront.{within, module_is_ended_front}
+use Rattle.mufom_read.proofs.FrontJudged.{not_refused as not_left}
+use Rattle.mufom_read.proofs.SpelledHeader.{AreNow}
+use Rattle.mufom_read.proofs.SpelledFront.{within, module_is_ended_front, file_is_ended_front}
 
 -- a module's file is no longer than a file may be
 short : (reads_debug : Bool) (bytes : List ℕ) (m : Parts) → IsModule reads_debug bytes m → length bytes ≤ file_limit
@@ -43,3 +47,15 @@ judgments_exclude_each_other reads_debug bytes fits = record {
   whole = λ m is cut. ended_not_waiting reads_debug bytes cut.1 (length bytes) (ends_there reads_debug bytes m fits is) cut.2;
   one_module = λ m n one other. one_module m n bytes reads_debug one.0 other.0;
 }
+
+-- a file none of whose offsets is left for later is a module's stream
+pub file_is_module : (bytes : List ℕ) (reads_debug : Bool) (f : FileParts) (m : Parts) → IsCutInto bytes reads_debug f → HasNames f → Says f (indexes_of f) m → IsValid m → AreNow reads_debug [] (offsets_in f.offsets) → IsModule reads_debug bytes m
+file_is_module bytes reads_debug f m cut names says valid now =
+    let its = file_is_ended_front bytes reads_debug f m cut names says valid now in
+    let ends : EndsAt reads_debug bytes (size_of its.0) = record {
+      front = its.0;
+      sound = subst (λ (l : List ℕ). IsSoundFront reads_debug its.0 l) (sym (within bytes cut.limit)) its.1;
+      ended = its.2;
+      here = refl;
+    } in
+    ((f, cut, names, says, valid), λ place refused. not_left reads_debug bytes place (size_of its.0) ends refused)

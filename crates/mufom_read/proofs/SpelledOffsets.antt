@@ -10,7 +10,7 @@ use Rattle.mufom_records.specs.Layouts.{IsWholeRecord}
 use Rattle.mufom_module.specs.Pieces.{Piece, bytes_of}
 use Rattle.mufom_module.specs.RecordParts.{part_of}
 use Rattle.mufom_module.specs.Grammar.{FileParts, header_of, parts_of, AreOfModes, header_modes, AreWhole, offset_in, offsets_in, StandAt}
-use Rattle.mufom_read.specs.Fronts.{Step, read, size_of, offsets_of, is_module_end, is_ended}
+use Rattle.mufom_read.specs.Fronts.{Step, read, step_bytes, size_of, offsets_of, is_module_end, is_ended}
 use Rattle.mufom_read.specs.Faults.{is_bad_descriptor, is_out_of_order, header_fault, fault_if}
 use Rattle.mufom_numbers.specs.declared.reason.Reason.TheVariants as why
 use Rattle.mufom_read.specs.Judging.{IsSoundFrom}
@@ -179,8 +179,13 @@ offsets_standing f behind before are rows stand two none open_ size =
       first = first_at (offsets_in f.offsets) end (parts_of f) some stand;
     }
 
+-- a step that is no offset
+left_past : (f : FileParts) (reads_debug : Bool) (before : List Step) (step : Step) (behind : List ℕ) → IsStep reads_debug before step behind
+    → IsLeft reads_debug [] (offsets_in f.offsets) (before ++ step ∷ []) behind → IsLeft reads_debug [] (offsets_in f.offsets) before (step_bytes step ++ behind)
+left_past f reads_debug before step behind is left = left_behind reads_debug [] [] (offsets_in f.offsets) (offsets_in f.offsets) before step behind (λ now. now) is left
+
 pub header_front : (reads_debug : Bool) (f : FileParts) (behind : List ℕ) → AreOfModes header_modes (header_of f) behind → HeaderRows f → is_bad_descriptor f.descriptor.row ≡ false → StandAt (offsets_in f.offsets) (length (bytes_of (header_of f))) (parts_of f)
-    → IsLeft reads_debug [] (bytes_of (header_of f) ++ behind) ⊎ HeaderSound reads_debug f behind
+    → IsLeft reads_debug [] (offsets_in f.offsets) [] (bytes_of (header_of f) ++ behind) ⊎ HeaderSound reads_debug f behind
 header_front reads_debug f behind are rows good stand =
     let a = read 0 f.begin in
     let n = length f.begin.bytes in
@@ -204,7 +209,7 @@ header_front reads_debug f behind are rows good stand =
     let none_two : offsets_of front ≡ [] = offsets-append (a ∷ []) (b ∷ []) ∙ (λ i. none i ++ offsets_in (record { row = rows.describes.3 i; bytes = f.descriptor.bytes } ∷ [])) in
     let standing = offsets_standing f behind front are rows stand refl none_two (ap is_module_end rows.describes.3) (two_size ∙ omega arith) in
     elim (offset_walk 8 0 reads_debug (length (bytes_of (header_of f))) [] (offsets_in f.offsets) front f.offsets behind standing are.1.1 refl) [
-      | inl left ↦ inl (subst (λ (l : List ℕ). IsLeft reads_debug [] l) (sym split) (left_behind reads_debug [] a rest first (left_behind reads_debug (a ∷ []) b later second left)))
+      | inl left ↦ inl (subst (λ (l : List ℕ). IsLeft reads_debug [] (offsets_in f.offsets) [] l) (sym split) (left_past f reads_debug [] a rest first (left_past f reads_debug (a ∷ []) b later second left)))
       | inr on ↦ inr (record {
         sound = subst (λ (l : List ℕ). IsSoundFrom reads_debug [] (steps_of 0 (header_of f)) l) (sym split)
             (sound_step reads_debug [] a (b ∷ steps_of (0 + n + length f.descriptor.bytes) f.offsets) rest first

@@ -363,6 +363,10 @@ fn a_second_start_is_refused(rt: HostRuntime) -> Result<(), Fail> {
         stop(alloc, &stream, 1000, true)?,
         refused(119, Reason::DuplicateValue)
     );
+    assert_eq!(rt;
+        stop(alloc, &stream, 1, true)?,
+        refused(119, Reason::DuplicateValue)
+    );
     Ok(())
 }
 
@@ -373,6 +377,10 @@ fn an_absolute_section_has_a_base(rt: HostRuntime) -> Result<(), Fail> {
     let stream = changed(alloc, &[&PLAIN[..94], &[0xE1]], &changes)?;
     assert_eq!(rt;
         stop(alloc, &stream, 1000, true)?,
+        refused(77, Reason::MissingBase)
+    );
+    assert_eq!(rt;
+        stop(alloc, &stream, 1, true)?,
         refused(77, Reason::MissingBase)
     );
     Ok(())
@@ -398,6 +406,10 @@ fn a_256th_token_is_refused(rt: HostRuntime) -> Result<(), Fail> {
         stop(alloc, &stream, 1000, true)?,
         refused(358, Reason::TooLong)
     );
+    assert_eq!(rt;
+        stop(alloc, &stream, 1, true)?,
+        refused(358, Reason::TooLong)
+    );
     stream.truncate(358);
     assert_eq!(rt;
         stop(alloc, &stream, 1000, true)?,
@@ -410,22 +422,41 @@ fn zeros(alloc: Global, count: usize) -> Result<Vec<u8>, Fail> {
     Ok(vec![in alloc; 0u8; count]?)
 }
 
-#[test]
-fn a_stream_beyond_the_limit_is_refused(rt: HostRuntime) -> Result<(), Fail> {
-    let alloc = rt.alloc();
+// A reader that has read 66,060,365 bytes of a module whose data part has raw bytes, and then so
+// many more of them: 1,048,499 more are as many as a file may have.
+fn nearly_full(alloc: Global, more: usize) -> Result<Reader, Fail> {
     let changes = [(20, 0x4D), (36, 0), (60, 0), (68, 0), (73, 4), (76, 0)];
     let header = changed(alloc, &[&PLAIN[..77]], &changes)?;
     let piece = zeros(alloc, 1_048_576)?;
     let mut reader = Reader::new(alloc, true)?;
-    assert_eq!(rt; reader.feed(&header), Ok(()));
+    let _ = reader.feed(&header);
     for _ in 0..63 {
-        assert_eq!(rt; reader.feed(&piece), Ok(()));
+        let _ = reader.feed(&piece);
     }
-    let stop = ReadStop::Refused(ReadRefusal {
-        place: 67_108_864,
-        reason: Reason::FileLimit,
-    });
-    assert_eq!(rt; reader.feed(&piece), Err(stop));
+    let _ = reader.feed(&zeros(alloc, more)?);
+    Ok(reader)
+}
+
+const BEYOND_THE_LIMIT: ReadStop = ReadStop::Refused(ReadRefusal {
+    place: 67_108_864,
+    reason: Reason::FileLimit,
+});
+
+#[test]
+fn a_stream_beyond_the_limit_is_refused(rt: HostRuntime) -> Result<(), Fail> {
+    let alloc = rt.alloc();
+    let piece = zeros(alloc, 1_048_576)?;
+    let mut reader = nearly_full(alloc, 0)?;
+    assert_eq!(rt; reader.feed(&piece), Err(BEYOND_THE_LIMIT));
+    Ok(())
+}
+
+#[test]
+fn the_byte_beyond_the_limit_is_refused(rt: HostRuntime) -> Result<(), Fail> {
+    let alloc = rt.alloc();
+    let mut reader = nearly_full(alloc, 1_048_498)?;
+    assert_eq!(rt; reader.feed(&[0]), Ok(()));
+    assert_eq!(rt; reader.feed(&[0]), Err(BEYOND_THE_LIMIT));
     Ok(())
 }
 

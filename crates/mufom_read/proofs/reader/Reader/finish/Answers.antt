@@ -1,11 +1,11 @@
-use Rattle.std.proofs.Common.{◌≡◌, ◌+◌, ◌∙◌, true, false, Option, length, sym, ap, subst, arith, length-drop}
+use Rattle.std.proofs.Common.{◌≡◌, ◌+◌, ◌∙◌, true, false, Option, Ok, Err, length, sym, ap, subst, arith, length-drop}
 use Rattle.mufom_read.specs.declared.refusal.ReadStop.{ReadStop}
 use Rattle.mufom_read.specs.declared.state.State.{State}
 use Rattle.mufom_read.specs.Fronts.{size_of, is_ended}
 use Rattle.mufom_read.specs.FrontOfCode.{IsFrontOf}
 use Rattle.mufom_read.specs.Judging.{IsModule}
 use Rattle.mufom_read.specs.Reader.{IsReading, Knows, HasRead}
-use Rattle.mufom_read.proofs.FinishLaws.{is-whole, finish-stopped, finish-cut, finish-whole, finish-module}
+use Rattle.mufom_read.proofs.FinishLaws.{is-whole, finish-stopped, finish-cut, finish-whole, finish-module, finish-file}
 use Rattle.mufom_read.proofs.reader.Reader.finish.Goals as goal
 
 pub returns-in-Some-clause-refused : goal.returns-in-Some-clause-refused
@@ -49,3 +49,15 @@ returns-in-Ok-clause-refused c = λ place reason stream has memory.
     let kept = subst (λ (s : State). IsFrontOf it.reads_debug s.front is.front) (sym c.self.view_is) is.kept in
     let ended : is_ended is.front ≡ true = sym (c.is_ended.ensures.front it.reads_debug is.front kept) ∙ c.if-not-is_ended.false in
     finish-whole it stream is c.in-Ok.module place reason ended
+
+pub returns-in-Some-clause-module : goal.returns-in-Some-clause-module
+returns-in-Some-clause-module c = λ stream m has is memory.
+    finish-file c.args.self.reads_debug stream m (Err c.in-Some.stop) has.0 tt (λ place reason. (returns-in-Some-clause-refused c place reason stream has memory).0) is memory
+
+pub returns-then-not-is_ended-clause-module : goal.returns-then-not-is_ended-clause-module
+returns-then-not-is_ended-clause-module c = λ stream m has is memory.
+    finish-file c.args.self.reads_debug stream m (Err c.refused.result) has.0 tt (λ place reason. (returns-then-not-is_ended-clause-refused c place reason stream has memory).0) is memory
+
+pub returns-in-Ok-clause-module : goal.returns-in-Ok-clause-module
+returns-in-Ok-clause-module c = λ stream m has is memory.
+    finish-file c.args.self.reads_debug stream m (Ok c.in-Ok.module) has.0 (returns-in-Ok-clause-ok c stream has) (λ place reason. (returns-in-Ok-clause-refused c place reason stream has memory).0) is memory
