@@ -20,7 +20,8 @@ pub fn infix(alloc: Global, expr: &Expr) -> Result<Bytes, NoMemory>
     Bytes::from_slice(alloc, text.as_bytes())
 }
 
-fn letter_name(letter: Letter) -> &'static str
+/// The name of a letter in the infix form.
+pub fn letter_name(letter: Letter) -> &'static str
     ensures { result.now ≡ letter_text letter }
 {
     match letter {
@@ -33,8 +34,8 @@ fn letter_name(letter: Letter) -> &'static str
     }
 }
 
-// What stands before the operands of a function.
-fn opening(function: Function) -> &'static str
+/// What stands before the operands of a function in the infix form.
+pub fn infix_opening(function: Function) -> &'static str
     ensures { result.now ≡ opening_text function }
 {
     match function {
@@ -50,8 +51,8 @@ fn opening(function: Function) -> &'static str
     }
 }
 
-// What stands between the two operands of a function.
-fn middle(function: Function) -> &'static str
+/// What stands between the two operands of a function in the infix form.
+pub fn infix_middle(function: Function) -> &'static str
     ensures { result.now ≡ middle_text function }
 {
     match function {
@@ -79,14 +80,14 @@ fn write_infix(text: &mut String, expr: &Expr) -> Result<(), NoMemory>
             write!(text, "{place}")?;
         }
         Expr::One(function, a) => {
-            text.push_str(opening(*function))?;
+            text.push_str(infix_opening(*function))?;
             write_infix(text, a)?;
             text.push_str(")")?;
         }
         Expr::Two(function, a, b) => {
-            text.push_str(opening(*function))?;
+            text.push_str(infix_opening(*function))?;
             write_infix(text, a)?;
-            text.push_str(middle(*function))?;
+            text.push_str(infix_middle(*function))?;
             write_infix(text, b)?;
             text.push_str(")")?;
         }

@@ -23,7 +23,7 @@ pub use builder::Builder;
 pub use env::{Env, VarMap};
 pub use expr::Expr;
 pub use fault::ExprFault;
-pub use infix_form::infix;
+pub use infix_form::{infix, infix_middle, infix_opening, letter_name};
 pub use laws::{
     renaming_composes_with_value, spellings_give_one_tree, tokens_give_the_tree_back,
     values_are_residues,

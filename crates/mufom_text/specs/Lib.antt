@@ -1,0 +1,5 @@
+pub mod Printing
+pub mod Chains
+pub mod Words
+pub mod Show
+pub mod Terms

@@ -1,0 +1,15 @@
+ghost use Rattle.std.specs.Prelude.{◌≡◌, ℕ, List, [], ◌++◌};
+
+/// Where text goes. Once it could not go on, no more is added; whoever made the output learns of it at the end.
+pub(crate) trait Output {
+    /// What stands before and behind text that is put.
+    ghost takes: { Self → Self → List ℕ → Type 0 };
+
+    /// Adds the text.
+    fn put(&mut self, text: &[u8])
+        ensures { takes self.old self.new text.now };
+
+    ghost nothing: { (a : Self) → takes a a [] };
+
+    ghost joins: { (a b c : Self) (xs ys : List ℕ) → takes a b xs → takes b c ys → takes a c (xs ++ ys) };
+}

@@ -1,0 +1,109 @@
+//! The lines of a module's head and of its sections.
+
+ghost use Rattle.std.specs.Prelude.{◌≡◌, ◌++◌, codes};
+ghost use Rattle.std.specs.Fmt.{decimal};
+ghost use Rattle.mufom_text.specs.Words.{each, line};
+ghost use Rattle.mufom_text.specs.Show.{base_text, module_line, order_letter, purpose_letter, raw_line, section_line, type_letters};
+
+use crate::output::Output;
+use crate::words::{number, numbered, quoted};
+use mufom_module::{Order, Parts};
+use mufom_sections::{Purpose, Section};
+
+fn order_letter(order: Order) -> &'static [u8]
+    ensures { result.now ≡ order_letter order }
+{
+    match order {
+        Order::Least => b"L",
+        Order::Most => b"M",
+    }
+}
+
+/// The line of the module.
+pub(crate) fn module_line<K: Output>(out: &mut K, parts: &Parts)
+    ensures { K.takes out.old out.new (module_line parts.now) }
+{
+    out.put(b"module ");
+    quoted(out, parts.name.as_slice());
+    out.put(b" processor ");
+    quoted(out, parts.processor.as_slice());
+    out.put(b" maus ");
+    number(out, parts.maus as u64);
+    out.put(b" order ");
+    out.put(order_letter(parts.order));
+    out.put(b"\n");
+}
+
+// The line of a part of so many bytes.
+fn counted<K: Output>(out: &mut K, name: &[u8], count: usize)
+    ensures { K.takes out.old out.new (line (((name.now ++ codes " ") ++ decimal count) ++ codes " bytes")) }
+{
+    out.put(name);
+    out.put(b" ");
+    number(out, count as u64);
+    out.put(b" bytes");
+    out.put(b"\n");
+}
+
+/// The line of a part that is not read, where it has bytes.
+pub(crate) fn raw_line<K: Output>(out: &mut K, name: &[u8], bytes: &[u8])
+    ensures { K.takes out.old out.new (raw_line name.now bytes.now) }
+{
+    match bytes {
+        [] => {}
+        _ => counted(out, name, bytes.len()),
+    }
+}
+
+fn type_letters(absolute: bool) -> &'static [u8]
+    ensures { result.now ≡ type_letters absolute }
+{
+    if absolute { b"AS" } else { b"C" }
+}
+
+fn purpose_letter(purpose: Option<Purpose>) -> &'static [u8]
+    ensures { result.now ≡ purpose_letter purpose }
+{
+    match purpose {
+        None => b"",
+        Some(Purpose::Code) => b"P",
+        Some(Purpose::Data) => b"D",
+        Some(Purpose::Rom) => b"R",
+    }
+}
+
+fn base<K: Output>(out: &mut K, base: Option<u64>)
+    ensures { K.takes out.old out.new (base_text base) }
+{
+    match base {
+        Some(base) => numbered(out, b" base ", base),
+        None => {}
+    }
+}
+
+fn section_line<K: Output>(out: &mut K, position: usize, section: &Section)
+    ensures { K.takes out.old out.new (section_line position section.now) }
+{
+    out.put(b"section ");
+    number(out, position as u64);
+    out.put(b" ");
+    quoted(out, section.name.as_slice());
+    out.put(b" ");
+    out.put(type_letters(section.absolute));
+    out.put(purpose_letter(section.purpose));
+    out.put(b" size ");
+    number(out, section.size);
+    out.put(b" align ");
+    number(out, section.align);
+    base(out, section.base);
+    out.put(b"\n");
+}
+
+/// The lines of the sections.
+pub(crate) fn section_lines<K: Output>(out: &mut K, sections: &[Section])
+    ensures { K.takes out.old out.new (each section_line sections.now) }
+{
+    for position in 0..sections.len() {
+        section_line(out, position, &sections[position]);
+    }
+}
