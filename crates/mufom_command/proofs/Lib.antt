@@ -12,3 +12,4 @@ pub mod Judgements
 pub mod LineLaws
 pub mod InputLaws
 pub mod Verdicts
+pub mod ListLaws

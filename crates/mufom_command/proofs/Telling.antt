@@ -1,5 +1,5 @@
 -- An answer, and the complaint behind it.
-use Rattle.std.proofs.Common.{◌≡◌, ℕ, List, [], ◌∷◌, length, take, Option, IfSome, OnSome, sym, ap, subst, ◌∙◌, inl, inr}
+use Rattle.std.proofs.Common.{◌≡◌, ◌⊎◌, ℕ, Bool, not, Err, List, [], ◌∷◌, length, take, Option, IfSome, OnSome, sym, ap, subst, ◌∙◌, inl, inr}
 use Rattle.mufom_host.specs.World.{Faults, Meaning, GrowsBy, GrowsByFront, KeepsAllButComplaints, KeepsAllButErr, Rose}
 use Rattle.mufom_command.specs.declared.outcome.Input.TheVariants as input
 use Rattle.mufom_command.specs.declared.outcome.Outcome.{Outcome}
@@ -7,8 +7,10 @@ use Rattle.mufom_command.specs.declared.outcome.Outcome.TheVariants as outcome
 use Rattle.mufom_command.specs.declared.outcome.Refusal.TheVariants as refusal
 use Rattle.mufom_command.specs.Plain.{Image, IsPlainModule}
 use Rattle.mufom_command.specs.Inputs.{ComeTo, accepted}
-use Rattle.mufom_command.specs.Text.{check_text, dump_text}
-use Rattle.mufom_command.specs.Run.{Answers, Checks, Dumps, FileHas, IsOpenedCount, IsToldAs, MayLackMemory, OpensFront, stop_answer}
+use Rattle.mufom_command.specs.Text.{dump_text}
+use Rattle.mufom_command.specs.Run.{Answers, Lists, Dumps, FileHas, IsOpenedCount, IsToldAs, MayLackMemory, OpensFront, stop_answer, text_by}
+use Rattle.mufom_words.specs.declared.stop.WordsStop.{WordsStop}
+use Rattle.mufom_words.specs.Answer.{answer_of}
 use Rattle.mufom_module.specs.declared.module.Parts.{Parts}
 
 module _ (name : List ℕ) (old mid new : Meaning) (before between now : Faults) (stays : KeepsAllButErr mid new) (counts : KeepsAllButComplaints between now) where
@@ -47,33 +49,33 @@ module _ (name : List ℕ) (old mid new : Meaning) (before between now : Faults)
   opened_then_told : OnSome mid.opened (GrowsBy old.opened mid.opened (name ∷ [])) → OnSome new.opened (GrowsBy old.opened new.opened (name ∷ []))
   opened_then_told names = subst (λ (o : Option (List (List ℕ))). OnSome o (GrowsBy old.opened o (name ∷ []))) (sym (ap (λ (m : Meaning). m.opened) stays)) names
 
-module _ (names : List (List ℕ)) (old mid new : Meaning) (before between now : Faults) (stays : KeepsAllButErr mid new) (counts : KeepsAllButComplaints between now) where
-  checks_out_same : mid.out ≡ new.out
-  checks_out_same = sym (ap (λ (m : Meaning). m.out) stays)
+module _ (reads_debug : Bool) (text : List Parts → List ℕ) (names : List (List ℕ)) (old mid new : Meaning) (before between now : Faults) (stays : KeepsAllButErr mid new) (counts : KeepsAllButComplaints between now) where
+  lists_out_same : mid.out ≡ new.out
+  lists_out_same = sym (ap (λ (m : Meaning). m.out) stays)
 
-  -- so of the answer to `check`
-  pub checks_then_told : (o : Outcome) → Checks names old mid before between o → Checks names old new before now o
-  checks_then_told outcome.Done d = subst (λ (out : Option (List ℕ)). IfSome old.files (λ files. (ms : List Parts) × ComeTo files names (accepted ms) × GrowsBy old.out out (check_text ms))) checks_out_same d
-  checks_then_told (outcome.Refused (refusal.Read i r)) d = (d.0, sym checks_out_same ∙ d.1)
-  checks_then_told (outcome.Refused (refusal.InputLimit i)) d = (d.0, sym checks_out_same ∙ d.1)
-  checks_then_told (outcome.Refused (refusal.TooManyFiles count)) d = absurd d
-  checks_then_told (outcome.Usage f) d = absurd d
-  checks_then_told (outcome.ReadFault (input.File i)) d = (subst (λ (n : ℕ). Rose before.reads n) (sym (ap (λ (f : Faults). f.reads) counts)) d.0, d.1, sym checks_out_same ∙ d.2)
-  checks_then_told outcome.WriteFault d = (
+  -- so of the answer to `show` and `check`
+  pub lists_then_told : (o : Outcome) → Lists reads_debug text names old mid before between o → Lists reads_debug text names old new before now o
+  lists_then_told outcome.Done d = subst (λ (out : Option (List ℕ)). IfSome old.files (λ files. (ms : List Parts) × ComeTo reads_debug files names (accepted ms) × GrowsBy old.out out (text ms))) lists_out_same d
+  lists_then_told (outcome.Refused (refusal.Read i r)) d = (d.0, sym lists_out_same ∙ d.1)
+  lists_then_told (outcome.Refused (refusal.InputLimit i)) d = (d.0, sym lists_out_same ∙ d.1)
+  lists_then_told (outcome.Refused (refusal.TooManyFiles count)) d = absurd d
+  lists_then_told (outcome.Usage f) d = absurd d
+  lists_then_told (outcome.ReadFault (input.File i)) d = (subst (λ (n : ℕ). Rose before.reads n) (sym (ap (λ (f : Faults). f.reads) counts)) d.0, d.1, sym lists_out_same ∙ d.2)
+  lists_then_told outcome.WriteFault d = (
     subst (λ (n : ℕ). Rose before.writes n) (sym (ap (λ (f : Faults). f.writes) counts)) d.0,
-    subst (λ (out : Option (List ℕ)). IfSome old.files (λ files. (ms : List Parts) × ComeTo files names (accepted ms) × GrowsByFront old.out out (check_text ms))) checks_out_same d.1,
+    subst (λ (out : Option (List ℕ)). IfSome old.files (λ files. (ms : List Parts) × ComeTo reads_debug files names (accepted ms) × GrowsByFront old.out out (text ms))) lists_out_same d.1,
   )
-  checks_then_told outcome.NoMemory d = sym checks_out_same ∙ d
+  lists_then_told outcome.NoMemory d = sym lists_out_same ∙ d
 
-  pub checks_without_memory : (o : Outcome) → MayLackMemory o → Checks names old mid before between o → Checks names old new before now outcome.NoMemory
-  checks_without_memory outcome.Done may d = absurd may
-  checks_without_memory (outcome.Refused (refusal.Read i r)) may d = sym checks_out_same ∙ d.1
-  checks_without_memory (outcome.Refused (refusal.InputLimit i)) may d = sym checks_out_same ∙ d.1
-  checks_without_memory (outcome.Refused (refusal.TooManyFiles count)) may d = absurd d
-  checks_without_memory (outcome.Usage f) may d = absurd may
-  checks_without_memory (outcome.ReadFault (input.File i)) may d = sym checks_out_same ∙ d.2
-  checks_without_memory outcome.WriteFault may d = absurd may
-  checks_without_memory outcome.NoMemory may d = absurd may
+  pub lists_without_memory : (o : Outcome) → MayLackMemory o → Lists reads_debug text names old mid before between o → Lists reads_debug text names old new before now outcome.NoMemory
+  lists_without_memory outcome.Done may d = absurd may
+  lists_without_memory (outcome.Refused (refusal.Read i r)) may d = sym lists_out_same ∙ d.1
+  lists_without_memory (outcome.Refused (refusal.InputLimit i)) may d = sym lists_out_same ∙ d.1
+  lists_without_memory (outcome.Refused (refusal.TooManyFiles count)) may d = absurd d
+  lists_without_memory (outcome.Usage f) may d = absurd may
+  lists_without_memory (outcome.ReadFault (input.File i)) may d = sym lists_out_same ∙ d.2
+  lists_without_memory outcome.WriteFault may d = absurd may
+  lists_without_memory outcome.NoMemory may d = absurd may
 
   pub front_then_told : (o result : Outcome) → IsToldAs o result → OpensFront names old mid o → OpensFront names old new result
   front_then_told o result told front = record {
@@ -98,27 +100,38 @@ module _ (words : List (List ℕ)) (old mid new : Meaning) (before between now :
   dump_answer name (inl same) d = subst (λ (x : Outcome). Dumps name old new before now x) (sym same) (dumps_then_told name old mid new before between now stays counts o d)
   dump_answer name (inr lack) d = subst (λ (x : Outcome). Dumps name old new before now x) (sym lack.0) (dumps_without_memory name old mid new before between now stays counts o lack.1 d)
 
-  check_answer : (names : List (List ℕ)) → IsToldAs o result → Checks names old mid before between o → Checks names old new before now result
-  check_answer names (inl same) d = subst (λ (x : Outcome). Checks names old new before now x) (sym same) (checks_then_told names old mid new before between now stays counts o d)
-  check_answer names (inr lack) d = subst (λ (x : Outcome). Checks names old new before now x) (sym lack.0) (checks_without_memory names old mid new before between now stays counts o lack.1 d)
+  list_answer : (reads_debug : Bool) (text : List Parts → List ℕ) (names : List (List ℕ)) → IsToldAs o result → Lists reads_debug text names old mid before between o → Lists reads_debug text names old new before now result
+  list_answer reads_debug text names (inl same) d =
+      subst (λ (x : Outcome). Lists reads_debug text names old new before now x) (sym same) (lists_then_told reads_debug text names old mid new before between now stays counts o d)
+  list_answer reads_debug text names (inr lack) d =
+      subst (λ (x : Outcome). Lists reads_debug text names old new before now x) (sym lack.0) (lists_without_memory reads_debug text names old mid new before between now stays counts o lack.1 d)
+
+  stopped_answer : IsToldAs o result → ((s : WordsStop) × IsToldAs (stop_answer s) o × (answer_of words ≡ Err s)) ⊎ (o ≡ outcome.NoMemory) → ((s : WordsStop) × IsToldAs (stop_answer s) result × (answer_of words ≡ Err s)) ⊎ (result ≡ outcome.NoMemory)
+  stopped_answer told (inl (s, first, is)) = inl (s, told_twice (stop_answer s) o result first told, is)
+  stopped_answer (inl same) (inr lack) = inr (same ∙ lack)
+  stopped_answer (inr lack) (inr again) = inr lack.0
 
   pub answers_then_told : IsToldAs o result → Answers words old mid before between o → Answers words old new before now result
   answers_then_told told (inl stopped) =
       inl (record {
-        fault = (stopped.fault.0, told_twice (stop_answer stopped.fault.0) o result stopped.fault.1 told, stopped.fault.2);
+        fault = stopped_answer told stopped.fault;
         kept = stays ∙ ap (λ (m : Meaning). record m { err = new.err }) stopped.kept;
       })
   answers_then_told told (inr (inl dump)) =
       inr (inl (record {
-        name = dump.name;
+        command = dump.command;
         named = dump.named;
+        is_dump = dump.is_dump;
+        name = dump.name;
+        alone = dump.alone;
         answer = dump_answer dump.name told dump.answer;
         opened = opened_then_told dump.name old mid new before between now stays counts dump.opened;
       }))
-  answers_then_told told (inr (inr check)) =
+  answers_then_told told (inr (inr list)) =
       inr (inr (record {
-        names = check.names;
-        named = check.named;
-        answer = check_answer check.names told check.answer;
-        opened = front_then_told check.names old mid new before between now stays counts o result told check.opened;
+        command = list.command;
+        named = list.named;
+        lists = list.lists;
+        answer = list_answer (not list.command.no_debug) (text_by list.command.verb) list.command.files told list.answer;
+        opened = front_then_told (not list.command.no_debug) (text_by list.command.verb) list.command.files old mid new before between now stays counts o result told list.opened;
       }))

@@ -1,5 +1,5 @@
 -- Files come to one verdict, since each of them has one judgment.
-use Rattle.std.proofs.Common.{◌≡◌, ℕ, ◌<◌, ◌≤◌, true, List, [], ◌∷◌, ◌++◌, length, map, take, sum_by, Some, refl, sym, ap, subst, ◌∙◌, inl, inr, arith}
+use Rattle.std.proofs.Common.{◌≡◌, ℕ, ◌<◌, ◌≤◌, Bool, List, [], ◌∷◌, ◌++◌, length, map, take, sum_by, Some, refl, sym, ap, subst, ◌∙◌, inl, inr, arith}
 use Rattle.std.proofs.lemmas.Bool.{cases_order}
 use Rattle.std.proofs.lemmas.List.{take_all}
 use Rattle.std.proofs.lemmas.List.Sums.{sum_by-append, sum_by-cons}
@@ -48,7 +48,7 @@ same_bytes (x ∷ a) (y ∷ b) same =
     let more = same_bytes a b tail in (λ i. head i ∷ more i)
 
 -- an accepted file within a list of them, and those before it
-record Cut (files : List NamedFile) (before contents : List (List ℕ)) (name : List ℕ) : Type 0 where
+record Cut (reads_debug : Bool) (files : List NamedFile) (before contents : List (List ℕ)) (name : List ℕ) : Type 0 where
   front : List (List ℕ)
   bytes : List ℕ
   back : List (List ℕ)
@@ -57,17 +57,17 @@ record Cut (files : List NamedFile) (before contents : List (List ℕ)) (name : 
   whole : contents ≡ front ++ bytes ∷ back
   front_bytes : HaveBytes files before front
   there : file_named name files ≡ Some bytes
-  front_modules : AreModules front modules
-  is : IsModule true bytes own
+  front_modules : AreModules reads_debug front modules
+  is : IsModule reads_debug bytes own
 
-cut : (files : List NamedFile) (before after contents : List (List ℕ)) (name : List ℕ) (ms : List Parts) → HaveBytes files (before ++ name ∷ after) contents → AreModules contents ms → Cut files before contents name
-cut files before after [] name [] have are = absurd (none before have) where
+cut : (reads_debug : Bool) (files : List NamedFile) (before after contents : List (List ℕ)) (name : List ℕ) (ms : List Parts) → HaveBytes files (before ++ name ∷ after) contents → AreModules reads_debug contents ms → Cut reads_debug files before contents name
+cut reads_debug files before after [] name [] have are = absurd (none before have) where
   none : (before : List (List ℕ)) → HaveBytes files (before ++ name ∷ after) [] → ⊥
   none [] have = cc
   none (x ∷ before) have = cc
-cut files before after [] name (m ∷ ms) have are = absurd are
-cut files before after (bytes ∷ contents) name [] have are = absurd are
-cut files [] after (bytes ∷ contents) name (m ∷ ms) have are = record {
+cut reads_debug files before after [] name (m ∷ ms) have are = absurd are
+cut reads_debug files before after (bytes ∷ contents) name [] have are = absurd are
+cut reads_debug files [] after (bytes ∷ contents) name (m ∷ ms) have are = record {
   front = [];
   bytes = bytes;
   back = contents;
@@ -79,10 +79,10 @@ cut files [] after (bytes ∷ contents) name (m ∷ ms) have are = record {
   front_modules = tt;
   is = are.0;
 }
-cut files (x ∷ before) after (bytes ∷ contents) name (m ∷ ms) have are =
+cut reads_debug files (x ∷ before) after (bytes ∷ contents) name (m ∷ ms) have are =
     let head : file_named x files ≡ Some bytes = cc in
     let tail : HaveBytes files (before ++ name ∷ after) contents = cc in
-    let more = cut files before after contents name ms tail are.1 in
+    let more = cut reads_debug files before after contents name ms tail are.1 in
     record {
       front = bytes ∷ more.front;
       bytes = more.bytes;
@@ -97,11 +97,11 @@ cut files (x ∷ before) after (bytes ∷ contents) name (m ∷ ms) have are =
     }
 
 -- ---- one judgment of each file
-module _ (judged : HasOneJudgment) (files : List NamedFile) (bytes_there : HoldBytes files) where
-  same_module : (name bytes : List ℕ) (m n : Parts) → file_named name files ≡ Some bytes → IsModule true bytes m → IsModule true bytes n → m ≡ n
-  same_module name bytes m n there one_is other_is = let same = judged true bytes (module_of m) (module_of n) (bytes_there name bytes there) one_is other_is in cc
+module _ (reads_debug : Bool) (judged : HasOneJudgment) (files : List NamedFile) (bytes_there : HoldBytes files) where
+  same_module : (name bytes : List ℕ) (m n : Parts) → file_named name files ≡ Some bytes → IsModule reads_debug bytes m → IsModule reads_debug bytes n → m ≡ n
+  same_module name bytes m n there one_is other_is = let same = judged reads_debug bytes (module_of m) (module_of n) (bytes_there name bytes there) one_is other_is in cc
 
-  same_modules : (names contents : List (List ℕ)) (ms ns : List Parts) → HaveBytes files names contents → AreModules contents ms → AreModules contents ns → ms ≡ ns
+  same_modules : (names contents : List (List ℕ)) (ms ns : List Parts) → HaveBytes files names contents → AreModules reads_debug contents ms → AreModules reads_debug contents ns → ms ≡ ns
   same_modules names [] [] [] have are again = refl
   same_modules names [] (m ∷ ms) ns have are again = absurd are
   same_modules names [] [] (n ∷ ns) have are again = absurd again
@@ -115,33 +115,33 @@ module _ (judged : HasOneJudgment) (files : List NamedFile) (bytes_there : HoldB
       let rest = same_modules names contents ms ns tail are.1 again.1 in (λ i. first i ∷ rest i)
 
   -- what is refused within a limit is a refusal of so many of its first bytes
-  judged_within : (limit : ℕ) (bytes : List ℕ) (place : ℕ) (reason : Reason) → IsRefusedWithin true limit bytes place reason → IsJudged true (take limit bytes) (refusal place reason)
+  judged_within : (limit : ℕ) (bytes : List ℕ) (place : ℕ) (reason : Reason) → IsRefusedWithin reads_debug limit bytes place reason → IsJudged reads_debug (take limit bytes) (refusal place reason)
   judged_within limit bytes place reason (inl front) = inl front
-  judged_within limit bytes place reason (inr (fits, whole)) = subst (λ (l : List ℕ). IsJudged true l (refusal place reason)) (sym (take_all limit bytes fits)) whole
+  judged_within limit bytes place reason (inr (fits, whole)) = subst (λ (l : List ℕ). IsJudged reads_debug l (refusal place reason)) (sym (take_all limit bytes fits)) whole
 
-  module_within : (limit : ℕ) (bytes : List ℕ) (m : Parts) → IsModule true bytes m → length bytes ≤ limit → IsJudged true (take limit bytes) (module_of m)
-  module_within limit bytes m is fits = subst (λ (l : List ℕ). IsJudged true l (module_of m)) (sym (take_all limit bytes fits)) is
+  module_within : (limit : ℕ) (bytes : List ℕ) (m : Parts) → IsModule reads_debug bytes m → length bytes ≤ limit → IsJudged reads_debug (take limit bytes) (module_of m)
+  module_within limit bytes m is fits = subst (λ (l : List ℕ). IsJudged reads_debug l (module_of m)) (sym (take_all limit bytes fits)) is
 
   -- a stop of a file that is no module within its limit
   IsStop : (ℕ → List ℕ → Type 0) → Type 0
-  IsStop P = (limit : ℕ) (name bytes : List ℕ) (m : Parts) → file_named name files ≡ Some bytes → IsModule true bytes m → length bytes ≤ limit → P limit bytes → ⊥
+  IsStop P = (limit : ℕ) (name bytes : List ℕ) (m : Parts) → file_named name files ≡ Some bytes → IsModule reads_debug bytes m → length bytes ≤ limit → P limit bytes → ⊥
 
-  refusal_stops : (r : ReadRefusal) → IsStop (λ limit bytes. IsRefusedWithin true limit bytes r.place r.reason)
+  refusal_stops : (r : ReadRefusal) → IsStop (λ limit bytes. IsRefusedWithin reads_debug limit bytes r.place r.reason)
   unfolding IsStop
   refusal_stops r limit name bytes m there is fits stops =
       let same : module_of m ≡ refusal r.place r.reason =
-      judged true (take limit bytes) (module_of m) (refusal r.place r.reason) (AreBytes-take limit bytes (bytes_there name bytes there)) (module_within limit bytes m is fits) (judged_within limit bytes r.place r.reason stops) in cc
+      judged reads_debug (take limit bytes) (module_of m) (refusal r.place r.reason) (AreBytes-take limit bytes (bytes_there name bytes there)) (module_within limit bytes m is fits) (judged_within limit bytes r.place r.reason stops) in cc
 
-  limit_stops : IsStop (λ limit bytes. IsPastLimit true limit bytes)
+  limit_stops : IsStop (λ limit bytes. IsPastLimit reads_debug limit bytes)
   unfolding IsStop
   limit_stops limit name bytes m there is fits stops = let more = stops.0 in omega (arith, fits, more)
 
   -- a file before others that are accepted does not stop the run
-  never_inside : (P : ℕ → List ℕ → Type 0) → IsStop P → (names contents : List (List ℕ)) (ms : List Parts) (number : ℕ) (s : StopsAt files names number P) (more : List (List ℕ))
-      → AreAccepted files (s.before ++ s.name ∷ more) contents ms → ⊥
+  never_inside : (P : ℕ → List ℕ → Type 0) → IsStop P → (names contents : List (List ℕ)) (ms : List Parts) (number : ℕ) (s : StopsAt reads_debug files names number P) (more : List (List ℕ))
+      → AreAccepted reads_debug files (s.before ++ s.name ∷ more) contents ms → ⊥
   unfolding IsStop
   never_inside P is_stop names contents ms number s more them =
-      let c = cut files s.before more contents s.name ms them.bytes them.modules in
+      let c = cut reads_debug files s.before more contents s.name ms them.bytes them.modules in
       let same_front : c.front ≡ s.contents = same_bytes c.front s.contents (sym c.front_bytes ∙ s.accepted.bytes) in
       let same_own : s.bytes ≡ c.bytes = let both : Some s.bytes ≡ Some c.bytes = sym s.there ∙ c.there in cc in
       let sum = sum_by-append length c.front (c.bytes ∷ c.back) in
@@ -152,17 +152,17 @@ module _ (judged : HasOneJudgment) (files : List NamedFile) (bytes_there : HoldB
       is_stop (room_behind c.front) s.name c.bytes c.own c.there c.is fits
       (subst (λ (l : List ℕ). P (room_behind c.front) l) same_own (subst (λ (l : List (List ℕ)). P (room_behind l) s.bytes) (sym same_front) s.stops))
 
-  never_all : (P : ℕ → List ℕ → Type 0) → IsStop P → (names contents : List (List ℕ)) (ms : List Parts) (number : ℕ) → AreAccepted files names contents ms → StopsAt files names number P → ⊥
-  never_all P is_stop names contents ms number them s = never_inside P is_stop names contents ms number s s.after (subst (λ (l : List (List ℕ)). AreAccepted files l contents ms) s.split them)
+  never_all : (P : ℕ → List ℕ → Type 0) → IsStop P → (names contents : List (List ℕ)) (ms : List Parts) (number : ℕ) → AreAccepted reads_debug files names contents ms → StopsAt reads_debug files names number P → ⊥
+  never_all P is_stop names contents ms number them s = never_inside P is_stop names contents ms number s s.after (subst (λ (l : List (List ℕ)). AreAccepted reads_debug files l contents ms) s.split them)
 
-  never_earlier : (P Q : ℕ → List ℕ → Type 0) → IsStop P → (names : List (List ℕ)) (i j : ℕ) → StopsAt files names i P → StopsAt files names j Q → i < j → ⊥
+  never_earlier : (P Q : ℕ → List ℕ → Type 0) → IsStop P → (names : List (List ℕ)) (i j : ℕ) → StopsAt reads_debug files names i P → StopsAt reads_debug files names j Q → i < j → ⊥
   never_earlier P Q is_stop names i j s t less =
       let first = s.place in let second = t.place in
       let split = split_before s.before t.before s.after t.after s.name t.name (sym s.split ∙ t.split) (omega (arith, first, second, less)) in
-      never_inside P is_stop names t.contents t.modules i s split.0 (subst (λ (l : List (List ℕ)). AreAccepted files l t.contents t.modules) split.1 t.accepted)
+      never_inside P is_stop names t.contents t.modules i s split.0 (subst (λ (l : List (List ℕ)). AreAccepted reads_debug files l t.contents t.modules) split.1 t.accepted)
 
   -- two stops at one number are of one file, with one limit
-  same_place : (P Q : ℕ → List ℕ → Type 0) (names : List (List ℕ)) (i j : ℕ) (s : StopsAt files names i P) (t : StopsAt files names j Q) → i ≡ j
+  same_place : (P Q : ℕ → List ℕ → Type 0) (names : List (List ℕ)) (i j : ℕ) (s : StopsAt reads_debug files names i P) (t : StopsAt reads_debug files names j Q) → i ≡ j
       → (limit : ℕ) × (name : List ℕ) × (bytes : List ℕ) × (file_named name files ≡ Some bytes) × P limit bytes × Q limit bytes
   same_place P Q names i j s t is =
       let first = s.place in let second = t.place in
@@ -177,7 +177,7 @@ module _ (judged : HasOneJudgment) (files : List NamedFile) (bytes_there : HoldB
         subst (λ (l : List (List ℕ)). Q (room_behind l) s.bytes) (sym before) (subst (λ (l : List ℕ). Q (room_behind t.contents) l) (sym own) t.stops),
       )
 
-  one_number : (P Q : ℕ → List ℕ → Type 0) → IsStop P → IsStop Q → (names : List (List ℕ)) (i j : ℕ) → StopsAt files names i P → StopsAt files names j Q → i ≡ j
+  one_number : (P Q : ℕ → List ℕ → Type 0) → IsStop P → IsStop Q → (names : List (List ℕ)) (i j : ℕ) → StopsAt reads_debug files names i P → StopsAt reads_debug files names j Q → i ≡ j
   one_number P Q p_stops q_stops names i j s t = elim (cases_order i j) [
     | inl same ↦ same
     | inr (inl less) ↦ absurd (never_earlier P Q p_stops names i j s t less)
@@ -185,49 +185,49 @@ module _ (judged : HasOneJudgment) (files : List NamedFile) (bytes_there : HoldB
   ]
 
   -- two refusals at one number are one
-  one_refusal : (names : List (List ℕ)) (i j : ℕ) (r q : ReadRefusal) → i ≡ j → StopsAt files names i (λ limit bytes. IsRefusedWithin true limit bytes r.place r.reason)
-      → StopsAt files names j (λ limit bytes. IsRefusedWithin true limit bytes q.place q.reason) → r ≡ q
+  one_refusal : (names : List (List ℕ)) (i j : ℕ) (r q : ReadRefusal) → i ≡ j → StopsAt reads_debug files names i (λ limit bytes. IsRefusedWithin reads_debug limit bytes r.place r.reason)
+      → StopsAt reads_debug files names j (λ limit bytes. IsRefusedWithin reads_debug limit bytes q.place q.reason) → r ≡ q
   one_refusal names i j r q is s t =
-      let there = same_place (λ limit bytes. IsRefusedWithin true limit bytes r.place r.reason) (λ limit bytes. IsRefusedWithin true limit bytes q.place q.reason) names i j s t is in
+      let there = same_place (λ limit bytes. IsRefusedWithin reads_debug limit bytes r.place r.reason) (λ limit bytes. IsRefusedWithin reads_debug limit bytes q.place q.reason) names i j s t is in
       same_refusal there.0 there.1 there.2 there.3 there.4 there.5 where
-        same_refusal : (limit : ℕ) (name bytes : List ℕ) → file_named name files ≡ Some bytes → IsRefusedWithin true limit bytes r.place r.reason → IsRefusedWithin true limit bytes q.place q.reason → r ≡ q
+        same_refusal : (limit : ℕ) (name bytes : List ℕ) → file_named name files ≡ Some bytes → IsRefusedWithin reads_debug limit bytes r.place r.reason → IsRefusedWithin reads_debug limit bytes q.place q.reason → r ≡ q
         same_refusal limit name bytes there one_is other_is =
             let same : refusal r.place r.reason ≡ refusal q.place q.reason =
-            judged true (take limit bytes) (refusal r.place r.reason) (refusal q.place q.reason) (AreBytes-take limit bytes (bytes_there name bytes there))
+            judged reads_debug (take limit bytes) (refusal r.place r.reason) (refusal q.place q.reason) (AreBytes-take limit bytes (bytes_there name bytes there))
             (judged_within limit bytes r.place r.reason one_is) (judged_within limit bytes q.place q.reason other_is) in
             let place : r.place ≡ q.place = cc in
             let reason : r.reason ≡ q.reason = cc in (λ i. record { place = place i; reason = reason i })
 
   -- a file that is refused within its limit is not past it
-  never_both : (names : List (List ℕ)) (i j : ℕ) (r : ReadRefusal) → i ≡ j → StopsAt files names i (λ limit bytes. IsRefusedWithin true limit bytes r.place r.reason)
-      → StopsAt files names j (λ limit bytes. IsPastLimit true limit bytes) → ⊥
+  never_both : (names : List (List ℕ)) (i j : ℕ) (r : ReadRefusal) → i ≡ j → StopsAt reads_debug files names i (λ limit bytes. IsRefusedWithin reads_debug limit bytes r.place r.reason)
+      → StopsAt reads_debug files names j (λ limit bytes. IsPastLimit reads_debug limit bytes) → ⊥
   never_both names i j r is s t =
-      let there = same_place (λ limit bytes. IsRefusedWithin true limit bytes r.place r.reason) (λ limit bytes. IsPastLimit true limit bytes) names i j s t is in
+      let there = same_place (λ limit bytes. IsRefusedWithin reads_debug limit bytes r.place r.reason) (λ limit bytes. IsPastLimit reads_debug limit bytes) names i j s t is in
       excluded there.0 there.2 there.4 there.5 where
-        excluded : (limit : ℕ) (bytes : List ℕ) → IsRefusedWithin true limit bytes r.place r.reason → IsPastLimit true limit bytes → ⊥
+        excluded : (limit : ℕ) (bytes : List ℕ) → IsRefusedWithin reads_debug limit bytes r.place r.reason → IsPastLimit reads_debug limit bytes → ⊥
         excluded limit bytes (inl front) past = past.1 r.place r.reason front
         excluded limit bytes (inr whole) past = let fits = whole.0 in let more = past.0 in omega (arith, fits, more)
 
-  all_same : (names : List (List ℕ)) (ms ns : List Parts) → ComeTo files names (accepted ms) → ComeTo files names (accepted ns) → ms ≡ ns
+  all_same : (names : List (List ℕ)) (ms ns : List Parts) → ComeTo reads_debug files names (accepted ms) → ComeTo reads_debug files names (accepted ns) → ms ≡ ns
   all_same names ms ns (contents, them) (others, again) =
       let same = same_bytes contents others (sym them.bytes ∙ again.bytes) in
-      same_modules names contents ms ns them.bytes them.modules (subst (λ (l : List (List ℕ)). AreModules l ns) (sym same) again.modules)
+      same_modules names contents ms ns them.bytes them.modules (subst (λ (l : List (List ℕ)). AreModules reads_debug l ns) (sym same) again.modules)
 
-  verdicts : (names : List (List ℕ)) (a b : Verdict) → ComeTo files names a → ComeTo files names b → a ≡ b
+  verdicts : (names : List (List ℕ)) (a b : Verdict) → ComeTo reads_debug files names a → ComeTo reads_debug files names b → a ≡ b
   verdicts names (accepted ms) (accepted ns) s t = ap (λ (l : List Parts). accepted l) (all_same names ms ns s t)
-  verdicts names (accepted ms) (refused j q) s t = absurd (never_all (λ limit bytes. IsRefusedWithin true limit bytes q.place q.reason) (refusal_stops q) names s.0 ms j s.1 t)
-  verdicts names (accepted ms) (past_limit j) s t = absurd (never_all (λ limit bytes. IsPastLimit true limit bytes) limit_stops names s.0 ms j s.1 t)
-  verdicts names (refused i r) (accepted ns) s t = absurd (never_all (λ limit bytes. IsRefusedWithin true limit bytes r.place r.reason) (refusal_stops r) names t.0 ns i t.1 s)
-  verdicts names (past_limit i) (accepted ns) s t = absurd (never_all (λ limit bytes. IsPastLimit true limit bytes) limit_stops names t.0 ns i t.1 s)
+  verdicts names (accepted ms) (refused j q) s t = absurd (never_all (λ limit bytes. IsRefusedWithin reads_debug limit bytes q.place q.reason) (refusal_stops q) names s.0 ms j s.1 t)
+  verdicts names (accepted ms) (past_limit j) s t = absurd (never_all (λ limit bytes. IsPastLimit reads_debug limit bytes) limit_stops names s.0 ms j s.1 t)
+  verdicts names (refused i r) (accepted ns) s t = absurd (never_all (λ limit bytes. IsRefusedWithin reads_debug limit bytes r.place r.reason) (refusal_stops r) names t.0 ns i t.1 s)
+  verdicts names (past_limit i) (accepted ns) s t = absurd (never_all (λ limit bytes. IsPastLimit reads_debug limit bytes) limit_stops names t.0 ns i t.1 s)
   verdicts names (refused i r) (refused j q) s t =
-      let number = one_number (λ limit bytes. IsRefusedWithin true limit bytes r.place r.reason) (λ limit bytes. IsRefusedWithin true limit bytes q.place q.reason) (refusal_stops r) (refusal_stops q) names i j s t in
+      let number = one_number (λ limit bytes. IsRefusedWithin reads_debug limit bytes r.place r.reason) (λ limit bytes. IsRefusedWithin reads_debug limit bytes q.place q.reason) (refusal_stops r) (refusal_stops q) names i j s t in
       let own = one_refusal names i j r q number s t in (λ k. refused (number k) (own k))
   verdicts names (refused i r) (past_limit j) s t =
-      absurd (never_both names i j r (one_number (λ limit bytes. IsRefusedWithin true limit bytes r.place r.reason) (λ limit bytes. IsPastLimit true limit bytes) (refusal_stops r) limit_stops names i j s t) s t)
+      absurd (never_both names i j r (one_number (λ limit bytes. IsRefusedWithin reads_debug limit bytes r.place r.reason) (λ limit bytes. IsPastLimit reads_debug limit bytes) (refusal_stops r) limit_stops names i j s t) s t)
   verdicts names (past_limit i) (refused j q) s t =
-      absurd (never_both names j i q (one_number (λ limit bytes. IsRefusedWithin true limit bytes q.place q.reason) (λ limit bytes. IsPastLimit true limit bytes) (refusal_stops q) limit_stops names j i t s) t s)
+      absurd (never_both names j i q (one_number (λ limit bytes. IsRefusedWithin reads_debug limit bytes q.place q.reason) (λ limit bytes. IsPastLimit reads_debug limit bytes) (refusal_stops q) limit_stops names j i t s) t s)
   verdicts names (past_limit i) (past_limit j) s t =
-      ap (λ (n : ℕ). past_limit n) (one_number (λ limit bytes. IsPastLimit true limit bytes) (λ limit bytes. IsPastLimit true limit bytes) limit_stops limit_stops names i j s t)
+      ap (λ (n : ℕ). past_limit n) (one_number (λ limit bytes. IsPastLimit reads_debug limit bytes) (λ limit bytes. IsPastLimit reads_debug limit bytes) limit_stops limit_stops names i j s t)
 
 pub one_verdict : HasOneJudgment → HaveOneVerdict
-one_verdict judged files names a b bytes_there s t = verdicts judged files bytes_there names a b s t
+one_verdict judged reads_debug files names a b bytes_there s t = verdicts reads_debug judged files bytes_there names a b s t

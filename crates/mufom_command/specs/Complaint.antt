@@ -9,8 +9,8 @@ use Rattle.mufom_command.specs.declared.outcome.Outcome.{Outcome}
 use Rattle.mufom_command.specs.declared.outcome.Outcome.TheVariants as outcome
 use Rattle.mufom_command.specs.declared.outcome.Refusal.{Refusal}
 use Rattle.mufom_command.specs.declared.outcome.Refusal.TheVariants as refusal
-use Rattle.mufom_command.specs.declared.outcome.UsageFault.{UsageFault}
-use Rattle.mufom_command.specs.declared.outcome.UsageFault.TheVariants as usage
+use Rattle.mufom_words.specs.declared.stop.UsageFault.{UsageFault}
+use Rattle.mufom_words.specs.declared.stop.UsageFault.TheVariants as usage
 use Rattle.mufom_command.specs.Text.{Text, line}
 
 abbrev pub status_of : Outcome → ℕ
@@ -65,6 +65,7 @@ usage_text usage.BadWords = codes "bad words"
 usage_text usage.NoFile = codes "no file"
 usage_text usage.StrayBracket = codes "stray bracket"
 usage_text usage.BadMembers = codes "bad members"
+usage_text usage.FileCount = codes "file count"
 
 abbrev pub refusal_text : Refusal → Text
 refusal_text (refusal.Read n r) = codes "file " ++ decimal n ++ codes " at " ++ decimal r.place ++ codes ": " ++ reason_text r.reason

@@ -1,5 +1,5 @@
 -- What opening and reading one module file answers.
-use Rattle.std.specs.Prelude.{◌≡◌, ℕ, ◌≤◌, true, List, length, Option}
+use Rattle.std.specs.Prelude.{◌≡◌, ℕ, ◌≤◌, Bool, List, length, Option}
 use Rattle.mufom_host.specs.World.{NamedFile, Faults, Rose}
 use Rattle.mufom_module.specs.declared.module.Parts.{Parts}
 use Rattle.mufom_read.specs.declared.source.SourceStop.{SourceStop}
@@ -13,8 +13,8 @@ use Rattle.mufom_command.specs.declared.outcome.Refusal.TheVariants as refusal
 use Rattle.mufom_command.specs.Run.{FileHas}
 
 -- the bytes are those of this module, they are so many, and no more than may be read
-abbrev pub HasModule : ℕ → Parts → ℕ → List ℕ → Type 0
-HasModule limit m count bytes = IsModule true bytes m × (count ≡ length bytes) × (length bytes ≤ limit)
+abbrev pub HasModule : Bool → ℕ → Parts → ℕ → List ℕ → Type 0
+HasModule reads_debug limit m count bytes = IsModule reads_debug bytes m × (count ≡ length bytes) × (length bytes ≤ limit)
 
 -- the answer where the file with this number was not read
 abbrev pub stop_of : ℕ → SourceStop → Outcome
@@ -24,12 +24,12 @@ stop_of number stop.Fault = outcome.ReadFault (input.File number)
 stop_of number stop.NoMemory = outcome.NoMemory
 
 -- Why the file with this name and number was not read.
-abbrev pub FileStops : List ℕ → ℕ → ℕ → Option (List NamedFile) → Faults → Faults → Outcome → Type 0
-FileStops name number limit files before now outcome.Done = ⊥
-FileStops name number limit files before now (outcome.Refused (refusal.Read i r)) = (i ≡ number) × FileHas name files (λ bytes. IsRefusedWithin true limit bytes r.place r.reason)
-FileStops name number limit files before now (outcome.Refused (refusal.InputLimit i)) = (i ≡ number) × FileHas name files (λ bytes. IsPastLimit true limit bytes)
-FileStops name number limit files before now (outcome.Refused (refusal.TooManyFiles count)) = ⊥
-FileStops name number limit files before now (outcome.Usage f) = ⊥
-FileStops name number limit files before now (outcome.ReadFault (input.File i)) = (i ≡ number) × Rose before.reads now.reads
-FileStops name number limit files before now outcome.WriteFault = ⊥
-FileStops name number limit files before now outcome.NoMemory = Unit {0}
+abbrev pub FileStops : Bool → List ℕ → ℕ → ℕ → Option (List NamedFile) → Faults → Faults → Outcome → Type 0
+FileStops reads_debug name number limit files before now outcome.Done = ⊥
+FileStops reads_debug name number limit files before now (outcome.Refused (refusal.Read i r)) = (i ≡ number) × FileHas name files (λ bytes. IsRefusedWithin reads_debug limit bytes r.place r.reason)
+FileStops reads_debug name number limit files before now (outcome.Refused (refusal.InputLimit i)) = (i ≡ number) × FileHas name files (λ bytes. IsPastLimit reads_debug limit bytes)
+FileStops reads_debug name number limit files before now (outcome.Refused (refusal.TooManyFiles count)) = ⊥
+FileStops reads_debug name number limit files before now (outcome.Usage f) = ⊥
+FileStops reads_debug name number limit files before now (outcome.ReadFault (input.File i)) = (i ≡ number) × Rose before.reads now.reads
+FileStops reads_debug name number limit files before now outcome.WriteFault = ⊥
+FileStops reads_debug name number limit files before now outcome.NoMemory = Unit {0}

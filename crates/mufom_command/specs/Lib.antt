@@ -3,7 +3,6 @@ pub mod Plain
 pub mod Reading
 pub mod Complaint
 pub mod Text
-pub mod Words
 pub mod Inputs
 pub mod Run
 pub mod FilesRead

@@ -1,17 +1,21 @@
 -- What a run answers, what it has done to the outside then, and what it says.
-use Rattle.std.specs.Prelude.{◌≡◌, ◌⊎◌, ℕ, ◌+◌, ◌<◌, ◌≤◌, List, [], ◌∷◌, ◌++◌, length, take, Option, Some, Ok, Err, IfSome, OnSome}
+use Rattle.std.specs.Prelude.{◌≡◌, ◌⊎◌, ℕ, ◌+◌, ◌<◌, ◌≤◌, Bool, not, flat_map, List, [], ◌∷◌, ◌++◌, length, take, Option, Some, Ok, Err, IfSome, OnSome}
 use Rattle.mufom_host.specs.World.{Meaning, Faults, NamedFile, Rose, GrowsBy, GrowsByFront, file_named}
 use Rattle.mufom_command.specs.declared.outcome.Input.TheVariants as input
 use Rattle.mufom_command.specs.declared.outcome.Outcome.{Outcome}
 use Rattle.mufom_command.specs.declared.outcome.Outcome.TheVariants as outcome
 use Rattle.mufom_command.specs.declared.outcome.Refusal.TheVariants as refusal
-use Rattle.mufom_command.specs.declared.words.WordsStop.{WordsStop}
-use Rattle.mufom_command.specs.declared.words.WordsStop.TheVariants as stop
+use Rattle.mufom_text.specs.Show.{module_text}
+use Rattle.mufom_words.specs.declared.command.Command.{Command}
+use Rattle.mufom_words.specs.declared.command.Verb.{Verb}
+use Rattle.mufom_words.specs.declared.command.Verb.TheVariants as verbs
+use Rattle.mufom_words.specs.declared.stop.WordsStop.{WordsStop}
+use Rattle.mufom_words.specs.declared.stop.WordsStop.TheVariants as stop
+use Rattle.mufom_words.specs.Answer.{answer_of}
 use Rattle.mufom_command.specs.Complaint.{complaint}
 use Rattle.mufom_command.specs.Inputs.{ComeTo, accepted, refused, past_limit}
 use Rattle.mufom_command.specs.Plain.{Image, IsPlainModule, Refuses, most_bytes}
 use Rattle.mufom_command.specs.Text.{check_text, dump_text}
-use Rattle.mufom_command.specs.Words.{command_of, dump_file, check_files}
 use Rattle.mufom_module.specs.declared.module.Parts.{Parts}
 
 -- the file with this name has bytes of which the fact holds; nothing is said where the files are not told
@@ -33,18 +37,26 @@ Dumps name old new before now (outcome.ReadFault (input.File i)) = (i ≡ 0) × 
 Dumps name old new before now outcome.WriteFault = Rose before.writes now.writes × FileHas name old.files (λ bytes. (image : Image) × IsPlainModule image bytes × GrowsByFront old.out new.out (dump_text image))
 Dumps name old new before now outcome.NoMemory = new.out ≡ old.out
 
--- What the answer to `check` says of the files with these names, of the faults in this call, and of what was printed.
-abbrev pub Checks : List (List ℕ) → Meaning → Meaning → Faults → Faults → Outcome → Type 0
-Checks names old new before now outcome.Done = IfSome old.files (λ files. (ms : List Parts) × ComeTo files names (accepted ms) × GrowsBy old.out new.out (check_text ms))
-Checks names old new before now (outcome.Refused (refusal.Read i r)) = IfSome old.files (λ files. ComeTo files names (refused i r)) × (new.out ≡ old.out)
-Checks names old new before now (outcome.Refused (refusal.InputLimit i)) = IfSome old.files (λ files. ComeTo files names (past_limit i)) × (new.out ≡ old.out)
-Checks names old new before now (outcome.Refused (refusal.TooManyFiles count)) = ⊥
-Checks names old new before now (outcome.Usage f) = ⊥
-Checks names old new before now (outcome.ReadFault (input.File i)) =
-    Rose before.reads now.reads × IfSome old.files (λ files. (ms : List Parts) × ComeTo files (take i names) (accepted ms)) × (new.out ≡ old.out)
-Checks names old new before now outcome.WriteFault =
-    Rose before.writes now.writes × IfSome old.files (λ files. (ms : List Parts) × ComeTo files names (accepted ms) × GrowsByFront old.out new.out (check_text ms))
-Checks names old new before now outcome.NoMemory = new.out ≡ old.out
+-- What an answer says of the files with these names, which are read with their debug parts or without, of the faults in this
+-- call, and of what was printed: this text of the modules.
+abbrev pub Lists : Bool → (List Parts → List ℕ) → List (List ℕ) → Meaning → Meaning → Faults → Faults → Outcome → Type 0
+Lists reads_debug text names old new before now outcome.Done = IfSome old.files (λ files. (ms : List Parts) × ComeTo reads_debug files names (accepted ms) × GrowsBy old.out new.out (text ms))
+Lists reads_debug text names old new before now (outcome.Refused (refusal.Read i r)) = IfSome old.files (λ files. ComeTo reads_debug files names (refused i r)) × (new.out ≡ old.out)
+Lists reads_debug text names old new before now (outcome.Refused (refusal.InputLimit i)) = IfSome old.files (λ files. ComeTo reads_debug files names (past_limit i)) × (new.out ≡ old.out)
+Lists reads_debug text names old new before now (outcome.Refused (refusal.TooManyFiles count)) = ⊥
+Lists reads_debug text names old new before now (outcome.Usage f) = ⊥
+Lists reads_debug text names old new before now (outcome.ReadFault (input.File i)) =
+    Rose before.reads now.reads × IfSome old.files (λ files. (ms : List Parts) × ComeTo reads_debug files (take i names) (accepted ms)) × (new.out ≡ old.out)
+Lists reads_debug text names old new before now outcome.WriteFault =
+    Rose before.writes now.writes × IfSome old.files (λ files. (ms : List Parts) × ComeTo reads_debug files names (accepted ms) × GrowsByFront old.out new.out (text ms))
+Lists reads_debug text names old new before now outcome.NoMemory = new.out ≡ old.out
+
+-- What printing this text of modules has done to the output: all of it, or where a print failed a front of it.
+abbrev pub IsPrinted : List ℕ → Option (List ℕ) → Option (List ℕ) → ℕ → ℕ → Outcome → Type 0
+IsPrinted text before after writes now outcome.Done = GrowsBy before after text
+IsPrinted text before after writes now outcome.WriteFault = Rose writes now × GrowsByFront before after text
+IsPrinted text before after writes now outcome.NoMemory = after ≡ before
+IsPrinted text before after writes now _ = ⊥
 
 -- How many of so many files were opened: all where all were read, and none behind the one that stopped the run.
 abbrev pub IsOpenedCount : ℕ → Outcome → ℕ → Type 0
@@ -76,29 +88,40 @@ IsToldAs answer result = (result ≡ answer) ⊎ ((result ≡ outcome.NoMemory) 
 abbrev pub stop_answer : WordsStop → Outcome
 stop_answer (stop.Usage f) = outcome.Usage f
 stop_answer (stop.TooManyFiles count) = outcome.Refused (refusal.TooManyFiles count)
+stop_answer stop.NoMemory = outcome.NoMemory
 
--- the words are no command, and nothing was touched
+-- the words are no command, or no memory was found for them; nothing was touched
 pub record IsStopped (words : List (List ℕ)) (old new : Meaning) (result : Outcome) : Type 0 where
-  pub fault : (s : WordsStop) × IsToldAs (stop_answer s) result × (command_of words ≡ Err s)
+  pub fault : ((s : WordsStop) × IsToldAs (stop_answer s) result × (answer_of words ≡ Err s)) ⊎ (result ≡ outcome.NoMemory)
   pub kept : new ≡ record old { err = new.err }
 
 -- the words name a file to dump, which alone was opened
 pub record IsDump (words : List (List ℕ)) (old new : Meaning) (before now : Faults) (result : Outcome) : Type 0 where
+  pub command : Command
+  pub named : answer_of words ≡ Ok command
+  pub is_dump : command.verb ≡ verbs.Dump
   pub name : List ℕ
-  pub named : command_of words ≡ Ok (dump_file name)
+  pub alone : command.files ≡ name ∷ []
   pub answer : Dumps name old new before now result
   pub opened : OnSome new.opened (GrowsBy old.opened new.opened (name ∷ []))
 
--- the words name files to check, and no other was opened
-pub record IsCheck (words : List (List ℕ)) (old new : Meaning) (before now : Faults) (result : Outcome) : Type 0 where
-  pub names : List (List ℕ)
-  pub named : command_of words ≡ Ok (check_files names)
-  pub answer : Checks names old new before now result
-  pub opened : OpensFront names old new result
+-- what is printed of modules: by `show` their texts, by `check` a line for each
+abbrev pub text_by : Verb → List Parts → List ℕ
+text_by verbs.Show ms = flat_map module_text ms
+text_by verbs.Check ms = check_text ms
+text_by verbs.Dump ms = []
+
+-- the words name files to show or to check, and no other was opened
+pub record IsListing (words : List (List ℕ)) (old new : Meaning) (before now : Faults) (result : Outcome) : Type 0 where
+  pub command : Command
+  pub named : answer_of words ≡ Ok command
+  pub lists : (command.verb ≡ verbs.Show) ⊎ (command.verb ≡ verbs.Check)
+  pub answer : Lists (not command.no_debug) (text_by command.verb) command.files old new before now result
+  pub opened : OpensFront command.files old new result
 
 -- The answer is that of the words.
 abbrev pub Answers : List (List ℕ) → Meaning → Meaning → Faults → Faults → Outcome → Type 0
-Answers words old new before now result = IsStopped words old new result ⊎ (IsDump words old new before now result ⊎ IsCheck words old new before now result)
+Answers words old new before now result = IsStopped words old new result ⊎ (IsDump words old new before now result ⊎ IsListing words old new before now result)
 
 -- the line is added to the complaints, or the front of it where a complaint failed in this call
 abbrev pub Tells : Meaning → Meaning → Faults → Faults → List ℕ → Type 0

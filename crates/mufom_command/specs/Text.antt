@@ -5,14 +5,8 @@ use Rattle.std.specs.Fmt.{decimal}
 use Rattle.hex.specs.Hex.{encode_upper}
 use Rattle.mufom_debug.specs.Marks.{DebugMark, block_begin, block_end, name_mark, note_mark, value_mark, marks_of}
 use Rattle.mufom_module.specs.declared.module.Parts.{Parts}
+pub use Rattle.mufom_text.specs.Words.{Text, line, quoted, quoted_byte, stands_for_itself}
 use Rattle.mufom_command.specs.Plain.{Image}
-
-abbrev pub Text : Type 0
-Text = List ℕ
-
--- a line ends with one byte 0A
-abbrev pub line : Text → Text
-line text = text ++ 10 ∷ []
 
 -- an address in upper-case hexadecimal, two digits for each of so many units
 abbrev pub address : ℕ → ℕ → Text
@@ -38,18 +32,6 @@ row_text first a (b ∷ bytes) = line_start first a ++ (codes " " ++ encode_uppe
 -- The image lines, and the start line.
 abbrev pub dump_text : Image → Text
 dump_text image = row_text true image.address image.bytes ++ line (codes "start " ++ address 4 image.start)
-
--- bytes 20 to 7E but for the quote and the backslash
-abbrev pub stands_for_itself : ℕ → Bool
-stands_for_itself b = nat_le 0x20 b && (nat_le b 0x7E && (not (b == 0x22) && not (b == 0x5C)))
-
--- any other byte is a backslash, `x` and two upper-case hexadecimal digits
-abbrev pub quoted_byte : ℕ → Text
-quoted_byte b = if stands_for_itself b then b ∷ [] else 0x5C ∷ 0x78 ∷ encode_upper (b ∷ [])
-
--- a name in double quotes
-abbrev pub quoted : List ℕ → Text
-quoted name = 0x22 ∷ (flat_map quoted_byte name ++ 0x22 ∷ [])
 
 -- a mark that is an item of its own: each but the end of a block
 abbrev pub is_item : DebugMark → Bool

@@ -1,10 +1,11 @@
 ghost use Rattle.std.specs.Prelude.{◌<◌, ◌^◌, length};
 
 use crate::tests::{PLAIN, ROOM, numbers, words};
-use crate::{Input, Outcome, Refusal, UsageFault, run};
+use crate::{Input, Outcome, Refusal, run};
 use mufom_host::MemHost;
 use mufom_numbers::{Bytes, List, Reason, Text};
 use mufom_read::ReadRefusal;
+use mufom_words::UsageFault;
 use std::alloc::Global;
 use std::process::Abort;
 use std::test::Fail;
@@ -174,7 +175,8 @@ fn words_that_name_no_files_to_check_are_refused(rt: HostRuntime) -> Result<(), 
     answers(&rt, alloc, &["check"], no_file)?;
     answers(&rt, alloc, &["check", "-x", "a"], bad_words)?;
     answers(&rt, alloc, &["check", "[", "a", "]"], bracket)?;
-    answers(&rt, alloc, &["check", "a", "]", "-x"], bracket)?;
+    answers(&rt, alloc, &["check", "a", "]", "-x"], bad_words)?;
+    answers(&rt, alloc, &["check", "a", "]", "+"], bracket)?;
     answers(&rt, alloc, &["check", "a", "+", "["], members)?;
     answers(&rt, alloc, &["check", "-x", "+"], bad_words)
 }

@@ -1,12 +1,15 @@
 //! The top call.
 
-ghost use Rattle.std.specs.Prelude.{◌≡◌, ◌⊎◌, ◌<◌, ◌≤◌, ◌^◌, ◌∷◌, [], length, map, IfErr, IfOk, OnSome};
+ghost use Rattle.std.specs.Prelude.{◌≡◌, ◌⊎◌, ◌<◌, ◌≤◌, ◌^◌, ◌∷◌, [], ℕ, List, true, Ok, length, map, flat_map, IfErr, IfOk, OnSome};
 ghost use Rattle.std.specs.String.{string_bytes};
-ghost use Rattle.mufom_host.specs.World.{GrowsBy, KeepsAllButComplaints, KeepsAllButErr};
+ghost use Rattle.mufom_host.specs.World.{GrowsBy, KeepsAllButComplaints, KeepsAllButErr, KeepsAllButOut, KeepsAllButWrites};
 ghost use Rattle.mufom_command.specs.Complaint.{complaint};
 ghost use Rattle.mufom_command.specs.Plain.{IsPlainModule, Refuses, Image as PlainImage};
-ghost use Rattle.mufom_command.specs.Run.{Answers, Checks, Complains, IsToldAs, Tells, Dumps, MakesNothing, NoneFalls, OpensFront, ReadsAndPrints};
-ghost use Rattle.mufom_command.specs.Text.{dump_text};
+ghost use Rattle.mufom_command.specs.Run.{Answers, Complains, Dumps, IsPrinted, IsToldAs, Lists, MakesNothing, NoneFalls, OpensFront, ReadsAndPrints, Tells, stop_answer};
+ghost use Rattle.mufom_command.specs.Text.{check_text, dump_text};
+ghost use Rattle.mufom_text.specs.Show.{module_text};
+ghost use Rattle.mufom_words.specs.Answer.{answer_of};
+ghost use Rattle.mufom_words.specs.Options.{takes_one_file};
 
 use crate::complaint::{fault_line, refusal_line, usage_line};
 use crate::inputs::read_files;
@@ -15,10 +18,12 @@ use crate::lines::module_lines;
 use crate::load::load;
 use crate::outcome::{Outcome, Refusal};
 use crate::text::image_text;
-use crate::words::{Command, WordsStop, read_words};
 use mufom_host::{Failed, Host};
-use mufom_numbers::NoMemory;
+use mufom_module::Module;
+use mufom_numbers::{NoMemory, Text};
 use mufom_read::ReadRefusal;
+use mufom_text::{PrintStop, print_module};
+use mufom_words::{Command, Verb, WordsStop, read_words};
 use std::alloc::Global;
 
 // The text of a plain module's image, or why there is none.
@@ -56,24 +61,62 @@ fn dump<H: Host>(alloc: Global, name: &str, host: &mut H) -> Outcome
     }
 }
 
-// Reads the files with these names and prints a line for each; the answer is not complained yet.
-fn check<H: Host>(alloc: Global, names: &[String], host: &mut H) -> Outcome
-    requires { length names.now < 2 ^ 32 }
-    ensures answer { Checks (map (λ name. string_bytes name) names.now) (H.meaning host.old) (H.meaning host.new) (H.faults host.old) (H.faults host.new) result }
-    ensures opened { OpensFront (map (λ name. string_bytes name) names.now) (H.meaning host.old) (H.meaning host.new) result }
-    ensures stays { ReadsAndPrints (H.meaning host.old) (H.meaning host.new) }
-    ensures counts { NoneFalls (H.faults host.old) (H.faults host.new) }
+// Prints a line for each module; the answer is not complained yet.
+fn print_lines<H: Host>(alloc: Global, modules: &[Module], host: &mut H) -> Outcome
+    ensures answer { IsPrinted (check_text modules.now) (H.meaning host.old).out (H.meaning host.new).out (H.faults host.old).writes (H.faults host.new).writes result }
+    ensures stays { KeepsAllButOut (H.meaning host.old) (H.meaning host.new) }
+    ensures counts { KeepsAllButWrites (H.faults host.old) (H.faults host.new) }
+    ensures later { (H.faults host.old).writes ≤ (H.faults host.new).writes }
 {
-    let modules = match read_files(alloc, names, host) {
-        Ok(modules) => modules,
-        Err(stop) => return stop,
-    };
-    let Ok(lines) = module_lines(alloc, modules.as_slice()) else {
+    let Ok(lines) = module_lines(alloc, modules) else {
         return Outcome::NoMemory;
     };
     match host.print(lines.as_slice()) {
         Ok(()) => Outcome::Done,
         Err(Failed) => Outcome::WriteFault,
+    }
+}
+
+// Prints the text of one module; the answer is not complained yet.
+fn print_text<H: Host>(alloc: Global, modules: &[Module], host: &mut H) -> Outcome
+    requires { length modules.now ≡ 1 }
+    ensures answer { IsPrinted (flat_map module_text modules.now) (H.meaning host.old).out (H.meaning host.new).out (H.faults host.old).writes (H.faults host.new).writes result }
+    ensures stays { KeepsAllButOut (H.meaning host.old) (H.meaning host.new) }
+    ensures counts { KeepsAllButWrites (H.faults host.old) (H.faults host.new) }
+    ensures later { (H.faults host.old).writes ≤ (H.faults host.new).writes }
+{
+    match print_module(alloc, host, &modules[0]) {
+        Ok(()) => Outcome::Done,
+        Err(PrintStop::Fault) => Outcome::WriteFault,
+        Err(PrintStop::NoMemory) => Outcome::NoMemory,
+    }
+}
+
+// Reads the files with these names and prints a line for each; the answer is not complained yet.
+fn check<H: Host>(alloc: Global, names: &[Text], reads_debug: bool, host: &mut H) -> Outcome
+    requires { length names.now < 2 ^ 32 }
+    ensures answer { Lists reads_debug check_text names.now (H.meaning host.old) (H.meaning host.new) (H.faults host.old) (H.faults host.new) result }
+    ensures opened { OpensFront names.now (H.meaning host.old) (H.meaning host.new) result }
+    ensures stays { ReadsAndPrints (H.meaning host.old) (H.meaning host.new) }
+    ensures counts { NoneFalls (H.faults host.old) (H.faults host.new) }
+{
+    match read_files(alloc, names, reads_debug, host) {
+        Ok(modules) => print_lines(alloc, modules.as_slice(), host),
+        Err(stop) => stop,
+    }
+}
+
+// Reads the one file of these names and prints its text; the answer is not complained yet.
+fn show<H: Host>(alloc: Global, names: &[Text], reads_debug: bool, host: &mut H) -> Outcome
+    requires { length names.now ≡ 1 }
+    ensures answer { Lists reads_debug (λ ms. flat_map module_text ms) names.now (H.meaning host.old) (H.meaning host.new) (H.faults host.old) (H.faults host.new) result }
+    ensures opened { OpensFront names.now (H.meaning host.old) (H.meaning host.new) result }
+    ensures stays { ReadsAndPrints (H.meaning host.old) (H.meaning host.new) }
+    ensures counts { NoneFalls (H.faults host.old) (H.faults host.new) }
+{
+    match read_files(alloc, names, reads_debug, host) {
+        Ok(modules) => print_text(alloc, modules.as_slice(), host),
+        Err(stop) => stop,
     }
 }
 
@@ -128,6 +171,35 @@ fn complain<H: Host>(alloc: Global, outcome: Outcome, host: &mut H) -> Outcome
     outcome
 }
 
+// The answer to words that are no command.
+fn stopped(stop: WordsStop) -> Outcome
+    ensures { result ≡ stop_answer stop }
+{
+    match stop {
+        WordsStop::Usage(fault) => Outcome::Usage(fault),
+        WordsStop::TooManyFiles(count) => Outcome::Refused(Refusal::TooManyFiles(count)),
+        WordsStop::NoMemory => Outcome::NoMemory,
+    }
+}
+
+// The command is done; the answer is not complained yet.
+fn obey<H: Host>(alloc: Global, command: &Command, host: &mut H) -> Outcome
+    requires some { 1 ≤ length command.now.files }
+    requires few { length command.now.files < 2 ^ 32 }
+    requires one { takes_one_file command.now.verb ≡ true → length command.now.files ≡ 1 }
+    ensures answers { (words : List (List ℕ)) → answer_of words ≡ Ok command.now → Answers words (H.meaning host.old) (H.meaning host.new) (H.faults host.old) (H.faults host.new) result }
+    ensures stays { ReadsAndPrints (H.meaning host.old) (H.meaning host.new) }
+    ensures counts { NoneFalls (H.faults host.old) (H.faults host.new) }
+{
+    let names = command.files.as_slice();
+    let reads_debug = !command.no_debug;
+    match command.verb {
+        Verb::Show => show(alloc, names, reads_debug, host),
+        Verb::Check => check(alloc, names, reads_debug, host),
+        Verb::Dump => dump(alloc, names[0].as_str(), host),
+    }
+}
+
 // What the words ask for is done; the answer is not complained yet.
 fn answer<H: Host>(alloc: Global, words: &[String], host: &mut H) -> Outcome
     requires { length words.now < 2 ^ 32 }
@@ -135,15 +207,13 @@ fn answer<H: Host>(alloc: Global, words: &[String], host: &mut H) -> Outcome
     ensures stays { ReadsAndPrints (H.meaning host.old) (H.meaning host.new) }
     ensures counts { NoneFalls (H.faults host.old) (H.faults host.new) }
 {
-    match read_words(words) {
-        Ok(Command::Dump(name)) => dump(alloc, name, host),
-        Ok(Command::Check(names)) => check(alloc, names, host),
-        Err(WordsStop::Usage(fault)) => Outcome::Usage(fault),
-        Err(WordsStop::TooManyFiles(count)) => Outcome::Refused(Refusal::TooManyFiles(count)),
+    match read_words(alloc, words) {
+        Ok(command) => obey(alloc, &command, host),
+        Err(stop) => stopped(stop),
     }
 }
 
-/// Runs the command that the words name: `dump FILE` or `check FILE ...`.
+/// Runs the command that the words name: `show FILE`, `check FILE ...` or `dump FILE`.
 ///
 /// `words` are the command line's words without the program's name, fewer than 2^32. Every outcome
 /// but `Done` complains one line; a complaint that fails does not change the outcome.

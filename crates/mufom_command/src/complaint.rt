@@ -4,11 +4,13 @@ ghost use Rattle.std.specs.Prelude.{◌≡◌, IfOk};
 ghost use Rattle.std.specs.String.{string_bytes};
 ghost use Rattle.mufom_command.specs.Complaint.{complaint, reason_text};
 
-use crate::outcome::{Input, Outcome, Refusal, UsageFault};
+use crate::outcome::{Input, Outcome, Refusal};
 use mufom_numbers::{NoMemory, Reason};
 use mufom_read::ReadRefusal;
+use mufom_words::UsageFault;
 use std::alloc::Global;
 
+// A reason's name is its text.
 fn reason_name(reason: Reason) -> &'static str
     ensures { result.now ≡ reason_text reason }
 {
@@ -51,6 +53,7 @@ fn reason_name(reason: Reason) -> &'static str
     }
 }
 
+/// The line of words that are no command.
 pub(crate) fn usage_line(fault: UsageFault) -> &'static str
     ensures { result.now ≡ complaint (Outcome.Usage fault) }
 {
@@ -60,6 +63,7 @@ pub(crate) fn usage_line(fault: UsageFault) -> &'static str
         UsageFault::NoFile => "usage: no file\n",
         UsageFault::StrayBracket => "usage: stray bracket\n",
         UsageFault::BadMembers => "usage: bad members\n",
+        UsageFault::FileCount => "usage: file count\n",
     }
 }
 
@@ -72,18 +76,21 @@ fn read_line(alloc: Global, file: u32, refusal: ReadRefusal) -> Result<String, N
     Ok(format!(in alloc; "refused: file {file} at {place}: {reason}\n")?)
 }
 
+// The line of the file in which the files pass their limit.
 fn limit_line(alloc: Global, file: u32) -> Result<String, NoMemory>
     ensures { IfOk result (λ text. string_bytes text ≡ complaint (Outcome.Refused (Refusal.InputLimit file))) }
 {
     Ok(format!(in alloc; "refused: file {file}: InputLimit\n")?)
 }
 
+// The line of words with too many files.
 fn count_line(alloc: Global, count: u32) -> Result<String, NoMemory>
     ensures { IfOk result (λ text. string_bytes text ≡ complaint (Outcome.Refused (Refusal.TooManyFiles count))) }
 {
     Ok(format!(in alloc; "refused: TooManyFiles {count}\n")?)
 }
 
+/// The line of a refusal.
 pub(crate) fn refusal_line(alloc: Global, refusal: Refusal) -> Result<String, NoMemory>
     ensures { IfOk result (λ text. string_bytes text ≡ complaint (Outcome.Refused refusal)) }
 {
@@ -94,6 +101,7 @@ pub(crate) fn refusal_line(alloc: Global, refusal: Refusal) -> Result<String, No
     }
 }
 
+/// The line of an input that could not be read.
 pub(crate) fn fault_line(alloc: Global, input: Input) -> Result<String, NoMemory>
     ensures { IfOk result (λ text. string_bytes text ≡ complaint (Outcome.ReadFault input)) }
 {

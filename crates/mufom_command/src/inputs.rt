@@ -1,16 +1,16 @@
 //! Reading the module files of a run, in their order.
 
-ghost use Rattle.std.specs.Prelude.{◌≡◌, ◌<◌, ◌≤◌, ◌^◌, ◌∷◌, [], length, map, IfErr, IfOk, IfSome, OnSome};
-ghost use Rattle.std.specs.String.{string_bytes};
+ghost use Rattle.std.specs.Prelude.{◌≡◌, ◌<◌, ◌≤◌, ◌^◌, ◌∷◌, [], ℕ, List, length, IfErr, IfOk, IfSome, OnSome};
+ghost use Rattle.mufom_module.specs.declared.module.Parts.{Parts as module_parts};
 ghost use Rattle.mufom_host.specs.World.{GrowsBy, KeepsAllButOpened, KeepsAllButReads};
 ghost use Rattle.mufom_command.specs.FilesRead.{FileStops, HasModule, stop_of};
 ghost use Rattle.mufom_command.specs.Inputs.{ComeTo, accepted, most_input_bytes};
-ghost use Rattle.mufom_command.specs.Run.{Checks, FileHas, OpensFront};
+ghost use Rattle.mufom_command.specs.Run.{Lists, FileHas, OpensFront};
 
 use crate::outcome::{Input, Outcome, Refusal};
 use mufom_host::{Failed, Host};
 use mufom_module::Module;
-use mufom_numbers::{List, NoMemory};
+use mufom_numbers::{List, NoMemory, Text};
 use mufom_read::{SourceStop, read_module};
 use std::alloc::Global;
 
@@ -35,11 +35,12 @@ fn read_file<H: Host>(
     name: &str,
     file: u32,
     limit: u64,
+    reads_debug: bool,
     host: &mut H,
 ) -> Result<(Module, u64), Outcome>
     requires { limit ≤ most_input_bytes }
-    ensures read { IfOk result (λ read. FileHas name.now (H.meaning host.old).files (HasModule limit read.0 read.1)) }
-    ensures stops { IfErr result (λ stop. FileStops name.now file limit (H.meaning host.old).files (H.faults host.old) (H.faults host.new) stop) }
+    ensures read { IfOk result (λ read. FileHas name.now (H.meaning host.old).files (HasModule reads_debug limit read.0 read.1)) }
+    ensures stops { IfErr result (λ stop. FileStops reads_debug name.now file limit (H.meaning host.old).files (H.faults host.old) (H.faults host.new) stop) }
     ensures opened { OnSome (H.meaning host.new).opened (GrowsBy (H.meaning host.old).opened (H.meaning host.new).opened (name.now ∷ [])) }
     ensures opens { IfOk result (λ read. GrowsBy (H.meaning host.old).opened (H.meaning host.new).opened (name.now ∷ [])) }
     ensures stays { KeepsAllButOpened (H.meaning host.old) (H.meaning host.new) }
@@ -49,7 +50,7 @@ fn read_file<H: Host>(
     let Ok(()) = host.open(name) else {
         return Err(Outcome::ReadFault(Input::File(file)));
     };
-    match read_module(alloc, host, limit, true) {
+    match read_module(alloc, host, limit, reads_debug) {
         Ok((module, length)) => Ok((module, length)),
         Err(stop) => Err(stop_of(file, stop)),
     }
@@ -58,14 +59,16 @@ fn read_file<H: Host>(
 /// Reads the modules of the files with these names.
 pub(crate) fn read_files<H: Host>(
     alloc: Global,
-    names: &[String],
+    names: &[Text],
+    reads_debug: bool,
     host: &mut H,
 ) -> Result<List<Module>, Outcome>
     requires { length names.now < 2 ^ 32 }
-    ensures read { IfOk result (λ modules. IfSome (H.meaning host.old).files (λ files. ComeTo files (map (λ name. string_bytes name) names.now) (accepted modules))) }
-    ensures all { IfOk result (λ modules. GrowsBy (H.meaning host.old).opened (H.meaning host.new).opened (map (λ name. string_bytes name) names.now)) }
-    ensures stops { IfErr result (λ stop. Checks (map (λ name. string_bytes name) names.now) (H.meaning host.old) (H.meaning host.new) (H.faults host.old) (H.faults host.new) stop) }
-    ensures opened { IfErr result (λ stop. OpensFront (map (λ name. string_bytes name) names.now) (H.meaning host.old) (H.meaning host.new) stop) }
+    ensures read { IfOk result (λ modules. IfSome (H.meaning host.old).files (λ files. ComeTo reads_debug files names.now (accepted modules))) }
+    ensures count { IfOk result (λ modules. length modules ≡ length names.now) }
+    ensures all { IfOk result (λ modules. GrowsBy (H.meaning host.old).opened (H.meaning host.new).opened names.now) }
+    ensures stops { IfErr result (λ stop. (text : List module_parts → List ℕ) → Lists reads_debug text names.now (H.meaning host.old) (H.meaning host.new) (H.faults host.old) (H.faults host.new) stop) }
+    ensures opened { IfErr result (λ stop. OpensFront names.now (H.meaning host.old) (H.meaning host.new) stop) }
     ensures stays { KeepsAllButOpened (H.meaning host.old) (H.meaning host.new) }
     ensures counts { KeepsAllButReads (H.faults host.old) (H.faults host.new) }
     ensures later { (H.faults host.old).reads ≤ (H.faults host.new).reads }
@@ -74,7 +77,14 @@ pub(crate) fn read_files<H: Host>(
     let mut room = MOST_INPUT_BYTES;
     for number in 0..names.len() {
         let name = names[number].as_str();
-        let (module, length) = match read_file(alloc, name, number as u32, room, host) {
+        let (module, length) = match read_file(
+            alloc,
+            name,
+            number as u32,
+            room,
+            reads_debug,
+            host,
+        ) {
             Ok(read) => read,
             Err(stop) => return Err(stop),
         };

@@ -2,21 +2,7 @@ ghost use Rattle.std.specs.Prelude.{◌≡◌};
 ghost use Rattle.mufom_command.specs.Complaint.{status_of};
 
 use mufom_read::ReadRefusal;
-
-/// Why the words of a run are no command.
-#[derive(Clone, Copy, Debug, PartialEq, Eq)]
-pub enum UsageFault {
-    /// No word, or a first word that names no command.
-    NoCommand,
-    /// An option that the command does not have, or a word in a wrong place.
-    BadWords,
-    /// No file.
-    NoFile,
-    /// A bracket, where no group of files is asked for.
-    StrayBracket,
-    /// A `+`, where no member files are asked for.
-    BadMembers,
-}
+use mufom_words::UsageFault;
 
 /// An input of a run.
 #[derive(Clone, Copy, Debug, PartialEq, Eq)]

@@ -1,9 +1,10 @@
 ghost use Rattle.std.specs.Prelude.{◌<◌, ◌^◌, IfOk, length, vec_len};
 
-use crate::{Input, Outcome, Refusal, UsageFault, run};
+use crate::{Input, Outcome, Refusal, run};
 use mufom_host::MemHost;
 use mufom_numbers::{Bytes, List, Reason, Text};
 use mufom_read::ReadRefusal;
+use mufom_words::UsageFault;
 use std::alloc::Global;
 use std::process::Abort;
 use std::test::Fail;
@@ -194,24 +195,26 @@ fn usage(alloc: Global, line: &[&str]) -> Result<Outcome, Fail>
     Ok(run(alloc, words.as_slice(), &mut host))
 }
 
+// These words are no command, for this reason.
+fn faulty(rt: &impl Abort, alloc: Global, line: &[&str], fault: UsageFault) -> Result<(), Fail>
+    requires { length line.now < 2 ^ 32 }
+{
+    assert_eq!(rt; usage(alloc, line)?, Outcome::Usage(fault));
+    Ok(())
+}
+
 #[test]
 fn words_that_are_no_command_are_refused(rt: HostRuntime) -> Result<(), Fail> {
-    let no_command = Outcome::Usage(UsageFault::NoCommand);
-    let bad_words = Outcome::Usage(UsageFault::BadWords);
-    assert_eq!(rt; usage(rt.alloc(), &[])?, no_command);
-    assert_eq!(rt; usage(rt.alloc(), &["dmup", "a"])?, no_command);
-    assert_eq!(rt;
-        usage(rt.alloc(), &["dump"])?,
-        Outcome::Usage(UsageFault::NoFile)
-    );
-    assert_eq!(rt; usage(rt.alloc(), &["dump", "a", "b"])?, bad_words);
-    assert_eq!(rt; usage(rt.alloc(), &["dump", "-x"])?, bad_words);
-    assert_eq!(rt; usage(rt.alloc(), &["dump", "["])?, bad_words);
-    assert_eq!(rt; usage(rt.alloc(), &["dump", "+"])?, bad_words);
-    assert_eq!(rt;
-        usage(rt.alloc(), &["dump", "b"])?,
-        Outcome::ReadFault(Input::File(0))
-    );
+    let alloc = rt.alloc();
+    faulty(&rt, alloc, &[], UsageFault::NoCommand)?;
+    faulty(&rt, alloc, &["dmup", "a"], UsageFault::NoCommand)?;
+    faulty(&rt, alloc, &["dump"], UsageFault::NoFile)?;
+    faulty(&rt, alloc, &["dump", "a", "b"], UsageFault::FileCount)?;
+    faulty(&rt, alloc, &["dump", "-x"], UsageFault::BadWords)?;
+    faulty(&rt, alloc, &["dump", "["], UsageFault::StrayBracket)?;
+    faulty(&rt, alloc, &["dump", "+"], UsageFault::BadMembers)?;
+    let missing = usage(alloc, &["dump", "b"])?;
+    assert_eq!(rt; missing, Outcome::ReadFault(Input::File(0)));
     Ok(())
 }
 

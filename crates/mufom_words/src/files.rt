@@ -46,7 +46,7 @@ pub(crate) fn files_fault(words: &[&str]) -> Option<UsageFault>
     }
 }
 
-/// Whether a verb is for another number of files.
+/// What is wrong with the number of files, if anything is.
 pub(crate) fn count_fault(verb: Verb, words: &[&str]) -> Option<UsageFault>
     ensures { result ≡ count_fault verb (map (λ word. word.now) words.now) }
 {
@@ -57,7 +57,7 @@ pub(crate) fn count_fault(verb: Verb, words: &[&str]) -> Option<UsageFault>
     }
 }
 
-/// Whether the files are too many for a run.
+/// How the files are too many for a run, if they are.
 pub(crate) fn limit_stop(words: &[&str]) -> Option<WordsStop>
     requires { length words.now < 2 ^ 32 }
     ensures { result ≡ limit_stop (map (λ word. word.now) words.now) }

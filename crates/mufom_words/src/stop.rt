@@ -3,7 +3,8 @@
 pub enum UsageFault {
     /// No word, or a first word that names no command.
     NoCommand,
-    /// An option that the command does not have, that stands twice or that lacks its value.
+    /// An option that the command does not have, that stands twice, that lacks its value or has one
+    /// where it takes none, or that must stand and does not.
     BadWords,
     /// No file.
     NoFile,
