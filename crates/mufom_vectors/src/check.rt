@@ -1,9 +1,10 @@
 ghost use Rattle.std.specs.Prelude.{◌<◌, ◌^◌, length};
 
 use crate::files::{ABSOLUTE, EMPTY, LIBRARY, RELOCATABLE, answers};
-use mufom_command::{Outcome, Refusal, UsageFault};
+use mufom_command::{Outcome, Refusal};
 use mufom_numbers::Reason;
 use mufom_read::ReadRefusal;
+use mufom_words::UsageFault;
 use std::alloc::Global;
 use std::process::Abort;
 use std::test::Fail;
@@ -129,6 +130,15 @@ fn a_byte_behind_the_end_is_refused(rt: HostRuntime) -> Result<(), Fail> {
     file[..120].copy_from_slice(&ABSOLUTE);
     let line = b"refused: file 0 at 120: AfterEnd\n";
     refuses(&rt, rt.alloc(), &file, 120, Reason::AfterEnd, line)
+}
+
+#[test]
+fn a_file_that_is_cut_off_is_truncated_at_its_length(rt: HostRuntime) -> Result<(), Fail> {
+    let alloc = rt.alloc();
+    let line = b"refused: file 0 at 119: Truncated\n";
+    refuses(&rt, alloc, &ABSOLUTE[..119], 119, Reason::Truncated, line)?;
+    let line = b"refused: file 0 at 0: Truncated\n";
+    refuses(&rt, alloc, &[], 0, Reason::Truncated, line)
 }
 
 #[test]

@@ -1,8 +1,19 @@
-//! Worked runs of the program as tests, each named by what it shows. They say nothing that a contract
-//! says: the files and texts come from outside.
+//! Worked runs of the program as tests, each named by what it shows: the files and texts come from
+//! outside. They say nothing that a contract says.
+//!
+//! It stands on all other crates, and so has the one law that joins the reader and the writer: what is
+//! written of a module is read back ([`read_back`]).
 #![tactic(auto)]
+
+mod round_trip;
 
 #[cfg(test)]
 mod check;
 #[cfg(test)]
 mod files;
+#[cfg(test)]
+mod round_trip_tests;
+#[cfg(test)]
+mod show;
+
+pub use round_trip::read_back;

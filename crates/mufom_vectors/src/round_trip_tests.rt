@@ -1,0 +1,87 @@
+use crate::files::{ABSOLUTE, EMPTY, EVERY_KIND, LIBRARY, RELOCATABLE, host};
+use crate::show::{ABSOLUTE_TEXT, RELOCATABLE_TEXT, shows};
+use mufom_host::Host;
+use mufom_module::Module;
+use mufom_read::Reader;
+use mufom_write::write_module;
+use std::alloc::Global;
+use std::process::Abort;
+use std::test::Fail;
+
+const LIBRARY_TEXT: &[u8] =
+    b"module \"lib\" processor \"68000\" maus 4 order M\nsection 0 \".text\" CP size 2 align 1\npublic 0 \"exit\" = R0\nselect 0\nbytes 2 4E75\n";
+
+const EMPTY_TEXT: &[u8] = b"module \"A\" processor \"68000\" maus 4 order M\n";
+
+const EVERY_KIND_TEXT: &[u8] =
+    b"module \"m\" processor \"P\" maus 2 order L\nextension 3 bytes\nenvironment 1 bytes\nsection 0 \"c\" CP size 12 align 2\nsection 1 \"d\" ASD size 0 align 1 base 4096\nsection 2 \"\" CR size 0 align 1\nsection 3 \"n\" C size 0 align 1\npublic 0 \"f\" = (R0 + 4)\nnote type 15 attribute 19 1\nreference 0 \"x\" weak size 8 default 300\nnote type 1 attribute 2\nreference 1 \"y\" weak size 0 default 0\nreference 2 \"z\"\nselect 0\ncounter 0 = R0\nbytes 2 4E71\nfield either 4 = X0\nrepeat 3\n  bytes 1 00\nrepeat 4\n  field signed 2 = 6\nrepeat 2\n  field unsigned 1 = 1\n  bytes 1 09\nrepeat 0\nstart = R0\n";
+
+// The module of a file that comes in these pieces.
+fn read(rt: &impl Abort, alloc: Global, pieces: &[&[u8]]) -> Result<Module, Fail> {
+    let mut reader = Reader::new(alloc, true)?;
+    for piece in pieces {
+        assert_eq!(rt; reader.feed(piece), Ok(()));
+    }
+    match reader.finish() {
+        Ok(module) => Ok(module),
+        Err(stop) => panic!(rt; "{stop:?}"),
+    }
+}
+
+// What is written of the module of a file that comes in these pieces.
+fn rewritten(rt: &impl Abort, alloc: Global, pieces: &[&[u8]]) -> Result<Vec<u8>, Fail> {
+    let module = read(rt, alloc, pieces)?;
+    let mut host = host(alloc, &[])?;
+    assert_eq!(rt; host.create("a"), Ok(()));
+    assert_eq!(rt; write_module(&module, &mut host), Ok(()));
+    assert_eq!(rt; host.finish(), Ok(()));
+    let mut bytes = Vec::new(alloc);
+    if let Some((_, file)) = host.made() {
+        bytes.extend_from_slice(file)?;
+    }
+    Ok(bytes)
+}
+
+// The module of a file is shown as this text; so is what is written of it, which is written again as
+// it is.
+fn returns(rt: &impl Abort, alloc: Global, file: &[u8], text: &[u8]) -> Result<(), Fail> {
+    let line = ["show", "a"];
+    shows(rt, alloc, "a", file, &line, text)?;
+    let written = rewritten(rt, alloc, &[file])?;
+    shows(rt, alloc, "a", &written, &line, text)?;
+    assert_eq!(rt; rewritten(rt, alloc, &[&written])?, written);
+    Ok(())
+}
+
+#[test]
+fn hand_made_modules_are_read_back(rt: HostRuntime) -> Result<(), Fail> {
+    let alloc = rt.alloc();
+    returns(&rt, alloc, &ABSOLUTE, ABSOLUTE_TEXT)?;
+    returns(&rt, alloc, &RELOCATABLE, RELOCATABLE_TEXT)?;
+    returns(&rt, alloc, &LIBRARY, LIBRARY_TEXT)?;
+    returns(&rt, alloc, &EMPTY, EMPTY_TEXT)
+}
+
+#[test]
+fn a_module_with_every_kind_of_record_is_read_back(rt: HostRuntime) -> Result<(), Fail> {
+    let alloc = rt.alloc();
+    returns(&rt, alloc, &EVERY_KIND, EVERY_KIND_TEXT)?;
+    assert_eq!(rt; rewritten(&rt, alloc, &[&EVERY_KIND])?.as_slice(), EVERY_KIND.as_slice());
+    Ok(())
+}
+
+// The record of the offset of the section part begins at 31, with the bytes E2, D7, 2 and 84.
+#[test]
+fn a_file_that_is_cut_anywhere_gives_the_same_module(rt: HostRuntime) -> Result<(), Fail> {
+    let alloc = rt.alloc();
+    let file: &[u8] = &RELOCATABLE;
+    let whole = rewritten(&rt, alloc, &[file])?;
+    let cut = [&file[..32], &file[32..35], &file[35..]];
+    assert_eq!(rt; rewritten(&rt, alloc, &cut)?, whole);
+    let mut bytes = Vec::new(alloc);
+    for byte in file.chunks(1) {
+        bytes.push(byte)?;
+    }
+    assert_eq!(rt; rewritten(&rt, alloc, &bytes)?, whole);
+    Ok(())
+}

@@ -1,0 +1,105 @@
+ghost use Rattle.std.specs.Prelude.{◌<◌, ◌^◌, length};
+
+use crate::files::{ABSOLUTE, RELOCATABLE, answers};
+use mufom_command::Outcome;
+use mufom_words::UsageFault;
+use std::alloc::Global;
+use std::process::Abort;
+use std::test::Fail;
+
+pub(crate) const ABSOLUTE_TEXT: &[u8] =
+    b"module \"A\" processor \"68000\" maus 4 order M\nsection 0 \"code\" ASP size 4 align 2 base 4096\nselect 0\ncounter 0 = 4096\nbytes 4 4E714E75\nstart = 4096\n";
+
+pub(crate) const RELOCATABLE_TEXT: &[u8] =
+    b"module \"prog\" processor \"68000\" maus 4 order M\nextension 3 bytes\nenvironment 3 bytes\nsection 0 \".text\" CP size 12 align 2\npublic 0 \"main\" = (R0 + 4)\nnote type 15 attribute 19 1\nreference 0 \"exit\"\nselect 0\ncounter 0 = R0\nbytes 4 4E714E71\nfield either 4 = (R0 + 4)\nfield signed 4 = (X0 - P0)\nstart = (R0 + 4)\n";
+
+// The text of a file that is named by these words.
+pub(crate) fn shows(
+    rt: &impl Abort,
+    alloc: Global,
+    name: &str,
+    file: &[u8],
+    line: &[&str],
+    text: &[u8],
+) -> Result<(), Fail>
+    requires { length line.now < 2 ^ 32 }
+{
+    answers(rt, alloc, &[(name, file)], line, (Outcome::Done, text, b""))
+}
+
+#[test]
+fn an_absolute_module_is_shown(rt: HostRuntime) -> Result<(), Fail> {
+    let alloc = rt.alloc();
+    shows(&rt, alloc, "m1", &ABSOLUTE, &["show", "m1"], ABSOLUTE_TEXT)?;
+    let line = ["show", "m1", "--no-debug"];
+    shows(&rt, alloc, "m1", &ABSOLUTE, &line, ABSOLUTE_TEXT)
+}
+
+#[test]
+fn a_relocatable_module_is_shown(rt: HostRuntime) -> Result<(), Fail> {
+    shows(
+        &rt,
+        rt.alloc(),
+        "a",
+        &RELOCATABLE,
+        &["show", "a"],
+        RELOCATABLE_TEXT,
+    )
+}
+
+#[test]
+fn names_behind_two_dashes_and_a_dash_alone_are_files(rt: HostRuntime) -> Result<(), Fail> {
+    let alloc = rt.alloc();
+    shows(
+        &rt,
+        alloc,
+        "-x",
+        &ABSOLUTE,
+        &["show", "--", "-x"],
+        ABSOLUTE_TEXT,
+    )?;
+    shows(&rt, alloc, "-", &ABSOLUTE, &["show", "-"], ABSOLUTE_TEXT)
+}
+
+// These words are no command, for this reason.
+fn faulty(
+    rt: &impl Abort,
+    alloc: Global,
+    line: &[&str],
+    fault: UsageFault,
+    told: &[u8],
+) -> Result<(), Fail>
+    requires { length line.now < 2 ^ 32 }
+{
+    let wanted = Outcome::Usage(fault);
+    answers(rt, alloc, &[("m1", &ABSOLUTE)], line, (wanted, b"", told))
+}
+
+#[test]
+fn words_without_a_command_or_a_file_are_usage_faults(rt: HostRuntime) -> Result<(), Fail> {
+    let alloc = rt.alloc();
+    let told = b"usage: no command\n";
+    faulty(&rt, alloc, &[], UsageFault::NoCommand, told)?;
+    faulty(&rt, alloc, &["dmup", "a"], UsageFault::NoCommand, told)?;
+    let told = b"usage: no file\n";
+    faulty(&rt, alloc, &["dump"], UsageFault::NoFile, told)
+}
+
+#[test]
+fn words_that_name_not_one_file_are_usage_faults(rt: HostRuntime) -> Result<(), Fail> {
+    let alloc = rt.alloc();
+    let told = b"usage: file count\n";
+    faulty(
+        &rt,
+        alloc,
+        &["show", "m1", "m1"],
+        UsageFault::FileCount,
+        told,
+    )?;
+    let told = b"usage: stray bracket\n";
+    faulty(&rt, alloc, &["show", "["], UsageFault::StrayBracket, told)?;
+    let told = b"usage: bad words\n";
+    faulty(&rt, alloc, &["show", "--help"], UsageFault::BadWords, told)?;
+    let twice = ["show", "--no-debug", "--no-debug", "m1"];
+    faulty(&rt, alloc, &twice, UsageFault::BadWords, told)
+}
