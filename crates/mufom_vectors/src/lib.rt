@@ -5,12 +5,11 @@
 //! written of a module is read back ([`read_back`]).
 #![tactic(auto)]
 
-mod round_trip;
-
 #[cfg(test)]
 mod check;
 #[cfg(test)]
 mod files;
+mod round_trip;
 #[cfg(test)]
 mod round_trip_tests;
 #[cfg(test)]

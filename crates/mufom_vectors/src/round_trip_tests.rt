@@ -66,7 +66,10 @@ fn hand_made_modules_are_read_back(rt: HostRuntime) -> Result<(), Fail> {
 fn a_module_with_every_kind_of_record_is_read_back(rt: HostRuntime) -> Result<(), Fail> {
     let alloc = rt.alloc();
     returns(&rt, alloc, &EVERY_KIND, EVERY_KIND_TEXT)?;
-    assert_eq!(rt; rewritten(&rt, alloc, &[&EVERY_KIND])?.as_slice(), EVERY_KIND.as_slice());
+    assert_eq!(rt;
+        rewritten(&rt, alloc, &[&EVERY_KIND])?.as_slice(),
+        EVERY_KIND.as_slice()
+    );
     Ok(())
 }
 

@@ -108,7 +108,12 @@ fn debug_item<K: Output>(out: &mut K, item: &DebugItem, names: &mut u64) -> Resu
             *names += 1;
             name_record(out, 0xF0, index, name)
         }
-        DebugItem::Note { name, note: its } => note(out, 0xCE, *name as u64 + FIRST_DEBUG_NAME, its),
+        DebugItem::Note { name, note: its } => note(
+            out,
+            0xCE,
+            *name as u64 + FIRST_DEBUG_NAME,
+            its,
+        ),
         DebugItem::Value { name, value } => value_record(out, *name, value),
     }
 }

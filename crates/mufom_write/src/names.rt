@@ -6,9 +6,7 @@ ghost use Rattle.mufom_module.specs.Written as written;
 ghost use Rattle.mufom_module.specs.Written.{shortest, each};
 ghost use Rattle.mufom_module.specs.Defects.{is_long};
 
-use crate::fields::{
-    FIRST_PUBLIC, FIRST_REFERENCE, expression, number, numbered, numbers, string,
-};
+use crate::fields::{FIRST_PUBLIC, FIRST_REFERENCE, expression, number, numbered, numbers, string};
 use crate::output::Output;
 use mufom_expr::Postfix;
 use mufom_host::Failed;
