@@ -5,7 +5,7 @@ use crate::Function::{
     Xor,
 };
 use crate::Token::{Fun, Number, Var};
-use crate::{Builder, Env, ExprFault, Letter, Postfix, Token, VarMap, infix, read_token};
+use crate::{Builder, Env, ExprFault, Function, Letter, Postfix, Token, VarMap, infix, read_token};
 use mufom_numbers::{Reason, Taken};
 use std::alloc::Global;
 
@@ -245,6 +245,54 @@ const TOKENS: [(&[u8], Taken<Token>); 11] = [
 fn tokens_are_read_by_their_first_byte(rt: HostRuntime) {
     for (bytes, want) in &TOKENS {
         assert_eq!(rt; &read_token(bytes), want, "{bytes:?}");
+    }
+}
+
+// The byte of each function, of each letter, and of those that are left out.
+const FUNCTIONS: [(u8, Function); 16] = [
+    (0xA2, Abs),
+    (0xA3, Neg),
+    (0xA5, Plus),
+    (0xA6, Minus),
+    (0xA7, Divide),
+    (0xA8, Times),
+    (0xA9, Max),
+    (0xAA, Min),
+    (0xAB, Mod),
+    (0xAC, Less),
+    (0xAD, Greater),
+    (0xAE, Equal),
+    (0xAF, Unequal),
+    (0xB0, And),
+    (0xB1, Or),
+    (0xB2, Xor),
+];
+
+const LETTERS: [(u8, Letter); 6] = [
+    (0xC9, Letter::I),
+    (0xCC, Letter::L),
+    (0xD0, Letter::P),
+    (0xD2, Letter::R),
+    (0xD3, Letter::S),
+    (0xD8, Letter::X),
+];
+
+const LEFT_OUT: [u8; 10] = [0xA0, 0xA1, 0xA4, 0xB3, 0xB4, 0xB5, 0xB6, 0xB7, 0xB8, 0xB9];
+
+#[test]
+fn each_function_and_letter_has_its_byte(rt: HostRuntime) {
+    for (byte, function) in &FUNCTIONS {
+        assert_eq!(rt; read_token(&[*byte]), Taken::Got(Fun(*function), 1));
+    }
+    for (byte, letter) in &LETTERS {
+        assert_eq!(rt; read_token(&[*byte, 7]), Taken::Got(Var(*letter, 7), 2));
+    }
+    let fault = Taken::Bad {
+        offset: 0,
+        reason: Reason::UnsupportedFunction,
+    };
+    for byte in &LEFT_OUT {
+        assert_eq!(rt; read_token(&[*byte]), fault);
     }
 }
 

@@ -19,7 +19,7 @@ use Rattle.mufom_module.specs.Grammar.{file_limit}
 use Rattle.mufom_read.specs.Fronts.{Step, read, step_bytes, front_bytes, size_of, pieces_of, Extent, Place, in_header, in_part, at_end, place_behind, header_mode, is_raw, awaits_items, body_mode, as_step, raw_step, step_in, step_at, next_step}
 use Rattle.mufom_read.specs.Faults.{Fault, ended_part_fault, step_fault, fault_after}
 use Rattle.mufom_read.specs.Judging.{IsSoundFrom, IsSoundFront, within_limit, HasFault, EndsAt, IsWaiting, IsRefusedAt}
-use Rattle.mufom_read.specs.Laws.{RefusalStays}
+use Rattle.mufom_read.specs.Laws.{FrontsStay, RefusalStays}
 use Rattle.mufom_read.proofs.EndedWalk.{taken, the_piece, front_first}
 
 -- ---- one step
@@ -151,6 +151,11 @@ limit-append n bytes more = elim (cases_lt n (length bytes)) [
 -- what is judged of a longer stream begins with what is judged of the shorter
 pub within-append : (bytes more : List ℕ) → within_limit (bytes ++ more) ≡ within_limit bytes ++ take (file_limit - length bytes) more
 within-append bytes more = limit-append file_limit bytes more
+
+pub fronts_stay : FrontsStay
+fronts_stay reads_debug bytes more front fits sound =
+    subst (λ (l : List ℕ). IsSoundFront reads_debug front l) (sym (within-append bytes more))
+    (sound_stays reads_debug [] front (within_limit bytes) (take (file_limit - length bytes) more) (AreBytes-take file_limit bytes fits) sound)
 
 -- ---- refusals
 

@@ -1,10 +1,15 @@
 //! Laws of judging, each the contract of a function that does nothing.
 
-ghost use Rattle.mufom_read.specs.Laws.{EndedFrontIsModule, FrontsAreOne, FrontsOfModulesAreCutOff, HasJudgment, HasOneJudgment, JudgmentsExcludeEachOther, ModuleIsEndedFront, RefusalIsSingle, RefusalStays};
+ghost use Rattle.mufom_read.specs.Laws.{EndedFrontIsModule, FrontsAreOne, FrontsOfModulesAreCutOff, FrontsStay, HasJudgment, HasOneJudgment, JudgmentsExcludeEachOther, ModuleIsEndedFront, RefusalIsSingle, RefusalStays};
 
 /// Of two sound fronts of a stream one begins with the other.
 pub fn fronts_are_one()
     ensures { FrontsAreOne }
+{}
+
+/// A sound front of a stream is one of each longer stream.
+pub fn fronts_stay()
+    ensures { FrontsStay }
 {}
 
 /// A stream is refused at one offset, for one reason.

@@ -31,9 +31,9 @@ mod weight_laws;
 mod whole;
 
 pub use laws::{
-    ended_front_is_module, fronts_are_one, fronts_of_modules_are_cut_off, has_judgment,
-    has_one_judgment, judgments_exclude_each_other, module_is_ended_front, refusal_is_single,
-    refusal_stays,
+    ended_front_is_module, fronts_are_one, fronts_of_modules_are_cut_off, fronts_stay,
+    has_judgment, has_one_judgment, judgments_exclude_each_other, module_is_ended_front,
+    refusal_is_single, refusal_stays,
 };
 pub use reader::Reader;
 pub use refusal::{ReadRefusal, ReadStop};

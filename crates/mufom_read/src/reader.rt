@@ -1,8 +1,9 @@
 //! The reader of a stream that comes in pieces.
 
-ghost use Rattle.std.specs.Prelude.{◌≡◌, ◌≢◌, ◌↔◌, ◌<◌, ℕ, List, [], ◌++◌, Some, None, Ok, Err, IsSome, IfSome, IfOk};
+ghost use Rattle.std.specs.Prelude.{◌≡◌, ◌≢◌, ◌↔◌, ◌<◌, ◌≤◌, ◌*◌, ℕ, List, [], ◌++◌, length, Some, None, Ok, Err, IsSome, IfSome, IfOk};
 ghost use Rattle.mufom_numbers.specs.declared.reason.Reason.{Reason};
 ghost use Rattle.mufom_module.specs.declared.module.Parts.{Parts};
+ghost use Rattle.mufom_module.specs.Written.{weight};
 ghost use Rattle.mufom_read.specs.Judging.{IsRefusedAt, IsPending, IsModule, IsJudged, refusal};
 ghost use Rattle.mufom_read.specs.Reader.{HasRead, stop_of, reads_debug_of, answer_of};
 
@@ -74,6 +75,8 @@ impl Reader {
     pub fn finish(self) -> Result<Module, ReadStop>
         ensures stopped { IfSome (stop_of self) (λ stop. result ≡ Err stop) }
         ensures ok { (stream : List ℕ) → HasRead self stream → IfOk result (λ m. IsModule (reads_debug_of self) stream m) }
+        // It weighs at most ten times the stream.
+        ensures weighs { (stream : List ℕ) → HasRead self stream → IfOk result (λ m. weight m ≤ 10 * length stream) }
         // A module's file is read, unless memory runs out.
         ensures module { (stream : List ℕ) (m : Parts) → HasRead self stream → IsModule (reads_debug_of self) stream m → result ≢ Err ReadStop.NoMemory → result ≡ Ok m }
         ensures refused { (place : ℕ) (reason : Reason) (stream : List ℕ) → HasRead self stream → result ≢ Err ReadStop.NoMemory

@@ -1,9 +1,10 @@
 //! The module of a source.
 
-ghost use Rattle.std.specs.Prelude.{◌≡◌, ◌≢◌, ◌↔◌, ◌<◌, ◌≤◌, ℕ, List, [], length, take, Some, Err, IfOk, IfSome};
+ghost use Rattle.std.specs.Prelude.{◌≡◌, ◌≢◌, ◌↔◌, ◌<◌, ◌≤◌, ◌*◌, ℕ, List, [], length, take, Some, Err, IfOk, IfSome};
 ghost use Rattle.mufom_numbers.specs.declared.reason.Reason.{Reason};
 ghost use Rattle.mufom_host.specs.World.{KeepsAllButLeft, KeepsAllButReads, Rose};
 ghost use Rattle.mufom_module.specs.Grammar.{file_limit};
+ghost use Rattle.mufom_module.specs.Written.{weight};
 ghost use Rattle.mufom_read.specs.Judging.{IsModule};
 ghost use Rattle.mufom_read.specs.Reader.{HasRead, reads_debug_of};
 ghost use Rattle.mufom_read.specs.Source.{IsRefusedWithin, IsPastLimit, ReadsModule, HasFed, HasReadPiece, HasReadAll};
@@ -111,8 +112,9 @@ fn read_all<S: Source>(
     }
 }
 
-/// The module of the bytes that the source has left, and how many they are. At most `limit` bytes are
-/// read, which is at most 67,108,864, and a refused source is not read further.
+/// The module of the bytes that the source has left, and how many they are: at most `limit`, which is
+/// at most 67,108,864. The source is read in pieces of up to 65,536 bytes, and no further once it is
+/// refused or has given more than `limit`.
 pub fn read_module<S: Source>(
     alloc: Global,
     source: &mut S,
@@ -124,6 +126,8 @@ pub fn read_module<S: Source>(
     ensures reads { ReadsModule reads_debug limit (S.meaning source.old).left (S.meaning source.new).left result }
     // The module of all bytes that were left, and how many they are; none is left then.
     ensures ok { IfOk result (λ r. IfSome (S.meaning source.old).left (λ left. IsModule reads_debug left r.0 × (r.1 ≡ length left) × (r.1 ≤ limit) × ((S.meaning source.new).left ≡ Some []))) }
+    // Also where the source does not tell what it has left.
+    ensures weighs { IfOk result (λ r. (weight r.0 ≤ 10 * r.1) × (r.1 ≤ limit)) }
     ensures refused { (place : ℕ) (reason : Reason) → IfSome (S.meaning source.old).left (λ left. result ≢ Err SourceStop.NoMemory → result ≢ Err SourceStop.Fault
         → (result ≡ Err (SourceStop.Refused (record { place = place; reason = reason }))) ↔ IsRefusedWithin reads_debug limit left place reason) }
     ensures limit { IfSome (S.meaning source.old).left (λ left. result ≢ Err SourceStop.NoMemory → result ≢ Err SourceStop.Fault → (result ≡ Err SourceStop.Limit) ↔ IsPastLimit reads_debug limit left) }

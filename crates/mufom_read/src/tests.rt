@@ -75,7 +75,7 @@ enum Row {
 // A row, the offset at which it is refused, and why.
 type Refused = (Row, u64, Reason);
 
-const REFUSED: [Refused; 49] = [
+const REFUSED: [Refused; 55] = [
     (Row::Byte(0, 0xE1), 0, Reason::BadHeader),
     (Row::Byte(9, 0xE2), 9, Reason::BadHeader),
     (Row::Byte(15, 0x01), 13, Reason::BadHeader),
@@ -208,6 +208,39 @@ const REFUSED: [Refused; 49] = [
         ]),
         100,
         Reason::MissingValue,
+    ),
+    // Two faults each, of which the one that is judged first counts.
+    (
+        Row::External(&[0xE8, 0x20, 0x01, 0x61, 0xE2, 0xC9, 0x20, 0xD0, 0x09]),
+        104,
+        Reason::BadP,
+    ),
+    (
+        Row::External(&[0xE2, 0xC9, 0x20, 0xD0, 0x09]),
+        100,
+        Reason::UnknownIndex,
+    ),
+    (
+        Row::External(&[
+            0xE8, 0x20, 0x01, 0x61, 0xE2, 0xC9, 0x20, 0x00, 0xE2, 0xC9, 0x20, 0xD0, 0x01,
+        ]),
+        108,
+        Reason::DuplicateValue,
+    ),
+    (
+        Row::External(&[0xE9, 0x0B, 0x01, 0x61, 0xF4, 0x0B, 0x04, 0xF4, 0x0C, 0x04]),
+        107,
+        Reason::UnknownIndex,
+    ),
+    (
+        Row::Data(&[0xE5, 0x01, 0xE4, 0xBE, 0x01, 0x02, 0xBB]),
+        106,
+        Reason::SurplusTerms,
+    ),
+    (
+        Row::Data(&[0xE5, 0x01, 0xE4, 0xBE, 0xBB]),
+        104,
+        Reason::Empty,
     ),
 ];
 
@@ -422,7 +455,7 @@ fn zeros(alloc: Global, count: usize) -> Result<Vec<u8>, Fail> {
     Ok(vec![in alloc; 0u8; count]?)
 }
 
-// A reader that has read 66,060,365 bytes of a module whose data part has raw bytes, and then so
+// A reader that has read 66,060,365 bytes of a module whose extension part is raw bytes, and then so
 // many more of them: 1,048,499 more are as many as a file may have.
 fn nearly_full(alloc: Global, more: usize) -> Result<Reader, Fail> {
     let changes = [(20, 0x4D), (36, 0), (60, 0), (68, 0), (73, 4), (76, 0)];

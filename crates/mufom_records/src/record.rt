@@ -22,7 +22,7 @@ pub enum Mode {
 pub enum BlockTail {
     /// Kind 3.
     Module,
-    /// Kinds 4 and 6: the size of the stack, the index of a type, and an expression.
+    /// Kinds 4 and 6: a stack number, the index of a type, and an expression.
     Scope {
         stack: u64,
         type_index: u64,

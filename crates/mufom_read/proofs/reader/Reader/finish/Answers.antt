@@ -6,6 +6,7 @@ use Rattle.mufom_read.specs.FrontOfCode.{IsFrontOf}
 use Rattle.mufom_read.specs.Judging.{IsModule}
 use Rattle.mufom_read.specs.Reader.{IsReading, Knows, HasRead}
 use Rattle.mufom_read.proofs.FinishLaws.{is-whole, finish-stopped, finish-cut, finish-whole, finish-module, finish-file}
+use Rattle.mufom_read.proofs.WeighFiles.{modules_weigh}
 use Rattle.mufom_read.proofs.reader.Reader.finish.Goals as goal
 
 pub returns-in-Some-clause-refused : goal.returns-in-Some-clause-refused
@@ -61,3 +62,6 @@ returns-then-not-is_ended-clause-module c = λ stream m has is memory.
 pub returns-in-Ok-clause-module : goal.returns-in-Ok-clause-module
 returns-in-Ok-clause-module c = λ stream m has is memory.
     finish-file c.args.self.reads_debug stream m (Ok c.in-Ok.module) has.0 (returns-in-Ok-clause-ok c stream has) (λ place reason. (returns-in-Ok-clause-refused c place reason stream has memory).0) is memory
+
+pub returns-in-Ok-clause-weighs : goal.returns-in-Ok-clause-weighs
+returns-in-Ok-clause-weighs c = λ stream has. modules_weigh c.args.self.reads_debug stream c.in-Ok.module has.0 (returns-in-Ok-clause-ok c stream has).0
