@@ -1,6 +1,6 @@
 """Judges the bytes of a module file, by the tables of docs/FORMAT.md alone.
 
-It shares nothing with the program and is slow: it is there to try the program against
+It shares no code with the program and is slow: it is there to try the program against
 (try_files.py). `answer` gives what `mufom check` must answer for one file.
 """
 
