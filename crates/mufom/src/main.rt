@@ -1,7 +1,7 @@
 //! The program `mufom`: it gives the command line's words to [`run`] over the files and streams of
 //! the process, and ends with the status of the answer.
 //!
-//! It stands on `mufom_command`, whose contract says what every answer means, and on `mufom_host`.
+//! It stands on `mufom_command`, whose contract states what every answer means, and on `mufom_host`.
 #![tactic(auto)]
 
 ghost use Rattle.std.specs.Prelude.{◌<◌, ◌^◌, IfOk, vec_len};

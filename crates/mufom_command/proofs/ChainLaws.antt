@@ -1,4 +1,4 @@
--- What reading the chain of records says of the bytes.
+-- What reading the chain of records states of the bytes.
 use Rattle.std.proofs.Common.{◌≡◌, ℕ, ◌+◌, ◌^◌, ◌<◌, ◌≤◌, List, [], ◌∷◌, length, Ok, Err, refl, sym, ap, subst, ◌∙◌, inl, inr, arith}
 use Rattle.std.proofs.lemmas.List.{append-nil}
 use Rattle.mufom_numbers.specs.declared.reason.Reason.TheVariants as why
@@ -13,8 +13,8 @@ use Rattle.mufom_command.proofs.RowLaws.{chain-exact}
 abbrev pub read : Chain → List ℕ → Reading Chain
 read c rest = Ok (c, rest)
 
-abbrev pub stopped : Stop → Reading Chain
-stopped stop = Err stop
+abbrev pub outcome_of_stop : Stop → Reading Chain
+outcome_of_stop stop = Err stop
 
 -- a plain module is read whole
 pub plain_is_read : (image : Image) (input : List ℕ) → IsPlainModule image input → (c : Chain) × (chain_in input ≡ read c []) × Loads c image
@@ -36,28 +36,28 @@ other_rest input c rest is some image plain =
     let one = plain_is_read image input plain in
     some (sym (same_rest one.0 c [] rest (sym one.1 ∙ is)))
 
-pub stopped_not_plain : (input : List ℕ) (stop : Stop) → chain_in input ≡ stopped stop → (image : Image) → IsPlainModule image input → ⊥
+pub stopped_not_plain : (input : List ℕ) (stop : Stop) → chain_in input ≡ outcome_of_stop stop → (image : Image) → IsPlainModule image input → ⊥
 stopped_not_plain input stop is image plain =
     let one = plain_is_read image input plain in
-    let no : read one.0 [] ≡ stopped stop = sym one.1 ∙ is in cc
+    let no : read one.0 [] ≡ outcome_of_stop stop = sym one.1 ∙ is in cc
 
 -- a chain is cut off exactly where more is wanted
 pub read_not_cut : (input : List ℕ) (c : Chain) (rest : List ℕ) → chain_in input ≡ read c rest → IsCutOffChain input → ⊥
-read_not_cut input c rest is cut = let no : stopped More ≡ read c rest = sym (chain-exact.cut cut.0 input cut.1) ∙ is in cc
+read_not_cut input c rest is cut = let no : outcome_of_stop More ≡ read c rest = sym (chain-exact.cut cut.0 input cut.1) ∙ is in cc
 
-pub other_not_cut : (input : List ℕ) → chain_in input ≡ stopped Other → IsCutOffChain input → ⊥
-other_not_cut input is cut = let no : stopped More ≡ stopped Other = sym (chain-exact.cut cut.0 input cut.1) ∙ is in cc
+pub other_not_cut : (input : List ℕ) → chain_in input ≡ outcome_of_stop Other → IsCutOffChain input → ⊥
+other_not_cut input is cut = let no : outcome_of_stop More ≡ outcome_of_stop Other = sym (chain-exact.cut cut.0 input cut.1) ∙ is in cc
 
-pub wants_cut : (input : List ℕ) → AreBytes input → chain_in input ≡ stopped More → IsCutOffChain input
+pub wants_cut : (input : List ℕ) → AreBytes input → chain_in input ≡ outcome_of_stop More → IsCutOffChain input
 wants_cut input fits is = chain-exact.more input fits is
 
 -- ---- refusals
 
 -- the place and reason are these, where the chain is read so
-pub refuses_wanting : (input : List ℕ) → AreBytes input → length input ≤ most_bytes → chain_in input ≡ stopped More → Refuses input (read_refusal (length input) why.Truncated)
+pub refuses_wanting : (input : List ℕ) → AreBytes input → length input ≤ most_bytes → chain_in input ≡ outcome_of_stop More → Refuses input (read_refusal (length input) why.Truncated)
 refuses_wanting input fits few is = inr (inr (refl, (few, wants_cut input fits is)))
 
-pub refuses_other : (input : List ℕ) → BeginsModule input → chain_in input ≡ stopped Other → Refuses input (read_refusal 0 why.NotBuilt)
+pub refuses_other : (input : List ℕ) → BeginsModule input → chain_in input ≡ outcome_of_stop Other → Refuses input (read_refusal 0 why.NotBuilt)
 refuses_other input begins is = inr (inl (refl, (begins, inr (stopped_not_plain input Other is, other_not_cut input is))))
 
 pub refuses_rest : (input : List ℕ) (c : Chain) (rest : List ℕ) → BeginsModule input → chain_in input ≡ read c rest → (rest ≡ [] → ⊥) → Refuses input (read_refusal 0 why.NotBuilt)

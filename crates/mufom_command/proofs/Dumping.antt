@@ -1,7 +1,7 @@
 -- What was read answers for the whole file.
 use Rattle.std.proofs.Common.{◌≡◌, ◌⊎◌, ℕ, ◌<◌, List, [], ◌∷◌, ◌++◌, length, Option, Some, None, refl, sym, subst, inl, inr, arith}
 use Rattle.std.proofs.lemmas.List.{length-append}
-use Rattle.mufom_host.specs.World.{Faults, Meaning, NamedFile, GrowsBy, GrowsByFront}
+use Rattle.mufom_host.specs.World.{Faults, Meaning, NamedFile, GrowsBy, GrowsByPrefix}
 use Rattle.mufom_command.specs.declared.outcome.Outcome.{Outcome}
 use Rattle.mufom_command.specs.declared.outcome.Outcome.TheVariants as outcome
 use Rattle.mufom_command.specs.declared.outcome.Refusal.TheVariants as why
@@ -45,10 +45,10 @@ printed_file name bytes text (Some fs) out now (all, named, enough) (image, plai
     (all, named, (image, module_of_all all bytes image enough plain, subst (λ (t : List ℕ). GrowsBy out now t) is grows))
 
 pub cut_file : (name bytes text : List ℕ) (files : Option (List NamedFile)) (out now : Option (List ℕ)) → FileHas name files (λ all. IsEnoughOf all bytes)
-    → (image : Image) × IsPlainModule image bytes × (text ≡ dump_text image) → GrowsByFront out now text → FileHas name files (λ all. (image : Image) × IsPlainModule image all × GrowsByFront out now (dump_text image))
+    → (image : Image) × IsPlainModule image bytes × (text ≡ dump_text image) → GrowsByPrefix out now text → FileHas name files (λ all. (image : Image) × IsPlainModule image all × GrowsByPrefix out now (dump_text image))
 cut_file name bytes text None out now enough located grows = tt
 cut_file name bytes text (Some fs) out now (all, named, enough) (image, plain, is) grows =
-    (all, named, (image, module_of_all all bytes image enough plain, subst (λ (t : List ℕ). GrowsByFront out now t) is grows))
+    (all, named, (image, module_of_all all bytes image enough plain, subst (λ (t : List ℕ). GrowsByPrefix out now t) is grows))
 
 -- an answer that stands before anything is printed
 pub stopped_file : (name bytes : List ℕ) (old new : Meaning) (before now : Faults) (stop : Outcome) → FileHas name old.files (λ all. IsEnoughOf all bytes)

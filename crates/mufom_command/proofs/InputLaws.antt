@@ -12,14 +12,14 @@ use Rattle.mufom_command.specs.declared.outcome.Input.TheVariants as input
 use Rattle.mufom_command.specs.declared.outcome.Outcome.{Outcome}
 use Rattle.mufom_command.specs.declared.outcome.Outcome.TheVariants as outcome
 use Rattle.mufom_command.specs.declared.outcome.Refusal.TheVariants as refusal
-use Rattle.mufom_command.specs.Inputs.{AreAccepted, AreModules, ComeTo, StopsAt, accepted, most_input_bytes, room_behind}
-use Rattle.mufom_command.specs.FilesRead.{FileStops, HasModule, stop_of}
-use Rattle.mufom_command.specs.Run.{Lists, FileHas, IsOpenedCount, OpensFront}
+use Rattle.mufom_command.specs.Inputs.{AreAccepted, AreModules, ComeTo, StopsAt, accepted, most_input_bytes, room_after}
+use Rattle.mufom_command.specs.FilesRead.{FileStops, HasModule, outcome_of_source_stop}
+use Rattle.mufom_command.specs.Run.{Lists, FileHas, IsOpenedCount, OpensPrefix}
 
 -- ---- names in their order
 
 module _ (names : List (List ℕ)) (i : ℕ) (name : List ℕ) (inside : i < length names) (is : name ≡ get_or names i name) where
-  -- the names up to this one, and those behind it
+  -- the names up to this one, and those after it
   pub names_split : names ≡ take i names ++ name ∷ drop (i + 1) names
   names_split = sym (take-append-drop i names) ∙ ap (λ rest. take i names ++ rest) (drop_more names i name inside ∙ ap (λ (n : List ℕ). n ∷ drop (i + 1) names) (sym is))
 
@@ -45,14 +45,14 @@ module _ (reads_debug : Bool) where
 
   -- one file more, within the room that the others left
   pub one_accepted : (files : List NamedFile) (names contents : List (List ℕ)) (ms : List Parts) (name bytes : List ℕ) (m : Parts) → AreAccepted reads_debug files names contents ms
-      → file_named name files ≡ Some bytes → IsModule reads_debug bytes m → length bytes ≤ room_behind contents → AreAccepted reads_debug files (names ++ name ∷ []) (contents ++ bytes ∷ []) (ms ++ m ∷ [])
+      → file_named name files ≡ Some bytes → IsModule reads_debug bytes m → length bytes ≤ room_after contents → AreAccepted reads_debug files (names ++ name ∷ []) (contents ++ bytes ∷ []) (ms ++ m ∷ [])
   one_accepted files names contents ms name bytes m them there is fits = record {
     bytes = map-append (λ n. file_named n files) names (name ∷ []) ∙ (λ i. them.bytes i ++ there i ∷ []) ∙ sym (map-append (λ b. Some b) contents (bytes ∷ []));
     modules = modules-append contents ms bytes m them.modules is;
     within = let sum = sum-more contents bytes in let within = them.within in omega (arith, sum, within, fits);
   }
 
-  pub room-more : (contents : List (List ℕ)) (bytes : List ℕ) → room_behind (contents ++ bytes ∷ []) ≡ room_behind contents - length bytes
+  pub room-more : (contents : List (List ℕ)) (bytes : List ℕ) → room_after (contents ++ bytes ∷ []) ≡ room_after contents - length bytes
   room-more contents bytes = let sum = sum-more contents bytes in omega (arith, sum)
 
   -- ---- one file
@@ -74,7 +74,7 @@ module _ (reads_debug : Bool) where
 
   pub file_stopped : (name : List ℕ) (number limit : ℕ) (files : Option (List NamedFile)) (left after : Option (List ℕ)) (before between now : Faults) (s : SourceStop)
       → IfSome files (λ fs. (all : List ℕ) × (file_named name fs ≡ Some all) × (left ≡ Some all)) → ReadsModule reads_debug limit left after (Err s)
-      → (s ≡ source.Fault → Rose between.reads now.reads) → before.reads ≤ between.reads → FileStops reads_debug name number limit files before now (stop_of number s)
+      → (s ≡ source.Fault → Rose between.reads now.reads) → before.reads ≤ between.reads → FileStops reads_debug name number limit files before now (outcome_of_source_stop number s)
   file_stopped name number limit files left after before between now (source.Refused r) opened reads cause later =
       (refl, file_left name (λ bytes. IsRefusedWithin reads_debug limit bytes r.place r.reason) (λ bytes. IsRefusedWithin reads_debug limit bytes r.place r.reason) files left opened reads (λ bytes h. h))
   file_stopped name number limit files left after before between now source.Limit opened reads cause later =
@@ -84,9 +84,9 @@ module _ (reads_debug : Bool) where
 
   -- ---- all files so far
 
-  -- The first so many files were accepted, and they alone were opened.
+  -- The first files, as many as are given, were accepted, and they alone were opened.
   pub record HaveRead (names : List (List ℕ)) (done : ℕ) (ms : List Parts) (room : ℕ) (old now : Meaning) (before after : Faults) : Type 0 where
-    pub files : IfSome old.files (λ fs. (contents : List (List ℕ)) × AreAccepted reads_debug fs (take done names) contents ms × (room ≡ room_behind contents))
+    pub files : IfSome old.files (λ fs. (contents : List (List ℕ)) × AreAccepted reads_debug fs (take done names) contents ms × (room ≡ room_after contents))
     pub fits : room ≤ most_input_bytes
     pub opened : GrowsBy old.opened now.opened (take done names)
     pub stays : KeepsAllButOpened old now
@@ -107,7 +107,7 @@ module _ (reads_debug : Bool) where
   grows_then a b None xs ys first second = tt
   grows_then a b (Some list) xs ys first second = grows_by_both a b (Some list) xs ys first second
 
-  accepted_first : (files : Option (List NamedFile)) (names : List (List ℕ)) → IfSome files (λ fs. (contents : List (List ℕ)) × AreAccepted reads_debug fs (take 0 names) contents [] × (most_input_bytes ≡ room_behind contents))
+  accepted_first : (files : Option (List NamedFile)) (names : List (List ℕ)) → IfSome files (λ fs. (contents : List (List ℕ)) × AreAccepted reads_debug fs (take 0 names) contents [] × (most_input_bytes ≡ room_after contents))
   accepted_first None names = tt
   accepted_first (Some fs) names = ([], none_accepted fs, refl)
 
@@ -122,13 +122,13 @@ module _ (reads_debug : Bool) where
     count = refl;
   }
 
-  accepted_next : (files : Option (List NamedFile)) (front more : List (List ℕ)) (name : List ℕ) (ms : List Parts) (m : Parts) (room count : ℕ) → more ≡ front ++ name ∷ []
-      → IfSome files (λ fs. (contents : List (List ℕ)) × AreAccepted reads_debug fs front contents ms × (room ≡ room_behind contents)) → FileHas name files (HasModule reads_debug room m count)
-      → IfSome files (λ fs. (contents : List (List ℕ)) × AreAccepted reads_debug fs more contents (ms ++ m ∷ []) × (room - count ≡ room_behind contents))
-  accepted_next None front more name ms m room count is so_far next = tt
-  accepted_next (Some fs) front more name ms m room count is (contents, them, left) (bytes, there, (read, size, fits)) = (
+  accepted_next : (files : Option (List NamedFile)) (prefix more : List (List ℕ)) (name : List ℕ) (ms : List Parts) (m : Parts) (room count : ℕ) → more ≡ prefix ++ name ∷ []
+      → IfSome files (λ fs. (contents : List (List ℕ)) × AreAccepted reads_debug fs prefix contents ms × (room ≡ room_after contents)) → FileHas name files (HasModule reads_debug room m count)
+      → IfSome files (λ fs. (contents : List (List ℕ)) × AreAccepted reads_debug fs more contents (ms ++ m ∷ []) × (room - count ≡ room_after contents))
+  accepted_next None prefix more name ms m room count is so_far next = tt
+  accepted_next (Some fs) prefix more name ms m room count is (contents, them, left) (bytes, there, (read, size, fits)) = (
     contents ++ bytes ∷ [],
-    subst (λ (names : List (List ℕ)). AreAccepted reads_debug fs names (contents ++ bytes ∷ []) (ms ++ m ∷ [])) (sym is) (one_accepted fs front contents ms name bytes m them there read (subst (λ n. length bytes ≤ n) left fits)),
+    subst (λ (names : List (List ℕ)). AreAccepted reads_debug fs names (contents ++ bytes ∷ []) (ms ++ m ∷ [])) (sym is) (one_accepted fs prefix contents ms name bytes m them there read (subst (λ n. length bytes ≤ n) left fits)),
     (λ i. left i - size i) ∙ sym (room-more contents bytes),
   )
 
@@ -152,7 +152,7 @@ module _ (reads_debug : Bool) where
     }
 
     at_file : (P : ℕ → List ℕ → Type 0) (i : ℕ) (files : Option (List NamedFile)) → names ≡ take number names ++ name ∷ drop (number + 1) names → length (take number names) ≡ number → i ≡ number
-        → IfSome files (λ fs. (contents : List (List ℕ)) × AreAccepted reads_debug fs (take number names) contents ms × (room ≡ room_behind contents)) → FileHas name files (P room) → IfSome files (λ fs. StopsAt reads_debug fs names i P)
+        → IfSome files (λ fs. (contents : List (List ℕ)) × AreAccepted reads_debug fs (take number names) contents ms × (room ≡ room_after contents)) → FileHas name files (P room) → IfSome files (λ fs. StopsAt reads_debug fs names i P)
     at_file P i None split place is accepted_so holds = tt
     at_file P i (Some fs) split place is (contents, them, left) (bytes, there, holds) = record {
       before = take number names;
@@ -168,7 +168,7 @@ module _ (reads_debug : Bool) where
       stops = subst (λ n. P n bytes) left holds;
     }
 
-    accepted_before : (i : ℕ) (files : Option (List NamedFile)) → i ≡ number → IfSome files (λ fs. (contents : List (List ℕ)) × AreAccepted reads_debug fs (take number names) contents ms × (room ≡ room_behind contents))
+    accepted_before : (i : ℕ) (files : Option (List NamedFile)) → i ≡ number → IfSome files (λ fs. (contents : List (List ℕ)) × AreAccepted reads_debug fs (take number names) contents ms × (room ≡ room_after contents))
         → IfSome files (λ fs. (ms : List Parts) × ComeTo reads_debug fs (take i names) (accepted ms))
     accepted_before i None is them = tt
     accepted_before i (Some fs) is (contents, them, left) = (ms, (contents, subst (λ n. AreAccepted reads_debug fs (take n names) contents ms) (sym is) them))
@@ -203,14 +203,14 @@ module _ (reads_debug : Bool) where
     opened_count outcome.WriteFault why = absurd why
     opened_count outcome.NoMemory why = tt
 
-    -- and none behind it was opened
-    pub stop_opens : (stop : Outcome) → number < length names → FileStops reads_debug name number room mid.files between now stop → OnSome new.opened (GrowsBy mid.opened new.opened (name ∷ [])) → OpensFront names old new stop
+    -- and none after it was opened
+    pub stop_opens : (stop : Outcome) → number < length names → FileStops reads_debug name number room mid.files between now stop → OnSome new.opened (GrowsBy mid.opened new.opened (name ∷ [])) → OpensPrefix names old new stop
     stop_opens stop inside why opened = record { count = number + 1; exact = opened_count stop why; within = omega (arith, inside); opened = opened_now opened }
 
   -- ---- all files
 
   accepted_all : (files : Option (List NamedFile)) (names : List (List ℕ)) (done : ℕ) (ms : List Parts) (room : ℕ) → take done names ≡ names
-      → IfSome files (λ fs. (contents : List (List ℕ)) × AreAccepted reads_debug fs (take done names) contents ms × (room ≡ room_behind contents)) → IfSome files (λ fs. ComeTo reads_debug fs names (accepted ms))
+      → IfSome files (λ fs. (contents : List (List ℕ)) × AreAccepted reads_debug fs (take done names) contents ms × (room ≡ room_after contents)) → IfSome files (λ fs. ComeTo reads_debug fs names (accepted ms))
   accepted_all None names done ms room is them = tt
   accepted_all (Some fs) names done ms room is (contents, them, left) = (contents, subst (λ (l : List (List ℕ)). AreAccepted reads_debug fs l contents ms) is them)
 

@@ -11,8 +11,8 @@ use Rattle.mufom_command.specs.Plain.{Chain, DataPart, Header, Image, IsChain, I
 abbrev IsShort : Format → ℕ → Type 0
 IsShort P n = (bytes : List ℕ) → P bytes → length bytes ≤ n
 
-behind : (P Q : Format) (m n : ℕ) → IsShort P m → IsShort Q n → IsShort (P ▹ Q) (m + n)
-behind P Q m n p q bytes (front, back, in_front, in_back, same) = omega (arith, p front in_front, q back in_back, ap length same, length-append front back)
+after : (P Q : Format) (m n : ℕ) → IsShort P m → IsShort Q n → IsShort (P ▹ Q) (m + n)
+after P Q m n p q bytes (prefix, back, in_prefix, in_back, same) = omega (arith, p prefix in_prefix, q back in_back, ap length same, length-append prefix back)
 
 byte-short : (b : ℕ) → IsShort (byte b) 1
 byte-short b bytes is = omega (arith, ap length is)
@@ -45,22 +45,22 @@ counted-short run bytes (count, is, fits, same) = omega (arith, number-short (le
 -- ---- rows and parts
 
 module_begin-short : IsShort module_begin 131077
-module_begin-short = behind (byte 0xE0) (a_string ▹ a_string) 1 131076 (byte-short 0xE0) (behind a_string a_string 65538 65538 string-short string-short)
+module_begin-short = after (byte 0xE0) (a_string ▹ a_string) 1 131076 (byte-short 0xE0) (after a_string a_string 65538 65538 string-short string-short)
 
 descriptor-short : (bits maus : ℕ) → IsShort (descriptor bits maus) 20
 descriptor-short bits maus =
-    behind (byte 0xEC) (number bits ▹ (number maus ▹ a_letter orders)) 1 19 (byte-short 0xEC)
-    (behind (number bits) (number maus ▹ a_letter orders) 9 10 (number-short bits) (behind (number maus) (a_letter orders) 9 1 (number-short maus) (letter-short orders)))
+    after (byte 0xEC) (number bits ▹ (number maus ▹ a_letter orders)) 1 19 (byte-short 0xEC)
+    (after (number bits) (number maus ▹ a_letter orders) 9 10 (number-short bits) (after (number maus) (a_letter orders) 9 1 (number-short maus) (letter-short orders)))
 
 offset-short : (o : Offset) → IsShort (part_offset o) 20
 offset-short o =
-    behind (byte 0xE2) (byte 0xD7 ▹ (number o.part ▹ number o.value)) 1 19 (byte-short 0xE2)
-    (behind (byte 0xD7) (number o.part ▹ number o.value) 1 18 (byte-short 0xD7) (behind (number o.part) (number o.value) 9 9 (number-short o.part) (number-short o.value)))
+    after (byte 0xE2) (byte 0xD7 ▹ (number o.part ▹ number o.value)) 1 19 (byte-short 0xE2)
+    (after (byte 0xD7) (number o.part ▹ number o.value) 1 18 (byte-short 0xD7) (after (number o.part) (number o.value) 9 9 (number-short o.part) (number-short o.value)))
 
 offsets-short : (offsets : List Offset) (bytes : List ℕ) → part_offsets offsets bytes → length bytes ≤ 20 * length offsets
 offsets-short [] bytes none = omega (arith, ap length none)
-offsets-short (o ∷ offsets) bytes (front, back, in_front, in_back, same) =
-    omega (arith, offset-short o front in_front, offsets-short offsets back in_back, ap length same, length-append front back)
+offsets-short (o ∷ offsets) bytes (prefix, back, in_prefix, in_back, same) =
+    omega (arith, offset-short o prefix in_prefix, offsets-short offsets back in_back, ap length same, length-append prefix back)
 
 header-short : (h : Header) → IsShort (full_header h) 131257
 header-short h bytes (count, (begin, rest, in_begin, (described, offsets, in_described, in_offsets, two), one)) =
@@ -77,38 +77,38 @@ header-short h bytes (count, (begin, rest, in_begin, (described, offsets, in_des
     )
 
 assigned-short : (a : Assigned) → IsShort (assigned a) 18
-assigned-short a = behind (index a.index) (number a.value) 9 9 (index-short a.index) (number-short a.value)
+assigned-short a = after (index a.index) (number a.value) 9 9 (index-short a.index) (number-short a.value)
 
 two_bytes-short : (code letter : ℕ) (a : Assigned) → IsShort (byte code ▹ (byte letter ▹ assigned a)) 20
-two_bytes-short code letter a = behind (byte code) (byte letter ▹ assigned a) 1 19 (byte-short code) (behind (byte letter) (assigned a) 1 18 (byte-short letter) (assigned-short a))
+two_bytes-short code letter a = after (byte code) (byte letter ▹ assigned a) 1 19 (byte-short code) (after (byte letter) (assigned a) 1 18 (byte-short letter) (assigned-short a))
 
 section_type-short : (i : ℕ) → IsShort (section_type i) 65551
 section_type-short i =
-    behind (byte 0xE6) (index i ▹ (byte 0xC1 ▹ (byte 0xD3 ▹ (a_letter purposes ▹ a_string)))) 1 65550 (byte-short 0xE6)
-    (behind (index i) (byte 0xC1 ▹ (byte 0xD3 ▹ (a_letter purposes ▹ a_string))) 9 65541 (index-short i)
-    (behind (byte 0xC1) (byte 0xD3 ▹ (a_letter purposes ▹ a_string)) 1 65540 (byte-short 0xC1)
-    (behind (byte 0xD3) (a_letter purposes ▹ a_string) 1 65539 (byte-short 0xD3) (behind (a_letter purposes) a_string 1 65538 (letter-short purposes) string-short))))
+    after (byte 0xE6) (index i ▹ (byte 0xC1 ▹ (byte 0xD3 ▹ (a_letter purposes ▹ a_string)))) 1 65550 (byte-short 0xE6)
+    (after (index i) (byte 0xC1 ▹ (byte 0xD3 ▹ (a_letter purposes ▹ a_string))) 9 65541 (index-short i)
+    (after (byte 0xC1) (byte 0xD3 ▹ (a_letter purposes ▹ a_string)) 1 65540 (byte-short 0xC1)
+    (after (byte 0xD3) (a_letter purposes ▹ a_string) 1 65539 (byte-short 0xD3) (after (a_letter purposes) a_string 1 65538 (letter-short purposes) string-short))))
 
 section_part-short : (s : SectionPart) → IsShort (section_part s) 65610
 section_part-short s =
-    behind (section_type s.index) (alignment s.alignment ▹ (section_size s.size ▹ section_base s.base)) 65551 59 (section_type-short s.index)
-    (behind (alignment s.alignment) (section_size s.size ▹ section_base s.base) 19 40 (behind (byte 0xE7) (assigned s.alignment) 1 18 (byte-short 0xE7) (assigned-short s.alignment))
-    (behind (section_size s.size) (section_base s.base) 20 20 (two_bytes-short 0xE2 0xD3 s.size) (two_bytes-short 0xE2 0xCC s.base)))
+    after (section_type s.index) (alignment s.alignment ▹ (section_size s.size ▹ section_base s.base)) 65551 59 (section_type-short s.index)
+    (after (alignment s.alignment) (section_size s.size ▹ section_base s.base) 19 40 (after (byte 0xE7) (assigned s.alignment) 1 18 (byte-short 0xE7) (assigned-short s.alignment))
+    (after (section_size s.size) (section_base s.base) 20 20 (two_bytes-short 0xE2 0xD3 s.size) (two_bytes-short 0xE2 0xCC s.base)))
 
 data_part-short : (d : DataPart) → IsShort (data_part d) 65576
 data_part-short d =
-    behind (set_section d.section) (set_counter d.counter ▹ constant d.run) 10 65566 (behind (byte 0xE5) (index d.section) 1 9 (byte-short 0xE5) (index-short d.section))
-    (behind (set_counter d.counter) (constant d.run) 20 65546 (two_bytes-short 0xE2 0xD0 d.counter) (behind (byte 0xED) (counted d.run) 1 65545 (byte-short 0xED) (counted-short d.run)))
+    after (set_section d.section) (set_counter d.counter ▹ constant d.run) 10 65566 (after (byte 0xE5) (index d.section) 1 9 (byte-short 0xE5) (index-short d.section))
+    (after (set_counter d.counter) (constant d.run) 20 65546 (two_bytes-short 0xE2 0xD0 d.counter) (after (byte 0xED) (counted d.run) 1 65545 (byte-short 0xED) (counted-short d.run)))
 
 start-short : (a : ℕ) → IsShort (start a) 11
-start-short a = behind (byte 0xE2) (byte 0xC7 ▹ number a) 1 10 (byte-short 0xE2) (behind (byte 0xC7) (number a) 1 9 (byte-short 0xC7) (number-short a))
+start-short a = after (byte 0xE2) (byte 0xC7 ▹ number a) 1 10 (byte-short 0xE2) (after (byte 0xC7) (number a) 1 9 (byte-short 0xC7) (number-short a))
 
 chain-short : (c : Chain) → IsShort (IsChain c) 262455
 chain-short c =
-    behind (sized full_header c.header) (sized section_part c.section ▹ (sized data_part c.loads ▹ (sized start c.start ▹ module_end))) 131257 131198 (λ bytes p. header-short c.header.0 bytes p.0)
-    (behind (sized section_part c.section) (sized data_part c.loads ▹ (sized start c.start ▹ module_end)) 65610 65588 (λ bytes p. section_part-short c.section.0 bytes p.0)
-    (behind (sized data_part c.loads) (sized start c.start ▹ module_end) 65576 12 (λ bytes p. data_part-short c.loads.0 bytes p.0)
-    (behind (sized start c.start) module_end 11 1 (λ bytes p. start-short c.start.0 bytes p.0) (byte-short 0xE1))))
+    after (sized full_header c.header) (sized section_part c.section ▹ (sized data_part c.loads ▹ (sized start c.start ▹ module_end))) 131257 131198 (λ bytes p. header-short c.header.0 bytes p.0)
+    (after (sized section_part c.section) (sized data_part c.loads ▹ (sized start c.start ▹ module_end)) 65610 65588 (λ bytes p. section_part-short c.section.0 bytes p.0)
+    (after (sized data_part c.loads) (sized start c.start ▹ module_end) 65576 12 (λ bytes p. data_part-short c.loads.0 bytes p.0)
+    (after (sized start c.start) module_end 11 1 (λ bytes p. start-short c.start.0 bytes p.0) (byte-short 0xE1))))
 
 -- a plain module has fewer bytes than are read
 pub plain_is_short : (image : Image) (bytes : List ℕ) → IsPlainModule image bytes → length bytes ≤ most_bytes

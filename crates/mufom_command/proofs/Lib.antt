@@ -8,7 +8,7 @@ pub mod Loading
 pub mod Lengths
 pub mod Dumping
 pub mod Telling
-pub mod Judgements
+pub mod Judgments
 pub mod LineLaws
 pub mod InputLaws
 pub mod Verdicts

@@ -55,7 +55,7 @@ few_items m valid =
 
 -- ---- lines
 
--- the line of the next module stands behind those before it
+-- the line of the next module stands after those before it
 pub check_lines-next : (done : List ℕ) (ms : List Parts) (i : ℕ) (m : Parts) → i < length ms
     → done ++ check_lines i (drop i ms) ≡ (done ++ check_line i (get_or ms i m)) ++ check_lines (i + 1) (drop (i + 1) ms)
 check_lines-next done ms i m inside =

@@ -1,12 +1,12 @@
 -- Files that were read, and text of their modules that was printed.
 use Rattle.std.proofs.Common.{◌≡◌, ℕ, ◌≤◌, ◌<◌, Bool, List, [], ◌∷◌, length, take, Option, Some, None, IfSome, OnSome, refl, sym, ap, subst, ◌∙◌, arith}
 use Rattle.std.proofs.lemmas.List.{take_all}
-use Rattle.mufom_host.specs.World.{Faults, Meaning, NamedFile, GrowsBy, GrowsByFront, KeepsAllButOpened, KeepsAllButOut, KeepsAllButReads, KeepsAllButWrites, Rose}
+use Rattle.mufom_host.specs.World.{Faults, Meaning, NamedFile, GrowsBy, GrowsByPrefix, KeepsAllButOpened, KeepsAllButOut, KeepsAllButReads, KeepsAllButWrites, Rose}
 use Rattle.mufom_module.specs.declared.module.Parts.{Parts}
 use Rattle.mufom_command.specs.declared.outcome.Outcome.{Outcome}
 use Rattle.mufom_command.specs.declared.outcome.Outcome.TheVariants as outcome
 use Rattle.mufom_command.specs.Inputs.{ComeTo, accepted}
-use Rattle.mufom_command.specs.Run.{IsOpenedCount, IsPrinted, Lists, NoneFalls, OpensFront, ReadsAndPrints}
+use Rattle.mufom_command.specs.Run.{IsOpenedCount, IsPrinted, Lists, NoneFalls, OpensPrefix, ReadsAndPrints}
 
 with_text : (reads_debug : Bool) (files : Option (List NamedFile)) (names : List (List ℕ)) (ms : List Parts) (P : List Parts → Type 0) → IfSome files (λ fs. ComeTo reads_debug fs names (accepted ms)) → P ms
     → IfSome files (λ fs. (ms : List Parts) × ComeTo reads_debug fs names (accepted ms) × P ms)
@@ -28,7 +28,7 @@ module _ (reads_debug : Bool) (text : List Parts → List ℕ) (names : List (Li
       with_text reads_debug old.files names ms (λ them. GrowsBy old.out new.out (text them)) come (subst (λ (o : Option (List ℕ)). GrowsBy o new.out (text ms)) out_same printed)
   listed outcome.WriteFault (rose, printed) = (
     subst (λ n. Rose n now.writes) writes_same rose,
-    with_text reads_debug old.files names ms (λ them. GrowsByFront old.out new.out (text them)) come (subst (λ (o : Option (List ℕ)). GrowsByFront o new.out (text ms)) out_same printed),
+    with_text reads_debug old.files names ms (λ them. GrowsByPrefix old.out new.out (text them)) come (subst (λ (o : Option (List ℕ)). GrowsByPrefix o new.out (text ms)) out_same printed),
   )
   listed outcome.NoMemory printed = printed ∙ out_same
   listed (outcome.Refused r) printed = elim printed [ ]
@@ -43,16 +43,16 @@ module _ (reads_debug : Bool) (text : List Parts → List ℕ) (names : List (Li
   counted (outcome.Usage f) printed = elim printed [ ]
   counted (outcome.ReadFault i) printed = elim printed [ ]
 
-  told : (o : Option (List (List ℕ))) → GrowsBy old.opened o names → OnSome o (GrowsBy old.opened o (take (length names) names))
-  told None grows = tt
-  told (Some l) grows = subst (λ (all : List (List ℕ)). GrowsBy old.opened (Some l) all) (sym (take_all (length names) names (omega arith))) grows
+  known : (o : Option (List (List ℕ))) → GrowsBy old.opened o names → OnSome o (GrowsBy old.opened o (take (length names) names))
+  known None grows = tt
+  known (Some l) grows = subst (λ (all : List (List ℕ)). GrowsBy old.opened (Some l) all) (sym (take_all (length names) names (omega arith))) grows
 
-  pub listed_opens : (result : Outcome) → IsPrinted (text ms) mid.out new.out between.writes now.writes result → OpensFront names old new result
+  pub listed_opens : (result : Outcome) → IsPrinted (text ms) mid.out new.out between.writes now.writes result → OpensPrefix names old new result
   listed_opens result printed = record {
     count = length names;
     exact = counted result printed;
     within = omega arith;
-    opened = told new.opened (subst (λ (o : Option (List (List ℕ))). GrowsBy old.opened o names) (sym (ap (λ (m : Meaning). m.opened) prints)) opened);
+    opened = known new.opened (subst (λ (o : Option (List (List ℕ))). GrowsBy old.opened o names) (sym (ap (λ (m : Meaning). m.opened) prints)) opened);
   }
 
   pub listed_stays : ReadsAndPrints old new

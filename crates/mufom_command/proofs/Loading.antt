@@ -1,4 +1,4 @@
--- An open, and the reads behind it.
+-- An open, and the reads after it.
 use Rattle.std.proofs.Common.{◌≡◌, ℕ, List, [], ◌∷◌, Option, Some, None, IfSome, OnSome, sym, ap, subst}
 use Rattle.mufom_host.specs.World.{Meaning, NamedFile, GrowsBy, KeepsAllButLeft, file_named}
 use Rattle.mufom_command.specs.Run.{FileHas, IsEnoughOf}

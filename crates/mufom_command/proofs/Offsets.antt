@@ -9,7 +9,7 @@ abbrev pub with_done : List Offset → Reading (List Offset) → Reading (List O
 with_done done (Ok r) = Ok (done ++ r.0, r.1)
 with_done done (Err stop) = Err stop
 
--- k more offsets, behind those that were read
+-- k more offsets, after those that were read
 abbrev pub offsets_from : ℕ → List Offset → List ℕ → Reading (List Offset)
 offsets_from k done rest = with_done done (offsets_in k rest)
 
@@ -27,12 +27,12 @@ with_done-and_then : (done : List Offset) (o : Offset) (answer : Reading (List O
 with_done-and_then done o (Ok r) = ap (λ (os : List Offset). Ok (os, r.1)) (sym (append_assoc done (o ∷ []) r.0))
 with_done-and_then done o (Err stop) = refl
 
-from_next : (k j : ℕ) (done : List Offset) (rest : List ℕ) (o : Offset) (behind : List ℕ) → k ≡ suc j → offset_in rest ≡ Ok (o, behind) → offsets_from k done rest ≡ offsets_from j (done ++ o ∷ []) behind
-from_next k j done rest o behind count is = rw (count, is) (with_done-and_then done o (offsets_in j behind))
+from_next : (k j : ℕ) (done : List Offset) (rest : List ℕ) (o : Offset) (after : List ℕ) → k ≡ suc j → offset_in rest ≡ Ok (o, after) → offsets_from k done rest ≡ offsets_from j (done ++ o ∷ []) after
+from_next k j done rest o after count is = rw (count, is) (with_done-and_then done o (offsets_in j after))
 
-pub offsets_from-next : (done : List Offset) (rest : List ℕ) (o : Offset) (behind : List ℕ) → length done < 8 → offset_in rest ≡ Ok (o, behind)
-    → offsets_from (8 - length done) done rest ≡ offsets_from (8 - length (done ++ o ∷ [])) (done ++ o ∷ []) behind
-offsets_from-next done rest o behind few is = from_next (8 - length done) (8 - length (done ++ o ∷ [])) done rest o behind (omega (arith, length-append done (o ∷ []), few)) is
+pub offsets_from-next : (done : List Offset) (rest : List ℕ) (o : Offset) (after : List ℕ) → length done < 8 → offset_in rest ≡ Ok (o, after)
+    → offsets_from (8 - length done) done rest ≡ offsets_from (8 - length (done ++ o ∷ [])) (done ++ o ∷ []) after
+offsets_from-next done rest o after few is = from_next (8 - length done) (8 - length (done ++ o ∷ [])) done rest o after (omega (arith, length-append done (o ∷ []), few)) is
 
 from_stop : (k j : ℕ) (done : List Offset) (rest : List ℕ) (stop : Stop) → k ≡ suc j → offset_in rest ≡ Err stop → offsets_from k done rest ≡ Err stop
 from_stop k j done rest stop count is = rw (count, is) refl

@@ -10,7 +10,7 @@ use Rattle.mufom_command.specs.declared.plain.Offset.{Offset}
 use Rattle.mufom_command.specs.declared.plain.SectionPart.{SectionPart}
 use Rattle.mufom_command.specs.Formats.{Format, ◌▹◌, nothing, byte, number, index, a_string, a_letter, counted}
 use Rattle.mufom_command.specs.Plain.{module_begin, descriptor, orders, part_offset, part_offsets, purposes, section_type, assigned, alignment, section_size, section_base, set_section, set_counter, constant, start, module_end, Header, header, full_header, section_part, DataPart, data_part, sized, Chain, IsChain}
-use Rattle.mufom_command.specs.Reading.{Reading, ◌>>=◌, byte_at, number_in, index_in, string_in, letter_in, counted_in, module_begin_in, offset_in, offsets_in, header_in, section_type_in, assigned_in, alignment_in, assigned_behind, section_part_in, set_section_in, constant_in, data_part_in, start_in, sized_in, chain_in}
+use Rattle.mufom_command.specs.Reading.{Reading, ◌>>=◌, byte_at, number_in, index_in, string_in, letter_in, counted_in, module_begin_in, offset_in, offsets_in, header_in, section_type_in, assigned_in, alignment_in, assigned_after, section_part_in, set_section_in, constant_in, data_part_in, start_in, sized_in, chain_in}
 use Rattle.mufom_command.proofs.Exact.{IsExact, both-exact, same-exact, step, pass, done, last, mapped-exact, first_known, nothing_known, sized-exact}
 use Rattle.mufom_command.proofs.FieldLaws.{byte-exact, number-exact, index-exact, string-exact, counted-exact}
 
@@ -32,7 +32,7 @@ module _ {X : Type 0} (known : List ℕ) (next : List ℕ → Reading X) (Q : X 
   absent : (b : ℕ) (input : List ℕ) → list_any (λ k. k == b) known ≡ false → read (b ∷ input) ≡ next (b ∷ input)
   absent b input is = rw is refl
 
-  got_of : (input : List ℕ) → AreBytes input → (x : X) (rest : List ℕ) → read input ≡ Ok (x, rest) → (front : List ℕ) × R x front × (input ≡ front ++ rest)
+  got_of : (input : List ℕ) → AreBytes input → (x : X) (rest : List ℕ) → read input ≡ Ok (x, rest) → (prefix : List ℕ) × R x prefix × (input ≡ prefix ++ rest)
   got_of [] fits x rest gives = absurd cc
   got_of (b ∷ input) fits x rest gives = elim (cases_Bool (list_any (λ k. k == b) known)) [
     | inl is ↦ let one = is_next.got input fits.1 x rest (sym (present b input is) ∙ gives) in
@@ -41,14 +41,14 @@ module _ {X : Type 0} (known : List ℕ) (next : List ℕ → Reading X) (Q : X 
         (one.0, ([], one.0, inl refl, one.1, refl), one.2)
   ]
 
-  only_of : (x : X) (front rest : List ℕ) → R x front → read (front ++ rest) ≡ Ok (x, rest)
-  only_of x front rest (letter, text, inl none, q, same) =
+  only_of : (x : X) (prefix rest : List ℕ) → R x prefix → read (prefix ++ rest) ≡ Ok (x, rest)
+  only_of x prefix rest (letter, text, inl none, q, same) =
       let begins = clear x text q in
-      let whole : front ++ rest ≡ text ++ rest = ap (λ (l : List ℕ). l ++ rest) (same ∙ ap (λ (l : List ℕ). l ++ text) none) in
+      let whole : prefix ++ rest ≡ text ++ rest = ap (λ (l : List ℕ). l ++ rest) (same ∙ ap (λ (l : List ℕ). l ++ text) none) in
       let starts : text ++ rest ≡ begins.0 ∷ (begins.1 ++ rest) = ap (λ (l : List ℕ). l ++ rest) begins.2 in
       ap read (whole ∙ starts) ∙ absent begins.0 (begins.1 ++ rest) begins.3 ∙ ap next (sym starts) ∙ is_next.only x text rest q
-  only_of x front rest (letter, text, inr (b, known_one, is), q, same) =
-      let whole : front ++ rest ≡ b ∷ (text ++ rest) = ap (λ (l : List ℕ). l ++ rest) (same ∙ ap (λ (l : List ℕ). l ++ text) is) in
+  only_of x prefix rest (letter, text, inr (b, known_one, is), q, same) =
+      let whole : prefix ++ rest ≡ b ∷ (text ++ rest) = ap (λ (l : List ℕ). l ++ rest) (same ∙ ap (λ (l : List ℕ). l ++ text) is) in
       ap read whole ∙ present b (text ++ rest) known_one ∙ is_next.only x text rest q
 
   cut_absent : (x : X) (text input rest : List ℕ) → Q x text → (rest ≡ [] → ⊥) → input ++ rest ≡ text → read input ≡ Err More
@@ -85,17 +85,17 @@ module _ {X : Type 0} (known : List ℕ) (next : List ℕ → Reading X) (Q : X 
   letter-exact = record { got = got_of; only = only_of; cut = cut_of; more = more_of; some = (is_next.some.0, is_next.some.1, ([], is_next.some.1, inl refl, is_next.some.2, refl)) }
 
 -- the same, where something is known of the value
-letter : {X : Type 0} (known : List ℕ) (next : List ℕ → Reading X) (K : X → Type 0) (Behind : X → Format) → IsExact next (λ x bytes. K x × Behind x bytes)
-    → ((x : X) → BeginsWithNone known (Behind x)) → IsExact (λ input. letter_in known input >>= λ r. next r.1) (λ x bytes. K x × (a_letter known ▹ Behind x) bytes)
-letter {X} known next K Behind is_next clear =
-    same-exact (λ input. letter_in known input >>= λ r. next r.1) (λ x. a_letter known ▹ (λ bytes. K x × Behind x bytes)) (λ x bytes. K x × (a_letter known ▹ Behind x) bytes)
-    (letter-exact known next (λ x bytes. K x × Behind x bytes) is_next (λ x bytes q. clear x bytes q.1))
+letter : {X : Type 0} (known : List ℕ) (next : List ℕ → Reading X) (K : X → Type 0) (After : X → Format) → IsExact next (λ x bytes. K x × After x bytes)
+    → ((x : X) → BeginsWithNone known (After x)) → IsExact (λ input. letter_in known input >>= λ r. next r.1) (λ x bytes. K x × (a_letter known ▹ After x) bytes)
+letter {X} known next K After is_next clear =
+    same-exact (λ input. letter_in known input >>= λ r. next r.1) (λ x. a_letter known ▹ (λ bytes. K x × After x bytes)) (λ x bytes. K x × (a_letter known ▹ After x) bytes)
+    (letter-exact known next (λ x bytes. K x × After x bytes) is_next (λ x bytes q. clear x bytes q.1))
     (λ x bytes p. (p.3.0, (p.0, p.1, p.2, p.3.1, p.4)))
     (λ x bytes p. (p.1.0, p.1.1, p.1.2, (p.0, p.1.3), p.1.4))
 
 -- what begins with another byte, and what begins with a string
 byte_clear : (known : List ℕ) (code : ℕ) (P : Format) → list_any (λ k. k == code) known ≡ false → BeginsWithNone known (byte code ▹ P)
-byte_clear known code P is bytes (front, back, f, p, same) = (code, back, same ∙ ap (λ (l : List ℕ). l ++ back) f, is)
+byte_clear known code P is bytes (prefix, back, f, p, same) = (code, back, same ∙ ap (λ (l : List ℕ). l ++ back) f, is)
 
 abbrev U : {X : Type 0} → X → Type 0
 U x = Unit {0}
@@ -132,8 +132,8 @@ pub alignment-exact : IsExact alignment_in alignment
 alignment-exact = first_known alignment_in alignment
     (pass (byte_at 0xE7) (byte 0xE7) (byte-exact 0xE7) assigned_in U assigned (nothing_known assigned_in assigned assigned-exact))
 
-pub assigned_behind-exact : (code letter : ℕ) → IsExact (assigned_behind code letter) (λ a. byte code ▹ byte letter ▹ assigned a)
-assigned_behind-exact code letter = first_known (assigned_behind code letter) (λ a. byte code ▹ byte letter ▹ assigned a)
+pub assigned_after-exact : (code letter : ℕ) → IsExact (assigned_after code letter) (λ a. byte code ▹ byte letter ▹ assigned a)
+assigned_after-exact code letter = first_known (assigned_after code letter) (λ a. byte code ▹ byte letter ▹ assigned a)
     (pass (byte_at code) (byte code) (byte-exact code) (λ rest. byte_at letter rest >>= λ r. assigned_in r.1) U (λ a. byte letter ▹ assigned a)
     (pass (byte_at letter) (byte letter) (byte-exact letter) assigned_in U assigned (nothing_known assigned_in assigned assigned-exact)))
 
@@ -182,15 +182,15 @@ made_section i alignment size base = record { index = i; alignment = alignment; 
 pub section_part-exact : IsExact section_part_in section_part
 section_part-exact = first_known section_part_in section_part
     (step section_type_in section_type section_type-exact
-    (λ i rest. alignment_in rest >>= λ a. assigned_behind 0xE2 0xD3 a.1 >>= λ s. assigned_behind 0xE2 0xCC s.1 >>= λ b. Ok (made_section i a.0 s.0 b.0, b.1))
+    (λ i rest. alignment_in rest >>= λ a. assigned_after 0xE2 0xD3 a.1 >>= λ s. assigned_after 0xE2 0xCC s.1 >>= λ b. Ok (made_section i a.0 s.0 b.0, b.1))
     (λ s. s.index) U (λ s. alignment s.alignment ▹ section_size s.size ▹ section_base s.base)
     (λ i. step alignment_in alignment alignment-exact
-    (λ a rest. assigned_behind 0xE2 0xD3 rest >>= λ s. assigned_behind 0xE2 0xCC s.1 >>= λ b. Ok (made_section i a s.0 b.0, b.1))
+    (λ a rest. assigned_after 0xE2 0xD3 rest >>= λ s. assigned_after 0xE2 0xCC s.1 >>= λ b. Ok (made_section i a s.0 b.0, b.1))
     (λ s. s.alignment) (λ s. U s × (s.index ≡ i)) (λ s. section_size s.size ▹ section_base s.base)
-    (λ a. step (assigned_behind 0xE2 0xD3) section_size (assigned_behind-exact 0xE2 0xD3)
-    (λ n rest. assigned_behind 0xE2 0xCC rest >>= λ b. Ok (made_section i a n b.0, b.1))
+    (λ a. step (assigned_after 0xE2 0xD3) section_size (assigned_after-exact 0xE2 0xD3)
+    (λ n rest. assigned_after 0xE2 0xCC rest >>= λ b. Ok (made_section i a n b.0, b.1))
     (λ s. s.size) (λ s. (U s × (s.index ≡ i)) × (s.alignment ≡ a)) (λ s. section_base s.base)
-    (λ n. last (assigned_behind 0xE2 0xCC) section_base (assigned_behind-exact 0xE2 0xCC) (made_section i a n) (λ s. s.base) (λ s. ((U s × (s.index ≡ i)) × (s.alignment ≡ a)) × (s.size ≡ n))
+    (λ n. last (assigned_after 0xE2 0xCC) section_base (assigned_after-exact 0xE2 0xCC) (made_section i a n) (λ s. s.base) (λ s. ((U s × (s.index ≡ i)) × (s.alignment ≡ a)) × (s.size ≡ n))
     (λ b. (((tt, refl), refl), refl)) (λ b. refl) (λ b s k e. λ j. made_section (k.0.0.1 j) (k.0.1 j) (k.1 j) (e j))))))
 
 abbrev made_data : ℕ → Assigned → List ℕ → DataPart
@@ -199,9 +199,9 @@ made_data section counter run = record { section = section; counter = counter; r
 pub data_part-exact : IsExact data_part_in data_part
 data_part-exact = first_known data_part_in data_part
     (step set_section_in set_section set_section-exact
-    (λ i rest. assigned_behind 0xE2 0xD0 rest >>= λ c. constant_in c.1 >>= λ r. Ok (made_data i c.0 r.0, r.1))
+    (λ i rest. assigned_after 0xE2 0xD0 rest >>= λ c. constant_in c.1 >>= λ r. Ok (made_data i c.0 r.0, r.1))
     (λ d. d.section) U (λ d. set_counter d.counter ▹ constant d.run)
-    (λ i. step (assigned_behind 0xE2 0xD0) set_counter (assigned_behind-exact 0xE2 0xD0)
+    (λ i. step (assigned_after 0xE2 0xD0) set_counter (assigned_after-exact 0xE2 0xD0)
     (λ c rest. constant_in rest >>= λ r. Ok (made_data i c r.0, r.1))
     (λ d. d.counter) (λ d. U d × (d.section ≡ i)) (λ d. constant d.run)
     (λ c. last constant_in constant constant-exact (made_data i c) (λ d. d.run) (λ d. (U d × (d.section ≡ i)) × (d.counter ≡ c))
@@ -217,12 +217,12 @@ offsets-exact zero = same-exact (offsets_in zero) (λ os bytes. (os ≡ []) × n
 offsets-exact (suc k) =
     both-exact offset_in part_offset offset-exact (λ o rest. offsets_in k rest >>= λ os. Ok (o ∷ os.0, os.1)) (λ o all bytes. (os : List Offset) × (all ≡ o ∷ os) × Offsets k os bytes)
     (λ o. mapped-exact (offsets_in k) (Offsets k) (offsets-exact k) (λ os. o ∷ os)) (Offsets (suc k)) join split where
-      join : (o : Offset) (all : List Offset) (front back : List ℕ) → part_offset o front → (os : List Offset) × (all ≡ o ∷ os) × Offsets k os back → Offsets (suc k) all (front ++ back)
-      join o all front back p (os, is, (count, spells)) = subst (λ (l : List Offset). Offsets (suc k) l (front ++ back)) (sym is) (ap suc count, (front, back, p, spells, refl))
+      join : (o : Offset) (all : List Offset) (prefix back : List ℕ) → part_offset o prefix → (os : List Offset) × (all ≡ o ∷ os) × Offsets k os back → Offsets (suc k) all (prefix ++ back)
+      join o all prefix back p (os, is, (count, spells)) = subst (λ (l : List Offset). Offsets (suc k) l (prefix ++ back)) (sym is) (ap suc count, (prefix, back, p, spells, refl))
 
-      split : (all : List Offset) (bytes : List ℕ) → Offsets (suc k) all bytes → (o : Offset) × (front : List ℕ) × (back : List ℕ) × part_offset o front × ((os : List Offset) × (all ≡ o ∷ os) × Offsets k os back) × (bytes ≡ front ++ back)
+      split : (all : List Offset) (bytes : List ℕ) → Offsets (suc k) all bytes → (o : Offset) × (prefix : List ℕ) × (back : List ℕ) × part_offset o prefix × ((os : List Offset) × (all ≡ o ∷ os) × Offsets k os back) × (bytes ≡ prefix ++ back)
       split [] bytes (count, spells) = absurd (omega arith)
-      split (o ∷ os) bytes (count, (front, back, p, spells', same)) = (o, front, back, p, (os, refl, (omega (arith, count), spells')), same)
+      split (o ∷ os) bytes (count, (prefix, back, p, spells', same)) = (o, prefix, back, p, (os, refl, (omega (arith, count), spells')), same)
 
 -- one format after another may be grouped as one likes
 group : (A B C : Format) (bytes : List ℕ) → (A ▹ (B ▹ C)) bytes → ((A ▹ B) ▹ C) bytes
@@ -231,30 +231,30 @@ group A B C bytes (a, rest, in_a, (b, c, in_b, in_c, two), one) = (a ++ b, c, (a
 ungroup : (A B C : Format) (bytes : List ℕ) → ((A ▹ B) ▹ C) bytes → (A ▹ (B ▹ C)) bytes
 ungroup A B C bytes (ab, c, (a, b, in_a, in_b, one), in_c, two) = (a, b ++ c, in_a, (b, c, in_b, in_c, refl), two ∙ ap (λ (l : List ℕ). l ++ c) one ∙ append_assoc a b c)
 
-behind : (A B C : Format) → ((bytes : List ℕ) → B bytes → C bytes) → (bytes : List ℕ) → (A ▹ B) bytes → (A ▹ C) bytes
-behind A B C f bytes (a, b, in_a, in_b, same) = (a, b, in_a, f b in_b, same)
+after : (A B C : Format) → ((bytes : List ℕ) → B bytes → C bytes) → (bytes : List ℕ) → (A ▹ B) bytes → (A ▹ C) bytes
+after A B C f bytes (a, b, in_a, in_b, same) = (a, b, in_a, f b in_b, same)
 
 abbrev made_header : ℕ → ℕ → List Offset → Header
 made_header bits maus offsets = record { bits = bits; maus = maus; offsets = offsets }
 
--- the descriptor and what stands behind it, field by field
+-- the descriptor and what stands after it, field by field
 abbrev Fields : Header → Format
 Fields h = byte 0xEC ▹ (number h.bits ▹ (number h.maus ▹ (a_letter orders ▹ Offsets 8 h.offsets)))
 
 to_rows : (h : Header) (bytes : List ℕ) → Fields h bytes → (descriptor h.bits h.maus ▹ Offsets 8 h.offsets) bytes
 to_rows h bytes p =
     let B = number h.bits in let M = number h.maus in let L = a_letter orders in let O = Offsets 8 h.offsets in
-    group (byte 0xEC) (B ▹ (M ▹ L)) O bytes (behind (byte 0xEC) (B ▹ (M ▹ (L ▹ O))) ((B ▹ (M ▹ L)) ▹ O) (λ l q. group B (M ▹ L) O l (behind B (M ▹ (L ▹ O)) ((M ▹ L) ▹ O) (group M L O) l q)) bytes p)
+    group (byte 0xEC) (B ▹ (M ▹ L)) O bytes (after (byte 0xEC) (B ▹ (M ▹ (L ▹ O))) ((B ▹ (M ▹ L)) ▹ O) (λ l q. group B (M ▹ L) O l (after B (M ▹ (L ▹ O)) ((M ▹ L) ▹ O) (group M L O) l q)) bytes p)
 
 from_rows : (h : Header) (bytes : List ℕ) → (descriptor h.bits h.maus ▹ Offsets 8 h.offsets) bytes → Fields h bytes
 from_rows h bytes p =
     let B = number h.bits in let M = number h.maus in let L = a_letter orders in let O = Offsets 8 h.offsets in
-    behind (byte 0xEC) ((B ▹ (M ▹ L)) ▹ O) (B ▹ (M ▹ (L ▹ O))) (λ l q. behind B ((M ▹ L) ▹ O) (M ▹ (L ▹ O)) (ungroup M L O) l (ungroup B (M ▹ L) O l q)) bytes (ungroup (byte 0xEC) (B ▹ (M ▹ L)) O bytes p)
+    after (byte 0xEC) ((B ▹ (M ▹ L)) ▹ O) (B ▹ (M ▹ (L ▹ O))) (λ l q. after B ((M ▹ L) ▹ O) (M ▹ (L ▹ O)) (ungroup M L O) l (ungroup B (M ▹ L) O l q)) bytes (ungroup (byte 0xEC) (B ▹ (M ▹ L)) O bytes p)
 
 -- the offsets begin with no letter of an order
 offsets_clear : (offsets : List Offset) → BeginsWithNone orders (Offsets 8 offsets)
 offsets_clear [] bytes p = absurd (omega (arith, p.0))
-offsets_clear (o ∷ offsets) bytes (count, (front, back, (e, rest, in_e, in_rest, one), in_back, two)) =
+offsets_clear (o ∷ offsets) bytes (count, (prefix, back, (e, rest, in_e, in_rest, one), in_back, two)) =
     (0xE2, rest ++ back, two ∙ ap (λ (l : List ℕ). l ++ back) (one ∙ ap (λ (l : List ℕ). l ++ rest) in_e), refl)
 
 header_letters : (bits maus : ℕ) → IsExact (λ input. letter_in orders input >>= λ r. offsets_in 8 r.1 >>= λ os. Ok (made_header bits maus os.0, os.1)) (λ h bytes. ((U h × (h.bits ≡ bits)) × (h.maus ≡ maus)) × (a_letter orders ▹ Offsets 8 h.offsets) bytes)
@@ -278,13 +278,13 @@ header-exact = same-exact header_in (λ h bytes. U h × (module_begin ▹ Fields
     (pass module_begin_in module_begin module_begin-exact (λ rest. byte_at 0xEC rest >>= λ c. number_in c.1 >>= λ b. number_in b.1 >>= λ m. letter_in orders m.1 >>= λ r. offsets_in 8 r.1 >>= λ os. Ok (made_header b.0 m.0 os.0, os.1)) U Fields header_fields)
     to from where
       to : (h : Header) (bytes : List ℕ) → U h × (module_begin ▹ Fields h) bytes → full_header h bytes
-      to h bytes (_, (front, back, begins, fields, same)) =
+      to h bytes (_, (prefix, back, begins, fields, same)) =
           let rows = to_rows h back fields in
-          (rows.3.0, (front, back, begins, (rows.0, rows.1, rows.2, rows.3.1, rows.4), same))
+          (rows.3.0, (prefix, back, begins, (rows.0, rows.1, rows.2, rows.3.1, rows.4), same))
 
       from : (h : Header) (bytes : List ℕ) → full_header h bytes → U h × (module_begin ▹ Fields h) bytes
-      from h bytes (count, (front, back, begins, (one, two, described, offsets, rows), same)) =
-          (tt, (front, back, begins, from_rows h back (one, two, described, (count, offsets), rows), same))
+      from h bytes (count, (prefix, back, begins, (one, two, described, offsets, rows), same)) =
+          (tt, (prefix, back, begins, from_rows h back (one, two, described, (count, offsets), rows), same))
 
 abbrev made_chain : Header × ℕ → SectionPart × ℕ → DataPart × ℕ → ℕ × ℕ → Chain
 made_chain header section loads start = record { header = header; section = section; loads = loads; start = start }

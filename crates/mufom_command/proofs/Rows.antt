@@ -26,7 +26,7 @@ row_text-drop first a i bytes in_it =
     let cons : drop i bytes ≡ get_or bytes i 0 ∷ rest = rw add-one (drop-cons bytes i 0 in_it) in
     ap (λ (l : List ℕ). row_text first a l) cons ∙ ap (λ (last : Bool). byte_text first last a (get_or bytes i 0) ++ row_text false (a + 1) rest) (is_last-length i bytes in_it)
 
--- the row goes on behind a byte
+-- the row goes on after a byte
 pub row_text-next : (done : Text) (at i : ℕ) (bytes : List ℕ) → i < length bytes
     → done ++ row_text (i == 0) (at + i) (drop i bytes) ≡ (done ++ byte_text (i == 0) (i + 1 == length bytes) (at + i) (get_or bytes i 0)) ++ row_text (i + 1 == 0) (at + (i + 1)) (drop (i + 1) bytes)
 row_text-next done at i bytes in_it =

@@ -11,11 +11,11 @@ use Rattle.mufom_read.specs.declared.refusal.ReadRefusal.{ReadRefusal}
 use Rattle.mufom_read.specs.Judging.{IsJudged, IsModule, module_of, refusal}
 use Rattle.mufom_read.specs.Laws.{HasOneJudgment}
 use Rattle.mufom_read.specs.Source.{IsPastLimit, IsRefusedWithin}
-use Rattle.mufom_command.specs.Inputs.{AreAccepted, AreModules, ComeTo, HaveBytes, HaveOneVerdict, HoldBytes, StopsAt, Verdict, accepted, past_limit, refused, room_behind}
+use Rattle.mufom_command.specs.Inputs.{AreAccepted, AreModules, ComeTo, HaveBytes, HaveOneVerdict, HoldBytes, StopsAt, Verdict, accepted, past_limit, refused, room_after}
 
 -- ---- lists with a name in two places
 
--- the name in the earlier place stands in front of the later one
+-- the name in the earlier place stands before the later one
 split_before : {A : Type 0} (before later after rest : List A) (x y : A) → before ++ x ∷ after ≡ later ++ y ∷ rest → length before < length later → (between : List A) × (later ≡ before ++ x ∷ between)
 split_before [] [] after rest x y same less = absurd (omega (arith, less))
 split_before [] (z ∷ later) after rest x y same less = (later, cc)
@@ -49,15 +49,15 @@ same_bytes (x ∷ a) (y ∷ b) same =
 
 -- an accepted file within a list of them, and those before it
 record Cut (reads_debug : Bool) (files : List NamedFile) (before contents : List (List ℕ)) (name : List ℕ) : Type 0 where
-  front : List (List ℕ)
+  prefix : List (List ℕ)
   bytes : List ℕ
   back : List (List ℕ)
   modules : List Parts
   own : Parts
-  whole : contents ≡ front ++ bytes ∷ back
-  front_bytes : HaveBytes files before front
+  whole : contents ≡ prefix ++ bytes ∷ back
+  prefix_bytes : HaveBytes files before prefix
   there : file_named name files ≡ Some bytes
-  front_modules : AreModules reads_debug front modules
+  prefix_modules : AreModules reads_debug prefix modules
   is : IsModule reads_debug bytes own
 
 cut : (reads_debug : Bool) (files : List NamedFile) (before after contents : List (List ℕ)) (name : List ℕ) (ms : List Parts) → HaveBytes files (before ++ name ∷ after) contents → AreModules reads_debug contents ms → Cut reads_debug files before contents name
@@ -68,15 +68,15 @@ cut reads_debug files before after [] name [] have are = absurd (none before hav
 cut reads_debug files before after [] name (m ∷ ms) have are = absurd are
 cut reads_debug files before after (bytes ∷ contents) name [] have are = absurd are
 cut reads_debug files [] after (bytes ∷ contents) name (m ∷ ms) have are = record {
-  front = [];
+  prefix = [];
   bytes = bytes;
   back = contents;
   modules = [];
   own = m;
   whole = refl;
-  front_bytes = refl;
+  prefix_bytes = refl;
   there = cc;
-  front_modules = tt;
+  prefix_modules = tt;
   is = are.0;
 }
 cut reads_debug files (x ∷ before) after (bytes ∷ contents) name (m ∷ ms) have are =
@@ -84,15 +84,15 @@ cut reads_debug files (x ∷ before) after (bytes ∷ contents) name (m ∷ ms) 
     let tail : HaveBytes files (before ++ name ∷ after) contents = cc in
     let more = cut reads_debug files before after contents name ms tail are.1 in
     record {
-      front = bytes ∷ more.front;
+      prefix = bytes ∷ more.prefix;
       bytes = more.bytes;
       back = more.back;
       modules = m ∷ more.modules;
       own = more.own;
       whole = ap (λ (rest : List (List ℕ)). bytes ∷ rest) more.whole;
-      front_bytes = (λ i. head i ∷ more.front_bytes i);
+      prefix_bytes = (λ i. head i ∷ more.prefix_bytes i);
       there = more.there;
-      front_modules = (are.0, more.front_modules);
+      prefix_modules = (are.0, more.prefix_modules);
       is = more.is;
     }
 
@@ -114,9 +114,9 @@ module _ (reads_debug : Bool) (judged : HasOneJudgment) (files : List NamedFile)
       let first = same_module name bytes m n head are.0 again.0 in
       let rest = same_modules names contents ms ns tail are.1 again.1 in (λ i. first i ∷ rest i)
 
-  -- what is refused within a limit is a refusal of so many of its first bytes
+  -- what is refused within a limit is a refusal of the given number of its first bytes
   judged_within : (limit : ℕ) (bytes : List ℕ) (place : ℕ) (reason : Reason) → IsRefusedWithin reads_debug limit bytes place reason → IsJudged reads_debug (take limit bytes) (refusal place reason)
-  judged_within limit bytes place reason (inl front) = inl front
+  judged_within limit bytes place reason (inl prefix) = inl prefix
   judged_within limit bytes place reason (inr (fits, whole)) = subst (λ (l : List ℕ). IsJudged reads_debug l (refusal place reason)) (sym (take_all limit bytes fits)) whole
 
   module_within : (limit : ℕ) (bytes : List ℕ) (m : Parts) → IsModule reads_debug bytes m → length bytes ≤ limit → IsJudged reads_debug (take limit bytes) (module_of m)
@@ -142,15 +142,15 @@ module _ (reads_debug : Bool) (judged : HasOneJudgment) (files : List NamedFile)
   unfolding IsStop
   never_inside P is_stop names contents ms number s more them =
       let c = cut reads_debug files s.before more contents s.name ms them.bytes them.modules in
-      let same_front : c.front ≡ s.contents = same_bytes c.front s.contents (sym c.front_bytes ∙ s.accepted.bytes) in
+      let same_prefix : c.prefix ≡ s.contents = same_bytes c.prefix s.contents (sym c.prefix_bytes ∙ s.accepted.bytes) in
       let same_own : s.bytes ≡ c.bytes = let both : Some s.bytes ≡ Some c.bytes = sym s.there ∙ c.there in cc in
-      let sum = sum_by-append length c.front (c.bytes ∷ c.back) in
+      let sum = sum_by-append length c.prefix (c.bytes ∷ c.back) in
       let first = sum_by-cons length c.bytes c.back in
       let all = ap (λ (l : List (List ℕ)). sum_by length l) c.whole in
       let within = them.within in
-      let fits : length c.bytes ≤ room_behind c.front = omega (arith, sum, first, all, within) in
-      is_stop (room_behind c.front) s.name c.bytes c.own c.there c.is fits
-      (subst (λ (l : List ℕ). P (room_behind c.front) l) same_own (subst (λ (l : List (List ℕ)). P (room_behind l) s.bytes) (sym same_front) s.stops))
+      let fits : length c.bytes ≤ room_after c.prefix = omega (arith, sum, first, all, within) in
+      is_stop (room_after c.prefix) s.name c.bytes c.own c.there c.is fits
+      (subst (λ (l : List ℕ). P (room_after c.prefix) l) same_own (subst (λ (l : List (List ℕ)). P (room_after l) s.bytes) (sym same_prefix) s.stops))
 
   never_all : (P : ℕ → List ℕ → Type 0) → IsStop P → (names contents : List (List ℕ)) (ms : List Parts) (number : ℕ) → AreAccepted reads_debug files names contents ms → StopsAt reads_debug files names number P → ⊥
   never_all P is_stop names contents ms number them s = never_inside P is_stop names contents ms number s s.after (subst (λ (l : List (List ℕ)). AreAccepted reads_debug files l contents ms) s.split them)
@@ -169,12 +169,12 @@ module _ (reads_debug : Bool) (judged : HasOneJudgment) (files : List NamedFile)
       let split = split_same s.before t.before s.after t.after s.name t.name (sym s.split ∙ t.split) (first ∙ is ∙ sym second) in
       let before = same_bytes s.contents t.contents (sym s.accepted.bytes ∙ ap (λ (l : List (List ℕ)). map (λ name. file_named name files) l) split.0 ∙ t.accepted.bytes) in
       let own : s.bytes ≡ t.bytes = let both : Some s.bytes ≡ Some t.bytes = sym s.there ∙ ap (λ (name : List ℕ). file_named name files) split.1 ∙ t.there in cc in (
-        room_behind s.contents,
+        room_after s.contents,
         s.name,
         s.bytes,
         s.there,
         s.stops,
-        subst (λ (l : List (List ℕ)). Q (room_behind l) s.bytes) (sym before) (subst (λ (l : List ℕ). Q (room_behind t.contents) l) (sym own) t.stops),
+        subst (λ (l : List (List ℕ)). Q (room_after l) s.bytes) (sym before) (subst (λ (l : List ℕ). Q (room_after t.contents) l) (sym own) t.stops),
       )
 
   one_number : (P Q : ℕ → List ℕ → Type 0) → IsStop P → IsStop Q → (names : List (List ℕ)) (i j : ℕ) → StopsAt reads_debug files names i P → StopsAt reads_debug files names j Q → i ≡ j
@@ -205,7 +205,7 @@ module _ (reads_debug : Bool) (judged : HasOneJudgment) (files : List NamedFile)
       let there = same_place (λ limit bytes. IsRefusedWithin reads_debug limit bytes r.place r.reason) (λ limit bytes. IsPastLimit reads_debug limit bytes) names i j s t is in
       excluded there.0 there.2 there.4 there.5 where
         excluded : (limit : ℕ) (bytes : List ℕ) → IsRefusedWithin reads_debug limit bytes r.place r.reason → IsPastLimit reads_debug limit bytes → ⊥
-        excluded limit bytes (inl front) past = past.1 r.place r.reason front
+        excluded limit bytes (inl prefix) past = past.1 r.place r.reason prefix
         excluded limit bytes (inr whole) past = let fits = whole.0 in let more = past.0 in omega (arith, fits, more)
 
   all_same : (names : List (List ℕ)) (ms ns : List Parts) → ComeTo reads_debug files names (accepted ms) → ComeTo reads_debug files names (accepted ns) → ms ≡ ns

@@ -12,16 +12,16 @@ use Rattle.mufom_command.specs.declared.outcome.Outcome.TheVariants as outcome
 use Rattle.mufom_command.specs.declared.outcome.Refusal.TheVariants as refusal
 use Rattle.mufom_command.specs.Run.{FileHas}
 
--- the bytes are those of this module, they are so many, and no more than may be read
+-- the bytes are those of this module, their number is this, and no more than may be read
 abbrev pub HasModule : Bool → ℕ → Parts → ℕ → List ℕ → Type 0
 HasModule reads_debug limit m count bytes = IsModule reads_debug bytes m × (count ≡ length bytes) × (length bytes ≤ limit)
 
 -- the answer where the file with this number was not read
-abbrev pub stop_of : ℕ → SourceStop → Outcome
-stop_of number (stop.Refused r) = outcome.Refused (refusal.Read number r)
-stop_of number stop.Limit = outcome.Refused (refusal.InputLimit number)
-stop_of number stop.Fault = outcome.ReadFault (input.File number)
-stop_of number stop.NoMemory = outcome.NoMemory
+abbrev pub outcome_of_source_stop : ℕ → SourceStop → Outcome
+outcome_of_source_stop number (stop.Refused r) = outcome.Refused (refusal.Read number r)
+outcome_of_source_stop number stop.Limit = outcome.Refused (refusal.InputLimit number)
+outcome_of_source_stop number stop.Fault = outcome.ReadFault (input.File number)
+outcome_of_source_stop number stop.NoMemory = outcome.NoMemory
 
 -- Why the file with this name and number was not read.
 abbrev pub FileStops : Bool → List ℕ → ℕ → ℕ → Option (List NamedFile) → Faults → Faults → Outcome → Type 0

@@ -9,7 +9,7 @@ Format = List ℕ → Type 0
 -- the bytes of the first format, and then those of the second
 infixr 20 ◌▹◌
 abbrev pub ◌▹◌ : Format → Format → Format
-(first ▹ second) bytes = (front : List ℕ) × (back : List ℕ) × first front × second back × (bytes ≡ front ++ back)
+(first ▹ second) bytes = (prefix : List ℕ) × (back : List ℕ) × first prefix × second back × (bytes ≡ prefix ++ back)
 
 -- no bytes
 abbrev pub nothing : Format
@@ -35,10 +35,10 @@ index i = number_below (2 ^ 32) i
 abbrev pub a_string : Format
 a_string bytes = (text : List ℕ) × SpellsString text bytes
 
--- one of these bytes, or none: the field behind it begins with none of them
+-- one of these bytes, or none: the field after it begins with none of them
 abbrev pub a_letter : List ℕ → Format
 a_letter known bytes = (bytes ≡ []) ⊎ ((b : ℕ) × (list_any (λ k. k == b) known ≡ true) × (bytes ≡ b ∷ []))
 
--- a count of at most 65,535, and so many bytes
+-- a count of at most 65,535, and the given number of bytes
 abbrev pub counted : List ℕ → Format
 counted run bytes = (count : List ℕ) × number_below 65536 (length run) count × AreBytes run × (bytes ≡ count ++ run)

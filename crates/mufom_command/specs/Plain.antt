@@ -73,7 +73,7 @@ module_end = byte 0xE1
 
 -- ---- the chain of these records
 
--- what the header says
+-- what the header states
 pub record Header : Type 0 where
   pub bits : ℕ
   pub maus : ℕ
@@ -178,7 +178,7 @@ BeginsModule (b ∷ _) = b ≡ 0xE0
 abbrev pub most_bytes : ℕ
 most_bytes = 1048576
 
--- the bytes are the front of a chain, and not all of it
+-- the bytes are the prefix of a chain, and not all of it
 abbrev pub IsCutOffChain : List ℕ → Type 0
 IsCutOffChain bytes = (c : Chain) × IsCutOff (IsChain c) bytes
 

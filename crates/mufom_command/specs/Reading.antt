@@ -1,10 +1,10 @@
--- What reading the records of a plain module answers, field by field from the left: a value and the bytes behind
+-- What reading the records of a plain module answers, field by field from the left: a value and the bytes after
 -- it, that more bytes are wanted, or that no bytes that may follow make it such a module.
 use Rattle.std.specs.Prelude.{ℕ, zero, suc, ◌-◌, ◌^◌, List, [], ◌∷◌, ◌++◌, length, take, drop, Result, Ok, Err, ◌==◌, nat_lt, if◌then◌else◌}
 use Rattle.std.specs.List.{list_any}
 use Rattle.mufom_numbers.specs.declared.taken.Span.{Span}
 use Rattle.mufom_numbers.specs.declared.taken.Taken.{Taken}
-use Rattle.mufom_numbers.specs.declared.taken.Taken.TheVariants.{Got, More as WantsMore, Bad}
+use Rattle.mufom_numbers.specs.declared.taken.Taken.TheVariants.{Got, More as NeedsMore, Bad}
 use Rattle.mufom_numbers.specs.Spelling.{number_at, string_at}
 use Rattle.mufom_command.specs.declared.fields.Stop.{Stop}
 use Rattle.mufom_command.specs.declared.fields.Stop.TheVariants.{More, Other}
@@ -13,7 +13,7 @@ use Rattle.mufom_command.specs.declared.plain.Offset.{Offset}
 use Rattle.mufom_command.specs.declared.plain.SectionPart.{SectionPart}
 use Rattle.mufom_command.specs.Plain.{Header, DataPart, Chain, orders, purposes}
 
--- a value and the bytes behind it
+-- a value and the bytes after it
 abbrev pub Reading : Type 0 → Type 0
 Reading X = Result (X × List ℕ) Stop
 
@@ -32,15 +32,15 @@ abbrev pub byte_at : ℕ → List ℕ → Reading (Unit {0})
 byte_at code [] = Err More
 byte_at code (b ∷ rest) = if b == code then Ok (tt, rest) else Err Other
 
-abbrev pub number_behind : List ℕ → Taken ℕ → Reading ℕ
-number_behind input (Got n used) = Ok (n, drop used input)
-number_behind input WantsMore = Err More
-number_behind input (Bad offset reason) = Err Other
+abbrev pub number_after : List ℕ → Taken ℕ → Reading ℕ
+number_after input (Got n used) = Ok (n, drop used input)
+number_after input NeedsMore = Err More
+number_after input (Bad offset reason) = Err Other
 
 abbrev pub number_in : List ℕ → Reading ℕ
-number_in input = number_behind input (number_at input)
+number_in input = number_after input (number_at input)
 
--- so many zeros
+-- the given number of zeros
 abbrev pub zeros : ℕ → List ℕ
 zeros zero = []
 zeros (suc k) = 0 ∷ zeros k
@@ -49,28 +49,28 @@ abbrev pub taken_or_zero : Taken ℕ → ℕ
 taken_or_zero (Got n used) = n
 taken_or_zero _ = 0
 
--- The least number that these bytes, the front of a spelling, may become: the bytes that are missing are zeros.
+-- The least number that these bytes, the prefix of a spelling, may become: the bytes that are missing are zeros.
 abbrev pub least_number : List ℕ → ℕ
 least_number input = taken_or_zero (number_at (input ++ zeros (9 - length input)))
 
-abbrev pub below_behind : ℕ → List ℕ → Reading ℕ → Reading ℕ
-below_behind limit input (Ok r) = if nat_lt r.0 limit then Ok r else Err Other
-below_behind limit input (Err More) = if nat_lt (least_number input) limit then Err More else Err Other
-below_behind limit input (Err Other) = Err Other
+abbrev pub below_after : ℕ → List ℕ → Reading ℕ → Reading ℕ
+below_after limit input (Ok r) = if nat_lt r.0 limit then Ok r else Err Other
+below_after limit input (Err More) = if nat_lt (least_number input) limit then Err More else Err Other
+below_after limit input (Err Other) = Err Other
 
 abbrev pub number_below_in : ℕ → List ℕ → Reading ℕ
-number_below_in limit input = below_behind limit input (number_in input)
+number_below_in limit input = below_after limit input (number_in input)
 
 abbrev pub index_in : List ℕ → Reading ℕ
 index_in input = number_below_in (2 ^ 32) input
 
-abbrev pub string_behind : List ℕ → Taken Span → Reading (Unit {0})
-string_behind input (Got span used) = Ok (tt, drop used input)
-string_behind input WantsMore = Err More
-string_behind input (Bad offset reason) = Err Other
+abbrev pub string_after : List ℕ → Taken Span → Reading (Unit {0})
+string_after input (Got span used) = Ok (tt, drop used input)
+string_after input NeedsMore = Err More
+string_after input (Bad offset reason) = Err Other
 
 abbrev pub string_in : List ℕ → Reading (Unit {0})
-string_in input = string_behind input (string_at input)
+string_in input = string_after input (string_at input)
 
 abbrev pub letter_in : List ℕ → List ℕ → Reading (Unit {0})
 letter_in known [] = Err More
@@ -139,8 +139,8 @@ alignment_in input = do
   assigned_in code.1
 
 -- a number that a record of two bytes assigns to an index
-abbrev pub assigned_behind : ℕ → ℕ → List ℕ → Reading Assigned
-assigned_behind code letter input = do
+abbrev pub assigned_after : ℕ → ℕ → List ℕ → Reading Assigned
+assigned_after code letter input = do
   first ← byte_at code input
   second ← byte_at letter first.1
   assigned_in second.1
@@ -149,8 +149,8 @@ abbrev pub section_part_in : List ℕ → Reading SectionPart
 section_part_in input = do
   i ← section_type_in input
   alignment ← alignment_in i.1
-  size ← assigned_behind 0xE2 0xD3 alignment.1
-  base ← assigned_behind 0xE2 0xCC size.1
+  size ← assigned_after 0xE2 0xD3 alignment.1
+  base ← assigned_after 0xE2 0xCC size.1
   Ok (record { index = i.0; alignment = alignment.0; size = size.0; base = base.0 }, base.1)
 
 abbrev pub set_section_in : List ℕ → Reading ℕ
@@ -166,7 +166,7 @@ constant_in input = do
 abbrev pub data_part_in : List ℕ → Reading DataPart
 data_part_in input = do
   section ← set_section_in input
-  counter ← assigned_behind 0xE2 0xD0 section.1
+  counter ← assigned_after 0xE2 0xD0 section.1
   run ← constant_in counter.1
   Ok (record { section = section.0; counter = counter.0; run = run.0 }, run.1)
 

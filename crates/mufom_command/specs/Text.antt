@@ -8,7 +8,7 @@ use Rattle.mufom_module.specs.declared.module.Parts.{Parts}
 pub use Rattle.mufom_text.specs.Words.{Text, line, quoted, quoted_byte, stands_for_itself}
 use Rattle.mufom_command.specs.Plain.{Image}
 
--- an address in upper-case hexadecimal, two digits for each of so many units
+-- an address in upper-case hexadecimal, two digits for each of the given number of units
 abbrev pub address : ℕ → ℕ → Text
 address maus a = encode_upper (bytes_high_first maus a)
 
@@ -45,7 +45,7 @@ is_item (value_mark name value) = true
 abbrev pub item_count : List DebugMark → ℕ
 item_count marks = length (filter is_item marks)
 
--- what a line says behind the name
+-- what a line states after the name
 abbrev pub counts_text : Parts → Text
 counts_text m = codes ": sections " ++ decimal (length m.sections) ++ codes " publics " ++ decimal (length m.names.publics)
     ++ codes " references " ++ decimal (length m.names.references) ++ codes " loads " ++ decimal (length m.loads)

@@ -5,7 +5,7 @@ ghost use Rattle.std.specs.String.{string_bytes};
 ghost use Rattle.mufom_host.specs.World.{GrowsBy, KeepsAllButComplaints, KeepsAllButErr, KeepsAllButOut, KeepsAllButWrites};
 ghost use Rattle.mufom_command.specs.Complaint.{complaint};
 ghost use Rattle.mufom_command.specs.Plain.{IsPlainModule, Refuses, Image as PlainImage};
-ghost use Rattle.mufom_command.specs.Run.{Answers, Complains, Dumps, IsPrinted, IsToldAs, Lists, MakesNothing, NoneFalls, OpensFront, ReadsAndPrints, Tells, stop_answer};
+ghost use Rattle.mufom_command.specs.Run.{Answers, Complains, Dumps, IsPrinted, IsPrintedAs, Lists, MakesNothing, NoneFalls, OpensPrefix, ReadsAndPrints, Reveals, stop_answer};
 ghost use Rattle.mufom_command.specs.Text.{check_text, dump_text};
 ghost use Rattle.mufom_text.specs.Show.{module_text};
 ghost use Rattle.mufom_words.specs.Answer.{answer_of};
@@ -40,7 +40,7 @@ fn located_text(alloc: Global, bytes: &[u8]) -> Result<Vec<u8>, Outcome>
     }
 }
 
-// Dumps the file with this name; the answer is not complained yet.
+// Dumps the file with this name; the answer is whose error line is not printed yet.
 fn dump<H: Host>(alloc: Global, name: &str, host: &mut H) -> Outcome
     ensures answer { Dumps name.now (H.meaning host.old) (H.meaning host.new) (H.faults host.old) (H.faults host.new) result }
     ensures opened { OnSome (H.meaning host.new).opened (GrowsBy (H.meaning host.old).opened (H.meaning host.new).opened (name.now ∷ [])) }
@@ -61,7 +61,7 @@ fn dump<H: Host>(alloc: Global, name: &str, host: &mut H) -> Outcome
     }
 }
 
-// Prints a line for each module; the answer is not complained yet.
+// Prints a line for each module; the answer is whose error line is not printed yet.
 fn print_lines<H: Host>(alloc: Global, modules: &[Module], host: &mut H) -> Outcome
     ensures answer { IsPrinted (check_text modules.now) (H.meaning host.old).out (H.meaning host.new).out (H.faults host.old).writes (H.faults host.new).writes result }
     ensures stays { KeepsAllButOut (H.meaning host.old) (H.meaning host.new) }
@@ -77,7 +77,7 @@ fn print_lines<H: Host>(alloc: Global, modules: &[Module], host: &mut H) -> Outc
     }
 }
 
-// Prints the text of one module; the answer is not complained yet.
+// Prints the text of one module; the answer is whose error line is not printed yet.
 fn print_text<H: Host>(alloc: Global, modules: &[Module], host: &mut H) -> Outcome
     requires { length modules.now ≡ 1 }
     ensures answer { IsPrinted (flat_map module_text modules.now) (H.meaning host.old).out (H.meaning host.new).out (H.faults host.old).writes (H.faults host.new).writes result }
@@ -92,11 +92,11 @@ fn print_text<H: Host>(alloc: Global, modules: &[Module], host: &mut H) -> Outco
     }
 }
 
-// Reads the files with these names and prints a line for each; the answer is not complained yet.
+// Reads the files with these names and prints a line for each; the answer is whose error line is not printed yet.
 fn check<H: Host>(alloc: Global, names: &[Text], reads_debug: bool, host: &mut H) -> Outcome
     requires { length names.now < 2 ^ 32 }
     ensures answer { Lists reads_debug check_text names.now (H.meaning host.old) (H.meaning host.new) (H.faults host.old) (H.faults host.new) result }
-    ensures opened { OpensFront names.now (H.meaning host.old) (H.meaning host.new) result }
+    ensures opened { OpensPrefix names.now (H.meaning host.old) (H.meaning host.new) result }
     ensures stays { ReadsAndPrints (H.meaning host.old) (H.meaning host.new) }
     ensures counts { NoneFalls (H.faults host.old) (H.faults host.new) }
 {
@@ -106,11 +106,11 @@ fn check<H: Host>(alloc: Global, names: &[Text], reads_debug: bool, host: &mut H
     }
 }
 
-// Reads the one file of these names and prints its text; the answer is not complained yet.
+// Reads the one file of these names and prints its text; the answer is whose error line is not printed yet.
 fn show<H: Host>(alloc: Global, names: &[Text], reads_debug: bool, host: &mut H) -> Outcome
     requires { length names.now ≡ 1 }
     ensures answer { Lists reads_debug (λ ms. flat_map module_text ms) names.now (H.meaning host.old) (H.meaning host.new) (H.faults host.old) (H.faults host.new) result }
-    ensures opened { OpensFront names.now (H.meaning host.old) (H.meaning host.new) result }
+    ensures opened { OpensPrefix names.now (H.meaning host.old) (H.meaning host.new) result }
     ensures stays { ReadsAndPrints (H.meaning host.old) (H.meaning host.new) }
     ensures counts { NoneFalls (H.faults host.old) (H.faults host.new) }
 {
@@ -121,8 +121,8 @@ fn show<H: Host>(alloc: Global, names: &[Text], reads_debug: bool, host: &mut H)
 }
 
 // Complains a line; where that fails the line, or its end, is lost.
-fn tell<H: Host>(line: &[u8], host: &mut H)
-    ensures tells { Tells (H.meaning host.old) (H.meaning host.new) (H.faults host.old) (H.faults host.new) line.now }
+fn print_error<H: Host>(line: &[u8], host: &mut H)
+    ensures reveals { Reveals (H.meaning host.old) (H.meaning host.new) (H.faults host.old) (H.faults host.new) line.now }
     ensures stays { KeepsAllButErr (H.meaning host.old) (H.meaning host.new) }
     ensures counts { KeepsAllButComplaints (H.faults host.old) (H.faults host.new) }
     ensures later { (H.faults host.old).complaints ≤ (H.faults host.new).complaints }
@@ -136,19 +136,19 @@ fn tell<H: Host>(line: &[u8], host: &mut H)
 // Complains that there is no memory.
 fn out_of_memory<H: Host>(host: &mut H) -> Outcome
     ensures same { result ≡ Outcome.NoMemory }
-    ensures tells { Tells (H.meaning host.old) (H.meaning host.new) (H.faults host.old) (H.faults host.new) (complaint Outcome.NoMemory) }
+    ensures reveals { Reveals (H.meaning host.old) (H.meaning host.new) (H.faults host.old) (H.faults host.new) (complaint Outcome.NoMemory) }
     ensures stays { KeepsAllButErr (H.meaning host.old) (H.meaning host.new) }
     ensures counts { KeepsAllButComplaints (H.faults host.old) (H.faults host.new) }
     ensures later { (H.faults host.old).complaints ≤ (H.faults host.new).complaints }
 {
-    tell(b"out of memory\n", host);
+    print_error(b"out of memory\n", host);
     Outcome::NoMemory
 }
 
-// Complains an outcome that is not `Done`, which then stays what it is. Where there is no memory
+// Prints the error line of an outcome that is not `Done`, which then stays what it is. Where there is no memory
 // for the line of a refused input or a read fault, that is the outcome.
 fn complain<H: Host>(alloc: Global, outcome: Outcome, host: &mut H) -> Outcome
-    ensures same { IsToldAs outcome result }
+    ensures same { IsPrintedAs outcome result }
     ensures complains { Complains (H.meaning host.old) (H.meaning host.new) (H.faults host.old) (H.faults host.new) result }
     ensures stays { KeepsAllButErr (H.meaning host.old) (H.meaning host.new) }
     ensures counts { KeepsAllButComplaints (H.faults host.old) (H.faults host.new) }
@@ -156,15 +156,15 @@ fn complain<H: Host>(alloc: Global, outcome: Outcome, host: &mut H) -> Outcome
 {
     match outcome {
         Outcome::Done => {}
-        Outcome::Usage(fault) => tell(usage_line(fault).as_bytes(), host),
-        Outcome::WriteFault => tell(b"write fault\n", host),
-        Outcome::NoMemory => tell(b"out of memory\n", host),
+        Outcome::Usage(fault) => print_error(usage_line(fault).as_bytes(), host),
+        Outcome::WriteFault => print_error(b"write fault\n", host),
+        Outcome::NoMemory => print_error(b"out of memory\n", host),
         Outcome::Refused(refusal) => match refusal_line(alloc, refusal) {
-            Ok(line) => tell(line.as_bytes(), host),
+            Ok(line) => print_error(line.as_bytes(), host),
             Err(NoMemory) => return out_of_memory(host),
         },
         Outcome::ReadFault(input) => match fault_line(alloc, input) {
-            Ok(line) => tell(line.as_bytes(), host),
+            Ok(line) => print_error(line.as_bytes(), host),
             Err(NoMemory) => return out_of_memory(host),
         },
     }
@@ -172,7 +172,7 @@ fn complain<H: Host>(alloc: Global, outcome: Outcome, host: &mut H) -> Outcome
 }
 
 // The answer to words that are no command.
-fn stopped(stop: WordsStop) -> Outcome
+fn outcome_of_stop(stop: WordsStop) -> Outcome
     ensures { result ≡ stop_answer stop }
 {
     match stop {
@@ -182,8 +182,8 @@ fn stopped(stop: WordsStop) -> Outcome
     }
 }
 
-// The command is done; the answer is not complained yet.
-fn obey<H: Host>(alloc: Global, command: &Command, host: &mut H) -> Outcome
+// The command is done; the answer is whose error line is not printed yet.
+fn run_command<H: Host>(alloc: Global, command: &Command, host: &mut H) -> Outcome
     requires some { 1 ≤ length command.now.files }
     requires few { length command.now.files < 2 ^ 32 }
     requires one { takes_one_file command.now.verb ≡ true → length command.now.files ≡ 1 }
@@ -200,7 +200,7 @@ fn obey<H: Host>(alloc: Global, command: &Command, host: &mut H) -> Outcome
     }
 }
 
-// What the words ask for is done; the answer is not complained yet.
+// What the words ask for is done; the answer is whose error line is not printed yet.
 fn answer<H: Host>(alloc: Global, words: &[String], host: &mut H) -> Outcome
     requires { length words.now < 2 ^ 32 }
     ensures answers { Answers (map (λ word. string_bytes word) words.now) (H.meaning host.old) (H.meaning host.new) (H.faults host.old) (H.faults host.new) result }
@@ -208,8 +208,8 @@ fn answer<H: Host>(alloc: Global, words: &[String], host: &mut H) -> Outcome
     ensures counts { NoneFalls (H.faults host.old) (H.faults host.new) }
 {
     match read_words(alloc, words) {
-        Ok(command) => obey(alloc, &command, host),
-        Err(stop) => stopped(stop),
+        Ok(command) => run_command(alloc, &command, host),
+        Err(stop) => outcome_of_stop(stop),
     }
 }
 

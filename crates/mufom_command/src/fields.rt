@@ -1,4 +1,4 @@
-//! The fields of records, each read at the front of the input: its value and the bytes behind it.
+//! The fields of records, each read at the start of the input: its value and the bytes after it.
 
 ghost use Rattle.std.specs.Prelude.{◌≡◌, ◌-◌, ◌≤◌, ◌++◌, ◌==◌, length};
 ghost use Rattle.std.specs.List.{list_any};
@@ -37,29 +37,29 @@ pub(crate) fn number(input: &[u8]) -> Result<(u64, &[u8]), Stop>
     }
 }
 
-// The front of a spelling with zeros behind it.
-fn padded(front: &[u8]) -> [u8; 9]
-    requires { length front.now ≤ 9 }
-    ensures { result ≡ front.now ++ zeros (9 - length front.now) }
+// The prefix of a spelling with zeros after it.
+fn padded(prefix: &[u8]) -> [u8; 9]
+    requires { length prefix.now ≤ 9 }
+    ensures { result ≡ prefix.now ++ zeros (9 - length prefix.now) }
 {
     let mut padded = [0u8; 9];
-    padded[..front.len()].copy_from_slice(front);
+    padded[..prefix.len()].copy_from_slice(prefix);
     padded
 }
 
-// The least number that the front of a spelling may become.
-fn least(front: &[u8]) -> u64
-    requires { length front.now ≤ 9 }
-    ensures { result ≡ least_number front.now }
+// The least number that the prefix of a spelling may become.
+fn least(prefix: &[u8]) -> u64
+    requires { length prefix.now ≤ 9 }
+    ensures { result ≡ least_number prefix.now }
 {
-    let padded = padded(front);
+    let padded = padded(prefix);
     match read_number(&padded) {
         Taken::Got(value, _) => value,
         _ => 0,
     }
 }
 
-/// A number below a limit. The front of a spelling wants more bytes only where it may become such a
+/// A number below a limit. The prefix of a spelling wants more bytes only where it may become such a
 /// number.
 pub(crate) fn number_below(limit: u64, input: &[u8]) -> Result<(u64, &[u8]), Stop>
     ensures { mapped (λ r. (r.0, r.1.now)) result ≡ number_below_in limit input.now }
@@ -112,7 +112,7 @@ pub(crate) fn letter<'a>(input: &'a [u8], known: &[u8]) -> Result<&'a [u8], Stop
     }
 }
 
-/// A count of at most 65,535, and so many bytes.
+/// A count of at most 65,535, and the given number of bytes.
 pub(crate) fn counted(input: &[u8]) -> Result<(&[u8], &[u8]), Stop>
     ensures { mapped (λ r. (r.0.now, r.1.now)) result ≡ counted_in input.now }
 {

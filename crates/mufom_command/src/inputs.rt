@@ -3,9 +3,9 @@
 ghost use Rattle.std.specs.Prelude.{◌≡◌, ◌<◌, ◌≤◌, ◌^◌, ◌∷◌, [], ℕ, List, length, IfErr, IfOk, IfSome, OnSome};
 ghost use Rattle.mufom_module.specs.declared.module.Parts.{Parts as module_parts};
 ghost use Rattle.mufom_host.specs.World.{GrowsBy, KeepsAllButOpened, KeepsAllButReads};
-ghost use Rattle.mufom_command.specs.FilesRead.{FileStops, HasModule, stop_of};
+ghost use Rattle.mufom_command.specs.FilesRead.{FileStops, HasModule, outcome_of_source_stop};
 ghost use Rattle.mufom_command.specs.Inputs.{ComeTo, accepted, most_input_bytes};
-ghost use Rattle.mufom_command.specs.Run.{Lists, FileHas, OpensFront};
+ghost use Rattle.mufom_command.specs.Run.{Lists, FileHas, OpensPrefix};
 
 use crate::outcome::{Input, Outcome, Refusal};
 use mufom_host::{Failed, Host};
@@ -18,8 +18,8 @@ use std::alloc::Global;
 const MOST_INPUT_BYTES: u64 = 67_108_864;
 
 // The answer where the file with this number was not read.
-fn stop_of(file: u32, stop: SourceStop) -> Outcome
-    ensures { result ≡ stop_of file stop }
+fn outcome_of_source_stop(file: u32, stop: SourceStop) -> Outcome
+    ensures { result ≡ outcome_of_source_stop file stop }
 {
     match stop {
         SourceStop::Refused(refusal) => Outcome::Refused(Refusal::Read(file, refusal)),
@@ -29,7 +29,7 @@ fn stop_of(file: u32, stop: SourceStop) -> Outcome
     }
 }
 
-// Opens the file with this name and number, and reads its module, of at most so many bytes.
+// Opens the file with this name and number, and reads its module, of at most the given number of bytes.
 fn read_file<H: Host>(
     alloc: Global,
     name: &str,
@@ -52,7 +52,7 @@ fn read_file<H: Host>(
     };
     match read_module(alloc, host, limit, reads_debug) {
         Ok((module, length)) => Ok((module, length)),
-        Err(stop) => Err(stop_of(file, stop)),
+        Err(stop) => Err(outcome_of_source_stop(file, stop)),
     }
 }
 
@@ -68,7 +68,7 @@ pub(crate) fn read_files<H: Host>(
     ensures count { IfOk result (λ modules. length modules ≡ length names.now) }
     ensures all { IfOk result (λ modules. GrowsBy (H.meaning host.old).opened (H.meaning host.new).opened names.now) }
     ensures stops { IfErr result (λ stop. (text : List module_parts → List ℕ) → Lists reads_debug text names.now (H.meaning host.old) (H.meaning host.new) (H.faults host.old) (H.faults host.new) stop) }
-    ensures opened { IfErr result (λ stop. OpensFront names.now (H.meaning host.old) (H.meaning host.new) stop) }
+    ensures opened { IfErr result (λ stop. OpensPrefix names.now (H.meaning host.old) (H.meaning host.new) stop) }
     ensures stays { KeepsAllButOpened (H.meaning host.old) (H.meaning host.new) }
     ensures counts { KeepsAllButReads (H.faults host.old) (H.faults host.new) }
     ensures later { (H.faults host.old).reads ≤ (H.faults host.new).reads }

@@ -113,7 +113,7 @@ fn refusal(place: u64, reason: Reason) -> ReadRefusal
     ReadRefusal { place, reason }
 }
 
-// The judgement of bytes that begin as a module does, and are not too many.
+// The judgment of bytes that begin as a module does, and are not too many.
 fn judge_records(input: &[u8]) -> Result<Image<'_>, ReadRefusal>
     requires begins { BeginsModule input.now }
     requires few { length input.now ≤ most_bytes }

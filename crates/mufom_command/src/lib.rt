@@ -6,7 +6,7 @@
 //! run of literal bytes fills; its reading and locating are private until layers of their own stand
 //! below. The crate stands on those of words, hosts, modules, reading and texts. Its main
 //! clause is the contract of [`run`]: each answer has its cause in the words, the files or the counts
-//! of faults, and what was printed, complained and opened is said exactly.
+//! of faults, and what was printed, complained and opened is stated exactly.
 #![tactic(auto)]
 
 mod command;
@@ -22,7 +22,7 @@ mod plain;
 mod text;
 
 pub use command::run;
-pub use laws::judgements_exclude;
+pub use laws::judgments_exclude;
 pub use outcome::{Input, Outcome, Refusal};
 
 #[cfg(test)]

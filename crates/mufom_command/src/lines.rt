@@ -67,7 +67,7 @@ fn quoted(alloc: Global, name: &[u8]) -> Result<Vec<u8>, NoMemory>
     Ok(text)
 }
 
-// The part of a line behind the name.
+// The part of a line after the name.
 fn counts_text(alloc: Global, object: &Module) -> Result<String, NoMemory>
     ensures { IfOk result (λ text. string_bytes text ≡ line (counts_text object.now)) }
 {
@@ -91,8 +91,8 @@ fn push_line(
 ) -> Result<(), NoMemory>
     ensures { OnOk result (text.new.items ≡ text.old.items ++ check_line number object.now) }
 {
-    let front = format!(in alloc; "file {number} ")?;
-    text.extend_from_slice(front.as_bytes())?;
+    let prefix = format!(in alloc; "file {number} ")?;
+    text.extend_from_slice(prefix.as_bytes())?;
     text.extend_from_slice(quoted(alloc, object.parts().name.as_slice())?.as_slice())?;
     text.extend_from_slice(counts_text(alloc, object)?.as_bytes())?;
     Ok(())

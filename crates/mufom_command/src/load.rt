@@ -10,7 +10,7 @@ use mufom_host::{Failed, Host, Source};
 use std::alloc::{AllocError, Global};
 
 // How many bytes are asked for at once.
-const PIECE: usize = 65_536;
+const Chunk: usize = 65_536;
 
 /// Why bytes were not read.
 #[derive(Clone, Copy, Debug, PartialEq, Eq)]
@@ -30,7 +30,7 @@ impl From<AllocError> for Halt {
 }
 
 // Reads once, and answers how many bytes were added.
-fn read_piece<S: Source>(
+fn read_chunk<S: Source>(
     source: &mut S,
     buffer: &mut [u8],
     bytes: &mut Vec<u8>,
@@ -62,7 +62,7 @@ fn read_bytes<S: Source>(source: &mut S, buffer: &mut [u8], bytes: &mut Vec<u8>)
     ensures later { (S.faults source.old).reads ≤ (S.faults source.new).reads }
 {
     while bytes.len() <= MOST_BYTES {
-        match read_piece(source, buffer, bytes) {
+        match read_chunk(source, buffer, bytes) {
             Ok(0) => return Ok(()),
             Ok(_) => {}
             Err(halt) => return Err(halt),
@@ -84,7 +84,7 @@ pub(crate) fn load<H: Host>(alloc: Global, name: &str, host: &mut H) -> Result<V
     let Ok(()) = host.open(name) else {
         return Err(fault);
     };
-    let Ok(mut buffer) = vec![in alloc; 0u8; PIECE] else {
+    let Ok(mut buffer) = vec![in alloc; 0u8; Chunk] else {
         return Err(Outcome::NoMemory);
     };
     let mut bytes = Vec::new(alloc);

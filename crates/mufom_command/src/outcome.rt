@@ -18,7 +18,7 @@ pub enum Refusal {
     Read(u32, ReadRefusal),
     /// The bytes of the files so far are too many in the file with this number.
     InputLimit(u32),
-    /// The words have so many files, which are too many.
+    /// The words name this many files, which are too many.
     TooManyFiles(u32),
 }
 

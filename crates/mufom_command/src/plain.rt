@@ -1,7 +1,7 @@
 //! The records of a plain absolute module, in their order.
 
 ghost use Rattle.std.specs.Prelude.{◌≡◌, ◌+◌, ◌-◌, ◌≤◌, length, IfOk};
-ghost use Rattle.mufom_command.specs.Reading.{mapped, module_begin_in, offset_in, offsets_in, header_in, section_type_in, assigned_in, assigned_behind, alignment_in, section_part_in, set_section_in, constant_in, data_part_in, start_in, chain_in, as_header, as_chain, as_data};
+ghost use Rattle.mufom_command.specs.Reading.{mapped, module_begin_in, offset_in, offsets_in, header_in, section_type_in, assigned_in, assigned_after, alignment_in, section_part_in, set_section_in, constant_in, data_part_in, start_in, chain_in, as_header, as_chain, as_data};
 
 use crate::fields::{Stop, byte, counted, index, letter, number, string};
 use arrayvec::ArrayVec;
@@ -82,9 +82,9 @@ fn part_offsets(input: &[u8]) -> Result<(ArrayVec<Offset, 8>, &[u8]), Stop>
     let mut offsets = ArrayVec::new();
     let mut rest = input;
     while !offsets.is_full() {
-        let (offset, behind) = part_offset(rest)?;
+        let (offset, after) = part_offset(rest)?;
         offsets.push(offset);
-        rest = behind;
+        rest = after;
     }
     Ok((offsets, rest))
 }
@@ -133,8 +133,8 @@ fn alignment(input: &[u8]) -> Result<(Assigned, &[u8]), Stop>
     assignment(rest)
 }
 
-fn assignment_behind(code: u8, letter: u8, input: &[u8]) -> Result<(Assigned, &[u8]), Stop>
-    ensures { mapped (λ r. (r.0, r.1.now)) result ≡ assigned_behind code letter input.now }
+fn assignment_after(code: u8, letter: u8, input: &[u8]) -> Result<(Assigned, &[u8]), Stop>
+    ensures { mapped (λ r. (r.0, r.1.now)) result ≡ assigned_after code letter input.now }
 {
     let rest = byte(input, code)?;
     let rest = byte(rest, letter)?;
@@ -146,8 +146,8 @@ fn section_part(input: &[u8]) -> Result<(SectionPart, &[u8]), Stop>
 {
     let (index, rest) = section_type(input)?;
     let (alignment, rest) = alignment(rest)?;
-    let (size, rest) = assignment_behind(0xE2, 0xD3, rest)?;
-    let (base, rest) = assignment_behind(0xE2, 0xCC, rest)?;
+    let (size, rest) = assignment_after(0xE2, 0xD3, rest)?;
+    let (base, rest) = assignment_after(0xE2, 0xCC, rest)?;
     let section = SectionPart {
         index,
         alignment,
@@ -175,7 +175,7 @@ fn data_part(input: &[u8]) -> Result<(DataPart<'_>, &[u8]), Stop>
     ensures { mapped (λ r. (as_data r.0.section r.0.counter r.0.run.now, r.1.now)) result ≡ data_part_in input.now }
 {
     let (section, rest) = set_section(input)?;
-    let (counter, rest) = assignment_behind(0xE2, 0xD0, rest)?;
+    let (counter, rest) = assignment_after(0xE2, 0xD0, rest)?;
     let (run, rest) = constant(rest)?;
     let part = DataPart {
         section,
@@ -193,7 +193,7 @@ fn start(input: &[u8]) -> Result<(u64, &[u8]), Stop>
     number(rest)
 }
 
-// How many bytes were taken off the front of the input.
+// How many bytes were taken off the prefix of the input.
 fn taken(input: &[u8], rest: &[u8]) -> u64
     ensures { result ≡ length input.now - length rest.now }
 {
@@ -208,25 +208,25 @@ fn records(input: &[u8]) -> Result<(Chain<'_>, &[u8]), Stop>
       r.1.now,
     )) result ≡ chain_in input.now }
 {
-    let (header, behind_header) = header_part(input)?;
-    let (section, behind_section) = section_part(behind_header)?;
-    let (loads, behind_loads) = data_part(behind_section)?;
-    let (start, behind_start) = start(behind_loads)?;
-    let rest = byte(behind_start, 0xE1)?;
+    let (header, after_header) = header_part(input)?;
+    let (section, after_section) = section_part(after_header)?;
+    let (loads, after_loads) = data_part(after_section)?;
+    let (start, after_start) = start(after_loads)?;
+    let rest = byte(after_start, 0xE1)?;
     let chain = Chain {
         header,
-        header_len: taken(input, behind_header),
+        header_len: taken(input, after_header),
         section,
-        section_len: taken(behind_header, behind_section),
+        section_len: taken(after_header, after_section),
         loads,
-        loads_len: taken(behind_section, behind_loads),
+        loads_len: taken(after_section, after_loads),
         start,
-        start_len: taken(behind_loads, behind_start),
+        start_len: taken(after_loads, after_start),
     };
     Ok((chain, rest))
 }
 
-/// The records of a plain module, whatever their values, and the bytes behind them.
+/// The records of a plain module, whatever their values, and the bytes after them.
 pub(crate) fn read_chain(input: &[u8]) -> Result<(Chain<'_>, &[u8]), Stop>
     ensures fits { IfOk result (λ r. r.0.header_len + r.0.section_len + r.0.loads_len + r.0.start_len ≤ length input.now) }
     ensures exact { mapped (λ r. (

@@ -87,11 +87,11 @@ fn a_plain_module_prints_its_image(rt: HostRuntime) -> Result<(), Fail> {
 }
 
 #[test]
-fn each_front_of_a_plain_module_is_truncated_at_its_end(rt: HostRuntime) -> Result<(), Fail> {
-    let told = words(rt.alloc(), &["dump", "a"])?;
+fn each_prefix_of_a_plain_module_is_truncated_at_its_end(rt: HostRuntime) -> Result<(), Fail> {
+    let known = words(rt.alloc(), &["dump", "a"])?;
     for end in 0..PLAIN.len() {
         let mut host = host(rt.alloc(), &PLAIN[..end], &[], &[])?;
-        let outcome = run(rt.alloc(), told.as_slice(), &mut host);
+        let outcome = run(rt.alloc(), known.as_slice(), &mut host);
         assert_eq!(rt; outcome, refused(end as u64, Reason::Truncated));
     }
     Ok(())

@@ -19,7 +19,7 @@ record Begun : Type 0 where
 abbrev block_item : BlockHead → List ℕ → List DebugItem → Option Tree → DebugItem
 block_item head name items end = roll-DebugItem (DebugItem-F.Block (roll-Block (record { head = head; name = name; items = items; end = end })))
 
--- the items that marks give behind those of this level and inside the begun blocks, the innermost first
+-- the items that marks give after those of this level and inside the begun blocks, the innermost first
 abbrev rebuilt : List DebugMark → List DebugItem → List Begun → List DebugItem
 rebuilt [] items outer = items
 rebuilt (block_begin head name ∷ marks) items outer = rebuilt marks [] (record { before = items; head = head; name = name } ∷ outer)

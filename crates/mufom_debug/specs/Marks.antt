@@ -8,7 +8,7 @@ use Rattle.mufom_debug.specs.declared.item.BlockHead.TheVariants as heads
 use Rattle.mufom_debug.specs.declared.item.DebugItem.{DebugItem, fold-DebugItem}
 use Rattle.mufom_debug.specs.declared.item.DebugItem.TheOpen.{DebugItem-F, Block-F}
 
--- what one record of the debug part says
+-- what one record of the debug part states
 pub data DebugMark : Type 0 where
   block_begin : (head : BlockHead) → (name : List ℕ) → DebugMark
   block_end : (end : Option Tree) → DebugMark
@@ -40,37 +40,37 @@ marks_of_item = fold-DebugItem (List DebugMark) (List DebugMark) item_step block
 abbrev pub marks_of : List DebugItem → List DebugMark
 marks_of items = joined (map marks_of_item items)
 
--- how many blocks are open behind a mark
-abbrev pub open_behind : ℕ → DebugMark → ℕ
-open_behind opened (block_begin head name) = opened + 1
-open_behind opened (block_end end) = opened - 1
-open_behind opened (name_mark name) = opened
-open_behind opened (note_mark name note) = opened
-open_behind opened (value_mark name value) = opened
+-- how many blocks are open after a mark
+abbrev pub open_after : ℕ → DebugMark → ℕ
+open_after opened (block_begin head name) = opened + 1
+open_after opened (block_end end) = opened - 1
+open_after opened (name_mark name) = opened
+open_after opened (note_mark name note) = opened
+open_after opened (value_mark name value) = opened
 
--- how many debug names are declared behind a mark, where so many are before it
-abbrev pub names_behind : ℕ → DebugMark → ℕ
-names_behind n (block_begin head name) = n
-names_behind n (block_end end) = n
-names_behind n (name_mark name) = n + 1
-names_behind n (note_mark name note) = n
-names_behind n (value_mark name value) = n
+-- how many debug names are declared after a mark, where the given number are before it
+abbrev pub names_after : ℕ → DebugMark → ℕ
+names_after n (block_begin head name) = n
+names_after n (block_end end) = n
+names_after n (name_mark name) = n + 1
+names_after n (note_mark name note) = n
+names_after n (value_mark name value) = n
 
 -- the same of marks, one after another
-abbrev pub names_behind_all : ℕ → List DebugMark → ℕ
-names_behind_all n [] = n
-names_behind_all n (mark ∷ marks) = names_behind_all (names_behind n mark) marks
+abbrev pub names_after_all : ℕ → List DebugMark → ℕ
+names_after_all n [] = n
+names_after_all n (mark ∷ marks) = names_after_all (names_after n mark) marks
 
--- how many blocks are open at once at most, where so many are open before the marks
+-- how many blocks are open at once at most, where the given number are open before the marks
 abbrev pub depth_from : ℕ → List DebugMark → ℕ
 depth_from opened [] = opened
-depth_from opened (mark ∷ marks) = max opened (depth_from (open_behind opened mark) marks)
+depth_from opened (mark ∷ marks) = max opened (depth_from (open_after opened mark) marks)
 
 -- the blocks on the longest way in
 abbrev pub depth_of : List DebugMark → ℕ
 depth_of marks = depth_from 0 marks
 
--- behind these marks as many blocks are open as before them, and they go as deep as by themselves
+-- after these marks as many blocks are open as before them, and they go as deep as by themselves
 pub record IsBalanced (marks : List DebugMark) : Type 0 where
   pub deep : (opened : ℕ) (rest : List DebugMark) → depth_from opened (marks ++ rest) ≡ max (opened + depth_of marks) (depth_from opened rest)
 

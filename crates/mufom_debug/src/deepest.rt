@@ -19,7 +19,7 @@ fn item_depth(item: &DebugItem) -> u32
 
 /// How many blocks are open at once, at most: those on the longest way in.
 ///
-/// The items must be at most 32 deep; [`is_within_depth`] tells. Takes no memory.
+/// The items must be at most 32 deep; [`is_within_depth`] shows. Takes no memory.
 #[cycle(depth)]
 pub fn depth(items: &[DebugItem]) -> u32
     requires { depth_of (marks_of items.now) ≤ 32 }

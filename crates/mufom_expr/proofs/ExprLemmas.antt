@@ -47,15 +47,15 @@ function_of-two_operands functions.And g e = let same : and_bits ≡ g = cc in a
 function_of-two_operands functions.Or g e = let same : or_bits ≡ g = cc in ap function_of_two (sym same)
 function_of-two_operands functions.Xor g e = let same : xor_bits ≡ g = cc in ap function_of_two (sym same)
 
--- an infix form is written piece by piece
+-- an infix form is written chunk by chunk
 module _ (f : Function) (old opened left between right closed : List ℕ) where
-  two_pieces : (o : Option TwoOperands) → ((g : TwoOperands) → o ≡ Some g → function_of_two g ≡ f) → (x y : Option Tree)
+  two_parts : (o : Option TwoOperands) → ((g : TwoOperands) → o ≡ Some g → function_of_two g ≡ f) → (x y : Option Tree)
       → opened ≡ old ++ opening_text f → IfSome x (λ a. left ≡ opened ++ infix_text a) → between ≡ left ++ middle_text f
       → IfSome y (λ b. right ≡ between ++ infix_text b) → closed ≡ right ++ codes ")" → IfSome (over_two o x y) (λ t. closed ≡ old ++ infix_text t)
-  two_pieces None is x y h1 h2 h3 h4 h5 = tt
-  two_pieces (Some g) is None y h1 h2 h3 h4 h5 = tt
-  two_pieces (Some g) is (Some a) None h1 h2 h3 h4 h5 = tt
-  two_pieces (Some g) is (Some a) (Some b) h1 h2 h3 h4 h5 =
+  two_parts None is x y h1 h2 h3 h4 h5 = tt
+  two_parts (Some g) is None y h1 h2 h3 h4 h5 = tt
+  two_parts (Some g) is (Some a) None h1 h2 h3 h4 h5 = tt
+  two_parts (Some g) is (Some a) (Some b) h1 h2 h3 h4 h5 =
       let text : closed ≡ ((((old ++ opening_text f) ++ infix_text a) ++ middle_text f) ++ infix_text b) ++ codes ")" = rw (h5, h4, h3, h2, h1) refl in
       let all : ((((old ++ opening_text f) ++ infix_text a) ++ middle_text f) ++ infix_text b) ++ codes ")"
       ≡ old ++ (opening_text f ++ infix_text a ++ middle_text f ++ infix_text b ++ codes ")") = simp append_assoc refl in
@@ -64,7 +64,7 @@ module _ (f : Function) (old opened left between right closed : List ℕ) where
   pub infix_of_two : (x y : Option Tree)
       → opened ≡ old ++ opening_text f → IfSome x (λ a. left ≡ opened ++ infix_text a) → between ≡ left ++ middle_text f
       → IfSome y (λ b. right ≡ between ++ infix_text b) → closed ≡ right ++ codes ")" → IfSome (over_two (two_operands f) x y) (λ t. closed ≡ old ++ infix_text t)
-  infix_of_two x y h1 h2 h3 h4 h5 = two_pieces (two_operands f) (function_of-two_operands f) x y h1 h2 h3 h4 h5
+  infix_of_two x y h1 h2 h3 h4 h5 = two_parts (two_operands f) (function_of-two_operands f) x y h1 h2 h3 h4 h5
 
 -- the tokens of the code's tree are those of the tree that it is
 one_tokens : (f : Function) (o : Option OneOperand) → ((g : OneOperand) → o ≡ Some g → function_of_one g ≡ f) → (xs : List Token) (x : Option Tree) → ((a : Tree) → x ≡ Some a → xs ≡ tokens_of a)

@@ -66,7 +66,7 @@ pub terms_after-stacked : (ts : List Token) (s s' : List Tree) → terms_after t
 terms_after-stacked [] s s' e = let same : s ≡ s' = cc in append-nil (stacked s) ∙ ap stacked same
 terms_after-stacked (t ∷ ts) s s' e =
     let step = step_some (terms_after ts) (after_token t s) s' e in
-    sym (append_assoc (stacked s) (t ∷ []) ts) ∙ ap (λ front. front ++ ts) (after_token-stacked t s step.0 step.1)
+    sym (append_assoc (stacked s) (t ∷ []) ts) ∙ ap (λ prefix. prefix ++ ts) (after_token-stacked t s step.0 step.1)
     ∙ terms_after-stacked ts step.0 s' step.2
 
 pub tokens_of-the_term : (ts : List Token) → LeaveOneTerm ts → ts ≡ tokens_of (the_term ts)

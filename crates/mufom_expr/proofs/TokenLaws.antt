@@ -1,4 +1,4 @@
--- What the token at the front of bytes says of them.
+-- What the token at the start of bytes states of them.
 use Rattle.std.proofs.Common.{◌≡◌, ◌⊎◌, ℕ, zero, suc, ◌+◌, ◌-◌, ◌<◌, ◌≤◌, ◌==◌, Bool, true, false, List, [], ◌∷◌, ◌++◌, length, take, drop, Option, Some, None, refl, sym, ap, subst, ◌∙◌, inl, inr, arith}
 use Rattle.std.specs.List.{find}
 use Rattle.std.proofs.lemmas.Bool.{cases_lt, le-ltb, lt-ltb}
@@ -105,15 +105,15 @@ kind b = elim (cases_lt 0x88 b) [
   ]
 ]
 
--- ---- what an answer says of the input
+-- ---- what an answer states of the input
 
-abbrev pub Says : List ℕ → Taken Token → Type 0
-Says input (Got token used) = (used ≤ length input) × SpellsToken token (take used input)
-Says input More = IsCutOffToken input
-Says input (Bad zero UnsupportedFunction) = BeginsWith IsLeftOutFunction input
-Says input (Bad zero UnsupportedVariable) = BeginsWith IsLeftOutLetter input
-Says input (Bad (suc zero) BadNumber) = HasBadIndex input
-Says input (Bad _ _) = ⊥
+abbrev pub States : List ℕ → Taken Token → Type 0
+States input (Got token used) = (used ≤ length input) × SpellsToken token (take used input)
+States input More = IsCutOffToken input
+States input (Bad zero UnsupportedFunction) = BeginsWith IsLeftOutFunction input
+States input (Bad zero UnsupportedVariable) = BeginsWith IsLeftOutLetter input
+States input (Bad (suc zero) BadNumber) = HasBadIndex input
+States input (Bad _ _) = ⊥
 
 abbrev more_number : Taken ℕ
 more_number = More
@@ -136,16 +136,16 @@ bad_is (b ∷ bytes) offset reason e = elim (cases_lt 136 b) [
   | inr within ↦ absurd (not_bad b bytes within offset reason e)
 ]
 
-says_number : (b : ℕ) (bytes : List ℕ) → b ≤ 0x88 → AreBytes (b ∷ bytes) → (r : Taken ℕ) → number_at (b ∷ bytes) ≡ r → Says (b ∷ bytes) (number_token r)
-says_number b bytes low fits (Got n used) e =
-    let IsFront : Taken ℕ → Type 0 = λ r. IfGot r (λ m k. (k ≤ length (b ∷ bytes)) × SpellsNumber m (take k (b ∷ bytes))) in
-    subst IsFront e (number_at-got (b ∷ bytes) fits)
-says_number b bytes low fits More e = inl (more-cut_off (b ∷ bytes) fits e)
-says_number b bytes low fits (Bad offset reason) e = absurd (not_bad b bytes low offset reason e)
+states_number : (b : ℕ) (bytes : List ℕ) → b ≤ 0x88 → AreBytes (b ∷ bytes) → (r : Taken ℕ) → number_at (b ∷ bytes) ≡ r → States (b ∷ bytes) (number_token r)
+states_number b bytes low fits (Got n used) e =
+    let IsPrefix : Taken ℕ → Type 0 = λ r. IfGot r (λ m k. (k ≤ length (b ∷ bytes)) × SpellsNumber m (take k (b ∷ bytes))) in
+    subst IsPrefix e (number_at-got (b ∷ bytes) fits)
+states_number b bytes low fits More e = inl (more-cut_off (b ∷ bytes) fits e)
+states_number b bytes low fits (Bad offset reason) e = absurd (not_bad b bytes low offset reason e)
 
-says_function : (b : ℕ) (bytes : List ℕ) → 0xA0 ≤ b → b ≤ 0xB9 → (o : Option Function) → function_of b ≡ o → Says (b ∷ bytes) (function_token o)
-says_function b bytes low high (Some f) e = (omega arith, ap (λ x. x ∷ []) (found_at function_byte b all_functions f e))
-says_function b bytes low high None e = (
+states_function : (b : ℕ) (bytes : List ℕ) → 0xA0 ≤ b → b ≤ 0xB9 → (o : Option Function) → function_of b ≡ o → States (b ∷ bytes) (function_token o)
+states_function b bytes low high (Some f) e = (omega arith, ap (λ x. x ∷ []) (found_at function_byte b all_functions f e))
+states_function b bytes low high None e = (
   low,
   high,
   λ f same.
@@ -153,46 +153,46 @@ says_function b bytes low high None e = (
       let no : ◌≡◌ {A = Option Function} None (Some f) = sym e ∙ some in cc,
 )
 
-says_letter : (b : ℕ) (bytes : List ℕ) → 0x88 < b → (b < 0xA0) ⊎ (0xB9 < b) → AreBytes bytes → (o : Option Letter) → letter_of b ≡ o → (r : Taken ℕ) → number_at bytes ≡ r
-    → Says (b ∷ bytes) (variable_token o r)
-says_letter b bytes high out fits None e r number = (
+states_letter : (b : ℕ) (bytes : List ℕ) → 0x88 < b → (b < 0xA0) ⊎ (0xB9 < b) → AreBytes bytes → (o : Option Letter) → letter_of b ≡ o → (r : Taken ℕ) → number_at bytes ≡ r
+    → States (b ∷ bytes) (variable_token o r)
+states_letter b bytes high out fits None e r number = (
   high,
   out,
   λ letter same.
       let some : letter_of b ≡ Some letter = ap letter_of same ∙ letter_of-byte letter in
       let no : ◌≡◌ {A = Option Letter} None (Some letter) = sym e ∙ some in cc,
 )
-says_letter b bytes high out fits (Some letter) e (Got n used) number =
-    let IsFront : Taken ℕ → Type 0 = λ r. IfGot r (λ m k. (k ≤ length bytes) × SpellsNumber m (take k bytes)) in
-    let front = subst IsFront number (number_at-got bytes fits) in
+states_letter b bytes high out fits (Some letter) e (Got n used) number =
+    let IsPrefix : Taken ℕ → Type 0 = λ r. IfGot r (λ m k. (k ≤ length bytes) × SpellsNumber m (take k bytes)) in
+    let prefix = subst IsPrefix number (number_at-got bytes fits) in
     let byte : b ≡ letter_byte letter = found_at letter_byte b all_letters letter e in
     let more : used + 1 ≡ suc used = omega arith in
     elim (cases_lt n 4294967296) [
-      | inl small ↦ rw (lt-ltb n 4294967296 small, more) (omega (arith, front.0), (small, take used bytes, front.1, ap (λ x. x ∷ take used bytes) byte))
-      | inr large ↦ rw (le-ltb n 4294967296 large) (letter, bytes, ap (λ x. x ∷ bytes) byte, inr (n, take used bytes, drop used bytes, large, front.1, sym (take-append-drop used bytes)))
+      | inl small ↦ rw (lt-ltb n 4294967296 small, more) (omega (arith, prefix.0), (small, take used bytes, prefix.1, ap (λ x. x ∷ take used bytes) byte))
+      | inr large ↦ rw (le-ltb n 4294967296 large) (letter, bytes, ap (λ x. x ∷ bytes) byte, inr (n, take used bytes, drop used bytes, large, prefix.1, sym (take-append-drop used bytes)))
     ]
-says_letter b bytes high out fits (Some letter) e More number =
+states_letter b bytes high out fits (Some letter) e More number =
     let byte : b ≡ letter_byte letter = found_at letter_byte b all_letters letter e in
     let cut = more-cut_off bytes fits number in inr (letter, bytes, ap (λ x. x ∷ bytes) byte, cut.0, cut.1)
-says_letter b bytes high out fits (Some letter) e (Bad offset reason) number =
+states_letter b bytes high out fits (Some letter) e (Bad offset reason) number =
     let byte : b ≡ letter_byte letter = found_at letter_byte b all_letters letter e in
     (letter, bytes, ap (λ x. x ∷ bytes) byte, inl (bad-number_at bytes fits (bad_is bytes offset reason number)))
 
--- an answer that is got stands for a front that spells it
-pub got_front : (input : List ℕ) (r : Taken Token) → Says input r → IfGot r (λ token used. (used ≤ length input) × SpellsToken token (take used input))
-got_front input (Got token used) says = says
-got_front input More says = tt
-got_front input (Bad offset reason) says = tt
+-- an answer that is got stands for a prefix that spells it
+pub got_prefix : (input : List ℕ) (r : Taken Token) → States input r → IfGot r (λ token used. (used ≤ length input) × SpellsToken token (take used input))
+got_prefix input (Got token used) states = states
+got_prefix input More states = tt
+got_prefix input (Bad offset reason) states = tt
 
-pub says : (input : List ℕ) → AreBytes input → Says input (token_at input)
-says [] fits = inl (more-cut_off [] fits refl)
-says (b ∷ bytes) fits = elim (kind b) [
-  | of_number low ↦ rw (number_kind b bytes low) (says_number b bytes low fits (number_at (b ∷ bytes)) refl)
-  | of_function low high ↦ rw (function_kind b bytes low high) (says_function b bytes low high (function_of b) refl)
-  | of_letter high out ↦ rw (letter_kind b bytes high out) (says_letter b bytes high out fits.1 (letter_of b) refl (number_at bytes) refl)
+pub states : (input : List ℕ) → AreBytes input → States input (token_at input)
+states [] fits = inl (more-cut_off [] fits refl)
+states (b ∷ bytes) fits = elim (kind b) [
+  | of_number low ↦ rw (number_kind b bytes low) (states_number b bytes low fits (number_at (b ∷ bytes)) refl)
+  | of_function low high ↦ rw (function_kind b bytes low high) (states_function b bytes low high (function_of b) refl)
+  | of_letter high out ↦ rw (letter_kind b bytes high out) (states_letter b bytes high out fits.1 (letter_of b) refl (number_at bytes) refl)
 ]
 
--- ---- what the input says of the answer
+-- ---- what the input states of the answer
 
 number_low : (n lead : ℕ) (bytes : List ℕ) → SpellsNumber n (lead ∷ bytes) → lead ≤ 0x88
 number_low n lead bytes (inl short) = omega (arith, short.0)

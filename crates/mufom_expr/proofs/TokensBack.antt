@@ -18,10 +18,10 @@ use Rattle.mufom_expr.proofs.TokenLaws.{token_at-spelling}
 pub leaves-tokens_of : (t : Tree) → leaves (tokens_of t) ≡ Some 1
 leaves-tokens_of t = ap (option_map length) (LeaveOneTerm-tokens_of t)
 
-pub finds_enough : (t : Tree) (front back : List Token) (token : Token) → tokens_of t ≡ front ++ token ∷ back → FindsTooFew front token → ⊥
-finds_enough t front back token same (n, count, few) =
+pub finds_enough : (t : Tree) (prefix back : List Token) (token : Token) → tokens_of t ≡ prefix ++ token ∷ back → FindsTooFew prefix token → ⊥
+finds_enough t prefix back token same (n, count, few) =
     let whole = ap (λ ts. terms_after ts []) (sym same) ∙ LeaveOneTerm-tokens_of t in
-    let first = step_some (terms_after (token ∷ back)) (terms_after front []) (the_term (tokens_of t) ∷ []) (sym (terms_after-append front (token ∷ back) []) ∙ whole) in
+    let first = step_some (terms_after (token ∷ back)) (terms_after prefix []) (the_term (tokens_of t) ∷ []) (sym (terms_after-append prefix (token ∷ back) []) ∙ whole) in
     let next = step_some (terms_after back) (after_token token first.0) (the_term (tokens_of t) ∷ []) first.2 in
     let counts : ◌≡◌ {A = Option ℕ} (Some (length first.0)) (Some n) = sym (ap (option_map length) first.1) ∙ count in
     let known : length first.0 ≡ n = cc in
@@ -34,20 +34,20 @@ got_length : (t u : Token) (n k : ℕ) → ◌≡◌ {A = Taken Token} (Got t n)
 got_length t u n k e = cc
 
 -- no token is spelled by no bytes
-no_empty : (t : Token) (front back : List ℕ) → SpellsToken t front → [] ≡ front ++ back → ⊥
-no_empty t front back spells e =
-    let no : ◌≡◌ {A = Taken Token} More (Got t (length front)) = ap token_at e ∙ token_at-spelling t front back spells in cc
+no_empty : (t : Token) (prefix back : List ℕ) → SpellsToken t prefix → [] ≡ prefix ++ back → ⊥
+no_empty t prefix back spells e =
+    let no : ◌≡◌ {A = Taken Token} More (Got t (length prefix)) = ap token_at e ∙ token_at-spelling t prefix back spells in cc
 
 spells_once : (ts us : List Token) (bytes : List ℕ) → SpellsTokens ts bytes → SpellsTokens us bytes → ts ≡ us
 spells_once [] [] bytes none none' = refl
-spells_once [] (u ∷ us) bytes none (front, back, spells, rest, e) = absurd (no_empty u front back spells (sym none ∙ e))
-spells_once (t ∷ ts) [] bytes (front, back, spells, rest, e) none = absurd (no_empty t front back spells (sym none ∙ e))
-spells_once (t ∷ ts) (u ∷ us) bytes (front, back, spells, rest, e) (front', back', spells', rest', e') =
-    let left = ap token_at e ∙ token_at-spelling t front back spells in
+spells_once [] (u ∷ us) bytes none (prefix, back, spells, rest, e) = absurd (no_empty u prefix back spells (sym none ∙ e))
+spells_once (t ∷ ts) [] bytes (prefix, back, spells, rest, e) none = absurd (no_empty t prefix back spells (sym none ∙ e))
+spells_once (t ∷ ts) (u ∷ us) bytes (prefix, back, spells, rest, e) (front', back', spells', rest', e') =
+    let left = ap token_at e ∙ token_at-spelling t prefix back spells in
     let right = ap token_at e' ∙ token_at-spelling u front' back' spells' in
-    let same : t ≡ u = got_same t u (length front) (length front') (sym left ∙ right) in
-    let count : length front ≡ length front' = got_length t u (length front) (length front') (sym left ∙ right) in
-    let after : back ≡ back' = sym (drop_at front back (length front) refl) ∙ ap (drop (length front)) (sym e ∙ e') ∙ drop_at front' back' (length front) (sym count) in
+    let same : t ≡ u = got_same t u (length prefix) (length front') (sym left ∙ right) in
+    let count : length prefix ≡ length front' = got_length t u (length prefix) (length front') (sym left ∙ right) in
+    let after : back ≡ back' = sym (drop_at prefix back (length prefix) refl) ∙ ap (drop (length prefix)) (sym e ∙ e') ∙ drop_at front' back' (length prefix) (sym count) in
     let later : ts ≡ us = spells_once ts us back rest (subst (SpellsTokens us) (sym after) rest') in
     λ i. same i ∷ later i
 

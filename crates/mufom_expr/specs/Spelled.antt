@@ -19,7 +19,7 @@ SpellsToken (Fun f) bytes = bytes ≡ function_byte f ∷ []
 -- the bytes are spellings of the tokens, one after the other
 abbrev pub SpellsTokens : List Token → List ℕ → Type 0
 SpellsTokens [] bytes = bytes ≡ []
-SpellsTokens (token ∷ tokens) bytes = (front : List ℕ) × (back : List ℕ) × SpellsToken token front × SpellsTokens tokens back × (bytes ≡ front ++ back)
+SpellsTokens (token ∷ tokens) bytes = (prefix : List ℕ) × (back : List ℕ) × SpellsToken token prefix × SpellsTokens tokens back × (bytes ≡ prefix ++ back)
 
 -- the bytes spell the tokens of the tree, which are at most 255
 abbrev pub SpellsTree : Tree → List ℕ → Type 0
@@ -45,7 +45,7 @@ abbrev pub HasBadIndex : List ℕ → Type 0
 HasBadIndex input = (letter : Letter) × (rest : List ℕ) × (input ≡ letter_byte letter ∷ rest)
     × (BeginsIn 0x89 0xFF rest ⊎ ((n : ℕ) × (text : List ℕ) × (more : List ℕ) × (2 ^ 32 ≤ n) × SpellsNumber n text × (rest ≡ text ++ more)))
 
--- the front of a number and not all of it, or a letter and such a front
+-- the prefix of a number and not all of it, or a letter and such a prefix
 abbrev pub IsCutOffToken : List ℕ → Type 0
 IsCutOffToken input = ((n : ℕ) × IsCutOff (SpellsNumber n) input)
     ⊎ ((letter : Letter) × (rest : List ℕ) × (input ≡ letter_byte letter ∷ rest) × (n : ℕ) × IsCutOff (SpellsNumber n) rest)

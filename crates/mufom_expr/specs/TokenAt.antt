@@ -1,4 +1,4 @@
--- One token at the front of bytes, and the tokens of an expression's bytes.
+-- One token at the start of bytes, and the tokens of an expression's bytes.
 use Rattle.std.specs.Prelude.{ℕ, zero, suc, ◌+◌, ◌^◌, Bool, List, [], ◌∷◌, drop, Option, Some, None, nat_lt, nat_le, ◌&&◌, ◌||◌, if◌then◌else◌}
 use Rattle.mufom_numbers.specs.declared.reason.Reason.TheVariants.{BadNumber, UnsupportedFunction, UnsupportedVariable}
 use Rattle.mufom_numbers.specs.declared.taken.Taken.{Taken}
@@ -33,14 +33,14 @@ abbrev pub function_token : Option Function → Taken Token
 function_token (Some f) = Got (Fun f) 1
 function_token None = Bad 0 UnsupportedFunction
 
--- a letter and the number behind it as a token; the number is an index, below 2^32
+-- a letter and the number after it as a token; the number is an index, below 2^32
 abbrev pub variable_token : Option Letter → Taken ℕ → Taken Token
 variable_token None index = Bad 0 UnsupportedVariable
 variable_token (Some letter) (Got n used) = if nat_lt n (2 ^ 32) then Got (Var letter n) (used + 1) else Bad 1 BadNumber
 variable_token (Some letter) More = More
 variable_token (Some letter) (Bad offset reason) = Bad 1 BadNumber
 
--- the token at the front, or what is wrong with it
+-- the token at the start, or what is wrong with it
 abbrev pub token_at : List ℕ → Taken Token
 token_at [] = More
 token_at (b ∷ bytes) = if begins_number b then number_token (number_at (b ∷ bytes))

@@ -1,5 +1,5 @@
 -- An expression as a tree (IEEE Std 695, expressions), which is what a postfix expression stands for. A function of the
--- tree has as many operands as its constructor says, so each tree is one of an expression.
+-- tree has as many operands as its constructor states, so each tree is one of an expression.
 use Rattle.std.specs.Prelude.{ℕ, ◌<◌, ◌^◌, List, [], ◌∷◌, ◌++◌}
 use Rattle.mufom_expr.specs.declared.token.Letter.{Letter}
 use Rattle.mufom_expr.specs.declared.token.Function.{Function}

@@ -49,7 +49,7 @@ both f (Some a) (Some b) = f a b
 both f (Some a) None = None
 both f None b = None
 
--- The value of a tree modulo m, where the environment says what each variable is worth. It is none where a variable
+-- The value of a tree modulo m, where the environment states what each variable is worth. It is none where a variable
 -- that stands in the tree has none, or where a divisor is 0.
 abbrev pub value_at : ℕ → Environment → Tree → Option ℕ
 value_at m env (number n) = Some (n % m)

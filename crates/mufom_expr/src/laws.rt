@@ -13,7 +13,7 @@ pub fn tokens_give_the_tree_back()
     ensures back { (t : Tree) → the_term (tokens_of t) ≡ t }
     ensures one { (t : Tree) → leaves (tokens_of t) ≡ Some 1 }
     // Each token finds its operands in those before it.
-    ensures enough { (t : Tree) (front back : List Token) (token : Token) → tokens_of t ≡ front ++ token ∷ back → FindsTooFew front token → ⊥ }
+    ensures enough { (t : Tree) (prefix back : List Token) (token : Token) → tokens_of t ≡ prefix ++ token ∷ back → FindsTooFew prefix token → ⊥ }
     // Tokens that leave one term are those of a tree.
     ensures tree { (tokens : List Token) → leaves tokens ≡ Some 1 → tokens_of (the_term tokens) ≡ tokens }
 {}

@@ -46,14 +46,14 @@ fn function(b: u8) -> Option<Function>
     }
 }
 
-/// Reads the token at the front of the input, and says how many bytes it takes.
+/// Reads the token at the start of the input, and states how many bytes it takes.
 ///
 /// `Bad` is at offset 0 with `UnsupportedFunction` where the first byte is that of a function which is
 /// left out, at offset 0 with `UnsupportedVariable` for every other byte that begins no number and is
 /// no letter that is read (the caller hands in bytes that begin a token), and at offset 1 with
 /// `BadNumber` where a letter is followed by no number or by one of 2^32 or more. Takes no memory.
 pub fn read_token(input: &[u8]) -> Taken<Token>
-    // What is taken is the front of the input, and spells the token.
+    // What is taken is the prefix of the input, and spells the token.
     ensures got { IfGot result (λ t used. (used ≤ length input.now) × SpellsToken t (take used input.now)) }
     // An input that begins with a spelling gives its token.
     ensures only { (t : Token) (text rest : List ℕ) → SpellsToken t text → input.now ≡ text ++ rest → result ≡ Taken.Got t (length text) }

@@ -193,7 +193,7 @@ fn a_builder_takes_255_tokens(rt: HostRuntime) {
     assert!(rt; builder.finish().is_ok());
 }
 
-// Bytes, and the token at their front.
+// Bytes, and the token at their start.
 const TOKENS: [(&[u8], Taken<Token>); 11] = [
     (&[0x81, 0x80, 0x00], Taken::Got(Number(128), 2)),
     (&[0xA5, 0x00], Taken::Got(Fun(Plus), 1)),

@@ -3,7 +3,7 @@ use Rattle.std.proofs.Common.{◌≡◌, refl, sym, ◌∙◌, ap, ℕ, ◌+◌,
 use Rattle.std.proofs.Math.Seq.{take-append-add, take-length}
 use Rattle.std.proofs.lemmas.List.{append-nil, take-append-le, take_min, take-append-drop}
 use Rattle.std.proofs.lemmas.Option.{same_Some}
-use Rattle.mufom_host.specs.World.{Meaning, Faults, NamedFile, Rose, GrowsBy, GrowsByFront, MakingGrowsBy, MakingGrowsByFront, with_bytes, ReadsOff, Reads, KeepsAllButReads, KeepsAllButWrites, KeepsAllButComplaints, KeepsAllButLeft, KeepsAllButMaking, KeepsAllButOpened, KeepsAllButCreated, KeepsAllButMade, KeepsAllButOut, KeepsAllButErr, KeepsAllButFile}
+use Rattle.mufom_host.specs.World.{Meaning, Faults, NamedFile, Rose, GrowsBy, GrowsByPrefix, MakingGrowsBy, MakingGrowsByPrefix, with_bytes, ReadsOff, Reads, KeepsAllButReads, KeepsAllButWrites, KeepsAllButComplaints, KeepsAllButLeft, KeepsAllButMaking, KeepsAllButOpened, KeepsAllButCreated, KeepsAllButMade, KeepsAllButOut, KeepsAllButErr, KeepsAllButFile}
 
 -- ---- counts
 
@@ -60,8 +60,8 @@ KeepsAllButFile-made a b p = p ∙ ap (λ names. record a { making = b.making; m
 
 -- ---- lists and texts that grow
 
-take-front : {T : Type 0} (n : ℕ) (xs ys : List T) → take (min n (length xs)) (xs ++ ys) ≡ take n xs
-take-front n xs ys = take-append-le (min n (length xs)) xs ys (omega arith) ∙ take_min n xs
+take-prefix : {T : Type 0} (n : ℕ) (xs ys : List T) → take (min n (length xs)) (xs ++ ys) ≡ take n xs
+take-prefix n xs ys = take-append-le (min n (length xs)) xs ys (omega arith) ∙ take_min n xs
 
 module _ {T : Type 0} where
   pub GrowsBy-refl : (a : Option (List T)) → GrowsBy a a []
@@ -72,27 +72,27 @@ module _ {T : Type 0} where
   GrowsBy-trans None b c xs ys p q = tt
   GrowsBy-trans (Some old) b c xs ys p q = (rw p at q) ∙ ap Some (append_assoc old xs ys)
 
-  pub GrowsByFront-whole : (a b : Option (List T)) (xs : List T) → GrowsBy a b xs → GrowsByFront a b xs
-  GrowsByFront-whole None b xs p = tt
-  GrowsByFront-whole (Some old) b xs p = (length xs, p ∙ ap (λ t. Some (old ++ t)) (sym (take-length xs)))
+  pub GrowsByPrefix-whole : (a b : Option (List T)) (xs : List T) → GrowsBy a b xs → GrowsByPrefix a b xs
+  GrowsByPrefix-whole None b xs p = tt
+  GrowsByPrefix-whole (Some old) b xs p = (length xs, p ∙ ap (λ t. Some (old ++ t)) (sym (take-length xs)))
 
-  -- all of one list, then the front of another
-  pub GrowsByFront-trans : (a b c : Option (List T)) (xs ys : List T) → GrowsBy a b xs → GrowsByFront b c ys → GrowsByFront a c (xs ++ ys)
-  GrowsByFront-trans None b c xs ys p q = tt
-  GrowsByFront-trans (Some old) b c xs ys p q =
+  -- all of one list, then the prefix of another
+  pub GrowsByPrefix-trans : (a b c : Option (List T)) (xs ys : List T) → GrowsBy a b xs → GrowsByPrefix b c ys → GrowsByPrefix a c (xs ++ ys)
+  GrowsByPrefix-trans None b c xs ys p q = tt
+  GrowsByPrefix-trans (Some old) b c xs ys p q =
       let r = rw p at q in
       (length xs + r.0, r.1 ∙ ap Some (append_assoc old xs (take r.0 ys) ∙ ap (λ t. old ++ t) (sym (take-append-add xs ys r.0))))
 
-  -- the front of one list is the front of a longer one
-  pub GrowsByFront-more : (a b : Option (List T)) (xs ys : List T) → GrowsByFront a b xs → GrowsByFront a b (xs ++ ys)
-  GrowsByFront-more None b xs ys p = tt
-  GrowsByFront-more (Some old) b xs ys p =
-      (min p.0 (length xs), p.1 ∙ ap (λ t. Some (old ++ t)) (sym (take-front p.0 xs ys)))
+  -- the prefix of one list is the prefix of a longer one
+  pub GrowsByPrefix-more : (a b : Option (List T)) (xs ys : List T) → GrowsByPrefix a b xs → GrowsByPrefix a b (xs ++ ys)
+  GrowsByPrefix-more None b xs ys p = tt
+  GrowsByPrefix-more (Some old) b xs ys p =
+      (min p.0 (length xs), p.1 ∙ ap (λ t. Some (old ++ t)) (sym (take-prefix p.0 xs ys)))
 
-  -- a list that is told at the end grows by what was added before, and then
-  pub GrowsBy-told : (a b c : Option (List T)) (xs ys : List T) → GrowsBy a b xs → OnSome c (GrowsBy b c ys) → OnSome c (GrowsBy a c (xs ++ ys))
-  GrowsBy-told a b None xs ys p q = tt
-  GrowsBy-told a b (Some new) xs ys p q = GrowsBy-trans a b (Some new) xs ys p q
+  -- a list that is known at the end grows by what was added before, and then
+  pub GrowsBy-known : (a b c : Option (List T)) (xs ys : List T) → GrowsBy a b xs → OnSome c (GrowsBy b c ys) → OnSome c (GrowsBy a c (xs ++ ys))
+  GrowsBy-known a b None xs ys p q = tt
+  GrowsBy-known a b (Some new) xs ys p q = GrowsBy-trans a b (Some new) xs ys p q
 
 -- ---- the file being made
 
@@ -112,24 +112,24 @@ pub MakingGrowsBy-trans : (a b c : Option (Option NamedFile)) (xs ys : List ℕ)
 MakingGrowsBy-trans None b c xs ys p q = tt
 MakingGrowsBy-trans (Some making) b c xs ys p q = (rw p at q) ∙ ap Some (with_bytes-append making xs ys)
 
-pub MakingGrowsByFront-whole : (a b : Option (Option NamedFile)) (xs : List ℕ) → MakingGrowsBy a b xs → MakingGrowsByFront a b xs
-MakingGrowsByFront-whole None b xs p = tt
-MakingGrowsByFront-whole (Some making) b xs p = (length xs, p ∙ ap (λ t. Some (with_bytes making t)) (sym (take-length xs)))
+pub MakingGrowsByPrefix-whole : (a b : Option (Option NamedFile)) (xs : List ℕ) → MakingGrowsBy a b xs → MakingGrowsByPrefix a b xs
+MakingGrowsByPrefix-whole None b xs p = tt
+MakingGrowsByPrefix-whole (Some making) b xs p = (length xs, p ∙ ap (λ t. Some (with_bytes making t)) (sym (take-length xs)))
 
-pub MakingGrowsByFront-trans : (a b c : Option (Option NamedFile)) (xs ys : List ℕ) → MakingGrowsBy a b xs → MakingGrowsByFront b c ys → MakingGrowsByFront a c (xs ++ ys)
-MakingGrowsByFront-trans None b c xs ys p q = tt
-MakingGrowsByFront-trans (Some making) b c xs ys p q =
+pub MakingGrowsByPrefix-trans : (a b c : Option (Option NamedFile)) (xs ys : List ℕ) → MakingGrowsBy a b xs → MakingGrowsByPrefix b c ys → MakingGrowsByPrefix a c (xs ++ ys)
+MakingGrowsByPrefix-trans None b c xs ys p q = tt
+MakingGrowsByPrefix-trans (Some making) b c xs ys p q =
     let r = rw p at q in
     (length xs + r.0, r.1 ∙ ap Some (with_bytes-append making xs (take r.0 ys) ∙ ap (with_bytes making) (sym (take-append-add xs ys r.0))))
 
-pub MakingGrowsByFront-more : (a b : Option (Option NamedFile)) (xs ys : List ℕ) → MakingGrowsByFront a b xs → MakingGrowsByFront a b (xs ++ ys)
-MakingGrowsByFront-more None b xs ys p = tt
-MakingGrowsByFront-more (Some making) b xs ys p =
-    (min p.0 (length xs), p.1 ∙ ap (λ t. Some (with_bytes making t)) (sym (take-front p.0 xs ys)))
+pub MakingGrowsByPrefix-more : (a b : Option (Option NamedFile)) (xs ys : List ℕ) → MakingGrowsByPrefix a b xs → MakingGrowsByPrefix a b (xs ++ ys)
+MakingGrowsByPrefix-more None b xs ys p = tt
+MakingGrowsByPrefix-more (Some making) b xs ys p =
+    (min p.0 (length xs), p.1 ∙ ap (λ t. Some (with_bytes making t)) (sym (take-prefix p.0 xs ys)))
 
 -- ---- what is read
 
--- a read takes the front of its buffer off what is left
+-- a read takes the prefix of its buffer off what is left
 pub ReadsOff-read : (a b : Option (List ℕ)) (n : ℕ) (buffer : List ℕ) → Reads a b (Ok n) buffer → ReadsOff a b (take n buffer)
 ReadsOff-read None b n buffer p = tt
 ReadsOff-read (Some left) b n buffer p = (drop n left, sym (take-append-drop n left) ∙ ap (λ t. t ++ drop n left) (sym p.bytes), p.rest)

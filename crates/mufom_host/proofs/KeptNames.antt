@@ -8,7 +8,7 @@ use Rattle.std.proofs.lemmas.Bool.{le-leb, lt-leb}
 use Rattle.mufom_host.specs.Kept.{cut, name_weight, names_with}
 
 pub cut-push : (lengths bytes name : List ℕ) → sum lengths ≡ length bytes → cut (lengths ++ length name ∷ []) (bytes ++ name) ≡ cut lengths bytes ++ name ∷ []
-cut-push [] bytes name whole = rw (nil_from_length bytes (sym whole)) (ap (λ front. front ∷ []) (take-length name))
+cut-push [] bytes name whole = rw (nil_from_length bytes (sym whole)) (ap (λ prefix. prefix ∷ []) (take-length name))
 cut-push (n ∷ lengths) bytes name whole =
     let total : n + sum lengths ≡ length bytes = sym (sum_by-cons (λ k. k) n lengths) ∙ whole in
     let within : n ≤ length bytes = omega (arith, total) in
@@ -22,9 +22,9 @@ name_weight-cut (n ∷ lengths) bytes whole =
     let within : n ≤ length bytes = omega (arith, total) in
     let left : sum lengths ≡ length (drop n bytes) = rw length-drop (omega (arith, total)) in
     let more = name_weight-cut lengths (drop n bytes) left in
-    let front = length-take-le n bytes within in
+    let prefix = length-take-le n bytes within in
     let tail = length-drop n bytes in
-    sum_by-cons (λ name. length name + 8) (take n bytes) (cut lengths (drop n bytes)) ∙ omega (arith, more, front, tail, within)
+    sum_by-cons (λ name. length name + 8) (take n bytes) (cut lengths (drop n bytes)) ∙ omega (arith, more, prefix, tail, within)
 
 pub name_weight-push : (names : List (List ℕ)) (name : List ℕ) → name_weight (names ++ name ∷ []) ≡ name_weight names + (length name + 8)
 name_weight-push names name = sum_by-append (λ n. length n + 8) names (name ∷ []) ∙ omega arith

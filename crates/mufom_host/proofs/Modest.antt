@@ -24,8 +24,8 @@ record IsReady (m : Memory) (calls : List Call) (opened_names created_names : Li
   reads_pass : m.fail_reads ≡ []
   writes_pass : m.fail_writes ≡ []
   there : AllOpenWhatIsThere m.files calls
-  opened_told : m.opened ≡ Some opened_names
-  created_told : m.created ≡ Some created_names
+  opened_known : m.opened ≡ Some opened_names
+  created_known : m.created ≡ Some created_names
   opened : name_weight opened_names + sum_by opened_by calls ≤ m.room
   created : name_weight created_names + sum_by created_by calls ≤ m.room
   written : made_bytes m.making + sum_by written_by calls ≤ m.room
@@ -48,18 +48,18 @@ less f call calls n room h = let e = sum_by-cons f call calls in omega (arith, e
 unlisted : (number : ℕ) (failing : List ℕ) → failing ≡ [] → is_listed number failing ≡ false
 unlisted number failing none = ap (is_listed number) none
 
--- the file being made has room for the piece
+-- the file being made has room for the chunk
 within : (making : Option NamedFile) (room count : ℕ) → made_bytes making + count ≤ room → passes_file making room count ≡ false
 within None room count h = refl
 within (Some file) room count h = le-ltb room (length file.1 + count) h
 
-grown : (making : Option NamedFile) (piece : List ℕ) → made_bytes (with_bytes making piece) ≤ made_bytes making + length piece
-grown None piece = omega arith
-grown (Some file) piece = rw length-append (omega arith)
+grown : (making : Option NamedFile) (chunk : List ℕ) → made_bytes (with_bytes making chunk) ≤ made_bytes making + length chunk
+grown None chunk = omega arith
+grown (Some file) chunk = rw length-append (omega arith)
 
-Begun-write : {making : Option NamedFile} {made : List NamedFile} {n : ℕ} (piece : List ℕ) → Begun making made n → Begun (with_bytes making piece) made n
-Begun-write piece (unbegun h) = unbegun h
-Begun-write piece begun = begun
+Begun-write : {making : Option NamedFile} {made : List NamedFile} {n : ℕ} (chunk : List ℕ) → Begun making made n → Begun (with_bytes making chunk) made n
+Begun-write chunk (unbegun h) = unbegun h
+Begun-write chunk begun = begun
 
 Begun-finish : {making : Option NamedFile} {made : List NamedFile} {n : ℕ} → Begun making made n → Begun None (made ++ optional making) n
 Begun-finish (unbegun h) = unbegun h
@@ -82,8 +82,8 @@ module _ (m : Memory) (calls : List Call) (o c : List (List ℕ)) where
       reads_pass = r.reads_pass;
       writes_pass = r.writes_pass;
       there = r.there.1;
-      opened_told = r.opened_told;
-      created_told = r.created_told;
+      opened_known = r.opened_known;
+      created_known = r.created_known;
       opened = omega (arith, less opened_by (reads size) calls (name_weight o) m.room r.opened);
       created = omega (arith, less created_by (reads size) calls (name_weight c) m.room r.created);
       written = omega (arith, less written_by (reads size) calls (made_bytes m.making) m.room r.written);
@@ -97,10 +97,10 @@ module _ (m : Memory) (calls : List Call) (o c : List (List ℕ)) where
   open_step name r =
       let fits = names_with-fits m.room o name (omega (arith, less opened_by (opens name) calls (name_weight o) m.room r.opened)) in
       let weight = name_weight-push o name in
-      let told : names_with m.room m.opened name ≡ Some (o ++ name ∷ []) = rw r.opened_told fits in
+      let known : names_with m.room m.opened name ≡ Some (o ++ name ∷ []) = rw r.opened_known fits in
       record {
         next = record (read_called m) { opened = names_with m.room m.opened name; left = bytes_after name m.files m.left };
-        is_next = rw (unlisted m.read_number m.fail_reads r.reads_pass, told, r.there.0) refl;
+        is_next = rw (unlisted m.read_number m.fail_reads r.reads_pass, known, r.there.0) refl;
         faults = refl;
         opened_names = o ++ name ∷ [];
         created_names = c;
@@ -108,8 +108,8 @@ module _ (m : Memory) (calls : List Call) (o c : List (List ℕ)) where
           reads_pass = r.reads_pass;
           writes_pass = r.writes_pass;
           there = r.there.1;
-          opened_told = told;
-          created_told = r.created_told;
+          opened_known = known;
+          created_known = r.created_known;
           opened = omega (arith, weight, less opened_by (opens name) calls (name_weight o) m.room r.opened);
           created = omega (arith, less created_by (opens name) calls (name_weight c) m.room r.created);
           written = omega (arith, less written_by (opens name) calls (made_bytes m.making) m.room r.written);
@@ -119,12 +119,12 @@ module _ (m : Memory) (calls : List Call) (o c : List (List ℕ)) where
         };
       }
 
-  write_step : (piece : List ℕ) → IsReady m (writes piece ∷ calls) o c → Step m (writes piece) calls
-  write_step piece r =
-      let fits = less written_by (writes piece) calls (made_bytes m.making) m.room r.written in
+  write_step : (chunk : List ℕ) → IsReady m (writes chunk ∷ calls) o c → Step m (writes chunk) calls
+  write_step chunk r =
+      let fits = less written_by (writes chunk) calls (made_bytes m.making) m.room r.written in
       record {
-        next = record (write_called m) { making = with_bytes m.making piece };
-        is_next = rw (unlisted m.write_number m.fail_writes r.writes_pass, within m.making m.room (length piece) (omega (arith, fits))) refl;
+        next = record (write_called m) { making = with_bytes m.making chunk };
+        is_next = rw (unlisted m.write_number m.fail_writes r.writes_pass, within m.making m.room (length chunk) (omega (arith, fits))) refl;
         faults = refl;
         opened_names = o;
         created_names = c;
@@ -132,14 +132,14 @@ module _ (m : Memory) (calls : List Call) (o c : List (List ℕ)) where
           reads_pass = r.reads_pass;
           writes_pass = r.writes_pass;
           there = r.there.1;
-          opened_told = r.opened_told;
-          created_told = r.created_told;
-          opened = omega (arith, less opened_by (writes piece) calls (name_weight o) m.room r.opened);
-          created = omega (arith, less created_by (writes piece) calls (name_weight c) m.room r.created);
-          written = omega (arith, fits, grown m.making piece);
-          printed = omega (arith, less printed_by (writes piece) calls (length m.out) m.room r.printed);
-          complained = omega (arith, less complained_by (writes piece) calls (length m.err) m.room r.complained);
-          one = Begun-write piece r.one;
+          opened_known = r.opened_known;
+          created_known = r.created_known;
+          opened = omega (arith, less opened_by (writes chunk) calls (name_weight o) m.room r.opened);
+          created = omega (arith, less created_by (writes chunk) calls (name_weight c) m.room r.created);
+          written = omega (arith, fits, grown m.making chunk);
+          printed = omega (arith, less printed_by (writes chunk) calls (length m.out) m.room r.printed);
+          complained = omega (arith, less complained_by (writes chunk) calls (length m.err) m.room r.complained);
+          one = Begun-write chunk r.one;
         };
       }
 
@@ -154,8 +154,8 @@ module _ (m : Memory) (calls : List Call) (o c : List (List ℕ)) where
       reads_pass = r.reads_pass;
       writes_pass = r.writes_pass;
       there = r.there.1;
-      opened_told = r.opened_told;
-      created_told = r.created_told;
+      opened_known = r.opened_known;
+      created_known = r.created_known;
       opened = omega (arith, less opened_by (finishes) calls (name_weight o) m.room r.opened);
       created = omega (arith, less created_by (finishes) calls (name_weight c) m.room r.created);
       written = omega (arith, less written_by finishes calls (made_bytes m.making) m.room r.written);
@@ -179,8 +179,8 @@ module _ (m : Memory) (calls : List Call) (o c : List (List ℕ)) where
           reads_pass = r.reads_pass;
           writes_pass = r.writes_pass;
           there = r.there.1;
-          opened_told = r.opened_told;
-          created_told = r.created_told;
+          opened_known = r.opened_known;
+          created_known = r.created_known;
           opened = omega (arith, less opened_by (prints text) calls (name_weight o) m.room r.opened);
           created = omega (arith, less created_by (prints text) calls (name_weight c) m.room r.created);
           written = omega (arith, less written_by (prints text) calls (made_bytes m.making) m.room r.written);
@@ -204,8 +204,8 @@ module _ (m : Memory) (calls : List Call) (o c : List (List ℕ)) where
           reads_pass = r.reads_pass;
           writes_pass = r.writes_pass;
           there = r.there.1;
-          opened_told = r.opened_told;
-          created_told = r.created_told;
+          opened_known = r.opened_known;
+          created_known = r.created_known;
           opened = omega (arith, less opened_by (complains text) calls (name_weight o) m.room r.opened);
           created = omega (arith, less created_by (complains text) calls (name_weight c) m.room r.created);
           written = omega (arith, less written_by (complains text) calls (made_bytes m.making) m.room r.written);
@@ -219,12 +219,12 @@ module _ (m : Memory) (calls : List Call) (o c : List (List ℕ)) where
   create_step name r =
       let fits = names_with-fits m.room c name (omega (arith, less created_by (creates name) calls (name_weight c) m.room r.created)) in
       let weight = name_weight-push c name in
-      let told : names_with m.room m.created name ≡ Some (c ++ name ∷ []) = rw r.created_told fits in
+      let known : names_with m.room m.created name ≡ Some (c ++ name ∷ []) = rw r.created_known fits in
       let count : sum_by begun_by (creates name ∷ calls) ≡ 1 + sum_by begun_by calls = sum_by-cons begun_by (creates name) calls in
       let first = Begun-create r.one (sum_by begun_by calls) count in
       record {
         next = record (write_called m) { created = names_with m.room m.created name; making = Some (name, []) };
-        is_next = rw (unlisted m.write_number m.fail_writes r.writes_pass, told, first.0) refl;
+        is_next = rw (unlisted m.write_number m.fail_writes r.writes_pass, known, first.0) refl;
         faults = refl;
         opened_names = o;
         created_names = c ++ name ∷ [];
@@ -232,8 +232,8 @@ module _ (m : Memory) (calls : List Call) (o c : List (List ℕ)) where
           reads_pass = r.reads_pass;
           writes_pass = r.writes_pass;
           there = r.there.1;
-          opened_told = r.opened_told;
-          created_told = told;
+          opened_known = r.opened_known;
+          created_known = known;
           opened = omega (arith, less opened_by (creates name) calls (name_weight o) m.room r.opened);
           created = omega (arith, weight, less created_by (creates name) calls (name_weight c) m.room r.created);
           written = omega (arith, less written_by (creates name) calls (made_bytes m.making) m.room r.written);
@@ -246,7 +246,7 @@ module _ (m : Memory) (calls : List Call) (o c : List (List ℕ)) where
 step : (m : Memory) (call : Call) (calls : List Call) (o c : List (List ℕ)) → IsReady m (call ∷ calls) o c → Step m call calls
 step m (reads size) calls o c r = read_step m calls o c size r
 step m (opens name) calls o c r = open_step m calls o c name r
-step m (writes piece) calls o c r = write_step m calls o c piece r
+step m (writes chunk) calls o c r = write_step m calls o c chunk r
 step m (creates name) calls o c r = create_step m calls o c name r
 step m finishes calls o c r = finish_step m calls o c r
 step m (prints text) calls o c r = print_step m calls o c text r
@@ -264,8 +264,8 @@ modest files room calls q = ready_calls calls (fresh files [] [] room) [] [] rec
   reads_pass = refl;
   writes_pass = refl;
   there = q.there;
-  opened_told = refl;
-  created_told = refl;
+  opened_known = refl;
+  created_known = refl;
   opened = omega (arith, q.opened);
   created = omega (arith, q.created);
   written = omega (arith, q.written);

@@ -24,11 +24,11 @@ module _ (a b c : Meaning) (f g h : Faults) (bytes : List ℕ) where
     counts = KeepsAllButReads-trans f g h so_far.counts counts;
   }
 
-  pub AfterWrites-write : (n : ℕ) (piece : List ℕ) → AfterWrites a b f g bytes
-      → Writes b.making c.making (Ok n) piece → KeepsAllButMaking b c → HasCause {T = ℕ} g.writes h.writes (Ok n) → KeepsAllButWrites g h
-      → AfterWrites a c f h (bytes ++ take n piece)
-  AfterWrites-write n piece so_far writes stays cause counts = record {
-    added = MakingGrowsBy-trans a.making b.making c.making bytes (take n piece) so_far.added writes.0;
+  pub AfterWrites-write : (n : ℕ) (chunk : List ℕ) → AfterWrites a b f g bytes
+      → Writes b.making c.making (Ok n) chunk → KeepsAllButMaking b c → HasCause {T = ℕ} g.writes h.writes (Ok n) → KeepsAllButWrites g h
+      → AfterWrites a c f h (bytes ++ take n chunk)
+  AfterWrites-write n chunk so_far writes stays cause counts = record {
+    added = MakingGrowsBy-trans a.making b.making c.making bytes (take n chunk) so_far.added writes.0;
     stays = KeepsAllButMaking-trans a b c so_far.stays stays;
     later = omega (arith, so_far.later, cause.later);
     counts = KeepsAllButWrites-trans f g h so_far.counts counts;

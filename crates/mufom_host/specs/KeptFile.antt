@@ -1,4 +1,4 @@
--- At which stage the file that is made is told.
+-- At which stage the file that is made is known.
 use Rattle.std.specs.Prelude.{List, [], ◌∷◌, Option, Some, None}
 use Rattle.mufom_host.specs.World.{NamedFile}
 use Rattle.mufom_host.specs.declared.memory.output.Stage.{Stage}

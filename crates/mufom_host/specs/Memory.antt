@@ -43,7 +43,7 @@ fresh files fail_reads fail_writes room = record {
   write_number = 0;
 }
 
--- a host in memory tells all
+-- a host in memory reveals all
 abbrev pub memory_meaning : Memory → Meaning
 memory_meaning m = record {
   left = Some m.left;
@@ -98,12 +98,12 @@ after_open m name =
     then record (read_failed m) { opened = names_with m.room m.opened name }
     else record (read_called m) { opened = names_with m.room m.opened name; left = bytes_after name m.files m.left }
 
--- the file being made has no room for the piece
+-- the file being made has no room for the chunk
 abbrev pub write_fails : Memory → List ℕ → Bool
-write_fails m piece = is_failing_write m || passes_file m.making m.room (length piece)
+write_fails m chunk = is_failing_write m || passes_file m.making m.room (length chunk)
 
 abbrev pub after_write : Memory → List ℕ → Memory
-after_write m piece = if write_fails m piece then write_failed m else record (write_called m) { making = with_bytes m.making piece }
+after_write m chunk = if write_fails m chunk then write_failed m else record (write_called m) { making = with_bytes m.making chunk }
 
 -- a name passes the room, now or before, or a file is finished already
 abbrev pub create_fails : Memory → List ℕ → Bool

@@ -5,7 +5,7 @@ use Rattle.mufom_host.specs.World.{NamedFile}
 use Rattle.mufom_host.specs.Kept.{has_file}
 use Rattle.mufom_host.specs.Memory.{Memory, after_read, after_open, after_write, after_create, after_finish, after_print, after_complain}
 
--- a call: a read into a buffer of so many bytes, and the others with their name or bytes
+-- a call: a read into a buffer of the given number of bytes, and the others with their name or bytes
 pub data Call : Type 0 where
   reads : ℕ → Call
   opens : List ℕ → Call
@@ -19,7 +19,7 @@ pub data Call : Type 0 where
 abbrev pub after_call : Memory → Call → Memory
 after_call m (reads size) = after_read m size
 after_call m (opens name) = after_open m name
-after_call m (writes piece) = after_write m piece
+after_call m (writes chunk) = after_write m chunk
 after_call m (creates name) = after_create m name
 after_call m finishes = after_finish m
 after_call m (prints text) = after_print m text
@@ -40,7 +40,7 @@ created_by (creates name) = length name + 8
 created_by call = 0
 
 abbrev pub written_by : Call → ℕ
-written_by (writes piece) = length piece
+written_by (writes chunk) = length chunk
 written_by call = 0
 
 abbrev pub printed_by : Call → ℕ

@@ -1,4 +1,4 @@
--- What stands outside, as far as it is told, and what each call does to it.
+-- What stands outside, as far as it is known, and what each call does to it.
 use Rattle.std.specs.Prelude.{◌≡◌, ◌⊎◌, ℕ, ◌+◌, ◌-◌, ◌^◌, ◌<◌, ◌≤◌, min, List, [], ◌∷◌, ◌++◌, length, take, drop, Option, Some, None, Result, Ok, Err, OnOk, OnErr, IfOk, IfSome, IsSome, OnSome, option_map, find}
 use Rattle.std.specs.Str.{bytes_eq}
 use Rattle.mufom_host.specs.declared.world.Failed.{Failed}
@@ -7,7 +7,7 @@ use Rattle.mufom_host.specs.declared.world.Failed.{Failed}
 abbrev pub NamedFile : Type 0
 NamedFile = List ℕ × List ℕ
 
--- what stands outside: each part is none where it is not told
+-- what stands outside: each part is none where it is not known
 pub record Meaning : Type 0 where
   -- what the open input has left, empty while nothing is open
   pub left : Option (List ℕ)
@@ -25,8 +25,8 @@ pub record Meaning : Type 0 where
   pub opened : Option (List (List ℕ))
   pub created : Option (List (List ℕ))
 
--- a host that tells the files tells what is left, and one that tells the finished files tells the one being made
-pub record TellsTogether (meaning : Meaning) : Type 0 where
+-- a host that reveals the files reveals what is left, and one that reveals the finished files reveals the one being made
+pub record RevealsTogether (meaning : Meaning) : Type 0 where
   pub left : IsSome meaning.files → IsSome meaning.left
   pub making : IsSome meaning.made → IsSome meaning.making
 
@@ -60,19 +60,19 @@ KeepsAllButWrites old new = new ≡ record old { writes = new.writes }
 abbrev pub KeepsAllButComplaints : Faults → Faults → Type 0
 KeepsAllButComplaints old new = new ≡ record old { complaints = new.complaints }
 
--- ---- how a part changes, where it is told
+-- ---- how a part changes, where it is known
 
 -- it stays as it is
-abbrev pub StaysTold : {T : Type 0} → Option T → Option T → Type 0
-StaysTold before after = IfSome before (λ part. after ≡ Some part)
+abbrev pub StaysKnown : {T : Type 0} → Option T → Option T → Type 0
+StaysKnown before after = IfSome before (λ part. after ≡ Some part)
 
 -- a list grows by these items
 abbrev pub GrowsBy : {T : Type 0} → Option (List T) → Option (List T) → List T → Type 0
 GrowsBy before after added = IfSome before (λ old. after ≡ Some (old ++ added))
 
--- a list grows by the front of these items
-abbrev pub GrowsByFront : {T : Type 0} → Option (List T) → Option (List T) → List T → Type 0
-GrowsByFront before after added = IfSome before (λ old. (n : ℕ) × (after ≡ Some (old ++ take n added)))
+-- a list grows by the prefix of these items
+abbrev pub GrowsByPrefix : {T : Type 0} → Option (List T) → Option (List T) → List T → Type 0
+GrowsByPrefix before after added = IfSome before (λ old. (n : ℕ) × (after ≡ Some (old ++ take n added)))
 
 -- bytes are added to the file being made; where none is being made, none is
 abbrev pub with_bytes : Option NamedFile → List ℕ → Option NamedFile
@@ -83,11 +83,11 @@ with_bytes (Some file) bytes = Some (file.0, file.1 ++ bytes)
 abbrev pub MakingGrowsBy : Option (Option NamedFile) → Option (Option NamedFile) → List ℕ → Type 0
 MakingGrowsBy before after bytes = IfSome before (λ making. after ≡ Some (with_bytes making bytes))
 
--- the file being made grows by the front of these bytes
-abbrev pub MakingGrowsByFront : Option (Option NamedFile) → Option (Option NamedFile) → List ℕ → Type 0
-MakingGrowsByFront before after bytes = IfSome before (λ making. (n : ℕ) × (after ≡ Some (with_bytes making (take n bytes))))
+-- the file being made grows by the prefix of these bytes
+abbrev pub MakingGrowsByPrefix : Option (Option NamedFile) → Option (Option NamedFile) → List ℕ → Type 0
+MakingGrowsByPrefix before after bytes = IfSome before (λ making. (n : ℕ) × (after ≡ Some (with_bytes making (take n bytes))))
 
--- the bytes are read off the front of what is left
+-- the bytes are read off the prefix of what is left
 abbrev pub ReadsOff : Option (List ℕ) → Option (List ℕ) → List ℕ → Type 0
 ReadsOff before after bytes = IfSome before (λ left. (rest : List ℕ) × (left ≡ bytes ++ rest) × (after ≡ Some rest))
 
@@ -97,38 +97,38 @@ ReadsOff before after bytes = IfSome before (λ left. (rest : List ℕ) × (left
 abbrev pub AtMost : Result ℕ Failed → ℕ → Type 0
 AtMost result n = IfOk result (λ k. k ≤ n)
 
--- the first n bytes left go to the buffer's front; 0 for a buffer that is not empty means that nothing is left
-pub record TakesFront (left : List ℕ) (after : Option (List ℕ)) (n : ℕ) (buffer : List ℕ) : Type 0 where
+-- the first n bytes left go to the buffer's prefix; 0 for a buffer that is not empty means that nothing is left
+pub record TakesPrefix (left : List ℕ) (after : Option (List ℕ)) (n : ℕ) (buffer : List ℕ) : Type 0 where
   pub bytes : take n buffer ≡ take n left
   pub within : n ≤ length left
   pub rest : after ≡ Some (drop n left)
   pub end : n ≡ 0 → 0 < length buffer → left ≡ []
 
--- a read takes the front of what is left; a failed one leaves it
+-- a read takes the prefix of what is left; a failed one leaves it
 abbrev pub Reads : Option (List ℕ) → Option (List ℕ) → Result ℕ Failed → List ℕ → Type 0
-Reads before after (Ok n) buffer = IfSome before (λ left. TakesFront left after n buffer)
-Reads before after (Err e) buffer = StaysTold before after
+Reads before after (Ok n) buffer = IfSome before (λ left. TakesPrefix left after n buffer)
+Reads before after (Err e) buffer = StaysKnown before after
 
--- a text grows by all of the bytes, or on a failure by the front of them
+-- a text grows by all of the bytes, or on a failure by the prefix of them
 abbrev pub Grows : Option (List ℕ) → Option (List ℕ) → Result (Unit {0}) Failed → List ℕ → Type 0
 Grows before after (Ok done) text = GrowsBy before after text
-Grows before after (Err e) text = GrowsByFront before after text
+Grows before after (Err e) text = GrowsByPrefix before after text
 
--- so many bytes of the piece are added as the answer says, some where there are any; on a failure the front of the piece may be
+-- the given number of bytes of the chunk are added as the answer states, some where there are any; on a failure the prefix of the chunk may be
 abbrev pub Writes : Option (Option NamedFile) → Option (Option NamedFile) → Result ℕ Failed → List ℕ → Type 0
-Writes before after (Ok n) piece = MakingGrowsBy before after (take n piece) × (0 < length piece → 0 < n)
-Writes before after (Err e) piece = MakingGrowsByFront before after piece
+Writes before after (Ok n) chunk = MakingGrowsBy before after (take n chunk) × (0 < length chunk → 0 < n)
+Writes before after (Err e) chunk = MakingGrowsByPrefix before after chunk
 
--- all of the bytes are added to the file being made, or on a failure the front of them
+-- all of the bytes are added to the file being made, or on a failure the prefix of them
 abbrev pub WritesAll : Option (Option NamedFile) → Option (Option NamedFile) → Result (Unit {0}) Failed → List ℕ → Type 0
 WritesAll before after (Ok done) bytes = MakingGrowsBy before after bytes
-WritesAll before after (Err e) bytes = MakingGrowsByFront before after bytes
+WritesAll before after (Err e) bytes = MakingGrowsByPrefix before after bytes
 
 -- the bytes of the first file with this name
 abbrev pub file_named : List ℕ → List NamedFile → Option (List ℕ)
 file_named name files = option_map (λ f. f.1) (find (λ f. bytes_eq f.0 name) files)
 
--- the list of names grows by the name; on a failure it may be told no longer
+-- the list of names grows by the name; on a failure it may be known no longer
 abbrev pub NamesGrow : Option (List (List ℕ)) → Option (List (List ℕ)) → Result (Unit {0}) Failed → List ℕ → Type 0
 NamesGrow before after (Ok done) name = GrowsBy before after (name ∷ [])
 NamesGrow before after (Err e) name = OnSome after (GrowsBy before after (name ∷ []))
@@ -136,7 +136,7 @@ NamesGrow before after (Err e) name = OnSome after (GrowsBy before after (name �
 -- an input that is open has the bytes of the file with its name
 pub record Opens (old new : Meaning) (result : Result (Unit {0}) Failed) (name : List ℕ) : Type 0 where
   pub bytes : OnOk result (IfSome old.files (λ files. (bytes : List ℕ) × (file_named name files ≡ Some bytes) × (new.left ≡ Some bytes)))
-  pub told : IsSome old.left → IsSome new.left
+  pub known : IsSome old.left → IsSome new.left
   pub names : NamesGrow old.opened new.opened result name
 
 -- the file being made has the name and no bytes; on a failure it may be the one before

@@ -21,14 +21,14 @@ use output::Output;
 use std::alloc::Global;
 use std::marker::Model;
 
-/// A host in memory, for tests: files that are given, one file that is made, and two texts. It tells
+/// A host in memory, for tests: files that are given, one file that is made, and two texts. It reveals
 /// all that stands in it.
 ///
 /// It numbers its `open` and `read` calls together from 0, and its `create`, `write`, `finish`,
 /// `print` and `complain` calls together from 0. A call whose number is in the list of its kind
 /// fails. So do a call whose bytes or name pass the room, the opening of a name that is not there,
 /// and a `create` after a finished file. A failed call changes nothing but its count of faults and,
-/// for `open` and `create`, the list of names, which a name that passes the room ends: it is told
+/// for `open` and `create`, the list of names, which a name that passes the room ends: it is known
 /// no longer, and each later call of that kind fails.
 #[derive(Drop)]
 pub struct MemHost {
@@ -149,23 +149,23 @@ impl Source for MemHost {
 }
 
 impl Sink for MemHost {
-    fn write(&mut self, piece: &[u8]) -> Result<usize, Failed>
-        ensures bound { AtMost result (length piece.now) }
-        ensures bytes { Writes (memory_meaning self.old).making (memory_meaning self.new).making result piece.now }
+    fn write(&mut self, chunk: &[u8]) -> Result<usize, Failed>
+        ensures bound { AtMost result (length chunk.now) }
+        ensures bytes { Writes (memory_meaning self.old).making (memory_meaning self.new).making result chunk.now }
         ensures stays { KeepsAllButMaking (memory_meaning self.old) (memory_meaning self.new) }
         ensures cause { HasCause (memory_faults self.old).writes (memory_faults self.new).writes result }
         ensures counts { KeepsAllButWrites (memory_faults self.old) (memory_faults self.new) }
 
-        // Exactly which calls fail, and what stands after each: all of the piece is taken.
-        ensures fails { is_err result ≡ write_fails self.old piece.now }
-        ensures count { IfOk result (λ n. n ≡ length piece.now) }
-        ensures after { self.new ≡ after_write self.old piece.now }
+        // Exactly which calls fail, and what stands after each: all of the chunk is taken.
+        ensures fails { is_err result ≡ write_fails self.old chunk.now }
+        ensures count { IfOk result (λ n. n ≡ length chunk.now) }
+        ensures after { self.new ≡ after_write self.old chunk.now }
     {
-        if self.writes.fails() || !self.output.has_room_for(piece.len()) {
+        if self.writes.fails() || !self.output.has_room_for(chunk.len()) {
             return Err(self.counts.write_failed());
         }
-        self.output.add(piece);
-        Ok(piece.len())
+        self.output.add(chunk);
+        Ok(chunk.len())
     }
 }
 
@@ -181,8 +181,8 @@ impl Host for MemHost {
         ensures after { self.new ≡ after_open self.old name.now }
     {
         let fails = self.reads.fails();
-        let is_told = self.opened.add(name.as_bytes());
-        if fails || !is_told || !self.files.open(name) {
+        let is_known = self.opened.add(name.as_bytes());
+        if fails || !is_known || !self.files.open(name) {
             return Err(self.counts.read_failed());
         }
         Ok(())
@@ -199,8 +199,8 @@ impl Host for MemHost {
         ensures after { self.new ≡ after_create self.old name.now }
     {
         let fails = self.writes.fails();
-        let is_told = self.created.add(name.as_bytes());
-        if fails || !is_told || self.output.is_made() {
+        let is_known = self.created.add(name.as_bytes());
+        if fails || !is_known || self.output.is_made() {
             return Err(self.counts.write_failed());
         }
         self.output.create(name.as_bytes());

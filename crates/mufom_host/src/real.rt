@@ -10,13 +10,13 @@ use std::marker::Model;
 // How many bytes of the file being made are kept before they are handed to the system.
 const BUFFER: usize = 65_536;
 
-/// The files and the standard streams of the process: the trusted edge. It tells no content.
+/// The files and the standard streams of the process: the trusted edge. It reveals no content.
 ///
 /// The file being made is buffered: all of what was written is sure to stand only once
 /// [`finish`](Host::finish) has answered `Ok`. [`print`](Host::print) and
 /// [`complain`](Host::complain) hand the whole text to the system before they answer, so that
-/// nothing is left to write when the program ends: hand them large pieces. A call of the system
-/// that fails, also for want of memory for a buffer, is a counted fault. Of this host only the
+/// nothing is left to write when the program ends: hand them large chunks. A call of the system
+/// that fails, also for out of memory for a buffer, is a counted fault. Of this host only the
 /// causes are proved; that files and streams hold what was written is tested.
 #[derive(Drop)]
 pub struct RealHost {
@@ -37,13 +37,13 @@ impl Model for RealHost {
 
 impl World for RealHost {
     ghost use Rattle.std.specs.Prelude.{refl};
-    ghost use Rattle.mufom_host.specs.Real.{tells_nothing};
+    ghost use Rattle.mufom_host.specs.Real.{reveals_nothing};
 
-    ghost meaning = { λ host. tells_nothing };
+    ghost meaning = { λ host. reveals_nothing };
 
     ghost faults = { λ host. host };
 
-    ghost together = { λ host. record { left = λ told. told; making = λ told. told } };
+    ghost together = { λ host. record { left = λ known. known; making = λ known. known } };
 }
 
 impl RealHost {
@@ -77,12 +77,12 @@ impl Source for RealHost {
 }
 
 impl Sink for RealHost {
-    fn write(&mut self, piece: &[u8]) -> Result<usize, Failed> {
+    fn write(&mut self, chunk: &[u8]) -> Result<usize, Failed> {
         let Some(file) = &mut self.output else {
-            return Ok(piece.len());
+            return Ok(chunk.len());
         };
-        match file.write_all(piece) {
-            Ok(()) => Ok(piece.len()),
+        match file.write_all(chunk) {
+            Ok(()) => Ok(chunk.len()),
             Err(_) => Err(self.counts.write_failed()),
         }
     }
@@ -156,7 +156,7 @@ mod tests {
         )
     }
 
-    // Makes the file with these bytes in two pieces, and says whether all went well.
+    // Makes the file with these bytes in two chunks, and states whether all went well.
     fn makes(host: &mut RealHost, first: &[u8], second: &[u8]) -> bool {
         host.create(NAME).is_ok()
             && host.write(first) == Ok(first.len())

@@ -1,28 +1,28 @@
 ghost use Rattle.std.specs.Prelude.{length};
-ghost use Rattle.mufom_host.specs.World.{Meaning, Faults, TellsTogether, HasCause, AtMost, Reads, Opens, Writes, Creates, Finishes, Grows, WritesAll, KeepsAllButLeft, KeepsAllButOpened, KeepsAllButMaking, KeepsAllButCreated, KeepsAllButMade, KeepsAllButOut, KeepsAllButErr, KeepsAllButReads, KeepsAllButWrites, KeepsAllButComplaints};
+ghost use Rattle.mufom_host.specs.World.{Meaning, Faults, RevealsTogether, HasCause, AtMost, Reads, Opens, Writes, Creates, Finishes, Grows, WritesAll, KeepsAllButLeft, KeepsAllButOpened, KeepsAllButMaking, KeepsAllButCreated, KeepsAllButMade, KeepsAllButOut, KeepsAllButErr, KeepsAllButReads, KeepsAllButWrites, KeepsAllButComplaints};
 
 /// A call of the outside failed, and its count of faults rose.
 #[derive(Clone, Copy, Debug, PartialEq, Eq)]
 pub struct Failed;
 
-/// What stands outside, each part of it told or not, and how often calls failed.
+/// What stands outside, each part of it known or not, and how often calls failed.
 ///
-/// It has no calls, so that a reader over [`Source`] alone and a writer over [`Sink`] alone can say
+/// It has no calls, so that a reader over [`Source`] alone and a writer over [`Sink`] alone can state
 /// what stays. A call leaves each part and each count that its own clauses do not name, after `Ok`
-/// and after `Failed`. A part that is told stays told, but for the names of files after a failed
+/// and after `Failed`. A part that is known stays known, but for the names of files after a failed
 /// [`open`](Host::open) or [`create`](Host::create). The counts never fall; one that stands at the
-/// last `u64` is said to have risen all the same.
+/// last `u64` is stated to have risen all the same.
 pub trait World {
     ghost meaning: { Self → Meaning };
 
     ghost faults: { Self → Faults };
 
-    ghost together: { (world : Self) → TellsTogether (meaning world) };
+    ghost together: { (world : Self) → RevealsTogether (meaning world) };
 }
 
 /// Where the bytes of the open input come from.
 pub trait Source: World {
-    /// Takes bytes of the open input to the front of the buffer, and answers how many: 0 for a
+    /// Takes bytes of the open input to the prefix of the buffer, and answers how many: 0 for a
     /// buffer that is not empty means that none is left.
     ///
     /// `Failed` leaves what is left; the buffer may have changed.
@@ -36,14 +36,14 @@ pub trait Source: World {
 
 /// Where the bytes of the file being made go.
 pub trait Sink: World {
-    /// Adds the front of the piece to the file being made, and answers how many bytes it took: at
-    /// least 1 of a piece that is not empty. While no file is being made it may take the whole
-    /// piece, and changes nothing.
+    /// Adds the prefix of the chunk to the file being made, and answers how many bytes it took: at
+    /// least 1 of a chunk that is not empty. While no file is being made it may take the whole
+    /// chunk, and changes nothing.
     ///
-    /// `Failed` may have added a front of the piece.
-    fn write(&mut self, piece: &[u8]) -> Result<usize, Failed>
-        ensures bound { AtMost result (length piece.now) }
-        ensures bytes { Writes (Self.meaning self.old).making (Self.meaning self.new).making result piece.now }
+    /// `Failed` may have added a prefix of the chunk.
+    fn write(&mut self, chunk: &[u8]) -> Result<usize, Failed>
+        ensures bound { AtMost result (length chunk.now) }
+        ensures bytes { Writes (Self.meaning self.old).making (Self.meaning self.new).making result chunk.now }
         ensures stays { KeepsAllButMaking (Self.meaning self.old) (Self.meaning self.new) }
         ensures cause { HasCause (Self.faults self.old).writes (Self.faults self.new).writes result }
         ensures counts { KeepsAllButWrites (Self.faults self.old) (Self.faults self.new) };
@@ -79,14 +79,14 @@ pub trait Host: Source + Sink {
         ensures cause { HasCause (Self.faults self.old).writes (Self.faults self.new).writes result }
         ensures counts { KeepsAllButWrites (Self.faults self.old) (Self.faults self.new) };
 
-    /// Writes the whole text to the output of the program. `Failed` may have written a front of it.
+    /// Writes the whole text to the output of the program. `Failed` may have written a prefix of it.
     fn print(&mut self, text: &[u8]) -> Result<(), Failed>
         ensures bytes { Grows (Self.meaning self.old).out (Self.meaning self.new).out result text.now }
         ensures stays { KeepsAllButOut (Self.meaning self.old) (Self.meaning self.new) }
         ensures cause { HasCause (Self.faults self.old).writes (Self.faults self.new).writes result }
         ensures counts { KeepsAllButWrites (Self.faults self.old) (Self.faults self.new) };
 
-    /// Writes the whole text to where the program complains. `Failed` may have written a front of
+    /// Writes the whole text to where the program complains. `Failed` may have written a prefix of
     /// it.
     fn complain(&mut self, text: &[u8]) -> Result<(), Failed>
         ensures bytes { Grows (Self.meaning self.old).err (Self.meaning self.new).err result text.now }
@@ -97,7 +97,7 @@ pub trait Host: Source + Sink {
 
 /// Writes the whole of the bytes, in as many calls as the sink asks for.
 ///
-/// `Failed` may have added a front of the bytes.
+/// `Failed` may have added a prefix of the bytes.
 pub fn write_all<S: Sink>(sink: &mut S, bytes: &[u8]) -> Result<(), Failed>
     ensures bytes { WritesAll (S.meaning sink.old).making (S.meaning sink.new).making result bytes.now }
     ensures stays { KeepsAllButMaking (S.meaning sink.old) (S.meaning sink.new) }

@@ -19,7 +19,7 @@ abbrev pub repeated : {X : Type 0} → ℕ → List X → List X
 repeated zero xs = []
 repeated (suc n) xs = xs ++ repeated n xs
 
--- the items that a load puts in place, one after another: those of a repeat as many times as it says
+-- the items that a load puts in place, one after another: those of a repeat as many times as it states
 abbrev pub copies_of : Load → List Item
 copies_of (SetSection section) = []
 copies_of (SetPc section value) = []

@@ -39,7 +39,7 @@ fn load_length(load: &Load) -> u128
     }
 }
 
-/// How many bytes the loads put in place, the items of each repeat as many times as it says. Takes
+/// How many bytes the loads put in place, the items of each repeat as many times as it states. Takes
 /// no memory.
 ///
 /// The lengths of all items, those of a repeat taken once, must add up to less than 2^64.

@@ -93,9 +93,9 @@ own_apart [] ys h x y m n e = m
 own_apart (z ∷ xs) ys h x y (inl same) n e = h.0 y (In-right y xs ys n) (ap (λ (c : Cell). c.0) same ∙ e)
 own_apart (z ∷ xs) ys h x y (inr m) n e = own_apart xs ys h.1 x y m n e
 
-pub own_behind : (xs ys : List Cell) → HaveOwnAddresses (xs ++ ys) → HaveOwnAddresses ys
-own_behind [] ys h = h
-own_behind (x ∷ xs) ys h = own_behind xs ys h.1
+pub own_after : (xs ys : List Cell) → HaveOwnAddresses (xs ++ ys) → HaveOwnAddresses ys
+own_after [] ys h = h
+own_after (x ∷ xs) ys h = own_after xs ys h.1
 
 rising_own : (from : ℕ) (cells : List Cell) → AreRising from cells → HaveOwnAddresses cells
 rising_own from [] h = tt
@@ -110,7 +110,7 @@ within_own from to [] h = tt
 within_own from to (run ∷ runs) h =
     let row = run_within from to run in
     own_append (cells_from row.address row.bytes) (cells_within from to runs) (row_own row.address row.bytes)
-    (within_own from to runs (own_behind (cells_from run.address run.bytes) (run_cells runs) h))
+    (within_own from to runs (own_after (cells_from run.address run.bytes) (run_cells runs) h))
     (λ x y m n e. own_apart (cells_from run.address run.bytes) (run_cells runs) h x y (row_cell from to run x m).0 (within_runs from to runs y n).0 e)
 
 -- ---- section by section

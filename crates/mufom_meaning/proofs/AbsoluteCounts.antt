@@ -14,15 +14,15 @@ use Rattle.mufom_meaning.specs.declared.located.Run.{Run}
 use Rattle.mufom_meaning.specs.Flat.{Sited}
 use Rattle.mufom_meaning.specs.Values.{Setting, value}
 use Rattle.mufom_meaning.specs.Counts.{step_length, lengths_of_steps}
-use Rattle.mufom_meaning.specs.Fields.{bytes_of, field_number, field_bytes}
+use Rattle.mufom_meaning.specs.Fields.{number_bytes, field_number, field_bytes}
 use Rattle.mufom_meaning.specs.Steps.{Step, counter_step, item_step, counter, item_reading, readings_after}
 use Rattle.mufom_meaning.specs.AddressMap.{Cell, cells_from, field_cells, step_cells, address_map}
-use Rattle.mufom_meaning.specs.Absolute.{literal_limit, pieces, run_within, row_loads, loads_of_bytes, loads_between, with_section, section_loads_at, section_loads}
+use Rattle.mufom_meaning.specs.Absolute.{literal_limit, chunks, run_within, row_loads, loads_of_bytes, loads_between, with_section, section_loads_at, section_loads}
 use Rattle.mufom_meaning.proofs.Members.{In}
 use Rattle.mufom_meaning.proofs.CellRows.{HaveOwnAddresses}
-use Rattle.mufom_meaning.proofs.OwnAddresses.{length-bytes_of, length-in_byte_order}
+use Rattle.mufom_meaning.proofs.OwnAddresses.{length-number_bytes, length-in_byte_order}
 use Rattle.mufom_meaning.proofs.AbsoluteCells.{cells_within, cells_at, section_cells, absolute_cells}
-use Rattle.mufom_meaning.proofs.AbsoluteWalk.{together, pieces_together}
+use Rattle.mufom_meaning.proofs.AbsoluteWalk.{together, chunks_together}
 
 length-cells_from : (a : ℕ) (bytes : List ℕ) → length (cells_from a bytes) ≡ length bytes
 length-cells_from a [] = refl
@@ -37,8 +37,8 @@ literals_length (p ∷ ps) =
 
 row_length : (n : ℕ) (row : Run) → lengths_loaded (row_loads n row) ≡ length row.bytes
 row_length n row =
-    sum_by-cons length_loaded (SetPc n (number row.address)) (map (λ p. One (Literal p)) (pieces literal_limit row.bytes))
-    ∙ (let none = literals_length (pieces literal_limit row.bytes) in let all = ap length (pieces_together 65534 (length row.bytes) row.bytes (omega arith)) in omega (arith, none, all))
+    sum_by-cons length_loaded (SetPc n (number row.address)) (map (λ p. One (Literal p)) (chunks literal_limit row.bytes))
+    ∙ (let none = literals_length (chunks literal_limit row.bytes) in let all = ap length (chunks_together 65534 (length row.bytes) row.bytes (omega arith)) in omega (arith, none, all))
 
 run_length : (n : ℕ) (row : Run) → lengths_loaded (loads_of_bytes n row row.bytes) ≡ length row.bytes
 run_length n row = by_bytes row.bytes refl where
@@ -84,8 +84,8 @@ module _ (order : Order) (s : Setting) where
     by_value None = omega arith
     by_value (Some v) =
         let long = length-cells_from at (field_bytes order s.modulus kind size v) in
-        let bytes = length-in_byte_order order (bytes_of size (field_number s.modulus kind size v)) in
-        let count = length-bytes_of size (field_number s.modulus kind size v) in omega (arith, long, bytes, count)
+        let bytes = length-in_byte_order order (number_bytes size (field_number s.modulus kind size v)) in
+        let count = length-number_bytes size (field_number s.modulus kind size v) in omega (arith, long, bytes, count)
 
   -- no more cells than the steps load
   pub cells_count : (earlier more : List Step) → length (address_map order s.modulus (readings_after s earlier more)) ≤ lengths_of_steps more

@@ -12,7 +12,7 @@ use Rattle.mufom_debug.proofs.Rebuilt.{same_items}
 use Rattle.mufom_module.specs.declared.module.Parts.{Parts}
 use Rattle.mufom_module.specs.declared.module.Defect.TheVariants as d
 use Rattle.mufom_module.specs.Contents.{HeadAndEnd, blocks_of, any_of, any_expression}
-use Rattle.mufom_module.specs.Defects.{IsValid, counts_of, names_outside, has_bad_place, has_bad_mark, begins_badly, names_bad_section, has_long_name, is_long, has_unknown_attribute, has_other_counter, declared_behind, ends_plainly, has_bad_end}
+use Rattle.mufom_module.specs.Defects.{IsValid, counts_of, names_outside, has_bad_place, has_bad_mark, begins_badly, names_bad_section, has_long_name, is_long, has_unknown_attribute, has_other_counter, declared_after, ends_plainly, has_bad_end}
 use Rattle.mufom_plan.specs.declared.plan.Plan.{Plan}
 use Rattle.mufom_place.specs.Bases.{bases}
 use Rattle.mufom_meaning.specs.Readings.{readings}
@@ -84,7 +84,7 @@ module _ (m : Parts) (more : List Parts) (plan : Plan) (r : LocatedParts) (v : A
   same_long site (note_mark name note) = refl
   same_long site (value_mark name t) = refl
 
-  -- what is left of a test of strings behind those of the module itself
+  -- what is left of a test of strings after those of the module itself
   names_of_marks : (parts : Parts) → IsValid parts → list_any has_long_name (marks_of parts.debug) ≡ false
   names_of_marks parts valid =
       let all = no_defect parts valid d.LongId in
@@ -146,8 +146,8 @@ module _ (m : Parts) (more : List Parts) (plan : Plan) (r : LocatedParts) (v : A
   bad_marks_fail parts valid =
       let all = no_defect parts valid d.Position in
       let a = (either_false (list_any (λ p. names_outside (counts_of parts) p.value) parts.names.publics) _ all).1 in
-      let b = (either_false (list_any (has_bad_place (counts_of parts)) parts.loads) (list_any (has_bad_mark (counts_of parts)) (marks_of parts.debug) || (any_of (names_outside (counts_of parts)) parts.start || is_none (declared_behind 0 (marks_of parts.debug)))) a).1 in
-      (either_false (list_any (has_bad_mark (counts_of parts)) (marks_of parts.debug)) (any_of (names_outside (counts_of parts)) parts.start || is_none (declared_behind 0 (marks_of parts.debug))) b).0
+      let b = (either_false (list_any (has_bad_place (counts_of parts)) parts.loads) (list_any (has_bad_mark (counts_of parts)) (marks_of parts.debug) || (any_of (names_outside (counts_of parts)) parts.start || is_none (declared_after 0 (marks_of parts.debug)))) a).1 in
+      (either_false (list_any (has_bad_mark (counts_of parts)) (marks_of parts.debug)) (any_of (names_outside (counts_of parts)) parts.start || is_none (declared_after 0 (marks_of parts.debug))) b).0
 
   sections_inside : list_any (begins_badly (counts_of (absolute_of r))) (marks_of r.debug) ≡ false
   sections_inside = marks_fail (begins_badly (counts_of (absolute_of r))) (λ site k mark l.
@@ -222,53 +222,53 @@ module _ (m : Parts) (more : List Parts) (plan : Plan) (r : LocatedParts) (v : A
 
   -- ---- debug names
 
-  declared_parts : (parts : Parts) → IsValid parts → is_none (declared_behind 0 (marks_of parts.debug)) ≡ false
+  declared_parts : (parts : Parts) → IsValid parts → is_none (declared_after 0 (marks_of parts.debug)) ≡ false
   declared_parts parts valid =
       let all = no_defect parts valid d.Position in
       let a = (either_false (list_any (λ p. names_outside (counts_of parts) p.value) parts.names.publics) _ all).1 in
-      let b = (either_false (list_any (has_bad_place (counts_of parts)) parts.loads) (list_any (has_bad_mark (counts_of parts)) (marks_of parts.debug) || (any_of (names_outside (counts_of parts)) parts.start || is_none (declared_behind 0 (marks_of parts.debug)))) a).1 in
-      let c = (either_false (list_any (has_bad_mark (counts_of parts)) (marks_of parts.debug)) (any_of (names_outside (counts_of parts)) parts.start || is_none (declared_behind 0 (marks_of parts.debug))) b).1 in
-      (either_false (any_of (names_outside (counts_of parts)) parts.start) (is_none (declared_behind 0 (marks_of parts.debug))) c).1
+      let b = (either_false (list_any (has_bad_place (counts_of parts)) parts.loads) (list_any (has_bad_mark (counts_of parts)) (marks_of parts.debug) || (any_of (names_outside (counts_of parts)) parts.start || is_none (declared_after 0 (marks_of parts.debug)))) a).1 in
+      let c = (either_false (list_any (has_bad_mark (counts_of parts)) (marks_of parts.debug)) (any_of (names_outside (counts_of parts)) parts.start || is_none (declared_after 0 (marks_of parts.debug))) b).1 in
+      (either_false (any_of (names_outside (counts_of parts)) parts.start) (is_none (declared_after 0 (marks_of parts.debug))) c).1
 
-  -- behind the marks of a module as many more names are declared as it declares
-  declared_on : (site : Sited) (marks rest : List DebugMark) (n : ℕ) → is_none (declared_behind n marks) ≡ false
-      → declared_behind (site.first_name + n) (map (there site) marks ++ rest) ≡ declared_behind (site.first_name + (n + name_count marks)) rest
-  declared_on site [] rest n e = let same : site.first_name + n ≡ site.first_name + (n + 0) = omega arith in ap (λ k. declared_behind k rest) same
+  -- after the marks of a module as many more names are declared as it declares
+  declared_on : (site : Sited) (marks rest : List DebugMark) (n : ℕ) → is_none (declared_after n marks) ≡ false
+      → declared_after (site.first_name + n) (map (there site) marks ++ rest) ≡ declared_after (site.first_name + (n + name_count marks)) rest
+  declared_on site [] rest n e = let same : site.first_name + n ≡ site.first_name + (n + 0) = omega arith in ap (λ k. declared_after k rest) same
   declared_on site (block_begin head name ∷ marks) rest n e = declared_on site marks rest n e
   declared_on site (block_end end ∷ marks) rest n e = declared_on site marks rest n e
   declared_on site (name_mark name ∷ marks) rest n e =
       let here : (site.first_name + n) + 1 ≡ site.first_name + (n + 1) = omega arith in
       let end : site.first_name + ((n + 1) + name_count marks) ≡ site.first_name + (n + (1 + name_count marks)) = omega arith in
-      ap (λ k. declared_behind k (map (there site) marks ++ rest)) here ∙ declared_on site marks rest (n + 1) e ∙ ap (λ k. declared_behind k rest) end
+      ap (λ k. declared_after k (map (there site) marks ++ rest)) here ∙ declared_on site marks rest (n + 1) e ∙ ap (λ k. declared_after k rest) end
   declared_on site (note_mark name note ∷ marks) rest n e = by_test (nat_lt name n) refl e (declared_on site marks rest n) where
-    by_test : (b : Bool) → nat_lt name n ≡ b → is_none (option_and_then (λ k. declared_behind k marks) (if b then Some n else None)) ≡ false
-        → (is_none (declared_behind n marks) ≡ false → declared_behind (site.first_name + n) (map (there site) marks ++ rest) ≡ declared_behind (site.first_name + (n + name_count marks)) rest)
-        → option_and_then (λ k. declared_behind k (map (there site) marks ++ rest)) (if nat_lt (site.first_name + name) (site.first_name + n) then Some (site.first_name + n) else None) ≡ declared_behind (site.first_name + (n + name_count marks)) rest
+    by_test : (b : Bool) → nat_lt name n ≡ b → is_none (option_and_then (λ k. declared_after k marks) (if b then Some n else None)) ≡ false
+        → (is_none (declared_after n marks) ≡ false → declared_after (site.first_name + n) (map (there site) marks ++ rest) ≡ declared_after (site.first_name + (n + name_count marks)) rest)
+        → option_and_then (λ k. declared_after k (map (there site) marks ++ rest)) (if nat_lt (site.first_name + name) (site.first_name + n) then Some (site.first_name + n) else None) ≡ declared_after (site.first_name + (n + name_count marks)) rest
     by_test false f e later = absurd cc
     by_test true f e later =
         let less = of_lt name n f in
         let test = is_lt (site.first_name + name) (site.first_name + n) (omega (arith, less)) in
-        ap (λ (b : Bool). option_and_then (λ k. declared_behind k (map (there site) marks ++ rest)) (if b then Some (site.first_name + n) else None)) test ∙ later e
+        ap (λ (b : Bool). option_and_then (λ k. declared_after k (map (there site) marks ++ rest)) (if b then Some (site.first_name + n) else None)) test ∙ later e
   declared_on site (value_mark name t ∷ marks) rest n e = by_test (nat_lt name n) refl e (declared_on site marks rest n) where
-    by_test : (b : Bool) → nat_lt name n ≡ b → is_none (option_and_then (λ k. declared_behind k marks) (if b then Some n else None)) ≡ false
-        → (is_none (declared_behind n marks) ≡ false → declared_behind (site.first_name + n) (map (there site) marks ++ rest) ≡ declared_behind (site.first_name + (n + name_count marks)) rest)
-        → option_and_then (λ k. declared_behind k (map (there site) marks ++ rest)) (if nat_lt (site.first_name + name) (site.first_name + n) then Some (site.first_name + n) else None) ≡ declared_behind (site.first_name + (n + name_count marks)) rest
+    by_test : (b : Bool) → nat_lt name n ≡ b → is_none (option_and_then (λ k. declared_after k marks) (if b then Some n else None)) ≡ false
+        → (is_none (declared_after n marks) ≡ false → declared_after (site.first_name + n) (map (there site) marks ++ rest) ≡ declared_after (site.first_name + (n + name_count marks)) rest)
+        → option_and_then (λ k. declared_after k (map (there site) marks ++ rest)) (if nat_lt (site.first_name + name) (site.first_name + n) then Some (site.first_name + n) else None) ≡ declared_after (site.first_name + (n + name_count marks)) rest
     by_test false f e later = absurd cc
     by_test true f e later =
         let less = of_lt name n f in
         let test = is_lt (site.first_name + name) (site.first_name + n) (omega (arith, less)) in
-        ap (λ (b : Bool). option_and_then (λ k. declared_behind k (map (there site) marks ++ rest)) (if b then Some (site.first_name + n) else None)) test ∙ later e
+        ap (λ (b : Bool). option_and_then (λ k. declared_after k (map (there site) marks ++ rest)) (if b then Some (site.first_name + n) else None)) test ∙ later e
 
-  declared_flat : (a b c : ℕ) (list : List Parts) → AreValid list → is_none (declared_behind c (flat_map (λ site. map (there site) (marks_of site.parts.debug)) (sited_from a b c list))) ≡ false
+  declared_flat : (a b c : ℕ) (list : List Parts) → AreValid list → is_none (declared_after c (flat_map (λ site. map (there site) (marks_of site.parts.debug)) (sited_from a b c list))) ≡ false
   declared_flat a b c [] valid = refl
   declared_flat a b c (x ∷ list) valid =
       let site : Sited = record { parts = x; first_section = a; first_public = b; first_name = c } in
       let rest = flat_map (λ site. map (there site) (marks_of site.parts.debug)) (sited_from (a + length x.sections) (b + length x.names.publics) (c + name_count (marks_of x.debug)) list) in
       let here : c ≡ c + 0 = omega arith in
       let end : c + (0 + name_count (marks_of x.debug)) ≡ c + name_count (marks_of x.debug) = omega arith in
-      ap is_none (ap (λ k. declared_behind k (map (there site) (marks_of x.debug) ++ rest)) here
-      ∙ declared_on site (marks_of x.debug) rest 0 (declared_parts x valid.0) ∙ ap (λ k. declared_behind k rest) end)
+      ap is_none (ap (λ k. declared_after k (map (there site) (marks_of x.debug) ++ rest)) here
+      ∙ declared_on site (marks_of x.debug) rest 0 (declared_parts x valid.0) ∙ ap (λ k. declared_after k rest) end)
       ∙ declared_flat (a + length x.sections) (b + length x.names.publics) (c + name_count (marks_of x.debug)) list valid.1
 
-  pub declared : is_none (declared_behind 0 (marks_of r.debug)) ≡ false
-  declared = ap (λ marks. is_none (declared_behind 0 marks)) marks_there ∙ declared_flat 0 0 0 ms v
+  pub declared : is_none (declared_after 0 (marks_of r.debug)) ≡ false
+  declared = ap (λ marks. is_none (declared_after 0 marks)) marks_there ∙ declared_flat 0 0 0 ms v

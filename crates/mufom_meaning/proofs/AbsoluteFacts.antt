@@ -20,7 +20,7 @@ use Rattle.mufom_meaning.specs.Stands.{StandsIn, put_back, IsStepAfter, HasZeroD
 use Rattle.mufom_meaning.proofs.Choices.{some_same}
 use Rattle.mufom_meaning.proofs.Members.{In, In-at, map-In, In-append, In-left, get_some}
 use Rattle.mufom_meaning.proofs.CellRows.{HaveOwnAddresses}
-use Rattle.mufom_meaning.proofs.AbsoluteCells.{at_cell, own_apart, own_behind}
+use Rattle.mufom_meaning.proofs.AbsoluteCells.{at_cell, own_apart, own_after}
 use Rattle.mufom_meaning.proofs.AbsoluteWalk.{IsPlainItem, IsPlainWalk}
 
 literal_same : (bytes other : List ℕ) → ◌≡◌ {A = Item} (Literal bytes) (Literal other) → bytes ≡ other
@@ -49,15 +49,15 @@ module _ (order : Order) (s : Setting) where
     pub inside : (cell : Cell) → In cell (cells_after earlier more) → cell.0 < s.modulus
     pub free : (cell : Cell) → In cell (cells_after earlier more) → In (cell.0 % s.modulus) (loaded_addresses s earlier) → ⊥
 
-  -- the cells of a literal stand in front of the others
-  literal_front : (earlier : List Step) (site : Sited) (section : ℕ) (item : Item) (more : List Step) (p : IsPlainItem s earlier section item)
+  -- the cells of a literal stand before the others
+  literal_prefix : (earlier : List Step) (site : Sited) (section : ℕ) (item : Item) (more : List Step) (p : IsPlainItem s earlier section item)
       → cells_after earlier (item_step site section item ∷ more) ≡ cells_from p.at p.bytes ++ cells_after (item_step site section item ∷ earlier) more
-  literal_front earlier site section item more p = by_item item p.is p.counted where
+  literal_prefix earlier site section item more p = by_item item p.is p.counted where
     by_item : (item : Item) → item ≡ Literal p.bytes → counter s earlier section ≡ Some p.at
         → cells_after earlier (item_step site section item ∷ more) ≡ cells_from p.at p.bytes ++ cells_after (item_step site section item ∷ earlier) more
     by_item (Literal bytes) e c =
         let own : literal_cells (counter s earlier section) bytes ≡ cells_from p.at p.bytes = ap (λ o. literal_cells o bytes) c ∙ ap (cells_from p.at) (literal_same bytes p.bytes e) in
-        ap (λ front. front ++ cells_after (item_step site section (Literal bytes) ∷ earlier) more) own
+        ap (λ prefix. prefix ++ cells_after (item_step site section (Literal bytes) ∷ earlier) more) own
     by_item (Field kind t size) e c = absurd cc
 
   addresses_there : (earlier : List Step) (section : ℕ) (item : Item) (p : IsPlainItem s earlier section item) (x : ℕ) → In x (addresses_at s.modulus (counter s earlier section) item)
@@ -72,21 +72,21 @@ module _ (order : Order) (s : Setting) where
   clear_on earlier (counter_step site section t) more c = record { plain = c.plain.1; own = c.own; inside = c.inside; free = c.free }
   clear_on earlier (item_step site section item) more c =
       let p = c.plain.0 in
-      let front = literal_front earlier site section item more p in
+      let prefix = literal_prefix earlier site section item more p in
       let rest = cells_after (item_step site section item ∷ earlier) more in
-      let own = subst HaveOwnAddresses front c.own in
-      let within : (cell : Cell) → In cell rest → In cell (cells_after earlier (item_step site section item ∷ more)) = λ cell h. subst (In cell) (sym front) (behind cell (cells_from p.at p.bytes) rest h) in
+      let own = subst HaveOwnAddresses prefix c.own in
+      let within : (cell : Cell) → In cell rest → In cell (cells_after earlier (item_step site section item ∷ more)) = λ cell h. subst (In cell) (sym prefix) (after cell (cells_from p.at p.bytes) rest h) in
       let low : (cell : Cell) → In cell rest → cell.0 < s.modulus = λ cell h. c.inside cell (within cell h) in
       record {
         plain = c.plain.1;
-        own = own_behind (cells_from p.at p.bytes) rest own;
+        own = own_after (cells_from p.at p.bytes) rest own;
         inside = low;
         free = λ cell h k. by_case cell h (within cell h) p own (low cell h) (In-append (cell.0 % s.modulus) (addresses_at s.modulus (counter s earlier section) item) (loaded_addresses s earlier) k);
       }
     where
-      behind : (cell : Cell) (xs ys : List Cell) → In cell ys → In cell (xs ++ ys)
-      behind cell [] ys h = h
-      behind cell (x ∷ xs) ys h = inr (behind cell xs ys h)
+      after : (cell : Cell) (xs ys : List Cell) → In cell ys → In cell (xs ++ ys)
+      after cell [] ys h = h
+      after cell (x ∷ xs) ys h = inr (after cell xs ys h)
 
       by_case : (cell : Cell) → In cell (cells_after (item_step site section item ∷ earlier) more) → In cell (cells_after earlier (item_step site section item ∷ more)) → (p : IsPlainItem s earlier section item)
           → HaveOwnAddresses (cells_from p.at p.bytes ++ cells_after (item_step site section item ∷ earlier) more) → cell.0 < s.modulus
@@ -142,7 +142,7 @@ module _ (order : Order) (s : Setting) where
           let long : byte_count h.5 ≡ length p.bytes = ap byte_count p.is in
           let less : h.4 < length p.bytes = omega (arith, h.7, long) in
           let cell = cell_of p.at p.bytes h.4 less in
-          let within = subst (In (p.at + h.4, cell.0)) (sym (literal_front h.0 h.1 h.2 h.5 h.6.0.0 p)) (In-left (p.at + h.4, cell.0) (cells_from p.at p.bytes) (cells_after (item_step h.1 h.2 h.5 ∷ h.0) h.6.0.0) cell.1) in
+          let within = subst (In (p.at + h.4, cell.0)) (sym (literal_prefix h.0 h.1 h.2 h.5 h.6.0.0 p)) (In-left (p.at + h.4, cell.0) (cells_from p.at p.bytes) (cells_after (item_step h.1 h.2 h.5 ∷ h.0) h.6.0.0) cell.1) in
           let same : address ≡ (p.at + h.4) % s.modulus = h.8 ∙ ap (λ a. (a + h.4) % s.modulus) at in
           c.free (p.at + h.4, cell.0) within (subst (λ a. In a (loaded_addresses s h.0)) same (In-at address (loaded_addresses s h.0) there.0 there.1))
       by_place c (inr there) =

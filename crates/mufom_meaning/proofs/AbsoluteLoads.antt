@@ -12,11 +12,11 @@ use Rattle.mufom_module.specs.Contents.{load_any, any_item, placed_from}
 use Rattle.mufom_module.specs.Defects.{counts_of, names_outside, has_bad_place, misplaces_counter, loads_nowhere, is_long_literal, has_bad_size, has_other_counter, counter_of}
 use Rattle.mufom_module.specs.declared.module.Parts.{Parts}
 use Rattle.mufom_meaning.specs.declared.located.Run.{Run}
-use Rattle.mufom_meaning.specs.Absolute.{literal_limit, pieces_within, pieces, run_within, row_loads, loads_of_bytes, loads_between, with_section, section_loads_at, section_loads}
+use Rattle.mufom_meaning.specs.Absolute.{literal_limit, chunks_within, chunks, run_within, row_loads, loads_of_bytes, loads_between, with_section, section_loads_at, section_loads}
 use Rattle.mufom_meaning.proofs.Choices.{two_false, not_lt, not_le}
 use Rattle.mufom_meaning.proofs.Members.{In, map-In, flat_map-In}
 
--- a load of such a module, where it has so many sections
+-- a load of such a module, where it has the given number of sections
 abbrev pub IsPlainLoad : ℕ → Load → Type 0
 IsPlainLoad k (SetSection n) = n < k
 IsPlainLoad k (SetPc n t) = (n < k) × ((a : ℕ) × (t ≡ number a))
@@ -24,18 +24,18 @@ IsPlainLoad k (One (Literal bytes)) = length bytes ≤ 65535
 IsPlainLoad k (One (Field kind t size)) = ⊥
 IsPlainLoad k (Repeat count items) = ⊥
 
-piece_short : (size n : ℕ) (xs p : List ℕ) → In p (pieces_within n size xs) → length p ≤ size
-piece_short size zero xs p h = absurd h
-piece_short size (suc n) [] p h = absurd h
-piece_short size (suc n) (x ∷ xs) p (inl e) = let long = length-take size (x ∷ xs) in let same = ap length e in omega (arith, long, same)
-piece_short size (suc n) (x ∷ xs) p (inr h) = piece_short size n (drop size (x ∷ xs)) p h
+chunk_short : (size n : ℕ) (xs p : List ℕ) → In p (chunks_within n size xs) → length p ≤ size
+chunk_short size zero xs p h = absurd h
+chunk_short size (suc n) [] p h = absurd h
+chunk_short size (suc n) (x ∷ xs) p (inl e) = let long = length-take size (x ∷ xs) in let same = ap length e in omega (arith, long, same)
+chunk_short size (suc n) (x ∷ xs) p (inr h) = chunk_short size n (drop size (x ∷ xs)) p h
 
 module _ (k n : ℕ) (less : n < k) where
   row_plain : (row : Run) (load : Load) → In load (row_loads n row) → IsPlainLoad k load
   row_plain row load (inl e) = subst (IsPlainLoad k) e (less, (row.address, refl))
   row_plain row load (inr h) =
-      let there = map-In (λ piece. One (Literal piece)) load (pieces literal_limit row.bytes) h in
-      subst (IsPlainLoad k) there.2 (piece_short literal_limit (length row.bytes) row.bytes there.0 there.1)
+      let there = map-In (λ chunk. One (Literal chunk)) load (chunks literal_limit row.bytes) h in
+      subst (IsPlainLoad k) there.2 (chunk_short literal_limit (length row.bytes) row.bytes there.0 there.1)
 
   run_plain : (row : Run) (bytes : List ℕ) (load : Load) → In load (loads_of_bytes n row bytes) → IsPlainLoad k load
   run_plain row [] load h = absurd h

@@ -29,7 +29,7 @@ use Rattle.mufom_meaning.specs.Staging.{AreValid}
 use Rattle.mufom_meaning.specs.Absolute.{absolute_public, absolute_of, no_regions}
 use Rattle.mufom_meaning.proofs.Answers.{find_at}
 use Rattle.mufom_meaning.proofs.Members.{In, In-at, map-In, In-map, flat_map-In}
-use Rattle.mufom_meaning.proofs.Names.{names_of, names_of-publics_of}
+use Rattle.mufom_meaning.proofs.Names.{names_of, names_of-sited_publics}
 use Rattle.mufom_meaning.proofs.Linkable.{no_link_answer_is_linkable}
 use Rattle.mufom_meaning.proofs.AllAnswers.{answers_are_facts}
 use Rattle.mufom_meaning.proofs.AbsolutePlaces.{placed_again, placing_there, base_there}
@@ -37,7 +37,7 @@ use Rattle.mufom_meaning.proofs.AbsoluteFacts.{no_counter_divisor, no_field_divi
 use Rattle.mufom_meaning.proofs.AbsoluteMarks.{width_positive, value_below, number_value, IsNumbered, mark_numbered}
 use Rattle.mufom_meaning.proofs.AbsoluteRows.{sections_alone, placed_alone, width_alone, modulus_alone, placement_none, clear, same_cells, fewer_bytes}
 
--- an empty list behind another
+-- an empty list after another
 In-nil : {A : Type 0} (x : A) (xs : List A) → In x (xs ++ []) → In x xs
 In-nil x xs h = subst (In x) (append-nil xs) h
 
@@ -87,7 +87,7 @@ module _ (m : Parts) (more : List Parts) (plan : Plan) (r : LocatedParts) (v : A
   unfolding readings
   same_names =
       append-nil (map (λ entry. entry.name) (map absolute_public r.publics)) ∙ names_of_publics r.publics ∙ ap (map (λ (x : PublicReading). x.name)) h.publics
-      ∙ names_of_readings s (flat_publics ms) ∙ names_of-publics_of 0 0 0 ms
+      ∙ names_of_readings s (flat_publics ms) ∙ names_of-sited_publics 0 0 0 ms
 
   links : link_answer alone ≡ None
   links = (no_link_answer_is_linkable alone).1 (record {

@@ -11,7 +11,7 @@ use Rattle.mufom_module.specs.declared.module.Defect.{Defect}
 use Rattle.mufom_module.specs.declared.module.Defect.TheVariants as d
 use Rattle.mufom_module.specs.Contents.{any_of, any_expression, any_item, placed_loads, debug_marks}
 use Rattle.mufom_module.specs.Written.{weight}
-use Rattle.mufom_module.specs.Defects.{IsValid, has_defect, defects, counts_of, names_outside, has_bad_place, has_bad_mark, declared_behind, has_other_counter, misplaces_counter, is_long, has_long_name, has_bad_alignment, lacks_base, is_unit_count, is_long_literal, has_bad_size}
+use Rattle.mufom_module.specs.Defects.{IsValid, has_defect, defects, counts_of, names_outside, has_bad_place, has_bad_mark, declared_after, has_other_counter, misplaces_counter, is_long, has_long_name, has_bad_alignment, lacks_base, is_unit_count, is_long_literal, has_bad_size}
 use Rattle.mufom_plan.specs.declared.plan.Plan.{Plan}
 use Rattle.mufom_place.specs.Bases.{bases}
 use Rattle.mufom_meaning.specs.declared.located.PublicValue.{PublicValue}
@@ -66,28 +66,28 @@ module _ (m : Parts) (more : List Parts) (plan : Plan) (r : LocatedParts) (v : A
 
   -- ---- strings
 
-  abbrev strings_behind_name : Parts → Bool
-  strings_behind_name parts = list_any (λ s. is_long s.name) parts.sections
+  abbrev strings_after_name : Parts → Bool
+  strings_after_name parts = list_any (λ s. is_long s.name) parts.sections
       || (list_any (λ p. is_long p.name) parts.names.publics
       || (list_any (λ r. is_long r.name) parts.names.references
       || list_any has_long_name (debug_marks parts)))
 
   short_processor : is_long r.processor ≡ false
-  short_processor = ap (λ (x : Header). is_long x.0) (sym header) ∙ (either_false (is_long m.processor) (is_long m.name || strings_behind_name m) (no_defect m v.0 d.LongId)).0
+  short_processor = ap (λ (x : Header). is_long x.0) (sym header) ∙ (either_false (is_long m.processor) (is_long m.name || strings_after_name m) (no_defect m v.0 d.LongId)).0
 
-  behind_processor : (parts : Parts) → IsValid parts → (is_long parts.name || strings_behind_name parts) ≡ false
-  behind_processor parts valid = (either_false (is_long parts.processor) (is_long parts.name || strings_behind_name parts) (no_defect parts valid d.LongId)).1
+  after_processor : (parts : Parts) → IsValid parts → (is_long parts.name || strings_after_name parts) ≡ false
+  after_processor parts valid = (either_false (is_long parts.processor) (is_long parts.name || strings_after_name parts) (no_defect parts valid d.LongId)).1
 
   short_name : is_long r.name ≡ false
-  short_name = ap (λ (x : Header). is_long x.1) (sym header) ∙ (either_false (is_long m.name) (strings_behind_name m) (behind_processor m v.0)).0
+  short_name = ap (λ (x : Header). is_long x.1) (sym header) ∙ (either_false (is_long m.name) (strings_after_name m) (after_processor m v.0)).0
 
-  behind_name : (parts : Parts) → IsValid parts → strings_behind_name parts ≡ false
-  behind_name parts valid = (either_false (is_long parts.name) (strings_behind_name parts) (behind_processor parts valid)).1
+  after_name : (parts : Parts) → IsValid parts → strings_after_name parts ≡ false
+  after_name parts valid = (either_false (is_long parts.name) (strings_after_name parts) (after_processor parts valid)).1
 
   short_sections : list_any (λ s. is_long s.name) r.sections ≡ false
   short_sections = none-In (λ s. is_long s.name) r.sections (λ section k.
       let there = of_section section k in
-      let own = (either_false (list_any (λ s. is_long s.name) there.0.sections) _ (behind_name there.0 (valid_parts there.0 there.1))).0 in
+      let own = (either_false (list_any (λ s. is_long s.name) there.0.sections) _ (after_name there.0 (valid_parts there.0 there.1))).0 in
       ap (λ (x : Section). is_long x.name) there.2.1.0.same ∙ fails-In (λ s. is_long s.name) there.0.sections own there.2.1.0.first there.2.1.1)
 
   short_public : (p : PublicValue) → In p r.publics → is_long p.name ≡ false
@@ -98,7 +98,7 @@ module _ (m : Parts) (more : List Parts) (plan : Plan) (r : LocatedParts) (v : A
       let own = map-In (λ entry. record { site = site.0; entry = entry }) there.0 site.0.parts.names.publics site.2 in
       let parts = site.0.parts in
       let valid = valid_parts parts (site_module 0 0 0 ms site.0 site.1) in
-      let rest = (either_false (list_any (λ s. is_long s.name) parts.sections) (list_any (λ p. is_long p.name) parts.names.publics || (list_any (λ r. is_long r.name) parts.names.references || list_any has_long_name (debug_marks parts))) (behind_name parts valid)).1 in
+      let rest = (either_false (list_any (λ s. is_long s.name) parts.sections) (list_any (λ p. is_long p.name) parts.names.publics || (list_any (λ r. is_long r.name) parts.names.references || list_any has_long_name (debug_marks parts))) (after_name parts valid)).1 in
       let publics = (either_false (list_any (λ p. is_long p.name) parts.names.publics) _ rest).0 in
       ap (λ (x : PublicReading). is_long x.name) (sym there.2) ∙ ap (λ (q : SitedPublic). is_long q.entry.name) (sym own.2) ∙ fails-In (λ p. is_long p.name) parts.names.publics publics own.0 own.1
 
@@ -108,8 +108,8 @@ module _ (m : Parts) (more : List Parts) (plan : Plan) (r : LocatedParts) (v : A
 
   short_strings : has_defect alone d.LongId ≡ false
   short_strings =
-      two_false (is_long r.processor) (is_long r.name || strings_behind_name alone) short_processor
-      (two_false (is_long r.name) (strings_behind_name alone) short_name
+      two_false (is_long r.processor) (is_long r.name || strings_after_name alone) short_processor
+      (two_false (is_long r.name) (strings_after_name alone) short_name
       (two_false (list_any (λ s. is_long s.name) r.sections) _ short_sections
       (two_false (list_any (λ p. is_long p.name) (map absolute_public r.publics)) _ short_publics (short_names m more plan r v h))))
 
@@ -140,7 +140,7 @@ module _ (m : Parts) (more : List Parts) (plan : Plan) (r : LocatedParts) (v : A
       two_false (list_any (λ p. names_outside (counts_of alone) p.value) (map absolute_public r.publics)) _ (publics_fail (names_outside (counts_of alone)) (λ n. refl))
       (two_false (list_any (has_bad_place (counts_of alone)) alone.loads) _ loads_placed
       (two_false (list_any (has_bad_mark (counts_of alone)) (marks_of r.debug)) _ (marks_inside m more plan r v h)
-      (two_false (any_of (names_outside (counts_of alone)) alone.start) (is_none (declared_behind 0 (marks_of r.debug))) (number_start (names_outside (counts_of alone)) (λ n. refl) r.start) (declared m more plan r v h))))
+      (two_false (any_of (names_outside (counts_of alone)) alone.start) (is_none (declared_after 0 (marks_of r.debug))) (number_start (names_outside (counts_of alone)) (λ n. refl) r.start) (declared m more plan r v h))))
 
   loads_counted : list_any misplaces_counter (placed_loads alone) ≡ false
   loads_counted = none-In misplaces_counter (placed_loads alone) (λ p k. plain_counter (length r.sections) p (loads_plain r.runs r.sections p.1 (placed-In None alone.loads p k)))

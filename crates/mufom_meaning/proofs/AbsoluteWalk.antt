@@ -16,12 +16,12 @@ use Rattle.mufom_meaning.specs.Values.{Setting, value}
 use Rattle.mufom_meaning.specs.Steps.{Step, counter_step, item_step, steps_of, counter, readings_after}
 use Rattle.mufom_meaning.specs.Walk.{base_number, size_at}
 use Rattle.mufom_meaning.specs.AddressMap.{Cell, cells_from, literal_cells, address_map}
-use Rattle.mufom_meaning.specs.Absolute.{literal_limit, pieces_within, pieces, run_within, row_loads, loads_of_bytes, loads_between, with_section, section_loads_at, section_loads}
+use Rattle.mufom_meaning.specs.Absolute.{literal_limit, chunks_within, chunks, run_within, row_loads, loads_of_bytes, loads_between, with_section, section_loads_at, section_loads}
 use Rattle.mufom_meaning.proofs.Members.{In}
 use Rattle.mufom_meaning.proofs.Causes.{within_is}
 use Rattle.mufom_meaning.proofs.AbsoluteCells.{cells_within, cells_at, section_cells, absolute_cells}
 
--- ---- bytes in pieces
+-- ---- bytes in chunks
 
 abbrev pub together : List (List ℕ) → List ℕ
 together ps = flat_map (λ p. p) ps
@@ -30,19 +30,19 @@ abbrev HaveBytes : List (List ℕ) → Type 0
 HaveBytes [] = Unit {0}
 HaveBytes (p ∷ ps) = (0 < length p) × HaveBytes ps
 
-pub pieces_together : (k n : ℕ) (xs : List ℕ) → length xs ≤ n → together (pieces_within n (suc k) xs) ≡ xs
-pieces_together k zero [] h = refl
-pieces_together k zero (x ∷ xs) h = absurd (omega (arith, h))
-pieces_together k (suc n) [] h = refl
-pieces_together k (suc n) (x ∷ xs) h =
+pub chunks_together : (k n : ℕ) (xs : List ℕ) → length xs ≤ n → together (chunks_within n (suc k) xs) ≡ xs
+chunks_together k zero [] h = refl
+chunks_together k zero (x ∷ xs) h = absurd (omega (arith, h))
+chunks_together k (suc n) [] h = refl
+chunks_together k (suc n) (x ∷ xs) h =
     let left = length-drop k xs in
     let fewer : length (drop k xs) ≤ n = omega (arith, h, left) in
-    ap (λ rest. take (suc k) (x ∷ xs) ++ rest) (pieces_together k n (drop k xs) fewer) ∙ take-append-drop (suc k) (x ∷ xs)
+    ap (λ rest. take (suc k) (x ∷ xs) ++ rest) (chunks_together k n (drop k xs) fewer) ∙ take-append-drop (suc k) (x ∷ xs)
 
-pieces_nonempty : (k n : ℕ) (xs : List ℕ) → HaveBytes (pieces_within n (suc k) xs)
-pieces_nonempty k zero xs = tt
-pieces_nonempty k (suc n) [] = tt
-pieces_nonempty k (suc n) (x ∷ xs) = let some : 0 < suc (length (take k xs)) = omega arith in (some, pieces_nonempty k n (drop k xs))
+chunks_nonempty : (k n : ℕ) (xs : List ℕ) → HaveBytes (chunks_within n (suc k) xs)
+chunks_nonempty k zero xs = tt
+chunks_nonempty k (suc n) [] = tt
+chunks_nonempty k (suc n) (x ∷ xs) = let some : 0 < suc (length (take k xs)) = omega arith in (some, chunks_nonempty k n (drop k xs))
 
 cells_from-append : (a : ℕ) (xs ys : List ℕ) → cells_from a (xs ++ ys) ≡ cells_from a xs ++ cells_from (a + length xs) ys
 cells_from-append a [] ys = let same : a ≡ a + 0 = omega arith in ap (λ n. cells_from n ys) same
@@ -88,7 +88,7 @@ module _ (order : Order) (s : Setting) (site : Sited) where
       ap (λ (b : Bool). if b then option_map (λ pc. (pc + length p) % s.modulus) (counter s earlier section) else counter s earlier section) (equal_self section)
       ∙ ap (option_map (λ pc. (pc + length p) % s.modulus)) e ∙ ap (λ n. Some n) (mod-eq_of_lt less)
 
-  -- the counter is known where pieces are left
+  -- the counter is known where chunks are left
   abbrev IsReady : List Step → ℕ → ℕ → List (List ℕ) → Type 0
   IsReady earlier section at [] = Unit {0}
   IsReady earlier section at (p ∷ ps) = counter s earlier section ≡ Some at
@@ -104,15 +104,15 @@ module _ (order : Order) (s : Setting) (site : Sited) where
       → base_number s section ≤ at → at + length (together ps) ≤ base_number s section + size_at s section → at + length (together ps) ≤ s.modulus
       → (rest : List Step) (cells : List Cell) → ((e : List Step) → GoodWalk e rest cells)
       → GoodWalk earlier (map (λ p. item_step site section (Literal p)) ps ++ rest) (cells_from at (together ps) ++ cells)
-  literals_good section [] at earlier ready some low high inside rest cells behind = behind earlier
-  literals_good section (p ∷ ps) at earlier ready some low high inside rest cells behind =
+  literals_good section [] at earlier ready some low high inside rest cells after = after earlier
+  literals_good section (p ∷ ps) at earlier ready some low high inside rest cells after =
       let whole = length-append p (together ps) in
       let later = literals_good section ps (at + length p) (item_step site section (Literal p) ∷ earlier) (ready_on earlier section at p ps ready some.1 inside) some.1
-      (omega (arith, low)) (omega (arith, high, whole)) (omega (arith, inside, whole)) rest cells behind in
+      (omega (arith, low)) (omega (arith, high, whole)) (omega (arith, inside, whole)) rest cells after in
       let own : literal_cells (counter s earlier section) p ≡ cells_from at p = ap (λ o. literal_cells o p) ready in (
         (record { at = at; bytes = p; is = refl; counted = ready; low = low; high = omega (arith, high, whole); inside = omega (arith, inside, whole) }, later.0),
         (λ i. own i ++ later.1 i) ∙ sym (append_assoc (cells_from at p) (cells_from (at + length p) (together ps)) cells)
-            ∙ ap (λ front. front ++ cells) (sym (cells_from-append at p (together ps))),
+            ∙ ap (λ prefix. prefix ++ cells) (sym (cells_from-append at p (together ps))),
       )
 
   literal_steps : (n : ℕ) (ps : List (List ℕ)) (loads : List Load)
@@ -128,14 +128,14 @@ module _ (order : Order) (s : Setting) (site : Sited) where
 
   row_good : (n : ℕ) (row : Run) → 0 < length row.bytes → Fits n row → (loads : List Load) (cells : List Cell) → ((e : List Step) → GoodWalk e (steps_of site (Some n) loads) cells)
       → (earlier : List Step) → GoodWalk earlier (steps_of site (Some n) (row_loads n row ++ loads)) (cells_from row.address row.bytes ++ cells)
-  row_good n row some f loads cells behind earlier =
+  row_good n row some f loads cells after earlier =
       let section = site.first_section + n in
-      let ps = pieces literal_limit row.bytes in
+      let ps = chunks literal_limit row.bytes in
       let start = counter_step site section (number row.address) in
-      let all : together ps ≡ row.bytes = pieces_together 65534 (length row.bytes) row.bytes (omega arith) in
+      let all : together ps ≡ row.bytes = chunks_together 65534 (length row.bytes) row.bytes (omega arith) in
       let long : length (together ps) ≡ length row.bytes = ap length all in
-      let walk = literals_good section ps row.address (start ∷ earlier) (ready ps (counter_set earlier section row.address (omega (arith, some, f.inside)))) (pieces_nonempty 65534 (length row.bytes) row.bytes)
-      f.low (omega (arith, f.high, long)) (omega (arith, f.inside, long)) (steps_of site (Some n) loads) cells behind in
+      let walk = literals_good section ps row.address (start ∷ earlier) (ready ps (counter_set earlier section row.address (omega (arith, some, f.inside)))) (chunks_nonempty 65534 (length row.bytes) row.bytes)
+      f.low (omega (arith, f.high, long)) (omega (arith, f.inside, long)) (steps_of site (Some n) loads) cells after in
       let moved = subst (λ more. GoodWalk (start ∷ earlier) more (cells_from row.address (together ps) ++ cells)) (sym (literal_steps n ps loads)) walk in
       let named = subst (λ bytes. GoodWalk (start ∷ earlier) (steps_of site (Some n) (map (λ p. One (Literal p)) ps ++ loads)) (cells_from row.address bytes ++ cells)) all moved in
       (((row.address, refl), named.0), named.1) where
@@ -144,7 +144,7 @@ module _ (order : Order) (s : Setting) (site : Sited) where
         ready [] e = tt
         ready (p ∷ ps) e = e
 
-  -- what the setting says of a section: its base and size, and that it ends inside the address space
+  -- what the setting states of a section: its base and size, and that it ends inside the address space
   pub record IsSettled (n base size : ℕ) : Type 0 where
     pub based : base_number s (site.first_section + n) ≡ base
     pub sized : size_at s (site.first_section + n) ≡ size
@@ -162,23 +162,23 @@ module _ (order : Order) (s : Setting) (site : Sited) where
   run_good : (n base size : ℕ) → IsSettled n base size → (run : Run) → (loads : List Load) (cells : List Cell) → ((e : List Step) → GoodWalk e (steps_of site (Some n) loads) cells)
       → (earlier : List Step) → let row = run_within base (base + size) run in
       GoodWalk earlier (steps_of site (Some n) (loads_of_bytes n row row.bytes ++ loads)) (cells_from row.address row.bytes ++ cells)
-  run_good n base size h run loads cells behind earlier = by_bytes (run_within base (base + size) run).bytes refl where
+  run_good n base size h run loads cells after earlier = by_bytes (run_within base (base + size) run).bytes refl where
     by_bytes : (bytes : List ℕ) → (run_within base (base + size) run).bytes ≡ bytes → let row = run_within base (base + size) run in
         GoodWalk earlier (steps_of site (Some n) (loads_of_bytes n row bytes ++ loads)) (cells_from row.address bytes ++ cells)
-    by_bytes [] e = behind earlier
+    by_bytes [] e = after earlier
     by_bytes (byte ∷ bytes) e =
         let row = run_within base (base + size) run in
         let long : length row.bytes ≡ suc (length bytes) = ap length e in
         let some : 0 < length row.bytes = omega (arith, long) in
         subst (λ bs. GoodWalk earlier (steps_of site (Some n) (row_loads n row ++ loads)) (cells_from row.address bs ++ cells)) e
-        (row_good n row some (row_fits n base size h run some) loads cells behind earlier)
+        (row_good n row some (row_fits n base size h run some) loads cells after earlier)
 
   runs_good : (n base size : ℕ) → IsSettled n base size → (runs : List Run) → (loads : List Load) (cells : List Cell) → ((e : List Step) → GoodWalk e (steps_of site (Some n) loads) cells)
       → (earlier : List Step) → GoodWalk earlier (steps_of site (Some n) (loads_between n runs base (base + size) ++ loads)) (cells_within base (base + size) runs ++ cells)
-  runs_good n base size h [] loads cells behind earlier = behind earlier
-  runs_good n base size h (run ∷ runs) loads cells behind earlier =
+  runs_good n base size h [] loads cells after earlier = after earlier
+  runs_good n base size h (run ∷ runs) loads cells after earlier =
       let row = run_within base (base + size) run in
-      let later = runs_good n base size h runs loads cells behind in
+      let later = runs_good n base size h runs loads cells after in
       let whole = run_good n base size h run (loads_between n runs base (base + size) ++ loads) (cells_within base (base + size) runs ++ cells) later earlier in
       let a = append_assoc (loads_of_bytes n row row.bytes) (loads_between n runs base (base + size)) loads in
       let b = append_assoc (cells_from row.address row.bytes) (cells_within base (base + size) runs) cells in
@@ -204,15 +204,15 @@ module _ (order : Order) (s : Setting) (site : Sited) where
   section_good : (n : ℕ) (section : Section) (base : ℕ) → section.base ≡ Some base → IsSettled n base section.size → (runs : List Run) → (loads : List Load) (cells : List Cell)
       → ((current : Option ℕ) (e : List Step) → GoodWalk e (steps_of site current loads) cells)
       → (current : Option ℕ) (earlier : List Step) → GoodWalk earlier (steps_of site current (section_loads runs (n, section) ++ loads)) (section_cells runs (n, section) ++ cells)
-  section_good n section base e h runs loads cells behind current earlier =
+  section_good n section base e h runs loads cells after current earlier =
       subst (λ o. GoodWalk earlier (steps_of site current (section_loads_at n runs section o ++ loads)) (cells_at runs section.size o ++ cells)) (sym e)
       (by_loads (loads_between n runs base (base + section.size)) refl) where
         by_loads : (own : List Load) → loads_between n runs base (base + section.size) ≡ own
             → GoodWalk earlier (steps_of site current (with_section n own ++ loads)) (cells_within base (base + section.size) runs ++ cells)
-        by_loads [] f = subst (λ front. GoodWalk earlier (steps_of site current loads) (front ++ cells)) (sym (runs_empty n base (base + section.size) runs f)) (behind current earlier)
+        by_loads [] f = subst (λ prefix. GoodWalk earlier (steps_of site current loads) (prefix ++ cells)) (sym (runs_empty n base (base + section.size) runs f)) (after current earlier)
         by_loads (load ∷ own) f =
             subst (λ own. GoodWalk earlier (steps_of site (Some n) (own ++ loads)) (cells_within base (base + section.size) runs ++ cells)) f
-            (runs_good n base section.size h runs loads cells (behind (Some n)) earlier)
+            (runs_good n base section.size h runs loads cells (after (Some n)) earlier)
 
   -- the walk over all sections
   pub sections_good : (runs : List Run) (sections : List (ℕ × Section)) → ((t : ℕ × Section) → In t sections → (base : ℕ) × (t.1.base ≡ Some base) × IsSettled t.0 base t.1.size)

@@ -17,7 +17,7 @@ use Rattle.mufom_meaning.specs.LocateAnswer.{cycle_at, image_limit_at, locate_an
 use Rattle.mufom_meaning.specs.Counts.{loaded_total}
 use Rattle.mufom_meaning.specs.Walk.{walk_answer}
 use Rattle.mufom_meaning.specs.FactLaws.{AnswersAreFacts}
-use Rattle.mufom_meaning.proofs.Names.{names_of, names_of-publics_of}
+use Rattle.mufom_meaning.proofs.Names.{names_of, names_of-sited_publics}
 use Rattle.mufom_meaning.proofs.Chains.{cycles_are_short}
 use Rattle.mufom_meaning.proofs.Answers.{or_else_some, or_else_none, first_some_at, first_some_none, find_at, link_sound, link_complete}
 use Rattle.mufom_place.proofs.FactLemmas.{refusal_sound, refusal_complete}
@@ -60,7 +60,7 @@ module _ (ms : List Parts) (plan : Plan) where
         let found = find_at (λ p. bytes_eq p.entry.name name) (flat_publics ms) q same in
         let named : q.entry.name ≡ name = (bytes_eq-Decides q.entry.name name).0 found.1 in
         let at : slice_get (public_names ms) found.0.0 ≡ Some name
-        = ap (λ ns. slice_get ns found.0.0) (sym (names_of-publics_of 0 0 0 ms)) ∙ named_get (flat_publics ms) found.0.0 q found.0.1 ∙ ap Some named in
+        = ap (λ ns. slice_get ns found.0.0) (sym (names_of-sited_publics 0 0 0 ms)) ∙ named_get (flat_publics ms) found.0.0 q found.0.1 ∙ ap Some named in
         let none = first_some_none (cycle_at ms) (public_names ms) f name found.0.0 at in
         let not_so = chosen_none (is_on_cycle ms name) (cycle name) none in let so : is_on_cycle ms name ≡ true = on in cc
   before_complete a d e f g (image_limit count) h =

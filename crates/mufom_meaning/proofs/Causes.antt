@@ -14,7 +14,7 @@ use Rattle.mufom_meaning.proofs.Members.{In, In-left, In-right, In-append, In-Co
 use Rattle.mufom_meaning.proofs.Monotone.{value_within-more}
 use Rattle.mufom_meaning.specs.Cycles.{mentioned, mentioned_reference}
 
--- what a public is worth with so many steps of names left
+-- what a public is worth with the given number of steps of names left
 abbrev pub worth_below : Setting → ℕ → Worth
 worth_below s zero = λ site t. None
 worth_below s (suc k) = λ site t. value_within s k site None t

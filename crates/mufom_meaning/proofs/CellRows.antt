@@ -50,22 +50,22 @@ rising-equal from (x ∷ xs) (y ∷ ys) h k same = first ((same x).0 (inl refl))
   first (inr m) (inl f) later = heads f later
   first (inr m) (inr n) later = absurd (let a = rising-In (suc y.0) ys k.1 x m in let b = rising-In (suc x.0) xs h.1 y n in omega (arith, a, b))
 
--- a byte put in front of rows: it goes to the first row where that begins right behind it
-abbrev in_front : ℕ → ℕ → List Run → List Run
-in_front a byte [] = record { address = a; bytes = byte ∷ [] } ∷ []
-in_front a byte (run ∷ runs) =
+-- a byte put before rows: it goes to the first row where that begins right after it
+abbrev in_prefix : ℕ → ℕ → List Run → List Run
+in_prefix a byte [] = record { address = a; bytes = byte ∷ [] } ∷ []
+in_prefix a byte (run ∷ runs) =
     if run.address == suc a then record { address = a; bytes = byte ∷ run.bytes } ∷ runs else record { address = a; bytes = byte ∷ [] } ∷ run ∷ runs
 
 abbrev rows_of : List Cell → List Run
 rows_of [] = []
-rows_of (cell ∷ cells) = in_front cell.0 cell.1 (rows_of cells)
+rows_of (cell ∷ cells) = in_prefix cell.0 cell.1 (rows_of cells)
 
 unequal_numbers : (m n : ℕ) → (m == n) ≡ false → m ≡ n → ⊥
 unequal_numbers m n e f = let same : (m == n) ≡ true = search rules in cc
 
-in_front-cells : (a byte : ℕ) (runs : List Run) → run_cells (in_front a byte runs) ≡ (a, byte) ∷ run_cells runs
-in_front-cells a byte [] = refl
-in_front-cells a byte (run ∷ runs) = by_case (run.address == suc a) refl where
+in_prefix-cells : (a byte : ℕ) (runs : List Run) → run_cells (in_prefix a byte runs) ≡ (a, byte) ∷ run_cells runs
+in_prefix-cells a byte [] = refl
+in_prefix-cells a byte (run ∷ runs) = by_case (run.address == suc a) refl where
   by_case : (b : Bool) → (run.address == suc a) ≡ b
       → run_cells (if b then record { address = a; bytes = byte ∷ run.bytes } ∷ runs else record { address = a; bytes = byte ∷ [] } ∷ run ∷ runs) ≡ (a, byte) ∷ run_cells (run ∷ runs)
   by_case true e = let same : run.address ≡ suc a = equal_numbers run.address (suc a) e in ap (λ n. (a, byte) ∷ (cells_from n run.bytes ++ run_cells runs)) (sym same)
@@ -73,11 +73,11 @@ in_front-cells a byte (run ∷ runs) = by_case (run.address == suc a) refl where
 
 rows_of-cells : (cells : List Cell) → run_cells (rows_of cells) ≡ cells
 rows_of-cells [] = refl
-rows_of-cells (cell ∷ cells) = in_front-cells cell.0 cell.1 (rows_of cells) ∙ ap (λ rest. cell ∷ rest) (rows_of-cells cells)
+rows_of-cells (cell ∷ cells) = in_prefix-cells cell.0 cell.1 (rows_of cells) ∙ ap (λ rest. cell ∷ rest) (rows_of-cells cells)
 
-in_front-apart : (from a byte : ℕ) (runs : List Run) → from ≤ a → AreApart (suc a) runs → AreApart from (in_front a byte runs)
-in_front-apart from a byte [] low h = let some : 0 < 1 = omega arith in (low, some, tt)
-in_front-apart from a byte (run ∷ runs) low h = by_case (run.address == suc a) refl where
+in_prefix-apart : (from a byte : ℕ) (runs : List Run) → from ≤ a → AreApart (suc a) runs → AreApart from (in_prefix a byte runs)
+in_prefix-apart from a byte [] low h = let some : 0 < 1 = omega arith in (low, some, tt)
+in_prefix-apart from a byte (run ∷ runs) low h = by_case (run.address == suc a) refl where
   by_case : (b : Bool) → (run.address == suc a) ≡ b
       → AreApart from (if b then record { address = a; bytes = byte ∷ run.bytes } ∷ runs else record { address = a; bytes = byte ∷ [] } ∷ run ∷ runs)
   by_case true e =
@@ -95,32 +95,32 @@ in_front-apart from a byte (run ∷ runs) low h = by_case (run.address == suc a)
 
 rows_of-apart : (from : ℕ) (cells : List Cell) → AreRising from cells → AreApart from (rows_of cells)
 rows_of-apart from [] h = tt
-rows_of-apart from (cell ∷ cells) h = in_front-apart from cell.0 cell.1 (rows_of cells) h.0 (rows_of-apart (suc cell.0) cells h.1)
+rows_of-apart from (cell ∷ cells) h = in_prefix-apart from cell.0 cell.1 (rows_of cells) h.0 (rows_of-apart (suc cell.0) cells h.1)
 
 -- rows are the rows of their cells
 apart-lower : (a b : ℕ) (runs : List Run) → b ≤ a → AreApart a runs → AreApart b runs
 apart-lower a b [] less h = tt
 apart-lower a b (run ∷ runs) less h = let low : b ≤ run.address = omega (arith, less, h.0) in (low, h.1, h.2)
 
-in_front-far : (a byte : ℕ) (runs : List Run) → AreApart (a + 1 + 1) runs → in_front a byte runs ≡ record { address = a; bytes = byte ∷ [] } ∷ runs
-in_front-far a byte [] h = refl
-in_front-far a byte (run ∷ runs) h = by_case (run.address == suc a) refl where
+in_prefix-far : (a byte : ℕ) (runs : List Run) → AreApart (a + 1 + 1) runs → in_prefix a byte runs ≡ record { address = a; bytes = byte ∷ [] } ∷ runs
+in_prefix-far a byte [] h = refl
+in_prefix-far a byte (run ∷ runs) h = by_case (run.address == suc a) refl where
   by_case : (b : Bool) → (run.address == suc a) ≡ b
       → (if b then record { address = a; bytes = byte ∷ run.bytes } ∷ runs else record { address = a; bytes = byte ∷ [] } ∷ run ∷ runs) ≡ record { address = a; bytes = byte ∷ [] } ∷ run ∷ runs
   by_case true e = absurd (let same : run.address ≡ suc a = equal_numbers run.address (suc a) e in omega (arith, same, h.0))
   by_case false e = refl
 
-in_front-near : (a byte : ℕ) (bytes : List ℕ) (runs : List Run) → in_front a byte (record { address = suc a; bytes = bytes } ∷ runs) ≡ record { address = a; bytes = byte ∷ bytes } ∷ runs
-in_front-near a byte bytes runs =
+in_prefix-near : (a byte : ℕ) (bytes : List ℕ) (runs : List Run) → in_prefix a byte (record { address = suc a; bytes = bytes } ∷ runs) ≡ record { address = a; bytes = byte ∷ bytes } ∷ runs
+in_prefix-near a byte bytes runs =
     let same : (suc a == suc a) ≡ true = search rules in
     ap (λ (b : Bool). if b then record { address = a; bytes = byte ∷ bytes } ∷ runs else record { address = a; bytes = byte ∷ [] } ∷ record { address = suc a; bytes = bytes } ∷ runs) same
 
 rows-run : (a byte : ℕ) (bytes : List ℕ) (runs : List Run) (rest : List Cell) → rows_of rest ≡ runs → AreApart (a + suc (length bytes) + 1) runs
     → rows_of (cells_from a (byte ∷ bytes) ++ rest) ≡ record { address = a; bytes = byte ∷ bytes } ∷ runs
-rows-run a byte [] runs rest e h = ap (in_front a byte) e ∙ in_front-far a byte runs h
+rows-run a byte [] runs rest e h = ap (in_prefix a byte) e ∙ in_prefix-far a byte runs h
 rows-run a byte (next ∷ bytes) runs rest e h =
     let end : a + suc (suc (length bytes)) + 1 ≡ suc a + suc (length bytes) + 1 = omega arith in
-    ap (in_front a byte) (rows-run (suc a) next bytes runs rest e (subst (λ n. AreApart n runs) end h)) ∙ in_front-near a byte (next ∷ bytes) runs
+    ap (in_prefix a byte) (rows-run (suc a) next bytes runs rest e (subst (λ n. AreApart n runs) end h)) ∙ in_prefix-near a byte (next ∷ bytes) runs
 
 rows_of-run_cells : (from : ℕ) (runs : List Run) → AreApart from runs → rows_of (run_cells runs) ≡ runs
 rows_of-run_cells from [] h = refl
@@ -175,10 +175,10 @@ placed_cell-In cell other (c ∷ cells) m = by_case (nat_lt cell.0 c.0) m (place
   by_case : (b : Bool) → In other (if b then cell ∷ c ∷ cells else c ∷ placed_cell cell cells) → (In other (placed_cell cell cells) → In other (cell ∷ cells)) → In other (cell ∷ c ∷ cells)
   by_case true m later = m
   by_case false (inl e) later = inr (inl e)
-  by_case false (inr m) later = behind (later m) where
-    behind : In other (cell ∷ cells) → In other (cell ∷ c ∷ cells)
-    behind (inl e) = inl e
-    behind (inr m) = inr (inr m)
+  by_case false (inr m) later = after (later m) where
+    after : In other (cell ∷ cells) → In other (cell ∷ c ∷ cells)
+    after (inl e) = inl e
+    after (inr m) = inr (inr m)
 
 In-placed_cell : (cell other : Cell) (cells : List Cell) → In other (cell ∷ cells) → In other (placed_cell cell cells)
 In-placed_cell cell other [] m = m

@@ -21,13 +21,13 @@ use Rattle.mufom_debug.specs.Marks.{DebugMark, block_begin, block_end, name_mark
 use Rattle.mufom_module.specs.declared.module.Parts.{Parts}
 use Rattle.mufom_plan.specs.Names.{has_name}
 use Rattle.mufom_meaning.specs.Flat.{Sited, sited, flat_sections, flat_publics, flat_references, unmet_references, public_names, distinct}
-use Rattle.mufom_meaning.specs.Joined.{IsJoined, HasHeaderOf, HasFirstHeader, place_of, same_reference, kept_references, joined_reference, joined_variable, joined_tree, joined_public, joined_item, joined_load, joined_head, joined_mark}
+use Rattle.mufom_meaning.specs.Joined.{IsJoined, HasHeaderOf, HasFirstHeader, position_of, same_reference, kept_references, joined_reference, joined_variable, joined_tree, joined_public, joined_item, joined_load, joined_head, joined_mark}
 use Rattle.mufom_meaning.specs.StagingLaws.{JoinedComposes}
 use Rattle.mufom_meaning.proofs.Paired.{Paired}
 use Rattle.mufom_meaning.proofs.Moved.{shifted, IsOfGroup}
-use Rattle.mufom_meaning.proofs.References.{Among, Among-filter, Among-distinct, get-place_of, get-length, same_reference-decides}
+use Rattle.mufom_meaning.proofs.References.{Among, Among-filter, Among-distinct, get-position_of, get-length, same_reference-decides}
 use Rattle.mufom_meaning.proofs.Sites.{next_public, next_public-length}
-use Rattle.mufom_meaning.proofs.Names.{has_name-turned, names_of-publics_of, absent_before, has_name-append_left, has_name-append_right}
+use Rattle.mufom_meaning.proofs.Names.{has_name-turned, names_of-sited_publics, absent_before, has_name-append_left, has_name-append_right}
 use Rattle.mufom_meaning.proofs.Groups.{paired_joined, are_of_group, home_of, paired_sites}
 use Rattle.mufom_meaning.proofs.Settings.{same_sections}
 use Rattle.mufom_meaning.proofs.Needs.{unmet_by, kept_unmet, among_all, group_references, link_unmet, same_names}
@@ -47,22 +47,22 @@ with_variables-agrees f g same (variable l n) = ap (λ v. variable v.0 v.1) (sam
 with_variables-agrees f g same (one h a) = ap (one h) (with_variables-agrees f g same a)
 with_variables-agrees f g same (two h a b) = ap (λ x. two h x (with_variables f b)) (with_variables-agrees f g same a) ∙ ap (two h (with_variables g a)) (with_variables-agrees f g same b)
 
--- the place of a name past names that are others, and in the front that has it
-place_of-skip : (xs ys : List (List ℕ)) (s : List ℕ) → has_name xs s ≡ false → place_of (λ x. bytes_eq x s) (xs ++ ys) ≡ length xs + place_of (λ x. bytes_eq x s) ys
-place_of-skip [] ys s h = sym (zero-add _)
-place_of-skip (x ∷ xs) ys s h = by_case (bytes_eq x s) (sym (has_name-turned x xs s) ∙ h) (place_of-skip xs ys s) where
+-- the place of a name past names that are others, and in the prefix that has it
+position_of-skip : (xs ys : List (List ℕ)) (s : List ℕ) → has_name xs s ≡ false → position_of (λ x. bytes_eq x s) (xs ++ ys) ≡ length xs + position_of (λ x. bytes_eq x s) ys
+position_of-skip [] ys s h = sym (zero-add _)
+position_of-skip (x ∷ xs) ys s h = by_case (bytes_eq x s) (sym (has_name-turned x xs s) ∙ h) (position_of-skip xs ys s) where
   by_case : (b : Bool) → (b || has_name xs s) ≡ false
-      → (has_name xs s ≡ false → place_of (λ x. bytes_eq x s) (xs ++ ys) ≡ length xs + place_of (λ x. bytes_eq x s) ys)
-      → (if b then 0 else suc (place_of (λ x. bytes_eq x s) (xs ++ ys))) ≡ suc (length xs) + place_of (λ x. bytes_eq x s) ys
+      → (has_name xs s ≡ false → position_of (λ x. bytes_eq x s) (xs ++ ys) ≡ length xs + position_of (λ x. bytes_eq x s) ys)
+      → (if b then 0 else suc (position_of (λ x. bytes_eq x s) (xs ++ ys))) ≡ suc (length xs) + position_of (λ x. bytes_eq x s) ys
   by_case true e later = absurd cc
   by_case false e later = let rest = later e in omega (arith, rest)
 
-place_of-front : (xs ys : List (List ℕ)) (s : List ℕ) → has_name xs s ≡ true → place_of (λ x. bytes_eq x s) (xs ++ ys) ≡ place_of (λ x. bytes_eq x s) xs
-place_of-front [] ys s h = absurd cc
-place_of-front (x ∷ xs) ys s h = by_case (bytes_eq x s) (sym (has_name-turned x xs s) ∙ h) (place_of-front xs ys s) where
+position_of-prefix : (xs ys : List (List ℕ)) (s : List ℕ) → has_name xs s ≡ true → position_of (λ x. bytes_eq x s) (xs ++ ys) ≡ position_of (λ x. bytes_eq x s) xs
+position_of-prefix [] ys s h = absurd cc
+position_of-prefix (x ∷ xs) ys s h = by_case (bytes_eq x s) (sym (has_name-turned x xs s) ∙ h) (position_of-prefix xs ys s) where
   by_case : (b : Bool) → (b || has_name xs s) ≡ true
-      → (has_name xs s ≡ true → place_of (λ x. bytes_eq x s) (xs ++ ys) ≡ place_of (λ x. bytes_eq x s) xs)
-      → (if b then 0 else suc (place_of (λ x. bytes_eq x s) (xs ++ ys))) ≡ (if b then 0 else suc (place_of (λ x. bytes_eq x s) xs))
+      → (has_name xs s ≡ true → position_of (λ x. bytes_eq x s) (xs ++ ys) ≡ position_of (λ x. bytes_eq x s) xs)
+      → (if b then 0 else suc (position_of (λ x. bytes_eq x s) (xs ++ ys))) ≡ (if b then 0 else suc (position_of (λ x. bytes_eq x s) xs))
   by_case true e later = refl
   by_case false e later = ap suc (later e)
 
@@ -101,19 +101,19 @@ module _ (M : Parts) (ms : List Parts) (name : List ℕ) (j : IsJoined M ms name
 
   count_before : next_public 0 before ≡ length (public_names before)
   count_before =
-      next_public-length 0 0 0 before ∙ zero-add _ ∙ sym (length-map (flat_publics before) (λ q. q.entry.name)) ∙ ap length (names_of-publics_of 0 0 0 before)
+      next_public-length 0 0 0 before ∙ zero-add _ ∙ sym (length-map (flat_publics before) (λ q. q.entry.name)) ∙ ap length (names_of-sited_publics 0 0 0 before)
 
   -- the place of a name of the group among all names
   place_in_all : (s : List ℕ) → has_name (public_names ms) s ≡ true
-      → next_public 0 before + place_of (λ x. bytes_eq x s) (public_names ms) ≡ place_of (λ x. bytes_eq x s) (public_names flat)
+      → next_public 0 before + position_of (λ x. bytes_eq x s) (public_names ms) ≡ position_of (λ x. bytes_eq x s) (public_names flat)
   place_in_all s met =
-      let behind : has_name (public_names ms ++ public_names after) s ≡ true = has_name-append_left (public_names ms) (public_names after) s met in
+      let following : has_name (public_names ms ++ public_names after) s ≡ true = has_name-append_left (public_names ms) (public_names after) s met in
       let absent : has_name (public_names before) s ≡ false
-      = absent_before (public_names before) (public_names ms ++ public_names after) s (subst AreDistinct split_names names) behind in
-      ap (λ n. n + place_of (λ x. bytes_eq x s) (public_names ms)) count_before
-      ∙ ap (λ n. length (public_names before) + n) (sym (place_of-front (public_names ms) (public_names after) s met))
-      ∙ sym (place_of-skip (public_names before) (public_names ms ++ public_names after) s absent)
-      ∙ ap (place_of (λ x. bytes_eq x s)) (sym split_names)
+      = absent_before (public_names before) (public_names ms ++ public_names after) s (subst AreDistinct split_names names) following in
+      ap (λ n. n + position_of (λ x. bytes_eq x s) (public_names ms)) count_before
+      ∙ ap (λ n. length (public_names before) + n) (sym (position_of-prefix (public_names ms) (public_names after) s met))
+      ∙ sym (position_of-skip (public_names before) (public_names ms ++ public_names after) s absent)
+      ∙ ap (position_of (λ x. bytes_eq x s)) (sym split_names)
 
   in_all : (s : List ℕ) → has_name (public_names ms) s ≡ true → has_name (public_names flat) s ≡ true
   in_all s met = ap (λ all. has_name all s) split_names
@@ -123,8 +123,8 @@ module _ (M : Parts) (ms : List Parts) (name : List ℕ) (j : IsJoined M ms name
   same_reference_here : (r : Option Reference) → joined_reference linked r ≡ joined_reference flat r
   same_reference_here None = ap (λ rs. (letters.X, length rs)) same_kept
   same_reference_here (Some r) =
-      ap (λ all. if has_name all r.name then (letters.I, place_of (λ x. bytes_eq x r.name) all) else (letters.X, place_of (same_reference r) (kept_references linked))) (same_names M ms name j before after)
-      ∙ ap (λ rs. if has_name (public_names flat) r.name then (letters.I, place_of (λ x. bytes_eq x r.name) (public_names flat)) else (letters.X, place_of (same_reference r) rs)) same_kept
+      ap (λ all. if has_name all r.name then (letters.I, position_of (λ x. bytes_eq x r.name) all) else (letters.X, position_of (same_reference r) (kept_references linked))) (same_names M ms name j before after)
+      ∙ ap (λ rs. if has_name (public_names flat) r.name then (letters.I, position_of (λ x. bytes_eq x r.name) (public_names flat)) else (letters.X, position_of (same_reference r) rs)) same_kept
 
   variable_here : (site : Sited) (l : Letter) (n : ℕ) → joined_variable linked site l n ≡ joined_variable flat site l n
   variable_here site letters.R n = refl
@@ -136,23 +136,23 @@ module _ (M : Parts) (ms : List Parts) (name : List ℕ) (j : IsJoined M ms name
 
   -- in the group a reference becomes the same, in two steps or in one
   kept_reference : (site : Sited) → IsOfGroup ms site → (n : ℕ) (r : Reference) → slice_get site.parts.names.references n ≡ Some r
-      → has_name (public_names ms) r.name ≡ false → (q : Reference) × (slice_get M.names.references (place_of (same_reference r) (kept_references ms)) ≡ Some q) × (r ≡ q)
+      → has_name (public_names ms) r.name ≡ false → (q : Reference) × (slice_get M.names.references (position_of (same_reference r) (kept_references ms)) ≡ Some q) × (r ≡ q)
   kept_reference site within n r e fails =
       let there : Among r (flat_references ms) = within n r e in
       let left : Among r (unmet_references ms) =
       Among-filter (λ reference. not (has_name (public_names ms) reference.name)) r (ap not fails) (flat_references ms) there.0 there.1 in
       let kept : Among r (kept_references ms) = Among-distinct same_reference same_reference-decides r (unmet_references ms) left.0 left.1 in
-      let found = get-place_of (same_reference r) r ((same_reference-decides r r).1 refl) (kept_references ms) kept.0 kept.1 in
-      (found.0, ap (λ rs. slice_get rs (place_of (same_reference r) (kept_references ms))) j.references ∙ found.1, (same_reference-decides r found.0).0 found.2)
+      let found = get-position_of (same_reference r) r ((same_reference-decides r r).1 refl) (kept_references ms) kept.0 kept.1 in
+      (found.0, ap (λ rs. slice_get rs (position_of (same_reference r) (kept_references ms))) j.references ∙ found.1, (same_reference-decides r found.0).0 found.2)
 
   abbrev again : Letter × ℕ → Letter × ℕ
   again v = joined_variable linked home v.0 v.1
 
   met_or_not : (site : Sited) → IsOfGroup ms site → (n : ℕ) (r : Reference) → slice_get site.parts.names.references n ≡ Some r → (b : Bool) → has_name (public_names ms) r.name ≡ b
-      → again (if b then (letters.I, place_of (λ x. bytes_eq x r.name) (public_names ms)) else (letters.X, place_of (same_reference r) (kept_references ms))) ≡ joined_reference flat (Some r)
+      → again (if b then (letters.I, position_of (λ x. bytes_eq x r.name) (public_names ms)) else (letters.X, position_of (same_reference r) (kept_references ms))) ≡ joined_reference flat (Some r)
   met_or_not site within n r e true met =
       ap (λ place. (letters.I, place)) (place_in_all r.name met)
-      ∙ sym (ap (λ b. if b then (letters.I, place_of (λ x. bytes_eq x r.name) (public_names flat)) else (letters.X, place_of (same_reference r) (kept_references flat))) (in_all r.name met))
+      ∙ sym (ap (λ b. if b then (letters.I, position_of (λ x. bytes_eq x r.name) (public_names flat)) else (letters.X, position_of (same_reference r) (kept_references flat))) (in_all r.name met))
   met_or_not site within n r e false fails =
       let found = kept_reference site within n r e fails in
       ap (joined_reference linked) (found.1 ∙ ap Some (sym found.2)) ∙ same_reference_here (Some r)

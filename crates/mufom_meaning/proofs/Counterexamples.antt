@@ -35,7 +35,7 @@ alone : (m : Parts) (ms : List Parts) (bases : List ℕ) → first_duplicate [] 
 alone m ms bases names placed =
     record { before_valid = tt; after_valid = tt; descriptor = tt; names = distinct_of (public_names ((m ∷ ms) ++ [])) names; placed = placed }
 
--- what the readings say of a public, and of a field, where they say a value
+-- what the readings state of a public, and of a field, where they state a value
 abbrev public_value : ℕ → Readings → ℕ
 public_value n r = unwrap_or (option_and_then (λ p. p.value) (slice_get r.publics n)) 0
 
@@ -165,7 +165,7 @@ unmoved_block_is_not_joined j =
     let joined = λ (marks : List DebugMark). map (joined_mark both_blocks (block_site 0 0)) marks ++ (map (joined_mark both_blocks (block_site 1 (0 + name_count marks))) marks ++ []) in
     let e : 0 ≡ 1 = ap (mark_section 2) (sym two_blocks ∙ j.debug ∙ ap joined one_block) in omega (arith, e)
 
--- the section that a reading of a block's begin says
+-- the section that a reading of a block's begin states
 abbrev read_head : HeadReading → ℕ
 read_head module_head = 0
 read_head (global_head stack type_index offset) = 0

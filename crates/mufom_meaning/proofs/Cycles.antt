@@ -12,7 +12,7 @@ use Rattle.mufom_module.specs.declared.module.Parts.{Parts}
 use Rattle.mufom_plan.specs.Names.{has_name}
 use Rattle.mufom_meaning.specs.Flat.{Sited, SitedPublic, public_names, first_named}
 use Rattle.mufom_meaning.specs.Values.{Setting}
-use Rattle.mufom_meaning.specs.Joined.{joined_variable, joined_reference, kept_references, place_of, same_reference}
+use Rattle.mufom_meaning.specs.Joined.{joined_variable, joined_reference, kept_references, position_of, same_reference}
 use Rattle.mufom_meaning.specs.Cycles.{mentioned, mentioned_reference, is_or_leads, leads_within, leads_from}
 use Rattle.mufom_meaning.proofs.Paired.{PairedOption, Paired-get, Paired-length}
 use Rattle.mufom_meaning.proofs.Renamed.{variables_of-with_variables}
@@ -56,10 +56,10 @@ module _ (ms : List Parts) (home : Sited) (s other : Setting) (h : AreSettings m
   along p p' q q' e f both = subst (λ x. Both x q) (sym e) (subst (λ y. Both p' y) f both)
 
   named_there : (site : Sited) → IsOfGroup ms site → (n : ℕ) (r : Reference) → slice_get site.parts.names.references n ≡ Some r → (b : Bool) → has_name (public_names ms) r.name ≡ b
-      → Both (linked (if b then (letters.I, place_of (λ public. bytes_eq public r.name) (public_names ms)) else (letters.X, place_of (same_reference r) (kept_references ms)))) (mentioned_reference other (Some r))
+      → Both (linked (if b then (letters.I, position_of (λ public. bytes_eq public r.name) (public_names ms)) else (letters.X, position_of (same_reference r) (kept_references ms)))) (mentioned_reference other (Some r))
   named_there site within n r e true met =
       let q = h.first r.name met in
-      along _ _ _ _ refl (q.1 ∙ sym q.2) (public_both (home.first_public + place_of (λ public. bytes_eq public r.name) (public_names ms)))
+      along _ _ _ _ refl (q.1 ∙ sym q.2) (public_both (home.first_public + position_of (λ public. bytes_eq public r.name) (public_names ms)))
   named_there site within n r e false fails =
       let found = kept_reference ms home s other h (λ x y. None) (λ x y. None) (λ x y x' y' m. refl) site within n r e fails in
       along _ _ _ _ (ap (mentioned_reference s) (found.1 ∙ ap Some (sym found.2))) refl (reference_both (Some r))

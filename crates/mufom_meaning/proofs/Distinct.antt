@@ -88,30 +88,30 @@ module _ {A : Type 0} (same : A → A → Bool) (decides : (x y : A) → Decides
   distinct-back [] ys = distinct-distinct ys
   distinct-back (x ∷ xs) ys = ap (λ more. x ∷ filter (other x) more) (distinct-back xs ys)
 
-  distinct-front : (xs ys : List A) → distinct same (distinct same xs ++ ys) ≡ distinct same (xs ++ ys)
-  distinct-front [] ys = refl
-  distinct-front (x ∷ xs) ys =
+  distinct-prefix : (xs ys : List A) → distinct same (distinct same xs ++ ys) ≡ distinct same (xs ++ ys)
+  distinct-prefix [] ys = refl
+  distinct-prefix (x ∷ xs) ys =
       ap (λ more. x ∷ more)
       (filter-distinct (other x) (filter (other x) (distinct same xs) ++ ys)
       ∙ ap (distinct same) (filter-append (other x) (filter (other x) (distinct same xs)) ys
-      ∙ ap (λ front. front ++ filter (other x) ys) (filter-weaker (other x) (other x) (λ y h. h) (distinct same xs))
+      ∙ ap (λ prefix. prefix ++ filter (other x) ys) (filter-weaker (other x) (other x) (λ y h. h) (distinct same xs))
       ∙ sym (filter-append (other x) (distinct same xs) ys))
       ∙ sym (filter-distinct (other x) (distinct same xs ++ ys))
-      ∙ ap (filter (other x)) (distinct-front xs ys))
+      ∙ ap (filter (other x)) (distinct-prefix xs ys))
 
   -- lists with the same distinct elements are as good as one another between other lists
   pub distinct-between : (before xs ys after : List A) → distinct same xs ≡ distinct same ys → distinct same (before ++ (xs ++ after)) ≡ distinct same (before ++ (ys ++ after))
   distinct-between before xs ys after e =
       let inner : distinct same (xs ++ after) ≡ distinct same (ys ++ after)
-      = sym (distinct-front xs after) ∙ ap (λ front. distinct same (front ++ after)) e ∙ distinct-front ys after in
+      = sym (distinct-prefix xs after) ∙ ap (λ prefix. distinct same (prefix ++ after)) e ∙ distinct-prefix ys after in
       sym (distinct-back before (xs ++ after)) ∙ ap (λ back. distinct same (before ++ back)) inner ∙ distinct-back before (ys ++ after)
 
 -- what is made of the elements that are kept is the same of the distinct elements
-module _ {A B : Type 0} (same : A → A → Bool) (decides : (x y : A) → Decides (same x y) (x ≡ y)) (alike : B → B → Bool) (tells : (x y : B) → Decides (alike x y) (x ≡ y)) (keep : A → Bool) (f : A → B) where
+module _ {A B : Type 0} (same : A → A → Bool) (decides : (x y : A) → Decides (same x y) (x ≡ y)) (alike : B → B → Bool) (reveals : (x y : B) → Decides (alike x y) (x ≡ y)) (keep : A → Bool) (f : A → B) where
   made_differs : (u y : A) → not (alike (f u) (f y)) ≡ true → not (same u y) ≡ true
   made_differs u y h = by_case (same u y) refl where
     by_case : (b : Bool) → same u y ≡ b → not b ≡ true
-    by_case true e = absurd (let equal : u ≡ y = (decides u y).0 e in let also : alike (f u) (f y) ≡ true = (tells (f u) (f y)).1 (ap f equal) in cc)
+    by_case true e = absurd (let equal : u ≡ y = (decides u y).0 e in let also : alike (f u) (f y) ≡ true = (reveals (f u) (f y)).1 (ap f equal) in cc)
     by_case false e = refl
 
   pub distinct-made : (us : List A) → distinct alike (map f (filter keep (distinct same us))) ≡ distinct alike (map f (filter keep us))
@@ -122,9 +122,9 @@ module _ {A B : Type 0} (same : A → A → Bool) (decides : (x y : A) → Decid
         ≡ distinct alike (map f (cond b (u ∷ filter keep us) (filter keep us)))
     by_case true k rest =
         ap (λ more. f u ∷ more)
-        (filter-distinct alike tells (λ y. not (alike (f u) y)) (map f (filter keep (filter (λ y. not (same u y)) (distinct same us))))
+        (filter-distinct alike reveals (λ y. not (alike (f u) y)) (map f (filter keep (filter (λ y. not (same u y)) (distinct same us))))
         ∙ ap (distinct alike) (filter-map-weaker (λ y. not (alike (f u) y)) f keep (λ y. not (same u y)) (made_differs u) (distinct same us))
-        ∙ sym (filter-distinct alike tells (λ y. not (alike (f u) y)) (map f (filter keep (distinct same us))))
+        ∙ sym (filter-distinct alike reveals (λ y. not (alike (f u) y)) (map f (filter keep (distinct same us))))
         ∙ ap (filter (λ y. not (alike (f u) y))) rest)
     by_case false k rest =
         ap (λ kept. distinct alike (map f kept)) (filter-weaker keep (λ y. not (same u y)) (differs same decides keep u k) (distinct same us)) ∙ rest

@@ -19,7 +19,7 @@ use Rattle.mufom_meaning.proofs.Members.{Contains-In, passes-In}
 use Rattle.mufom_meaning.specs.Stands.{StandsIn}
 use Rattle.mufom_meaning.specs.Cycles.{mentioned, mentioned_reference, is_or_leads, leads_within, leads_from}
 
--- a chain of mentions that ends with the public: one mention, and so many before it
+-- a chain of mentions that ends with the public: one mention, and the given number before it
 abbrev Leads : Setting → ℕ → Sited → Tree → SitedPublic → Type 0
 Leads s zero site t q = IsMentionedIn s site t q
 Leads s (suc k) site t q = (p : SitedPublic) × IsMentionedIn s site t p × Leads s k p.site p.entry.value q

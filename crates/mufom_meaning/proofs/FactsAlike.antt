@@ -14,7 +14,7 @@ use Rattle.mufom_meaning.specs.Stands.{StandsIn, LinkFactStands, StandsBeforeWal
 use Rattle.mufom_meaning.proofs.LinkFacts.{IsRepeated}
 use Rattle.mufom_meaning.proofs.SameWalk.{Follows, walk_fact_like}
 
--- the chain of so many mentions leads from the public of this name back to it
+-- the chain of the given number of mentions leads from the public of this name back to it
 abbrev pub comes_back : List Parts → ℕ → List ℕ → Bool
 comes_back ms k name = leads_from (setting ms []) k name (first_named (flat_publics ms) name)
 

@@ -5,7 +5,7 @@ use Rattle.std.proofs.lemmas.Grind.{flat_map-append}
 use Rattle.std.proofs.lemmas.List.{map-append, length-map}
 use Rattle.mufom_debug.specs.Marks.{DebugMark, block_begin, block_end, name_mark, note_mark, value_mark, marks_of}
 use Rattle.mufom_module.specs.declared.module.Parts.{Parts}
-use Rattle.mufom_meaning.specs.Flat.{Sited, name_count, sited_from, sited, publics_of, flat_references}
+use Rattle.mufom_meaning.specs.Flat.{Sited, name_count, sited_from, sited, sited_publics, flat_references}
 use Rattle.mufom_meaning.specs.Joined.{IsJoined, joined_public, joined_mark}
 use Rattle.mufom_meaning.proofs.Moved.{shifted, IsOfGroup}
 use Rattle.mufom_meaning.proofs.Paired.{Paired, Paired-append}
@@ -28,7 +28,7 @@ module _ {X Y U V : Type 0} (R : U → V → Type 0) (entries : Sited → List X
       → Paired R (map f (flat_map (λ site. map (change site) (entries site)) sites)) (flat_map (λ site. map (g site) (entries site)) sites)
   paired_joined [] p = tt
   paired_joined (site ∷ sites) p =
-      subst (λ front. Paired R front (map (g site) (entries site) ++ flat_map (λ site. map (g site) (entries site)) sites))
+      subst (λ prefix. Paired R prefix (map (g site) (entries site) ++ flat_map (λ site. map (g site) (entries site)) sites))
       (sym (map-append f (map (change site) (entries site)) (flat_map (λ site. map (change site) (entries site)) sites)))
       (Paired-append R _ _ _ _ (paired_entries site p.0 (entries site)) (paired_joined sites p.1))
 
@@ -124,7 +124,7 @@ module _ (M : Parts) (ms : List Parts) (name : List ℕ) (j : IsJoined M ms name
   next_publics : next_public home.first_public ms ≡ home.first_public + length M.names.publics
   next_publics =
       next_public-length home.first_section home.first_public home.first_name ms
-      ∙ ap (λ sites. home.first_public + length (publics_of sites)) group_sites
+      ∙ ap (λ sites. home.first_public + length (sited_publics sites)) group_sites
       ∙ ap (λ n. home.first_public + n) (sym (length-joined (joined_public ms) (λ site entry. record { site = site; entry = entry }) (λ site. site.parts.names.publics) home (λ site. refl) (sited ms)))
       ∙ ap (λ publics. home.first_public + length publics) (sym j.publics)
 
@@ -158,7 +158,7 @@ module _ (M : Parts) (ms : List Parts) (name : List ℕ) (j : IsJoined M ms name
       let right : flat_map g (sited (before ++ (ms ++ after))) ≡ flat_map g (sited before) ++ (flat_map (λ site. g (shifted home site)) (sited ms) ++ flat_map g rest_of)
       = ap (flat_map g) sites_of_group ∙ flat_map-append g (sited before) (map (shifted home) (sited ms) ++ rest_of)
       ∙ ap (λ more. flat_map g (sited before) ++ more) (flat_map-append g (map (shifted home) (sited ms)) rest_of
-      ∙ ap (λ front. front ++ flat_map g rest_of) (flat_map-map g (shifted home) (sited ms))) in
+      ∙ ap (λ prefix. prefix ++ flat_map g rest_of) (flat_map-map g (shifted home) (sited ms))) in
       subst (λ xs. Paired R xs (flat_map g (sited (before ++ (ms ++ after))))) (sym left)
       (subst (λ ys. Paired R (flat_map f (sited before) ++ (f home ++ flat_map f rest_of)) ys) (sym right) all) where
         outside_all : ((site : Sited) → Paired R (f site) (g site)) → (sites : List Sited) → Paired R (flat_map f sites) (flat_map g sites)

@@ -6,7 +6,7 @@ use Rattle.mufom_loads.specs.declared.load.Item.{Item}
 use Rattle.mufom_loads.specs.declared.load.Item.TheVariants.{Literal, Field}
 use Rattle.mufom_loads.specs.declared.load.Load.{Load}
 use Rattle.mufom_loads.specs.declared.load.Load.TheVariants.{SetSection, SetPc, One, Repeat}
-use Rattle.mufom_debug.specs.Marks.{DebugMark, block_begin, block_end, name_mark, note_mark, value_mark, marks_of, open_behind, depth_from, depth_of}
+use Rattle.mufom_debug.specs.Marks.{DebugMark, block_begin, block_end, name_mark, note_mark, value_mark, marks_of, open_after, depth_from, depth_of}
 use Rattle.mufom_debug.proofs.Balance.{items_balanced}
 use Rattle.mufom_module.specs.declared.module.Parts.{Parts}
 use Rattle.mufom_module.specs.declared.module.Defect.TheVariants as kinds
@@ -74,7 +74,7 @@ module _ (ms : List Parts) (site : Sited) where
   items-load test same (One item) = same item
   items-load test same (Repeat count items) = list_any-mapped test (joined_item ms site) items ∙ list_any-agrees (λ item. test (joined_item ms site item)) test same items
 
-  open-mark : (n : ℕ) (mark : DebugMark) → open_behind n (joined_mark ms site mark) ≡ open_behind n mark
+  open-mark : (n : ℕ) (mark : DebugMark) → open_after n (joined_mark ms site mark) ≡ open_after n mark
   open-mark n (block_begin head name) = refl
   open-mark n (block_end end) = refl
   open-mark n (name_mark name) = refl
@@ -85,7 +85,7 @@ module _ (ms : List Parts) (site : Sited) where
   depth-marks [] rest n = refl
   depth-marks (mark ∷ marks) rest n =
       ap (λ k. max n (depth_from k (map (joined_mark ms site) marks ++ rest))) (open-mark n mark)
-      ∙ ap (max n) (depth-marks marks rest (open_behind n mark))
+      ∙ ap (max n) (depth-marks marks rest (open_after n mark))
 
 -- ---- depth
 

@@ -18,14 +18,14 @@ use Rattle.mufom_debug.specs.declared.item.BlockHead.TheVariants as heads
 use Rattle.mufom_debug.specs.Marks.{DebugMark, block_begin, block_end, name_mark, note_mark, value_mark, offset_of}
 use Rattle.mufom_module.specs.declared.module.Parts.{Parts}
 use Rattle.mufom_module.specs.Contents.{any_of, any_expression, load_any, item_any, placed_from}
-use Rattle.mufom_module.specs.Defects.{counts_of, is_outside, names_outside, names_no_section, has_bad_place, names_bad_section, begins_badly, has_bad_mark, declared_behind, is_this, is_other_counter, has_other_counter, misplaces_counter, loads_nowhere}
+use Rattle.mufom_module.specs.Defects.{counts_of, is_outside, names_outside, names_no_section, has_bad_place, names_bad_section, begins_badly, has_bad_mark, declared_after, is_this, is_other_counter, has_other_counter, misplaces_counter, loads_nowhere}
 use Rattle.mufom_plan.specs.Names.{has_name}
 use Rattle.mufom_meaning.specs.Flat.{Sited, sited, flat_references, public_names, unmet_references, name_count}
-use Rattle.mufom_meaning.specs.Joined.{place_of, same_reference, kept_references, joined_reference, joined_variable, joined_tree, joined_item, joined_load, joined_head, joined_mark}
+use Rattle.mufom_meaning.specs.Joined.{position_of, same_reference, kept_references, joined_reference, joined_variable, joined_tree, joined_item, joined_load, joined_head, joined_mark}
 use Rattle.mufom_meaning.proofs.Members.{In, In-at, at-In, In-filter, In-flat_map, none-In, fails-In, get_some}
 use Rattle.mufom_meaning.proofs.Tests.{either_false}
 use Rattle.mufom_meaning.proofs.Named.{site_module}
-use Rattle.mufom_meaning.proofs.References.{Among-distinct, get-place_of, same_reference-decides}
+use Rattle.mufom_meaning.proofs.References.{Among-distinct, get-position_of, same_reference-decides}
 use Rattle.mufom_meaning.proofs.Renamed.{variables_of-with_variables}
 use Rattle.mufom_meaning.proofs.JoinedEntries.{list_any-mapped}
 
@@ -45,24 +45,24 @@ get-within [] i x e = absurd cc
 get-within (y ∷ ys) zero x e = omega arith
 get-within (y ∷ ys) (suc i) x e = let rest = get-within ys i x e in omega (arith, rest)
 
-place_of-within : {A : Type 0} (test : A → Bool) (x : A) (xs : List A) → In x xs → test x ≡ true → place_of test xs < length xs
-place_of-within test x xs h passes =
-    let there = at-In x xs h in let found = get-place_of test x passes xs there.0 there.1 in get-within xs (place_of test xs) found.0 found.1
+position_of-within : {A : Type 0} (test : A → Bool) (x : A) (xs : List A) → In x xs → test x ≡ true → position_of test xs < length xs
+position_of-within test x xs h passes =
+    let there = at-In x xs h in let found = get-position_of test x passes xs there.0 there.1 in get-within xs (position_of test xs) found.0 found.1
 
 -- a name that stands in a list is found there
-name-within : (names : List (List ℕ)) (name : List ℕ) → has_name names name ≡ true → place_of (λ other. bytes_eq other name) names < length names
+name-within : (names : List (List ℕ)) (name : List ℕ) → has_name names name ≡ true → position_of (λ other. bytes_eq other name) names < length names
 name-within [] name e = absurd cc
 name-within (first ∷ names) name e = by_case (bytes_eq name first) refl e (name-within names name) where
   by_case : (b : Bool) → bytes_eq name first ≡ b → (b || list_any (bytes_eq name) names) ≡ true
-      → (has_name names name ≡ true → place_of (λ other. bytes_eq other name) names < length names)
-      → place_of (λ other. bytes_eq other name) (first ∷ names) < length (first ∷ names)
+      → (has_name names name ≡ true → position_of (λ other. bytes_eq other name) names < length names)
+      → position_of (λ other. bytes_eq other name) (first ∷ names) < length (first ∷ names)
   by_case true f e later =
       let same : name ≡ first = (bytes_eq-Decides name first).0 f in
       let turned : bytes_eq first name ≡ true = (bytes_eq-Decides first name).1 (sym same) in
-      let at : place_of (λ other. bytes_eq other name) (first ∷ names) ≡ 0 = ap (λ b. cond b 0 (suc (place_of (λ other. bytes_eq other name) names))) turned in
+      let at : position_of (λ other. bytes_eq other name) (first ∷ names) ≡ 0 = ap (λ b. cond b 0 (suc (position_of (λ other. bytes_eq other name) names))) turned in
       omega (arith, at)
   by_case false f e later = by_head (bytes_eq first name) (later e) where
-    by_head : (b : Bool) → place_of (λ other. bytes_eq other name) names < length names → cond b 0 (suc (place_of (λ other. bytes_eq other name) names)) < suc (length names)
+    by_head : (b : Bool) → position_of (λ other. bytes_eq other name) names < length names → cond b 0 (suc (position_of (λ other. bytes_eq other name) names)) < suc (length names)
     by_head true less = omega arith
     by_head false less = omega (arith, less)
 
@@ -76,15 +76,15 @@ module _ (M : Parts) (ms : List Parts) (site : Sited) (fits : Fits M ms site) wh
   reference-inside : (r : Reference) → In r (flat_references ms) → is_outside (counts_of M) (joined_reference ms (Some r)) ≡ false
   reference-inside r h = by_case (has_name (public_names ms) r.name) refl where
     by_case : (b : Bool) → has_name (public_names ms) r.name ≡ b
-        → is_outside (counts_of M) (cond b (letters.I, place_of (λ name. bytes_eq name r.name) (public_names ms)) (letters.X, place_of (same_reference r) (kept_references ms))) ≡ false
-    by_case true e = let less = name-within (public_names ms) r.name e in not_outside (length M.names.publics) (place_of (λ name. bytes_eq name r.name) (public_names ms)) (omega (arith, less, fits.names))
+        → is_outside (counts_of M) (cond b (letters.I, position_of (λ name. bytes_eq name r.name) (public_names ms)) (letters.X, position_of (same_reference r) (kept_references ms))) ≡ false
+    by_case true e = let less = name-within (public_names ms) r.name e in not_outside (length M.names.publics) (position_of (λ name. bytes_eq name r.name) (public_names ms)) (omega (arith, less, fits.names))
     by_case false e =
         let unmet : In r (unmet_references ms) = In-filter (λ reference. not (has_name (public_names ms) reference.name)) r (ap not e) (flat_references ms) h in
         let there = at-In r (unmet_references ms) unmet in
         let kept = Among-distinct same_reference same_reference-decides r (unmet_references ms) there.0 there.1 in
         let itself : same_reference r r ≡ true = (same_reference-decides r r).1 refl in
-        let less = place_of-within (same_reference r) r (kept_references ms) (In-at r (kept_references ms) kept.0 kept.1) itself in
-        not_outside (length M.names.references) (place_of (same_reference r) (kept_references ms)) (omega (arith, less, fits.references))
+        let less = position_of-within (same_reference r) r (kept_references ms) (In-at r (kept_references ms) kept.0 kept.1) itself in
+        not_outside (length M.names.references) (position_of (same_reference r) (kept_references ms)) (omega (arith, less, fits.references))
 
   found-inside : (n : ℕ) → n < length site.parts.names.references → (o : Option Reference) → slice_get site.parts.names.references n ≡ o
       → is_outside (counts_of M) (joined_reference ms o) ≡ false
@@ -111,7 +111,7 @@ module _ (M : Parts) (ms : List Parts) (site : Sited) (fits : Fits M ms site) wh
   reference-counter : (allowed : Option ℕ) (o : Option Reference) → is_other_counter allowed (joined_reference ms o) ≡ false
   reference-counter allowed None = refl
   reference-counter allowed (Some r) = by_case (has_name (public_names ms) r.name) where
-    by_case : (b : Bool) → is_other_counter allowed (cond b (letters.I, place_of (λ name. bytes_eq name r.name) (public_names ms)) (letters.X, place_of (same_reference r) (kept_references ms))) ≡ false
+    by_case : (b : Bool) → is_other_counter allowed (cond b (letters.I, position_of (λ name. bytes_eq name r.name) (public_names ms)) (letters.X, position_of (same_reference r) (kept_references ms))) ≡ false
     by_case true = refl
     by_case false = refl
 
@@ -268,27 +268,27 @@ module _ (M : Parts) (ms : List Parts) (site : Sited) (fits : Fits M ms site) wh
   name-declared : (n name : ℕ) → nat_lt name n ≡ true → nat_lt (site.first_name + name) (site.first_name + n) ≡ true
   name-declared n name e = let less : name < n = search rules in let more : site.first_name + name < site.first_name + n = omega (arith, less) in search rules
 
-  -- the names that marks use are declared behind those of the modules before
-  pub names-declared : (marks more : List DebugMark) (n : ℕ) → is_none (declared_behind n marks) ≡ false
-      → declared_behind (site.first_name + n) (map (joined_mark ms site) marks ++ more) ≡ declared_behind (site.first_name + (n + name_count marks)) more
-  names-declared [] more n e = ap (λ k. declared_behind k more) (omega arith)
+  -- the names that marks use are declared after those of the modules before
+  pub names-declared : (marks more : List DebugMark) (n : ℕ) → is_none (declared_after n marks) ≡ false
+      → declared_after (site.first_name + n) (map (joined_mark ms site) marks ++ more) ≡ declared_after (site.first_name + (n + name_count marks)) more
+  names-declared [] more n e = ap (λ k. declared_after k more) (omega arith)
   names-declared (block_begin head name ∷ marks) more n e = names-declared marks more n e
   names-declared (block_end end ∷ marks) more n e = names-declared marks more n e
   names-declared (name_mark name ∷ marks) more n e =
       let next : site.first_name + n + 1 ≡ site.first_name + (n + 1) = omega arith in
       let last : site.first_name + (n + 1 + name_count marks) ≡ site.first_name + (n + (1 + name_count marks)) = omega arith in
-      ap (λ k. declared_behind k (map (joined_mark ms site) marks ++ more)) next ∙ names-declared marks more (n + 1) e ∙ ap (λ k. declared_behind k more) last
+      ap (λ k. declared_after k (map (joined_mark ms site) marks ++ more)) next ∙ names-declared marks more (n + 1) e ∙ ap (λ k. declared_after k more) last
   names-declared (note_mark name note ∷ marks) more n e = by_case (nat_lt name n) refl e (names-declared marks more n) where
-    by_case : (b : Bool) → nat_lt name n ≡ b → is_none (option_and_then (λ k. declared_behind k marks) (if b then Some n else None)) ≡ false
-        → (is_none (declared_behind n marks) ≡ false → declared_behind (site.first_name + n) (map (joined_mark ms site) marks ++ more) ≡ declared_behind (site.first_name + (n + name_count marks)) more)
-        → declared_behind (site.first_name + n) (map (joined_mark ms site) (note_mark name note ∷ marks) ++ more) ≡ declared_behind (site.first_name + (n + name_count marks)) more
+    by_case : (b : Bool) → nat_lt name n ≡ b → is_none (option_and_then (λ k. declared_after k marks) (if b then Some n else None)) ≡ false
+        → (is_none (declared_after n marks) ≡ false → declared_after (site.first_name + n) (map (joined_mark ms site) marks ++ more) ≡ declared_after (site.first_name + (n + name_count marks)) more)
+        → declared_after (site.first_name + n) (map (joined_mark ms site) (note_mark name note ∷ marks) ++ more) ≡ declared_after (site.first_name + (n + name_count marks)) more
     by_case true f e later =
-        ap (λ b. option_and_then (λ k. declared_behind k (map (joined_mark ms site) marks ++ more)) (if b then Some (site.first_name + n) else None)) (name-declared n name f) ∙ later e
+        ap (λ b. option_and_then (λ k. declared_after k (map (joined_mark ms site) marks ++ more)) (if b then Some (site.first_name + n) else None)) (name-declared n name f) ∙ later e
     by_case false f e later = absurd cc
   names-declared (value_mark name t ∷ marks) more n e = by_case (nat_lt name n) refl e (names-declared marks more n) where
-    by_case : (b : Bool) → nat_lt name n ≡ b → is_none (option_and_then (λ k. declared_behind k marks) (if b then Some n else None)) ≡ false
-        → (is_none (declared_behind n marks) ≡ false → declared_behind (site.first_name + n) (map (joined_mark ms site) marks ++ more) ≡ declared_behind (site.first_name + (n + name_count marks)) more)
-        → declared_behind (site.first_name + n) (map (joined_mark ms site) (value_mark name t ∷ marks) ++ more) ≡ declared_behind (site.first_name + (n + name_count marks)) more
+    by_case : (b : Bool) → nat_lt name n ≡ b → is_none (option_and_then (λ k. declared_after k marks) (if b then Some n else None)) ≡ false
+        → (is_none (declared_after n marks) ≡ false → declared_after (site.first_name + n) (map (joined_mark ms site) marks ++ more) ≡ declared_after (site.first_name + (n + name_count marks)) more)
+        → declared_after (site.first_name + n) (map (joined_mark ms site) (value_mark name t ∷ marks) ++ more) ≡ declared_after (site.first_name + (n + name_count marks)) more
     by_case true f e later =
-        ap (λ b. option_and_then (λ k. declared_behind k (map (joined_mark ms site) marks ++ more)) (if b then Some (site.first_name + n) else None)) (name-declared n name f) ∙ later e
+        ap (λ b. option_and_then (λ k. declared_after k (map (joined_mark ms site) marks ++ more)) (if b then Some (site.first_name + n) else None)) (name-declared n name f) ∙ later e
     by_case false f e later = absurd cc

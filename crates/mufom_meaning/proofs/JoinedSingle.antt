@@ -1,10 +1,10 @@
--- A list has one partial link under a name at most: marks determine the debug items, and all else is told by equations.
+-- A list has one partial link under a name at most: marks determine the debug items, and all else is known by equations.
 use Rattle.std.proofs.Common.{◌≡◌, [], ◌∷◌, Option, Some, None, refl, sym, ◌∙◌}
 use Rattle.std.specs.Prelude.{option_to_list}
 use Rattle.mufom_debug.proofs.Rebuilt.{same_items}
 use Rattle.mufom_meaning.specs.StagingLaws.{JoinedIsSingle}
 
--- an option is told by the list of what it has
+-- an option is known by the list of what it has
 same_option : {A : Type 0} (o u : Option A) → option_to_list o ≡ option_to_list u → o ≡ u
 same_option None None e = refl
 same_option (Some x) (Some y) e = cc

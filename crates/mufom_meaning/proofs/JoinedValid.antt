@@ -15,7 +15,7 @@ use Rattle.mufom_module.specs.declared.module.Parts.{Parts}
 use Rattle.mufom_module.specs.declared.module.Defect.TheVariants as kinds
 use Rattle.mufom_module.specs.Written.{weight}
 use Rattle.mufom_module.specs.Contents.{any_of, any_expression, any_item, debug_marks, placed_loads, placed_from, HeadAndEnd, blocks_of}
-use Rattle.mufom_module.specs.Defects.{IsValid, has_defect, defects, is_long, has_long_name, is_unit_count, has_bad_alignment, lacks_base, is_long_literal, has_bad_size, counts_of, names_outside, has_bad_place, has_bad_mark, declared_behind, has_other_counter, misplaces_counter, loads_nowhere, has_unknown_attribute, ends_plainly, has_bad_end}
+use Rattle.mufom_module.specs.Defects.{IsValid, has_defect, defects, is_long, has_long_name, is_unit_count, has_bad_alignment, lacks_base, is_long_literal, has_bad_size, counts_of, names_outside, has_bad_place, has_bad_mark, declared_after, has_other_counter, misplaces_counter, loads_nowhere, has_unknown_attribute, ends_plainly, has_bad_end}
 use Rattle.mufom_plan.specs.Names.{has_name}
 use Rattle.mufom_meaning.specs.Flat.{Sited, sited_from, sited, flat_sections, flat_references, flat_publics, public_names, unmet_references, distinct, name_count}
 use Rattle.mufom_meaning.specs.Joined.{joined_tree, joined_public, joined_load, joined_head, joined_mark, kept_references, same_reference, HasFirstHeader, IsJoined}
@@ -26,7 +26,7 @@ use Rattle.mufom_meaning.proofs.Choices.{two_false, not_lt, not_le}
 use Rattle.mufom_meaning.proofs.NoDefects.{no_defect}
 use Rattle.mufom_meaning.proofs.Members.{In, fails-In, none-In}
 use Rattle.mufom_meaning.proofs.Named.{site_module, valid_module, sections_end, publics_end}
-use Rattle.mufom_meaning.proofs.Names.{names_of-publics_of}
+use Rattle.mufom_meaning.proofs.Names.{names_of-sited_publics}
 use Rattle.mufom_meaning.proofs.Needs.{own_names}
 use Rattle.mufom_meaning.proofs.ChangedMarks.{changed, changed_items, marks_of-append, blocks_of-append}
 use Rattle.mufom_meaning.proofs.JoinedWeight.{joined_weighs}
@@ -59,15 +59,15 @@ record Places (m : Parts) : Type 0 where
   loads : list_any (has_bad_place (counts_of m)) m.loads ≡ false
   marks : list_any (has_bad_mark (counts_of m)) (debug_marks m) ≡ false
   start : any_of (names_outside (counts_of m)) m.start ≡ false
-  names : is_none (declared_behind 0 (debug_marks m)) ≡ false
+  names : is_none (declared_after 0 (debug_marks m)) ≡ false
 
 places : (m : Parts) → IsValid m → Places m
 places m valid =
     let all = no_defect m valid kinds.Position in
-    let a = either_false (list_any (λ p. names_outside (counts_of m) p.value) m.names.publics) (list_any (has_bad_place (counts_of m)) m.loads || (list_any (has_bad_mark (counts_of m)) (debug_marks m) || (any_of (names_outside (counts_of m)) m.start || is_none (declared_behind 0 (debug_marks m))))) all in
-    let b = either_false (list_any (has_bad_place (counts_of m)) m.loads) (list_any (has_bad_mark (counts_of m)) (debug_marks m) || (any_of (names_outside (counts_of m)) m.start || is_none (declared_behind 0 (debug_marks m)))) a.1 in
-    let c = either_false (list_any (has_bad_mark (counts_of m)) (debug_marks m)) (any_of (names_outside (counts_of m)) m.start || is_none (declared_behind 0 (debug_marks m))) b.1 in
-    let e = either_false (any_of (names_outside (counts_of m)) m.start) (is_none (declared_behind 0 (debug_marks m))) c.1 in
+    let a = either_false (list_any (λ p. names_outside (counts_of m) p.value) m.names.publics) (list_any (has_bad_place (counts_of m)) m.loads || (list_any (has_bad_mark (counts_of m)) (debug_marks m) || (any_of (names_outside (counts_of m)) m.start || is_none (declared_after 0 (debug_marks m))))) all in
+    let b = either_false (list_any (has_bad_place (counts_of m)) m.loads) (list_any (has_bad_mark (counts_of m)) (debug_marks m) || (any_of (names_outside (counts_of m)) m.start || is_none (declared_after 0 (debug_marks m)))) a.1 in
+    let c = either_false (list_any (has_bad_mark (counts_of m)) (debug_marks m)) (any_of (names_outside (counts_of m)) m.start || is_none (declared_after 0 (debug_marks m))) b.1 in
+    let e = either_false (any_of (names_outside (counts_of m)) m.start) (is_none (declared_after 0 (debug_marks m))) c.1 in
     record { publics = a.0; loads = b.0; marks = c.0; start = e.0; names = e.1 }
 
 record Counters (m : Parts) : Type 0 where
@@ -173,7 +173,7 @@ module _ (M : Parts) (ms : List Parts) (name : List ℕ) (j : IsJoined M ms name
       let sections = sections_end 0 0 0 ms site h in
       let all : length M.sections ≡ length (flat_sections ms) = ap length j.sections in
       let publics = publics_end 0 0 0 ms site h in
-      let flat : length (flat_publics ms) ≡ length (public_names ms) = sym (length-map (flat_publics ms) (λ q. q.entry.name)) ∙ ap length (names_of-publics_of 0 0 0 ms) in
+      let flat : length (flat_publics ms) ≡ length (public_names ms) = sym (length-map (flat_publics ms) (λ q. q.entry.name)) ∙ ap length (names_of-sited_publics 0 0 0 ms) in
       record {
         there = h;
         sections = omega (arith, sections, all);
@@ -228,7 +228,7 @@ module _ (M : Parts) (ms : List Parts) (name : List ℕ) (j : IsJoined M ms name
 
   -- the names of debug items
   declared : (xs : List Parts) → AreValid xs → (s p d : ℕ) → ((site : Sited) → In site (sited_from s p d xs) → Fits M ms site)
-      → is_none (declared_behind d (flat_map (λ site. map (joined_mark ms site) (marks_of site.parts.debug)) (sited_from s p d xs))) ≡ false
+      → is_none (declared_after d (flat_map (λ site. map (joined_mark ms site) (marks_of site.parts.debug)) (sited_from s p d xs))) ≡ false
   declared [] valid s p d fit = refl
   declared (m ∷ xs) valid s p d fit =
       let site : Sited = record { parts = m; first_section = s; first_public = p; first_name = d } in
@@ -238,7 +238,7 @@ module _ (M : Parts) (ms : List Parts) (name : List ℕ) (j : IsJoined M ms name
       let run = names-declared M ms site (fit site (inl refl)) (marks_of m.debug) rest 0 (places m valid.0).names in
       let from : d ≡ d + 0 = omega arith in
       let until : d + (0 + name_count (marks_of m.debug)) ≡ next = omega arith in
-      ap is_none (ap (λ n. declared_behind n (map (joined_mark ms site) (marks_of m.debug) ++ rest)) from ∙ run ∙ ap (λ n. declared_behind n rest) until) ∙ later
+      ap is_none (ap (λ n. declared_after n (map (joined_mark ms site) (marks_of m.debug) ++ rest)) from ∙ run ∙ ap (λ n. declared_after n rest) until) ∙ later
 
   position : has_defect M kinds.Position ≡ false
   position =
@@ -250,7 +250,7 @@ module _ (M : Parts) (ms : List Parts) (name : List ℕ) (j : IsJoined M ms name
       (marks_fail (has_bad_mark (counts_of M)) (λ site h mark k. mark-inside M ms site (fits site h) mark (fails-In (has_bad_mark (counts_of site.parts)) (marks_of site.parts.debug) (places site.parts (valid_site site h)).marks mark k))) (
       two_false (any_of (names_outside (counts_of M)) M.start) _
       (start_fails (names_outside (counts_of M)) (λ site h t k. tree-inside M ms site (fits site h) t (fails-In (names_outside (counts_of site.parts)) (option_to_list site.parts.start) (sym (any_of-list (names_outside (counts_of site.parts)) site.parts.start) ∙ (places site.parts (valid_site site h)).start) t k)))
-      (ap (λ marks. is_none (declared_behind 0 marks)) j.debug ∙ declared ms v 0 0 0 fits))))
+      (ap (λ marks. is_none (declared_after 0 marks)) j.debug ∙ declared ms v 0 0 0 fits))))
 
   -- the current sections of loads
   keep : (sites : List Sited) → ((site : Sited) → In site sites → In site (sited ms)) → KeepRules (flat_map (λ site. map (joined_load ms site) site.parts.loads) sites)

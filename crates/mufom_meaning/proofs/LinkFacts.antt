@@ -11,25 +11,25 @@ use Rattle.mufom_meaning.specs.Staging.{HaveDescriptor}
 use Rattle.mufom_meaning.specs.FactLaws.{LinkFactsGrow}
 
 -- a place of a list, counted in the longer list that has others before it
-abbrev pub place_behind : {A : Type 0} → List A → ℕ → ℕ
-place_behind [] n = n
-place_behind (x ∷ xs) n = suc (place_behind xs n)
+abbrev pub position_after : {A : Type 0} → List A → ℕ → ℕ
+position_after [] n = n
+position_after (x ∷ xs) n = suc (position_after xs n)
 
-less_behind : {A : Type 0} (xs : List A) (m n : ℕ) → m < n → place_behind xs m < place_behind xs n
-less_behind [] m n h = h
-less_behind (x ∷ xs) m n h = let less = less_behind xs m n h in omega (arith, less)
+less_after : {A : Type 0} (xs : List A) (m n : ℕ) → m < n → position_after xs m < position_after xs n
+less_after [] m n h = h
+less_after (x ∷ xs) m n h = let less = less_after xs m n h in omega (arith, less)
 
-get_front : {A : Type 0} (xs ys : List A) (i : ℕ) (x : A) → slice_get xs i ≡ Some x → slice_get (xs ++ ys) i ≡ Some x
-get_front [] ys i x e = absurd cc
-get_front (y ∷ xs) ys zero x e = e
-get_front (y ∷ xs) ys (suc i) x e = get_front xs ys i x e
+get_prefix : {A : Type 0} (xs ys : List A) (i : ℕ) (x : A) → slice_get xs i ≡ Some x → slice_get (xs ++ ys) i ≡ Some x
+get_prefix [] ys i x e = absurd cc
+get_prefix (y ∷ xs) ys zero x e = e
+get_prefix (y ∷ xs) ys (suc i) x e = get_prefix xs ys i x e
 
-pub get_behind : {A : Type 0} (xs ys : List A) (i : ℕ) → slice_get (xs ++ ys) (place_behind xs i) ≡ slice_get ys i
-get_behind [] ys i = refl
-get_behind (x ∷ xs) ys i = get_behind xs ys i
+pub get_after : {A : Type 0} (xs ys : List A) (i : ℕ) → slice_get (xs ++ ys) (position_after xs i) ≡ slice_get ys i
+get_after [] ys i = refl
+get_after (x ∷ xs) ys i = get_after xs ys i
 
-get_within : {A : Type 0} (before xs after : List A) (i : ℕ) (x : A) → slice_get xs i ≡ Some x → slice_get (before ++ (xs ++ after)) (place_behind before i) ≡ Some x
-get_within before xs after i x e = get_behind before (xs ++ after) i ∙ get_front xs after i x e
+get_within : {A : Type 0} (before xs after : List A) (i : ℕ) (x : A) → slice_get xs i ≡ Some x → slice_get (before ++ (xs ++ after)) (position_after before i) ≡ Some x
+get_within before xs after i x e = get_after before (xs ++ after) i ∙ get_prefix xs after i x e
 
 -- the name stands at a place where it repeats
 abbrev pub IsRepeated : List (List ℕ) → List ℕ → Type 0
@@ -37,12 +37,12 @@ IsRepeated names name = (place : ℕ) × (slice_get names place ≡ Some name) �
 
 repeated_within : (before names after : List (List ℕ)) (name : List ℕ) → IsRepeated names name → IsRepeated (before ++ (names ++ after)) name
 repeated_within before names after name h = (
-  place_behind before h.0,
+  position_after before h.0,
   get_within before names after h.0 name h.1,
   (
-    place_behind before h.2.0,
+    position_after before h.2.0,
     h.2.1,
-    less_behind before h.2.0 h.0 h.2.2,
+    less_after before h.2.0 h.0 h.2.2,
     get_within before names after h.2.0 h.2.1 h.2.3,
     get_within before names after h.0 h.2.1 h.2.4,
   ),
@@ -55,8 +55,8 @@ pub link_facts_grow : LinkFactsGrow
 link_facts_grow before ms after (mismatch d e) h = (
   h.0,
   h.1,
-  (place_behind before h.2.0, get_within before ms after h.2.0 h.0 h.2.1),
-  (place_behind before h.3.0, get_within before ms after h.3.0 h.1 h.3.1),
+  (position_after before h.2.0, get_within before ms after h.2.0 h.0 h.2.1),
+  (position_after before h.3.0, get_within before ms after h.3.0 h.1 h.3.1),
   h.4,
   h.5,
   h.6,

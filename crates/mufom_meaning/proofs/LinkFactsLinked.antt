@@ -9,7 +9,7 @@ use Rattle.mufom_meaning.specs.Staging.{HaveDescriptorOf}
 use Rattle.mufom_meaning.specs.StagingLaws.{LinkFactsAgree}
 use Rattle.mufom_meaning.proofs.Needs.{same_names}
 use Rattle.mufom_meaning.proofs.LinkAgreed.{same_start_count}
-use Rattle.mufom_meaning.proofs.LinkFacts.{place_behind, get_behind, IsRepeated, like_all}
+use Rattle.mufom_meaning.proofs.LinkFacts.{position_after, get_after, IsRepeated, like_all}
 
 -- a module of the list has the descriptor
 abbrev HasDescriptorIn : List Parts → Descriptor → Type 0
@@ -30,7 +30,7 @@ descriptor_there : (M : Parts) (ms : List Parts) → HasFirstHeader M ms → (be
     → HasDescriptorIn (before ++ (ms ++ after)) (descriptor m)
 descriptor_there M [] header [] after m i e = absurd header
 descriptor_there M (n ∷ rest) header [] after m zero e = let same : M ≡ m = cc in (n, (0, refl), sym (λ i. (header.maus i, header.order i)) ∙ ap descriptor same)
-descriptor_there M (n ∷ rest) header [] after m (suc i) e = (m, (place_behind (n ∷ rest) i, get_behind (n ∷ rest) after i ∙ e), refl)
+descriptor_there M (n ∷ rest) header [] after m (suc i) e = (m, (position_after (n ∷ rest) i, get_after (n ∷ rest) after i ∙ e), refl)
 descriptor_there M ms header (b ∷ before) after m zero e = (m, (0, e), refl)
 descriptor_there M ms header (b ∷ before) after m (suc i) e = later b (before ++ (ms ++ after)) (descriptor m) (descriptor_there M ms header before after m i e)
 

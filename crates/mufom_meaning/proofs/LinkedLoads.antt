@@ -95,13 +95,13 @@ module _ (ms : List Parts) (home : Sited) where
       → Paired R (steps_of home current (flat_map (λ site. map (joined_load ms site) site.parts.loads) sites)) (flat_map (λ site. steps_of (shifted home site) None site.parts.loads) sites)
   paired_group [] all current = tt
   paired_group (site ∷ sites) all current =
-      let front : List Load = map (joined_load ms site) site.parts.loads in
+      let prefix : List Load = map (joined_load ms site) site.parts.loads in
       let back : List Load = flat_map (λ x. map (joined_load ms x) x.parts.loads) sites in
-      let begins : begin_with_section front ≡ true = begin_with_section-joined site site.parts.loads ∙ all.0.1 in
-      let split : steps_of home current (front ++ back) ≡ steps_of home None front ++ steps_of home (current_after current front) back
-      = steps_of-append home current front back ∙ ap (λ steps. steps ++ steps_of home (current_after current front) back) (steps_of-fresh home front begins current) in
+      let begins : begin_with_section prefix ≡ true = begin_with_section-joined site site.parts.loads ∙ all.0.1 in
+      let split : steps_of home current (prefix ++ back) ≡ steps_of home None prefix ++ steps_of home (current_after current prefix) back
+      = steps_of-append home current prefix back ∙ ap (λ steps. steps ++ steps_of home (current_after current prefix) back) (steps_of-fresh home prefix begins current) in
       subst (λ steps. Paired R steps (steps_of (shifted home site) None site.parts.loads ++ flat_map (λ x. steps_of (shifted home x) None x.parts.loads) sites)) (sym split)
-      (Paired-append R _ _ _ _ (paired_loads site all.0.0 None site.parts.loads) (paired_group sites all.1 (current_after current front)))
+      (Paired-append R _ _ _ _ (paired_loads site all.0.0 None site.parts.loads) (paired_group sites all.1 (current_after current prefix)))
 
 valid_sites : (s p d : ℕ) (xs : List Parts) → AreValid xs → AllSites (λ site. IsTrue (begin_with_section site.parts.loads)) (sited_from s p d xs)
 valid_sites s p d [] v = tt

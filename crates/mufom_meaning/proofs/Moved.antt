@@ -12,11 +12,11 @@ use Rattle.mufom_module.specs.declared.module.Parts.{Parts}
 use Rattle.mufom_plan.specs.Names.{has_name}
 use Rattle.mufom_meaning.specs.Flat.{Sited, SitedPublic, public_names, first_named, flat_references, unmet_references}
 use Rattle.mufom_meaning.specs.Values.{Setting, Worth, worth_of, reference_value, worth_of_reference, environment, value_within, value, has_zero_divisor}
-use Rattle.mufom_meaning.specs.Joined.{joined_tree, joined_variable, joined_reference, kept_references, place_of, same_reference}
+use Rattle.mufom_meaning.specs.Joined.{joined_tree, joined_variable, joined_reference, kept_references, position_of, same_reference}
 use Rattle.mufom_meaning.proofs.Paired.{Paired, PairedOption, Paired-get, Paired-find, Paired-length}
 use Rattle.mufom_expr.proofs.ValueLaws.{value_at-renamed}
 use Rattle.mufom_meaning.proofs.Renamed.{value_at-agrees}
-use Rattle.mufom_meaning.proofs.References.{Among, Among-filter, Among-distinct, get-place_of, get-length, same_reference-decides}
+use Rattle.mufom_meaning.proofs.References.{Among, Among-filter, Among-distinct, get-position_of, get-length, same_reference-decides}
 
 -- the place that a module of a group has in a list where the group stands at home
 abbrev pub shifted : Sited → Sited → Sited
@@ -51,7 +51,7 @@ pub record AreSettings (ms : List Parts) (home : Sited) (s other : Setting) : Ty
   pub references : home.parts.names.references ≡ kept_references ms
   -- a name of a public of the group is first met in the group
   pub first : (name : List ℕ) → has_name (public_names ms) name ≡ true → (q : SitedPublic)
-      × (slice_get other.publics (home.first_public + place_of (λ public. bytes_eq public name) (public_names ms)) ≡ Some q)
+      × (slice_get other.publics (home.first_public + position_of (λ public. bytes_eq public name) (public_names ms)) ≡ Some q)
       × (first_named other.publics name ≡ Some q)
 
 module _ (ms : List Parts) (home : Sited) (s other : Setting) (h : AreSettings ms home s other) (w v : Worth)
@@ -91,18 +91,18 @@ module _ (ms : List Parts) (home : Sited) (s other : Setting) (h : AreSettings m
   -- a reference of the group among those kept has its name and weak part
   pub kept_reference : (site : Sited) → IsOfGroup ms site → (n : ℕ) (r : Reference) → slice_get site.parts.names.references n ≡ Some r
       → has_name (public_names ms) r.name ≡ false
-      → (q : Reference) × (slice_get home.parts.names.references (place_of (same_reference r) (kept_references ms)) ≡ Some q) × (r ≡ q)
+      → (q : Reference) × (slice_get home.parts.names.references (position_of (same_reference r) (kept_references ms)) ≡ Some q) × (r ≡ q)
   kept_reference site within n r e unmet =
       let there : Among r (flat_references ms) = within n r e in
       let left : Among r (unmet_references ms) =
       Among-filter (λ reference. not (has_name (public_names ms) reference.name)) r (ap not unmet) (flat_references ms) there.0 there.1 in
       let kept : Among r (kept_references ms) = Among-distinct same_reference same_reference-decides r (unmet_references ms) left.0 left.1 in
-      let found = get-place_of (same_reference r) r ((same_reference-decides r r).1 refl) (kept_references ms) kept.0 kept.1 in
-      (found.0, ap (λ rs. slice_get rs (place_of (same_reference r) (kept_references ms))) h.references ∙ found.1, (same_reference-decides r found.0).0 found.2)
+      let found = get-position_of (same_reference r) r ((same_reference-decides r r).1 refl) (kept_references ms) kept.0 kept.1 in
+      (found.0, ap (λ rs. slice_get rs (position_of (same_reference r) (kept_references ms))) h.references ∙ found.1, (same_reference-decides r found.0).0 found.2)
 
   -- a reference to a public of the group has the value of the public that the link names
   same_met : (r : Reference) → has_name (public_names ms) r.name ≡ true
-      → worth_of w (slice_get s.publics (home.first_public + place_of (λ public. bytes_eq public r.name) (public_names ms)))
+      → worth_of w (slice_get s.publics (home.first_public + position_of (λ public. bytes_eq public r.name) (public_names ms)))
       ≡ worth_of_reference other v (Some r)
   same_met r met =
       let q = h.first r.name met in
@@ -119,7 +119,7 @@ module _ (ms : List Parts) (home : Sited) (s other : Setting) (h : AreSettings m
 
   same_named : (site : Sited) → IsOfGroup ms site → (pc : Option ℕ) (n : ℕ) (r : Reference) → slice_get site.parts.names.references n ≡ Some r
       → (b : Bool) → has_name (public_names ms) r.name ≡ b
-      → linked pc (if b then (letters.I, place_of (λ public. bytes_eq public r.name) (public_names ms)) else (letters.X, place_of (same_reference r) (kept_references ms)))
+      → linked pc (if b then (letters.I, position_of (λ public. bytes_eq public r.name) (public_names ms)) else (letters.X, position_of (same_reference r) (kept_references ms)))
       ≡ worth_of_reference other v (Some r)
   same_named site within pc n r e true met = same_met r met
   same_named site within pc n r e false unmet = same_unmet r _ (kept_reference site within n r e unmet)

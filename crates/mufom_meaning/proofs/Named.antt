@@ -22,7 +22,7 @@ use Rattle.mufom_module.specs.declared.module.Parts.{Parts}
 use Rattle.mufom_module.specs.Contents.{item_any}
 use Rattle.mufom_module.specs.Defects.{IsValid, counts_of, names_outside, has_bad_place}
 use Rattle.mufom_plan.specs.Names.{has_name}
-use Rattle.mufom_meaning.specs.Flat.{Sited, sited_from, sited, SitedPublic, publics_of, flat_sections, flat_publics, flat_references, public_names, first_named, name_count, distinct, is_strong, is_common, common_size, same_common, unmet_references, needs, commons}
+use Rattle.mufom_meaning.specs.Flat.{Sited, sited_from, sited, SitedPublic, sited_publics, flat_sections, flat_publics, flat_references, public_names, first_named, name_count, distinct, is_strong, is_common, common_size, same_common, unmet_references, needs, commons}
 use Rattle.mufom_meaning.specs.Values.{Setting, setting, default_of}
 use Rattle.mufom_meaning.specs.Cycles.{mentioned, mentioned_reference, is_or_leads, leads_within, leads_from, IsOnCycle}
 use Rattle.mufom_meaning.specs.Steps.{Step, counter_step, item_step, item_steps, steps_of, steps}
@@ -31,7 +31,7 @@ use Rattle.mufom_meaning.specs.Facts.{duplicate}
 use Rattle.mufom_meaning.specs.Stands.{StandsIn, LinkFactStands}
 use Rattle.mufom_meaning.specs.Staging.{AreValid}
 use Rattle.mufom_meaning.proofs.Answers.{find_at, both}
-use Rattle.mufom_meaning.proofs.Names.{names_of-publics_of}
+use Rattle.mufom_meaning.proofs.Names.{names_of-sited_publics}
 use Rattle.mufom_meaning.proofs.Cycles.{list_any-agrees}
 use Rattle.mufom_meaning.proofs.Tests.{either_false}
 use Rattle.mufom_meaning.proofs.Choices.{of_lt, of_not_lt}
@@ -71,22 +71,22 @@ publics_at site publics = map (λ entry. record { site = site; entry = entry }) 
 abbrev first_site : ℕ → ℕ → ℕ → Parts → Sited
 first_site a b d m = record { parts = m; first_section = a; first_public = b; first_name = d }
 
-abbrev sites_behind : ℕ → ℕ → ℕ → Parts → List Parts → List Sited
-sites_behind a b d m ms = sited_from (a + length m.sections) (b + length m.names.publics) (d + name_count (marks_of m.debug)) ms
+abbrev sites_after : ℕ → ℕ → ℕ → Parts → List Parts → List Sited
+sites_after a b d m ms = sited_from (a + length m.sections) (b + length m.names.publics) (d + name_count (marks_of m.debug)) ms
 
 publics_count : (site : Sited) (publics : List Public) (rest : List SitedPublic) → length (publics_at site publics ++ rest) ≡ length publics + length rest
 publics_count site publics rest = length-append (publics_at site publics) rest ∙ ap (λ n. n + length rest) (length-map publics (λ entry. record { site = site; entry = entry }))
 
-pub publics_end : (a b d : ℕ) (ms : List Parts) (site : Sited) → In site (sited_from a b d ms) → site.first_public + length site.parts.names.publics ≤ b + length (publics_of (sited_from a b d ms))
+pub publics_end : (a b d : ℕ) (ms : List Parts) (site : Sited) → In site (sited_from a b d ms) → site.first_public + length site.parts.names.publics ≤ b + length (sited_publics (sited_from a b d ms))
 publics_end a b d [] site h = absurd h
 publics_end a b d (m ∷ ms) site (inl e) =
     let first : b ≡ site.first_public = ap (λ (x : Sited). x.first_public) e in
     let own : length m.names.publics ≡ length site.parts.names.publics = ap (λ (x : Sited). length x.parts.names.publics) e in
-    let all = publics_count (first_site a b d m) m.names.publics (publics_of (sites_behind a b d m ms)) in
+    let all = publics_count (first_site a b d m) m.names.publics (sited_publics (sites_after a b d m ms)) in
     omega (arith, first, own, all)
 publics_end a b d (m ∷ ms) site (inr h) =
     let later = publics_end (a + length m.sections) (b + length m.names.publics) (d + name_count (marks_of m.debug)) ms site h in
-    let all = publics_count (first_site a b d m) m.names.publics (publics_of (sites_behind a b d m ms)) in
+    let all = publics_count (first_site a b d m) m.names.publics (sited_publics (sites_after a b d m ms)) in
     omega (arith, later, all)
 
 -- ---- names
@@ -97,7 +97,7 @@ named_at (p ∷ qs) zero q e = let same : p ≡ q = cc in ap (λ (x : SitedPubli
 named_at (p ∷ qs) (suc i) q e = named_at qs i q e
 
 name_there : (ms : List Parts) (i : ℕ) (q : SitedPublic) → slice_get (flat_publics ms) i ≡ Some q → slice_get (public_names ms) i ≡ Some q.entry.name
-name_there ms i q e = ap (λ names. slice_get names i) (sym (names_of-publics_of 0 0 0 ms)) ∙ named_at (flat_publics ms) i q e
+name_there ms i q e = ap (λ names. slice_get names i) (sym (names_of-sited_publics 0 0 0 ms)) ∙ named_at (flat_publics ms) i q e
 
 -- where no name stands twice, a public is the first of its name
 pub single_name : (ms : List Parts) → ((name : List ℕ) → ¬ LinkFactStands ms (duplicate name)) → (q : SitedPublic) → StandsIn q (flat_publics ms) → first_named (flat_publics ms) q.entry.name ≡ Some q
@@ -139,7 +139,7 @@ unnamed ms name e = none-In (bytes_eq name) (public_names ms) fails where
 
   fails : (other : List ℕ) → In other (public_names ms) → bytes_eq name other ≡ false
   fails other h =
-      let there = map-In (λ q. q.entry.name) other (flat_publics ms) (subst (In other) (sym (names_of-publics_of 0 0 0 ms)) h) in
+      let there = map-In (λ q. q.entry.name) other (flat_publics ms) (subst (In other) (sym (names_of-sited_publics 0 0 0 ms)) h) in
       ap (bytes_eq name) (sym there.2)
       ∙ turned there.0 (finds-none (λ p. bytes_eq p.entry.name name) (flat_publics ms) e there.0 there.1) (bytes_eq name there.0.entry.name) refl
 
@@ -244,7 +244,7 @@ module _ (s : Setting) (site : Sited) (named : (t : Tree) → IsInside site.part
   below : (section : ℕ) → nat_le (length site.parts.sections) section ≡ false → section < length site.parts.sections
   below section e = search rules
 
-  -- a step is of a load's own, or of the loads behind it
+  -- a step is of a load's own, or of the loads after it
   either_well : (step : Step) (own rest : List Step) → In step (own ++ rest) → (In step own → IsWellStep s step) → (In step rest → IsWellStep s step) → IsWellStep s step
   either_well step own rest h here later = by_case (In-append step own rest h) where
     by_case : In step own ⊎ In step rest → IsWellStep s step

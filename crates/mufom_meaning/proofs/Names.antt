@@ -11,8 +11,8 @@ use Rattle.mufom_names.specs.Names.{AreDistinct}
 use Rattle.mufom_debug.specs.Marks.{marks_of}
 use Rattle.mufom_module.specs.declared.module.Parts.{Parts}
 use Rattle.mufom_plan.specs.Names.{has_name}
-use Rattle.mufom_meaning.specs.Flat.{name_count, Sited, SitedPublic, sited_from, publics_of, public_names, first_named}
-use Rattle.mufom_meaning.specs.Joined.{place_of}
+use Rattle.mufom_meaning.specs.Flat.{name_count, Sited, SitedPublic, sited_from, sited_publics, public_names, first_named}
+use Rattle.mufom_meaning.specs.Joined.{position_of}
 
 -- the names of publics, in order
 abbrev pub names_of : List SitedPublic → List (List ℕ)
@@ -22,14 +22,14 @@ named_of_site : (site : Sited) (publics : List Public) → names_of (map (λ ent
 named_of_site site [] = refl
 named_of_site site (p ∷ ps) = ap (λ names. p.name ∷ names) (named_of_site site ps)
 
-pub names_of-publics_of : (s p d : ℕ) (xs : List Parts) → names_of (publics_of (sited_from s p d xs)) ≡ public_names xs
-names_of-publics_of s p d [] = refl
-names_of-publics_of s p d (x ∷ xs) =
+pub names_of-sited_publics : (s p d : ℕ) (xs : List Parts) → names_of (sited_publics (sited_from s p d xs)) ≡ public_names xs
+names_of-sited_publics s p d [] = refl
+names_of-sited_publics s p d (x ∷ xs) =
     let site : Sited = record { parts = x; first_section = s; first_public = p; first_name = d } in
-    let rest : List SitedPublic = publics_of (sited_from (s + length x.sections) (p + length x.names.publics) (d + name_count (marks_of x.debug)) xs) in
+    let rest : List SitedPublic = sited_publics (sited_from (s + length x.sections) (p + length x.names.publics) (d + name_count (marks_of x.debug)) xs) in
     map-append (λ q. q.entry.name) (map (λ entry. record { site = site; entry = entry }) x.names.publics) rest
-    ∙ ap (λ front. front ++ names_of rest) (named_of_site site x.names.publics)
-    ∙ ap (λ back. map (λ entry. entry.name) x.names.publics ++ back) (names_of-publics_of (s + length x.sections) (p + length x.names.publics) (d + name_count (marks_of x.debug)) xs)
+    ∙ ap (λ prefix. prefix ++ names_of rest) (named_of_site site x.names.publics)
+    ∙ ap (λ back. map (λ entry. entry.name) x.names.publics ++ back) (names_of-sited_publics (s + length x.sections) (p + length x.names.publics) (d + name_count (marks_of x.debug)) xs)
 
 -- whether a name is among names, with the sides of the comparison turned
 pub has_name-turned : (x : List ℕ) (xs : List (List ℕ)) (name : List ℕ) → has_name (x ∷ xs) name ≡ (bytes_eq x name || has_name xs name)
@@ -58,20 +58,20 @@ get-skip (x ∷ xs) ys i =
     let next : suc (length xs) + i ≡ suc (length xs + i) = omega arith in
     ap (slice_get (x ∷ (xs ++ ys))) next ∙ get-skip xs ys i
 
--- what stands in the front of a list stands there in the whole, at a place before its length
-pub get-front : {A : Type 0} (xs ys : List A) (i : ℕ) (x : A) → slice_get xs i ≡ Some x → (slice_get (xs ++ ys) i ≡ Some x) × (i < length xs)
-get-front [] ys i x h = absurd cc
-get-front (y ∷ xs) ys zero x h = (h, omega arith)
-get-front (y ∷ xs) ys (suc i) x h = let later = get-front xs ys i x h in let less = later.1 in (later.0, omega (arith, less))
+-- what stands in the prefix of a list stands there in the whole, at a place before its length
+pub get-prefix : {A : Type 0} (xs ys : List A) (i : ℕ) (x : A) → slice_get xs i ≡ Some x → (slice_get (xs ++ ys) i ≡ Some x) × (i < length xs)
+get-prefix [] ys i x h = absurd cc
+get-prefix (y ∷ xs) ys zero x h = (h, omega arith)
+get-prefix (y ∷ xs) ys (suc i) x h = let later = get-prefix xs ys i x h in let less = later.1 in (later.0, omega (arith, less))
 
--- a name that stands in the back of distinct names does not stand in the front
+-- a name that stands in the back of distinct names does not stand in the prefix
 pub absent_before : (xs ys : List (List ℕ)) (name : List ℕ) → AreDistinct (xs ++ ys) → has_name ys name ≡ true → has_name xs name ≡ false
 absent_before xs ys name distinct h = by_case (has_name xs name) refl where
   by_case : (b : Bool) → has_name xs name ≡ b → b ≡ false
   by_case false e = refl
   by_case true e =
-      let front = name_at xs name e in let back = name_at ys name h in let there = get-front xs ys front.0 name front.1 in let less = there.1 in
-      absurd (distinct (length xs + back.0) (front.0, name, omega (arith, less), there.0, get-skip xs ys back.0 ∙ back.1))
+      let prefix = name_at xs name e in let back = name_at ys name h in let there = get-prefix xs ys prefix.0 name prefix.1 in let less = there.1 in
+      absurd (distinct (length xs + back.0) (prefix.0, name, omega (arith, less), there.0, get-skip xs ys back.0 ∙ back.1))
 
 -- past publics that do not have the name, it is looked for in the others
 pub first_named-skip : (xs ys : List SitedPublic) (name : List ℕ) → has_name (names_of xs) name ≡ false → first_named (xs ++ ys) name ≡ first_named ys name
@@ -84,13 +84,13 @@ first_named-skip (x ∷ xs) ys name h = by_case (bytes_eq x.entry.name name) (sy
 
 -- the first of a name is at the place of the name
 pub first_at_place : (xs ys : List SitedPublic) (name : List ℕ) → has_name (names_of xs) name ≡ true → (q : SitedPublic)
-    × (slice_get (xs ++ ys) (place_of (λ other. bytes_eq other name) (names_of xs)) ≡ Some q) × (first_named (xs ++ ys) name ≡ Some q)
+    × (slice_get (xs ++ ys) (position_of (λ other. bytes_eq other name) (names_of xs)) ≡ Some q) × (first_named (xs ++ ys) name ≡ Some q)
 first_at_place [] ys name h = absurd cc
 first_at_place (x ∷ xs) ys name h = by_case (bytes_eq x.entry.name name) (sym (has_name-turned x.entry.name (names_of xs) name) ∙ h) (first_at_place xs ys name) where
   by_case : (b : Bool) → (b || has_name (names_of xs) name) ≡ true
       → (has_name (names_of xs) name ≡ true → (q : SitedPublic)
-      × (slice_get (xs ++ ys) (place_of (λ other. bytes_eq other name) (names_of xs)) ≡ Some q) × (first_named (xs ++ ys) name ≡ Some q))
-      → (q : SitedPublic) × (slice_get (x ∷ (xs ++ ys)) (if b then 0 else suc (place_of (λ other. bytes_eq other name) (names_of xs))) ≡ Some q)
+      × (slice_get (xs ++ ys) (position_of (λ other. bytes_eq other name) (names_of xs)) ≡ Some q) × (first_named (xs ++ ys) name ≡ Some q))
+      → (q : SitedPublic) × (slice_get (x ∷ (xs ++ ys)) (if b then 0 else suc (position_of (λ other. bytes_eq other name) (names_of xs))) ≡ Some q)
       × (cond b (Some x) (first_named (xs ++ ys) name) ≡ Some q)
   by_case true e later = (x, refl, refl)
   by_case false e later = later e

@@ -26,7 +26,7 @@ joined_names ms s p d (x ∷ xs) =
     let site : Sited = record { parts = x; first_section = s; first_public = p; first_name = d } in
     let rest = joined_names ms (s + length x.sections) (p + length x.names.publics) (d + name_count (marks_of x.debug)) xs in
     map-append (λ entry. entry.name) (map (joined_public ms site) x.names.publics) _
-    ∙ ap (λ front. front ++ map (λ entry. entry.name) (flat_map (λ y. map (joined_public ms y) y.parts.names.publics) (sited_from (s + length x.sections) (p + length x.names.publics) (d + name_count (marks_of x.debug)) xs))) (here site x.names.publics)
+    ∙ ap (λ prefix. prefix ++ map (λ entry. entry.name) (flat_map (λ y. map (joined_public ms y) y.parts.names.publics) (sited_from (s + length x.sections) (p + length x.names.publics) (d + name_count (marks_of x.debug)) xs))) (here site x.names.publics)
     ∙ ap (λ back. map (λ entry. entry.name) x.names.publics ++ back) rest where
       here : (site : Sited) (publics : List Public) → map (λ entry. entry.name) (map (joined_public ms site) publics) ≡ map (λ entry. entry.name) publics
       here site [] = refl
@@ -62,13 +62,13 @@ same_common-decides c d = (there, back) where
   back : c ≡ d → same_common c d ≡ true
   back e = ap (λ b. b && (c.1 == d.1)) ((bytes_eq-Decides c.0 d.0).1 (ap (λ x. x.0) e)) ∙ (numbers c.1 d.1).1 (ap (λ x. x.1) e)
 
-module _ (ms : List Parts) (names : List (List ℕ)) (within : (name : List ℕ) → has_name (public_names ms) name ≡ true → has_name names name ≡ true) (front back : List Reference) where
+module _ (ms : List Parts) (names : List (List ℕ)) (within : (name : List ℕ) → has_name (public_names ms) name ≡ true → has_name names name ≡ true) (prefix back : List Reference) where
   pub kept_unmet : filter (unmet_by names) (kept_references ms) ≡ distinct same_reference (filter (unmet_by names) (flat_references ms))
   kept_unmet =
       filter-distinct same_reference same_reference-decides (unmet_by names) (unmet_references ms)
       ∙ ap (distinct same_reference) (filter-weaker (unmet_by names) (unmet_by (public_names ms)) (lacks (public_names ms) names within) (flat_references ms))
 
-  module _ {B : Type 0} (alike : B → B → Bool) (tells : (x y : B) → Decides (alike x y) (x ≡ y)) (keep : Reference → Bool) (f : Reference → B) where
+  module _ {B : Type 0} (alike : B → B → Bool) (reveals : (x y : B) → Decides (alike x y) (x ≡ y)) (keep : Reference → Bool) (f : Reference → B) where
     abbrev made : List Reference → List B
     made rs = map f (filter keep (filter (unmet_by names) rs))
 
@@ -78,16 +78,16 @@ module _ (ms : List Parts) (names : List (List ℕ)) (within : (name : List ℕ)
         ∙ ap (map f) (filter-append keep (filter (unmet_by names) xs) (filter (unmet_by names) ys))
         ∙ map-append f (filter keep (filter (unmet_by names) xs)) (filter keep (filter (unmet_by names) ys))
 
-    made_around : (xs : List Reference) → made (front ++ (xs ++ back)) ≡ made front ++ (made xs ++ made back)
-    made_around xs = made-append front (xs ++ back) ∙ ap (λ more. made front ++ more) (made-append xs back)
+    made_around : (xs : List Reference) → made (prefix ++ (xs ++ back)) ≡ made prefix ++ (made xs ++ made back)
+    made_around xs = made-append prefix (xs ++ back) ∙ ap (λ more. made prefix ++ more) (made-append xs back)
 
-    pub same_made : distinct alike (made (front ++ (kept_references ms ++ back))) ≡ distinct alike (made (front ++ (flat_references ms ++ back)))
+    pub same_made : distinct alike (made (prefix ++ (kept_references ms ++ back))) ≡ distinct alike (made (prefix ++ (flat_references ms ++ back)))
     same_made =
         let group : distinct alike (made (kept_references ms)) ≡ distinct alike (made (flat_references ms))
         = ap (λ rs. distinct alike (map f (filter keep rs))) kept_unmet
-        ∙ distinct-made same_reference same_reference-decides alike tells keep f (filter (unmet_by names) (flat_references ms)) in
+        ∙ distinct-made same_reference same_reference-decides alike reveals keep f (filter (unmet_by names) (flat_references ms)) in
         ap (distinct alike) (made_around (kept_references ms))
-        ∙ distinct-between alike tells (made front) (made (kept_references ms)) (made (flat_references ms)) (made back) group
+        ∙ distinct-between alike reveals (made prefix) (made (kept_references ms)) (made (flat_references ms)) (made back) group
         ∙ ap (distinct alike) (sym (made_around (flat_references ms)))
 
 module _ (M : Parts) (ms : List Parts) (name : List ℕ) (j : IsJoined M ms name) where

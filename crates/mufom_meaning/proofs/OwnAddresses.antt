@@ -11,7 +11,7 @@ use Rattle.mufom_module.specs.declared.module.Parts.{Parts}
 use Rattle.mufom_meaning.specs.Flat.{Sited}
 use Rattle.mufom_meaning.specs.Values.{Setting, value}
 use Rattle.mufom_meaning.specs.Steps.{Step, counter_step, item_step, steps, counter, item_reading, readings_after}
-use Rattle.mufom_meaning.specs.Fields.{bytes_of, in_byte_order, field_number, field_bytes}
+use Rattle.mufom_meaning.specs.Fields.{number_bytes, in_byte_order, field_number, field_bytes}
 use Rattle.mufom_meaning.specs.AddressMap.{Cell, cells_from, field_cells, step_cells, address_map}
 use Rattle.mufom_meaning.specs.Walk.{counted_from, addresses_at, loaded_addresses}
 use Rattle.mufom_meaning.specs.Facts.{loaded_twice}
@@ -19,15 +19,15 @@ use Rattle.mufom_meaning.specs.Stands.{put_back, IsStepAfter, StandsInWalk}
 use Rattle.mufom_meaning.proofs.Members.{In, In-append, In-left, In-right, In-map, at-In}
 use Rattle.mufom_meaning.proofs.CellRows.{HaveOwnAddresses}
 
-pub length-bytes_of : (size v : ℕ) → length (bytes_of size v) ≡ size
-length-bytes_of zero v = refl
-length-bytes_of (suc size) v = ap suc (length-bytes_of size (v / 256))
+pub length-number_bytes : (size v : ℕ) → length (number_bytes size v) ≡ size
+length-number_bytes zero v = refl
+length-number_bytes (suc size) v = ap suc (length-number_bytes size (v / 256))
 
 pub length-in_byte_order : (order : Order) (bytes : List ℕ) → length (in_byte_order order bytes) ≡ length bytes
 length-in_byte_order Least bytes = refl
 length-in_byte_order Most bytes = length-reverse bytes
 
--- a cell of bytes from an address on lies less than their count behind it
+-- a cell of bytes from an address on lies less than their count after it
 cell_there : (a : ℕ) (bytes : List ℕ) (cell : Cell) → In cell (cells_from a bytes) → (q : ℕ) × (q < length bytes) × (cell.0 ≡ a + q)
 cell_there a [] cell h = absurd h
 cell_there a (byte ∷ bytes) cell (inl e) =
@@ -58,7 +58,7 @@ module _ (order : Order) (ms : List Parts) (s : Setting) (clear : (address : ℕ
   abbrev cells_after : List Step → List Step → List Cell
   cells_after earlier more = address_map order s.modulus (readings_after s earlier more)
 
-  -- a cell of an item lies at the item's counter or behind it
+  -- a cell of an item lies at the item's counter or after it
   abbrev IsOf : Option ℕ → Item → Cell → Type 0
   IsOf counter item cell = (at : ℕ) × (q : ℕ) × (counter ≡ Some at) × (q < byte_count item) × (cell.0 ≡ at + q)
 
@@ -72,7 +72,7 @@ module _ (order : Order) (ms : List Parts) (s : Setting) (clear : (address : ℕ
     by_value (Some v) h =
         let there = cell_there at (field_bytes order s.modulus kind size v) cell h in
         let long : length (field_bytes order s.modulus kind size v) ≡ size
-        = length-in_byte_order order (bytes_of size (field_number s.modulus kind size v)) ∙ length-bytes_of size (field_number s.modulus kind size v) in
+        = length-in_byte_order order (number_bytes size (field_number s.modulus kind size v)) ∙ length-number_bytes size (field_number s.modulus kind size v) in
         let less : there.0 < size = omega (arith, there.1, long) in (at, there.0, refl, less, there.2)
 
   item_own : (site : Sited) (section : ℕ) (o : Option ℕ) (item : Item) → HaveOwnAddresses (step_cells order s.modulus (item_reading s site section o item))

@@ -9,7 +9,7 @@ use Rattle.mufom_names.specs.declared.name.Note.{Note}
 use Rattle.mufom_names.specs.declared.name.Weak.{Weak}
 use Rattle.mufom_names.specs.declared.name.Reference.{Reference}
 use Rattle.mufom_meaning.specs.Flat.{distinct}
-use Rattle.mufom_meaning.specs.Joined.{same_weak, same_note, same_reference, place_of}
+use Rattle.mufom_meaning.specs.Joined.{same_weak, same_note, same_reference, position_of}
 
 -- an element stands in a list
 abbrev pub Among : {A : Type 0} → A → List A → Type 0
@@ -41,18 +41,18 @@ module _ {A : Type 0} (same : A → A → Bool) (decides : (x y : A) → Decides
   Among-distinct x (y ∷ ys) (suc i) e = among_rest y x (distinct same ys) (same y x) refl (Among-distinct x ys i e)
 
 passes_at_head : {A : Type 0} (test : A → Bool) (x : A) → test x ≡ true → (y : A) (ys : List A) (b : Bool) → test y ≡ b → (i : ℕ) → slice_get (y ∷ ys) i ≡ Some x
-    → ((i : ℕ) → slice_get ys i ≡ Some x → (z : A) × (slice_get ys (place_of test ys) ≡ Some z) × (test z ≡ true))
-    → (z : A) × (slice_get (y ∷ ys) (if b then 0 else suc (place_of test ys)) ≡ Some z) × (test z ≡ true)
+    → ((i : ℕ) → slice_get ys i ≡ Some x → (z : A) × (slice_get ys (position_of test ys) ≡ Some z) × (test z ≡ true))
+    → (z : A) × (slice_get (y ∷ ys) (if b then 0 else suc (position_of test ys)) ≡ Some z) × (test z ≡ true)
 passes_at_head test x passes y ys true h i e later = (y, refl, h)
 passes_at_head test x passes y ys false h zero e later =
     let same : y ≡ x = cc in let clash : test y ≡ true = ap test same ∙ passes in absurd cc
 passes_at_head test x passes y ys false h (suc i) e later = later i e
 
 -- at the place of the first element that passes there is one that passes
-pub get-place_of : {A : Type 0} (test : A → Bool) (x : A) → test x ≡ true → (xs : List A) (i : ℕ) → slice_get xs i ≡ Some x
-    → (y : A) × (slice_get xs (place_of test xs) ≡ Some y) × (test y ≡ true)
-get-place_of test x passes [] i e = absurd cc
-get-place_of test x passes (y ∷ ys) i e = passes_at_head test x passes y ys (test y) refl i e (λ j h. get-place_of test x passes ys j h)
+pub get-position_of : {A : Type 0} (test : A → Bool) (x : A) → test x ≡ true → (xs : List A) (i : ℕ) → slice_get xs i ≡ Some x
+    → (y : A) × (slice_get xs (position_of test xs) ≡ Some y) × (test y ≡ true)
+get-position_of test x passes [] i e = absurd cc
+get-position_of test x passes (y ∷ ys) i e = passes_at_head test x passes y ys (test y) refl i e (λ j h. get-position_of test x passes ys j h)
 
 -- past the end of a list there is nothing
 pub get-length : {A : Type 0} (xs : List A) → slice_get xs (length xs) ≡ None
@@ -101,7 +101,7 @@ same_weak-decides (Some v) (Some w) = (there, back) where
   back e = let same : v ≡ w = cc in
       and_true _ _ ((numbers_decide v.size w.size).1 (ap (λ x. x.size) same)) ((numbers_decide v.default w.default).1 (ap (λ x. x.default) same))
 
--- the test of two references tells whether they are equal
+-- the test of two references shows whether they are equal
 pub same_reference-decides : (r q : Reference) → Decides (same_reference r q) (r ≡ q)
 same_reference-decides r q = (there, back) where
   there : same_reference r q ≡ true → r ≡ q

@@ -7,13 +7,13 @@ use Rattle.mufom_names.specs.declared.name.Public.{Public}
 use Rattle.mufom_names.specs.Names.{AreDistinct}
 use Rattle.mufom_module.specs.declared.module.Parts.{Parts}
 use Rattle.mufom_plan.specs.Names.{has_name}
-use Rattle.mufom_meaning.specs.Flat.{Sited, SitedPublic, sited_from, sited, publics_of, flat_sections, flat_publics, public_names, first_named, width}
+use Rattle.mufom_meaning.specs.Flat.{Sited, SitedPublic, sited_from, sited, sited_publics, flat_sections, flat_publics, public_names, first_named, width}
 use Rattle.mufom_meaning.specs.Values.{setting}
-use Rattle.mufom_meaning.specs.Joined.{IsJoined, HasFirstHeader, joined_public, place_of}
+use Rattle.mufom_meaning.specs.Joined.{IsJoined, HasFirstHeader, joined_public, position_of}
 use Rattle.mufom_meaning.proofs.Moved.{shifted, IsOfGroup, stays, joins, MovedPublic, AreSettings}
 use Rattle.mufom_meaning.proofs.Paired.{Paired, Paired-same}
 use Rattle.mufom_meaning.proofs.Sites.{next_section, next_public, next_name, sited_from-append, next_public-length}
-use Rattle.mufom_meaning.proofs.Names.{names_of, names_of-publics_of, absent_before, has_name-append_left, first_named-skip, get-skip, first_at_place}
+use Rattle.mufom_meaning.proofs.Names.{names_of, names_of-sited_publics, absent_before, has_name-append_left, first_named-skip, get-skip, first_at_place}
 use Rattle.mufom_meaning.proofs.Groups.{paired_joined, are_of_group, home_of, paired_sites}
 
 pub same_width : (M : Parts) (ms : List Parts) → HasFirstHeader M ms → (before after : List Parts) → width (before ++ (M ∷ after)) ≡ width (before ++ (ms ++ after))
@@ -50,37 +50,37 @@ module _ (M : Parts) (ms : List Parts) (name : List ℕ) (j : IsJoined M ms name
       (sym j.publics) group)
 
   abbrev group_publics : List SitedPublic
-  group_publics = publics_of (sited_from (next_section 0 before) (next_public 0 before) (next_name 0 before) ms)
+  group_publics = sited_publics (sited_from (next_section 0 before) (next_public 0 before) (next_name 0 before) ms)
 
   abbrev publics_after : List SitedPublic
-  publics_after = publics_of (sited_from (next_section (next_section 0 before) ms) (next_public (next_public 0 before) ms) (next_name (next_name 0 before) ms) after)
+  publics_after = sited_publics (sited_from (next_section (next_section 0 before) ms) (next_public (next_public 0 before) ms) (next_name (next_name 0 before) ms) after)
 
   all_publics : flat_publics (before ++ (ms ++ after)) ≡ flat_publics before ++ (group_publics ++ publics_after)
   all_publics =
-      ap publics_of (sited_from-append 0 0 0 before (ms ++ after)
+      ap sited_publics (sited_from-append 0 0 0 before (ms ++ after)
       ∙ ap (λ more. sited before ++ more) (sited_from-append (next_section 0 before) (next_public 0 before) (next_name 0 before) ms after))
       ∙ flat_map-append _ (sited before) _
       ∙ ap (λ more. flat_publics before ++ more) (flat_map-append _ (sited_from (next_section 0 before) (next_public 0 before) (next_name 0 before) ms) _)
 
   -- a name of the group is first met in the group, at its place there
   first_in_group : AreDistinct (public_names (before ++ (ms ++ after))) → (s : List ℕ) → has_name (public_names ms) s ≡ true → (q : SitedPublic)
-      × (slice_get (flat_publics (before ++ (ms ++ after))) (next_public 0 before + place_of (λ public. bytes_eq public s) (public_names ms)) ≡ Some q)
+      × (slice_get (flat_publics (before ++ (ms ++ after))) (next_public 0 before + position_of (λ public. bytes_eq public s) (public_names ms)) ≡ Some q)
       × (first_named (flat_publics (before ++ (ms ++ after))) s ≡ Some q)
   first_in_group distinct s met =
-      let names : names_of group_publics ≡ public_names ms = names_of-publics_of _ _ _ ms in
+      let names : names_of group_publics ≡ public_names ms = names_of-sited_publics _ _ _ ms in
       let q = first_at_place group_publics publics_after s (ap (λ found. has_name found s) names ∙ met) in
       let split : public_names (before ++ (ms ++ after)) ≡ public_names before ++ public_names (ms ++ after) = flat_map-append _ before (ms ++ after) in
-      let behind : has_name (public_names (ms ++ after)) s ≡ true
+      let following : has_name (public_names (ms ++ after)) s ≡ true
       = ap (λ found. has_name found s) (flat_map-append _ ms after) ∙ has_name-append_left (public_names ms) (public_names after) s met in
       let absent : has_name (public_names before) s ≡ false
-      = absent_before (public_names before) (public_names (ms ++ after)) s (subst AreDistinct split distinct) behind in
-      let missing : has_name (names_of (flat_publics before)) s ≡ false = ap (λ found. has_name found s) (names_of-publics_of 0 0 0 before) ∙ absent in
+      = absent_before (public_names before) (public_names (ms ++ after)) s (subst AreDistinct split distinct) following in
+      let missing : has_name (names_of (flat_publics before)) s ≡ false = ap (λ found. has_name found s) (names_of-sited_publics 0 0 0 before) ∙ absent in
       let count : next_public 0 before ≡ length (flat_publics before) = next_public-length 0 0 0 before ∙ zero-add _ in (
         q.0,
-        ap (λ publics. slice_get publics (next_public 0 before + place_of (λ public. bytes_eq public s) (public_names ms))) all_publics
-            ∙ ap (λ n. slice_get (flat_publics before ++ (group_publics ++ publics_after)) (n + place_of (λ public. bytes_eq public s) (public_names ms))) count
-            ∙ get-skip (flat_publics before) (group_publics ++ publics_after) (place_of (λ public. bytes_eq public s) (public_names ms))
-            ∙ ap (λ found. slice_get (group_publics ++ publics_after) (place_of (λ public. bytes_eq public s) found)) (sym names) ∙ q.1,
+        ap (λ publics. slice_get publics (next_public 0 before + position_of (λ public. bytes_eq public s) (public_names ms))) all_publics
+            ∙ ap (λ n. slice_get (flat_publics before ++ (group_publics ++ publics_after)) (n + position_of (λ public. bytes_eq public s) (public_names ms))) count
+            ∙ get-skip (flat_publics before) (group_publics ++ publics_after) (position_of (λ public. bytes_eq public s) (public_names ms))
+            ∙ ap (λ found. slice_get (group_publics ++ publics_after) (position_of (λ public. bytes_eq public s) found)) (sym names) ∙ q.1,
         ap (λ publics. first_named publics s) all_publics ∙ first_named-skip (flat_publics before) (group_publics ++ publics_after) s missing ∙ q.2,
       )
 

@@ -3,7 +3,7 @@ use Rattle.std.proofs.Common.{◌≡◌, ℕ, ◌+◌, List, [], ◌∷◌, ◌+
 use Rattle.std.proofs.lemmas.List.{length-map}
 use Rattle.mufom_debug.specs.Marks.{DebugMark, block_begin, block_end, name_mark, note_mark, value_mark, marks_of}
 use Rattle.mufom_module.specs.declared.module.Parts.{Parts}
-use Rattle.mufom_meaning.specs.Flat.{Sited, name_count, sited_from, publics_of, flat_sections}
+use Rattle.mufom_meaning.specs.Flat.{Sited, name_count, sited_from, sited_publics, flat_sections}
 use Rattle.mufom_meaning.proofs.Moved.{shifted}
 
 -- the flat numbers after some modules
@@ -43,11 +43,11 @@ pub next_section-length : (s : ℕ) (xs : List Parts) → next_section s xs ≡ 
 next_section-length s [] = sym (add-zero s)
 next_section-length s (x ∷ xs) = omega (arith, next_section-length (s + length x.sections) xs, length-append x.sections (flat_sections xs))
 
-pub next_public-length : (s p d : ℕ) (xs : List Parts) → next_public p xs ≡ p + length (publics_of (sited_from s p d xs))
+pub next_public-length : (s p d : ℕ) (xs : List Parts) → next_public p xs ≡ p + length (sited_publics (sited_from s p d xs))
 next_public-length s p d [] = sym (add-zero p)
 next_public-length s p d (x ∷ xs) =
     let rest : next_public (p + length x.names.publics) xs
-    ≡ (p + length x.names.publics) + length (publics_of (sited_from (s + length x.sections) (p + length x.names.publics) (d + name_count (marks_of x.debug)) xs))
+    ≡ (p + length x.names.publics) + length (sited_publics (sited_from (s + length x.sections) (p + length x.names.publics) (d + name_count (marks_of x.debug)) xs))
     = next_public-length (s + length x.sections) (p + length x.names.publics) (d + name_count (marks_of x.debug)) xs in
     simp (length-append, length-map) (rest ∙ add_assoc _ _ _)
 

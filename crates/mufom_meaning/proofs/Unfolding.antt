@@ -71,7 +71,7 @@ pub readings-debug : (ms : List Parts) (placed : List ℕ)
 unfolding readings
 readings-debug ms placed = refl
 
--- a walk over steps meets what the first has, or else what the others have behind it
+-- a walk over steps meets what the first has, or else what the others have after it
 pub steps_fact-cons : (s : Setting) (earlier : List Step) (step : Step) (more : List Step) → steps_fact s earlier (step ∷ more) ≡ (step_fact s earlier step or_else steps_fact s (step ∷ earlier) more)
 steps_fact-cons s earlier step more = refl
 

@@ -12,7 +12,7 @@ use Rattle.mufom_debug.specs.Marks.{DebugMark, block_begin, block_end, name_mark
 use Rattle.mufom_module.specs.declared.module.Parts.{Parts}
 use Rattle.mufom_module.specs.declared.module.Defect.TheVariants as d
 use Rattle.mufom_module.specs.Contents.{debug_marks, any_of, any_expression, placed_loads}
-use Rattle.mufom_module.specs.Defects.{has_defect, IsValid, counts_of, count_for, is_outside, names_outside, has_bad_place, has_bad_mark, begins_badly, declared_behind, has_other_counter, is_other_counter, misplaces_counter}
+use Rattle.mufom_module.specs.Defects.{has_defect, IsValid, counts_of, count_for, is_outside, names_outside, has_bad_place, has_bad_mark, begins_badly, declared_after, has_other_counter, is_other_counter, misplaces_counter}
 use Rattle.mufom_meaning.proofs.NoDefects.{no_defect}
 use Rattle.mufom_meaning.proofs.Tests.{either_false}
 use Rattle.mufom_meaning.proofs.Members.{In, fails-In}
@@ -49,13 +49,13 @@ module _ (m : Parts) (valid : IsValid m) where
   positions : has_defect m d.Position ≡ false
   positions = no_defect m valid d.Position
 
-  after_publics : (list_any (has_bad_place (counts_of m)) m.loads || (list_any (has_bad_mark (counts_of m)) (debug_marks m) || (any_of (names_outside (counts_of m)) m.start || is_none (declared_behind 0 (debug_marks m))))) ≡ false
+  after_publics : (list_any (has_bad_place (counts_of m)) m.loads || (list_any (has_bad_mark (counts_of m)) (debug_marks m) || (any_of (names_outside (counts_of m)) m.start || is_none (declared_after 0 (debug_marks m))))) ≡ false
   after_publics = (either_false (list_any (λ p. names_outside (counts_of m) p.value) m.names.publics) _ positions).1
 
-  after_loads : (list_any (has_bad_mark (counts_of m)) (debug_marks m) || (any_of (names_outside (counts_of m)) m.start || is_none (declared_behind 0 (debug_marks m)))) ≡ false
+  after_loads : (list_any (has_bad_mark (counts_of m)) (debug_marks m) || (any_of (names_outside (counts_of m)) m.start || is_none (declared_after 0 (debug_marks m)))) ≡ false
   after_loads = (either_false (list_any (has_bad_place (counts_of m)) m.loads) _ after_publics).1
 
-  after_marks : (any_of (names_outside (counts_of m)) m.start || is_none (declared_behind 0 (debug_marks m))) ≡ false
+  after_marks : (any_of (names_outside (counts_of m)) m.start || is_none (declared_after 0 (debug_marks m))) ≡ false
   after_marks = (either_false (list_any (has_bad_mark (counts_of m)) (debug_marks m)) _ after_loads).1
 
   counters : has_defect m d.MisplacedP ≡ false
@@ -75,11 +75,11 @@ module _ (m : Parts) (valid : IsValid m) where
   pub start_inside : (t : Tree) → In t (option_to_list m.start) → IsInside m t
   start_inside t h = inside m t (any_option (names_outside (counts_of m)) m.start (either_false (any_of (names_outside (counts_of m)) m.start) _ after_marks).0 t h)
 
-  counters_behind_publics : (any_of (has_other_counter None) m.start || (list_any (any_expression (has_other_counter None)) (debug_marks m) || list_any misplaces_counter (placed_loads m))) ≡ false
-  counters_behind_publics = (either_false (list_any (λ p. has_other_counter None p.value) m.names.publics) _ counters).1
+  counters_after_publics : (any_of (has_other_counter None) m.start || (list_any (any_expression (has_other_counter None)) (debug_marks m) || list_any misplaces_counter (placed_loads m))) ≡ false
+  counters_after_publics = (either_false (list_any (λ p. has_other_counter None p.value) m.names.publics) _ counters).1
 
-  counters_behind_start : (list_any (any_expression (has_other_counter None)) (debug_marks m) || list_any misplaces_counter (placed_loads m)) ≡ false
-  counters_behind_start = (either_false (any_of (has_other_counter None) m.start) _ counters_behind_publics).1
+  counters_after_start : (list_any (any_expression (has_other_counter None)) (debug_marks m) || list_any misplaces_counter (placed_loads m)) ≡ false
+  counters_after_start = (either_false (any_of (has_other_counter None) m.start) _ counters_after_publics).1
 
   counter_free : (t : Tree) → has_other_counter None t ≡ false → (k : ℕ) → In (letters.P, k) (variables_of t) → ⊥
   counter_free t e k h = let other : true ≡ false = fails-In (is_other_counter None) (variables_of t) e (letters.P, k) h in cc
@@ -88,8 +88,8 @@ module _ (m : Parts) (valid : IsValid m) where
   public_free p h = counter_free p.value (fails-In (λ p. has_other_counter None p.value) m.names.publics (either_false _ _ counters).0 p h)
 
   pub start_free : (t : Tree) → In t (option_to_list m.start) → (k : ℕ) → In (letters.P, k) (variables_of t) → ⊥
-  start_free t h = counter_free t (any_option (has_other_counter None) m.start (either_false (any_of (has_other_counter None) m.start) _ counters_behind_publics).0 t h)
+  start_free t h = counter_free t (any_option (has_other_counter None) m.start (either_false (any_of (has_other_counter None) m.start) _ counters_after_publics).0 t h)
 
   pub mark_free : (mark : DebugMark) → In mark (debug_marks m) → (t : Tree) → In t (mark_expressions mark) → (k : ℕ) → In (letters.P, k) (variables_of t) → ⊥
   mark_free mark h t k =
-      counter_free t (in_mark (has_other_counter None) mark (fails-In (any_expression (has_other_counter None)) (debug_marks m) (either_false (list_any (any_expression (has_other_counter None)) (debug_marks m)) _ counters_behind_start).0 mark h) t k)
+      counter_free t (in_mark (has_other_counter None) mark (fails-In (any_expression (has_other_counter None)) (debug_marks m) (either_false (list_any (any_expression (has_other_counter None)) (debug_marks m)) _ counters_after_start).0 mark h) t k)

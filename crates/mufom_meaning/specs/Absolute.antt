@@ -13,19 +13,19 @@ use Rattle.mufom_meaning.specs.declared.located.PublicValue.{PublicValue}
 use Rattle.mufom_meaning.specs.declared.located.Run.{Run}
 use Rattle.mufom_meaning.specs.declared.located.LocatedParts.{LocatedParts}
 
--- a literal has at most so many bytes
+-- a literal has at most the given number of bytes
 abbrev pub literal_limit : ℕ
 literal_limit = 65535
 
--- a list in pieces of a length, the last one shorter where needed, where there are at most so many pieces
-abbrev pub pieces_within : {X : Type 0} → ℕ → ℕ → List X → List (List X)
-pieces_within zero size xs = []
-pieces_within (suc n) size [] = []
-pieces_within (suc n) size (x ∷ xs) = take size (x ∷ xs) ∷ pieces_within n size (drop size (x ∷ xs))
+-- a list in chunks of a length, the last one shorter where needed, where there are at most the given number of chunks
+abbrev pub chunks_within : {X : Type 0} → ℕ → ℕ → List X → List (List X)
+chunks_within zero size xs = []
+chunks_within (suc n) size [] = []
+chunks_within (suc n) size (x ∷ xs) = take size (x ∷ xs) ∷ chunks_within n size (drop size (x ∷ xs))
 
--- a list in pieces of a length, which is not 0, the last one shorter where needed
-abbrev pub pieces : {X : Type 0} → ℕ → List X → List (List X)
-pieces size xs = pieces_within (length xs) size xs
+-- a list in chunks of a length, which is not 0, the last one shorter where needed
+abbrev pub chunks : {X : Type 0} → ℕ → List X → List (List X)
+chunks size xs = chunks_within (length xs) size xs
 
 -- the part of a run that lies from one address up to another
 abbrev pub run_within : ℕ → ℕ → Run → Run
@@ -33,7 +33,7 @@ run_within from to run = record { address = max from run.address; bytes = drop (
 
 -- what loads a row of bytes: the counter is set to a number, and literals follow
 abbrev pub row_loads : ℕ → Run → List Load
-row_loads section row = SetPc section (number row.address) ∷ map (λ piece. One (Literal piece)) (pieces literal_limit row.bytes)
+row_loads section row = SetPc section (number row.address) ∷ map (λ chunk. One (Literal chunk)) (chunks literal_limit row.bytes)
 
 -- the same, and nothing for a row without bytes
 abbrev pub loads_of_bytes : ℕ → Run → List ℕ → List Load

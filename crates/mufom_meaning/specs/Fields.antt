@@ -11,16 +11,16 @@ abbrev pub fits_signed : ℕ → ℕ → ℕ → Bool
 fits_signed modulus size v =
     if nat_lt (v + v) modulus then nat_lt (v + v) (256 ^ size) else nat_le ((modulus - v) + (modulus - v)) (256 ^ size)
 
--- a field of so many bytes holds the value
+-- a field of the given number of bytes holds the value
 abbrev pub fits : ℕ → FieldKind → ℕ → ℕ → Bool
 fits modulus Signed size v = fits_signed modulus size v
 fits modulus Unsigned size v = nat_lt v (256 ^ size)
 fits modulus Either size v = fits_signed modulus size v || nat_lt v (256 ^ size)
 
--- so many bytes of a number, the least first
-abbrev pub bytes_of : ℕ → ℕ → List ℕ
-bytes_of zero v = []
-bytes_of (suc size) v = (v % 256) ∷ bytes_of size (v / 256)
+-- the given number of bytes of a number, the least first
+abbrev pub number_bytes : ℕ → ℕ → List ℕ
+number_bytes zero v = []
+number_bytes (suc size) v = (v % 256) ∷ number_bytes size (v / 256)
 
 -- bytes, of which the least comes first, in the order of a module
 abbrev pub in_byte_order : Order → List ℕ → List ℕ
@@ -36,4 +36,4 @@ field_number modulus Either size v = v % 256 ^ size
 
 -- the bytes of a field that holds a value
 abbrev pub field_bytes : Order → ℕ → FieldKind → ℕ → ℕ → List ℕ
-field_bytes order modulus kind size v = in_byte_order order (bytes_of size (field_number modulus kind size v))
+field_bytes order modulus kind size v = in_byte_order order (number_bytes size (field_number modulus kind size v))

@@ -44,8 +44,8 @@ pub record SitedPublic : Type 0 where
   pub entry : Public
 
 -- the publics of modules, in order
-abbrev pub publics_of : List Sited → List SitedPublic
-publics_of sites = flat_map (λ site. map (λ entry. record { site = site; entry = entry }) site.parts.names.publics) sites
+abbrev pub sited_publics : List Sited → List SitedPublic
+sited_publics sites = flat_map (λ site. map (λ entry. record { site = site; entry = entry }) site.parts.names.publics) sites
 
 -- the entries of all modules, in order
 abbrev pub flat_sections : List Parts → List Section
@@ -53,7 +53,7 @@ flat_sections ms = flat_map (λ m. m.sections) ms
 
 -- all publics
 abbrev pub flat_publics : List Parts → List SitedPublic
-flat_publics ms = publics_of (sited ms)
+flat_publics ms = sited_publics (sited ms)
 
 -- all references
 abbrev pub flat_references : List Parts → List Reference

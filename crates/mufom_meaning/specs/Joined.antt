@@ -41,17 +41,17 @@ abbrev pub kept_references : List Parts → List Reference
 kept_references ms = distinct same_reference (unmet_references ms)
 
 -- the place of the first element that passes, and the length where none does
-abbrev pub place_of : {A : Type 0} → (A → Bool) → List A → ℕ
-place_of test [] = 0
-place_of test (x ∷ xs) = if test x then 0 else suc (place_of test xs)
+abbrev pub position_of : {A : Type 0} → (A → Bool) → List A → ℕ
+position_of test [] = 0
+position_of test (x ∷ xs) = if test x then 0 else suc (position_of test xs)
 
 -- A reference to a public of the list becomes that public, and any other the same reference among those kept. A position
 -- past the end of the references, which no valid module names, becomes one past their end.
 abbrev pub joined_reference : List Parts → Option Reference → Letter × ℕ
 joined_reference ms None = (letters.X, length (kept_references ms))
 joined_reference ms (Some r) =
-    if has_name (public_names ms) r.name then (letters.I, place_of (λ name. bytes_eq name r.name) (public_names ms))
-    else (letters.X, place_of (same_reference r) (kept_references ms))
+    if has_name (public_names ms) r.name then (letters.I, position_of (λ name. bytes_eq name r.name) (public_names ms))
+    else (letters.X, position_of (same_reference r) (kept_references ms))
 
 -- a variable of a module of the list, by flat numbers
 abbrev pub joined_variable : List Parts → Sited → Letter → ℕ → Letter × ℕ

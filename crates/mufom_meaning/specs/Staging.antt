@@ -44,13 +44,13 @@ pub record HasSettledReferences (M : Parts) : Type 0 where
   pub apart : IsDistinct same_reference M.names.references
   pub unmet : IsTrue (list_all (λ reference. not (has_name (public_names (M ∷ [])) reference.name)) M.names.references)
 
--- what a context of a group has to keep for the outer link to give the same module: a group at the front gives its name
+-- what a context of a group has to keep for the outer link to give the same module: a group at the start gives its name
 abbrev pub NameStays : List Parts → Parts → List Parts → Type 0
 NameStays [] M [] = ⊥
 NameStays [] M (m ∷ ms) = M.name ≡ m.name
 NameStays (a ∷ before) M ms = Unit {0}
 
--- The list ms comes from the list leaves by partial links of neighbours, one after another. A link at the front keeps
+-- The list ms comes from the list leaves by partial links of neighbours, one after another. A link at the start keeps
 -- the name of its first module.
 pub data IsStaged : List Parts → List Parts → Type 0 where
   unlinked : (ms : List Parts) → IsStaged ms ms

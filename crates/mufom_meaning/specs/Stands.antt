@@ -29,7 +29,7 @@ LinkFactStands ms (mismatch d e) = (m : Parts) × (n : Parts) × StandsIn m ms �
 LinkFactStands ms (duplicate name) = (place : ℕ) × (slice_get (public_names ms) place ≡ Some name) × RepeatsAt (public_names ms) place
 LinkFactStands ms duplicate_start = 1 < length (flat_starts ms)
 
--- the steps before, the latest first, put back in front of the others
+-- the steps before, the latest first, put back before the others
 abbrev pub put_back : List Step → List Step → List Step
 put_back [] more = more
 put_back (step ∷ earlier) more = put_back earlier (step ∷ more)

@@ -36,7 +36,7 @@ steps ms = flat_map (λ site. steps_of site None site.parts.loads) (sited ms)
 
 -- The counter of a section after some steps, the latest first: the value of the last step that set it, and the lengths
 -- of what the section was loaded with since; the section's base where no step set it. That value is found with the
--- counter before it, and a counter behind a value that is none has none either.
+-- counter before it, and a counter after a value that is none has none either.
 unfoldable pub counter : Setting → List Step → ℕ → Option ℕ
 counter s [] section = option_map (λ base. base % s.modulus) (slice_get s.bases section)
 counter s (counter_step site other t ∷ earlier) section =

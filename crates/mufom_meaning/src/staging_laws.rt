@@ -50,7 +50,7 @@ pub fn selection_agrees()
 {}
 
 /// A list that was linked in stages means what the list of its leaves means, where these are without
-/// a defect and have one descriptor and no public name twice. A group at the front keeps the name of
+/// a defect and have one descriptor and no public name twice. A group at the start keeps the name of
 /// its first module.
 pub fn staged_means_the_same()
     ensures { StagedMeansTheSame }

@@ -10,5 +10,5 @@ use Rattle.mufom_debug.proofs.MarksLemmas.{marks-Block}
 pub all-block : (P : DebugMark → Type 0) (b : Block-F DebugItem (Unit {0})) → P (block_begin b.head b.name) → All P (marks_of b.items) → P (block_end b.end) → All P (marks_of_item (block_case b))
 all-block P b begins inside ends =
     let end_is = All-cons P (block_end b.end) [] ends (All-nil P) in
-    let behind = All-append P (marks_of b.items) (block_end b.end ∷ []) inside end_is in
-    subst (All P) (sym (marks-Block b)) (All-cons P (block_begin b.head b.name) (marks_of b.items ++ block_end b.end ∷ []) begins behind)
+    let after = All-append P (marks_of b.items) (block_end b.end ∷ []) inside end_is in
+    subst (All P) (sym (marks-Block b)) (All-cons P (block_begin b.head b.name) (marks_of b.items ++ block_end b.end ∷ []) begins after)

@@ -17,7 +17,7 @@ use Rattle.mufom_expr.specs.Value.{variables_of}
 use Rattle.mufom_expr.specs.TokenAt.{token_at, first_token, tokens_at, tokens_in}
 use Rattle.mufom_expr.specs.Spelled.{SpellsTokens, SpellsTree, Indexes, list_of, IsIndexed}
 use Rattle.mufom_expr.proofs.TokenLaws.{token_at-spelling}
-use Rattle.mufom_module.specs.Pieces.{position_in, positioned, are_listed}
+use Rattle.mufom_module.specs.SpelledRecords.{position_in, positioned, are_listed}
 
 -- ---- trees
 

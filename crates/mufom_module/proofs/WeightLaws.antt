@@ -19,7 +19,7 @@ use Rattle.mufom_loads.specs.declared.load.Load.{Load}
 use Rattle.mufom_loads.specs.declared.load.Load.TheVariants.{SetSection, SetPc, One, Repeat}
 use Rattle.mufom_debug.specs.declared.item.BlockHead.{BlockHead}
 use Rattle.mufom_debug.specs.declared.item.BlockHead.TheVariants as heads
-use Rattle.mufom_debug.specs.Marks.{DebugMark, block_begin, block_end, name_mark, note_mark, value_mark, joined, marks_of, names_behind}
+use Rattle.mufom_debug.specs.Marks.{DebugMark, block_begin, block_end, name_mark, note_mark, value_mark, joined, marks_of, names_after}
 use Rattle.mufom_module.specs.declared.module.Parts.{Parts}
 use Rattle.mufom_module.specs.Written as w
 use Rattle.mufom_module.specs.Written.{widest, weight}
@@ -157,7 +157,7 @@ length-debug_record n (value_mark name value) = let its = length-expression valu
 length-debug_records : (n : ℕ) (marks : List DebugMark) → length (w.debug_records widest n marks) ≡ marks_weight marks
 length-debug_records n [] = refl
 length-debug_records n (mark ∷ marks) =
-    let next = names_behind n mark in
+    let next = names_after n mark in
     let rest = length-debug_records next marks in
     let own = length-debug_record n mark in
     length-append (w.debug_record widest n mark) (w.debug_records widest next marks) ∙ (λ i. own i + rest i) ∙ sym (sum_by-cons mark_weight mark marks)

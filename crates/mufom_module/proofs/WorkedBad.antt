@@ -1,14 +1,14 @@
 -- Files that are none: an offset a byte late, an index that is not declared, an index that is declared twice, a value that
--- is said twice, bytes before a section is set, and a record in another part.
+-- is stated twice, bytes before a section is set, and a record in another part.
 use Rattle.std.proofs.Common.{◌≡◌, ◌⊎◌, ℕ, true, false, List, [], ◌∷◌, Some, None, refl, inl, inr, arith}
 use Rattle.mufom_records.specs.declared.record.Record.TheVariants as r
 use Rattle.mufom_records.specs.Fields.{span_at}
-use Rattle.mufom_module.specs.Pieces.{Piece}
+use Rattle.mufom_module.specs.SpelledRecords.{SpelledRecord}
 use Rattle.mufom_module.specs.RecordParts.{external_part, stands_in}
-use Rattle.mufom_module.specs.Grammar.{StandAt, declares_again, says_again, names_unknown, has_no_section}
-use Rattle.mufom_module.proofs.Cutting.{piece, cut}
+use Rattle.mufom_module.specs.Grammar.{StandAt, declares_again, states_again, names_unknown, has_no_section}
+use Rattle.mufom_module.proofs.Cutting.{spelled, cut}
 
--- parts of 23, 14 and 5 bytes behind a header of 77, where the data part is said to begin at 101 and not at 100
+-- parts of 23, 14 and 5 bytes after a header of 77, where the data part is stated to begin at 101 and not at 100
 abbrev data_bytes : List ℕ
 data_bytes = 0xE5 ∷ 0x01 ∷ 0xE2 ∷ 0xD0 ∷ 0x01 ∷ 0x82 ∷ 0x10 ∷ 0x00 ∷ 0xED ∷ 0x04 ∷ 0x4E ∷ 0x71 ∷ 0x4E ∷ 0x75 ∷ []
 
@@ -23,29 +23,29 @@ late h = elsewhere_than h.1.1.1.1.1.0 where
   elsewhere_than (inl e) = absurd (omega (arith, e))
   elsewhere_than (inr e) = absurd (omega (arith, e.0))
 
-abbrev before : List Piece
-before = piece (r.SectionType 1 true (Some 0xD0) (span_at 6 4) None None None) (0xE6 ∷ 0x01 ∷ 0xC1 ∷ 0xD3 ∷ 0xD0 ∷ 0x04 ∷ 0x63 ∷ 0x6F ∷ 0x64 ∷ 0x65 ∷ [])
-    ∷ piece (r.Alignment 1 2 None) (0xE7 ∷ 0x01 ∷ 0x02 ∷ [])
-    ∷ piece (r.SectionSize 1 4) (0xE2 ∷ 0xD3 ∷ 0x01 ∷ 0x04 ∷ [])
-    ∷ piece (r.SectionBase 1 4096) (0xE2 ∷ 0xCC ∷ 0x01 ∷ 0x82 ∷ 0x10 ∷ 0x00 ∷ [])
+abbrev before : List SpelledRecord
+before = spelled (r.SectionType 1 true (Some 0xD0) (span_at 6 4) None None None) (0xE6 ∷ 0x01 ∷ 0xC1 ∷ 0xD3 ∷ 0xD0 ∷ 0x04 ∷ 0x63 ∷ 0x6F ∷ 0x64 ∷ 0x65 ∷ [])
+    ∷ spelled (r.Alignment 1 2 None) (0xE7 ∷ 0x01 ∷ 0x02 ∷ [])
+    ∷ spelled (r.SectionSize 1 4) (0xE2 ∷ 0xD3 ∷ 0x01 ∷ 0x04 ∷ [])
+    ∷ spelled (r.SectionBase 1 4096) (0xE2 ∷ 0xCC ∷ 0x01 ∷ 0x82 ∷ 0x10 ∷ 0x00 ∷ [])
     ∷ []
 
 -- SB of index 2, where 1 is declared
-unknown : names_unknown before (piece (r.SetSection 2) (0xE5 ∷ 0x02 ∷ [])) ≡ true
+unknown : names_unknown before (spelled (r.SetSection 2) (0xE5 ∷ 0x02 ∷ [])) ≡ true
 unknown = refl
 
 -- a start address with the base of section 2
-unknown_variable : names_unknown before (piece (r.Start (span_at 2 2)) (0xE2 ∷ 0xC7 ∷ 0xD2 ∷ 0x02 ∷ [])) ≡ true
+unknown_variable : names_unknown before (spelled (r.Start (span_at 2 2)) (0xE2 ∷ 0xC7 ∷ 0xD2 ∷ 0x02 ∷ [])) ≡ true
 unknown_variable = refl
 
 -- the value of a public may name a section that is declared later
-known_later : names_unknown (piece (r.PublicName 32 (span_at 3 1)) (0xE8 ∷ 0x20 ∷ 0x01 ∷ 0x66 ∷ []) ∷ []) (piece (r.PublicValue 32 (span_at 3 2)) (0xE2 ∷ 0xC9 ∷ 0x20 ∷ 0xD2 ∷ 0x02 ∷ [])) ≡ false
+known_later : names_unknown (spelled (r.PublicName 32 (span_at 3 1)) (0xE8 ∷ 0x20 ∷ 0x01 ∷ 0x66 ∷ []) ∷ []) (spelled (r.PublicValue 32 (span_at 3 2)) (0xE2 ∷ 0xC9 ∷ 0x20 ∷ 0xD2 ∷ 0x02 ∷ [])) ≡ false
 known_later = refl
 
 again : declares_again before (r.SectionType 1 false None (span_at 3 1) None None None) ≡ true
 again = refl
 
-twice : says_again before (r.SectionBase 1 0) ≡ true
+twice : states_again before (r.SectionBase 1 0) ≡ true
 twice = refl
 
 -- an LR without items, where no section is set

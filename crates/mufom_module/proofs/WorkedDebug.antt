@@ -8,27 +8,27 @@ use Rattle.mufom_records.specs.declared.record.BlockTail.TheVariants as tail
 use Rattle.mufom_records.specs.Fields.{span_at, items_of}
 use Rattle.mufom_debug.specs.declared.item.BlockHead.TheVariants as heads
 use Rattle.mufom_debug.specs.Marks.{block_begin, block_end, name_mark, note_mark, value_mark}
-use Rattle.mufom_module.specs.Pieces.{Piece, bytes_of, debug_name, declared}
+use Rattle.mufom_module.specs.SpelledRecords.{SpelledRecord, bytes_of, debug_name, declared}
 use Rattle.mufom_module.specs.RecordParts.{debug_part}
 use Rattle.mufom_module.specs.Gathered.{marks}
 use Rattle.mufom_module.specs.Grammar.{IsPart}
-use Rattle.mufom_module.proofs.Cutting.{piece, is_part}
+use Rattle.mufom_module.proofs.Cutting.{spelled, is_part}
 
-abbrev records : List Piece
-records = piece (r.BlockBegin 3 0 (span_at 4 4) tail.Module) (0xF8 ∷ 0x03 ∷ 0x00 ∷ 0x04 ∷ 0x70 ∷ 0x72 ∷ 0x6F ∷ 0x67 ∷ [])
-    ∷ piece (r.DebugName 32 (span_at 3 1)) (0xF0 ∷ 0x20 ∷ 0x01 ∷ 0x78 ∷ [])
-    ∷ piece (r.BlockBegin 4 0 (span_at 4 4) (tail.Scope 0 0 (span_at 10 2))) (0xF8 ∷ 0x04 ∷ 0x00 ∷ 0x04 ∷ 0x6D ∷ 0x61 ∷ 0x69 ∷ 0x6E ∷ 0x00 ∷ 0x00 ∷ 0xD2 ∷ 0x01 ∷ [])
-    ∷ piece (r.DebugName 33 (span_at 3 1)) (0xF0 ∷ 0x21 ∷ 0x01 ∷ 0x6C ∷ [])
-    ∷ piece (r.DebugNote 33 0 7 (items_of (12 ∷ 0 ∷ []))) (0xF1 ∷ 0xCE ∷ 0x21 ∷ 0x00 ∷ 0x07 ∷ 0x0C ∷ 0x00 ∷ [])
-    ∷ piece (r.DebugValue 33 (span_at 3 4)) (0xE2 ∷ 0xCE ∷ 0x21 ∷ 0xD2 ∷ 0x01 ∷ 0x02 ∷ 0xA5 ∷ [])
-    ∷ piece (r.BlockEnd (Some (span_at 1 4))) (0xF9 ∷ 0xD2 ∷ 0x01 ∷ 0x0F ∷ 0xA5 ∷ [])
-    ∷ piece (r.BlockEnd None) (0xF9 ∷ [])
+abbrev records : List SpelledRecord
+records = spelled (r.BlockBegin 3 0 (span_at 4 4) tail.Module) (0xF8 ∷ 0x03 ∷ 0x00 ∷ 0x04 ∷ 0x70 ∷ 0x72 ∷ 0x6F ∷ 0x67 ∷ [])
+    ∷ spelled (r.DebugName 32 (span_at 3 1)) (0xF0 ∷ 0x20 ∷ 0x01 ∷ 0x78 ∷ [])
+    ∷ spelled (r.BlockBegin 4 0 (span_at 4 4) (tail.Scope 0 0 (span_at 10 2))) (0xF8 ∷ 0x04 ∷ 0x00 ∷ 0x04 ∷ 0x6D ∷ 0x61 ∷ 0x69 ∷ 0x6E ∷ 0x00 ∷ 0x00 ∷ 0xD2 ∷ 0x01 ∷ [])
+    ∷ spelled (r.DebugName 33 (span_at 3 1)) (0xF0 ∷ 0x21 ∷ 0x01 ∷ 0x6C ∷ [])
+    ∷ spelled (r.DebugNote 33 0 7 (items_of (12 ∷ 0 ∷ []))) (0xF1 ∷ 0xCE ∷ 0x21 ∷ 0x00 ∷ 0x07 ∷ 0x0C ∷ 0x00 ∷ [])
+    ∷ spelled (r.DebugValue 33 (span_at 3 4)) (0xE2 ∷ 0xCE ∷ 0x21 ∷ 0xD2 ∷ 0x01 ∷ 0x02 ∷ 0xA5 ∷ [])
+    ∷ spelled (r.BlockEnd (Some (span_at 1 4))) (0xF9 ∷ 0xD2 ∷ 0x01 ∷ 0x0F ∷ 0xA5 ∷ [])
+    ∷ spelled (r.BlockEnd None) (0xF9 ∷ [])
     ∷ []
 
 has_bytes : bytes_of records ≡ 0xF8 ∷ 0x03 ∷ 0x00 ∷ 0x04 ∷ 0x70 ∷ 0x72 ∷ 0x6F ∷ 0x67 ∷ 0xF0 ∷ 0x20 ∷ 0x01 ∷ 0x78 ∷ 0xF8 ∷ 0x04 ∷ 0x00 ∷ 0x04 ∷ 0x6D ∷ 0x61 ∷ 0x69 ∷ 0x6E ∷ 0x00 ∷ 0x00 ∷ 0xD2 ∷ 0x01 ∷ 0xF0 ∷ 0x21 ∷ 0x01 ∷ 0x6C ∷ 0xF1 ∷ 0xCE ∷ 0x21 ∷ 0x00 ∷ 0x07 ∷ 0x0C ∷ 0x00 ∷ 0xE2 ∷ 0xCE ∷ 0x21 ∷ 0xD2 ∷ 0x01 ∷ 0x02 ∷ 0xA5 ∷ 0xF9 ∷ 0xD2 ∷ 0x01 ∷ 0x0F ∷ 0xA5 ∷ 0xF9 ∷ []
 has_bytes = refl
 
--- the data part begins behind it
+-- the data part begins after it
 is_debug_part : IsPart debug_part records (0xE5 ∷ 0x01 ∷ 0xE1 ∷ [])
 is_debug_part = is_part debug_part records (0xE5 ∷ 0x01 ∷ 0xE1 ∷ []) refl refl refl
 

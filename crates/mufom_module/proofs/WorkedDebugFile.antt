@@ -15,8 +15,8 @@ use Rattle.mufom_module.specs.declared.module.Parts.{Parts}
 use Rattle.mufom_module.specs.Written.{weight}
 use Rattle.mufom_module.specs.Defects.{IsValid}
 use Rattle.mufom_module.specs.RecordParts.{section_part, external_part, debug_part, data_part, trailer_part}
-use Rattle.mufom_module.specs.Grammar.{FileParts, header_of, module_end, behind_header, from_externals, from_debug, from_loads, from_trailer, IsCutInto, indexes_of, records_of, HasNames, Says, SpellsModule}
-use Rattle.mufom_module.proofs.Cutting.{piece, is_part, is_header, is_within, follow-by_test}
+use Rattle.mufom_module.specs.Grammar.{FileParts, header_of, module_end, after_header, from_externals, from_debug, from_loads, from_trailer, IsCutInto, indexes_of, records_of, HasNames, States, SpellsModule}
+use Rattle.mufom_module.proofs.Cutting.{spelled, is_part, is_header, is_within, follow-by_test}
 
 -- the function inside the block of the module
 abbrev inner : List DebugItem
@@ -77,31 +77,31 @@ debugged_bytes = 0xE0 ∷ 0x05 ∷ 0x36 ∷ 0x38 ∷ 0x30 ∷ 0x30 ∷ 0x30 ∷ 
 
 abbrev debugged_file : FileParts
 debugged_file = record {
-  begin = piece (r.ModuleBegin (span_at 2 5) (span_at 8 1)) (0xE0 ∷ 0x05 ∷ 0x36 ∷ 0x38 ∷ 0x30 ∷ 0x30 ∷ 0x30 ∷ 0x01 ∷ 0x41 ∷ []);
-  descriptor = piece (r.Descriptor 8 4 (Some 0xCD)) (0xEC ∷ 0x08 ∷ 0x04 ∷ 0xCD ∷ []);
-  offsets = piece (r.Offset 0 0) (0xE2 ∷ 0xD7 ∷ 0x00 ∷ 0x84 ∷ 0x00 ∷ 0x00 ∷ 0x00 ∷ 0x00 ∷ [])
-      ∷ piece (r.Offset 1 0) (0xE2 ∷ 0xD7 ∷ 0x01 ∷ 0x84 ∷ 0x00 ∷ 0x00 ∷ 0x00 ∷ 0x00 ∷ [])
-      ∷ piece (r.Offset 2 77) (0xE2 ∷ 0xD7 ∷ 0x02 ∷ 0x84 ∷ 0x00 ∷ 0x00 ∷ 0x00 ∷ 0x4D ∷ [])
-      ∷ piece (r.Offset 3 0) (0xE2 ∷ 0xD7 ∷ 0x03 ∷ 0x84 ∷ 0x00 ∷ 0x00 ∷ 0x00 ∷ 0x00 ∷ [])
-      ∷ piece (r.Offset 4 90) (0xE2 ∷ 0xD7 ∷ 0x04 ∷ 0x84 ∷ 0x00 ∷ 0x00 ∷ 0x00 ∷ 0x5A ∷ [])
-      ∷ piece (r.Offset 5 0) (0xE2 ∷ 0xD7 ∷ 0x05 ∷ 0x84 ∷ 0x00 ∷ 0x00 ∷ 0x00 ∷ 0x00 ∷ [])
-      ∷ piece (r.Offset 6 0) (0xE2 ∷ 0xD7 ∷ 0x06 ∷ 0x84 ∷ 0x00 ∷ 0x00 ∷ 0x00 ∷ 0x00 ∷ [])
-      ∷ piece (r.Offset 7 138) (0xE2 ∷ 0xD7 ∷ 0x07 ∷ 0x84 ∷ 0x00 ∷ 0x00 ∷ 0x00 ∷ 0x8A ∷ [])
+  begin = spelled (r.ModuleBegin (span_at 2 5) (span_at 8 1)) (0xE0 ∷ 0x05 ∷ 0x36 ∷ 0x38 ∷ 0x30 ∷ 0x30 ∷ 0x30 ∷ 0x01 ∷ 0x41 ∷ []);
+  descriptor = spelled (r.Descriptor 8 4 (Some 0xCD)) (0xEC ∷ 0x08 ∷ 0x04 ∷ 0xCD ∷ []);
+  offsets = spelled (r.Offset 0 0) (0xE2 ∷ 0xD7 ∷ 0x00 ∷ 0x84 ∷ 0x00 ∷ 0x00 ∷ 0x00 ∷ 0x00 ∷ [])
+      ∷ spelled (r.Offset 1 0) (0xE2 ∷ 0xD7 ∷ 0x01 ∷ 0x84 ∷ 0x00 ∷ 0x00 ∷ 0x00 ∷ 0x00 ∷ [])
+      ∷ spelled (r.Offset 2 77) (0xE2 ∷ 0xD7 ∷ 0x02 ∷ 0x84 ∷ 0x00 ∷ 0x00 ∷ 0x00 ∷ 0x4D ∷ [])
+      ∷ spelled (r.Offset 3 0) (0xE2 ∷ 0xD7 ∷ 0x03 ∷ 0x84 ∷ 0x00 ∷ 0x00 ∷ 0x00 ∷ 0x00 ∷ [])
+      ∷ spelled (r.Offset 4 90) (0xE2 ∷ 0xD7 ∷ 0x04 ∷ 0x84 ∷ 0x00 ∷ 0x00 ∷ 0x00 ∷ 0x5A ∷ [])
+      ∷ spelled (r.Offset 5 0) (0xE2 ∷ 0xD7 ∷ 0x05 ∷ 0x84 ∷ 0x00 ∷ 0x00 ∷ 0x00 ∷ 0x00 ∷ [])
+      ∷ spelled (r.Offset 6 0) (0xE2 ∷ 0xD7 ∷ 0x06 ∷ 0x84 ∷ 0x00 ∷ 0x00 ∷ 0x00 ∷ 0x00 ∷ [])
+      ∷ spelled (r.Offset 7 138) (0xE2 ∷ 0xD7 ∷ 0x07 ∷ 0x84 ∷ 0x00 ∷ 0x00 ∷ 0x00 ∷ 0x8A ∷ [])
       ∷ [];
   extension = [];
   environment = [];
-  sections = piece (r.SectionType 1 false (Some 0xD0) (span_at 5 4) None None None) (0xE6 ∷ 0x01 ∷ 0xC3 ∷ 0xD0 ∷ 0x04 ∷ 0x63 ∷ 0x6F ∷ 0x64 ∷ 0x65 ∷ [])
-      ∷ piece (r.SectionSize 1 16) (0xE2 ∷ 0xD3 ∷ 0x01 ∷ 0x10 ∷ [])
+  sections = spelled (r.SectionType 1 false (Some 0xD0) (span_at 5 4) None None None) (0xE6 ∷ 0x01 ∷ 0xC3 ∷ 0xD0 ∷ 0x04 ∷ 0x63 ∷ 0x6F ∷ 0x64 ∷ 0x65 ∷ [])
+      ∷ spelled (r.SectionSize 1 16) (0xE2 ∷ 0xD3 ∷ 0x01 ∷ 0x10 ∷ [])
       ∷ [];
   externals = [];
-  debug = piece (r.BlockBegin 3 0 (span_at 4 4) tail.Module) (0xF8 ∷ 0x03 ∷ 0x00 ∷ 0x04 ∷ 0x70 ∷ 0x72 ∷ 0x6F ∷ 0x67 ∷ [])
-      ∷ piece (r.DebugName 32 (span_at 3 1)) (0xF0 ∷ 0x20 ∷ 0x01 ∷ 0x78 ∷ [])
-      ∷ piece (r.BlockBegin 4 0 (span_at 4 4) (tail.Scope 0 0 (span_at 10 2))) (0xF8 ∷ 0x04 ∷ 0x00 ∷ 0x04 ∷ 0x6D ∷ 0x61 ∷ 0x69 ∷ 0x6E ∷ 0x00 ∷ 0x00 ∷ 0xD2 ∷ 0x01 ∷ [])
-      ∷ piece (r.DebugName 33 (span_at 3 1)) (0xF0 ∷ 0x21 ∷ 0x01 ∷ 0x6C ∷ [])
-      ∷ piece (r.DebugNote 33 0 7 (items_of (12 ∷ 0 ∷ []))) (0xF1 ∷ 0xCE ∷ 0x21 ∷ 0x00 ∷ 0x07 ∷ 0x0C ∷ 0x00 ∷ [])
-      ∷ piece (r.DebugValue 33 (span_at 3 4)) (0xE2 ∷ 0xCE ∷ 0x21 ∷ 0xD2 ∷ 0x01 ∷ 0x02 ∷ 0xA5 ∷ [])
-      ∷ piece (r.BlockEnd (Some (span_at 1 4))) (0xF9 ∷ 0xD2 ∷ 0x01 ∷ 0x0F ∷ 0xA5 ∷ [])
-      ∷ piece (r.BlockEnd None) (0xF9 ∷ [])
+  debug = spelled (r.BlockBegin 3 0 (span_at 4 4) tail.Module) (0xF8 ∷ 0x03 ∷ 0x00 ∷ 0x04 ∷ 0x70 ∷ 0x72 ∷ 0x6F ∷ 0x67 ∷ [])
+      ∷ spelled (r.DebugName 32 (span_at 3 1)) (0xF0 ∷ 0x20 ∷ 0x01 ∷ 0x78 ∷ [])
+      ∷ spelled (r.BlockBegin 4 0 (span_at 4 4) (tail.Scope 0 0 (span_at 10 2))) (0xF8 ∷ 0x04 ∷ 0x00 ∷ 0x04 ∷ 0x6D ∷ 0x61 ∷ 0x69 ∷ 0x6E ∷ 0x00 ∷ 0x00 ∷ 0xD2 ∷ 0x01 ∷ [])
+      ∷ spelled (r.DebugName 33 (span_at 3 1)) (0xF0 ∷ 0x21 ∷ 0x01 ∷ 0x6C ∷ [])
+      ∷ spelled (r.DebugNote 33 0 7 (items_of (12 ∷ 0 ∷ []))) (0xF1 ∷ 0xCE ∷ 0x21 ∷ 0x00 ∷ 0x07 ∷ 0x0C ∷ 0x00 ∷ [])
+      ∷ spelled (r.DebugValue 33 (span_at 3 4)) (0xE2 ∷ 0xCE ∷ 0x21 ∷ 0xD2 ∷ 0x01 ∷ 0x02 ∷ 0xA5 ∷ [])
+      ∷ spelled (r.BlockEnd (Some (span_at 1 4))) (0xF9 ∷ 0xD2 ∷ 0x01 ∷ 0x0F ∷ 0xA5 ∷ [])
+      ∷ spelled (r.BlockEnd None) (0xF9 ∷ [])
       ∷ [];
   skipped = [];
   loads = [];
@@ -112,7 +112,7 @@ debugged_is_cut : IsCutInto debugged_bytes true debugged_file
 debugged_is_cut = record {
   all = refl;
   limit = is_within debugged_bytes refl;
-  header = is_header (header_of debugged_file) (behind_header debugged_file) refl refl;
+  header = is_header (header_of debugged_file) (after_header debugged_file) refl refl;
   offsets = (inr (refl, refl), (inr (refl, refl), (inl refl, (inr (refl, refl), (inl refl, (inr (refl, refl), (inr (refl, refl), refl)))))));
   sections = is_part section_part debugged_file.sections (from_externals debugged_file) refl refl refl;
   externals = is_part external_part debugged_file.externals (from_debug debugged_file) refl refl refl;
@@ -125,8 +125,8 @@ debugged_is_cut = record {
 debugged_has_names : HasNames debugged_file
 debugged_has_names = record { follow = follow-by_test [] (records_of debugged_file) refl; values = refl; valued = refl }
 
-debugged_says : Says debugged_file (indexes_of debugged_file) debugged
-debugged_says = record {
+debugged_states : States debugged_file (indexes_of debugged_file) debugged
+debugged_states = record {
   begin = (refl, refl);
   descriptor = (refl, refl, inl refl);
   extension = refl;
@@ -140,4 +140,4 @@ debugged_says = record {
 }
 
 debugged_spells : SpellsModule debugged debugged_bytes true
-debugged_spells = (debugged_file, debugged_is_cut, debugged_has_names, debugged_says, debugged_is_valid)
+debugged_spells = (debugged_file, debugged_is_cut, debugged_has_names, debugged_states, debugged_is_valid)

@@ -7,8 +7,8 @@ use Rattle.mufom_module.specs.declared.module.Parts.{Parts}
 use Rattle.mufom_module.specs.Written.{weight}
 use Rattle.mufom_module.specs.Defects.{IsValid}
 use Rattle.mufom_module.specs.RecordParts.{section_part, external_part, debug_part, data_part, trailer_part}
-use Rattle.mufom_module.specs.Grammar.{FileParts, header_of, module_end, behind_header, from_externals, from_debug, from_loads, from_trailer, IsCutInto, indexes_of, records_of, HasNames, Says, SpellsModule}
-use Rattle.mufom_module.proofs.Cutting.{piece, is_part, is_header, is_within, follow-by_test}
+use Rattle.mufom_module.specs.Grammar.{FileParts, header_of, module_end, after_header, from_externals, from_debug, from_loads, from_trailer, IsCutInto, indexes_of, records_of, HasNames, States, SpellsModule}
+use Rattle.mufom_module.proofs.Cutting.{spelled, is_part, is_header, is_within, follow-by_test}
 
 abbrev empty : Parts
 empty = record {
@@ -34,16 +34,16 @@ empty_bytes = 0xE0 ∷ 0x05 ∷ 0x36 ∷ 0x38 ∷ 0x30 ∷ 0x30 ∷ 0x30 ∷ 0x0
 
 abbrev empty_file : FileParts
 empty_file = record {
-  begin = piece (r.ModuleBegin (span_at 2 5) (span_at 8 1)) (0xE0 ∷ 0x05 ∷ 0x36 ∷ 0x38 ∷ 0x30 ∷ 0x30 ∷ 0x30 ∷ 0x01 ∷ 0x41 ∷ []);
-  descriptor = piece (r.Descriptor 8 4 (Some 0xCD)) (0xEC ∷ 0x08 ∷ 0x04 ∷ 0xCD ∷ []);
-  offsets = piece (r.Offset 0 0) (0xE2 ∷ 0xD7 ∷ 0x00 ∷ 0x84 ∷ 0x00 ∷ 0x00 ∷ 0x00 ∷ 0x00 ∷ [])
-      ∷ piece (r.Offset 1 0) (0xE2 ∷ 0xD7 ∷ 0x01 ∷ 0x84 ∷ 0x00 ∷ 0x00 ∷ 0x00 ∷ 0x00 ∷ [])
-      ∷ piece (r.Offset 2 0) (0xE2 ∷ 0xD7 ∷ 0x02 ∷ 0x84 ∷ 0x00 ∷ 0x00 ∷ 0x00 ∷ 0x00 ∷ [])
-      ∷ piece (r.Offset 3 0) (0xE2 ∷ 0xD7 ∷ 0x03 ∷ 0x84 ∷ 0x00 ∷ 0x00 ∷ 0x00 ∷ 0x00 ∷ [])
-      ∷ piece (r.Offset 4 0) (0xE2 ∷ 0xD7 ∷ 0x04 ∷ 0x84 ∷ 0x00 ∷ 0x00 ∷ 0x00 ∷ 0x00 ∷ [])
-      ∷ piece (r.Offset 5 0) (0xE2 ∷ 0xD7 ∷ 0x05 ∷ 0x84 ∷ 0x00 ∷ 0x00 ∷ 0x00 ∷ 0x00 ∷ [])
-      ∷ piece (r.Offset 6 0) (0xE2 ∷ 0xD7 ∷ 0x06 ∷ 0x84 ∷ 0x00 ∷ 0x00 ∷ 0x00 ∷ 0x00 ∷ [])
-      ∷ piece (r.Offset 7 77) (0xE2 ∷ 0xD7 ∷ 0x07 ∷ 0x84 ∷ 0x00 ∷ 0x00 ∷ 0x00 ∷ 0x4D ∷ [])
+  begin = spelled (r.ModuleBegin (span_at 2 5) (span_at 8 1)) (0xE0 ∷ 0x05 ∷ 0x36 ∷ 0x38 ∷ 0x30 ∷ 0x30 ∷ 0x30 ∷ 0x01 ∷ 0x41 ∷ []);
+  descriptor = spelled (r.Descriptor 8 4 (Some 0xCD)) (0xEC ∷ 0x08 ∷ 0x04 ∷ 0xCD ∷ []);
+  offsets = spelled (r.Offset 0 0) (0xE2 ∷ 0xD7 ∷ 0x00 ∷ 0x84 ∷ 0x00 ∷ 0x00 ∷ 0x00 ∷ 0x00 ∷ [])
+      ∷ spelled (r.Offset 1 0) (0xE2 ∷ 0xD7 ∷ 0x01 ∷ 0x84 ∷ 0x00 ∷ 0x00 ∷ 0x00 ∷ 0x00 ∷ [])
+      ∷ spelled (r.Offset 2 0) (0xE2 ∷ 0xD7 ∷ 0x02 ∷ 0x84 ∷ 0x00 ∷ 0x00 ∷ 0x00 ∷ 0x00 ∷ [])
+      ∷ spelled (r.Offset 3 0) (0xE2 ∷ 0xD7 ∷ 0x03 ∷ 0x84 ∷ 0x00 ∷ 0x00 ∷ 0x00 ∷ 0x00 ∷ [])
+      ∷ spelled (r.Offset 4 0) (0xE2 ∷ 0xD7 ∷ 0x04 ∷ 0x84 ∷ 0x00 ∷ 0x00 ∷ 0x00 ∷ 0x00 ∷ [])
+      ∷ spelled (r.Offset 5 0) (0xE2 ∷ 0xD7 ∷ 0x05 ∷ 0x84 ∷ 0x00 ∷ 0x00 ∷ 0x00 ∷ 0x00 ∷ [])
+      ∷ spelled (r.Offset 6 0) (0xE2 ∷ 0xD7 ∷ 0x06 ∷ 0x84 ∷ 0x00 ∷ 0x00 ∷ 0x00 ∷ 0x00 ∷ [])
+      ∷ spelled (r.Offset 7 77) (0xE2 ∷ 0xD7 ∷ 0x07 ∷ 0x84 ∷ 0x00 ∷ 0x00 ∷ 0x00 ∷ 0x4D ∷ [])
       ∷ [];
   extension = [];
   environment = [];
@@ -59,7 +59,7 @@ empty_is_cut : IsCutInto empty_bytes true empty_file
 empty_is_cut = record {
   all = refl;
   limit = is_within empty_bytes refl;
-  header = is_header (header_of empty_file) (behind_header empty_file) refl refl;
+  header = is_header (header_of empty_file) (after_header empty_file) refl refl;
   offsets = (inr (refl, refl), (inr (refl, refl), (inr (refl, refl), (inr (refl, refl), (inr (refl, refl), (inr (refl, refl), (inr (refl, refl), refl)))))));
   sections = is_part section_part empty_file.sections (from_externals empty_file) refl refl refl;
   externals = is_part external_part empty_file.externals (from_debug empty_file) refl refl refl;
@@ -72,8 +72,8 @@ empty_is_cut = record {
 empty_has_names : HasNames empty_file
 empty_has_names = record { follow = follow-by_test [] (records_of empty_file) refl; values = refl; valued = refl }
 
-empty_says : Says empty_file (indexes_of empty_file) empty
-empty_says = record {
+empty_states : States empty_file (indexes_of empty_file) empty
+empty_states = record {
   begin = (refl, refl);
   descriptor = (refl, refl, inl refl);
   extension = refl;
@@ -87,4 +87,4 @@ empty_says = record {
 }
 
 empty_spells : SpellsModule empty empty_bytes true
-empty_spells = (empty_file, empty_is_cut, empty_has_names, empty_says, empty_is_valid)
+empty_spells = (empty_file, empty_is_cut, empty_has_names, empty_states, empty_is_valid)

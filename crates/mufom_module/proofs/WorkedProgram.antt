@@ -13,8 +13,8 @@ use Rattle.mufom_module.specs.declared.module.Parts.{Parts}
 use Rattle.mufom_module.specs.Written.{weight}
 use Rattle.mufom_module.specs.Defects.{IsValid}
 use Rattle.mufom_module.specs.RecordParts.{section_part, external_part, debug_part, data_part, trailer_part}
-use Rattle.mufom_module.specs.Grammar.{FileParts, header_of, module_end, behind_header, from_externals, from_debug, from_loads, from_trailer, IsCutInto, indexes_of, records_of, HasNames, Says, SpellsModule}
-use Rattle.mufom_module.proofs.Cutting.{piece, is_part, is_header, is_within, follow-by_test}
+use Rattle.mufom_module.specs.Grammar.{FileParts, header_of, module_end, after_header, from_externals, from_debug, from_loads, from_trailer, IsCutInto, indexes_of, records_of, HasNames, States, SpellsModule}
+use Rattle.mufom_module.proofs.Cutting.{spelled, is_part, is_header, is_within, follow-by_test}
 
 -- the base of the section and 4
 abbrev entry : Tree
@@ -52,38 +52,38 @@ program_bytes = 0xE0 ∷ 0x05 ∷ 0x36 ∷ 0x38 ∷ 0x30 ∷ 0x30 ∷ 0x30 ∷ 0
 
 abbrev program_file : FileParts
 program_file = record {
-  begin = piece (r.ModuleBegin (span_at 2 5) (span_at 8 4)) (0xE0 ∷ 0x05 ∷ 0x36 ∷ 0x38 ∷ 0x30 ∷ 0x30 ∷ 0x30 ∷ 0x04 ∷ 0x70 ∷ 0x72 ∷ 0x6F ∷ 0x67 ∷ []);
-  descriptor = piece (r.Descriptor 8 4 None) (0xEC ∷ 0x08 ∷ 0x04 ∷ []);
-  offsets = piece (r.Offset 0 79) (0xE2 ∷ 0xD7 ∷ 0x00 ∷ 0x84 ∷ 0x00 ∷ 0x00 ∷ 0x00 ∷ 0x4F ∷ [])
-      ∷ piece (r.Offset 1 82) (0xE2 ∷ 0xD7 ∷ 0x01 ∷ 0x84 ∷ 0x00 ∷ 0x00 ∷ 0x00 ∷ 0x52 ∷ [])
-      ∷ piece (r.Offset 2 85) (0xE2 ∷ 0xD7 ∷ 0x02 ∷ 0x84 ∷ 0x00 ∷ 0x00 ∷ 0x00 ∷ 0x55 ∷ [])
-      ∷ piece (r.Offset 3 102) (0xE2 ∷ 0xD7 ∷ 0x03 ∷ 0x84 ∷ 0x00 ∷ 0x00 ∷ 0x00 ∷ 0x66 ∷ [])
-      ∷ piece (r.Offset 4 0) (0xE2 ∷ 0xD7 ∷ 0x04 ∷ 0x84 ∷ 0x00 ∷ 0x00 ∷ 0x00 ∷ 0x00 ∷ [])
-      ∷ piece (r.Offset 5 129) (0xE2 ∷ 0xD7 ∷ 0x05 ∷ 0x84 ∷ 0x00 ∷ 0x00 ∷ 0x00 ∷ 0x81 ∷ [])
-      ∷ piece (r.Offset 6 155) (0xE2 ∷ 0xD7 ∷ 0x06 ∷ 0x84 ∷ 0x00 ∷ 0x00 ∷ 0x00 ∷ 0x9B ∷ [])
-      ∷ piece (r.Offset 7 163) (0xE2 ∷ 0xD7 ∷ 0x07 ∷ 0x84 ∷ 0x00 ∷ 0x00 ∷ 0x00 ∷ 0xA3 ∷ [])
+  begin = spelled (r.ModuleBegin (span_at 2 5) (span_at 8 4)) (0xE0 ∷ 0x05 ∷ 0x36 ∷ 0x38 ∷ 0x30 ∷ 0x30 ∷ 0x30 ∷ 0x04 ∷ 0x70 ∷ 0x72 ∷ 0x6F ∷ 0x67 ∷ []);
+  descriptor = spelled (r.Descriptor 8 4 None) (0xEC ∷ 0x08 ∷ 0x04 ∷ []);
+  offsets = spelled (r.Offset 0 79) (0xE2 ∷ 0xD7 ∷ 0x00 ∷ 0x84 ∷ 0x00 ∷ 0x00 ∷ 0x00 ∷ 0x4F ∷ [])
+      ∷ spelled (r.Offset 1 82) (0xE2 ∷ 0xD7 ∷ 0x01 ∷ 0x84 ∷ 0x00 ∷ 0x00 ∷ 0x00 ∷ 0x52 ∷ [])
+      ∷ spelled (r.Offset 2 85) (0xE2 ∷ 0xD7 ∷ 0x02 ∷ 0x84 ∷ 0x00 ∷ 0x00 ∷ 0x00 ∷ 0x55 ∷ [])
+      ∷ spelled (r.Offset 3 102) (0xE2 ∷ 0xD7 ∷ 0x03 ∷ 0x84 ∷ 0x00 ∷ 0x00 ∷ 0x00 ∷ 0x66 ∷ [])
+      ∷ spelled (r.Offset 4 0) (0xE2 ∷ 0xD7 ∷ 0x04 ∷ 0x84 ∷ 0x00 ∷ 0x00 ∷ 0x00 ∷ 0x00 ∷ [])
+      ∷ spelled (r.Offset 5 129) (0xE2 ∷ 0xD7 ∷ 0x05 ∷ 0x84 ∷ 0x00 ∷ 0x00 ∷ 0x00 ∷ 0x81 ∷ [])
+      ∷ spelled (r.Offset 6 155) (0xE2 ∷ 0xD7 ∷ 0x06 ∷ 0x84 ∷ 0x00 ∷ 0x00 ∷ 0x00 ∷ 0x9B ∷ [])
+      ∷ spelled (r.Offset 7 163) (0xE2 ∷ 0xD7 ∷ 0x07 ∷ 0x84 ∷ 0x00 ∷ 0x00 ∷ 0x00 ∷ 0xA3 ∷ [])
       ∷ [];
   extension = 0xF0 ∷ 0x20 ∷ 0x00 ∷ [];
   environment = 0xF0 ∷ 0x21 ∷ 0x00 ∷ [];
-  sections = piece (r.SectionType 1 false (Some 0xD0) (span_at 5 5) None None None) (0xE6 ∷ 0x01 ∷ 0xC3 ∷ 0xD0 ∷ 0x05 ∷ 0x2E ∷ 0x74 ∷ 0x65 ∷ 0x78 ∷ 0x74 ∷ [])
-      ∷ piece (r.Alignment 1 2 None) (0xE7 ∷ 0x01 ∷ 0x02 ∷ [])
-      ∷ piece (r.SectionSize 1 12) (0xE2 ∷ 0xD3 ∷ 0x01 ∷ 0x0C ∷ [])
+  sections = spelled (r.SectionType 1 false (Some 0xD0) (span_at 5 5) None None None) (0xE6 ∷ 0x01 ∷ 0xC3 ∷ 0xD0 ∷ 0x05 ∷ 0x2E ∷ 0x74 ∷ 0x65 ∷ 0x78 ∷ 0x74 ∷ [])
+      ∷ spelled (r.Alignment 1 2 None) (0xE7 ∷ 0x01 ∷ 0x02 ∷ [])
+      ∷ spelled (r.SectionSize 1 12) (0xE2 ∷ 0xD3 ∷ 0x01 ∷ 0x0C ∷ [])
       ∷ [];
-  externals = piece (r.PublicName 32 (span_at 3 4)) (0xE8 ∷ 0x20 ∷ 0x04 ∷ 0x6D ∷ 0x61 ∷ 0x69 ∷ 0x6E ∷ [])
-      ∷ piece (r.PublicNote 32 15 19 (items_of (1 ∷ []))) (0xF1 ∷ 0xC9 ∷ 0x20 ∷ 0x0F ∷ 0x13 ∷ 0x01 ∷ [])
-      ∷ piece (r.PublicValue 32 (span_at 3 4)) (0xE2 ∷ 0xC9 ∷ 0x20 ∷ 0xD2 ∷ 0x01 ∷ 0x04 ∷ 0xA5 ∷ [])
-      ∷ piece (r.ReferenceName 11 (span_at 3 4)) (0xE9 ∷ 0x0B ∷ 0x04 ∷ 0x65 ∷ 0x78 ∷ 0x69 ∷ 0x74 ∷ [])
+  externals = spelled (r.PublicName 32 (span_at 3 4)) (0xE8 ∷ 0x20 ∷ 0x04 ∷ 0x6D ∷ 0x61 ∷ 0x69 ∷ 0x6E ∷ [])
+      ∷ spelled (r.PublicNote 32 15 19 (items_of (1 ∷ []))) (0xF1 ∷ 0xC9 ∷ 0x20 ∷ 0x0F ∷ 0x13 ∷ 0x01 ∷ [])
+      ∷ spelled (r.PublicValue 32 (span_at 3 4)) (0xE2 ∷ 0xC9 ∷ 0x20 ∷ 0xD2 ∷ 0x01 ∷ 0x04 ∷ 0xA5 ∷ [])
+      ∷ spelled (r.ReferenceName 11 (span_at 3 4)) (0xE9 ∷ 0x0B ∷ 0x04 ∷ 0x65 ∷ 0x78 ∷ 0x69 ∷ 0x74 ∷ [])
       ∷ [];
   debug = [];
   skipped = [];
-  loads = piece (r.SetSection 1) (0xE5 ∷ 0x01 ∷ [])
-      ∷ piece (r.SetPc 1 (span_at 3 2)) (0xE2 ∷ 0xD0 ∷ 0x01 ∷ 0xD2 ∷ 0x01 ∷ [])
-      ∷ piece r.Relocate (0xE4 ∷ [])
-      ∷ piece (r.ConstantItem (span_at 1 4)) (0x04 ∷ 0x4E ∷ 0x71 ∷ 0x4E ∷ 0x71 ∷ [])
-      ∷ piece (r.FieldItem kinds.Either (span_at 1 4) None) (0xBE ∷ 0xD2 ∷ 0x01 ∷ 0x04 ∷ 0xA5 ∷ 0xBF ∷ [])
-      ∷ piece (r.FieldItem kinds.Signed (span_at 1 5) None) (0xBA ∷ 0xD8 ∷ 0x0B ∷ 0xD0 ∷ 0x01 ∷ 0xA6 ∷ 0xBB ∷ [])
+  loads = spelled (r.SetSection 1) (0xE5 ∷ 0x01 ∷ [])
+      ∷ spelled (r.SetPc 1 (span_at 3 2)) (0xE2 ∷ 0xD0 ∷ 0x01 ∷ 0xD2 ∷ 0x01 ∷ [])
+      ∷ spelled r.Relocate (0xE4 ∷ [])
+      ∷ spelled (r.ConstantItem (span_at 1 4)) (0x04 ∷ 0x4E ∷ 0x71 ∷ 0x4E ∷ 0x71 ∷ [])
+      ∷ spelled (r.FieldItem kinds.Either (span_at 1 4) None) (0xBE ∷ 0xD2 ∷ 0x01 ∷ 0x04 ∷ 0xA5 ∷ 0xBF ∷ [])
+      ∷ spelled (r.FieldItem kinds.Signed (span_at 1 5) None) (0xBA ∷ 0xD8 ∷ 0x0B ∷ 0xD0 ∷ 0x01 ∷ 0xA6 ∷ 0xBB ∷ [])
       ∷ [];
-  trailer = piece (r.Start (span_at 3 4)) (0xE2 ∷ 0xC7 ∷ 0xBE ∷ 0xD2 ∷ 0x01 ∷ 0x04 ∷ 0xA5 ∷ 0xBF ∷ [])
+  trailer = spelled (r.Start (span_at 3 4)) (0xE2 ∷ 0xC7 ∷ 0xBE ∷ 0xD2 ∷ 0x01 ∷ 0x04 ∷ 0xA5 ∷ 0xBF ∷ [])
       ∷ [];
 }
 
@@ -91,7 +91,7 @@ program_is_cut : IsCutInto program_bytes true program_file
 program_is_cut = record {
   all = refl;
   limit = is_within program_bytes refl;
-  header = is_header (header_of program_file) (behind_header program_file) refl refl;
+  header = is_header (header_of program_file) (after_header program_file) refl refl;
   offsets = (inl refl, (inl refl, (inl refl, (inl refl, (inr (refl, refl), (inl refl, (inl refl, refl)))))));
   sections = is_part section_part program_file.sections (from_externals program_file) refl refl refl;
   externals = is_part external_part program_file.externals (from_debug program_file) refl refl refl;
@@ -104,8 +104,8 @@ program_is_cut = record {
 program_has_names : HasNames program_file
 program_has_names = record { follow = follow-by_test [] (records_of program_file) refl; values = refl; valued = refl }
 
-program_says : Says program_file (indexes_of program_file) program
-program_says = record {
+program_states : States program_file (indexes_of program_file) program
+program_states = record {
   begin = (refl, refl);
   descriptor = (refl, refl, inr refl);
   extension = refl;
@@ -119,4 +119,4 @@ program_says = record {
 }
 
 program_spells : SpellsModule program program_bytes true
-program_spells = (program_file, program_is_cut, program_has_names, program_says, program_is_valid)
+program_spells = (program_file, program_is_cut, program_has_names, program_states, program_is_valid)

@@ -49,17 +49,17 @@ load_any test (SetPc section value) = test value
 load_any test (One item) = item_any test item
 load_any test (Repeat count items) = list_any (item_any test) items
 
--- the section that is current behind a load
-abbrev pub current_behind : Option ℕ → Load → Option ℕ
-current_behind current (SetSection section) = Some section
-current_behind current (SetPc section value) = current
-current_behind current (One item) = current
-current_behind current (Repeat count items) = current
+-- the section that is current after a load
+abbrev pub current_after : Option ℕ → Load → Option ℕ
+current_after current (SetSection section) = Some section
+current_after current (SetPc section value) = current
+current_after current (One item) = current
+current_after current (Repeat count items) = current
 
 -- each load with the section that is current before it
 abbrev pub placed_from : Option ℕ → List Load → List (Option ℕ × Load)
 placed_from current [] = []
-placed_from current (load ∷ loads) = (current, load) ∷ placed_from (current_behind current load) loads
+placed_from current (load ∷ loads) = (current, load) ∷ placed_from (current_after current load) loads
 
 -- the loads of a module, before which no section is current
 abbrev pub placed_loads : Parts → List (Option ℕ × Load)

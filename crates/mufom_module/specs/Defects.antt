@@ -123,18 +123,18 @@ begins_badly n (value_mark name value) = false
 abbrev pub has_bad_mark : Counts → DebugMark → Bool
 has_bad_mark n mark = begins_badly n mark || any_expression (names_outside n) mark
 
--- how many debug names are declared behind a mark, and none where it uses one that is not declared yet
-abbrev pub declared_behind_mark : ℕ → DebugMark → Option ℕ
-declared_behind_mark n (block_begin head name) = Some n
-declared_behind_mark n (block_end end) = Some n
-declared_behind_mark n (name_mark name) = Some (n + 1)
-declared_behind_mark n (note_mark name note) = if nat_lt name n then Some n else None
-declared_behind_mark n (value_mark name value) = if nat_lt name n then Some n else None
+-- how many debug names are declared after a mark, and none where it uses one that is not declared yet
+abbrev pub declared_after_mark : ℕ → DebugMark → Option ℕ
+declared_after_mark n (block_begin head name) = Some n
+declared_after_mark n (block_end end) = Some n
+declared_after_mark n (name_mark name) = Some (n + 1)
+declared_after_mark n (note_mark name note) = if nat_lt name n then Some n else None
+declared_after_mark n (value_mark name value) = if nat_lt name n then Some n else None
 
 -- the same of marks, one after another
-abbrev pub declared_behind : ℕ → List DebugMark → Option ℕ
-declared_behind n [] = Some n
-declared_behind n (mark ∷ marks) = option_and_then (λ k. declared_behind k marks) (declared_behind_mark n mark)
+abbrev pub declared_after : ℕ → List DebugMark → Option ℕ
+declared_after n [] = Some n
+declared_after n (mark ∷ marks) = option_and_then (λ k. declared_after k marks) (declared_after_mark n mark)
 
 -- a variable, a load or a block names an entry that is not in its list, or a debug name is used before it is declared
 abbrev pub has_bad_position : Parts → Bool
@@ -143,7 +143,7 @@ has_bad_position m = let n = counts_of m in
     || (list_any (has_bad_place n) m.loads
     || (list_any (has_bad_mark n) (debug_marks m)
     || (any_of (names_outside n) m.start
-    || is_none (declared_behind 0 (debug_marks m)))))
+    || is_none (declared_after 0 (debug_marks m)))))
 
 -- ---- program counters
 

@@ -1,4 +1,4 @@
--- What the records of a file's parts say, as the parts of a module (IEEE Std 695, section definition, name declaration,
+-- What the records of a file's parts state, as the parts of a module (IEEE Std 695, section definition, name declaration,
 -- debug information and load commands).
 use Rattle.std.specs.Prelude.{ℕ, ◌==◌, List, [], ◌∷◌, ◌++◌, map, filter_map, slice_get, Option, Some, None, unwrap_or, option_map, if◌then◌else◌}
 use Rattle.arrayvec.specs.ArrayVec.{ArrayVec}
@@ -22,15 +22,15 @@ use Rattle.mufom_loads.specs.declared.load.Load.TheVariants.{SetSection, SetPc, 
 use Rattle.mufom_debug.specs.declared.item.BlockHead.{BlockHead}
 use Rattle.mufom_debug.specs.declared.item.BlockHead.TheVariants as head
 use Rattle.mufom_debug.specs.Marks.{DebugMark, block_begin, block_end, name_mark, note_mark, value_mark}
-use Rattle.mufom_module.specs.Pieces.{Piece, text_in, tree_in, position_in, positioned}
+use Rattle.mufom_module.specs.SpelledRecords.{SpelledRecord, text_in, tree_in, position_in, positioned}
 
 -- what records answer to a question, in order
-abbrev pub answers : {X : Type 0} → (Record → Option X) → List Piece → List X
-answers ask pieces = filter_map (λ p. ask p.row) pieces
+abbrev pub answers : {X : Type 0} → (Record → Option X) → List SpelledRecord → List X
+answers ask records = filter_map (λ p. ask p.row) records
 
 -- the first of these answers, if there is one
-abbrev pub first_answer : {X : Type 0} → (Record → Option X) → List Piece → Option X
-first_answer ask pieces = slice_get (answers ask pieces) 0
+abbrev pub first_answer : {X : Type 0} → (Record → Option X) → List SpelledRecord → Option X
+first_answer ask records = slice_get (answers ask records) 0
 
 -- the value, where the indexes are the same
 abbrev pub for_index : {X : Type 0} → ℕ → ℕ → X → Option X
@@ -57,8 +57,8 @@ base_for i _ = None
 abbrev pub purpose_of : ℕ → Purpose
 purpose_of b = if b == 0xD0 then purpose.Code else (if b == 0xC4 then purpose.Data else purpose.Rom)
 
--- the section that a record declares, with what the part's records say of it: size 0 and alignment 1 where none does
-abbrev pub section_by : List Piece → Piece → Record → Option Section
+-- the section that a record declares, with what the part's records state of it: size 0 and alignment 1 where none does
+abbrev pub section_by : List SpelledRecord → SpelledRecord → Record → Option Section
 section_by part p (r.SectionType i absolute letter name _ _ _) = Some (record {
   name = text_in p name;
   absolute = absolute;
@@ -70,7 +70,7 @@ section_by part p (r.SectionType i absolute letter name _ _ _) = Some (record {
 section_by part p _ = None
 
 -- the sections that the section part declares
-abbrev pub sections_of : List Piece → List Section
+abbrev pub sections_of : List SpelledRecord → List Section
 sections_of part = filter_map (λ p. section_by part p p.row) part
 
 -- ---- names
@@ -89,22 +89,22 @@ abbrev pub reference_note_for : ℕ → Record → Option Note
 reference_note_for i (r.ReferenceNote j type_index attribute ns) = for_index i j (note_of type_index attribute ns)
 reference_note_for i _ = None
 
--- WX: its size, and the default, 0 where none is said
+-- WX: its size, and the default, 0 where none is stated
 abbrev pub weak_for : ℕ → Record → Option Weak
 weak_for i (r.WeakReference j n default) = for_index i j (record { size = n; default = unwrap_or default 0 })
 weak_for i _ = None
 
 -- ASI: the value of the public with this index
-abbrev pub value_for : ℕ → Piece → Record → Option Tree
+abbrev pub value_for : ℕ → SpelledRecord → Record → Option Tree
 value_for i p (r.PublicValue j value) = for_index i j (tree_in p value)
 value_for i p _ = None
 
 -- the value of the public with this index, by the part's records; each public of a file has one
-abbrev pub value_of : Indexes → ℕ → List Piece → Tree
+abbrev pub value_of : Indexes → ℕ → List SpelledRecord → Tree
 value_of ix i part = positioned ix (unwrap_or (slice_get (filter_map (λ p. value_for i p p.row) part) 0) (number 0))
 
--- the public that a record declares, with what the part's records say of it
-abbrev pub public_by : Indexes → List Piece → Piece → Record → Option Public
+-- the public that a record declares, with what the part's records state of it
+abbrev pub public_by : Indexes → List SpelledRecord → SpelledRecord → Record → Option Public
 public_by ix part p (r.PublicName i name) = Some (record {
   name = text_in p name;
   value = value_of ix i part;
@@ -113,11 +113,11 @@ public_by ix part p (r.PublicName i name) = Some (record {
 public_by ix part p _ = None
 
 -- the publics that the external part declares
-abbrev pub publics_of : Indexes → List Piece → List Public
+abbrev pub publics_of : Indexes → List SpelledRecord → List Public
 publics_of ix part = filter_map (λ p. public_by ix part p p.row) part
 
--- the reference that a record declares, with what the part's records say of it; it is strong where none makes it weak
-abbrev pub reference_by : List Piece → Piece → Record → Option Reference
+-- the reference that a record declares, with what the part's records state of it; it is strong where none makes it weak
+abbrev pub reference_by : List SpelledRecord → SpelledRecord → Record → Option Reference
 reference_by part p (r.ReferenceName i name) = Some (record {
   name = text_in p name;
   weak = first_answer (weak_for i) part;
@@ -126,13 +126,13 @@ reference_by part p (r.ReferenceName i name) = Some (record {
 reference_by part p _ = None
 
 -- the references that the external part declares
-abbrev pub references_of : List Piece → List Reference
+abbrev pub references_of : List SpelledRecord → List Reference
 references_of part = filter_map (λ p. reference_by part p p.row) part
 
 -- ---- debug items
 
 -- the head of a block, by its kind and what the kind adds
-abbrev pub head_by : Indexes → Piece → ℕ → BlockTail → BlockHead
+abbrev pub head_by : Indexes → SpelledRecord → ℕ → BlockTail → BlockHead
 head_by ix p kind tail.Module = head.Module
 head_by ix p kind (tail.Scope stack type_index offset) = let value = positioned ix (tree_in p offset) in
     if kind == 4 then head.Global stack type_index value else head.Local stack type_index value
@@ -140,7 +140,7 @@ head_by ix p kind (tail.Source ns) = head.Source ns
 head_by ix p kind (tail.Section section_type section offset) = head.Section section_type (position_in ix.sections section) (positioned ix (tree_in p offset))
 
 -- the mark that a record of the debug part is
-abbrev pub mark_by : Indexes → Piece → Record → Option DebugMark
+abbrev pub mark_by : Indexes → SpelledRecord → Record → Option DebugMark
 mark_by ix p (r.BlockBegin kind _ name block) = Some (block_begin (head_by ix p kind block) (text_in p name))
 mark_by ix p (r.BlockEnd value) = Some (block_end (option_map (λ span. positioned ix (tree_in p span)) value))
 mark_by ix p (r.DebugName _ name) = Some (name_mark (text_in p name))
@@ -149,27 +149,27 @@ mark_by ix p (r.DebugNote i type_index attribute ns) = Some (note_mark (position
 mark_by ix p _ = None
 
 -- the marks of the debug part
-abbrev pub marks : Indexes → List Piece → List DebugMark
+abbrev pub marks : Indexes → List SpelledRecord → List DebugMark
 marks ix part = filter_map (λ p. mark_by ix p p.row) part
 
 -- ---- loads
 
 -- the item that a record is; where no size is given a field is as wide as an address
-abbrev pub item_by : Indexes → ℕ → Piece → Record → Option Item
+abbrev pub item_by : Indexes → ℕ → SpelledRecord → Record → Option Item
 item_by ix maus p (r.ConstantItem run) = Some (Literal (text_in p run))
 item_by ix maus p (r.FieldItem kind value n) = Some (Field kind (positioned ix (tree_in p value)) (unwrap_or n maus))
 item_by ix maus p _ = None
 
--- the items at the front of these records, up to the first record that is none
-abbrev pub items_at_front : Indexes → ℕ → List Piece → List Item
-items_at_front ix maus [] = []
-items_at_front ix maus (p ∷ pieces) = with_rest (item_by ix maus p p.row) (items_at_front ix maus pieces) where
+-- the items at the start of these records, up to the first record that is none
+abbrev pub items_at_prefix : Indexes → ℕ → List SpelledRecord → List Item
+items_at_prefix ix maus [] = []
+items_at_prefix ix maus (p ∷ records) = with_rest (item_by ix maus p p.row) (items_at_prefix ix maus records) where
   with_rest : Option Item → List Item → List Item
   with_rest None items = []
   with_rest (Some item) items = item ∷ items
 
--- the loads that a record says, where these items stand behind it: an LR its items, an RE of an LR the repeat of them
-abbrev pub loads_by : Indexes → Piece → List Item → Record → List Load
+-- the loads that a record states, where these items stand after it: an LR its items, an RE of an LR the repeat of them
+abbrev pub loads_by : Indexes → SpelledRecord → List Item → Record → List Load
 loads_by ix p items (r.SetSection i) = SetSection (position_in ix.sections i) ∷ []
 loads_by ix p items (r.SetPc i value) = SetPc (position_in ix.sections i) (positioned ix (tree_in p value)) ∷ []
 loads_by ix p items (r.Constant run) = One (Literal (text_in p run)) ∷ []
@@ -179,17 +179,17 @@ loads_by ix p items (r.RepeatRelocate times) = Repeat times items ∷ []
 loads_by ix p items _ = []
 
 -- the loads of the data part, record by record
-abbrev pub loads_of : Indexes → ℕ → List Piece → List Load
+abbrev pub loads_of : Indexes → ℕ → List SpelledRecord → List Load
 loads_of ix maus [] = []
-loads_of ix maus (p ∷ pieces) = loads_by ix p (items_at_front ix maus pieces) p.row ++ loads_of ix maus pieces
+loads_of ix maus (p ∷ records) = loads_by ix p (items_at_prefix ix maus records) p.row ++ loads_of ix maus records
 
 -- ---- the start
 
 -- ASG: the start address
-abbrev pub start_by : Indexes → Piece → Record → Option Tree
+abbrev pub start_by : Indexes → SpelledRecord → Record → Option Tree
 start_by ix p (r.Start value) = Some (positioned ix (tree_in p value))
 start_by ix p _ = None
 
 -- the start addresses of the trailer part, of which there is at most one
-abbrev pub starts_of : Indexes → List Piece → List Tree
+abbrev pub starts_of : Indexes → List SpelledRecord → List Tree
 starts_of ix part = filter_map (λ p. start_by ix p p.row) part

@@ -15,32 +15,32 @@ use Rattle.mufom_module.specs.declared.module.Order.TheVariants.{Least, Most}
 use Rattle.mufom_module.specs.declared.module.Parts.{Parts}
 use Rattle.mufom_module.specs.Contents.{any_of}
 use Rattle.mufom_module.specs.Defects.{IsValid}
-use Rattle.mufom_module.specs.Pieces.{Piece, bytes_of, text_in, section, public, reference, debug_name, declared_by, declared, is_declared, named_in_expression, named_at_once, value_of_public, assigned_by, is_assigned}
+use Rattle.mufom_module.specs.SpelledRecords.{SpelledRecord, bytes_of, text_in, section, public, reference, debug_name, declared_by, declared, is_declared, named_in_expression, named_at_once, value_of_public, assigned_by, is_assigned}
 use Rattle.mufom_module.specs.RecordParts.{Part, section_part, external_part, debug_part, data_part, trailer_part, stands_in, opens_items, mode_of, is_loading, is_set_section}
 use Rattle.mufom_module.specs.Gathered.{sections_of, publics_of, references_of, marks, loads_of, starts_of}
 
 -- a file cut into its parts
 pub record FileParts : Type 0 where
   -- MB
-  pub begin : Piece
+  pub begin : SpelledRecord
   -- AD
-  pub descriptor : Piece
+  pub descriptor : SpelledRecord
   -- the ASW records
-  pub offsets : List Piece
+  pub offsets : List SpelledRecord
   pub extension : List ℕ
   pub environment : List ℕ
-  pub sections : List Piece
-  pub externals : List Piece
-  pub debug : List Piece
+  pub sections : List SpelledRecord
+  pub externals : List SpelledRecord
+  pub debug : List SpelledRecord
   -- the bytes of a debug part that is not read
   pub skipped : List ℕ
-  pub loads : List Piece
-  pub trailer : List Piece
+  pub loads : List SpelledRecord
+  pub trailer : List SpelledRecord
 
 -- ---- the bytes
 
 -- the records of the header
-abbrev pub header_of : FileParts → List Piece
+abbrev pub header_of : FileParts → List SpelledRecord
 header_of f = f.begin ∷ f.descriptor ∷ f.offsets
 
 -- the bytes of the debug part
@@ -75,32 +75,32 @@ from_externals f = bytes_of f.externals ++ from_debug f
 abbrev pub from_sections : FileParts → List ℕ
 from_sections f = bytes_of f.sections ++ from_externals f
 
--- all bytes behind the header
-abbrev pub behind_header : FileParts → List ℕ
-behind_header f = f.extension ++ (f.environment ++ from_sections f)
+-- all bytes after the header
+abbrev pub after_header : FileParts → List ℕ
+after_header f = f.extension ++ (f.environment ++ from_sections f)
 
 -- ---- records that fill a part
 
--- the records are whole ones of these modes, one each, with these bytes behind them
-abbrev pub AreOfModes : List Mode → List Piece → List ℕ → Type 0
-AreOfModes [] [] behind = Unit {0}
-AreOfModes (m ∷ modes) (p ∷ pieces) behind = IsWholeRecord m p.row p.bytes (first_of (bytes_of pieces ++ behind) None) × AreOfModes modes pieces behind
-AreOfModes _ _ behind = ⊥
+-- the records are whole ones of these modes, one each, with these bytes after them
+abbrev pub AreOfModes : List Mode → List SpelledRecord → List ℕ → Type 0
+AreOfModes [] [] after = Unit {0}
+AreOfModes (m ∷ modes) (p ∷ records) after = IsWholeRecord m p.row p.bytes (first_of (bytes_of records ++ after) None) × AreOfModes modes records after
+AreOfModes _ _ after = ⊥
 
 -- MB, AD, and the offsets of the seven parts and of the end
 abbrev pub header_modes : List Mode
 header_modes = mode.Begin ∷ mode.Descriptor ∷ mode.Offset 0 ∷ mode.Offset 1 ∷ mode.Offset 2 ∷ mode.Offset 3 ∷ mode.Offset 4
     ∷ mode.Offset 5 ∷ mode.Offset 6 ∷ mode.Offset 7 ∷ []
 
--- whole records, and items where items may stand and behind an LR, with these bytes behind them
-abbrev pub AreWhole : Bool → List Piece → List ℕ → Type 0
-AreWhole items [] behind = Unit {0}
-AreWhole items (p ∷ pieces) behind = IsWholeRecord (mode_of items p.bytes) p.row p.bytes (first_of (bytes_of pieces ++ behind) None) × AreWhole (opens_items p.row) pieces behind
+-- whole records, and items where items may stand and after an LR, with these bytes after them
+abbrev pub AreWhole : Bool → List SpelledRecord → List ℕ → Type 0
+AreWhole items [] after = Unit {0}
+AreWhole items (p ∷ records) after = IsWholeRecord (mode_of items p.bytes) p.row p.bytes (first_of (bytes_of records ++ after) None) × AreWhole (opens_items p.row) records after
 
 -- whole records of this part, which begins with no item
-pub record IsPart (part : Part) (pieces : List Piece) (behind : List ℕ) : Type 0 where
-  pub are_whole : AreWhole false pieces behind
-  pub own : list_all (λ p. stands_in part p.row) pieces ≡ true
+pub record IsPart (part : Part) (records : List SpelledRecord) (after : List ℕ) : Type 0 where
+  pub are_whole : AreWhole false records after
+  pub own : list_all (λ p. stands_in part p.row) records ≡ true
 
 -- ---- offsets
 
@@ -110,8 +110,8 @@ offset_in (r.Offset _ value) = Some value
 offset_in _ = None
 
 -- W0 to W7
-abbrev pub offsets_in : List Piece → List ℕ
-offsets_in pieces = filter_map (λ p. offset_in p.row) pieces
+abbrev pub offsets_in : List SpelledRecord → List ℕ
+offsets_in records = filter_map (λ p. offset_in p.row) records
 
 -- each offset is the place where its part begins, or 0 where the part is empty; the last is the place where they end
 abbrev pub StandAt : List ℕ → ℕ → List (List ℕ) → Type 0
@@ -125,9 +125,9 @@ file_limit = 67108864
 
 -- The file is these parts. The debug part is read, or its bytes are passed over.
 pub record IsCutInto (bytes : List ℕ) (reads_debug : Bool) (f : FileParts) : Type 0 where
-  pub all : bytes ≡ bytes_of (header_of f) ++ behind_header f
+  pub all : bytes ≡ bytes_of (header_of f) ++ after_header f
   pub limit : length bytes ≤ file_limit
-  pub header : AreOfModes header_modes (header_of f) (behind_header f)
+  pub header : AreOfModes header_modes (header_of f) (after_header f)
   pub offsets : StandAt (offsets_in f.offsets) (length (bytes_of (header_of f))) (parts_of f)
   pub sections : IsPart section_part f.sections (from_externals f)
   pub externals : IsPart external_part f.externals (from_debug f)
@@ -148,36 +148,36 @@ indexes_of f = record {
 }
 
 -- the records of the parts, in the order of the file
-abbrev pub records_of : FileParts → List Piece
+abbrev pub records_of : FileParts → List SpelledRecord
 records_of f = f.sections ++ (f.externals ++ (f.debug ++ (f.loads ++ f.trailer)))
 
 -- the record declares an index that its kind has
-abbrev pub declares_again : List Piece → Record → Bool
+abbrev pub declares_again : List SpelledRecord → Record → Bool
 declares_again before row = any_of (is_declared before) (declared_by row)
 
--- it says for an index what may be said once, and was said
-abbrev pub says_again : List Piece → Record → Bool
-says_again before row = any_of (is_assigned before) (assigned_by row)
+-- it states for an index what may be stated once, and was stated
+abbrev pub states_again : List SpelledRecord → Record → Bool
+states_again before row = any_of (is_assigned before) (assigned_by row)
 
 -- it names an index that is not declared
-abbrev pub names_unknown : List Piece → Piece → Bool
+abbrev pub names_unknown : List SpelledRecord → SpelledRecord → Bool
 names_unknown before p = not (list_all (is_declared before) (named_at_once p))
 
 -- it is an LD, an LR or an RE, and no section is set
-abbrev pub has_no_section : List Piece → Record → Bool
+abbrev pub has_no_section : List SpelledRecord → Record → Bool
 has_no_section before row = is_loading row && not (list_any (λ q. is_set_section q.row) before)
 
 -- what a record must keep to, after those before it in the file
-pub record Follows (before : List Piece) (p : Piece) : Type 0 where
+pub record Follows (before : List SpelledRecord) (p : SpelledRecord) : Type 0 where
   pub new : declares_again before p.row ≡ false
   pub known : names_unknown before p ≡ false
-  pub once : says_again before p.row ≡ false
+  pub once : states_again before p.row ≡ false
   pub placed : has_no_section before p.row ≡ false
 
 -- each record keeps to it, after those before it
-abbrev pub FollowFrom : List Piece → List Piece → Type 0
+abbrev pub FollowFrom : List SpelledRecord → List SpelledRecord → Type 0
 FollowFrom before [] = Unit {0}
-FollowFrom before (p ∷ pieces) = Follows before p × FollowFrom (before ++ p ∷ []) pieces
+FollowFrom before (p ∷ records) = Follows before p × FollowFrom (before ++ p ∷ []) records
 
 -- the indexes of the file are declared once, and those that it names are declared
 pub record HasNames (f : FileParts) : Type 0 where
@@ -195,7 +195,7 @@ IsLetterOf Least letter = letter ≡ Some 0xCC
 IsLetterOf Most letter = (letter ≡ Some 0xCD) ⊎ (letter ≡ None)
 
 -- MB gives the processor and the module's name
-abbrev pub NamesModule : Parts → Piece → Record → Type 0
+abbrev pub NamesModule : Parts → SpelledRecord → Record → Type 0
 NamesModule m p (r.ModuleBegin processor name) = (text_in p processor ≡ m.processor) × (text_in p name ≡ m.name)
 NamesModule m p _ = ⊥
 
@@ -204,8 +204,8 @@ abbrev pub Describes : Parts → Record → Type 0
 Describes m (r.Descriptor bits maus letter) = (bits ≡ 8) × (maus ≡ m.maus) × IsLetterOf m.order letter
 Describes m _ = ⊥
 
--- what the parts say is what the module has
-pub record Says (f : FileParts) (ix : Indexes) (m : Parts) : Type 0 where
+-- what the parts state is what the module has
+pub record States (f : FileParts) (ix : Indexes) (m : Parts) : Type 0 where
   pub begin : NamesModule m f.begin f.begin.row
   pub descriptor : Describes m f.descriptor.row
   pub extension : m.ext ≡ f.extension
@@ -219,4 +219,4 @@ pub record Says (f : FileParts) (ix : Indexes) (m : Parts) : Type 0 where
 
 -- The bytes are a file of the module; its debug part is read, or passed over.
 abbrev pub SpellsModule : Parts → List ℕ → Bool → Type 0
-SpellsModule m bytes reads_debug = (f : FileParts) × IsCutInto bytes reads_debug f × HasNames f × Says f (indexes_of f) m × IsValid m
+SpellsModule m bytes reads_debug = (f : FileParts) × IsCutInto bytes reads_debug f × HasNames f × States f (indexes_of f) m × IsValid m

@@ -2,7 +2,7 @@ pub mod Contents
 pub mod Written
 pub mod Weights
 pub mod Defects
-pub mod Pieces
+pub mod SpelledRecords
 pub mod RecordParts
 pub mod Gathered
 pub mod Grammar

@@ -70,7 +70,7 @@ is_this_part part (Some other) = number_of part == number_of other
 abbrev pub stands_in : Part → Record → Bool
 stands_in part row = is_this_part part (part_of row)
 
--- behind LR and its items further items may stand
+-- after LR and its items further items may stand
 abbrev pub opens_items : Record → Bool
 opens_items r.Relocate = true
 opens_items (r.RepeatRelocate _) = true

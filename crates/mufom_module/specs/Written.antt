@@ -25,7 +25,7 @@ use Rattle.mufom_loads.specs.declared.load.Load.{Load}
 use Rattle.mufom_loads.specs.declared.load.Load.TheVariants.{SetSection, SetPc, One, Repeat}
 use Rattle.mufom_debug.specs.declared.item.BlockHead.{BlockHead}
 use Rattle.mufom_debug.specs.declared.item.BlockHead.TheVariants as heads
-use Rattle.mufom_debug.specs.Marks.{DebugMark, block_begin, block_end, name_mark, note_mark, value_mark, joined, marks_of, kind_number, names_behind}
+use Rattle.mufom_debug.specs.Marks.{DebugMark, block_begin, block_end, name_mark, note_mark, value_mark, joined, marks_of, kind_number, names_after}
 use Rattle.mufom_module.specs.declared.module.Order.{Order}
 use Rattle.mufom_module.specs.declared.module.Order.TheVariants.{Least, Most}
 use Rattle.mufom_module.specs.declared.module.Parts.{Parts}
@@ -112,7 +112,7 @@ module _ (style : Style) where
   abbrev pub string : List ℕ → List ℕ
   string text = style.lead (length text) ++ text
 
-  -- the bytes of a literal behind their number
+  -- the bytes of a literal after their number
   abbrev pub counted : List ℕ → List ℕ
   counted bytes = number (length bytes) ++ bytes
 
@@ -202,10 +202,10 @@ module _ (style : Style) where
   debug_record n (note_mark name its) = note 0xCE (debug_name_index name) its
   debug_record n (value_mark name value) = 0xE2 ∷ 0xCE ∷ (number (debug_name_index name) ++ expression value)
 
-  -- the records of marks, where so many names stand before them
+  -- the records of marks, where the given number of names stand before them
   abbrev pub debug_records : ℕ → List DebugMark → List ℕ
   debug_records n [] = []
-  debug_records n (mark ∷ marks) = debug_record n mark ++ debug_records (names_behind n mark) marks
+  debug_records n (mark ∷ marks) = debug_record n mark ++ debug_records (names_after n mark) marks
 
   -- ---- loads
 

@@ -4,7 +4,7 @@ ghost use Rattle.std.specs.Prelude.{◌≡◌, ◌||◌, ℕ, option_map, is_non
 ghost use Rattle.std.specs.List.{list_any};
 ghost use Rattle.mufom_debug.specs.Marks.{offset_of, block_begin, block_end, name_mark, note_mark, value_mark, marks_of, marks_of_item};
 ghost use Rattle.mufom_module.specs.Contents.{any_of, blocks_of, blocks_of_item};
-ghost use Rattle.mufom_module.specs.Defects.{breaks, ends_plainly, names_bad_section, has_bad_end, declared_behind};
+ghost use Rattle.mufom_module.specs.Defects.{breaks, ends_plainly, names_bad_section, has_bad_end, declared_after};
 ghost use Rattle.mufom_module.specs.Weights.{capped};
 
 use crate::rules::{Counts, Rule, has_other_counter, is_long, names_outside};
@@ -165,11 +165,11 @@ pub(crate) fn any_ends_badly(items: &[DebugItem]) -> bool
     false
 }
 
-// How many names are declared behind the item, and `None` where it uses one that is not declared
+// How many names are declared after the item, and `None` where it uses one that is not declared
 // yet. The count stops at the greatest of 64 bits.
 #[cycle(declaring)]
 fn item_declares(item: &DebugItem, declared: u64) -> Option<u64>
-    ensures { (n : ℕ) → capped n ≡ declared → result ≡ option_map capped (declared_behind n (marks_of_item item.now)) }
+    ensures { (n : ℕ) → capped n ≡ declared → result ≡ option_map capped (declared_after n (marks_of_item item.now)) }
 {
     match item {
         DebugItem::Block(block) => all_declare(block.items.as_slice(), declared),
@@ -184,7 +184,7 @@ fn item_declares(item: &DebugItem, declared: u64) -> Option<u64>
 // The same of items, one after another.
 #[cycle(declaring)]
 fn all_declare(items: &[DebugItem], mut declared: u64) -> Option<u64>
-    ensures { (n : ℕ) → capped n ≡ declared → result ≡ option_map capped (declared_behind n (marks_of items.now)) }
+    ensures { (n : ℕ) → capped n ≡ declared → result ≡ option_map capped (declared_after n (marks_of items.now)) }
 {
     for item in items {
         declared = item_declares(item, declared)?;
@@ -194,7 +194,7 @@ fn all_declare(items: &[DebugItem], mut declared: u64) -> Option<u64>
 
 /// Whether a note or a value stands before the debug name that it speaks of.
 pub(crate) fn uses_name_early(items: &[DebugItem]) -> bool
-    ensures { result ≡ is_none (declared_behind 0 (marks_of items.now)) }
+    ensures { result ≡ is_none (declared_after 0 (marks_of items.now)) }
 {
     all_declare(items, 0).is_none()
 }

@@ -1,4 +1,4 @@
-//! Laws of what a file says, each the contract of a function that does nothing.
+//! Laws of what a file states, each the contract of a function that does nothing.
 
 ghost use Rattle.std.specs.Prelude.{◌≡◌, ℕ, Bool, List, true};
 ghost use Rattle.mufom_expr.specs.Tree.{Tree};
@@ -6,7 +6,7 @@ ghost use Rattle.mufom_expr.specs.Terms.{the_term};
 ghost use Rattle.mufom_expr.specs.TokenAt.{tokens_in};
 ghost use Rattle.mufom_expr.specs.Spelled.{SpellsTree, Indexes, IsIndexed};
 ghost use Rattle.mufom_module.specs.declared.module.Parts.{Parts};
-ghost use Rattle.mufom_module.specs.Pieces.{positioned, are_listed};
+ghost use Rattle.mufom_module.specs.SpelledRecords.{positioned, are_listed};
 ghost use Rattle.mufom_module.specs.Grammar.{SpellsModule};
 
 /// The expression of a record is the tree that its bytes spell.

@@ -1,6 +1,6 @@
-//! Modules: everything that a file of the format says, as one value without a defect.
+//! Modules: everything that a file of the format states, as one value without a defect.
 //!
-//! [`Parts`] are what a module says, in lists whose entries name one another by positions.
+//! [`Parts`] are what a module states, in lists whose entries name one another by positions.
 //! [`assemble`] looks for thirteen defects in a fixed order, answers the first with the parts handed
 //! back, and else a [`Module`] of just these parts: validity is kept by the type. It stands on
 //! `mufom_numbers`, `mufom_expr`, `mufom_records`, `mufom_sections`, `mufom_names`, `mufom_loads` and

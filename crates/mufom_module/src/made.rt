@@ -1,4 +1,4 @@
-//! What parts have by the types that hold them, told of each entry in one walk. Nothing is computed.
+//! What parts have by the types that hold them, known of each entry in one walk. Nothing is computed.
 
 ghost use Rattle.std.specs.Prelude.{◌<◌, ◌≤◌, ◌^◌, All, IfSome, length};
 ghost use Rattle.mufom_numbers.specs.Spelling.{AreBytes};
@@ -270,7 +270,7 @@ fn frame(parts: &Parts)
 }
 
 /// Tells of all parts what they have by their types.
-pub(crate) fn tell(parts: &Parts)
+pub(crate) fn attest(parts: &Parts)
     ensures { IsMade parts.now }
 {
     frame(parts);

@@ -21,7 +21,7 @@ pub enum Order {
     Most,
 }
 
-/// What a module says. Entries name one another by positions in these lists, from 0.
+/// What a module states. Entries name one another by positions in these lists, from 0.
 #[derive(Debug, Drop)]
 pub struct Parts {
     pub processor: Bytes,

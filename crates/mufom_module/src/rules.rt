@@ -4,7 +4,7 @@ ghost use Rattle.std.specs.Prelude.{◌≡◌, length, nat_le, Some, None, [], �
 ghost use Rattle.std.specs.List.{list_any};
 ghost use Rattle.mufom_expr.specs.Mentions.{variables_in};
 ghost use Rattle.mufom_module.specs.declared.module.Defect.{Defect};
-ghost use Rattle.mufom_module.specs.Contents.{any_item, load_any, item_any, any_of, placed_from, current_behind};
+ghost use Rattle.mufom_module.specs.Contents.{any_item, load_any, item_any, any_of, placed_from, current_after};
 ghost use Rattle.mufom_module.specs.Defects.{is_long, is_long_literal, is_outside, names_outside, names_no_section, has_bad_place, has_bad_size, counts_of, count_for, is_other_counter, has_other_counter, counter_of, misplaces_counter, is_loading, loads_nowhere, has_defect};
 
 use crate::debug_rules::{any_breaks, any_ends_badly, uses_name_early};
@@ -311,9 +311,9 @@ fn misplaces_counter(current: Option<u32>, load: &Load) -> bool
     }
 }
 
-// The section that is current behind the load.
-fn current_behind(current: Option<u32>, load: &Load) -> Option<u32>
-    ensures { result ≡ current_behind current load.now }
+// The section that is current after the load.
+fn current_after(current: Option<u32>, load: &Load) -> Option<u32>
+    ensures { result ≡ current_after current load.now }
 {
     match load {
         Load::SetSection(section) => Some(*section),
@@ -332,7 +332,7 @@ fn loads_misplace_counter(loads: &[Load]) -> bool
         if misplaces_counter(current, load) {
             return true;
         }
-        current = current_behind(current, load);
+        current = current_after(current, load);
     }
     false
 }
@@ -386,7 +386,7 @@ pub(crate) fn loads_nowhere(parts: &Parts) -> bool
         if load_is_nowhere(current, load) {
             return true;
         }
-        current = current_behind(current, load);
+        current = current_after(current, load);
     }
     false
 }

@@ -7,7 +7,7 @@ use Rattle.std.specs.Int.{w64, to_be_bytes, bytes_high_first}
 use Rattle.mufom_numbers.specs.Spelling.{AreBytes, SpellsNumber, NoneIsShorter, big_endian, without_leading_zeros, shortest_number}
 use Rattle.mufom_numbers.proofs.Values.{value_after-low, big_endian-below}
 
--- ---- leading zeros say nothing
+-- ---- leading zeros state nothing
 
 without_leading_zeros-value : (bytes : List ℕ) → big_endian (without_leading_zeros bytes) ≡ big_endian bytes
 without_leading_zeros-value [] = refl

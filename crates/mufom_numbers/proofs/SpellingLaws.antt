@@ -1,4 +1,4 @@
--- Reading at the front of an input gives what is spelled there, and each spelling is read.
+-- Reading at the start of an input gives what is spelled there, and each spelling is read.
 use Rattle.std.proofs.Common.{◌≡◌, ℕ, zero, suc, ◌-◌, ◌<◌, ◌≤◌, false, ltb, List, [], ◌∷◌, ◌++◌, length, take, get_or, refl, sym, ap, ◌∙◌, inl, inr, arith}
 use Rattle.std.proofs.lemmas.Bool.{cases_lt, le-ltb, lt-ltb}
 use Rattle.std.proofs.lemmas.List.{take_at, length-append, length-take, nil_from_length}
@@ -36,10 +36,10 @@ pub AreBytes-zeros : (k : ℕ) → AreBytes (zeros k)
 AreBytes-zeros zero = tt
 AreBytes-zeros (suc k) = (omega arith, AreBytes-zeros k)
 
--- a front that something follows is shorter
-pub front_is_shorter : (front rest all : List ℕ) → front ++ rest ≡ all → (rest ≡ [] → ⊥) → length front < length all
-front_is_shorter front rest all is more = elim (cases_lt 0 (length rest)) [
-  | inl some ↦ omega (arith, length-append front rest, ap length is)
+-- a prefix that something follows is shorter
+pub prefix_is_shorter : (prefix rest all : List ℕ) → prefix ++ rest ≡ all → (rest ≡ [] → ⊥) → length prefix < length all
+prefix_is_shorter prefix rest all is more = elim (cases_lt 0 (length rest)) [
+  | inl some ↦ omega (arith, length-append prefix rest, ap length is)
   | inr none ↦ absurd (more (nil_from_length rest (omega (arith, none))))
 ]
 
@@ -78,7 +78,7 @@ pub number_at-cut_off : (input : List ℕ) (n : ℕ) → IsCutOff (SpellsNumber 
 number_at-cut_off [] n cut = refl
 number_at-cut_off (lead ∷ bytes) n (rest, more, inl short) = absurd (more (nil_from_length rest (omega (arith, length-append bytes rest, ap length short.1))))
 number_at-cut_off (lead ∷ bytes) n (rest, more, inr long) =
-    let shorter = front_is_shorter bytes rest (bytes ++ rest) refl more in
+    let shorter = prefix_is_shorter bytes rest (bytes ++ rest) refl more in
     rw (le-ltb lead 128 (omega (arith, long.0)), le-ltb 136 lead (omega (arith, long.0, long.1)), lt-ltb (length bytes) (lead - 128) (omega (arith, long.0, shorter))) refl
 
 pub more-cut_off : (input : List ℕ) → AreBytes input → number_at input ≡ More → (n : ℕ) × IsCutOff (SpellsNumber n) input

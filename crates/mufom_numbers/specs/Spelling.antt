@@ -11,7 +11,7 @@ use Rattle.mufom_numbers.specs.declared.taken.Taken.TheVariants.{Got, More, Bad}
 abbrev pub AreBytes : List ℕ → Type 0
 AreBytes bytes = AllByRecursion (λ b. b < 256) bytes
 
--- the number of bytes that stand behind the digits of n, the most significant first
+-- the number of bytes that stand after the digits of n, the most significant first
 abbrev pub value_after : ℕ → List ℕ → ℕ
 value_after n [] = n
 value_after n (b ∷ bytes) = value_after (256 * n + b) bytes
@@ -62,9 +62,9 @@ shortest_string text = shortest_lead (length text) ++ text
 abbrev pub NoneIsShorter : (List ℕ → Type 0) → List ℕ → Type 0
 NoneIsShorter Spells bytes = (other : List ℕ) → Spells other → length bytes ≤ length other
 
--- ---- reading at the front of an input
+-- ---- reading at the start of an input
 
--- the number at the front and the bytes it takes
+-- the number at the start and the bytes it takes
 abbrev pub number_at : List ℕ → Taken ℕ
 number_at [] = More
 number_at (lead ∷ bytes) = if nat_lt lead 128 then Got lead 1
@@ -72,24 +72,24 @@ number_at (lead ∷ bytes) = if nat_lt lead 128 then Got lead 1
     else (if nat_lt (length bytes) (lead - 128) then More
     else Got (big_endian (take (lead - 128) bytes)) (lead - 127)))
 
--- a string of len bytes behind a lead of so many, where they stand
-abbrev pub string_behind : ℕ → ℕ → List ℕ → Taken Span
-string_behind lead len input = if nat_lt (length input) (lead + len) then More
+-- a string of len bytes after a lead of that length, where they stand
+abbrev pub string_after : ℕ → ℕ → List ℕ → Taken Span
+string_after lead len input = if nat_lt (length input) (lead + len) then More
     else Got (record { start = lead; len = len }) (lead + len)
 
--- the place of the bytes of the string at the front, and the bytes it takes with its lead
+-- the place of the bytes of the string at the start, and the bytes it takes with its lead
 abbrev pub string_at : List ℕ → Taken Span
 string_at [] = More
-string_at (lead ∷ bytes) = if nat_lt lead 128 then string_behind 1 lead (lead ∷ bytes)
+string_at (lead ∷ bytes) = if nat_lt lead 128 then string_after 1 lead (lead ∷ bytes)
     else (if lead == 222 then one_byte_length bytes (lead ∷ bytes)
     else (if lead == 223 then two_byte_length bytes (lead ∷ bytes)
     else Bad 0 BadId)) where
       one_byte_length : List ℕ → List ℕ → Taken Span
       one_byte_length [] input = More
-      one_byte_length (a ∷ _) input = string_behind 2 a input
+      one_byte_length (a ∷ _) input = string_after 2 a input
 
       two_byte_length : List ℕ → List ℕ → Taken Span
-      two_byte_length (a ∷ b ∷ _) input = string_behind 3 (256 * a + b) input
+      two_byte_length (a ∷ b ∷ _) input = string_after 3 (256 * a + b) input
       two_byte_length _ input = More
 
 -- ---- the words of clauses
@@ -106,7 +106,7 @@ IfBad (Got x used) P = Unit {0}
 IfBad More P = Unit {0}
 IfBad (Bad offset reason) P = P offset
 
--- the input is the front of a spelling, and not all of it
+-- the input is the prefix of a spelling, and not all of it
 abbrev pub IsCutOff : (List ℕ → Type 0) → List ℕ → Type 0
 IsCutOff Spells input = (rest : List ℕ) × (rest ≢ []) × Spells (input ++ rest)
 

@@ -3,7 +3,7 @@
 //!
 //! The lowest layer: it stands on `std` and on `arrayvec` alone. Its main clause is that
 //! [`read_number`] and [`read_id`] take a spelling exactly: a value is got where the input begins
-//! with a spelling of it, more is asked for where the input is the front of a spelling and not all
+//! with a spelling of it, more is asked for where the input is the prefix of a spelling and not all
 //! of it, and anything else is refused at its first byte.
 #![tactic(auto)]
 

@@ -42,7 +42,7 @@ pub enum Reason {
     BadDescriptor,
     /// The offsets of the parts decrease, or that of the end is 0.
     OffsetOrder,
-    /// A record crosses its part's end, or the parts do not begin behind the offsets.
+    /// A record crosses its part's end, or the parts do not begin after the offsets.
     PartGap,
     /// A record stands in a part that it does not belong to.
     WrongPart,
@@ -66,7 +66,7 @@ pub enum Reason {
     BlockNesting,
     /// A 33rd open debug block.
     Depth,
-    /// A byte stands behind the module's end.
+    /// A byte stands after the module's end.
     AfterEnd,
     /// The stream is longer than 67,108,864 bytes.
     FileLimit,

@@ -1,15 +1,15 @@
 ghost use Rattle.std.specs.Prelude.{◌≡◌, ◌↔◌, ◌⊎◌, ◌+◌, ◌<◌, ◌≤◌, ◌^◌, ℕ, List, [], ◌∷◌, ◌++◌, length, take};
-ghost use Rattle.mufom_numbers.specs.Spelling.{IsStringLead, SpellsNumber, SpellsString, number_at, string_at, string_behind, shortest_number, shortest_lead, without_leading_zeros, big_endian, IfGot, IsCutOff, BeginsIn, NoneIsShorter};
+ghost use Rattle.mufom_numbers.specs.Spelling.{IsStringLead, SpellsNumber, SpellsString, number_at, string_at, string_after, shortest_number, shortest_lead, without_leading_zeros, big_endian, IfGot, IsCutOff, BeginsIn, NoneIsShorter};
 
 use crate::{Reason, Span, Taken};
 use arrayvec::ArrayVec;
 
-/// Reads the number at the front of the input, and says how many bytes it takes.
+/// Reads the number at the start of the input, and states how many bytes it takes.
 ///
 /// `Bad` is at offset 0 with [`Reason::BadNumber`], where the first byte begins no number. Takes
 /// no memory.
 pub fn read_number(input: &[u8]) -> Taken<u64>
-    // What is taken is the front of the input, and spells the number.
+    // What is taken is the prefix of the input, and spells the number.
     ensures got { IfGot result (λ n used. (used ≤ length input.now) × SpellsNumber n (take used input.now)) }
     // An input that begins with a spelling gives it.
     ensures only { (n : ℕ) (text rest : List ℕ) → SpellsNumber n text → input.now ≡ text ++ rest → result ≡ Taken.Got n (length text) }
@@ -53,10 +53,10 @@ fn value_of(bytes: &[u8]) -> u64
     u64::from_be_bytes(all)
 }
 
-// The span of a string of `len` bytes behind a lead of `lead` bytes.
-fn span_behind(lead: usize, len: usize, input: &[u8]) -> Taken<Span>
+// The span of a string of `len` bytes after a lead of `lead` bytes.
+fn span_after(lead: usize, len: usize, input: &[u8]) -> Taken<Span>
     requires { lead + len < 2 ^ 64 }
-    ensures { result ≡ string_behind lead len input.now }
+    ensures { result ≡ string_after lead len input.now }
 {
     if input.len() < lead + len {
         return Taken::More;
@@ -64,13 +64,13 @@ fn span_behind(lead: usize, len: usize, input: &[u8]) -> Taken<Span>
     Taken::Got(Span { start: lead, len }, lead + len)
 }
 
-/// Reads the string at the front of the input: where its bytes stand behind the lead, and how many
+/// Reads the string at the start of the input: where its bytes stand after the lead, and how many
 /// bytes lead and string take.
 ///
 /// `Bad` is at offset 0 with [`Reason::BadId`], where the first byte begins no string. Takes no
 /// memory.
 pub fn read_id(input: &[u8]) -> Taken<Span>
-    // What is taken is the front of the input: a lead for so many bytes, and those bytes.
+    // What is taken is the prefix of the input: a lead for the given number of bytes, and those bytes.
     ensures got { IfGot result (λ span used. (used ≤ length input.now) × (used ≡ span.start + span.len)
         × IsStringLead span.len (take span.start input.now)) }
     // An input that begins with a lead and the bytes it counts gives their place.
@@ -88,12 +88,12 @@ fn string(input: &[u8]) -> Taken<Span>
 {
     match input {
         [] => Taken::More,
-        [lead, ..] if *lead < 128 => span_behind(1, *lead as usize, input),
+        [lead, ..] if *lead < 128 => span_after(1, *lead as usize, input),
         [222] => Taken::More,
-        [222, a, ..] => span_behind(2, *a as usize, input),
+        [222, a, ..] => span_after(2, *a as usize, input),
         [223] => Taken::More,
         [223, _] => Taken::More,
-        [223, a, b, ..] => span_behind(3, 256 * *a as usize + *b as usize, input),
+        [223, a, b, ..] => span_after(3, 256 * *a as usize + *b as usize, input),
         _ => Taken::Bad {
             offset: 0,
             reason: Reason::BadId,

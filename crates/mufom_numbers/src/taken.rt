@@ -7,7 +7,7 @@ pub struct Span {
     pub len: usize,
 }
 
-/// What a reader makes of the front of an input.
+/// What a reader makes of the prefix of an input.
 #[derive(Clone, Copy, Debug, PartialEq, Eq, Drop)]
 pub enum Taken<T> {
     /// A value, and how many bytes of the input it takes.

@@ -36,7 +36,7 @@ fn numbers_are_spelled_shortest(rt: HostRuntime) {
 }
 
 #[test]
-fn strings_are_read_behind_every_lead(rt: HostRuntime) {
+fn strings_are_read_after_every_lead(rt: HostRuntime) {
     let got = |start, len| Taken::Got(Span { start, len }, start + len);
     assert_eq!(rt; read_id(&[0x00, 0x41]), got(1, 0));
     assert_eq!(rt; read_id(&[0x02, 0x41, 0x42, 0x43]), got(1, 2));

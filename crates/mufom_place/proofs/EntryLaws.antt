@@ -13,21 +13,21 @@ use Rattle.mufom_plan.specs.Names.{AreDistinctNames, has_name}
 use Rattle.mufom_place.specs.Bases.{stands_for, is_listed, last_of}
 use Rattle.mufom_place.specs.Entries.{entry_for}
 
-front_all : {A : Type 0} (P : A → Type 0) (xs ys : List A) → AllByRecursion P (xs ++ ys) → AllByRecursion P xs
-front_all P [] ys h = tt
-front_all P (x ∷ xs) ys h = (h.0, front_all P xs ys h.1)
+prefix_all : {A : Type 0} (P : A → Type 0) (xs ys : List A) → AllByRecursion P (xs ++ ys) → AllByRecursion P xs
+prefix_all P [] ys h = tt
+prefix_all P (x ∷ xs) ys h = (h.0, prefix_all P xs ys h.1)
 
 middle_of : {A : Type 0} (P : A → Type 0) (xs : List A) (y : A) (ys : List A) → AllByRecursion P (xs ++ y ∷ ys) → P y
 middle_of P [] y ys h = h.0
 middle_of P (x ∷ xs) y ys h = middle_of P xs y ys h.1
 
--- the front of distinct names
-pub distinct-front : (xs ys : List (List ℕ)) → AreDistinctNames (xs ++ ys) → AreDistinctNames xs
+-- the prefix of distinct names
+pub distinct-prefix : (xs ys : List (List ℕ)) → AreDistinctNames (xs ++ ys) → AreDistinctNames xs
 unfolding IsDistinct
-distinct-front [] ys h = tt
-distinct-front (x ∷ xs) ys h = (front_all (λ y. bytes_eq x y ≡ false) xs ys h.0, distinct-front xs ys h.1)
+distinct-prefix [] ys h = tt
+distinct-prefix (x ∷ xs) ys h = (prefix_all (λ y. bytes_eq x y ≡ false) xs ys h.0, distinct-prefix xs ys h.1)
 
--- a name behind others is none of them
+-- a name after others is none of them
 pub distinct-next : (xs : List (List ℕ)) (y : List ℕ) (ys : List (List ℕ)) → AreDistinctNames (xs ++ y ∷ ys) → has_name xs y ≡ false
 unfolding IsDistinct
 distinct-next [] y ys h = refl

@@ -209,9 +209,9 @@ comes_from_cmp x y differ e = by_base (nat_lt y.base x.base) (y.base == x.base) 
 rising : (xs : List Extent) → ((k : ℕ) (d : Extent) → suc k < length xs → Comes (get_or xs k d) (get_or xs (suc k) d)) → InOrder xs
 rising [] up = tt
 rising (x ∷ []) up = ((λ y i e. absurd cc), tt)
-rising (x ∷ y ∷ more) up = behind (rising (y ∷ more) (λ k d h. up (suc k) d (omega (arith, h)))) where
-  behind : InOrder (y ∷ more) → InOrder (x ∷ y ∷ more)
-  behind rest = (first, rest) where
+rising (x ∷ y ∷ more) up = following (rising (y ∷ more) (λ k d h. up (suc k) d (omega (arith, h)))) where
+  following : InOrder (y ∷ more) → InOrder (x ∷ y ∷ more)
+  following rest = (first, rest) where
     first : (z : Extent) (i : ℕ) → slice_get (y ∷ more) i ≡ Some z → Comes x z
     first z zero e = let same : y ≡ z = cc in subst (Comes x) same (up 0 x (omega arith))
     first z (suc i) e = comes_trans x y z (up 0 x (omega arith)) (rest.0 z i e)

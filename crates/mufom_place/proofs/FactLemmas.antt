@@ -210,14 +210,14 @@ extents_at : (k : ℕ) (sections : List Section) (placed : List ℕ) (x : Extent
 extents_at k [] placed x i e = absurd cc
 extents_at k (section ∷ sections) [] x i e = absurd cc
 extents_at k (section ∷ sections) (base ∷ placed) x i e = by_case (section.size == 0) refl i e (extents_at (k + 1) sections placed x) where
-  behind : IsExtentOf (k + 1) sections placed x → IsExtentOf k (section ∷ sections) (base ∷ placed) x
-  behind h = let number = h.number in record { n = suc h.n; section = h.section; found = h.found; based = h.based; number = omega (arith, number); size = h.size; positive = h.positive }
+  after : IsExtentOf (k + 1) sections placed x → IsExtentOf k (section ∷ sections) (base ∷ placed) x
+  after h = let number = h.number in record { n = suc h.n; section = h.section; found = h.found; based = h.based; number = omega (arith, number); size = h.size; positive = h.positive }
 
   by_case : (b : Bool) → (section.size == 0) ≡ b → (i : ℕ)
       → slice_get (if b then extents (enumerate_from (k + 1) sections) placed else record { base = base; section = k; size = section.size } ∷ extents (enumerate_from (k + 1) sections) placed) i ≡ Some x
       → ((j : ℕ) → slice_get (extents (enumerate_from (k + 1) sections) placed) j ≡ Some x → IsExtentOf (k + 1) sections placed x) → IsExtentOf k (section ∷ sections) (base ∷ placed) x
-  by_case true z i e later = behind (later i e)
-  by_case false z (suc i) e later = behind (later i e)
+  by_case true z i e later = after (later i e)
+  by_case false z (suc i) e later = after (later i e)
   by_case false z zero e later =
       let same : record { base = base; section = k; size = section.size } ≡ x = cc in
       let differ = false_equal section.size 0 z in

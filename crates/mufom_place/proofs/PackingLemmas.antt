@@ -19,26 +19,26 @@ pub joined-map : (waiting : List ℕ → List Waiting) (entries : List (List ℕ
 joined-map waiting [] = refl
 joined-map waiting (entry ∷ entries) = ap (λ more. waiting entry ++ more) (joined-map waiting entries)
 
-take-front : {A : Type 0} (xs ys : List A) → take (length xs) (xs ++ ys) ≡ xs
-take-front [] ys = refl
-take-front (x ∷ xs) ys = ap (λ more. x ∷ more) (take-front xs ys)
+take-prefix : {A : Type 0} (xs ys : List A) → take (length xs) (xs ++ ys) ≡ xs
+take-prefix [] ys = refl
+take-prefix (x ∷ xs) ys = ap (λ more. x ∷ more) (take-prefix xs ys)
 
-drop-front : {A : Type 0} (xs ys : List A) → drop (length xs) (xs ++ ys) ≡ ys
-drop-front [] ys = refl
-drop-front (x ∷ xs) ys = drop-front xs ys
+drop-prefix : {A : Type 0} (xs ys : List A) → drop (length xs) (xs ++ ys) ≡ ys
+drop-prefix [] ys = refl
+drop-prefix (x ∷ xs) ys = drop-prefix xs ys
 
--- where the sections of each name wait, the regions give the bases that their lists say
+-- where the sections of each name wait, the regions give the bases that their lists state
 pub placings_from-waiting : (waiting : List ℕ → List Waiting) (n : ℕ) (regions : List Region)
     → placings_from n regions (map waiting (listed_names regions)) ≡ flat_map (λ r. packed r.0 r.1.base (flat_map waiting r.1.sections)) (enumerate_from n regions)
 placings_from-waiting waiting n [] = refl
 placings_from-waiting waiting n (region ∷ regions) =
     let all = map-append waiting region.sections (listed_names regions) in
     let long = sym (length-map region.sections waiting) in
-    let front : take (length region.sections) (map waiting (listed_names (region ∷ regions))) ≡ map waiting region.sections =
-    (λ i. take (long i) (all i)) ∙ take-front (map waiting region.sections) (map waiting (listed_names regions)) in
+    let prefix : take (length region.sections) (map waiting (listed_names (region ∷ regions))) ≡ map waiting region.sections =
+    (λ i. take (long i) (all i)) ∙ take-prefix (map waiting region.sections) (map waiting (listed_names regions)) in
     let back : drop (length region.sections) (map waiting (listed_names (region ∷ regions))) ≡ map waiting (listed_names regions) =
-    (λ i. drop (long i) (all i)) ∙ drop-front (map waiting region.sections) (map waiting (listed_names regions)) in
-    (λ i. packed n region.base (flat_map (λ xs. xs) (front i)) ++ placings_from (n + 1) regions (back i))
+    (λ i. drop (long i) (all i)) ∙ drop-prefix (map waiting region.sections) (map waiting (listed_names regions)) in
+    (λ i. packed n region.base (flat_map (λ xs. xs) (prefix i)) ++ placings_from (n + 1) regions (back i))
     ∙ (λ i. packed n region.base (joined-map waiting region.sections i) ++ placings_from-waiting waiting (n + 1) regions i)
 
 pub sum_by-part : (entries : List (List Waiting)) (start count : ℕ) → sum_by length (take count (drop start entries)) ≤ sum_by length entries

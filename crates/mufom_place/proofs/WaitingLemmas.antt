@@ -12,16 +12,16 @@ abbrev more_waiting : Bool → Numbered → List Waiting
 more_waiting true s = waiting s ∷ []
 more_waiting false s = []
 
-waiting_among-next : (listed : List (List ℕ)) (entry : List ℕ) (s : Numbered) (front : List Numbered) (b : Bool) → goes_to listed entry s ≡ b
-    → waiting_among listed (front ++ s ∷ []) entry ≡ waiting_among listed front entry ++ more_waiting b s
+waiting_among-next : (listed : List (List ℕ)) (entry : List ℕ) (s : Numbered) (prefix : List Numbered) (b : Bool) → goes_to listed entry s ≡ b
+    → waiting_among listed (prefix ++ s ∷ []) entry ≡ waiting_among listed prefix entry ++ more_waiting b s
 waiting_among-next listed entry s [] b is = ap (λ t. map waiting (cond t (s ∷ []) [])) is ∙ of b where
   of : (b : Bool) → map waiting (cond b (s ∷ []) []) ≡ more_waiting b s
   of true = refl
   of false = refl
-waiting_among-next listed entry s (x ∷ front) b is = of (goes_to listed entry x) (waiting_among-next listed entry s front b is) where
-  of : (t : Bool) → waiting_among listed (front ++ s ∷ []) entry ≡ waiting_among listed front entry ++ more_waiting b s
-      → map waiting (cond t (x ∷ filter (goes_to listed entry) (front ++ s ∷ [])) (filter (goes_to listed entry) (front ++ s ∷ [])))
-      ≡ map waiting (cond t (x ∷ filter (goes_to listed entry) front) (filter (goes_to listed entry) front)) ++ more_waiting b s
+waiting_among-next listed entry s (x ∷ prefix) b is = of (goes_to listed entry x) (waiting_among-next listed entry s prefix b is) where
+  of : (t : Bool) → waiting_among listed (prefix ++ s ∷ []) entry ≡ waiting_among listed prefix entry ++ more_waiting b s
+      → map waiting (cond t (x ∷ filter (goes_to listed entry) (prefix ++ s ∷ [])) (filter (goes_to listed entry) (prefix ++ s ∷ [])))
+      ≡ map waiting (cond t (x ∷ filter (goes_to listed entry) prefix) (filter (goes_to listed entry) prefix)) ++ more_waiting b s
   of true later = ap (λ more. waiting x ∷ more) later
   of false later = later
 
@@ -41,22 +41,22 @@ map_at f g d v (x ∷ xs) (suc e) less here same =
     λ i. first i ∷ rest i
 
 -- a section with a base of its own waits nowhere
-pub waiting-based : (listed : List (List ℕ)) (front : List Numbered) (s : Numbered) → has_no_base s.1 ≡ false
-    → map (waiting_among listed front) listed ≡ map (waiting_among listed (front ++ s ∷ [])) listed
-waiting-based listed front s based = sym (map_same (waiting_among listed front) (waiting_among listed (front ++ s ∷ [])) [] listed (λ k less. stays (get_or listed k []))) where
-  stays : (entry : List ℕ) → waiting_among listed (front ++ s ∷ []) entry ≡ waiting_among listed front entry
-  stays entry = waiting_among-next listed entry s front false (ap (λ b. b && stands_for listed entry s.1.name) based) ∙ append-nil (waiting_among listed front entry)
+pub waiting-based : (listed : List (List ℕ)) (prefix : List Numbered) (s : Numbered) → has_no_base s.1 ≡ false
+    → map (waiting_among listed prefix) listed ≡ map (waiting_among listed (prefix ++ s ∷ [])) listed
+waiting-based listed prefix s based = sym (map_same (waiting_among listed prefix) (waiting_among listed (prefix ++ s ∷ [])) [] listed (λ k less. stays (get_or listed k []))) where
+  stays : (entry : List ℕ) → waiting_among listed (prefix ++ s ∷ []) entry ≡ waiting_among listed prefix entry
+  stays entry = waiting_among-next listed entry s prefix false (ap (λ b. b && stands_for listed entry s.1.name) based) ∙ append-nil (waiting_among listed prefix entry)
 
 -- a section without a base waits at the entry that stands for its name
-pub waiting-added : (listed : List (List ℕ)) (front : List Numbered) (s : Numbered) (e : ℕ) → has_no_base s.1 ≡ true → StandsAlone listed s.1.name e
-    → map (waiting_among listed (front ++ s ∷ [])) listed ≡ set (map (waiting_among listed front) listed) e (waiting_among listed front (get_or listed e []) ++ waiting s ∷ [])
-waiting-added listed front s e baseless h =
-    map_at (waiting_among listed front) (waiting_among listed (front ++ s ∷ [])) [] (waiting_among listed front (get_or listed e []) ++ waiting s ∷ []) listed e h.within (added (get_or listed e []) h.stands) (λ k less differ. stays (get_or listed k []) (h.alone k less differ)) where
-      added : (entry : List ℕ) → stands_for listed entry s.1.name ≡ true → waiting_among listed (front ++ s ∷ []) entry ≡ waiting_among listed front entry ++ waiting s ∷ []
-      added entry stands = waiting_among-next listed entry s front true (λ i. baseless i && stands i)
+pub waiting-added : (listed : List (List ℕ)) (prefix : List Numbered) (s : Numbered) (e : ℕ) → has_no_base s.1 ≡ true → StandsAlone listed s.1.name e
+    → map (waiting_among listed (prefix ++ s ∷ [])) listed ≡ set (map (waiting_among listed prefix) listed) e (waiting_among listed prefix (get_or listed e []) ++ waiting s ∷ [])
+waiting-added listed prefix s e baseless h =
+    map_at (waiting_among listed prefix) (waiting_among listed (prefix ++ s ∷ [])) [] (waiting_among listed prefix (get_or listed e []) ++ waiting s ∷ []) listed e h.within (added (get_or listed e []) h.stands) (λ k less differ. stays (get_or listed k []) (h.alone k less differ)) where
+      added : (entry : List ℕ) → stands_for listed entry s.1.name ≡ true → waiting_among listed (prefix ++ s ∷ []) entry ≡ waiting_among listed prefix entry ++ waiting s ∷ []
+      added entry stands = waiting_among-next listed entry s prefix true (λ i. baseless i && stands i)
 
-      stays : (entry : List ℕ) → stands_for listed entry s.1.name ≡ false → waiting_among listed (front ++ s ∷ []) entry ≡ waiting_among listed front entry
-      stays entry not_here = waiting_among-next listed entry s front false (λ i. baseless i && not_here i) ∙ append-nil (waiting_among listed front entry)
+      stays : (entry : List ℕ) → stands_for listed entry s.1.name ≡ false → waiting_among listed (prefix ++ s ∷ []) entry ≡ waiting_among listed prefix entry
+      stays entry not_here = waiting_among-next listed entry s prefix false (λ i. baseless i && not_here i) ∙ append-nil (waiting_among listed prefix entry)
 
 -- at first no section waits
 pub waiting-none : (listed : List (List ℕ)) (all : List (List ℕ)) → replicate (length all) [] ≡ map (waiting_among listed []) all

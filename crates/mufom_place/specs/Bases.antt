@@ -48,7 +48,7 @@ waiting_among listed sections entry = map waiting (filter (goes_to listed entry)
 abbrev pub taken_by : Plan → List Section → Region → List Waiting
 taken_by plan sections region = flat_map (waiting_among (listed_names plan.regions) (numbered sections)) region.sections
 
--- sections put one behind another from an address on, each aligned
+-- sections put one after another from an address on, each aligned
 abbrev pub packed : ℕ → ℕ → List Waiting → List Placing
 packed region address [] = []
 packed region address (w ∷ more) = let base = aligned_up w.align address in record { section = w.section; region = region; base = base } ∷ packed region (base + w.size) more

@@ -90,7 +90,7 @@ place_refusal width plan sections =
     or_else (first_some (misfit_at (2 ^ width) plan sections) (numbered sections)
     or_else first_overlap (in_order (extents (numbered sections) (bases plan sections))))
 
--- The same as relations, which say nothing of an order.
+-- The same as relations, which state nothing of an order.
 
 -- the section at a position stands at a site
 pub record IsAt (plan : Plan) (sections : List Section) (n : ℕ) (section : Section) (site : Site) : Type 0 where

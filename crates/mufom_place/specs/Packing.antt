@@ -1,4 +1,4 @@
--- Sections that are put one behind another, entry by entry.
+-- Sections that are put one after another, entry by entry.
 use Rattle.std.specs.Prelude.{ℕ, ◌+◌, ◌≤◌, List, [], ◌∷◌, ◌++◌, length, take, drop}
 use Rattle.std.specs.List.{flat_map}
 use Rattle.mufom_plan.specs.declared.plan.Region.{Region}

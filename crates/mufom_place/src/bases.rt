@@ -21,7 +21,7 @@ fn aligned_up(align: u64, address: u128) -> u128
     (address + (align - 1)) / align * align
 }
 
-/// Puts the sections of an entry one behind another, and answers the end of the last.
+/// Puts the sections of an entry one after another, and answers the end of the last.
 fn pack(
     placings: &mut List<Placing>,
     waiting: &[Waiting],
@@ -47,7 +47,7 @@ fn pack(
     Ok(end)
 }
 
-/// Puts the sections at the entries of a region one behind another.
+/// Puts the sections at the entries of a region one after another.
 fn pack_region(
     placings: &mut List<Placing>,
     entries: &[List<Waiting>],
@@ -92,7 +92,7 @@ pub fn placings(
     Ok(placings)
 }
 
-/// The base that regions give to each of so many sections.
+/// The base that regions give to each of the given number of sections.
 pub fn planned(
     alloc: Global,
     placings: &[Placing],

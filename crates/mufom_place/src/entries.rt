@@ -48,7 +48,7 @@ fn entry_of(index: &NameList, star: Option<usize>, name: &[u8]) -> Option<usize>
     }
 }
 
-/// So many entries at which no section waits.
+/// The given number of entries at which no section waits.
 fn empty_entries(alloc: Global, count: usize) -> Result<Vec<List<Waiting>>, NoMemory>
     ensures { IfOk result (λ entries. entries.items ≡ replicate count []) }
 {

@@ -78,7 +78,7 @@ fn places_by_the_plan(rt: HostRuntime) {
             &[16, 20]
         )
     );
-    // The region's first section is aligned too, and each other one behind the one before.
+    // The region's first section is aligned too, and each other one after the one before.
     assert!(rt;
         has_bases(
             alloc,
@@ -163,7 +163,7 @@ fn fits_to_the_last_address(rt: HostRuntime) {
             "{base} {size}"
         );
     }
-    // A region's end, and one behind it.
+    // A region's end, and one after it.
     assert!(rt;
         has_bases(
             alloc,
@@ -172,13 +172,13 @@ fn fits_to_the_last_address(rt: HostRuntime) {
             &[16, 46]
         )
     );
-    let behind = PlaceRefusal::Misfit {
+    let after = PlaceRefusal::Misfit {
         section: 1,
         region: Some(0),
     };
     assert_eq!(rt;
         refusal(alloc, WIDE, &[("a", 30, 1, None), ("b", 3, 1, None)]),
-        Some(behind)
+        Some(after)
     );
     assert!(rt;
         matches!(

@@ -14,17 +14,17 @@ use Rattle.mufom_plan.specs.declared.refusal.PlanRefusal.{PlanRefusal}
 use Rattle.mufom_plan.specs.declared.refusal.PlanRefusal.TheVariants.{Shape, Beyond}
 use Rattle.mufom_plan.specs.Document.{has_only_keys, items_at, number_at, text_at}
 use Rattle.mufom_plan.specs.Names.{AreDistinctNames, has_name, region_names, listed_names}
-use Rattle.mufom_plan.specs.PlanText.{◌>>=◌, or_refuse, unless, in_front, region_keys, region_of, region_with, regions_of, regions_at, are_tables, plan_keys, plan_of_document, new_name, new_names, before_names}
+use Rattle.mufom_plan.specs.PlanText.{◌>>=◌, or_refuse, unless, in_prefix, region_keys, region_of, region_with, regions_of, regions_at, are_tables, plan_keys, plan_of_document, new_name, new_names, before_names}
 
-in_front-append : (first : List Region) (region : Region) (more : Result (List Region) PlanRefusal) → in_front first (in_front (region ∷ []) more) ≡ in_front (first ++ region ∷ []) more
-in_front-append first region (Ok regions) = ap Ok (sym (append_assoc first (region ∷ []) regions))
-in_front-append first region (Err refusal) = refl
+in_prefix-append : (first : List Region) (region : Region) (more : Result (List Region) PlanRefusal) → in_prefix first (in_prefix (region ∷ []) more) ≡ in_prefix (first ++ region ∷ []) more
+in_prefix-append first region (Ok regions) = ap Ok (sym (append_assoc first (region ∷ []) regions))
+in_prefix-append first region (Err refusal) = refl
 
 -- one more table gives one more region
 pub regions_of-next : (taken : List Region) (value : Data) (more : List Data) (table : Members) (region : Region) → as_table value ≡ Some table
     → region_of (length taken) (region_names taken) (listed_names taken) table ≡ Ok region
-    → in_front taken (regions_of taken (value ∷ more)) ≡ in_front (taken ++ region ∷ []) (regions_of (taken ++ region ∷ []) more)
-regions_of-next taken value more table region is_table is_region = rw (is_table, is_region) (in_front-append taken region (regions_of (taken ++ region ∷ []) more))
+    → in_prefix taken (regions_of taken (value ∷ more)) ≡ in_prefix (taken ++ region ∷ []) (regions_of (taken ++ region ∷ []) more)
+regions_of-next taken value more table region is_table is_region = rw (is_table, is_region) (in_prefix-append taken region (regions_of (taken ++ region ∷ []) more))
 
 pub listed_names-append : (xs : List Region) (region : Region) → listed_names (xs ++ region ∷ []) ≡ listed_names xs ++ region.sections
 listed_names-append xs region = flat_map-append (λ r. r.sections) xs (region ∷ []) ∙ ap (λ names. listed_names xs ++ names) (append-nil region.sections)
@@ -52,10 +52,10 @@ new_names-distinct earlier (value ∷ values) names e h = by_text (as_str value)
       subst AreDistinctNames (append_assoc earlier (name ∷ []) parts.1 ∙ ap (λ more. earlier ++ more) (sym parts.3))
       (later name parts.1 parts.2 (IsDistinct-push nat_list_eq_equiv earlier name h parts.0))
 
--- what stands behind regions that were read
-front_ok : (region : Region) (more : Result (List Region) PlanRefusal) (regions : List Region) → in_front (region ∷ []) more ≡ Ok regions → (rest : List Region) × (more ≡ Ok rest) × (regions ≡ region ∷ rest)
-front_ok region (Ok rest) regions e = (rest, refl, cc)
-front_ok region (Err refusal) regions e = absurd cc
+-- what stands after regions that were read
+prefix_ok : (region : Region) (more : Result (List Region) PlanRefusal) (regions : List Region) → in_prefix (region ∷ []) more ≡ Ok regions → (rest : List Region) × (more ≡ Ok rest) × (regions ≡ region ∷ rest)
+prefix_ok region (Ok rest) regions e = (rest, refl, cc)
+prefix_ok region (Err refusal) regions e = absurd cc
 
 -- the section names of a region are those of its table
 sections_of : (place : ℕ) (only : Bool) (name : Option (List ℕ)) (base size : Option ℕ) (sections : Option (List (List ℕ))) (region : Region)
@@ -90,17 +90,17 @@ pub regions_of-distinct : (before : List Region) (values : List Data) (regions :
 regions_of-distinct before [] regions e h = let empty : [] ≡ regions = cc in subst (λ more. AreDistinctNames (listed_names (before ++ more))) empty (subst (λ all. AreDistinctNames (listed_names all)) (sym (append-nil before)) h)
 regions_of-distinct before (value ∷ more) regions e h = by_table (as_table value) e (λ region. regions_of-distinct (before ++ region ∷ []) more) where
   by_region : (table : Members) (answer : Result Region PlanRefusal) → region_of (length before) (region_names before) (listed_names before) table ≡ answer
-      → answer >>= (λ region. in_front (region ∷ []) (regions_of (before ++ region ∷ []) more)) ≡ Ok regions
+      → answer >>= (λ region. in_prefix (region ∷ []) (regions_of (before ++ region ∷ []) more)) ≡ Ok regions
       → ((region : Region) (rest : List Region) → regions_of (before ++ region ∷ []) more ≡ Ok rest → AreDistinctNames (listed_names (before ++ region ∷ [])) → AreDistinctNames (listed_names ((before ++ region ∷ []) ++ rest)))
       → AreDistinctNames (listed_names (before ++ regions))
   by_region table (Err refusal) is e later = absurd cc
   by_region table (Ok region) is e later =
-      let parts = front_ok region (regions_of (before ++ region ∷ []) more) regions e in
+      let parts = prefix_ok region (regions_of (before ++ region ∷ []) more) regions e in
       let here = subst AreDistinctNames (sym (listed_names-append before region)) (region_of-distinct (length before) (region_names before) (listed_names before) table region is h) in
       subst (λ all. AreDistinctNames (listed_names all)) (append_assoc before (region ∷ []) parts.0 ∙ ap (λ rest. before ++ rest) (sym parts.2)) (later region parts.0 parts.1 here)
 
   by_table : (table : Option Members)
-      → or_refuse (Shape None field.Region) table >>= (λ found. region_of (length before) (region_names before) (listed_names before) found >>= λ region. in_front (region ∷ []) (regions_of (before ++ region ∷ []) more)) ≡ Ok regions
+      → or_refuse (Shape None field.Region) table >>= (λ found. region_of (length before) (region_names before) (listed_names before) found >>= λ region. in_prefix (region ∷ []) (regions_of (before ++ region ∷ []) more)) ≡ Ok regions
       → ((region : Region) (rest : List Region) → regions_of (before ++ region ∷ []) more ≡ Ok rest → AreDistinctNames (listed_names (before ++ region ∷ [])) → AreDistinctNames (listed_names ((before ++ region ∷ []) ++ rest)))
       → AreDistinctNames (listed_names (before ++ regions))
   by_table None e later = absurd cc
@@ -121,7 +121,7 @@ at_regions (Some value) regions e = by_items (items_at (Some value)) e where
   by_items None h = absurd cc
   by_items (Some items) h = by_tables items (are_tables items) h
 
--- no section name stands twice in a plan that a document says
+-- no section name stands twice in a plan that a document states
 pub plan_of_document-distinct : (document : Members) (plan : Plan) → plan_of_document document ≡ Ok plan → AreDistinctNames (listed_names plan.regions)
 plan_of_document-distinct document plan e = by_keys (has_only_keys plan_keys document) e where
   by_regions : (answer : Result (List Region) PlanRefusal) → regions_at (get_member (codes "region") document) ≡ answer

@@ -1,4 +1,4 @@
--- The plan that bytes say, or the first thing that is wrong with them.
+-- The plan that bytes state, or the first thing that is wrong with them.
 use Rattle.std.specs.Prelude.{ℕ, ◌+◌, ◌==◌, List, [], ◌∷◌, ◌++◌, length, Option, Some, None, option_map, option_and_then, Result, Ok, Err, Bool, true, false, ◌||◌, not, nat_lt, is_some, if◌then◌else◌, codes}
 use Rattle.std.specs.List.{list_all}
 use Rattle.toml.specs.Data.{Data, as_str, as_table, Members, get_member}
@@ -37,7 +37,7 @@ region_keys = codes "name" ∷ codes "base" ∷ codes "size" ∷ codes "sections
 abbrev pub new_name : List (List ℕ) → List ℕ → Option (List ℕ)
 new_name earlier name = if (length name == 0) || has_name earlier name then None else Some name
 
--- the name, where it is none of those before, in front of more names
+-- the name, where it is none of those before, before more names
 abbrev pub before_names : List (List ℕ) → List ℕ → Option (List (List ℕ)) → Option (List (List ℕ))
 before_names earlier name more = if has_name earlier name then None else option_map (λ names. name ∷ names) more
 
@@ -57,7 +57,7 @@ region_with place true (Some name) (Some base) (Some size) None = Err (Shape (So
 region_with place true (Some name) (Some base) (Some size) (Some sections) =
     if nat_lt 9223372036854775807 (base + size) then Err (Beyond place) else Ok (record { name = name; base = base; size = size; sections = sections })
 
--- the region of a table, at a position of the plan behind regions with these names and these section names
+-- the region of a table, at a position of the plan after regions with these names and these section names
 abbrev pub region_of : ℕ → List (List ℕ) → List (List ℕ) → Members → Result Region PlanRefusal
 region_of place names listed table =
     region_with place
@@ -67,17 +67,17 @@ region_of place names listed table =
     (number_at (get_member (codes "size") table))
     (option_and_then (new_names listed) (items_at (get_member (codes "sections") table)))
 
--- regions in front of more regions
-abbrev pub in_front : List Region → Result (List Region) PlanRefusal → Result (List Region) PlanRefusal
-in_front first more = more >>= λ regions. Ok (first ++ regions)
+-- regions before more regions
+abbrev pub in_prefix : List Region → Result (List Region) PlanRefusal → Result (List Region) PlanRefusal
+in_prefix first more = more >>= λ regions. Ok (first ++ regions)
 
--- the regions of an array of tables, behind these regions of the plan
+-- the regions of an array of tables, after these regions of the plan
 abbrev pub regions_of : List Region → List Data → Result (List Region) PlanRefusal
 regions_of before [] = Ok []
 regions_of before (value ∷ more) =
     or_refuse (Shape None field.Region) (as_table value) >>= λ table.
     region_of (length before) (region_names before) (listed_names before) table >>= λ region.
-    in_front (region ∷ []) (regions_of (before ++ region ∷ []) more)
+    in_prefix (region ∷ []) (regions_of (before ++ region ∷ []) more)
 
 -- each value is a table
 abbrev pub are_tables : List Data → Bool

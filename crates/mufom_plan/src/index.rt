@@ -49,7 +49,7 @@ impl NameList {
         self.names.is_empty()
     }
 
-    /// Adds a name at the end, and says whether it was new. A name that is there stays where it is.
+    /// Adds a name at the end, and states whether it was new. A name that is there stays where it is.
     pub fn add(&mut self, name: &[u8]) -> Result<bool, NoMemory>
         ensures added { IfOk result (λ added. added ≡ not (has_name self.old name.now)) }
         ensures after { IfOk result (λ added. self.new ≡ (if added then self.old ++ name.now ∷ [] else self.old)) }

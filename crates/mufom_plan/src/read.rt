@@ -55,7 +55,7 @@ fn regions_of_value(alloc: Global, value: Option<&Value>) -> Result<List<Region>
     if !all_tables(values) {
         return Err(NO_REGIONS);
     }
-    // No 65,536 bytes say so many regions.
+    // No 65,536 bytes state the given number of regions.
     if values.len() > u32::MAX as usize {
         return Err(PlanRefusal::NoMemory);
     }
@@ -78,7 +78,7 @@ fn plan(alloc: Global, document: &Table) -> Result<Plan, PlanRefusal>
     Ok(Plan { regions })
 }
 
-/// The plan that the bytes of a file say.
+/// The plan that the bytes of a file state.
 ///
 /// The plan is a TOML document whose only key is `region`, an array of tables, each with exactly
 /// the keys `name`, `base`, `size` and `sections`. No bytes are the plan without regions. What is
@@ -86,7 +86,7 @@ fn plan(alloc: Global, document: &Table) -> Result<Plan, PlanRefusal>
 /// and then region by region another key, the name, the base, the size, the section names, and an
 /// end above 2^63 - 1.
 pub fn read_plan(alloc: Global, text: &[u8]) -> Result<Plan, PlanRefusal>
-    // The plan is the one that the document says.
+    // The plan is the one that the document states.
     ensures ok { IfOk result (λ plan. plan_of_text text.now ≡ Ok plan) }
     // A refusal is the first thing that is wrong, or there was no memory.
     ensures refused { IfErr result (λ refusal. refusal ≢ PlanRefusal.NoMemory → plan_of_text text.now ≡ Err refusal) }

@@ -1,4 +1,4 @@
--- A record without a fault may be added behind a front.
+-- A record without a fault may be added after a prefix.
 use Rattle.std.proofs.Common.{◌≡◌, ◌≢◌, ℕ, zero, suc, ◌+◌, ◌≤◌, ◌==◌, ◌&&◌, Bool, true, false, not, true≢false, nat_lt, List, [], ◌∷◌, ◌++◌, length, filter_map, Option, Some, None, is_some, cond, get_or, refl, sym, ap, subst, ◌∙◌, arith, append-nil, le-ltb, ne_eqb, ltb-false, ◌⊎◌, inl, inr}
 use Rattle.std.specs.List.{list_any, cons_option}
 use Rattle.std.specs.Option.{option_or}
@@ -7,20 +7,20 @@ use Rattle.mufom_numbers.specs.declared.reason.Reason.{Reason}
 use Rattle.mufom_numbers.specs.declared.reason.Reason.TheVariants as why
 use Rattle.mufom_records.specs.declared.record.Record.{Record}
 use Rattle.mufom_records.specs.declared.record.Record.TheVariants as r
-use Rattle.mufom_module.specs.Pieces.{Piece, section, public, reference, of_kind, declared_by, assigned_by}
+use Rattle.mufom_module.specs.SpelledRecords.{SpelledRecord, section, public, reference, of_kind, declared_by, assigned_by}
 use Rattle.mufom_module.specs.RecordParts.{Part, extension_part, environment_part, section_part, external_part, debug_part, data_part, trailer_part, end_part, number_of, part_of, is_this_part, stands_in}
-use Rattle.mufom_module.specs.Grammar.{offset_in, declares_again, says_again, file_limit}
-use Rattle.mufom_read.specs.declared.front.Front.{Front}
-use Rattle.mufom_read.specs.declared.front.Place as code
-use Rattle.mufom_read.specs.declared.front.Place.TheVariants as place
-use Rattle.mufom_read.specs.Fronts.{Step, Extent, pieces_of, offsets_of, piece_of}
+use Rattle.mufom_module.specs.Grammar.{offset_in, declares_again, states_again, file_limit}
+use Rattle.mufom_read.specs.declared.prefix.Prefix.{Prefix}
+use Rattle.mufom_read.specs.declared.prefix.Location as code
+use Rattle.mufom_read.specs.declared.prefix.Location.TheVariants as offset
+use Rattle.mufom_read.specs.Prefixes.{Step, Extent, records_of, offsets_of, record_of}
 use Rattle.mufom_read.specs.Faults.{Fault, fault_if, fault_for, record_fault, part_record_fault, rule_broken, is_out_of_order, is_left_for_later}
 use Rattle.mufom_read.specs.PartsOfCode.{as_extent}
-use Rattle.mufom_read.specs.Kept.{sayings, alignment_said, size_said, base_said, value_said, weakness_said, HasRoom}
-use Rattle.mufom_read.specs.FrontOfCode.{AreFrom, AreOrdered, IsFrontOf, IsAddable, IsHeaderRow, IsPlacedWell, as_place}
-use Rattle.mufom_read.proofs.RuleLaws.{declares, says}
+use Rattle.mufom_read.specs.Kept.{statements, alignment_stated, size_stated, base_stated, value_stated, weakness_stated, HasRoom}
+use Rattle.mufom_read.specs.PrefixOfCode.{AreFrom, AreOrdered, IsPrefixOf, IsAddable, IsHeaderRow, IsPlacedWell, as_location}
+use Rattle.mufom_read.proofs.RuleLaws.{declares, states}
 
--- ---- what no fault says
+-- ---- what no fault states
 
 nothing : {A : Type 0} {x : A} → Some x ≡ None → ⊥
 nothing e = true≢false (ap is_some e)
@@ -44,12 +44,12 @@ no_first false x o e = (refl, e)
 -- ---- the fault of a record in a part
 
 -- where it ends within the part and may stand in it, its fault is that of the rules
-pub part-clean : (front : List Step) (e : Extent) (start : ℕ) (p : Piece) (o : Option Fault) → start + length p.bytes ≤ e.to → stands_in e.part p.row ≡ true
-    → o ≡ fault_for start (rule_broken front p) → o ≡ part_record_fault front e start p
-part-clean front e start p o within stands same =
-    let behind = fault_for start (rule_broken front p) in
-    same ∙ sym (ap (λ b. option_or (fault_if b start why.PartGap) (option_or (fault_if (not (stands_in e.part p.row)) start why.WrongPart) behind)) (le-ltb _ _ within)
-    ∙ ap (λ b. option_or (fault_if (not b) start why.WrongPart) behind) stands)
+pub part-clean : (prefix : List Step) (e : Extent) (start : ℕ) (p : SpelledRecord) (o : Option Fault) → start + length p.bytes ≤ e.to → stands_in e.part p.row ≡ true
+    → o ≡ fault_for start (rule_broken prefix p) → o ≡ part_record_fault prefix e start p
+part-clean prefix e start p o within stands same =
+    let after = fault_for start (rule_broken prefix p) in
+    same ∙ sym (ap (λ b. option_or (fault_if b start why.PartGap) (option_or (fault_if (not (stands_in e.part p.row)) start why.WrongPart) after)) (le-ltb _ _ within)
+    ∙ ap (λ b. option_or (fault_if (not b) start why.WrongPart) after) stands)
 
 -- ---- a record that is not of the debug part
 
@@ -192,75 +192,75 @@ ordered_next (v ∷ os) w (inr test) is = let both = or_parts _ _ test in (from_
 
 -- ---- records that may be added
 
-header_row : (reads_debug : Bool) (front : List Step) (k start : ℕ) (bytes : List ℕ) (row : Record) → IsHeaderRow row → (reads_debug ≡ true → get_or (offsets_of front) 4 0 ≡ 0)
-    → record_fault reads_debug front (as_place (place.Header k)) start (record { row = row; bytes = bytes }) ≡ None → IsAddable reads_debug front row
-header_row reads_debug front k start bytes (r.ModuleBegin a b) is later clean = record { plain = refl; new = refl; later = λ reads. same_later (offsets_of front) None refl (later reads); ordered = same_order (offsets_of front) None refl }
-header_row reads_debug front k start bytes (r.Descriptor a b c) is later clean = record { plain = refl; new = refl; later = λ reads. same_later (offsets_of front) None refl (later reads); ordered = same_order (offsets_of front) None refl }
-header_row reads_debug front k start bytes (r.Offset n w) is later clean = record {
+header_row : (reads_debug : Bool) (prefix : List Step) (k start : ℕ) (bytes : List ℕ) (row : Record) → IsHeaderRow row → (reads_debug ≡ true → get_or (offsets_of prefix) 4 0 ≡ 0)
+    → record_fault reads_debug prefix (as_location (offset.Header k)) start (record { row = row; bytes = bytes }) ≡ None → IsAddable reads_debug prefix row
+header_row reads_debug prefix k start bytes (r.ModuleBegin a b) is later clean = record { plain = refl; new = refl; later = λ reads. same_later (offsets_of prefix) None refl (later reads); ordered = same_order (offsets_of prefix) None refl }
+header_row reads_debug prefix k start bytes (r.Descriptor a b c) is later clean = record { plain = refl; new = refl; later = λ reads. same_later (offsets_of prefix) None refl (later reads); ordered = same_order (offsets_of prefix) None refl }
+header_row reads_debug prefix k start bytes (r.Offset n w) is later clean = record {
   plain = refl;
   new = refl;
-  later = λ reads. next_later (offsets_of front) w (later reads)
-      (and_left reads_debug _ reads (no_fault _ _ _ (none_of (fault_if (is_left_for_later reads_debug (offsets_of front) w) start why.NotBuilt) _ (none_of _ _ clean).1).0));
-  ordered = ordered_next (offsets_of front) w (in_order w (offsets_of front) (or_parts _ _ (no_fault (is_out_of_order (offsets_of front) w) start why.OffsetOrder (none_of _ _ clean).0)).0);
+  later = λ reads. next_later (offsets_of prefix) w (later reads)
+      (and_left reads_debug _ reads (no_fault _ _ _ (none_of (fault_if (is_left_for_later reads_debug (offsets_of prefix) w) start why.NotBuilt) _ (none_of _ _ clean).1).0));
+  ordered = ordered_next (offsets_of prefix) w (in_order w (offsets_of prefix) (or_parts _ _ (no_fault (is_out_of_order (offsets_of prefix) w) start why.OffsetOrder (none_of _ _ clean).0)).0);
 } where
   and_left : (a b : Bool) → a ≡ true → (a && b) ≡ false → b ≡ false
   and_left true b e h = h
   and_left false b e h = absurd (true≢false (sym e))
-header_row reads_debug front k start bytes r.ModuleEnd is later clean = absurd is
-header_row reads_debug front k start bytes (r.SectionType a b c d e f g) is later clean = absurd is
-header_row reads_debug front k start bytes (r.Alignment a b c) is later clean = absurd is
-header_row reads_debug front k start bytes (r.SectionSize a b) is later clean = absurd is
-header_row reads_debug front k start bytes (r.SectionBase a b) is later clean = absurd is
-header_row reads_debug front k start bytes (r.PublicName a b) is later clean = absurd is
-header_row reads_debug front k start bytes (r.PublicValue a b) is later clean = absurd is
-header_row reads_debug front k start bytes (r.PublicNote a b c d) is later clean = absurd is
-header_row reads_debug front k start bytes (r.ReferenceName a b) is later clean = absurd is
-header_row reads_debug front k start bytes (r.WeakReference a b c) is later clean = absurd is
-header_row reads_debug front k start bytes (r.ReferenceNote a b c d) is later clean = absurd is
-header_row reads_debug front k start bytes (r.BlockBegin a b c d) is later clean = absurd is
-header_row reads_debug front k start bytes (r.BlockEnd a) is later clean = absurd is
-header_row reads_debug front k start bytes (r.DebugName a b) is later clean = absurd is
-header_row reads_debug front k start bytes (r.DebugValue a b) is later clean = absurd is
-header_row reads_debug front k start bytes (r.DebugNote a b c d) is later clean = absurd is
-header_row reads_debug front k start bytes (r.SetSection a) is later clean = absurd is
-header_row reads_debug front k start bytes (r.SetPc a b) is later clean = absurd is
-header_row reads_debug front k start bytes (r.Constant a) is later clean = absurd is
-header_row reads_debug front k start bytes r.Relocate is later clean = absurd is
-header_row reads_debug front k start bytes (r.ConstantItem a) is later clean = absurd is
-header_row reads_debug front k start bytes (r.FieldItem a b c) is later clean = absurd is
-header_row reads_debug front k start bytes (r.RepeatConstant a b) is later clean = absurd is
-header_row reads_debug front k start bytes (r.RepeatRelocate a) is later clean = absurd is
-header_row reads_debug front k start bytes (r.Start a) is later clean = absurd is
+header_row reads_debug prefix k start bytes r.ModuleEnd is later clean = absurd is
+header_row reads_debug prefix k start bytes (r.SectionType a b c d e f g) is later clean = absurd is
+header_row reads_debug prefix k start bytes (r.Alignment a b c) is later clean = absurd is
+header_row reads_debug prefix k start bytes (r.SectionSize a b) is later clean = absurd is
+header_row reads_debug prefix k start bytes (r.SectionBase a b) is later clean = absurd is
+header_row reads_debug prefix k start bytes (r.PublicName a b) is later clean = absurd is
+header_row reads_debug prefix k start bytes (r.PublicValue a b) is later clean = absurd is
+header_row reads_debug prefix k start bytes (r.PublicNote a b c d) is later clean = absurd is
+header_row reads_debug prefix k start bytes (r.ReferenceName a b) is later clean = absurd is
+header_row reads_debug prefix k start bytes (r.WeakReference a b c) is later clean = absurd is
+header_row reads_debug prefix k start bytes (r.ReferenceNote a b c d) is later clean = absurd is
+header_row reads_debug prefix k start bytes (r.BlockBegin a b c d) is later clean = absurd is
+header_row reads_debug prefix k start bytes (r.BlockEnd a) is later clean = absurd is
+header_row reads_debug prefix k start bytes (r.DebugName a b) is later clean = absurd is
+header_row reads_debug prefix k start bytes (r.DebugValue a b) is later clean = absurd is
+header_row reads_debug prefix k start bytes (r.DebugNote a b c d) is later clean = absurd is
+header_row reads_debug prefix k start bytes (r.SetSection a) is later clean = absurd is
+header_row reads_debug prefix k start bytes (r.SetPc a b) is later clean = absurd is
+header_row reads_debug prefix k start bytes (r.Constant a) is later clean = absurd is
+header_row reads_debug prefix k start bytes r.Relocate is later clean = absurd is
+header_row reads_debug prefix k start bytes (r.ConstantItem a) is later clean = absurd is
+header_row reads_debug prefix k start bytes (r.FieldItem a b c) is later clean = absurd is
+header_row reads_debug prefix k start bytes (r.RepeatConstant a b) is later clean = absurd is
+header_row reads_debug prefix k start bytes (r.RepeatRelocate a) is later clean = absurd is
+header_row reads_debug prefix k start bytes (r.Start a) is later clean = absurd is
 
-end_row : (reads_debug : Bool) (front : List Step) (row : Record) → stands_in end_part row ≡ true → (reads_debug ≡ true → get_or (offsets_of front) 4 0 ≡ 0) → IsAddable reads_debug front row
-end_row reads_debug front (r.ModuleBegin a b) stands later = absurd (true≢false (sym stands))
-end_row reads_debug front (r.Descriptor a b c) stands later = absurd (true≢false (sym stands))
-end_row reads_debug front (r.Offset a b) stands later = absurd (true≢false (sym stands))
-end_row reads_debug front r.ModuleEnd stands later = record { plain = refl; new = refl; later = λ reads. same_later (offsets_of front) None refl (later reads); ordered = same_order (offsets_of front) None refl }
-end_row reads_debug front (r.SectionType a b c d e f g) stands later = absurd (true≢false (sym stands))
-end_row reads_debug front (r.Alignment a b c) stands later = absurd (true≢false (sym stands))
-end_row reads_debug front (r.SectionSize a b) stands later = absurd (true≢false (sym stands))
-end_row reads_debug front (r.SectionBase a b) stands later = absurd (true≢false (sym stands))
-end_row reads_debug front (r.PublicName a b) stands later = absurd (true≢false (sym stands))
-end_row reads_debug front (r.PublicValue a b) stands later = absurd (true≢false (sym stands))
-end_row reads_debug front (r.PublicNote a b c d) stands later = absurd (true≢false (sym stands))
-end_row reads_debug front (r.ReferenceName a b) stands later = absurd (true≢false (sym stands))
-end_row reads_debug front (r.WeakReference a b c) stands later = absurd (true≢false (sym stands))
-end_row reads_debug front (r.ReferenceNote a b c d) stands later = absurd (true≢false (sym stands))
-end_row reads_debug front (r.BlockBegin a b c d) stands later = absurd (true≢false (sym stands))
-end_row reads_debug front (r.BlockEnd a) stands later = absurd (true≢false (sym stands))
-end_row reads_debug front (r.DebugName a b) stands later = absurd (true≢false (sym stands))
-end_row reads_debug front (r.DebugValue a b) stands later = absurd (true≢false (sym stands))
-end_row reads_debug front (r.DebugNote a b c d) stands later = absurd (true≢false (sym stands))
-end_row reads_debug front (r.SetSection a) stands later = absurd (true≢false (sym stands))
-end_row reads_debug front (r.SetPc a b) stands later = absurd (true≢false (sym stands))
-end_row reads_debug front (r.Constant a) stands later = absurd (true≢false (sym stands))
-end_row reads_debug front r.Relocate stands later = absurd (true≢false (sym stands))
-end_row reads_debug front (r.ConstantItem a) stands later = absurd (true≢false (sym stands))
-end_row reads_debug front (r.FieldItem a b c) stands later = absurd (true≢false (sym stands))
-end_row reads_debug front (r.RepeatConstant a b) stands later = absurd (true≢false (sym stands))
-end_row reads_debug front (r.RepeatRelocate a) stands later = absurd (true≢false (sym stands))
-end_row reads_debug front (r.Start a) stands later = absurd (true≢false (sym stands))
+end_row : (reads_debug : Bool) (prefix : List Step) (row : Record) → stands_in end_part row ≡ true → (reads_debug ≡ true → get_or (offsets_of prefix) 4 0 ≡ 0) → IsAddable reads_debug prefix row
+end_row reads_debug prefix (r.ModuleBegin a b) stands later = absurd (true≢false (sym stands))
+end_row reads_debug prefix (r.Descriptor a b c) stands later = absurd (true≢false (sym stands))
+end_row reads_debug prefix (r.Offset a b) stands later = absurd (true≢false (sym stands))
+end_row reads_debug prefix r.ModuleEnd stands later = record { plain = refl; new = refl; later = λ reads. same_later (offsets_of prefix) None refl (later reads); ordered = same_order (offsets_of prefix) None refl }
+end_row reads_debug prefix (r.SectionType a b c d e f g) stands later = absurd (true≢false (sym stands))
+end_row reads_debug prefix (r.Alignment a b c) stands later = absurd (true≢false (sym stands))
+end_row reads_debug prefix (r.SectionSize a b) stands later = absurd (true≢false (sym stands))
+end_row reads_debug prefix (r.SectionBase a b) stands later = absurd (true≢false (sym stands))
+end_row reads_debug prefix (r.PublicName a b) stands later = absurd (true≢false (sym stands))
+end_row reads_debug prefix (r.PublicValue a b) stands later = absurd (true≢false (sym stands))
+end_row reads_debug prefix (r.PublicNote a b c d) stands later = absurd (true≢false (sym stands))
+end_row reads_debug prefix (r.ReferenceName a b) stands later = absurd (true≢false (sym stands))
+end_row reads_debug prefix (r.WeakReference a b c) stands later = absurd (true≢false (sym stands))
+end_row reads_debug prefix (r.ReferenceNote a b c d) stands later = absurd (true≢false (sym stands))
+end_row reads_debug prefix (r.BlockBegin a b c d) stands later = absurd (true≢false (sym stands))
+end_row reads_debug prefix (r.BlockEnd a) stands later = absurd (true≢false (sym stands))
+end_row reads_debug prefix (r.DebugName a b) stands later = absurd (true≢false (sym stands))
+end_row reads_debug prefix (r.DebugValue a b) stands later = absurd (true≢false (sym stands))
+end_row reads_debug prefix (r.DebugNote a b c d) stands later = absurd (true≢false (sym stands))
+end_row reads_debug prefix (r.SetSection a) stands later = absurd (true≢false (sym stands))
+end_row reads_debug prefix (r.SetPc a b) stands later = absurd (true≢false (sym stands))
+end_row reads_debug prefix (r.Constant a) stands later = absurd (true≢false (sym stands))
+end_row reads_debug prefix r.Relocate stands later = absurd (true≢false (sym stands))
+end_row reads_debug prefix (r.ConstantItem a) stands later = absurd (true≢false (sym stands))
+end_row reads_debug prefix (r.FieldItem a b c) stands later = absurd (true≢false (sym stands))
+end_row reads_debug prefix (r.RepeatConstant a b) stands later = absurd (true≢false (sym stands))
+end_row reads_debug prefix (r.RepeatRelocate a) stands later = absurd (true≢false (sym stands))
+end_row reads_debug prefix (r.Start a) stands later = absurd (true≢false (sym stands))
 
 not_not : (b : Bool) → not b ≡ false → b ≡ true
 not_not true e = refl
@@ -271,30 +271,30 @@ both_new false false e h = refl
 both_new false true e h = absurd (true≢false h)
 both_new true b e h = absurd (true≢false e)
 
-part_row : (reads_debug : Bool) (front : List Step) (e : Extent) (start : ℕ) (p : Piece) → e.part ≢ debug_part → (reads_debug ≡ true → get_or (offsets_of front) 4 0 ≡ 0)
-    → part_record_fault front e start p ≡ None → IsAddable reads_debug front p.row
-part_row reads_debug front e start p other later clean =
-    let behind = none_of _ _ clean in
-    let more = none_of _ _ behind.1 in
+part_row : (reads_debug : Bool) (prefix : List Step) (e : Extent) (start : ℕ) (p : SpelledRecord) → e.part ≢ debug_part → (reads_debug ≡ true → get_or (offsets_of prefix) 4 0 ≡ 0)
+    → part_record_fault prefix e start p ≡ None → IsAddable reads_debug prefix p.row
+part_row reads_debug prefix e start p other later clean =
+    let after = none_of _ _ clean in
+    let more = none_of _ _ after.1 in
     let stands : stands_in e.part p.row ≡ true = not_not _ (no_fault _ _ _ more.0) in
     let plain = plain-in e.part p.row stands other in
     let unbroken = no_reason start _ more.1 in
-    let first = no_first (declares_again (pieces_of front) p.row) _ _ unbroken in
+    let first = no_first (declares_again (records_of prefix) p.row) _ _ unbroken in
     let second = no_first _ _ _ first.1 in
-    let third = no_first (says_again (pieces_of front) p.row) _ _ second.1 in
+    let third = no_first (states_again (records_of prefix) p.row) _ _ second.1 in
     record {
       plain = plain;
-      new = both_new _ _ (declares (pieces_of front) p.row plain ∙ first.0) (says (pieces_of front) p.row ∙ third.0);
-      later = λ reads. same_later (offsets_of front) _ (no_offset e.part p.row stands) (later reads);
-      ordered = same_order (offsets_of front) _ (no_offset e.part p.row stands);
+      new = both_new _ _ (declares (records_of prefix) p.row plain ∙ first.0) (states (records_of prefix) p.row ∙ third.0);
+      later = λ reads. same_later (offsets_of prefix) _ (no_offset e.part p.row stands) (later reads);
+      ordered = same_order (offsets_of prefix) _ (no_offset e.part p.row stands);
     }
 
 -- a record at its place that has no fault may be added
-pub addable : (reads_debug : Bool) (front : List Step) (at : code.Place) (start : ℕ) (p : Piece) → IsPlacedWell at p.row → (reads_debug ≡ true → get_or (offsets_of front) 4 0 ≡ 0)
-    → record_fault reads_debug front (as_place at) start p ≡ None → IsAddable reads_debug front p.row
-addable reads_debug front (place.Header k) start p well later clean = header_row reads_debug front k start p.bytes p.row well.0 later clean
-addable reads_debug front (place.Part e) start p well later clean = part_row reads_debug front (as_extent e) start p well later clean
-addable reads_debug front place.End start p well later clean = end_row reads_debug front p.row (not_not _ (no_fault _ _ _ clean)) later
+pub addable : (reads_debug : Bool) (prefix : List Step) (at : code.Location) (start : ℕ) (p : SpelledRecord) → IsPlacedWell at p.row → (reads_debug ≡ true → get_or (offsets_of prefix) 4 0 ≡ 0)
+    → record_fault reads_debug prefix (as_location at) start p ≡ None → IsAddable reads_debug prefix p.row
+addable reads_debug prefix (offset.Header k) start p well later clean = header_row reads_debug prefix k start p.bytes p.row well.0 later clean
+addable reads_debug prefix (offset.Part e) start p well later clean = part_row reads_debug prefix (as_extent e) start p well later clean
+addable reads_debug prefix offset.End start p well later clean = end_row reads_debug prefix p.row (not_not _ (no_fault _ _ _ clean)) later
 
 -- ---- room
 
@@ -305,18 +305,18 @@ fewer {B = B} f (x ∷ xs) = by_case (f x) (fewer f xs) where
   by_case None le = omega (arith, le)
   by_case (Some y) le = omega (arith, le)
 
--- no table is full while the front is within the limit
-pub room : (reads_debug : Bool) (f : Front) (front : List Step) → IsFrontOf reads_debug f front → f.size ≤ file_limit → HasRoom f.tables
-room reads_debug f front is within =
-    let ps = pieces_of front in
-    let few : length ps ≤ file_limit = omega (arith, fewer piece_of front, is.few, is.size, within) in
+-- no table is full while the prefix is within the limit
+pub room : (reads_debug : Bool) (f : Prefix) (prefix : List Step) → IsPrefixOf reads_debug f prefix → f.size ≤ file_limit → HasRoom f.tables
+room reads_debug f prefix is within =
+    let ps = records_of prefix in
+    let few : length ps ≤ file_limit = omega (arith, fewer record_of prefix, is.few, is.size, within) in
     subst HasRoom (sym is.tables) (record {
       sections = omega (arith, few, fewer (λ p. of_kind section (declared_by p.row)) ps);
       publics = omega (arith, few, fewer (λ p. of_kind public (declared_by p.row)) ps);
       references = omega (arith, few, fewer (λ p. of_kind reference (declared_by p.row)) ps);
-      alignments = omega (arith, few, fewer (λ p. assigned_by p.row) ps, fewer alignment_said (sayings ps));
-      sizes = omega (arith, few, fewer (λ p. assigned_by p.row) ps, fewer size_said (sayings ps));
-      bases = omega (arith, few, fewer (λ p. assigned_by p.row) ps, fewer base_said (sayings ps));
-      values = omega (arith, few, fewer (λ p. assigned_by p.row) ps, fewer value_said (sayings ps));
-      weaknesses = omega (arith, few, fewer (λ p. assigned_by p.row) ps, fewer weakness_said (sayings ps));
+      alignments = omega (arith, few, fewer (λ p. assigned_by p.row) ps, fewer alignment_stated (statements ps));
+      sizes = omega (arith, few, fewer (λ p. assigned_by p.row) ps, fewer size_stated (statements ps));
+      bases = omega (arith, few, fewer (λ p. assigned_by p.row) ps, fewer base_stated (statements ps));
+      values = omega (arith, few, fewer (λ p. assigned_by p.row) ps, fewer value_stated (statements ps));
+      weaknesses = omega (arith, few, fewer (λ p. assigned_by p.row) ps, fewer weakness_stated (statements ps));
     })

@@ -1,4 +1,4 @@
--- What a whole front says, as the code keeps it.
+-- What a whole prefix states, as the code keeps it.
 use Rattle.std.proofs.Common.{◌≡◌, ℕ, ◌<◌, ◌==◌, ◌||◌, ◌≤◌, Bool, true, false, List, [], ◌∷◌, map, refl, sym, ap, subst, ◌∙◌, arith, eqb-true, slice_get, Option, Some, None, option_to_list, is_some, drop, get_or, ◌+◌, length}
 use Rattle.std.specs.List.{cons_option}
 use Rattle.mufom_expr.specs.Spelled.{Indexes}
@@ -6,37 +6,37 @@ use Rattle.mufom_expr.specs.Tree.{Tree}
 use Rattle.mufom_records.specs.declared.record.Record.{Record}
 use Rattle.mufom_module.specs.declared.module.Parts.{Parts}
 use Rattle.mufom_module.specs.Defects.{is_unit_count}
-use Rattle.mufom_module.specs.Pieces.{Piece, bytes_of, declared, section, public, reference, debug_name}
+use Rattle.mufom_module.specs.SpelledRecords.{SpelledRecord, bytes_of, declared, section, public, reference, debug_name}
 use Rattle.mufom_module.specs.Gathered.{sections_of, publics_of, references_of, loads_of, start_by, starts_of}
 use Rattle.mufom_module.specs.RecordParts.{extension_part, environment_part}
 use Rattle.mufom_module.specs.Grammar.{SpellsModule, NamesModule, Describes, header_of, parts_of, offsets_in, StandAt}
-use Rattle.mufom_read.specs.declared.front.Front.{Front}
+use Rattle.mufom_read.specs.declared.prefix.Prefix.{Prefix}
 use Rattle.mufom_read.specs.declared.kept.KeptRecord.{KeptRecord}
-use Rattle.mufom_read.specs.Fronts.{Step, raw, read, pieces_of, offsets_of, Placed, placed_of}
+use Rattle.mufom_read.specs.Prefixes.{Step, raw, read, records_of, offsets_of, OffsetRecord, offset_records_of}
 use Rattle.mufom_read.specs.Faults.{is_bad_descriptor}
-use Rattle.mufom_read.specs.Kept.{piece_of_kept, placed, tables_of}
-use Rattle.mufom_read.specs.FrontOfCode.{IsFrontOf}
-use Rattle.mufom_read.specs.Said.{indexes_in}
-use Rattle.mufom_read.specs.Built.{indexes_by, IsSaidByKept, IsWhole}
+use Rattle.mufom_read.specs.Kept.{record_of_kept, placed, tables_of}
+use Rattle.mufom_read.specs.PrefixOfCode.{IsPrefixOf}
+use Rattle.mufom_read.specs.Stated.{indexes_in}
+use Rattle.mufom_read.specs.Built.{indexes_by, IsStatedByKept, IsWhole}
 use Rattle.mufom_read.proofs.EndedSliced.{Sliced}
-use Rattle.mufom_read.proofs.EndedSaid.{said_by, units_of, stand_parts, same_ix, is_said}
+use Rattle.mufom_read.proofs.EndedStated.{stated_by, units_of, stand_parts, same_ix, is_stated}
 use Rattle.mufom_read.proofs.PartBytes.{so-far}
-use Rattle.mufom_read.proofs.EndedFront.{ended_sliced}
-use Rattle.mufom_read.proofs.LoadLaws.{from-place}
+use Rattle.mufom_read.proofs.EndedPrefix.{ended_sliced}
+use Rattle.mufom_read.proofs.LoadLaws.{from-offset}
 use Rattle.mufom_read.proofs.WeighFiles.{files_weigh}
 
-pieces_placed : (front : List Step) → pieces_of front ≡ map (λ (p : Placed). p.1) (placed_of front)
-pieces_placed [] = refl
-pieces_placed (raw b ∷ front) = pieces_placed front
-pieces_placed (read start p ∷ front) = ap (λ ps. p ∷ ps) (pieces_placed front)
+records_placed : (prefix : List Step) → records_of prefix ≡ map (λ (p : OffsetRecord). p.1) (offset_records_of prefix)
+records_placed [] = refl
+records_placed (raw b ∷ prefix) = records_placed prefix
+records_placed (read start p ∷ prefix) = ap (λ ps. p ∷ ps) (records_placed prefix)
 
-same_pieces : (ks : List KeptRecord) → map (λ (p : Placed). p.1) (map placed ks) ≡ map piece_of_kept ks
-same_pieces [] = refl
-same_pieces (k ∷ ks) = ap (λ ps. piece_of_kept k ∷ ps) (same_pieces ks)
+same_records : (ks : List KeptRecord) → map (λ (p : OffsetRecord). p.1) (map placed ks) ≡ map record_of_kept ks
+same_records [] = refl
+same_records (k ∷ ks) = ap (λ ps. record_of_kept k ∷ ps) (same_records ks)
 
--- the records that the code keeps are those of the front
-pub kept-pieces : (reads_debug : Bool) (f : Front) (front : List Step) → IsFrontOf reads_debug f front → map piece_of_kept f.kept ≡ pieces_of front
-kept-pieces reads_debug f front is = sym (pieces_placed front ∙ ap (map (λ (p : Placed). p.1)) (sym is.kept) ∙ same_pieces f.kept)
+-- the records that the code keeps are those of the prefix
+pub kept-records : (reads_debug : Bool) (f : Prefix) (prefix : List Step) → IsPrefixOf reads_debug f prefix → map record_of_kept f.kept ≡ records_of prefix
+kept-records reads_debug f prefix is = sym (records_placed prefix ∙ ap (map (λ (p : OffsetRecord). p.1)) (sym is.kept) ∙ same_records f.kept)
 
 few_units : (n : ℕ) → is_unit_count n ≡ true → n < 256
 few_units n h = by_two (n == 2) refl h where
@@ -53,57 +53,57 @@ few_units n h = by_two (n == 2) refl h where
   by_two false e h = by_three (n == 3) refl h
 
 -- the index lists of the tables are those of the records
-tables_ix : (reads_debug : Bool) (front : List Step) (s : Sliced reads_debug front) → indexes_in (pieces_of front) ≡ indexes_by (tables_of (pieces_of front))
-tables_ix reads_debug front s =
-    let none = ap (λ (ix : Indexes). ix.debug_names) (same_ix reads_debug front s) ∙ ap (declared debug_name) s.no_debug in
-    (λ k. record { sections = declared section (pieces_of front); publics = declared public (pieces_of front); references = declared reference (pieces_of front); debug_names = none k })
+tables_ix : (reads_debug : Bool) (prefix : List Step) (s : Sliced reads_debug prefix) → indexes_in (records_of prefix) ≡ indexes_by (tables_of (records_of prefix))
+tables_ix reads_debug prefix s =
+    let none = ap (λ (ix : Indexes). ix.debug_names) (same_ix reads_debug prefix s) ∙ ap (declared debug_name) s.no_debug in
+    (λ k. record { sections = declared section (records_of prefix); publics = declared public (records_of prefix); references = declared reference (records_of prefix); debug_names = none k })
 
--- an ended front has its header
+-- an ended prefix has its header
 stand_count : (offsets : List ℕ) (at : ℕ) (parts : List (List ℕ)) → StandAt offsets at parts → length offsets ≡ length parts + 1
 stand_count offsets at [] h = ap length h
 stand_count [] at (x ∷ parts) h = absurd h
 stand_count (w ∷ offsets) at (x ∷ parts) h = let rest = stand_count offsets (at + length x) parts (stand_parts w offsets at x parts h).1 in omega (arith, rest)
 
-has_header : (reads_debug : Bool) (f : Front) (front : List Step) → IsFrontOf reads_debug f front → (s : Sliced reads_debug front) → 10 ≤ length front
-has_header reads_debug f front is s =
-    let eight : length (offsets_of front) ≡ 8 = ap length s.offsets ∙ stand_count (offsets_in s.f.offsets) (length (bytes_of (header_of s.f))) (parts_of s.f) s.stand in
+has_header : (reads_debug : Bool) (f : Prefix) (prefix : List Step) → IsPrefixOf reads_debug f prefix → (s : Sliced reads_debug prefix) → 10 ≤ length prefix
+has_header reads_debug f prefix is s =
+    let eight : length (offsets_of prefix) ≡ 8 = ap length s.offsets ∙ stand_count (offsets_in s.f.offsets) (length (bytes_of (header_of s.f))) (parts_of s.f) s.stand in
     omega (arith, eight, is.count)
 
-said_of : (reads_debug : Bool) (f : Front) (front : List Step) (bytes : List ℕ) → IsWhole reads_debug f front bytes → (s : Sliced reads_debug front) → IsSaidByKept f (said_by reads_debug front s)
-said_of reads_debug f front bytes is s =
-    let m = said_by reads_debug front s in
-    let said = is_said reads_debug front s in
-    let ps = sym (kept-pieces reads_debug f front is.kept) in
-    let ix : indexes_in (pieces_of front) ≡ indexes_by f.tables = tables_ix reads_debug front s ∙ ap indexes_by (sym is.kept.tables) in
-    let many = has_header reads_debug f front is.kept s in
+stated_of : (reads_debug : Bool) (f : Prefix) (prefix : List Step) (bytes : List ℕ) → IsWhole reads_debug f prefix bytes → (s : Sliced reads_debug prefix) → IsStatedByKept f (stated_by reads_debug prefix s)
+stated_of reads_debug f prefix bytes is s =
+    let m = stated_by reads_debug prefix s in
+    let stated = is_stated reads_debug prefix s in
+    let ps = sym (kept-records reads_debug f prefix is.kept) in
+    let ix : indexes_in (records_of prefix) ≡ indexes_by f.tables = tables_ix reads_debug prefix s ∙ ap indexes_by (sym is.kept.tables) in
+    let many = has_header reads_debug f prefix is.kept s in
     let units = units_of s.describes.0 s.describes.1 s.describes.2 (subst (λ (row : Record). is_bad_descriptor row ≡ false) s.describes.3 s.no_bad) in
     record {
-      begin = said.begin;
-      descriptor = said.descriptor;
-      behind = said.behind;
-      pieces = sym ps ∙ said.pieces;
-      begins = said.begins;
-      describes = said.describes;
+      begin = stated.begin;
+      descriptor = stated.descriptor;
+      after = stated.after;
+      records = sym ps ∙ stated.records;
+      begins = stated.begins;
+      describes = stated.describes;
       small = few_units s.describes.1 units.1;
-      extension = said.extension ∙ sym (is.kept.extension ∙ so-far extension_part front many);
-      environment = said.environment ∙ sym (is.kept.environment ∙ so-far environment_part front many);
-      sections = said.sections ∙ ap sections_of ps;
-      publics = said.publics ∙ (λ k. publics_of (ix k) (ps k));
-      references = said.references ∙ ap references_of ps;
+      extension = stated.extension ∙ sym (is.kept.extension ∙ so-far extension_part prefix many);
+      environment = stated.environment ∙ sym (is.kept.environment ∙ so-far environment_part prefix many);
+      sections = stated.sections ∙ ap sections_of ps;
+      publics = stated.publics ∙ (λ k. publics_of (ix k) (ps k));
+      references = stated.references ∙ ap references_of ps;
       debug = refl;
-      loads = said.loads ∙ (λ k. loads_of (ix k) m.maus (ps k));
-      start = said.start ∙ (λ k. starts_of (ix k) (ps k));
+      loads = stated.loads ∙ (λ k. loads_of (ix k) m.maus (ps k));
+      start = stated.start ∙ (λ k. starts_of (ix k) (ps k));
     }
 
-sliced-said : (reads_debug : Bool) (f : Front) (front : List Step) (bytes : List ℕ) → IsWhole reads_debug f front bytes → (s : Sliced reads_debug front) → SpellsModule (said_by reads_debug front s) bytes reads_debug
-    → (m : Parts) × SpellsModule m bytes reads_debug × IsSaidByKept f m
-sliced-said reads_debug f front bytes is s spells = (said_by reads_debug front s, spells, said_of reads_debug f front bytes is s)
+sliced-stated : (reads_debug : Bool) (f : Prefix) (prefix : List Step) (bytes : List ℕ) → IsWhole reads_debug f prefix bytes → (s : Sliced reads_debug prefix) → SpellsModule (stated_by reads_debug prefix s) bytes reads_debug
+    → (m : Parts) × SpellsModule m bytes reads_debug × IsStatedByKept f m
+sliced-stated reads_debug f prefix bytes is s spells = (stated_by reads_debug prefix s, spells, stated_of reads_debug f prefix bytes is s)
 
--- a whole front is the file of a module, which the records and the bytes say
-pub whole-said : (reads_debug : Bool) (f : Front) (front : List Step) (bytes : List ℕ) → IsWhole reads_debug f front bytes → (m : Parts) × SpellsModule m bytes reads_debug × IsSaidByKept f m
-whole-said reads_debug f front bytes is =
-    let both = ended_sliced files_weigh reads_debug front bytes is.fits is.limit is.sound is.ends is.all in
-    sliced-said reads_debug f front bytes is both.0 both.1
+-- a whole prefix is the file of a module, which the records and the bytes state
+pub whole-stated : (reads_debug : Bool) (f : Prefix) (prefix : List Step) (bytes : List ℕ) → IsWhole reads_debug f prefix bytes → (m : Parts) × SpellsModule m bytes reads_debug × IsStatedByKept f m
+whole-stated reads_debug f prefix bytes is =
+    let both = ended_sliced files_weigh reads_debug prefix bytes is.fits is.limit is.sound is.ends is.all in
+    sliced-stated reads_debug f prefix bytes is both.0 both.1
 
 -- one start at most is the first of those that the records give
 pub first-start : (o : Option Tree) (starts : List Tree) → option_to_list o ≡ starts → slice_get starts 0 ≡ o
@@ -112,49 +112,49 @@ first-start (Some tree) starts e = ap (λ l. slice_get l 0) (sym e)
 
 -- ---- the first start, record by record
 
-next_start : (ix : Indexes) (kept : List KeptRecord) (i : ℕ) (k : KeptRecord) (o : Option Tree) → i < length kept → k ≡ get_or kept i k → o ≡ start_by ix (piece_of_kept k) k.row
-    → slice_get (cons_option o (starts_of ix (map piece_of_kept (drop (i + 1) kept)))) 0 ≡ slice_get (starts_of ix (map piece_of_kept (drop i kept))) 0
+next_start : (ix : Indexes) (kept : List KeptRecord) (i : ℕ) (k : KeptRecord) (o : Option Tree) → i < length kept → k ≡ get_or kept i k → o ≡ start_by ix (record_of_kept k) k.row
+    → slice_get (cons_option o (starts_of ix (map record_of_kept (drop (i + 1) kept)))) 0 ≡ slice_get (starts_of ix (map record_of_kept (drop i kept))) 0
 next_start ix kept i k o within is here =
-    ap (λ start. slice_get (cons_option start (starts_of ix (map piece_of_kept (drop (i + 1) kept)))) 0) here
-    ∙ ap (λ ps. slice_get (starts_of ix ps) 0) (sym (from-place kept i k within is))
+    ap (λ start. slice_get (cons_option start (starts_of ix (map record_of_kept (drop (i + 1) kept)))) 0) here
+    ∙ ap (λ ps. slice_get (starts_of ix ps) 0) (sym (from-offset kept i k within is))
 
 pub start-here : (ix : Indexes) (kept : List KeptRecord) (i : ℕ) (k : KeptRecord) (o all : Option Tree) → i < length kept → k ≡ get_or kept i k
-    → slice_get (starts_of ix (map piece_of_kept (drop i kept))) 0 ≡ all → o ≡ start_by ix (piece_of_kept k) k.row → is_some o ≡ true → o ≡ all
+    → slice_get (starts_of ix (map record_of_kept (drop i kept))) 0 ≡ all → o ≡ start_by ix (record_of_kept k) k.row → is_some o ≡ true → o ≡ all
 start-here ix kept i k None all within is so_far here some = cc
 start-here ix kept i k (Some tree) all within is so_far here some = next_start ix kept i k (Some tree) within is here ∙ so_far
 
 pub start-later : (ix : Indexes) (kept : List KeptRecord) (i : ℕ) (k : KeptRecord) (o all : Option Tree) → i < length kept → k ≡ get_or kept i k
-    → slice_get (starts_of ix (map piece_of_kept (drop i kept))) 0 ≡ all → o ≡ start_by ix (piece_of_kept k) k.row → is_some o ≡ false → slice_get (starts_of ix (map piece_of_kept (drop (i + 1) kept))) 0 ≡ all
+    → slice_get (starts_of ix (map record_of_kept (drop i kept))) 0 ≡ all → o ≡ start_by ix (record_of_kept k) k.row → is_some o ≡ false → slice_get (starts_of ix (map record_of_kept (drop (i + 1) kept))) 0 ≡ all
 start-later ix kept i k None all within is so_far here none = next_start ix kept i k None within is here ∙ so_far
 start-later ix kept i k (Some tree) all within is so_far here none = cc
 
 -- ---- the first two records
 
-pub begins-here : (f : Front) (m : Parts) (said : IsSaidByKept f m) (k : KeptRecord) → piece_of_kept k ≡ said.begin → NamesModule m (piece_of_kept k) k.row
-begins-here f m said k e = subst (λ (p : Piece). NamesModule m p p.row) (sym e) said.begins
+pub begins-here : (f : Prefix) (m : Parts) (stated : IsStatedByKept f m) (k : KeptRecord) → record_of_kept k ≡ stated.begin → NamesModule m (record_of_kept k) k.row
+begins-here f m stated k e = subst (λ (p : SpelledRecord). NamesModule m p p.row) (sym e) stated.begins
 
-pub describes-here : (f : Front) (m : Parts) (said : IsSaidByKept f m) (k : KeptRecord) → piece_of_kept k ≡ said.descriptor → Describes m k.row
-describes-here f m said k e = subst (λ (p : Piece). Describes m p.row) (sym e) said.describes
+pub describes-here : (f : Prefix) (m : Parts) (stated : IsStatedByKept f m) (k : KeptRecord) → record_of_kept k ≡ stated.descriptor → Describes m k.row
+describes-here f m stated k e = subst (λ (p : SpelledRecord). Describes m p.row) (sym e) stated.describes
 
 -- ---- all parts
 
--- parts that are as the records and the bytes say are those of the module
-pub the-parts : (f : Front) (m p : Parts) → IsSaidByKept f m → (p.processor ≡ m.processor) × (p.name ≡ m.name) → (p.maus ≡ m.maus) × (p.order ≡ m.order) → p.ext ≡ f.extension → p.env ≡ f.environment
-    → p.sections ≡ sections_of (map piece_of_kept f.kept) → p.names.publics ≡ publics_of (indexes_by f.tables) (map piece_of_kept f.kept) → p.names.references ≡ references_of (map piece_of_kept f.kept)
-    → p.debug ≡ [] → p.loads ≡ loads_of (indexes_by f.tables) p.maus (map piece_of_kept f.kept) → p.start ≡ slice_get (starts_of (indexes_by f.tables) (map piece_of_kept f.kept)) 0 → p ≡ m
-the-parts f m p said names layout ext env sections publics references debug loads start =
+-- parts that are as the records and the bytes state are those of the module
+pub the-parts : (f : Prefix) (m p : Parts) → IsStatedByKept f m → (p.processor ≡ m.processor) × (p.name ≡ m.name) → (p.maus ≡ m.maus) × (p.order ≡ m.order) → p.ext ≡ f.extension → p.env ≡ f.environment
+    → p.sections ≡ sections_of (map record_of_kept f.kept) → p.names.publics ≡ publics_of (indexes_by f.tables) (map record_of_kept f.kept) → p.names.references ≡ references_of (map record_of_kept f.kept)
+    → p.debug ≡ [] → p.loads ≡ loads_of (indexes_by f.tables) p.maus (map record_of_kept f.kept) → p.start ≡ slice_get (starts_of (indexes_by f.tables) (map record_of_kept f.kept)) 0 → p ≡ m
+the-parts f m p stated names layout ext env sections publics references debug loads start =
     let processor = names.0 in
     let name = names.1 in
     let maus = layout.0 in
     let order = layout.1 in
-    let same_ext = ext ∙ sym said.extension in
-    let same_env = env ∙ sym said.environment in
-    let same_sections = sections ∙ sym said.sections in
-    let same_publics = publics ∙ sym said.publics in
-    let same_references = references ∙ sym said.references in
-    let same_debug = debug ∙ sym said.debug in
-    let same_loads = loads ∙ ap (λ n. loads_of (indexes_by f.tables) n (map piece_of_kept f.kept)) maus ∙ sym said.loads in
-    let same_start = start ∙ first-start m.start (starts_of (indexes_by f.tables) (map piece_of_kept f.kept)) said.start in
+    let same_ext = ext ∙ sym stated.extension in
+    let same_env = env ∙ sym stated.environment in
+    let same_sections = sections ∙ sym stated.sections in
+    let same_publics = publics ∙ sym stated.publics in
+    let same_references = references ∙ sym stated.references in
+    let same_debug = debug ∙ sym stated.debug in
+    let same_loads = loads ∙ ap (λ n. loads_of (indexes_by f.tables) n (map record_of_kept f.kept)) maus ∙ sym stated.loads in
+    let same_start = start ∙ first-start m.start (starts_of (indexes_by f.tables) (map record_of_kept f.kept)) stated.start in
     (λ i. record {
       processor = processor i;
       name = name i;

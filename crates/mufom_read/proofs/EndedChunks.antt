@@ -1,4 +1,4 @@
--- All parts of a walk, one after another, and the record that ends the module behind them.
+-- All parts of a walk, one after another, and the record that ends the module after them.
 use Rattle.std.proofs.Common.{◌≡◌, ◌⊎◌, ℕ, zero, suc, ◌+◌, ◌-◌, ◌<◌, ◌≤◌, Bool, true, false, cond, not, ◌==◌, ◌&&◌, nat_lt, nat_le, List, [], ◌∷◌, ◌++◌, length, Option, Some, None, refl, sym, ap, subst, ◌∙◌, inl, inr, arith, append-nil, ltb-false, length-append, eq-eqb, ne_eqb, lt-ltb, le-ltb, le-leb}
 use Rattle.std.specs.List.{list_all, list_any, AllByRecursion}
 use Rattle.std.proofs.lemmas.Bool.{and_parts, or_parts, not-false, not-true, both_ways, cases_eq, cases_lt, not_from_false, true≢false}
@@ -7,19 +7,19 @@ use Rattle.mufom_records.specs.declared.record.Record.{Record}
 use Rattle.mufom_records.specs.declared.record.Record.TheVariants as r
 use Rattle.mufom_records.specs.Fields.{first_of}
 use Rattle.mufom_records.specs.Layouts.{IsWholeRecord}
-use Rattle.mufom_module.specs.Pieces.{Piece}
+use Rattle.mufom_module.specs.SpelledRecords.{SpelledRecord}
 use Rattle.mufom_module.specs.RecordParts.{Part, end_part, number_of, stands_in}
-use Rattle.mufom_read.specs.Fronts.{Step, read, step_bytes, front_bytes, size_of, pieces_of, offsets_of, Extent, Place, at_end, part_among, parts_in_order, first_present, part_at, place_by, place_behind, is_module_end, is_ended}
+use Rattle.mufom_read.specs.Prefixes.{Step, read, step_bytes, prefix_bytes, size_of, records_of, offsets_of, Extent, Location, at_end, part_among, parts_in_order, first_present, part_at, location_by, location_after, is_module_end, is_ended}
 use Rattle.mufom_read.specs.Faults.{is_out_of_order, record_fault, step_fault, whole_fault, ended_fault, ended_part_fault}
 use Rattle.mufom_read.proofs.EndedWalk.{size-append, IsNextAt, IsWalk, taken}
-use Rattle.mufom_read.proofs.EndedHeader.{ended-read, offsets-append, no_fault_if, read_here, behind_header, InOrder}
+use Rattle.mufom_read.proofs.EndedHeader.{ended-read, offsets-append, no_fault_if, read_here, after_header, InOrder}
 use Rattle.mufom_read.proofs.EndedParts.{AllInside, Ready, Split, nothing_own, split_part}
 
 -- ---- offsets do not fall
 
-all_front : {X : Type 0} (P : X → Type 0) (xs : List X) (x : X) → AllByRecursion P (xs ++ x ∷ []) → AllByRecursion P xs
-all_front P [] x h = tt
-all_front P (y ∷ xs) x h = (h.0, all_front P xs x h.1)
+all_prefix : {X : Type 0} (P : X → Type 0) (xs : List X) (x : X) → AllByRecursion P (xs ++ x ∷ []) → AllByRecursion P xs
+all_prefix P [] x h = tt
+all_prefix P (y ∷ xs) x h = (h.0, all_prefix P xs x h.1)
 
 all_last : {X : Type 0} (P : X → Type 0) (xs : List X) (x : X) → AllByRecursion P (xs ++ x ∷ []) → P x
 all_last P [] x h = h.0
@@ -52,7 +52,7 @@ bounded reads_debug earlier [] order count some = absurd (omega arith)
 bounded reads_debug earlier (zero ∷ []) order count some = absurd (last_present earlier (omega arith) order.0)
 bounded reads_debug earlier (zero ∷ w ∷ offsets) order count some =
     let long = length-append earlier (0 ∷ []) in
-    all_front (λ e. e ≤ first_present (w ∷ offsets)) earlier 0 (bounded reads_debug (earlier ++ 0 ∷ []) (w ∷ offsets) order.2 (omega arith) (omega arith))
+    all_prefix (λ e. e ≤ first_present (w ∷ offsets)) earlier 0 (bounded reads_debug (earlier ++ 0 ∷ []) (w ∷ offsets) order.2 (omega arith) (omega arith))
 bounded reads_debug earlier (suc v ∷ offsets) order count some =
     let parts = or_parts (not (suc v == 0) && list_any (λ e. nat_lt (suc v) e) earlier) ((length earlier == 7) && (suc v == 0)) order.0 in
     none_above (suc v) earlier (no_such (suc v == 0) (list_any (λ e. nat_lt (suc v) e) earlier) (not_from_false (suc v == 0) (not_zero v)) parts.0)
@@ -65,13 +65,13 @@ pub record Chunk (reads_debug : Bool) (part : Part) (w to : ℕ) (before steps :
   pub stands : ((w ≡ size_of before) × (w ≡ 0 → ⊥)) ⊎ ((w ≡ 0) × (cut.own ≡ []))
   pub faultless : (cut.own ≡ []) ⊎ (whole_fault part (before ++ cut.own) ≡ None)
 
--- the record that ends the module, where the last offset says
+-- the record that ends the module, where the last offset states
 pub record EndsThere (before : List Step) (offsets : List ℕ) (steps : List Step) : Type 0 where
   pub offset : offsets ≡ size_of before ∷ []
-  pub piece : Piece
-  pub is_last : steps ≡ read (size_of before) piece ∷ []
-  pub is_whole : IsWholeRecord mode.Body piece.row piece.bytes None
-  pub own : stands_in end_part piece.row ≡ true
+  pub spelled : SpelledRecord
+  pub is_last : steps ≡ read (size_of before) spelled ∷ []
+  pub is_whole : IsWholeRecord mode.Body spelled.row spelled.bytes None
+  pub own : stands_in end_part spelled.row ≡ true
 
 -- the parts with their offsets, and the end
 abbrev pub Chunks : Bool → List Part → List ℕ → List Step → List Step → Type 0
@@ -85,7 +85,7 @@ record Begun (reads_debug : Bool) (all : List ℕ) (parts : List Part) (earlier 
   own : list_all (λ p. not (number_of p == 7)) parts ≡ true
   order : InOrder reads_debug earlier offsets
   eight : length earlier + length offsets ≡ 8
-  places : (at : ℕ) → size_of before ≤ at → part_among parts_in_order all at ≡ part_among parts offsets at
+  offsets_named : (at : ℕ) → size_of before ≤ at → part_among parts_in_order all at ≡ part_among parts offsets at
   here : size_of before ≡ first_present offsets
   many : 10 ≤ length before
   offsets_are : offsets_of before ≡ all
@@ -105,28 +105,28 @@ end_offset reads_debug earlier (zero ∷ []) n count eight order here = absurd (
 end_offset reads_debug earlier (suc w ∷ []) n count eight order here = ap (λ (k : ℕ). k ∷ []) (sym here)
 end_offset reads_debug earlier (w ∷ v ∷ offsets) n count eight order here = absurd (omega arith)
 
-nothing_behind : (reads_debug : Bool) (front steps : List Step) → is_ended front ≡ true → IsWalk reads_debug front steps → steps ≡ []
-nothing_behind reads_debug front [] ends walk = refl
-nothing_behind reads_debug front (s ∷ steps) ends walk = absurd (both_ways (is_ended front) walk.0 ends)
+nothing_after : (reads_debug : Bool) (prefix steps : List Step) → is_ended prefix ≡ true → IsWalk reads_debug prefix steps → steps ≡ []
+nothing_after reads_debug prefix [] ends walk = refl
+nothing_after reads_debug prefix (s ∷ steps) ends walk = absurd (both_ways (is_ended prefix) walk.0 ends)
 
 the_end : (reads_debug : Bool) (all earlier offsets : List ℕ) (before steps : List Step) → Begun reads_debug all [] earlier offsets before steps → EndsThere before offsets steps
 the_end reads_debug all earlier offsets before [] begun = absurd (both_ways (is_ended before) begun.unended (ap (λ l. is_ended l) (sym (append-nil before)) ∙ begun.ends))
 the_end reads_debug all earlier offsets before (step ∷ steps) begun =
     let start = size_of before in
     let none : part_among [] offsets start ≡ None = refl in
-    let place : place_behind before ≡ at_end = behind_header before begun.many ∙ ap (λ ws. place_by (part_among parts_in_order ws start)) begun.offsets_are ∙ ap place_by (begun.places start (omega arith)) in
-    let here = read_here mode.Body before step steps (subst (λ (p : Place). IsNextAt reads_debug before p (front_bytes (step ∷ steps)) step (length (step_bytes step))) place begun.walk.3) in
-    let p = here.piece in
+    let fault_offset : location_after before ≡ at_end = after_header before begun.many ∙ ap (λ ws. location_by (part_among parts_in_order ws start)) begun.offsets_are ∙ ap location_by (begun.offsets_named start (omega arith)) in
+    let here = read_here mode.Body before step steps (subst (λ (p : Location). IsNextAt reads_debug before p (prefix_bytes (step ∷ steps)) step (length (step_bytes step))) fault_offset begun.walk.3) in
+    let p = here.spelled in
     let fault : step_fault reads_debug before (taken (read start p) (length p.bytes)) ≡ None = subst (λ (s : Step). step_fault reads_debug before (taken s (length (step_bytes s))) ≡ None) here.is_this begun.walk.2 in
-    let at_it : record_fault reads_debug before at_end start p ≡ None = subst (λ (q : Place). record_fault reads_debug before q start p ≡ None) place fault in
+    let at_it : record_fault reads_debug before at_end start p ≡ None = subst (λ (q : Location). record_fault reads_debug before q start p ≡ None) fault_offset fault in
     let own = not-false (stands_in end_part p.row) (no_fault_if (not (stands_in end_part p.row)) start _ at_it) in
     let ended : is_ended (before ++ read start p ∷ []) ≡ true = ended-read before start p ∙ is_end p.row own in
-    let last = nothing_behind reads_debug (before ++ read start p ∷ []) steps ended (subst (λ (s : Step). IsWalk reads_debug (before ++ s ∷ []) steps) here.is_this begun.walk.4) in
+    let last = nothing_after reads_debug (before ++ read start p ∷ []) steps ended (subst (λ (s : Step). IsWalk reads_debug (before ++ s ∷ []) steps) here.is_this begun.walk.4) in
     record {
       offset = end_offset reads_debug earlier offsets start begun.count begun.eight begun.order begun.here;
-      piece = p;
+      spelled = p;
       is_last = (λ i. here.is_this i ∷ last i);
-      is_whole = subst (λ (l : List Step). IsWholeRecord mode.Body p.row p.bytes (first_of (front_bytes l) None)) last here.is_whole;
+      is_whole = subst (λ (l : List Step). IsWholeRecord mode.Body p.row p.bytes (first_of (prefix_bytes l) None)) last here.is_whole;
       own = own;
     }
 
@@ -146,25 +146,25 @@ is_within w at to some low high =
     all_three false false c x y z = cc
     all_three false true false x y z = cc
 
-pub is_behind : (w at to : ℕ) → to ≤ at → (not (w == 0) && (nat_le w at && nat_lt at to)) ≡ false
-is_behind w at to high = last_false (not (w == 0)) (nat_le w at) (nat_lt at to) (le-ltb at to high) where
+pub is_after : (w at to : ℕ) → to ≤ at → (not (w == 0) && (nat_le w at && nat_lt at to)) ≡ false
+is_after w at to high = last_false (not (w == 0)) (nat_le w at) (nat_lt at to) (le-ltb at to high) where
   last_false : (x y z : Bool) → z ≡ false → (x && (y && z)) ≡ false
   last_false true true z h = h
   last_false true false z h = refl
   last_false false y z h = refl
 
--- the fault of a part that ends where a front does, and is not empty
-pub whole_of : (part : Part) (from to : ℕ) (all : List ℕ) (front : List Step) → AllInside part from to all → offsets_of front ≡ all → size_of front ≡ to → from < to → ended_part_fault front ≡ None → whole_fault part front ≡ None
-whole_of part from to all front within offsets size some h =
-    let place : part_at front (size_of front - 1) ≡ Some (record { part = part; from = from; to = to }) =
-    ap (λ ws. part_among parts_in_order ws (size_of front - 1)) offsets ∙ within (size_of front - 1) (omega arith) (omega arith) in
-    let fault : cond (to == size_of front) (whole_fault part front) None ≡ None = subst (λ (o : Option Extent). ended_fault front o ≡ None) place h in
-    subst (λ (b : Bool). cond b (whole_fault part front) None ≡ None) (eq-eqb to (size_of front) (sym size)) fault
+-- the fault of a part that ends where a prefix does, and is not empty
+pub whole_of : (part : Part) (from to : ℕ) (all : List ℕ) (prefix : List Step) → AllInside part from to all → offsets_of prefix ≡ all → size_of prefix ≡ to → from < to → ended_part_fault prefix ≡ None → whole_fault part prefix ≡ None
+whole_of part from to all prefix within offsets size some h =
+    let fault_offset : part_at prefix (size_of prefix - 1) ≡ Some (record { part = part; from = from; to = to }) =
+    ap (λ ws. part_among parts_in_order ws (size_of prefix - 1)) offsets ∙ within (size_of prefix - 1) (omega arith) (omega arith) in
+    let fault : cond (to == size_of prefix) (whole_fault part prefix) None ≡ None = subst (λ (o : Option Extent). ended_fault prefix o ≡ None) fault_offset h in
+    subst (λ (b : Bool). cond b (whole_fault part prefix) None ≡ None) (eq-eqb to (size_of prefix) (sym size)) fault
 
--- the steps behind a front that has not ended
-pub no_whole_fault : (reads_debug : Bool) (front later : List Step) → is_ended front ≡ false → is_ended (front ++ later) ≡ true → IsWalk reads_debug front later → ended_part_fault front ≡ None
-no_whole_fault reads_debug front [] open_ ends walk = absurd (both_ways (is_ended front) open_ (ap (λ l. is_ended l) (sym (append-nil front)) ∙ ends))
-no_whole_fault reads_debug front (s ∷ later) open_ ends walk = walk.1
+-- the steps after a prefix that has not ended
+pub no_whole_fault : (reads_debug : Bool) (prefix later : List Step) → is_ended prefix ≡ false → is_ended (prefix ++ later) ≡ true → IsWalk reads_debug prefix later → ended_part_fault prefix ≡ None
+no_whole_fault reads_debug prefix [] open_ ends walk = absurd (both_ways (is_ended prefix) open_ (ap (λ l. is_ended l) (sym (append-nil prefix)) ∙ ends))
+no_whole_fault reads_debug prefix (s ∷ later) open_ ends walk = walk.1
 
 empty_chunk : (reads_debug : Bool) (part : Part) (w to : ℕ) (before steps : List Step) → size_of before ≡ to → ((w ≡ size_of before) × (w ≡ 0 → ⊥)) ⊎ (w ≡ 0) → is_ended before ≡ false → is_ended (before ++ steps) ≡ true → IsWalk reads_debug before steps
     → Chunk reads_debug part w to before steps
@@ -180,7 +180,7 @@ empty_chunk reads_debug part w to before steps size stands open_ ends walk =
         ends = ap (λ l. is_ended (l ++ steps)) same ∙ ends;
         size = ap size_of same ∙ size;
         offsets = refl;
-        is_own = nothing_own reads_debug part false (pieces_of before) (front_bytes steps);
+        is_own = nothing_own reads_debug part false (records_of before) (prefix_bytes steps);
       };
       stands = elim stands [ inl here ↦ inl here | inr none ↦ inr (none, refl) ];
       faultless = inl refl;
@@ -217,7 +217,7 @@ chunk_of reads_debug all part parts earlier (suc v) offsets before steps begun =
     let to = first_present offsets in
     let long = length-append earlier (suc v ∷ []) in
     let low : suc v ≤ to = all_last (λ e. e ≤ to) earlier (suc v) (bounded reads_debug (earlier ++ suc v ∷ []) offsets begun.order.2 (omega (arith, begun.eight)) (omega (arith, begun.count))) in
-    let within : AllInside part (suc v) to all = λ at x y. begun.places at (omega (arith, begun.here))
+    let within : AllInside part (suc v) to all = λ at x y. begun.offsets_named at (omega (arith, begun.here))
     ∙ ap (λ b. cond b (Some (record { part = part; from = suc v; to = to })) (part_among parts offsets at)) (is_within (suc v) at to (λ h. omega arith) x y) in
     elim (cases_eq (suc v) to) [
       | inl same ↦ empty_chunk reads_debug part (suc v) to before steps (begun.here ∙ same) (inl (sym begun.here, λ h. omega arith)) begun.unended begun.ends begun.walk
@@ -231,8 +231,8 @@ chunk_of reads_debug all part parts earlier (suc v) offsets before steps begun =
 later_places : (all : List ℕ) (part : Part) (parts : List Part) (w : ℕ) (offsets : List ℕ) (low size : ℕ) → low ≤ size → first_present offsets ≡ size
     → ((at : ℕ) → low ≤ at → part_among parts_in_order all at ≡ part_among (part ∷ parts) (w ∷ offsets) at)
     → (at : ℕ) → size ≤ at → part_among parts_in_order all at ≡ part_among parts offsets at
-later_places all part parts w offsets low size more here places at high =
-    places at (omega arith) ∙ ap (λ b. cond b (Some (record { part = part; from = w; to = first_present offsets })) (part_among parts offsets at)) (is_behind w at (first_present offsets) (omega arith))
+later_places all part parts w offsets low size more here offsets_named at high =
+    offsets_named at (omega arith) ∙ ap (λ b. cond b (Some (record { part = part; from = w; to = first_present offsets })) (part_among parts offsets at)) (is_after w at (first_present offsets) (omega arith))
 
 next_begun : (reads_debug : Bool) (all : List ℕ) (part : Part) (parts : List Part) (earlier : List ℕ) (w : ℕ) (offsets : List ℕ) (before steps : List Step) → Begun reads_debug all (part ∷ parts) earlier (w ∷ offsets) before steps
     → (c : Chunk reads_debug part w (first_present offsets) before steps) → Begun reads_debug all parts (earlier ++ w ∷ []) offsets (before ++ c.cut.own) c.cut.later
@@ -243,7 +243,7 @@ next_begun reads_debug all part parts earlier w offsets before steps begun c =
       own = (and_parts _ _ begun.own).1;
       order = begun.order.2;
       eight = omega (arith, begun.eight, length-append earlier (w ∷ []));
-      places = later_places all part parts w offsets (size_of before) (size_of (before ++ c.cut.own)) (omega arith) (sym c.cut.size) begun.places;
+      offsets_named = later_places all part parts w offsets (size_of before) (size_of (before ++ c.cut.own)) (omega arith) (sym c.cut.size) begun.offsets_named;
       here = c.cut.size;
       many = omega (arith, begun.many, length-append before c.cut.own);
       offsets_are = offsets-append before c.cut.own ∙ (λ i. begun.offsets_are i ++ c.cut.offsets i) ∙ append-nil all;
@@ -259,7 +259,7 @@ walk_parts reads_debug all (part ∷ parts) earlier (w ∷ offsets) before steps
     let c = chunk_of reads_debug all part parts earlier w offsets before steps begun in
     (c, walk_parts reads_debug all parts (earlier ++ w ∷ []) offsets (before ++ c.cut.own) c.cut.later (next_begun reads_debug all part parts earlier w offsets before steps begun c))
 
--- behind the header
+-- after the header
 pub chunks_of : (reads_debug : Bool) (offsets : List ℕ) (before steps : List Step) → length offsets ≡ 8 → InOrder reads_debug [] offsets → size_of before ≡ first_present offsets → 10 ≤ length before → offsets_of before ≡ offsets
     → is_ended before ≡ false → is_ended (before ++ steps) ≡ true → IsWalk reads_debug before steps → Chunks reads_debug parts_in_order offsets before steps
 chunks_of reads_debug offsets before steps count order here many are open_ ends walk = walk_parts reads_debug offsets parts_in_order [] offsets before steps (record {
@@ -267,7 +267,7 @@ chunks_of reads_debug offsets before steps count order here many are open_ ends 
   own = refl;
   order = order;
   eight = omega arith;
-  places = λ at _. refl;
+  offsets_named = λ at _. refl;
   here = here;
   many = many;
   offsets_are = are;

@@ -1,4 +1,4 @@
--- What a record of an ended front brings to a module without a defect.
+-- What a record of an ended prefix brings to a module without a defect.
 use Rattle.std.proofs.Common.{◌≡◌, ℕ, ◌+◌, ◌-◌, ◌<◌, Bool, true, false, cond, ◌==◌, ◌&&◌, nat_lt, List, [], ◌∷◌, ◌++◌, length, drop, slice_get, Option, Some, None, IfSome, unwrap_or, refl, sym, ap, subst, ◌∙◌, arith, append_assoc, length-take, filter_map}
 use Rattle.std.specs.List.{list_any, cons_option, AllByRecursion}
 use Rattle.std.proofs.lemmas.Bool.{or_from}
@@ -11,13 +11,13 @@ use Rattle.mufom_records.specs.Layouts.{IsWholeRecord}
 use Rattle.mufom_module.specs.declared.module.Parts.{Parts}
 use Rattle.mufom_module.specs.Contents.{any_of}
 use Rattle.mufom_module.specs.Defects.{is_long, counts_of, names_outside, has_other_counter}
-use Rattle.mufom_module.specs.Pieces.{Piece, bytes_of, text_in, section, named_by, expression_of, tree_in, is_public_value, position_in, positioned}
+use Rattle.mufom_module.specs.SpelledRecords.{SpelledRecord, bytes_of, text_in, section, named_by, expression_of, tree_in, is_public_value, position_in, positioned}
 use Rattle.mufom_module.specs.RecordParts.{Part, number_of, opens_items, begins_item}
 use Rattle.mufom_module.specs.Gathered.{for_index}
 use Rattle.mufom_module.specs.Grammar.{AreWhole, has_no_section, names_unknown}
-use Rattle.mufom_read.specs.Fronts.{is_module_end}
+use Rattle.mufom_read.specs.Prefixes.{is_module_end}
 use Rattle.mufom_read.specs.Faults.{counter_allowed}
-use Rattle.mufom_read.specs.Said.{indexes_in}
+use Rattle.mufom_read.specs.Stated.{indexes_in}
 use Rattle.mufom_read.proofs.EndedRows.{IsShort, body_short, items_short}
 use Rattle.mufom_read.proofs.EndedParts.{IsKept, KeptFrom, not_end}
 use Rattle.mufom_read.proofs.EndedTrees.{IsKnown, AreCounts, inside, placed_section, own_counter, known-append, named_known, tree_known, tree_counter, declared_below}
@@ -29,35 +29,35 @@ pub record IsGoodTree (m : Parts) (ix : Indexes) (allowed : Option ℕ) (tree : 
   pub inside : names_outside (counts_of m) (positioned ix tree) ≡ false
   pub counter : has_other_counter (placed_section ix allowed) (positioned ix tree) ≡ false
 
-pub good_tree : (m : Parts) (all : List Piece) (ix : Indexes) → indexes_in all ≡ ix → AreCounts m (indexes_in all) → (allowed : Option ℕ) (tree : Tree) → IsKnown all tree → has_other_counter allowed tree ≡ false → IsGoodTree m ix allowed tree
+pub good_tree : (m : Parts) (all : List SpelledRecord) (ix : Indexes) → indexes_in all ≡ ix → AreCounts m (indexes_in all) → (allowed : Option ℕ) (tree : Tree) → IsKnown all tree → has_other_counter allowed tree ≡ false → IsGoodTree m ix allowed tree
 good_tree m all ix same are allowed tree known counter = subst (λ (it : Indexes). IsGoodTree m it allowed tree) same (record { inside = inside all m tree are known; counter = own_counter (indexes_in all) allowed tree counter })
 
 -- ---- records
 
--- what holds of a record behind those before it
-pub record IsGood (m : Parts) (ix : Indexes) (before : List Piece) (p : Piece) : Type 0 where
+-- what holds of a record after those before it
+pub record IsGood (m : Parts) (ix : Indexes) (before : List SpelledRecord) (p : SpelledRecord) : Type 0 where
   pub short : IsShort p.row
   pub named : (i : ℕ) → named_by p.row ≡ Some (section, i) → position_in ix.sections i < length m.sections
   pub tree : (span : Span) → expression_of p.row ≡ Some span → is_public_value p.row ≡ false → IsGoodTree m ix (counter_allowed before p.row) (tree_in p span)
   pub placed : has_no_section before p.row ≡ false
 
-abbrev pub GoodFrom : Parts → Indexes → List Piece → List Piece → Type 0
+abbrev pub GoodFrom : Parts → Indexes → List SpelledRecord → List SpelledRecord → Type 0
 GoodFrom m ix before [] = Unit {0}
-GoodFrom m ix before (p ∷ pieces) = IsGood m ix before p × GoodFrom m ix (before ++ p ∷ []) pieces
+GoodFrom m ix before (p ∷ records) = IsGood m ix before p × GoodFrom m ix (before ++ p ∷ []) records
 
-short_here : (test : Bool) (p : Piece) (behind : List ℕ) → is_module_end p.row ≡ false → IsWholeRecord (cond test mode.Items mode.Body) p.row p.bytes (first_of behind None) → IsShort p.row
-short_here false p behind other is = body_short p.row p.bytes (first_of behind None) other is
-short_here true p behind other is = items_short p.row p.bytes (first_of behind None) is
+short_here : (test : Bool) (p : SpelledRecord) (after : List ℕ) → is_module_end p.row ≡ false → IsWholeRecord (cond test mode.Items mode.Body) p.row p.bytes (first_of after None) → IsShort p.row
+short_here false p after other is = body_short p.row p.bytes (first_of after None) other is
+short_here true p after other is = items_short p.row p.bytes (first_of after None) is
 
 -- the records of a part are short
-pub all_short : (part : Part) (before : List Piece) (items : Bool) (pieces : List Piece) (behind : List ℕ) → (number_of part == 7) ≡ false → KeptFrom part before pieces → AreWhole items pieces behind → AllByRecursion (λ p. IsShort p.row) pieces
-all_short part before items [] behind other own are = tt
-all_short part before items (p ∷ pieces) behind other own are =
-    (short_here (items && begins_item p.bytes) p (bytes_of pieces ++ behind) (not_end part p.row other own.0) are.0, all_short part (before ++ p ∷ []) (opens_items p.row) pieces behind other own.2 are.1)
+pub all_short : (part : Part) (before : List SpelledRecord) (items : Bool) (records : List SpelledRecord) (after : List ℕ) → (number_of part == 7) ≡ false → KeptFrom part before records → AreWhole items records after → AllByRecursion (λ p. IsShort p.row) records
+all_short part before items [] after other own are = tt
+all_short part before items (p ∷ records) after other own are =
+    (short_here (items && begins_item p.bytes) p (bytes_of records ++ after) (not_end part p.row other own.0) are.0, all_short part (before ++ p ∷ []) (opens_items p.row) records after other own.2 are.1)
 
-good : (m : Parts) (all : List Piece) (ix : Indexes) → indexes_in all ≡ ix → AreCounts m (indexes_in all) → (before behind : List Piece) (p : Piece) → before ++ p ∷ behind ≡ all → IsShort p.row → IsKept before p → IsGood m ix before p
-good m all ix same are before behind p whole short keeps =
-    let known : names_unknown all p ≡ false = subst (λ (l : List Piece). names_unknown l p ≡ false) whole (known-append before (p ∷ behind) p keeps.known) in
+good : (m : Parts) (all : List SpelledRecord) (ix : Indexes) → indexes_in all ≡ ix → AreCounts m (indexes_in all) → (before after : List SpelledRecord) (p : SpelledRecord) → before ++ p ∷ after ≡ all → IsShort p.row → IsKept before p → IsGood m ix before p
+good m all ix same are before after p whole short keeps =
+    let known : names_unknown all p ≡ false = subst (λ (l : List SpelledRecord). names_unknown l p ≡ false) whole (known-append before (p ∷ after) p keeps.known) in
     record {
       short = short;
       named = λ i e. subst (λ (it : Indexes). position_in it.sections i < length m.sections) same
@@ -66,17 +66,17 @@ good m all ix same are before behind p whole short keeps =
       placed = keeps.placed;
     }
 
-pub good_from : (m : Parts) (all : List Piece) (ix : Indexes) → indexes_in all ≡ ix → AreCounts m (indexes_in all) → (part : Part) (before pieces behind : List Piece) → (before ++ pieces) ++ behind ≡ all
-    → AllByRecursion (λ p. IsShort p.row) pieces → KeptFrom part before pieces → GoodFrom m ix before pieces
-good_from m all ix same are part before [] behind whole short own = tt
-good_from m all ix same are part before (p ∷ pieces) behind whole short own = (
-  good m all ix same are before (pieces ++ behind) p (sym (append_assoc before (p ∷ pieces) behind) ∙ whole) short.0 own.1,
-  good_from m all ix same are part (before ++ p ∷ []) pieces behind (ap (λ l. l ++ behind) (append_assoc before (p ∷ []) pieces) ∙ whole) short.1 own.2,
+pub good_from : (m : Parts) (all : List SpelledRecord) (ix : Indexes) → indexes_in all ≡ ix → AreCounts m (indexes_in all) → (part : Part) (before records after : List SpelledRecord) → (before ++ records) ++ after ≡ all
+    → AllByRecursion (λ p. IsShort p.row) records → KeptFrom part before records → GoodFrom m ix before records
+good_from m all ix same are part before [] after whole short own = tt
+good_from m all ix same are part before (p ∷ records) after whole short own = (
+  good m all ix same are before (records ++ after) p (sym (append_assoc before (p ∷ records) after) ∙ whole) short.0 own.1,
+  good_from m all ix same are part (before ++ p ∷ []) records after (ap (λ l. l ++ after) (append_assoc before (p ∷ []) records) ∙ whole) short.1 own.2,
 )
 
 -- ---- texts
 
-pub text_short : (p : Piece) (span : Span) → span.len < 65536 → is_long (text_in p span) ≡ false
+pub text_short : (p : SpelledRecord) (span : Span) → span.len < 65536 → is_long (text_in p span) ≡ false
 text_short p span h = small (length (text_in p span)) (omega (arith, length-take (span.start + span.len - span.start) (drop span.start p.bytes))) where
   small : (n : ℕ) → n < 65536 → nat_lt 65535 n ≡ false
   small n h = grind arith
@@ -88,18 +88,18 @@ passes_next test None rest e h = h
 passes_next test (Some x) rest e h = or_from (test x) _ e h
 
 -- none of the gathered entries passes the test, where that of no record does
-pub none_passes : {X : Type 0} (test : X → Bool) (ask : Piece → Option X) (pieces : List Piece) → AllByRecursion (λ p. any_of test (ask p) ≡ false) pieces → list_any test (filter_map ask pieces) ≡ false
+pub none_passes : {X : Type 0} (test : X → Bool) (ask : SpelledRecord → Option X) (records : List SpelledRecord) → AllByRecursion (λ p. any_of test (ask p) ≡ false) records → list_any test (filter_map ask records) ≡ false
 none_passes test ask [] h = refl
-none_passes test ask (p ∷ pieces) h = passes_next test (ask p) (filter_map ask pieces) h.0 (none_passes test ask pieces h.1)
+none_passes test ask (p ∷ records) h = passes_next test (ask p) (filter_map ask records) h.0 (none_passes test ask records h.1)
 
 first_next : {X : Type 0} (Q : X → Type 0) (o : Option X) (rest : List X) (other : X) → IfSome o Q → Q (unwrap_or (slice_get rest 0) other) → Q (unwrap_or (slice_get (cons_option o rest) 0) other)
 first_next Q None rest other e h = h
 first_next Q (Some x) rest other e h = e
 
 -- the first answer has what each answer has
-pub first_has : {X : Type 0} (Q : X → Type 0) (ask : Piece → Option X) (other : X) → Q other → (pieces : List Piece) → AllByRecursion (λ p. IfSome (ask p) Q) pieces → Q (unwrap_or (slice_get (filter_map ask pieces) 0) other)
+pub first_has : {X : Type 0} (Q : X → Type 0) (ask : SpelledRecord → Option X) (other : X) → Q other → (records : List SpelledRecord) → AllByRecursion (λ p. IfSome (ask p) Q) records → Q (unwrap_or (slice_get (filter_map ask records) 0) other)
 first_has Q ask other h [] all = h
-first_has Q ask other h (p ∷ pieces) all = first_next Q (ask p) (filter_map ask pieces) other all.0 (first_has Q ask other h pieces all.1)
+first_has Q ask other h (p ∷ records) all = first_next Q (ask p) (filter_map ask records) other all.0 (first_has Q ask other h records all.1)
 
 pub for_index_has : {X : Type 0} (Q : X → Type 0) (i j : ℕ) (x : X) → Q x → IfSome (for_index i j x) Q
 for_index_has {X} Q i j x h = by_test (i == j) where
@@ -107,10 +107,10 @@ for_index_has {X} Q i j x h = by_test (i == j) where
   by_test true = h
   by_test false = tt
 
-pub map_all : (P Q : Piece → Type 0) → ((p : Piece) → P p → Q p) → (pieces : List Piece) → AllByRecursion P pieces → AllByRecursion Q pieces
+pub map_all : (P Q : SpelledRecord → Type 0) → ((p : SpelledRecord) → P p → Q p) → (records : List SpelledRecord) → AllByRecursion P records → AllByRecursion Q records
 map_all P Q f [] h = tt
-map_all P Q f (p ∷ pieces) h = (f p h.0, map_all P Q f pieces h.1)
+map_all P Q f (p ∷ records) h = (f p h.0, map_all P Q f records h.1)
 
-pub both_all : (P Q : Piece → Type 0) (pieces : List Piece) → AllByRecursion P pieces → AllByRecursion Q pieces → AllByRecursion (λ p. P p × Q p) pieces
+pub both_all : (P Q : SpelledRecord → Type 0) (records : List SpelledRecord) → AllByRecursion P records → AllByRecursion Q records → AllByRecursion (λ p. P p × Q p) records
 both_all P Q [] x y = tt
-both_all P Q (p ∷ pieces) x y = ((x.0, y.0), both_all P Q pieces x.1 y.1)
+both_all P Q (p ∷ records) x y = ((x.0, y.0), both_all P Q records x.1 y.1)

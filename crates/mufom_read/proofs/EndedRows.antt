@@ -8,7 +8,7 @@ use Rattle.mufom_records.specs.declared.record.Record.{Record}
 use Rattle.mufom_records.specs.declared.record.Record.TheVariants as r
 use Rattle.mufom_records.specs.Fields.{Field, ValueOf, byte, number, string, run, letter, optional_number, numbers, expression, optional_expression, is_one_of, SpellsField, first_of}
 use Rattle.mufom_records.specs.Layouts
-use Rattle.mufom_read.specs.Fronts.{is_module_end}
+use Rattle.mufom_read.specs.Prefixes.{is_module_end}
 
 abbrev Layout : Type 0
 Layout = Layouts.Layout
@@ -22,10 +22,10 @@ lead_short len (a ∷ b ∷ []) is = omega (arith, is.1)
 lead_short len (a ∷ b ∷ c ∷ []) is = omega (arith, is.1, is.2, is.3)
 lead_short len (a ∷ b ∷ c ∷ d ∷ lead) is = absurd is
 
--- what a field says of its value
+-- what a field states of its value
 abbrev pub Promised : (f : Field) → ValueOf f → Type 0
 Promised byte b = Unit {0}
-Promised (number fits place fault) n = fits n ≡ true
+Promised (number fits fault_offset fault) n = fits n ≡ true
 Promised string span = span.len < 65536
 Promised (run n) span = span.len ≡ n
 Promised (letter known) None = Unit {0}
@@ -43,7 +43,7 @@ Promises P (Layouts.field f rest) = (x : ValueOf f) → Promised f x → Promise
 
 field_promised : (f : Field) (x : ValueOf f) (at : ℕ) (bytes : List ℕ) (next : Option ℕ) → SpellsField f x at bytes next → Promised f x
 field_promised byte x at bytes next is = tt
-field_promised (number fits place fault) x at bytes next is = is.1
+field_promised (number fits fault_offset fault) x at bytes next is = is.1
 field_promised string x at bytes next is = subst (λ (s : Span). s.len < 65536) (sym is.4) (lead_short (length is.1) is.0 is.2)
 field_promised (run n) x at bytes next is = ap (λ (s : Span). s.len) is.2
 field_promised (letter known) None at bytes next is = tt

@@ -1,70 +1,70 @@
--- A sound front that has ended, as the parts of a file, with what its checks say of the records in them.
+-- A sound prefix that has ended, as the parts of a file, with what its checks state of the records in them.
 use Rattle.std.proofs.Common.{◌≡◌, ◌⊎◌, ℕ, Bool, true, false, not, ◌==◌, ◌&&◌, List, [], ◌∷◌, ◌++◌, length, Option, None, is_none, refl, sym, ap, subst, ◌∙◌, inl, inr, append_assoc, eqb-true}
 use Rattle.std.specs.List.{list_all, AllByRecursion}
 use Rattle.std.proofs.lemmas.Bool.{both_ways, not-false, true≢false}
-use Rattle.mufom_module.specs.Pieces.{Piece, bytes_of}
+use Rattle.mufom_module.specs.SpelledRecords.{SpelledRecord, bytes_of}
 use Rattle.mufom_module.specs.RecordParts.{Part, section_part, external_part, debug_part, data_part, trailer_part, end_part, part_of, stands_in}
-use Rattle.mufom_module.specs.Grammar.{FileParts, header_of, parts_of, module_end, from_trailer, from_debug, from_externals, behind_header, AreOfModes, header_modes, AreWhole, offsets_in, StandAt}
-use Rattle.mufom_read.specs.Fronts.{Step, raw, read, front_bytes, pieces_of, placed_of, Placed, offsets_of, is_raw}
+use Rattle.mufom_module.specs.Grammar.{FileParts, header_of, parts_of, module_end, from_trailer, from_debug, from_externals, after_header, AreOfModes, header_modes, AreWhole, offsets_in, StandAt}
+use Rattle.mufom_read.specs.Prefixes.{Step, raw, read, prefix_bytes, records_of, offset_records_of, OffsetRecord, offsets_of, is_raw}
 use Rattle.mufom_read.specs.Faults.{Fault, fault_if, is_bad_descriptor, first_fault, section_fault, lacks_base, external_fault, has_unknown_variable, lacks_value, whole_fault}
 use Rattle.mufom_read.proofs.EndedWalk.{no_fault}
 use Rattle.mufom_read.proofs.EndedRows.{IsBegin, IsDescriptor}
 use Rattle.mufom_read.proofs.EndedHeader.{no_fault_if}
 use Rattle.mufom_read.proofs.EndedParts.{KeptFrom, IsOwn}
 
--- ---- bytes of pieces
+-- ---- bytes of records
 
-pub bytes_of-append : (a b : List Piece) → bytes_of (a ++ b) ≡ bytes_of a ++ bytes_of b
+pub bytes_of-append : (a b : List SpelledRecord) → bytes_of (a ++ b) ≡ bytes_of a ++ bytes_of b
 bytes_of-append [] b = refl
 bytes_of-append (p ∷ a) b = ap (λ l. p.bytes ++ l) (bytes_of-append a b) ∙ sym (append_assoc p.bytes (bytes_of a) (bytes_of b))
 
 -- ---- parts as wholes
 
-first_none : (fault : Placed → Option Fault) (P : Piece → Type 0) → ((q : Placed) → fault q ≡ None → P q.1) → (own : List Step) → first_fault fault (placed_of own) ≡ None → AllByRecursion P (pieces_of own)
-first_none fault P says [] h = tt
-first_none fault P says (raw b ∷ own) h = first_none fault P says own h
-first_none fault P says (read start p ∷ own) h = let both = no_fault (fault (start, p)) (first_fault fault (placed_of own)) h in (says (start, p) both.0, first_none fault P says own both.1)
+first_none : (fault : OffsetRecord → Option Fault) (P : SpelledRecord → Type 0) → ((q : OffsetRecord) → fault q ≡ None → P q.1) → (own : List Step) → first_fault fault (offset_records_of own) ≡ None → AllByRecursion P (records_of own)
+first_none fault P states [] h = tt
+first_none fault P states (raw b ∷ own) h = first_none fault P states own h
+first_none fault P states (read start p ∷ own) h = let both = no_fault (fault (start, p)) (first_fault fault (offset_records_of own)) h in (states (start, p) both.0, first_none fault P states own both.1)
 
-behind_none : (fault : Placed → Option Fault) (before own : List Step) → first_fault fault (placed_of (before ++ own)) ≡ None → first_fault fault (placed_of own) ≡ None
-behind_none fault [] own h = h
-behind_none fault (raw b ∷ before) own h = behind_none fault before own h
-behind_none fault (read start p ∷ before) own h = behind_none fault before own (no_fault (fault (start, p)) (first_fault fault (placed_of (before ++ own))) h).1
+after_none : (fault : OffsetRecord → Option Fault) (before own : List Step) → first_fault fault (offset_records_of (before ++ own)) ≡ None → first_fault fault (offset_records_of own) ≡ None
+after_none fault [] own h = h
+after_none fault (raw b ∷ before) own h = after_none fault before own h
+after_none fault (read start p ∷ before) own h = after_none fault before own (no_fault (fault (start, p)) (first_fault fault (offset_records_of (before ++ own))) h).1
 
-has_base : (all : List Piece) (q : Placed) → section_fault all q ≡ None → lacks_base all q.1.row ≡ false
+has_base : (all : List SpelledRecord) (q : OffsetRecord) → section_fault all q ≡ None → lacks_base all q.1.row ≡ false
 has_base all q h = no_fault_if (lacks_base all q.1.row) q.0 _ h
 
 -- its variables are declared, and it has a value if it is a public
-abbrev pub IsGiven : List Piece → Piece → Type 0
+abbrev pub IsGiven : List SpelledRecord → SpelledRecord → Type 0
 IsGiven all p = (has_unknown_variable all p ≡ false) × (lacks_value all p.row ≡ false)
 
-is_given : (all : List Piece) (q : Placed) → external_fault all q ≡ None → IsGiven all q.1
+is_given : (all : List SpelledRecord) (q : OffsetRecord) → external_fault all q ≡ None → IsGiven all q.1
 is_given all q h =
     let both = no_fault (fault_if (has_unknown_variable all q.1) q.0 _) (fault_if (lacks_value all q.1.row) q.0 _) h in
     (no_fault_if (has_unknown_variable all q.1) q.0 _ both.0, no_fault_if (lacks_value all q.1.row) q.0 _ both.1)
 
-pub all_based : (before own : List Step) → (own ≡ []) ⊎ (whole_fault section_part (before ++ own) ≡ None) → AllByRecursion (λ p. lacks_base (pieces_of (before ++ own)) p.row ≡ false) (pieces_of own)
-all_based before own (inl none) = subst (λ (l : List Step). AllByRecursion (λ p. lacks_base (pieces_of (before ++ own)) p.row ≡ false) (pieces_of l)) (sym none) tt
-all_based before own (inr h) = let all = pieces_of (before ++ own) in first_none (section_fault all) (λ p. lacks_base all p.row ≡ false) (has_base all) own (behind_none (section_fault all) before own h)
+pub all_based : (before own : List Step) → (own ≡ []) ⊎ (whole_fault section_part (before ++ own) ≡ None) → AllByRecursion (λ p. lacks_base (records_of (before ++ own)) p.row ≡ false) (records_of own)
+all_based before own (inl none) = subst (λ (l : List Step). AllByRecursion (λ p. lacks_base (records_of (before ++ own)) p.row ≡ false) (records_of l)) (sym none) tt
+all_based before own (inr h) = let all = records_of (before ++ own) in first_none (section_fault all) (λ p. lacks_base all p.row ≡ false) (has_base all) own (after_none (section_fault all) before own h)
 
-pub all_given : (before own : List Step) → (own ≡ []) ⊎ (whole_fault external_part (before ++ own) ≡ None) → AllByRecursion (IsGiven (pieces_of (before ++ own))) (pieces_of own)
-all_given before own (inl none) = subst (λ (l : List Step). AllByRecursion (IsGiven (pieces_of (before ++ own))) (pieces_of l)) (sym none) tt
-all_given before own (inr h) = let all = pieces_of (before ++ own) in first_none (external_fault all) (IsGiven all) (is_given all) own (behind_none (external_fault all) before own h)
+pub all_given : (before own : List Step) → (own ≡ []) ⊎ (whole_fault external_part (before ++ own) ≡ None) → AllByRecursion (IsGiven (records_of (before ++ own))) (records_of own)
+all_given before own (inl none) = subst (λ (l : List Step). AllByRecursion (IsGiven (records_of (before ++ own))) (records_of l)) (sym none) tt
+all_given before own (inr h) = let all = records_of (before ++ own) in first_none (external_fault all) (IsGiven all) (is_given all) own (after_none (external_fault all) before own h)
 
 -- ---- the parts
 
-pub raw_pieces : (reads_debug : Bool) (part : Part) (before : List Piece) (own : List Step) (behind : List ℕ) → is_raw reads_debug part ≡ true → IsOwn reads_debug part false before own behind → pieces_of own ≡ []
-raw_pieces reads_debug part before own behind is (inl its) = its.1
-raw_pieces reads_debug part before own behind is (inr its) = absurd (both_ways (is_raw reads_debug part) its.0 is)
+pub raw_records : (reads_debug : Bool) (part : Part) (before : List SpelledRecord) (own : List Step) (after : List ℕ) → is_raw reads_debug part ≡ true → IsOwn reads_debug part false before own after → records_of own ≡ []
+raw_records reads_debug part before own after is (inl its) = its.1
+raw_records reads_debug part before own after is (inr its) = absurd (both_ways (is_raw reads_debug part) its.0 is)
 
 -- the records of a part that is read
-pub record ReadPart (part : Part) (before : List Piece) (own : List Step) (behind : List ℕ) : Type 0 where
-  pub bytes : bytes_of (pieces_of own) ≡ front_bytes own
-  pub are_whole : AreWhole false (pieces_of own) behind
-  pub keeps : KeptFrom part before (pieces_of own)
+pub record ReadPart (part : Part) (before : List SpelledRecord) (own : List Step) (after : List ℕ) : Type 0 where
+  pub bytes : bytes_of (records_of own) ≡ prefix_bytes own
+  pub are_whole : AreWhole false (records_of own) after
+  pub keeps : KeptFrom part before (records_of own)
 
-pub read_pieces : (reads_debug : Bool) (part : Part) (before : List Piece) (own : List Step) (behind : List ℕ) → is_raw reads_debug part ≡ false → IsOwn reads_debug part false before own behind → ReadPart part before own behind
-read_pieces reads_debug part before own behind is (inl its) = absurd (both_ways (is_raw reads_debug part) is its.0)
-read_pieces reads_debug part before own behind is (inr its) = record { bytes = its.1; are_whole = its.2; keeps = its.3 }
+pub read_records : (reads_debug : Bool) (part : Part) (before : List SpelledRecord) (own : List Step) (after : List ℕ) → is_raw reads_debug part ≡ false → IsOwn reads_debug part false before own after → ReadPart part before own after
+read_records reads_debug part before own after is (inl its) = absurd (both_ways (is_raw reads_debug part) is its.0)
+read_records reads_debug part before own after is (inr its) = record { bytes = its.1; are_whole = its.2; keeps = its.3 }
 
 -- a part that is left for later is empty
 left_out : (w n : ℕ) (own : List Step) → (true && not (w == 0)) ≡ false → ((w ≡ n) × (w ≡ 0 → ⊥)) ⊎ ((w ≡ 0) × (own ≡ [])) → own ≡ []
@@ -73,22 +73,22 @@ left_out w n own h (inr none) = none.1
 
 -- the debug part is not read
 pub record NoDebug (reads_debug : Bool) (own : List Step) : Type 0 where
-  pub pieces : pieces_of own ≡ []
-  pub bytes : reads_debug ≡ true → front_bytes own ≡ []
+  pub records : records_of own ≡ []
+  pub bytes : reads_debug ≡ true → prefix_bytes own ≡ []
 
-pub no_debug : (reads_debug : Bool) (w n : ℕ) (own : List Step) (before : List Piece) (behind : List ℕ) → (reads_debug && (true && not (w == 0))) ≡ false → ((w ≡ n) × (w ≡ 0 → ⊥)) ⊎ ((w ≡ 0) × (own ≡ []))
-    → IsOwn reads_debug debug_part false before own behind → NoDebug reads_debug own
-no_debug false w n own before behind h stands is = record { pieces = raw_pieces false debug_part before own behind refl is; bytes = λ e. absurd (true≢false (sym e)) }
-no_debug true w n own before behind h stands is = let none = left_out w n own h stands in record { pieces = ap pieces_of none; bytes = λ _. ap front_bytes none }
+pub no_debug : (reads_debug : Bool) (w n : ℕ) (own : List Step) (before : List SpelledRecord) (after : List ℕ) → (reads_debug && (true && not (w == 0))) ≡ false → ((w ≡ n) × (w ≡ 0 → ⊥)) ⊎ ((w ≡ 0) × (own ≡ []))
+    → IsOwn reads_debug debug_part false before own after → NoDebug reads_debug own
+no_debug false w n own before after h stands is = record { records = raw_records false debug_part before own after refl is; bytes = λ e. absurd (true≢false (sym e)) }
+no_debug true w n own before after h stands is = let none = left_out w n own h stands in record { records = ap records_of none; bytes = λ _. ap prefix_bytes none }
 
 -- ---- the file
 
--- An ended front as the parts of a file. Records behind the header say nothing of the header's kind.
-pub record Sliced (reads_debug : Bool) (front : List Step) : Type 0 where
+-- An ended prefix as the parts of a file. Records after the header state nothing of the header's kind.
+pub record Sliced (reads_debug : Bool) (prefix : List Step) : Type 0 where
   pub f : FileParts
-  pub end : Piece
-  pub bytes : front_bytes front ≡ bytes_of (header_of f) ++ behind_header f
-  pub header : AreOfModes header_modes (header_of f) (behind_header f)
+  pub end : SpelledRecord
+  pub bytes : prefix_bytes prefix ≡ bytes_of (header_of f) ++ after_header f
+  pub header : AreOfModes header_modes (header_of f) (after_header f)
   pub stand : StandAt (offsets_in f.offsets) (length (bytes_of (header_of f))) (parts_of f)
   pub sections : AreWhole false f.sections (from_externals f)
   pub externals : AreWhole false f.externals (from_debug f)
@@ -107,10 +107,10 @@ pub record Sliced (reads_debug : Bool) (front : List Step) : Type 0 where
   pub describes : IsDescriptor f.descriptor.row
   pub no_bad : is_bad_descriptor f.descriptor.row ≡ false
   pub ends : stands_in end_part end.row ≡ true
-  pub pieces : pieces_of front ≡ ((((header_of f ++ f.sections) ++ f.externals) ++ f.loads) ++ f.trailer) ++ end ∷ []
-  pub offsets : offsets_of front ≡ offsets_in f.offsets
+  pub records : records_of prefix ≡ ((((header_of f ++ f.sections) ++ f.externals) ++ f.loads) ++ f.trailer) ++ end ∷ []
+  pub offsets : offsets_of prefix ≡ offsets_in f.offsets
 
 -- the place of a part, or none where it is empty
-pub stands_of : (w at : ℕ) (own : List Step) (bytes : List ℕ) → front_bytes own ≡ bytes → ((w ≡ at) × (w ≡ 0 → ⊥)) ⊎ ((w ≡ 0) × (own ≡ [])) → (w ≡ at) ⊎ ((w ≡ 0) × (bytes ≡ []))
+pub stands_of : (w at : ℕ) (own : List Step) (bytes : List ℕ) → prefix_bytes own ≡ bytes → ((w ≡ at) × (w ≡ 0 → ⊥)) ⊎ ((w ≡ 0) × (own ≡ [])) → (w ≡ at) ⊎ ((w ≡ 0) × (bytes ≡ []))
 stands_of w at own bytes e (inl there) = inl there.0
-stands_of w at own bytes e (inr none) = inr (none.0, sym e ∙ ap front_bytes none.1)
+stands_of w at own bytes e (inr none) = inr (none.0, sym e ∙ ap prefix_bytes none.1)

@@ -15,10 +15,10 @@ use Rattle.mufom_debug.specs.Marks.{joined}
 use Rattle.mufom_module.specs.declared.module.Parts.{Parts}
 use Rattle.mufom_module.specs.Contents.{any_of}
 use Rattle.mufom_module.specs.Defects.{counts_of, is_outside, names_outside, is_this, is_other_counter, has_other_counter}
-use Rattle.mufom_module.specs.Pieces.{Piece, Kind, section, public, reference, FileIndex, kind_of_letter, of_kind, declared_by, declared, is_declared, tree_in, named_by, expression_of, index_of_variable, named_in_expression, is_public_value, named_at_once, position_in, positioned_variable, positioned}
+use Rattle.mufom_module.specs.SpelledRecords.{SpelledRecord, Kind, section, public, reference, FileIndex, kind_of_letter, of_kind, declared_by, declared, is_declared, tree_in, named_by, expression_of, index_of_variable, named_in_expression, is_public_value, named_at_once, position_in, positioned_variable, positioned}
 use Rattle.mufom_module.specs.Grammar.{names_unknown}
 use Rattle.mufom_read.specs.Faults.{counter_allowed, misplaces_counter}
-use Rattle.mufom_read.specs.Said.{indexes_in}
+use Rattle.mufom_read.specs.Stated.{indexes_in}
 
 -- ---- positions
 
@@ -34,7 +34,7 @@ found_in test [] h = cc
 found_in test (i ∷ indexes) h = omega arith
 
 -- an index that is declared has a position
-pub declared_below : (all : List Piece) (kind : Kind) (i : ℕ) → is_declared all (kind, i) ≡ true → position_in (declared kind all) i < length (declared kind all)
+pub declared_below : (all : List SpelledRecord) (kind : Kind) (i : ℕ) → is_declared all (kind, i) ≡ true → position_in (declared kind all) i < length (declared kind all)
 declared_below all kind i h = position_below (declared kind all) i (found_in (λ j. j == i) (declared kind all) h)
 
 -- ---- the variables of a tree with positions
@@ -46,7 +46,7 @@ renamed rename (one f a) = renamed rename a
 renamed rename (two f a b) = (λ i. renamed rename a i ++ renamed rename b i) ∙ sym (map-append (λ (v : Letter × ℕ). rename v.0 v.1) (variables_of a) (variables_of b))
 
 -- the variables of a tree are declared
-abbrev pub IsKnown : List Piece → Tree → Type 0
+abbrev pub IsKnown : List SpelledRecord → Tree → Type 0
 IsKnown all tree = list_all (is_declared all) (map index_of_variable (variables_of tree)) ≡ true
 
 -- the module has as many entries as the index lists
@@ -58,7 +58,7 @@ pub record AreCounts (m : Parts) (ix : Indexes) : Type 0 where
 none_outside : (n : ℕ) (position : ℕ) → position < n → nat_le n position ≡ false
 none_outside n position h = grind arith
 
-inside_variable : (all : List Piece) (m : Parts) → AreCounts m (indexes_in all) → (letter : Letter) (i : ℕ) → is_declared all (kind_of_letter letter, i) ≡ true → is_outside (counts_of m) (positioned_variable (indexes_in all) letter i) ≡ false
+inside_variable : (all : List SpelledRecord) (m : Parts) → AreCounts m (indexes_in all) → (letter : Letter) (i : ℕ) → is_declared all (kind_of_letter letter, i) ≡ true → is_outside (counts_of m) (positioned_variable (indexes_in all) letter i) ≡ false
 inside_variable all m are I i h = let below = declared_below all public i h in none_outside (length m.names.publics) (position_in (declared public all) i) (omega (arith, are.publics))
 inside_variable all m are X i h = let below = declared_below all reference i h in none_outside (length m.names.references) (position_in (declared reference all) i) (omega (arith, are.references))
 inside_variable all m are L i h = let below = declared_below all section i h in none_outside (length m.sections) (position_in (declared section all) i) (omega (arith, are.sections))
@@ -66,7 +66,7 @@ inside_variable all m are P i h = let below = declared_below all section i h in 
 inside_variable all m are R i h = let below = declared_below all section i h in none_outside (length m.sections) (position_in (declared section all) i) (omega (arith, are.sections))
 inside_variable all m are S i h = let below = declared_below all section i h in none_outside (length m.sections) (position_in (declared section all) i) (omega (arith, are.sections))
 
-inside_variables : (all : List Piece) (m : Parts) → AreCounts m (indexes_in all) → (variables : List (Letter × ℕ)) → list_all (is_declared all) (map index_of_variable variables) ≡ true
+inside_variables : (all : List SpelledRecord) (m : Parts) → AreCounts m (indexes_in all) → (variables : List (Letter × ℕ)) → list_all (is_declared all) (map index_of_variable variables) ≡ true
     → list_any (is_outside (counts_of m)) (map (λ v. positioned_variable (indexes_in all) v.0 v.1) variables) ≡ false
 inside_variables all m are [] h = refl
 inside_variables all m are (v ∷ variables) h =
@@ -74,7 +74,7 @@ inside_variables all m are (v ∷ variables) h =
     or_from _ _ (inside_variable all m are v.0 v.1 both.0) (inside_variables all m are variables both.1)
 
 -- no variable of the tree with positions lies outside
-pub inside : (all : List Piece) (m : Parts) (tree : Tree) → AreCounts m (indexes_in all) → IsKnown all tree → names_outside (counts_of m) (positioned (indexes_in all) tree) ≡ false
+pub inside : (all : List SpelledRecord) (m : Parts) (tree : Tree) → AreCounts m (indexes_in all) → IsKnown all tree → names_outside (counts_of m) (positioned (indexes_in all) tree) ≡ false
 inside all m tree are h = ap (list_any (is_outside (counts_of m))) (renamed (positioned_variable (indexes_in all)) tree) ∙ inside_variables all m are (variables_of tree) h
 
 -- ---- program counters
@@ -109,23 +109,23 @@ own_counter ix allowed tree h = ap (list_any (is_other_counter (placed_section i
 
 -- ---- the tree of a record
 
-pub declared-append : (a b : List Piece) (index : FileIndex) → is_declared a index ≡ true → is_declared (a ++ b) index ≡ true
+pub declared-append : (a b : List SpelledRecord) (index : FileIndex) → is_declared a index ≡ true → is_declared (a ++ b) index ≡ true
 declared-append a b index h =
     ap (list_any (λ i. i == index.1)) (filter_map-append (λ p. of_kind index.0 (declared_by p.row)) a b)
     ∙ list_any-append (λ i. i == index.1) (declared index.0 a) (declared index.0 b)
     ∙ or_left (is_declared a index) (is_declared b index) h
 
-pub all_declared-append : (a b : List Piece) (indexes : List FileIndex) → list_all (is_declared a) indexes ≡ true → list_all (is_declared (a ++ b)) indexes ≡ true
+pub all_declared-append : (a b : List SpelledRecord) (indexes : List FileIndex) → list_all (is_declared a) indexes ≡ true → list_all (is_declared (a ++ b)) indexes ≡ true
 all_declared-append a b [] h = refl
 all_declared-append a b (index ∷ indexes) h =
     let both = and_parts (is_declared a index) _ h in and_from _ _ (declared-append a b index both.0) (all_declared-append a b indexes both.1)
 
 -- what is known of the indexes of a record stays known
-pub known-append : (a b : List Piece) (p : Piece) → names_unknown a p ≡ false → names_unknown (a ++ b) p ≡ false
+pub known-append : (a b : List SpelledRecord) (p : SpelledRecord) → names_unknown a p ≡ false → names_unknown (a ++ b) p ≡ false
 known-append a b p h = not_from_true _ (all_declared-append a b (named_at_once p) (not-false (list_all (is_declared a) (named_at_once p)) h))
 
 -- the index that it names is declared
-pub named_known : (all : List Piece) (p : Piece) (index : FileIndex) → named_by p.row ≡ Some index → names_unknown all p ≡ false → is_declared all index ≡ true
+pub named_known : (all : List SpelledRecord) (p : SpelledRecord) (index : FileIndex) → named_by p.row ≡ Some index → names_unknown all p ≡ false → is_declared all index ≡ true
 named_known all p index e h =
     let rest = cond (is_public_value p.row) [] (named_in_expression p) in
     let whole : list_all (is_declared all) (option_to_list (named_by p.row) ++ rest) ≡ true = not-false _ h in
@@ -135,18 +135,18 @@ named_known all p index e h =
 and_second : (test : FileIndex → Bool) (a b : List FileIndex) → list_all test (a ++ b) ≡ true → list_all test b ≡ true
 and_second test a b h = (and_parts (list_all test a) (list_all test b) (sym (list_all-append test a b) ∙ h)).1
 
-pub known_named : (all : List Piece) (p : Piece) (span : Span) → expression_of p.row ≡ Some span → list_all (is_declared all) (named_in_expression p) ≡ true → IsKnown all (tree_in p span)
+pub known_named : (all : List SpelledRecord) (p : SpelledRecord) (span : Span) → expression_of p.row ≡ Some span → list_all (is_declared all) (named_in_expression p) ≡ true → IsKnown all (tree_in p span)
 known_named all p span e h =
     let its : named_in_expression p ≡ map index_of_variable (variables_of (tree_in p span) ++ []) = ap (λ (o : Option Span). map index_of_variable (joined (map variables_of (option_to_list (option_map (tree_in p) o))))) e in
     ap (λ vs. list_all (is_declared all) (map index_of_variable vs)) (sym (append-nil (variables_of (tree_in p span)))) ∙ ap (list_all (is_declared all)) (sym its) ∙ h
 
 -- the variables of its expression are declared, where it is no value of a public
-pub tree_known : (all : List Piece) (p : Piece) (span : Span) → expression_of p.row ≡ Some span → is_public_value p.row ≡ false → names_unknown all p ≡ false → IsKnown all (tree_in p span)
+pub tree_known : (all : List SpelledRecord) (p : SpelledRecord) (span : Span) → expression_of p.row ≡ Some span → is_public_value p.row ≡ false → names_unknown all p ≡ false → IsKnown all (tree_in p span)
 tree_known all p span e other h =
     let whole : list_all (is_declared all) (option_to_list (named_by p.row) ++ cond (is_public_value p.row) [] (named_in_expression p)) ≡ true = not-false _ h in
     let there : list_all (is_declared all) (option_to_list (named_by p.row) ++ named_in_expression p) ≡ true = subst (λ (b : Bool). list_all (is_declared all) (option_to_list (named_by p.row) ++ cond b [] (named_in_expression p)) ≡ true) other whole in
     known_named all p span e (and_second (is_declared all) (option_to_list (named_by p.row)) (named_in_expression p) there)
 
 -- its program counter is that of the section that it may name
-pub tree_counter : (before : List Piece) (p : Piece) (span : Span) → expression_of p.row ≡ Some span → misplaces_counter before p ≡ false → has_other_counter (counter_allowed before p.row) (tree_in p span) ≡ false
+pub tree_counter : (before : List SpelledRecord) (p : SpelledRecord) (span : Span) → expression_of p.row ≡ Some span → misplaces_counter before p ≡ false → has_other_counter (counter_allowed before p.row) (tree_in p span) ≡ false
 tree_counter before p span e h = subst (λ (o : Option Span). any_of (has_other_counter (counter_allowed before p.row)) (option_map (tree_in p) o) ≡ false) e h

@@ -1,4 +1,4 @@
--- A sound front as a walk: each step with what stands behind it, read by the place where it stands.
+-- A sound prefix as a walk: each step with what stands after it, read by the place where it stands.
 use Rattle.std.proofs.Common.{◌≡◌, ◌⊎◌, ℕ, zero, suc, ◌+◌, ◌≤◌, Bool, true, false, List, [], ◌∷◌, ◌++◌, length, take, drop, Option, Some, None, refl, sym, ap, subst, ◌∙◌, inl, inr, arith, append_assoc, append-nil}
 use Rattle.std.specs.Option.{option_or}
 use Rattle.std.proofs.lemmas.List.{length-append, take-append-drop, drop_at}
@@ -13,34 +13,34 @@ use Rattle.mufom_records.specs.Fields.{first_of}
 use Rattle.mufom_records.specs.Layouts.{IsWholeRecord}
 use Rattle.mufom_records.specs.Reading.{record_at}
 use Rattle.mufom_records.proofs.RecordLaws.{record_at-got}
-use Rattle.mufom_module.specs.Pieces.{Piece}
-use Rattle.mufom_read.specs.Fronts.{Step, raw, read, step_bytes, front_bytes, size_of, piece_of, pieces_of, Extent, Place, in_header, in_part, at_end, place_behind, header_mode, is_raw, body_mode, as_step, raw_step, step_in, step_at, next_step, is_ended}
+use Rattle.mufom_module.specs.SpelledRecords.{SpelledRecord}
+use Rattle.mufom_read.specs.Prefixes.{Step, raw, read, step_bytes, prefix_bytes, size_of, record_of, records_of, Extent, Location, in_header, in_part, at_end, location_after, header_mode, is_raw, body_mode, as_step, raw_step, step_in, step_at, next_step, is_ended}
 use Rattle.mufom_read.specs.Faults.{Fault, ended_part_fault, step_fault}
-use Rattle.mufom_read.specs.Judging.{IsSoundFrom, IsSoundFront}
+use Rattle.mufom_read.specs.Judging.{IsSoundFrom, IsSoundPrefix}
 
--- ---- bytes and records of fronts
+-- ---- bytes and records of prefixes
 
-pub bytes-append : (a b : List Step) → front_bytes (a ++ b) ≡ front_bytes a ++ front_bytes b
+pub bytes-append : (a b : List Step) → prefix_bytes (a ++ b) ≡ prefix_bytes a ++ prefix_bytes b
 bytes-append [] b = refl
-bytes-append (s ∷ a) b = ap (λ l. step_bytes s ++ l) (bytes-append a b) ∙ sym (append_assoc (step_bytes s) (front_bytes a) (front_bytes b))
+bytes-append (s ∷ a) b = ap (λ l. step_bytes s ++ l) (bytes-append a b) ∙ sym (append_assoc (step_bytes s) (prefix_bytes a) (prefix_bytes b))
 
 pub size-append : (a b : List Step) → size_of (a ++ b) ≡ size_of a + size_of b
-size-append a b = ap length (bytes-append a b) ∙ length-append (front_bytes a) (front_bytes b)
+size-append a b = ap length (bytes-append a b) ∙ length-append (prefix_bytes a) (prefix_bytes b)
 
-pub pieces-append : (a b : List Step) → pieces_of (a ++ b) ≡ pieces_of a ++ pieces_of b
-pieces-append a b = filter_map-append piece_of a b
+pub records-append : (a b : List Step) → records_of (a ++ b) ≡ records_of a ++ records_of b
+records-append a b = filter_map-append record_of a b
 
 -- ---- one step
 
-abbrev pub the_piece : Record → List ℕ → Piece
-the_piece row bytes = record { row = row; bytes = bytes }
+abbrev pub the_record : Record → List ℕ → SpelledRecord
+the_record row bytes = record { row = row; bytes = bytes }
 
--- the step is a record of the mode at the front of the rest
+-- the step is a record of the mode at the start of the rest
 pub record IsRead (m : Mode) (before : List Step) (rest : List ℕ) (step : Step) (n : ℕ) : Type 0 where
   pub row : Record
   pub inside : n ≤ length rest
   pub is_whole : IsWholeRecord m row (take n rest) (first_of (drop n rest) None)
-  pub is_this : step ≡ read (size_of before) (the_piece row (take n rest))
+  pub is_this : step ≡ read (size_of before) (the_record row (take n rest))
 
 -- the step is the first byte of the rest
 pub record IsRaw (rest : List ℕ) (step : Step) (n : ℕ) : Type 0 where
@@ -51,7 +51,7 @@ pub record IsRaw (rest : List ℕ) (step : Step) (n : ℕ) : Type 0 where
   pub count : n ≡ 1
 
 -- what a step is at its place
-abbrev pub IsNextAt : Bool → List Step → Place → List ℕ → Step → ℕ → Type 0
+abbrev pub IsNextAt : Bool → List Step → Location → List ℕ → Step → ℕ → Type 0
 IsNextAt reads_debug before (in_header k) rest step n = IsRead (header_mode k) before rest step n
 IsNextAt reads_debug before (in_part e) rest step n = ((is_raw reads_debug e.part ≡ true) × IsRaw rest step n)
     ⊎ ((is_raw reads_debug e.part ≡ false) × IsRead (body_mode before e rest) before rest step n)
@@ -67,8 +67,8 @@ read_by : (m : Mode) (before : List Step) (rest : List ℕ) (answer : Taken Reco
     → IfGot answer (λ row used. (used ≤ length rest) × IsWholeRecord m row (take used rest) (first_of (drop used rest) None))
     → as_step (size_of before) rest answer ≡ taken step n → IsRead m before rest step n
 read_by m before rest (Got row used) step n got h =
-    let e : taken (read (size_of before) (the_piece row (take used rest))) used ≡ taken step n = h in
-    let its : read (size_of before) (the_piece row (take used rest)) ≡ step = cc in
+    let e : taken (read (size_of before) (the_record row (take used rest))) used ≡ taken step n = h in
+    let its : read (size_of before) (the_record row (take used rest)) ≡ step = cc in
     let count : used ≡ n = cc in
     subst (λ (k : ℕ). IsRead m before rest step k) count (record { row = row; inside = got.0; is_whole = got.1; is_this = sym its })
 read_by m before rest More step n got h = let e : wanting ≡ taken step n = h in absurd cc
@@ -91,75 +91,75 @@ part_at_test : (reads_debug : Bool) (before : List Step) (e : Extent) (rest : Li
 part_at_test reads_debug before e rest step n true is fits h = inl (is, raw_at rest step n (rw is at h))
 part_at_test reads_debug before e rest step n false is fits h = inr (is, read_at (body_mode before e rest) before rest step n fits (rw is at h))
 
-pub next_at : (reads_debug : Bool) (before : List Step) (place : Place) (rest : List ℕ) (step : Step) (n : ℕ) → AreBytes rest
-    → step_at reads_debug before place rest ≡ taken step n → IsNextAt reads_debug before place rest step n
+pub next_at : (reads_debug : Bool) (before : List Step) (fault_offset : Location) (rest : List ℕ) (step : Step) (n : ℕ) → AreBytes rest
+    → step_at reads_debug before fault_offset rest ≡ taken step n → IsNextAt reads_debug before fault_offset rest step n
 next_at reads_debug before (in_header k) rest step n fits h = read_at (header_mode k) before rest step n fits h
 next_at reads_debug before (in_part e) rest step n fits h = part_at_test reads_debug before e rest step n (is_raw reads_debug e.part) refl fits h
 next_at reads_debug before at_end rest step n fits h = read_at mode.Body before rest step n fits h
 
 -- ---- all of them
 
--- what the step takes is the front of the rest
-read_front : (m : Mode) (before : List Step) (rest : List ℕ) (step : Step) (n : ℕ) → IsRead m before rest step n → step_bytes step ≡ take n rest
-read_front m before rest step n is = ap step_bytes is.is_this
+-- what the step takes is the prefix of the rest
+read_prefix : (m : Mode) (before : List Step) (rest : List ℕ) (step : Step) (n : ℕ) → IsRead m before rest step n → step_bytes step ≡ take n rest
+read_prefix m before rest step n is = ap step_bytes is.is_this
 
-raw_front : (rest : List ℕ) (step : Step) (n : ℕ) → IsRaw rest step n → step_bytes step ≡ take n rest
-raw_front rest step n is = ap step_bytes is.is_this ∙ sym (ap (take n) is.split ∙ ap (λ k. take k (is.byte ∷ is.more)) is.count)
+raw_prefix : (rest : List ℕ) (step : Step) (n : ℕ) → IsRaw rest step n → step_bytes step ≡ take n rest
+raw_prefix rest step n is = ap step_bytes is.is_this ∙ sym (ap (take n) is.split ∙ ap (λ k. take k (is.byte ∷ is.more)) is.count)
 
-pub next_front : (reads_debug : Bool) (before : List Step) (place : Place) (rest : List ℕ) (step : Step) (n : ℕ) → IsNextAt reads_debug before place rest step n → step_bytes step ≡ take n rest
-next_front reads_debug before (in_header k) rest step n is = read_front (header_mode k) before rest step n is
-next_front reads_debug before (in_part e) rest step n (inl is) = raw_front rest step n is.1
-next_front reads_debug before (in_part e) rest step n (inr is) = read_front (body_mode before e rest) before rest step n is.1
-next_front reads_debug before at_end rest step n is = read_front mode.Body before rest step n is
+pub next_prefix : (reads_debug : Bool) (before : List Step) (fault_offset : Location) (rest : List ℕ) (step : Step) (n : ℕ) → IsNextAt reads_debug before fault_offset rest step n → step_bytes step ≡ take n rest
+next_prefix reads_debug before (in_header k) rest step n is = read_prefix (header_mode k) before rest step n is
+next_prefix reads_debug before (in_part e) rest step n (inl is) = raw_prefix rest step n is.1
+next_prefix reads_debug before (in_part e) rest step n (inr is) = read_prefix (body_mode before e rest) before rest step n is.1
+next_prefix reads_debug before at_end rest step n is = read_prefix mode.Body before rest step n is
 
 pub no_fault : (a b : Option Fault) → option_or a b ≡ None → (a ≡ None) × (b ≡ None)
 no_fault None b h = (refl, h)
 no_fault (Some fault) b h = absurd cc
 
--- Each step is what stands behind those before it, has no fault, and no part that ends before it has one; the module
+-- Each step is what stands after those before it, has no fault, and no part that ends before it has one; the module
 -- has not ended before it.
 abbrev pub IsWalk : Bool → List Step → List Step → Type 0
 IsWalk reads_debug before [] = Unit {0}
 IsWalk reads_debug before (step ∷ steps) = (is_ended before ≡ false) × (ended_part_fault before ≡ None) × (step_fault reads_debug before (taken step (length (step_bytes step))) ≡ None)
-    × IsNextAt reads_debug before (place_behind before) (front_bytes (step ∷ steps)) step (length (step_bytes step)) × IsWalk reads_debug (before ++ step ∷ []) steps
+    × IsNextAt reads_debug before (location_after before) (prefix_bytes (step ∷ steps)) step (length (step_bytes step)) × IsWalk reads_debug (before ++ step ∷ []) steps
 
 AreBytes-drop : (n : ℕ) (bytes : List ℕ) → AreBytes bytes → AreBytes (drop n bytes)
 AreBytes-drop zero bytes fits = fits
 AreBytes-drop (suc n) [] fits = tt
 AreBytes-drop (suc n) (b ∷ bytes) fits = AreBytes-drop n bytes fits.1
 
--- the stream begins with the bytes of a sound front
-pub front_first : (reads_debug : Bool) (before steps : List Step) (rest : List ℕ) → AreBytes rest → IsSoundFrom reads_debug before steps rest → (later : List ℕ) × (rest ≡ front_bytes steps ++ later)
-front_first reads_debug before [] rest fits sound = (rest, refl)
-front_first reads_debug before (step ∷ steps) rest fits sound =
+-- the stream begins with the bytes of a sound prefix
+pub prefix_first : (reads_debug : Bool) (before steps : List Step) (rest : List ℕ) → AreBytes rest → IsSoundFrom reads_debug before steps rest → (later : List ℕ) × (rest ≡ prefix_bytes steps ++ later)
+prefix_first reads_debug before [] rest fits sound = (rest, refl)
+prefix_first reads_debug before (step ∷ steps) rest fits sound =
     let n = length (step_bytes step) in
-    let first = next_front reads_debug before (place_behind before) rest step n (next_at reads_debug before (place_behind before) rest step n fits sound.2) in
-    let rec = front_first reads_debug (before ++ step ∷ []) steps (drop n rest) (AreBytes-drop n rest fits) sound.3 in
-    (rec.0, sym (take-append-drop n rest) ∙ ap (λ l. l ++ drop n rest) (sym first) ∙ ap (λ l. step_bytes step ++ l) rec.1 ∙ sym (append_assoc (step_bytes step) (front_bytes steps) rec.0))
+    let first = next_prefix reads_debug before (location_after before) rest step n (next_at reads_debug before (location_after before) rest step n fits sound.2) in
+    let rec = prefix_first reads_debug (before ++ step ∷ []) steps (drop n rest) (AreBytes-drop n rest fits) sound.3 in
+    (rec.0, sym (take-append-drop n rest) ∙ ap (λ l. l ++ drop n rest) (sym first) ∙ ap (λ l. step_bytes step ++ l) rec.1 ∙ sym (append_assoc (step_bytes step) (prefix_bytes steps) rec.0))
 
--- a front that is the whole stream is a walk
-pub walk_of : (reads_debug : Bool) (before steps : List Step) → AreBytes (front_bytes steps) → IsSoundFrom reads_debug before steps (front_bytes steps) → IsWalk reads_debug before steps
+-- a prefix that is the whole stream is a walk
+pub walk_of : (reads_debug : Bool) (before steps : List Step) → AreBytes (prefix_bytes steps) → IsSoundFrom reads_debug before steps (prefix_bytes steps) → IsWalk reads_debug before steps
 walk_of reads_debug before [] fits sound = tt
 walk_of reads_debug before (step ∷ steps) fits sound =
     let n = length (step_bytes step) in
-    let rest = front_bytes (step ∷ steps) in
-    let back : drop n rest ≡ front_bytes steps = drop_at (step_bytes step) (front_bytes steps) n refl in
+    let rest = prefix_bytes (step ∷ steps) in
+    let back : drop n rest ≡ prefix_bytes steps = drop_at (step_bytes step) (prefix_bytes steps) n refl in
     let faults = no_fault (ended_part_fault before) (step_fault reads_debug before (next_step reads_debug before rest)) sound.1 in (
       sound.0,
       faults.0,
       subst (λ (t : Taken Step). step_fault reads_debug before t ≡ None) sound.2 faults.1,
-      next_at reads_debug before (place_behind before) rest step n fits sound.2,
+      next_at reads_debug before (location_after before) rest step n fits sound.2,
       walk_of reads_debug (before ++ step ∷ []) steps (subst (λ (l : List ℕ). AreBytes l) back (AreBytes-drop n rest fits))
           (subst (λ (l : List ℕ). IsSoundFrom reads_debug (before ++ step ∷ []) steps l) back sound.3),
     )
 
--- the bytes of a sound front that is as long as the stream are the stream
-pub all_bytes : (reads_debug : Bool) (front : List Step) (bytes : List ℕ) → AreBytes bytes → IsSoundFront reads_debug front bytes → size_of front ≡ length bytes → bytes ≡ front_bytes front
-all_bytes reads_debug front bytes fits sound size =
-    let first = front_first reads_debug [] front bytes fits sound in
-    let count : length bytes ≡ size_of front + length first.0 = ap length first.1 ∙ length-append (front_bytes front) first.0 in
+-- the bytes of a sound prefix that is as long as the stream are the stream
+pub all_bytes : (reads_debug : Bool) (prefix : List Step) (bytes : List ℕ) → AreBytes bytes → IsSoundPrefix reads_debug prefix bytes → size_of prefix ≡ length bytes → bytes ≡ prefix_bytes prefix
+all_bytes reads_debug prefix bytes fits sound size =
+    let first = prefix_first reads_debug [] prefix bytes fits sound in
+    let count : length bytes ≡ size_of prefix + length first.0 = ap length first.1 ∙ length-append (prefix_bytes prefix) first.0 in
     let none : length first.0 ≡ 0 = omega arith in
-    first.1 ∙ ap (λ l. front_bytes front ++ l) (nothing first.0 none) ∙ append-nil (front_bytes front)
+    first.1 ∙ ap (λ l. prefix_bytes prefix ++ l) (nothing first.0 none) ∙ append-nil (prefix_bytes prefix)
   where
     nothing : (l : List ℕ) → length l ≡ 0 → l ≡ []
     nothing [] h = refl

@@ -2,9 +2,9 @@ pub mod TableLaws
 pub mod RuleLaws
 pub mod TreeLaws
 pub mod WholeLaws
-pub mod SaidLaws
+pub mod StatedLaws
 pub mod NameLaws
-pub mod FrontLaws
+pub mod PrefixLaws
 pub mod AddLaws
 pub mod JudgeLaws
 pub mod OwnParts
@@ -25,7 +25,7 @@ pub mod EndedSliced
 pub mod EndedSlicing
 pub mod EndedNames
 pub mod EndedGathered
-pub mod EndedSaid
+pub mod EndedStated
 pub mod EndedTrees
 pub mod EndedGood
 pub mod EndedEntries
@@ -40,11 +40,11 @@ pub mod SpelledLoads
 pub mod SpelledKept
 pub mod SpelledOffsets
 pub mod SpelledFile
-pub mod SpelledFront
-pub mod EndedFront
-pub mod FrontsOne
+pub mod SpelledPrefix
+pub mod EndedPrefix
+pub mod PrefixesOne
 pub mod StayLaws
-pub mod FrontJudged
+pub mod PrefixJudged
 pub mod WeighTrees
 pub mod WeighRecords
 pub mod WeighSums
@@ -55,7 +55,7 @@ pub mod WeighFiles
 pub mod BuildLaws
 pub mod SpelledJudged
 mod Worked
-pub mod PieceLaws
+pub mod ChunkLaws
 pub mod FeedLaws
 pub mod ShortLaws
 pub mod FinishLaws

@@ -1,4 +1,4 @@
--- What records say of publics and references, by the tables of their indexes.
+-- What records state of publics and references, by the tables of their indexes.
 use Rattle.std.proofs.Common.{◌≡◌, ℕ, zero, suc, ◌+◌, ◌<◌, ◌==◌, ◌||◌, Bool, true, false, cond, nat_eq, get_or, take, List, [], ◌∷◌, ◌++◌, length, map, filter_map, slice_get, Option, Some, None, option_map, refl, sym, ap, subst, ◌∙◌, arith, append-nil, eq-eqb}
 use Rattle.std.specs.Prelude.{option_and_then, unwrap_or, slice_set, slice_index_or}
 use Rattle.std.specs.List.{cons_option, IsDistinct, AllByRecursion}
@@ -10,46 +10,46 @@ use Rattle.mufom_records.specs.declared.record.Record.{Record}
 use Rattle.mufom_records.specs.declared.record.Record.TheVariants as r
 use Rattle.mufom_names.specs.declared.name.Note.{Note}
 use Rattle.mufom_names.specs.declared.name.Weak.{Weak}
-use Rattle.mufom_module.specs.Pieces.{Piece, tree_in, assigned_by, declared, declared_by, of_kind}
+use Rattle.mufom_module.specs.SpelledRecords.{SpelledRecord, tree_in, assigned_by, declared, declared_by, of_kind}
 use Rattle.mufom_module.specs.Gathered.{answers, first_answer, value_for, weak_for}
 use Rattle.mufom_read.specs.declared.kept.KeptRecord.{KeptRecord}
 use Rattle.mufom_read.specs.declared.notes.Named.{Named}
 use Rattle.mufom_read.specs.declared.notes.Named.TheVariants as named
-use Rattle.mufom_read.specs.Kept.{tables_of, has, value_said, weakness_said, piece_of_kept}
-use Rattle.mufom_read.specs.Built.{said_at, value_in, values_in, weak_in, kind_of, none_for, note_in, note_for, notes_for, notes_with}
+use Rattle.mufom_read.specs.Kept.{tables_of, has, value_stated, weakness_stated, record_of_kept}
+use Rattle.mufom_read.specs.Built.{stated_at, value_in, values_in, weak_in, kind_of, none_for, note_in, note_for, notes_for, notes_with}
 use Rattle.mufom_read.proofs.TableLaws.{eqb-swap}
-use Rattle.mufom_read.proofs.SaidLaws.{IsPairing, said-first, first_of, second_of, second_for, map-cons}
+use Rattle.mufom_read.proofs.StatedLaws.{IsPairing, stated-first, first_of, second_of, second_for, map-cons}
 
 -- ---- values and weaknesses
 
-abbrev value_pair : Piece → Record → Option (ℕ × Tree)
+abbrev value_pair : SpelledRecord → Record → Option (ℕ × Tree)
 value_pair p (r.PublicValue i value) = Some (i, tree_in p value)
 value_pair p _ = None
 
-value_is : IsPairing (λ p. value_pair p p.row) value_said (λ p. value_in p p.row) (λ i p. value_for i p p.row)
+value_is : IsPairing (λ p. value_pair p p.row) value_stated (λ p. value_in p p.row) (λ i p. value_for i p p.row)
 value_is = record { keys = λ p. keys p p.row; values = λ p. values p p.row; asks = λ i p. asks i p p.row } where
-  keys : (p : Piece) (row : Record) → option_and_then value_said (assigned_by row) ≡ option_map first_of (value_pair p row)
+  keys : (p : SpelledRecord) (row : Record) → option_and_then value_stated (assigned_by row) ≡ option_map first_of (value_pair p row)
   keys p (r.PublicValue i value) = refl
   keys p row = refl
 
-  values : (p : Piece) (row : Record) → value_in p row ≡ option_map second_of (value_pair p row)
+  values : (p : SpelledRecord) (row : Record) → value_in p row ≡ option_map second_of (value_pair p row)
   values p (r.PublicValue i value) = refl
   values p row = refl
 
-  asks : (i : ℕ) (p : Piece) (row : Record) → value_for i p row ≡ option_and_then (second_for i) (value_pair p row)
+  asks : (i : ℕ) (p : SpelledRecord) (row : Record) → value_for i p row ≡ option_and_then (second_for i) (value_pair p row)
   asks k p (r.PublicValue i value) = refl
   asks k p row = refl
 
-pub value-said : (i : ℕ) (part : List Piece) → said_at (tables_of part).values (values_in part) i ≡ slice_get (filter_map (λ p. value_for i p p.row) part) 0
-value-said i part = said-first (λ p. value_pair p p.row) value_said (λ p. value_in p p.row) (λ i p. value_for i p p.row) value_is i part
+pub value-stated : (i : ℕ) (part : List SpelledRecord) → stated_at (tables_of part).values (values_in part) i ≡ slice_get (filter_map (λ p. value_for i p p.row) part) 0
+value-stated i part = stated-first (λ p. value_pair p p.row) value_stated (λ p. value_in p p.row) (λ i p. value_for i p p.row) value_is i part
 
 abbrev weak_pair : Record → Option (ℕ × Weak)
 weak_pair (r.WeakReference i n default) = Some (i, record { size = n; default = unwrap_or default 0 })
 weak_pair _ = None
 
-weak_is : IsPairing (λ p. weak_pair p.row) weakness_said (λ p. weak_in p.row) (λ i p. weak_for i p.row)
+weak_is : IsPairing (λ p. weak_pair p.row) weakness_stated (λ p. weak_in p.row) (λ i p. weak_for i p.row)
 weak_is = record { keys = λ p. keys p.row; values = λ p. values p.row; asks = λ i p. asks i p.row } where
-  keys : (row : Record) → option_and_then weakness_said (assigned_by row) ≡ option_map first_of (weak_pair row)
+  keys : (row : Record) → option_and_then weakness_stated (assigned_by row) ≡ option_map first_of (weak_pair row)
   keys (r.WeakReference i n default) = refl
   keys row = refl
 
@@ -61,8 +61,8 @@ weak_is = record { keys = λ p. keys p.row; values = λ p. values p.row; asks = 
   asks k (r.WeakReference i n default) = refl
   asks k row = refl
 
-pub weak-said : (i : ℕ) (part : List Piece) → said_at (tables_of part).weaknesses (answers weak_in part) i ≡ first_answer (weak_for i) part
-weak-said i part = said-first (λ p. weak_pair p.row) weakness_said (λ p. weak_in p.row) (λ i p. weak_for i p.row) weak_is i part
+pub weak-stated : (i : ℕ) (part : List SpelledRecord) → stated_at (tables_of part).weaknesses (answers weak_in part) i ≡ first_answer (weak_for i) part
+weak-stated i part = stated-first (λ p. weak_pair p.row) weakness_stated (λ p. weak_in p.row) (λ i p. weak_for i p.row) weak_is i part
 
 -- ---- notes of each index
 
@@ -73,35 +73,35 @@ absent index note notes (j ∷ js) none =
     let both = or_parts (j == index) (has js index) none in
     (λ k. cond (sym both.0 k) (notes j ++ note ∷ []) (notes j) ∷ absent index note notes js both.1 k)
 
-none_behind : (j : ℕ) (js : List ℕ) → AllByRecursion (λ y. nat_eq j y ≡ false) js → has js j ≡ false
-none_behind j [] all = refl
-none_behind j (y ∷ js) all = (λ k. (eqb-swap y j ∙ all.0) k || none_behind j js all.1 k)
+none_after : (j : ℕ) (js : List ℕ) → AllByRecursion (λ y. nat_eq j y ≡ false) js → has js j ≡ false
+none_after j [] all = refl
+none_after j (y ∷ js) all = (λ k. (eqb-swap y j ∙ all.0) k || none_after j js all.1 k)
 
-other_there : (j index place : ℕ) (js : List ℕ) → AllByRecursion (λ y. nat_eq j y ≡ false) js → slice_get js place ≡ Some index → (j == index) ≡ false
-other_there j index place [] all there = cc
+other_there : (j index offset : ℕ) (js : List ℕ) → AllByRecursion (λ y. nat_eq j y ≡ false) js → slice_get js offset ≡ Some index → (j == index) ≡ false
+other_there j index offset [] all there = cc
 other_there j index zero (y ∷ js) all there = subst (λ (o : Option ℕ). (j == unwrap_or o j) ≡ false) there all.0
-other_there j index (suc place) (y ∷ js) all there = other_there j index place js all.1 there
+other_there j index (suc offset) (y ∷ js) all there = other_there j index offset js all.1 there
 
-put : (index : ℕ) (note : Note) (notes : ℕ → List Note) (js : List ℕ) (place : ℕ) → slice_get js place ≡ Some index → IsDistinct nat_eq js
-    → slice_set (map notes js) place (notes index ++ note ∷ []) ≡ map (notes_with index note notes) js
+put : (index : ℕ) (note : Note) (notes : ℕ → List Note) (js : List ℕ) (offset : ℕ) → slice_get js offset ≡ Some index → IsDistinct nat_eq js
+    → slice_set (map notes js) offset (notes index ++ note ∷ []) ≡ map (notes_with index note notes) js
 unfolding IsDistinct
-put index note notes [] place there distinct = cc
+put index note notes [] offset there distinct = cc
 put index note notes (j ∷ js) zero there distinct =
     let same : j ≡ index = ap (λ (o : Option ℕ). unwrap_or o j) there in
-    (λ k. cond (sym (eq-eqb j index same) k) (notes (sym same k) ++ note ∷ []) (notes j) ∷ absent index note notes js (subst (λ (n : ℕ). has js n ≡ false) same (none_behind j js distinct.0)) k)
-put index note notes (j ∷ js) (suc place) there distinct =
-    (λ k. cond (sym (other_there j index place js distinct.0 there) k) (notes j ++ note ∷ []) (notes j) ∷ put index note notes js place there distinct.1 k)
+    (λ k. cond (sym (eq-eqb j index same) k) (notes (sym same k) ++ note ∷ []) (notes j) ∷ absent index note notes js (subst (λ (n : ℕ). has js n ≡ false) same (none_after j js distinct.0)) k)
+put index note notes (j ∷ js) (suc offset) there distinct =
+    (λ k. cond (sym (other_there j index offset js distinct.0 there) k) (notes j ++ note ∷ []) (notes j) ∷ put index note notes js offset there distinct.1 k)
 
-found : (index : ℕ) (notes : ℕ → List Note) (old : List Note) (js : List ℕ) (place : ℕ) → slice_get js place ≡ Some index → slice_index_or (map notes js) place old ≡ notes index
-found index notes old [] place there = cc
+found : (index : ℕ) (notes : ℕ → List Note) (old : List Note) (js : List ℕ) (offset : ℕ) → slice_get js offset ≡ Some index → slice_index_or (map notes js) offset old ≡ notes index
+found index notes old [] offset there = cc
 found index notes old (j ∷ js) zero there = ap (λ (o : Option ℕ). notes (unwrap_or o j)) there
-found index notes old (j ∷ js) (suc place) there = found index notes old js place there
+found index notes old (j ∷ js) (suc offset) there = found index notes old js offset there
 
-pub with-note : (index : ℕ) (note : Note) (notes : ℕ → List Note) (js : List ℕ) (place : ℕ) (groups : List (List Note)) (old new : List Note) → slice_get js place ≡ Some index → IsDistinct nat_eq js
-    → groups ≡ map notes js → old ≡ slice_index_or groups place old → new ≡ old ++ note ∷ [] → slice_set groups place new ≡ map (notes_with index note notes) js
-with-note index note notes js place groups old new there distinct same is more =
-    let e : old ≡ notes index = is ∙ ap (λ gs. slice_index_or gs place old) same ∙ found index notes old js place there in
-    (λ k. slice_set (same k) place ((more ∙ ap (λ l. l ++ note ∷ []) e) k)) ∙ put index note notes js place there distinct
+pub with-note : (index : ℕ) (note : Note) (notes : ℕ → List Note) (js : List ℕ) (offset : ℕ) (groups : List (List Note)) (old new : List Note) → slice_get js offset ≡ Some index → IsDistinct nat_eq js
+    → groups ≡ map notes js → old ≡ slice_index_or groups offset old → new ≡ old ++ note ∷ [] → slice_set groups offset new ≡ map (notes_with index note notes) js
+with-note index note notes js offset groups old new there distinct same is more =
+    let e : old ≡ notes index = is ∙ ap (λ gs. slice_index_or gs offset old) same ∙ found index notes old js offset there in
+    (λ k. slice_set (same k) offset ((more ∙ ap (λ l. l ++ note ∷ []) e) k)) ∙ put index note notes js offset there distinct
 
 note_asks : (which : Named) (i : ℕ) (row : Record) → note_for which i row ≡ option_and_then (second_for i) (note_in which row)
 note_asks named.Public i (r.PublicNote j a b ns) = refl
@@ -126,14 +126,14 @@ note-taken which row index note notes js some = (λ k. map (λ i. step i k) js) 
 
 -- ---- the records one after another
 
-pub take-more : (kept : List KeptRecord) (n : ℕ) (k : KeptRecord) → n < length kept → k ≡ get_or kept n k → map piece_of_kept (take (n + 1) kept) ≡ map piece_of_kept (take n kept) ++ piece_of_kept k ∷ []
+pub take-more : (kept : List KeptRecord) (n : ℕ) (k : KeptRecord) → n < length kept → k ≡ get_or kept n k → map record_of_kept (take (n + 1) kept) ≡ map record_of_kept (take n kept) ++ record_of_kept k ∷ []
 take-more kept n k within is = grind (arith, common_steps)
 
 pub notes-more : (which : Named) (js : List ℕ) (kept : List KeptRecord) (n : ℕ) (k : KeptRecord) → n < length kept → k ≡ get_or kept n k
-    → map (λ i. notes_for which i (map piece_of_kept (take n kept)) ++ cons_option (note_for which i k.row) []) js ≡ map (λ i. notes_for which i (map piece_of_kept (take (n + 1) kept))) js
+    → map (λ i. notes_for which i (map record_of_kept (take n kept)) ++ cons_option (note_for which i k.row) []) js ≡ map (λ i. notes_for which i (map record_of_kept (take (n + 1) kept))) js
 notes-more which js kept n k within is = (λ z. map (λ i. step i z) js) where
-  step : (i : ℕ) → notes_for which i (map piece_of_kept (take n kept)) ++ cons_option (note_for which i k.row) [] ≡ notes_for which i (map piece_of_kept (take (n + 1) kept))
-  step i = sym (ap (λ ps. notes_for which i ps) (take-more kept n k within is) ∙ filter_map-append (λ p. note_for which i p.row) (map piece_of_kept (take n kept)) (piece_of_kept k ∷ []))
+  step : (i : ℕ) → notes_for which i (map record_of_kept (take n kept)) ++ cons_option (note_for which i k.row) [] ≡ notes_for which i (map record_of_kept (take (n + 1) kept))
+  step i = sym (ap (λ ps. notes_for which i ps) (take-more kept n k within is) ∙ filter_map-append (λ p. note_for which i p.row) (map record_of_kept (take n kept)) (record_of_kept k ∷ []))
 
 none_declared : (which : Named) (row : Record) → none_for which row ≡ option_map (λ i. []) (of_kind (kind_of which) (declared_by row))
 none_declared named.Public (r.PublicName i name) = refl
@@ -148,7 +148,7 @@ none_declared named.Reference (r.DebugName i name) = refl
 none_declared named.Reference row = refl
 
 -- no notes yet, for each index
-pub none-yet : (which : Named) (part : List Piece) → filter_map (λ p. none_for which p.row) part ≡ map (λ i. []) (declared (kind_of which) part)
+pub none-yet : (which : Named) (part : List SpelledRecord) → filter_map (λ p. none_for which p.row) part ≡ map (λ i. []) (declared (kind_of which) part)
 none-yet which [] = refl
 none-yet which (p ∷ part) = (λ k. cons_option (none_declared which p.row k) (none-yet which part k)) ∙ sym (map-cons (λ i. []) (of_kind (kind_of which) (declared_by p.row)) (declared (kind_of which) part))
 

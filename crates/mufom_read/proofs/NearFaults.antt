@@ -1,4 +1,4 @@
--- A fault of a record stands at a byte of the input, or behind its last.
+-- A fault of a record stands at a byte of the input, or after its last.
 use Rattle.std.proofs.Common.{inl, inr, ℕ, ◌+◌, ◌≤◌, Bool, true, false, cond, ◌==◌, List, length, Option, Some, None, ap, arith, length-append}
 use Rattle.mufom_numbers.specs.declared.reason.Reason.{Reason}
 use Rattle.mufom_numbers.specs.declared.reason.Reason.TheVariants as why
@@ -14,10 +14,10 @@ use Rattle.mufom_records.specs.Faults.{TokenFault, ExpressionFault, FieldFault, 
 abbrev Layout : Type 0
 Layout = Layouts.Layout
 
--- ---- layouts whose numbers name no fault behind themselves
+-- ---- layouts whose numbers name no fault after themselves
 
 abbrev pub IsNear : Field → Type 0
-IsNear (number fits place fault) = (n : ℕ) → place n ≤ n
+IsNear (number fits fault_offset fault) = (n : ℕ) → fault_offset n ≤ n
 IsNear _ = Unit {0}
 
 abbrev pub AreNear : Layout → Type 0
@@ -62,28 +62,28 @@ token_near tokens terms bytes offset why.AfterEnd is = absurd is
 token_near tokens terms bytes offset why.FileLimit is = absurd is
 token_near tokens terms bytes offset why.NotBuilt is = absurd is
 
-expression_near : (at : ℕ) (bytes : List ℕ) (place : ℕ) (reason : Reason) → ExpressionFault at bytes place reason → place ≤ at + length bytes
-expression_near at bytes place reason (offset, (tokens, terms, front, rest, spells, leaves, few, (fault, here), all)) =
-    omega (arith, here, token_near _ _ rest offset reason fault, ap length all, length-append front rest)
+expression_near : (at : ℕ) (bytes : List ℕ) (fault_offset : ℕ) (reason : Reason) → ExpressionFault at bytes fault_offset reason → fault_offset ≤ at + length bytes
+expression_near at bytes fault_offset reason (offset, (tokens, terms, prefix, rest, spells, leaves, few, (fault, here), all)) =
+    omega (arith, here, token_near _ _ rest offset reason fault, ap length all, length-append prefix rest)
 
-field_near : (f : Field) (at : ℕ) (bytes : List ℕ) (place : ℕ) (reason : Reason) → IsNear f → FieldFault f at bytes place reason → place ≤ at + length bytes
-field_near byte at bytes place reason near is = absurd is
-field_near (number fits where_ fault) at bytes place reason near (inl is) = omega (arith, is.1)
-field_near (number fits where_ fault) at bytes place reason near (inr is) = omega (arith, is.1, near at)
-field_near string at bytes place reason near is = omega (arith, is.1)
-field_near (run n) at bytes place reason near is = absurd is
-field_near (letter known) at bytes place reason near is = absurd is
-field_near optional_number at bytes place reason near is = absurd is
-field_near (numbers most) at bytes place reason near is = absurd is
-field_near expression at bytes place reason near is = expression_near at bytes place reason is
-field_near optional_expression at bytes place reason near is = expression_near at bytes place reason is.1
+field_near : (f : Field) (at : ℕ) (bytes : List ℕ) (fault_offset : ℕ) (reason : Reason) → IsNear f → FieldFault f at bytes fault_offset reason → fault_offset ≤ at + length bytes
+field_near byte at bytes fault_offset reason near is = absurd is
+field_near (number fits where_ fault) at bytes fault_offset reason near (inl is) = omega (arith, is.1)
+field_near (number fits where_ fault) at bytes fault_offset reason near (inr is) = omega (arith, is.1, near at)
+field_near string at bytes fault_offset reason near is = omega (arith, is.1)
+field_near (run n) at bytes fault_offset reason near is = absurd is
+field_near (letter known) at bytes fault_offset reason near is = absurd is
+field_near optional_number at bytes fault_offset reason near is = absurd is
+field_near (numbers most) at bytes fault_offset reason near is = absurd is
+field_near expression at bytes fault_offset reason near is = expression_near at bytes fault_offset reason is
+field_near optional_expression at bytes fault_offset reason near is = expression_near at bytes fault_offset reason is.1
 
-near : (layout : Layout) (at : ℕ) (bytes : List ℕ) (place : ℕ) (reason : Reason) → AreNear layout → HasFault layout at bytes place reason → place ≤ at + length bytes
-near (Layouts.whole row) at bytes place reason good is = absurd is
-near (Layouts.refused back why_) at bytes place reason good is = omega (arith, is.0)
-near (Layouts.field f rest) at bytes place reason good (inl is) = field_near f at bytes place reason good.0 is
-near (Layouts.field f rest) at bytes place reason good (inr (x, front, back, spells, fault, all)) =
-    omega (arith, near (rest x) (at + length front) back place reason (good.1 x) fault, ap length all, length-append front back)
+near : (layout : Layout) (at : ℕ) (bytes : List ℕ) (fault_offset : ℕ) (reason : Reason) → AreNear layout → HasFault layout at bytes fault_offset reason → fault_offset ≤ at + length bytes
+near (Layouts.whole row) at bytes fault_offset reason good is = absurd is
+near (Layouts.refused back why_) at bytes fault_offset reason good is = omega (arith, is.0)
+near (Layouts.field f rest) at bytes fault_offset reason good (inl is) = field_near f at bytes fault_offset reason good.0 is
+near (Layouts.field f rest) at bytes fault_offset reason good (inr (x, prefix, back, spells, fault, all)) =
+    omega (arith, near (rest x) (at + length prefix) back fault_offset reason (good.1 x) fault, ap length all, length-append prefix back)
 
 -- ---- the table
 

@@ -18,7 +18,7 @@ Layout = Layouts.Layout
 -- what a field's value names stands in the text
 abbrev pub Owned : List ℕ → (f : Field) → ValueOf f → Type 0
 Owned text byte b = Unit {0}
-Owned text (number fits place fault) n = Unit {0}
+Owned text (number fits fault_offset fault) n = Unit {0}
 Owned text string span = LiesIn text span
 Owned text (run n) span = LiesIn text span
 Owned text (letter known) b = Unit {0}
@@ -33,18 +33,18 @@ Owns text (Layouts.whole row) = HasParts text row
 Owns text (Layouts.refused back reason) = Unit {0}
 Owns text (Layouts.field f rest) = (x : ValueOf f) → Owned text f x → Owns text (rest x)
 
-drop_front : (front back : List ℕ) → drop (length front) (front ++ back) ≡ back
-drop_front [] back = refl
-drop_front (b ∷ front) back = drop_front front back
+drop_prefix : (prefix back : List ℕ) → drop (length prefix) (prefix ++ back) ≡ back
+drop_prefix [] back = refl
+drop_prefix (b ∷ prefix) back = drop_prefix prefix back
 
-take_front : (front back : List ℕ) → take (length front) (front ++ back) ≡ front
-take_front [] back = refl
-take_front (b ∷ front) back = ap (λ l. b ∷ l) (take_front front back)
+take_prefix : (prefix back : List ℕ) → take (length prefix) (prefix ++ back) ≡ prefix
+take_prefix [] back = refl
+take_prefix (b ∷ prefix) back = ap (λ l. b ∷ l) (take_prefix prefix back)
 
 slice_mid : (pre x back : List ℕ) → slice_range (pre ++ (x ++ back)) (length pre) (length pre + length x) ≡ x
 slice_mid pre x back =
     let count : length pre + length x - length pre ≡ length x = omega arith in
-    ap (take (length pre + length x - length pre)) (drop_front pre (x ++ back)) ∙ ap (λ n. take n (x ++ back)) count ∙ take_front x back
+    ap (take (length pre + length x - length pre)) (drop_prefix pre (x ++ back)) ∙ ap (λ n. take n (x ++ back)) count ∙ take_prefix x back
 
 expression_in : (text pre bytes back : List ℕ) (span : Span) → text ≡ pre ++ (bytes ++ back) → ((tree : Tree) × SpellsTree tree bytes) → span ≡ span_at (length pre) (length bytes) → IsExpressionIn text span
 expression_in text pre bytes back span all tree is =
@@ -57,7 +57,7 @@ lies_in text pre bytes back span start len all is low high =
 
 field_owned : (f : Field) (x : ValueOf f) (text pre bytes back : List ℕ) (next : Option ℕ) → text ≡ pre ++ (bytes ++ back) → SpellsField f x (length pre) bytes next → Owned text f x
 field_owned byte x text pre bytes back next all is = tt
-field_owned (number fits place fault) x text pre bytes back next all is = tt
+field_owned (number fits fault_offset fault) x text pre bytes back next all is = tt
 field_owned string x text pre bytes back next all is =
     lies_in text pre bytes back x (length pre + length is.0) (length is.1) all is.4 (omega arith) (omega (arith, ap length is.5, length-append is.0 is.1))
 field_owned (run n) x text pre bytes back next all is = lies_in text pre bytes back x (length pre) n all is.2 (omega arith) (omega (arith, is.0))

@@ -1,4 +1,4 @@
--- The bytes of the extension and of the environment, as far as they stand behind a front.
+-- The bytes of the extension and of the environment, as far as they stand after a prefix.
 use Rattle.std.proofs.Common.{◌≡◌, ◌≢◌, ◌⊎◌, inl, inr, ℕ, zero, suc, ◌+◌, ◌-◌, ◌<◌, ◌≤◌, ◌==◌, ◌&&◌, ◌||◌, Bool, true, false, not, true≢false, nat_lt, nat_le, List, [], ◌∷◌, ◌++◌, length, take, drop, map, filter_map, Option, Some, None, is_some, cond, refl, sym, ap, subst, ◌∙◌, arith, append-nil, append_assoc, length-append, length-drop, le-ltb, lt-ltb, leb-true, leb-false, le-leb, ltb-true, ltb-false, eqb-true, eq-eqb, ne_eqb}
 use Rattle.std.specs.Prelude.{slice_range}
 use Rattle.std.specs.List.{list_any, cons_option}
@@ -10,19 +10,19 @@ use Rattle.mufom_numbers.specs.declared.reason.Reason.{Reason}
 use Rattle.mufom_numbers.specs.declared.reason.Reason.TheVariants as why
 use Rattle.mufom_records.specs.declared.record.Record.{Record}
 use Rattle.mufom_records.specs.declared.record.Record.TheVariants as r
-use Rattle.mufom_module.specs.Pieces.{Piece}
+use Rattle.mufom_module.specs.SpelledRecords.{SpelledRecord}
 use Rattle.mufom_module.specs.RecordParts.{Part, number_of, extension_part, environment_part, section_part, external_part, debug_part, data_part, trailer_part, end_part, stands_in}
 use Rattle.mufom_module.specs.Grammar.{offset_in}
-use Rattle.mufom_read.specs.declared.front.Place as code
-use Rattle.mufom_read.specs.declared.front.Place.TheVariants as place
+use Rattle.mufom_read.specs.declared.prefix.Location as code
+use Rattle.mufom_read.specs.declared.prefix.Location.TheVariants as offset
 use Rattle.mufom_read.specs.declared.part.Part as codes
 use Rattle.mufom_read.specs.declared.part.Part.TheVariants as part_of_code
 use Rattle.mufom_read.specs.declared.part.Extent as extents
-use Rattle.mufom_read.specs.Fronts.{Step, raw, read, step_bytes, front_bytes, size_of, piece_of, pieces_of, offsets_of, Extent, first_present, part_among, parts_in_order, part_at, place_behind}
+use Rattle.mufom_read.specs.Prefixes.{Step, raw, read, step_bytes, prefix_bytes, size_of, record_of, records_of, offsets_of, Extent, first_present, part_among, parts_in_order, part_at, location_after}
 use Rattle.mufom_read.specs.Faults.{fault_if, header_fault, record_fault, part_record_fault, is_out_of_order, is_left_for_later, leaves_gap}
-use Rattle.mufom_read.specs.Said.{bytes_between, part_bytes}
+use Rattle.mufom_read.specs.Stated.{bytes_between, part_bytes}
 use Rattle.mufom_read.specs.PartsOfCode.{as_part, as_extent}
-use Rattle.mufom_read.specs.FrontOfCode.{AreOrdered, IsPlacedWell, as_place, offset_count, bytes_so_far, extension_in, environment_in}
+use Rattle.mufom_read.specs.PrefixOfCode.{AreOrdered, IsPlacedWell, as_location, offset_count, bytes_so_far, extension_in, environment_in}
 use Rattle.mufom_read.proofs.PlaceLaws.{part-found, header-found, end-found}
 
 nothing : {A : Type 0} {x : A} → Some x ≡ None → ⊥
@@ -40,13 +40,13 @@ none_there (suc n) = refl
 same_range : (w to : ℕ) (bytes more : List ℕ) → to ≤ length bytes → slice_range (bytes ++ more) w to ≡ slice_range bytes w to
 same_range w to bytes more end = by_case (cases_lt (length bytes) w) where
   by_case : ((length bytes < w) ⊎ (w ≤ length bytes)) → slice_range (bytes ++ more) w to ≡ slice_range bytes w to
-  by_case (inl behind) = none_wanted (to - w) (drop w (bytes ++ more)) (drop w bytes) (omega (arith, behind, end))
+  by_case (inl after) = none_wanted (to - w) (drop w (bytes ++ more)) (drop w bytes) (omega (arith, after, end))
   by_case (inr within) = ap (take (to - w)) (drop-append-le w bytes more within) ∙ take-append-le (to - w) (drop w bytes) more (omega (arith, within, end, length-drop w bytes))
 
--- bytes behind a part's end are none of it
-between-behind : (w : ℕ) (os bytes more : List ℕ) → first_present os ≤ length bytes → bytes_between (w ∷ os) (bytes ++ more) ≡ bytes_between (w ∷ os) bytes
-between-behind zero os bytes more end = refl
-between-behind (suc w) os bytes more end = same_range (suc w) (first_present os) bytes more end
+-- bytes after a part's end are none of it
+between-after : (w : ℕ) (os bytes more : List ℕ) → first_present os ≤ length bytes → bytes_between (w ∷ os) (bytes ++ more) ≡ bytes_between (w ∷ os) bytes
+between-after zero os bytes more end = refl
+between-after (suc w) os bytes more end = same_range (suc w) (first_present os) bytes more end
 
 -- nor are those before its begin
 between-before : (w : ℕ) (os bytes : List ℕ) → (w ≡ 0) ⊎ (length bytes ≤ w) → bytes_between (w ∷ os) bytes ≡ []
@@ -80,10 +80,10 @@ third true true c x y e = e
 third true false c x y e = absurd (true≢false (sym y))
 third false b c x y e = absurd (true≢false (sym x))
 
--- where a byte stands behind the begin of parts, and not in the first of them, it stands behind the begin of the others
-behind_first : (w : ℕ) (os : List ℕ) (at : ℕ) → first_present (w ∷ os) ≤ at → is_here w os at ≡ false → first_present os ≤ at
-behind_first zero os at begun other = begun
-behind_first (suc w) os at begun other = ltb-false at (first_present os) (third (not (suc w == 0)) (nat_le (suc w) at) (nat_lt at (first_present os)) (ap not (ne_eqb (suc w) 0 (λ same. omega (arith, same)))) (le-leb (suc w) at begun) other)
+-- where a byte stands after the begin of parts, and not in the first of them, it stands after the begin of the others
+after_first : (w : ℕ) (os : List ℕ) (at : ℕ) → first_present (w ∷ os) ≤ at → is_here w os at ≡ false → first_present os ≤ at
+after_first zero os at begun other = begun
+after_first (suc w) os at begun other = ltb-false at (first_present os) (third (not (suc w == 0)) (nat_le (suc w) at) (nat_lt at (first_present os)) (ap not (ne_eqb (suc w) 0 (λ same. omega (arith, same)))) (le-leb (suc w) at begun) other)
 
 part_of_some : (x e : Extent) → Some x ≡ Some e → x.part ≡ e.part
 part_of_some x e same = ap the_part same where
@@ -115,8 +115,8 @@ listed (part ∷ parts) (w ∷ os) at e found = by_case (is_here w os at) found 
 
   by_case : (test : Bool) → cond test (Some here) (part_among parts os at) ≡ Some e → (part_among parts os at ≡ Some e → list_any (λ q. number_of q == number_of e.part) parts ≡ true)
       → ((number_of part == number_of e.part) || list_any (λ q. number_of q == number_of e.part) parts) ≡ true
-  by_case true f behind = or_here _ _ (eq-eqb (number_of part) (number_of e.part) (ap number_of (part_of_some here e f)))
-  by_case false f behind = or_else _ _ (behind f)
+  by_case true f after = or_here _ _ (eq-eqb (number_of part) (number_of e.part) (ap number_of (part_of_some here e f)))
+  by_case false f after = or_else _ _ (after f)
 
 -- it is this one, the first, and none of the others
 is_first : (part : Part) (parts : List Part) (w : ℕ) (os : List ℕ) (at : ℕ) (e : Extent) → part_among (part ∷ parts) (w ∷ os) at ≡ Some e → list_any (λ q. number_of q == number_of e.part) parts ≡ false
@@ -148,9 +148,9 @@ is_other part e differ x same own = true≢false (sym (eq-eqb (number_of e.part)
 no_part : (part : Part) → IsOther part None
 no_part part x same own = nothing (sym same)
 
--- ---- more bytes behind those of a front
+-- ---- more bytes after those of a prefix
 
--- the bytes of the two parts behind more bytes
+-- the bytes of the two parts after more bytes
 abbrev BytesAre : List ℕ → List ℕ → List ℕ → List ℕ → List ℕ → Type 0
 BytesAre os bytes new extension environment = (bytes_between os new ≡ bytes_between os bytes ++ extension) × (bytes_between (drop 1 os) new ≡ bytes_between (drop 1 os) bytes ++ environment)
 
@@ -161,10 +161,10 @@ neither [] bytes more o many begun found ext env = absurd (omega (arith, many))
 neither (w ∷ []) bytes more o many begun found ext env = absurd (omega (arith, many))
 neither (w ∷ v ∷ os) bytes more o many begun found ext env =
     let first = not_first extension_part (environment_part ∷ section_part ∷ external_part ∷ debug_part ∷ data_part ∷ trailer_part ∷ []) w (v ∷ os) (length bytes) o found ext in
-    let behind = behind_first w (v ∷ os) (length bytes) begun first.0 in
+    let after = after_first w (v ∷ os) (length bytes) begun first.0 in
     let second = not_first environment_part (section_part ∷ external_part ∷ debug_part ∷ data_part ∷ trailer_part ∷ []) v os (length bytes) o first.1 env in (
-      between-behind w (v ∷ os) bytes more behind ∙ sym (append-nil (bytes_between (w ∷ v ∷ os) bytes)),
-      between-behind v os bytes more (behind_first v os (length bytes) behind second.0) ∙ sym (append-nil (bytes_between (v ∷ os) bytes)),
+      between-after w (v ∷ os) bytes more after ∙ sym (append-nil (bytes_between (w ∷ v ∷ os) bytes)),
+      between-after v os bytes more (after_first v os (length bytes) after second.0) ∙ sym (append-nil (bytes_between (v ∷ os) bytes)),
     )
 
 -- more bytes of the extension
@@ -193,7 +193,7 @@ of_environment (w ∷ v ∷ os) bytes more from to many begun found within =
     let second = is_first environment_part (section_part ∷ external_part ∷ debug_part ∷ data_part ∷ trailer_part ∷ []) v os (length bytes) e first.1 refl in
     let some = and_parts _ _ second.0 in
     let end : first_present os ≡ to = second.1 in (
-      between-behind w (v ∷ os) bytes more (behind_first w (v ∷ os) (length bytes) begun first.0) ∙ sym (append-nil (bytes_between (w ∷ v ∷ os) bytes)),
+      between-after w (v ∷ os) bytes more (after_first w (v ∷ os) (length bytes) begun first.0) ∙ sym (append-nil (bytes_between (w ∷ v ∷ os) bytes)),
       between-in v os bytes more some.0 (leb-true v (length bytes) (and_parts _ _ some.1).0) (omega (arith, within, end)),
     )
 
@@ -209,72 +209,72 @@ of_part part_of_code.Data os bytes more from to many begun found within = neithe
 of_part part_of_code.Trailer os bytes more from to many begun found within = neither os bytes more _ many begun found (is_other extension_part _ refl) (is_other environment_part _ refl)
 of_part part_of_code.End os bytes more from to many begun found within = neither os bytes more _ many begun found (is_other extension_part _ refl) (is_other environment_part _ refl)
 
--- behind the header
-pub so-far : (part : Part) (front : List Step) → 10 ≤ length front → bytes_so_far part front ≡ part_bytes part front
-so-far part front many = ap (λ b. cond b [] (part_bytes part front)) (le-ltb (length front) 10 many)
+-- after the header
+pub so-far : (part : Part) (prefix : List Step) → 10 ≤ length prefix → bytes_so_far part prefix ≡ part_bytes part prefix
+so-far part prefix many = ap (λ b. cond b [] (part_bytes part prefix)) (le-ltb (length prefix) 10 many)
 
 -- in it
-none_so_far : (part : Part) (front : List Step) → length front < 10 → bytes_so_far part front ≡ []
-none_so_far part front few = ap (λ b. cond b [] (part_bytes part front)) (lt-ltb (length front) 10 few)
+none_so_far : (part : Part) (prefix : List Step) → length prefix < 10 → bytes_so_far part prefix ≡ []
+none_so_far part prefix few = ap (λ b. cond b [] (part_bytes part prefix)) (lt-ltb (length prefix) 10 few)
 
--- the bytes so far behind more steps, which have no offset
-grown-by : (front steps : List Step) (bytes extension environment : List ℕ) → 10 ≤ length front → offsets_of (front ++ steps) ≡ offsets_of front → front_bytes (front ++ steps) ≡ front_bytes front ++ bytes
-    → BytesAre (offsets_of front) (front_bytes front) (front_bytes front ++ bytes) extension environment
-    → (bytes_so_far extension_part (front ++ steps) ≡ bytes_so_far extension_part front ++ extension) × (bytes_so_far environment_part (front ++ steps) ≡ bytes_so_far environment_part front ++ environment)
-grown-by front steps bytes extension environment many offsets all are =
-    let more : 10 ≤ length (front ++ steps) = omega (arith, many, length-append front steps) in (
-      so-far extension_part (front ++ steps) more ∙ (λ i. bytes_between (offsets i) (all i)) ∙ are.0 ∙ ap (λ l. l ++ extension) (sym (so-far extension_part front many)),
-      so-far environment_part (front ++ steps) more ∙ (λ i. bytes_between (drop 1 (offsets i)) (all i)) ∙ are.1 ∙ ap (λ l. l ++ environment) (sym (so-far environment_part front many)),
+-- the bytes so far after more steps, which have no offset
+grown-by : (prefix steps : List Step) (bytes extension environment : List ℕ) → 10 ≤ length prefix → offsets_of (prefix ++ steps) ≡ offsets_of prefix → prefix_bytes (prefix ++ steps) ≡ prefix_bytes prefix ++ bytes
+    → BytesAre (offsets_of prefix) (prefix_bytes prefix) (prefix_bytes prefix ++ bytes) extension environment
+    → (bytes_so_far extension_part (prefix ++ steps) ≡ bytes_so_far extension_part prefix ++ extension) × (bytes_so_far environment_part (prefix ++ steps) ≡ bytes_so_far environment_part prefix ++ environment)
+grown-by prefix steps bytes extension environment many offsets all are =
+    let more : 10 ≤ length (prefix ++ steps) = omega (arith, many, length-append prefix steps) in (
+      so-far extension_part (prefix ++ steps) more ∙ (λ i. bytes_between (offsets i) (all i)) ∙ are.0 ∙ ap (λ l. l ++ extension) (sym (so-far extension_part prefix many)),
+      so-far environment_part (prefix ++ steps) more ∙ (λ i. bytes_between (drop 1 (offsets i)) (all i)) ∙ are.1 ∙ ap (λ l. l ++ environment) (sym (so-far environment_part prefix many)),
     )
 
-bytes-append : (a b : List Step) → front_bytes (a ++ b) ≡ front_bytes a ++ front_bytes b
+bytes-append : (a b : List Step) → prefix_bytes (a ++ b) ≡ prefix_bytes a ++ prefix_bytes b
 bytes-append [] b = refl
-bytes-append (s ∷ a) b = ap (λ l. step_bytes s ++ l) (bytes-append a b) ∙ sym (append_assoc (step_bytes s) (front_bytes a) (front_bytes b))
+bytes-append (s ∷ a) b = ap (λ l. step_bytes s ++ l) (bytes-append a b) ∙ sym (append_assoc (step_bytes s) (prefix_bytes a) (prefix_bytes b))
 
-raw_bytes : (bytes : List ℕ) → front_bytes (map raw bytes) ≡ bytes
+raw_bytes : (bytes : List ℕ) → prefix_bytes (map raw bytes) ≡ bytes
 raw_bytes [] = refl
 raw_bytes (b ∷ bytes) = ap (λ l. b ∷ l) (raw_bytes bytes)
 
--- the offsets behind the header are eight
-eight : (front : List Step) → 10 ≤ length front → length (offsets_of front) ≡ offset_count (length front) → 2 ≤ length (offsets_of front)
-eight front many count = omega (arith, many, count)
+-- the offsets after the header are eight
+eight : (prefix : List Step) → 10 ≤ length prefix → length (offsets_of prefix) ≡ offset_count (length prefix) → 2 ≤ length (offsets_of prefix)
+eight prefix many count = omega (arith, many, count)
 
 -- bytes of a part that are not read
-pub raw-bytes : (front : List Step) (e : extents.Extent) (bytes : List ℕ) → nat_lt (length front) 10 ≡ false → length (offsets_of front) ≡ offset_count (length front) → first_present (offsets_of front) ≤ size_of front
-    → offsets_of (front ++ map raw bytes) ≡ offsets_of front → part_at front (size_of front) ≡ Some (as_extent e) → size_of front + length bytes ≤ e.to
-    → (bytes_so_far extension_part (front ++ map raw bytes) ≡ bytes_so_far extension_part front ++ extension_in e.part bytes) × (bytes_so_far environment_part (front ++ map raw bytes) ≡ bytes_so_far environment_part front ++ environment_in e.part bytes)
-raw-bytes front e bytes header count begun offsets found within =
-    let many : 10 ≤ length front = ltb-false (length front) 10 header in
-    grown-by front (map raw bytes) bytes _ _ many offsets (bytes-append front (map raw bytes) ∙ ap (λ l. front_bytes front ++ l) (raw_bytes bytes))
-    (of_part e.part (offsets_of front) (front_bytes front) bytes e.from e.to (eight front many count) begun found within)
+pub raw-bytes : (prefix : List Step) (e : extents.Extent) (bytes : List ℕ) → nat_lt (length prefix) 10 ≡ false → length (offsets_of prefix) ≡ offset_count (length prefix) → first_present (offsets_of prefix) ≤ size_of prefix
+    → offsets_of (prefix ++ map raw bytes) ≡ offsets_of prefix → part_at prefix (size_of prefix) ≡ Some (as_extent e) → size_of prefix + length bytes ≤ e.to
+    → (bytes_so_far extension_part (prefix ++ map raw bytes) ≡ bytes_so_far extension_part prefix ++ extension_in e.part bytes) × (bytes_so_far environment_part (prefix ++ map raw bytes) ≡ bytes_so_far environment_part prefix ++ environment_in e.part bytes)
+raw-bytes prefix e bytes header count begun offsets found within =
+    let many : 10 ≤ length prefix = ltb-false (length prefix) 10 header in
+    grown-by prefix (map raw bytes) bytes _ _ many offsets (bytes-append prefix (map raw bytes) ∙ ap (λ l. prefix_bytes prefix ++ l) (raw_bytes bytes))
+    (of_part e.part (offsets_of prefix) (prefix_bytes prefix) bytes e.from e.to (eight prefix many count) begun found within)
 
--- ---- a record behind a front
+-- ---- a record after a prefix
 
--- the offsets and the bytes of the two parts behind one more record
-pub record KeepsBytes (front : List Step) (p : Piece) : Type 0 where
-  pub count : length (offsets_of front ++ cons_option (offset_in p.row) []) ≡ offset_count (length front + 1)
-  pub begun : 10 ≤ length front + 1 → first_present (offsets_of front ++ cons_option (offset_in p.row) []) ≤ size_of front + length p.bytes
-  pub extension : bytes_so_far extension_part (front ++ read (size_of front) p ∷ []) ≡ bytes_so_far extension_part front
-  pub environment : bytes_so_far environment_part (front ++ read (size_of front) p ∷ []) ≡ bytes_so_far environment_part front
+-- the offsets and the bytes of the two parts after one more record
+pub record KeepsBytes (prefix : List Step) (p : SpelledRecord) : Type 0 where
+  pub count : length (offsets_of prefix ++ cons_option (offset_in p.row) []) ≡ offset_count (length prefix + 1)
+  pub begun : 10 ≤ length prefix + 1 → first_present (offsets_of prefix ++ cons_option (offset_in p.row) []) ≤ size_of prefix + length p.bytes
+  pub extension : bytes_so_far extension_part (prefix ++ read (size_of prefix) p ∷ []) ≡ bytes_so_far extension_part prefix
+  pub environment : bytes_so_far environment_part (prefix ++ read (size_of prefix) p ∷ []) ≡ bytes_so_far environment_part prefix
 
-offsets-next : (front : List Step) (p : Piece) → offsets_of (front ++ read (size_of front) p ∷ []) ≡ offsets_of front ++ cons_option (offset_in p.row) []
-offsets-next front p =
-    ap (λ ps. filter_map (λ q. offset_in q.row) ps) (filter_map-append piece_of front (read (size_of front) p ∷ [])) ∙ filter_map-append (λ q. offset_in q.row) (pieces_of front) (p ∷ [])
+offsets-next : (prefix : List Step) (p : SpelledRecord) → offsets_of (prefix ++ read (size_of prefix) p ∷ []) ≡ offsets_of prefix ++ cons_option (offset_in p.row) []
+offsets-next prefix p =
+    ap (λ ps. filter_map (λ q. offset_in q.row) ps) (filter_map-append record_of prefix (read (size_of prefix) p ∷ [])) ∙ filter_map-append (λ q. offset_in q.row) (records_of prefix) (p ∷ [])
 
-bytes-next : (front : List Step) (p : Piece) → front_bytes (front ++ read (size_of front) p ∷ []) ≡ front_bytes front ++ p.bytes
-bytes-next front p = bytes-append front (read (size_of front) p ∷ []) ∙ ap (λ l. front_bytes front ++ l) (append-nil p.bytes)
+bytes-next : (prefix : List Step) (p : SpelledRecord) → prefix_bytes (prefix ++ read (size_of prefix) p ∷ []) ≡ prefix_bytes prefix ++ p.bytes
+bytes-next prefix p = bytes-append prefix (read (size_of prefix) p ∷ []) ∙ ap (λ l. prefix_bytes prefix ++ l) (append-nil p.bytes)
 
--- one without an offset, behind the header, where neither part is
-behind_header : (front : List Step) (p : Piece) (o : Option Extent) → 10 ≤ length front → length (offsets_of front) ≡ offset_count (length front) → first_present (offsets_of front) ≤ size_of front → offset_in p.row ≡ None
-    → part_at front (size_of front) ≡ o → IsOther extension_part o → IsOther environment_part o → KeepsBytes front p
-behind_header front p o many count begun none found ext env =
-    let same : offsets_of front ++ cons_option (offset_in p.row) [] ≡ offsets_of front = ap (λ x. offsets_of front ++ cons_option x []) none ∙ append-nil (offsets_of front) in
-    let grown = grown-by front (read (size_of front) p ∷ []) p.bytes [] [] many (offsets-next front p ∙ same) (bytes-next front p) (neither (offsets_of front) (front_bytes front) p.bytes o (eight front many count) begun found ext env) in
+-- one without an offset, after the header, where neither part is
+after_header : (prefix : List Step) (p : SpelledRecord) (o : Option Extent) → 10 ≤ length prefix → length (offsets_of prefix) ≡ offset_count (length prefix) → first_present (offsets_of prefix) ≤ size_of prefix → offset_in p.row ≡ None
+    → part_at prefix (size_of prefix) ≡ o → IsOther extension_part o → IsOther environment_part o → KeepsBytes prefix p
+after_header prefix p o many count begun none found ext env =
+    let same : offsets_of prefix ++ cons_option (offset_in p.row) [] ≡ offsets_of prefix = ap (λ x. offsets_of prefix ++ cons_option x []) none ∙ append-nil (offsets_of prefix) in
+    let grown = grown-by prefix (read (size_of prefix) p ∷ []) p.bytes [] [] many (offsets-next prefix p ∙ same) (bytes-next prefix p) (neither (offsets_of prefix) (prefix_bytes prefix) p.bytes o (eight prefix many count) begun found ext env) in
     record {
       count = ap length same ∙ count ∙ omega (arith, many);
-      begun = λ _. subst (λ (os : List ℕ). first_present os ≤ size_of front + length p.bytes) (sym same) (omega (arith, begun));
-      extension = grown.0 ∙ append-nil (bytes_so_far extension_part front);
-      environment = grown.1 ∙ append-nil (bytes_so_far environment_part front);
+      begun = λ _. subst (λ (os : List ℕ). first_present os ≤ size_of prefix + length p.bytes) (sym same) (omega (arith, begun));
+      extension = grown.0 ∙ append-nil (bytes_so_far extension_part prefix);
+      environment = grown.1 ∙ append-nil (bytes_so_far environment_part prefix);
     }
 
 -- ---- a record of the header
@@ -290,13 +290,13 @@ none_of (Some x) b e = absurd (nothing e)
 -- an offset without a fault leaves no gap
 closed : (reads_debug : Bool) (earlier : List ℕ) (start end : ℕ) (row : Record) (w : ℕ) → header_fault reads_debug earlier start end row ≡ None → offset_in row ≡ Some w → leaves_gap (earlier ++ w ∷ []) end ≡ false
 closed reads_debug earlier start end (r.Offset n v) w clean same =
-    let behind = none_of (fault_if (is_out_of_order earlier v) start why.OffsetOrder) _ clean in
-    let last = none_of (fault_if (is_left_for_later reads_debug earlier v) start why.NotBuilt) _ behind.1 in
+    let after = none_of (fault_if (is_out_of_order earlier v) start why.OffsetOrder) _ clean in
+    let last = none_of (fault_if (is_left_for_later reads_debug earlier v) start why.NotBuilt) _ after.1 in
     let value : v ≡ w = cc in
     subst (λ (x : ℕ). leaves_gap (earlier ++ x ∷ []) end ≡ false) value (no_fault (leaves_gap (earlier ++ v ∷ []) end) end why.PartGap last.1)
 closed reads_debug earlier start end row w clean same = absurd cc
 
--- so the eighth leaves the first part to begin behind the header
+-- so the eighth leaves the first part to begin after the header
 begins_there : (os : List ℕ) (end : ℕ) → length os ≡ 8 → leaves_gap os end ≡ false → first_present os ≡ end
 begins_there os end all test = by_case (first_present os == end) refl (and_else (length os == 8) (not (first_present os == end)) (eq-eqb (length os) 8 all) test) where
   and_else : (a b : Bool) → a ≡ true → (a && b) ≡ false → b ≡ false
@@ -322,41 +322,41 @@ counted : (os : List ℕ) (o : Option ℕ) (n : ℕ) → n < 10 → length os �
 counted os None n few count has = let first : n < 2 = leb-false 2 n (sym has) in ap length (append-nil os) ∙ omega (arith, first, count)
 counted os (Some w) n few count has = let later : 2 ≤ n = leb-true 2 n (sym has) in omega (arith, few, later, count, length-append os (w ∷ []))
 
-in-header : (reads_debug : Bool) (front : List Step) (p : Piece) → length front < 10 → length (offsets_of front) ≡ offset_count (length front) → is_some (offset_in p.row) ≡ nat_le 2 (length front)
-    → AreOrdered (offsets_of front ++ cons_option (offset_in p.row) []) → header_fault reads_debug (offsets_of front) (size_of front) (size_of front + length p.bytes) p.row ≡ None → KeepsBytes front p
-in-header reads_debug front p few count has order clean = by_case (cases_lt (length front) 9) where
+in-header : (reads_debug : Bool) (prefix : List Step) (p : SpelledRecord) → length prefix < 10 → length (offsets_of prefix) ≡ offset_count (length prefix) → is_some (offset_in p.row) ≡ nat_le 2 (length prefix)
+    → AreOrdered (offsets_of prefix ++ cons_option (offset_in p.row) []) → header_fault reads_debug (offsets_of prefix) (size_of prefix) (size_of prefix + length p.bytes) p.row ≡ None → KeepsBytes prefix p
+in-header reads_debug prefix p few count has order clean = by_case (cases_lt (length prefix) 9) where
   next : List Step
-  next = front ++ read (size_of front) p ∷ []
+  next = prefix ++ read (size_of prefix) p ∷ []
 
-  all : length (offsets_of front ++ cons_option (offset_in p.row) []) ≡ offset_count (length front + 1)
-  all = counted (offsets_of front) (offset_in p.row) (length front) few count has
+  all : length (offsets_of prefix ++ cons_option (offset_in p.row) []) ≡ offset_count (length prefix + 1)
+  all = counted (offsets_of prefix) (offset_in p.row) (length prefix) few count has
 
-  steps : length next ≡ length front + 1
-  steps = length-append front (read (size_of front) p ∷ [])
+  steps : length next ≡ length prefix + 1
+  steps = length-append prefix (read (size_of prefix) p ∷ [])
 
-  size : length (front_bytes next) ≡ size_of front + length p.bytes
-  size = ap length (bytes-next front p) ∙ length-append (front_bytes front) p.bytes
+  size : length (prefix_bytes next) ≡ size_of prefix + length p.bytes
+  size = ap length (bytes-next prefix p) ∙ length-append (prefix_bytes prefix) p.bytes
 
-  the_first : (o : Option ℕ) → offset_in p.row ≡ o → is_some o ≡ nat_le 2 (length front) → 9 ≤ length front → length (offsets_of front ++ cons_option o []) ≡ offset_count (length front + 1) → first_present (offsets_of front ++ cons_option o []) ≡ size_of front + length p.bytes
-  the_first None same some last long = absurd (true≢false (sym (le-leb 2 (length front) (omega (arith, last))) ∙ sym some))
-  the_first (Some w) same some last long = begins_there (offsets_of front ++ w ∷ []) (size_of front + length p.bytes) (omega (arith, last, few, long)) (closed reads_debug (offsets_of front) (size_of front) (size_of front + length p.bytes) p.row w clean same)
+  the_first : (o : Option ℕ) → offset_in p.row ≡ o → is_some o ≡ nat_le 2 (length prefix) → 9 ≤ length prefix → length (offsets_of prefix ++ cons_option o []) ≡ offset_count (length prefix + 1) → first_present (offsets_of prefix ++ cons_option o []) ≡ size_of prefix + length p.bytes
+  the_first None same some last long = absurd (true≢false (sym (le-leb 2 (length prefix) (omega (arith, last))) ∙ sym some))
+  the_first (Some w) same some last long = begins_there (offsets_of prefix ++ w ∷ []) (size_of prefix + length p.bytes) (omega (arith, last, few, long)) (closed reads_debug (offsets_of prefix) (size_of prefix) (size_of prefix + length p.bytes) p.row w clean same)
 
-  by_case : ((length front < 9) ⊎ (9 ≤ length front)) → KeepsBytes front p
+  by_case : ((length prefix < 9) ⊎ (9 ≤ length prefix)) → KeepsBytes prefix p
   by_case (inl before) = record {
     count = all;
     begun = λ many. absurd (omega (arith, before, many));
-    extension = none_so_far extension_part next (omega (arith, before, steps)) ∙ sym (none_so_far extension_part front few);
-    environment = none_so_far environment_part next (omega (arith, before, steps)) ∙ sym (none_so_far environment_part front few);
+    extension = none_so_far extension_part next (omega (arith, before, steps)) ∙ sym (none_so_far extension_part prefix few);
+    environment = none_so_far environment_part next (omega (arith, before, steps)) ∙ sym (none_so_far environment_part prefix few);
   }
   by_case (inr last) =
-      let first : first_present (offsets_of front ++ cons_option (offset_in p.row) []) ≡ size_of front + length p.bytes = the_first (offset_in p.row) refl has last all in
-      let none = none_yet (offsets_of front ++ cons_option (offset_in p.row) []) (front_bytes next) order (omega (arith, last, few, all)) (first ∙ sym size) in
+      let first : first_present (offsets_of prefix ++ cons_option (offset_in p.row) []) ≡ size_of prefix + length p.bytes = the_first (offset_in p.row) refl has last all in
+      let none = none_yet (offsets_of prefix ++ cons_option (offset_in p.row) []) (prefix_bytes next) order (omega (arith, last, few, all)) (first ∙ sym size) in
       let ten : 10 ≤ length next = omega (arith, last, steps) in
       record {
         count = all;
         begun = λ many. omega (arith, first);
-        extension = so-far extension_part next ten ∙ ap (λ os. bytes_between os (front_bytes next)) (offsets-next front p) ∙ none.0 ∙ sym (none_so_far extension_part front few);
-        environment = so-far environment_part next ten ∙ ap (λ os. bytes_between (drop 1 os) (front_bytes next)) (offsets-next front p) ∙ none.1 ∙ sym (none_so_far environment_part front few);
+        extension = so-far extension_part next ten ∙ ap (λ os. bytes_between os (prefix_bytes next)) (offsets-next prefix p) ∙ none.0 ∙ sym (none_so_far extension_part prefix few);
+        environment = so-far environment_part next ten ∙ ap (λ os. bytes_between (drop 1 os) (prefix_bytes next)) (offsets-next prefix p) ∙ none.1 ∙ sym (none_so_far environment_part prefix few);
       }
 
 -- ---- a record at its place
@@ -377,29 +377,29 @@ no_offset : (part : Part) (row : Record) → stands_in part row ≡ true → off
 no_offset part (r.Offset n w) stands = absurd (true≢false (sym stands))
 no_offset part row stands = refl
 
-stands-there : (front : List Step) (e : Extent) (start : ℕ) (p : Piece) → part_record_fault front e start p ≡ None → stands_in e.part p.row ≡ true
-stands-there front e start p clean = not_not (stands_in e.part p.row) (no_fault (not (stands_in e.part p.row)) start why.WrongPart (none_of _ _ (none_of (fault_if (nat_lt e.to (start + length p.bytes)) start why.PartGap) _ clean).1).0) where
+stands-there : (prefix : List Step) (e : Extent) (start : ℕ) (p : SpelledRecord) → part_record_fault prefix e start p ≡ None → stands_in e.part p.row ≡ true
+stands-there prefix e start p clean = not_not (stands_in e.part p.row) (no_fault (not (stands_in e.part p.row)) start why.WrongPart (none_of _ _ (none_of (fault_if (nat_lt e.to (start + length p.bytes)) start why.PartGap) _ clean).1).0) where
   not_not : (b : Bool) → not b ≡ false → b ≡ true
   not_not true e = refl
   not_not false e = absurd (true≢false e)
 
 -- a record without a fault leaves the bytes of both parts as they are
-pub record-bytes : (reads_debug : Bool) (front : List Step) (at : code.Place) (p : Piece) → length (offsets_of front) ≡ offset_count (length front) → (10 ≤ length front → first_present (offsets_of front) ≤ size_of front)
-    → AreOrdered (offsets_of front ++ cons_option (offset_in p.row) []) → IsPlacedWell at p.row → as_place at ≡ place_behind front → record_fault reads_debug front (as_place at) (size_of front) p ≡ None → KeepsBytes front p
-record-bytes reads_debug front (place.Header k) p count begun order well same clean =
-    let found = header-found front k same in
-    in-header reads_debug front p (ltb-true (length front) 10 found.0) count (well.1 ∙ ap (nat_le 2) found.1) order clean
-record-bytes reads_debug front (place.Part e) p count begun order well same clean =
-    let found = part-found front (place.Part e) e refl same in
-    let many : 10 ≤ length front = ltb-false (length front) 10 found.0 in
-    let stands = stands-there front (as_extent e) (size_of front) p clean in
-    behind_header front p (Some (as_extent e)) many count (begun many) (no_offset (as_part e.part) p.row stands) found.1
+pub record-bytes : (reads_debug : Bool) (prefix : List Step) (at : code.Location) (p : SpelledRecord) → length (offsets_of prefix) ≡ offset_count (length prefix) → (10 ≤ length prefix → first_present (offsets_of prefix) ≤ size_of prefix)
+    → AreOrdered (offsets_of prefix ++ cons_option (offset_in p.row) []) → IsPlacedWell at p.row → as_location at ≡ location_after prefix → record_fault reads_debug prefix (as_location at) (size_of prefix) p ≡ None → KeepsBytes prefix p
+record-bytes reads_debug prefix (offset.Header k) p count begun order well same clean =
+    let found = header-found prefix k same in
+    in-header reads_debug prefix p (ltb-true (length prefix) 10 found.0) count (well.1 ∙ ap (nat_le 2) found.1) order clean
+record-bytes reads_debug prefix (offset.Part e) p count begun order well same clean =
+    let found = part-found prefix (offset.Part e) e refl same in
+    let many : 10 ≤ length prefix = ltb-false (length prefix) 10 found.0 in
+    let stands = stands-there prefix (as_extent e) (size_of prefix) p clean in
+    after_header prefix p (Some (as_extent e)) many count (begun many) (no_offset (as_part e.part) p.row stands) found.1
     (λ x is own. true≢false (sym stands ∙ ap (λ q. stands_in q p.row) (part_of_some (as_extent e) x is ∙ own) ∙ not_in_extension p.row))
     (λ x is own. true≢false (sym stands ∙ ap (λ q. stands_in q p.row) (part_of_some (as_extent e) x is ∙ own) ∙ not_in_environment p.row))
-record-bytes reads_debug front place.End p count begun order well same clean =
-    let found = end-found front same in
-    let many : 10 ≤ length front = ltb-false (length front) 10 found.0 in
-    behind_header front p None many count (begun many) (end_row (stands_in end_part p.row) refl clean) found.1 (no_part extension_part) (no_part environment_part) where
-      end_row : (b : Bool) → stands_in end_part p.row ≡ b → fault_if (not b) (size_of front) why.WrongPart ≡ None → offset_in p.row ≡ None
+record-bytes reads_debug prefix offset.End p count begun order well same clean =
+    let found = end-found prefix same in
+    let many : 10 ≤ length prefix = ltb-false (length prefix) 10 found.0 in
+    after_header prefix p None many count (begun many) (end_row (stands_in end_part p.row) refl clean) found.1 (no_part extension_part) (no_part environment_part) where
+      end_row : (b : Bool) → stands_in end_part p.row ≡ b → fault_if (not b) (size_of prefix) why.WrongPart ≡ None → offset_in p.row ≡ None
       end_row true stands e = no_offset end_part p.row stands
       end_row false stands e = absurd (nothing e)

@@ -6,21 +6,21 @@ use Rattle.std.proofs.lemmas.Bool.{and_parts}
 use Rattle.std.proofs.lemmas.List.Elements.{filter_map-append}
 use Rattle.std.specs.Prelude.{All}
 use Rattle.mufom_module.specs.RecordParts.{Part}
-use Rattle.mufom_module.specs.Pieces.{Piece}
+use Rattle.mufom_module.specs.SpelledRecords.{SpelledRecord}
 use Rattle.mufom_module.specs.Grammar.{offsets_in}
 use Rattle.mufom_read.specs.Kept.{placed, tables_of, HasOwnParts}
-use Rattle.mufom_read.specs.declared.front.Front.{Front}
-use Rattle.mufom_read.specs.declared.front.Place as code
-use Rattle.mufom_read.specs.declared.front.Place.TheVariants as place
-use Rattle.mufom_read.specs.declared.front.Next.{Next}
-use Rattle.mufom_read.specs.declared.front.Next.TheVariants as next
+use Rattle.mufom_read.specs.declared.prefix.Prefix.{Prefix}
+use Rattle.mufom_read.specs.declared.prefix.Location as code
+use Rattle.mufom_read.specs.declared.prefix.Location.TheVariants as offset
+use Rattle.mufom_read.specs.declared.prefix.Next.{Next}
+use Rattle.mufom_read.specs.declared.prefix.Next.TheVariants as next
 use Rattle.mufom_read.specs.declared.part.Extent as extents
-use Rattle.mufom_read.specs.Fronts.{Step, raw, size_of, piece_of, pieces_of, placed_piece, placed_of, offsets_of, Extent, in_header, in_part, first_present, part_among, parts_in_order, part_at, place_by, place_behind, is_raw, raw_step, as_step, step_at, body_mode, next_step, ends_with, is_ended}
+use Rattle.mufom_read.specs.Prefixes.{Step, raw, size_of, record_of, records_of, offset_record, offset_records_of, offsets_of, Extent, in_header, in_part, first_present, part_among, parts_in_order, part_at, location_by, location_after, is_raw, raw_step, as_step, step_at, body_mode, next_step, ends_with, is_ended}
 use Rattle.mufom_read.specs.Faults.{open_blocks, whole_fault, step_fault, ended_fault, ended_part_fault}
 use Rattle.mufom_read.specs.Judging.{IsSoundFrom}
 use Rattle.mufom_read.specs.PartsOfCode.{as_part, as_extent}
-use Rattle.mufom_read.specs.FrontOfCode.{AreFrom, AreOrdered, IsFrontOf, as_place, extension_in, environment_in, HasRaw, HasSkipped, HasGone}
-use Rattle.mufom_read.proofs.FrontLaws.{size-append}
+use Rattle.mufom_read.specs.PrefixOfCode.{AreFrom, AreOrdered, IsPrefixOf, as_location, extension_in, environment_in, HasRaw, HasSkipped, IsStepTaken}
+use Rattle.mufom_read.proofs.PrefixLaws.{size-append}
 use Rattle.mufom_read.proofs.PartBytes.{raw-bytes}
 use Rattle.mufom_read.proofs.PlaceLaws.{part-found}
 use Rattle.mufom_read.proofs.StepLaws.{part-within}
@@ -31,17 +31,17 @@ use Rattle.std.proofs.lemmas.List.{take-append-drop}
 nothing : {A : Type 0} {x : A} → Some x ≡ None → ⊥
 nothing e = true≢false (ap is_some e)
 
--- ---- a front with bytes that are not read
+-- ---- a prefix with bytes that are not read
 
-pieces_same : (front : List Step) (bytes : List ℕ) → pieces_of (front ++ map raw bytes) ≡ pieces_of front
-pieces_same front bytes = filter_map-append piece_of front (map raw bytes) ∙ ap (λ ps. pieces_of front ++ ps) (no_pieces bytes) ∙ append-nil (pieces_of front) where
-  no_pieces : (bytes : List ℕ) → pieces_of (map raw bytes) ≡ []
-  no_pieces [] = refl
-  no_pieces (b ∷ bytes) = no_pieces bytes
+records_same : (prefix : List Step) (bytes : List ℕ) → records_of (prefix ++ map raw bytes) ≡ records_of prefix
+records_same prefix bytes = filter_map-append record_of prefix (map raw bytes) ∙ ap (λ ps. records_of prefix ++ ps) (no_records bytes) ∙ append-nil (records_of prefix) where
+  no_records : (bytes : List ℕ) → records_of (map raw bytes) ≡ []
+  no_records [] = refl
+  no_records (b ∷ bytes) = no_records bytes
 
-places_same : (front : List Step) (bytes : List ℕ) → placed_of (front ++ map raw bytes) ≡ placed_of front
-places_same front bytes = filter_map-append placed_piece front (map raw bytes) ∙ ap (λ ps. placed_of front ++ ps) (no_places bytes) ∙ append-nil (placed_of front) where
-  no_places : (bytes : List ℕ) → placed_of (map raw bytes) ≡ []
+places_same : (prefix : List Step) (bytes : List ℕ) → offset_records_of (prefix ++ map raw bytes) ≡ offset_records_of prefix
+places_same prefix bytes = filter_map-append offset_record prefix (map raw bytes) ∙ ap (λ ps. offset_records_of prefix ++ ps) (no_places bytes) ∙ append-nil (offset_records_of prefix) where
+  no_places : (bytes : List ℕ) → offset_records_of (map raw bytes) ≡ []
   no_places [] = refl
   no_places (b ∷ bytes) = no_places bytes
 
@@ -53,30 +53,30 @@ raw_steps : (bytes : List ℕ) → length (map raw bytes) ≡ length bytes
 raw_steps [] = refl
 raw_steps (b ∷ bytes) = ap suc (raw_steps bytes)
 
--- the front with more bytes of a part that are not read
-pub raw-front : (reads_debug : Bool) (old new : Front) (front : List Step) (e : extents.Extent) (bytes : List ℕ) → IsFrontOf reads_debug old front → nat_lt (length front) 10 ≡ false → part_at front (size_of front) ≡ Some (as_extent e)
-    → size_of front + length bytes ≤ e.to → HasRaw old e.part bytes new → IsFrontOf reads_debug new (front ++ map raw bytes)
-raw-front reads_debug old new front e bytes is header found within more =
-    let pieces = pieces_same front bytes in
-    let begun = is.begun (ltb-false (length front) 10 header) in
-    let kept = raw-bytes front e bytes header is.count begun (ap offsets_in pieces) found within in
-    let size : size_of (front ++ map raw bytes) ≡ size_of front + length bytes = size-append front (map raw bytes) ∙ ap (λ n. size_of front + n) (raw_size bytes) in
-    let steps : length (front ++ map raw bytes) ≡ length front + length bytes = length-append front (map raw bytes) ∙ ap (λ n. length front + n) (raw_steps bytes) in
+-- the prefix with more bytes of a part that are not read
+pub raw-prefix : (reads_debug : Bool) (old new : Prefix) (prefix : List Step) (e : extents.Extent) (bytes : List ℕ) → IsPrefixOf reads_debug old prefix → nat_lt (length prefix) 10 ≡ false → part_at prefix (size_of prefix) ≡ Some (as_extent e)
+    → size_of prefix + length bytes ≤ e.to → HasRaw old e.part bytes new → IsPrefixOf reads_debug new (prefix ++ map raw bytes)
+raw-prefix reads_debug old new prefix e bytes is header found within more =
+    let records = records_same prefix bytes in
+    let begun = is.begun (ltb-false (length prefix) 10 header) in
+    let kept = raw-bytes prefix e bytes header is.count begun (ap offsets_in records) found within in
+    let size : size_of (prefix ++ map raw bytes) ≡ size_of prefix + length bytes = size-append prefix (map raw bytes) ∙ ap (λ n. size_of prefix + n) (raw_size bytes) in
+    let steps : length (prefix ++ map raw bytes) ≡ length prefix + length bytes = length-append prefix (map raw bytes) ∙ ap (λ n. length prefix + n) (raw_steps bytes) in
     record {
-      kept = ap (map placed) more.kept ∙ is.kept ∙ sym (places_same front bytes);
+      kept = ap (map placed) more.kept ∙ is.kept ∙ sym (places_same prefix bytes);
       own = subst (All HasOwnParts) (sym more.kept) is.own;
-      tables = more.tables ∙ is.tables ∙ ap tables_of (sym pieces);
-      offsets = more.offsets ∙ is.offsets ∙ ap offsets_in (sym pieces);
+      tables = more.tables ∙ is.tables ∙ ap tables_of (sym records);
+      offsets = more.offsets ∙ is.offsets ∙ ap offsets_in (sym records);
       extension = more.extension ∙ ap (λ l. l ++ extension_in e.part bytes) is.extension ∙ sym kept.0;
       environment = more.environment ∙ ap (λ l. l ++ environment_in e.part bytes) is.environment ∙ sym kept.1;
       steps = more.steps ∙ ap (λ n. n + length bytes) is.steps ∙ sym steps;
       size = more.size ∙ ap (λ n. n + length bytes) is.size ∙ sym size;
       few = omega (arith, is.few, size, steps);
-      blocks = ap open_blocks (places_same front bytes) ∙ is.blocks;
-      later = λ reads. subst (λ (ps : List Piece). get_or (offsets_in ps) 4 0 ≡ 0) (sym pieces) (is.later reads);
-      ordered = subst (λ (ps : List Piece). AreOrdered (offsets_in ps)) (sym pieces) is.ordered;
-      count = ap (λ (ps : List Piece). length (offsets_in ps)) pieces ∙ is.count ∙ omega (arith, ltb-false (length front) 10 header, steps);
-      begun = λ many. subst (λ (ps : List Piece). first_present (offsets_in ps) ≤ size_of (front ++ map raw bytes)) (sym pieces) (omega (arith, begun, size));
+      blocks = ap open_blocks (places_same prefix bytes) ∙ is.blocks;
+      later = λ reads. subst (λ (ps : List SpelledRecord). get_or (offsets_in ps) 4 0 ≡ 0) (sym records) (is.later reads);
+      ordered = subst (λ (ps : List SpelledRecord). AreOrdered (offsets_in ps)) (sym records) is.ordered;
+      count = ap (λ (ps : List SpelledRecord). length (offsets_in ps)) records ∙ is.count ∙ omega (arith, ltb-false (length prefix) 10 header, steps);
+      begun = λ many. subst (λ (ps : List SpelledRecord). first_present (offsets_in ps) ≤ size_of (prefix ++ map raw bytes)) (sym records) (omega (arith, begun, size));
     }
 
 -- ---- the steps
@@ -93,13 +93,13 @@ among_from (part ∷ parts) (v ∷ os) w at e is found = by_case _ refl found (�
   by_first (inr from) some low = omega (arith, from, low)
 
   by_case : (test : Bool) → test ≡ (not (v == 0) && (nat_le v at && nat_lt at (first_present os))) → cond test (Some here) (part_among parts os at) ≡ Some e → (part_among parts os at ≡ Some e → w ≤ at) → w ≤ at
-  by_case false same more behind = behind more
-  by_case true same more behind = let both = and_parts _ _ (sym same) in by_first is.0 both.0 (leb-true v at (and_parts _ _ both.1).0)
+  by_case false same more after = after more
+  by_case true same more after = let both = and_parts _ _ (sym same) in by_first is.0 both.0 (leb-true v at (and_parts _ _ both.1).0)
 
 stands : (w at end : ℕ) → not (w == 0) ≡ true → w ≤ at → at < end → true ≡ (not (w == 0) && (nat_le w at && nat_lt at end))
 stands w at end some low high = sym (ap (λ b. b && (nat_le w at && nat_lt at end)) some ∙ ap (λ b. b && nat_lt at end) (le-leb w at low) ∙ lt-ltb at end high)
 
--- a byte behind another one of a part, before the part's end, stands in it
+-- a byte after another one of a part, before the part's end, stands in it
 among_stays : (parts : List Part) (os : List ℕ) (at more : ℕ) (e : Extent) → AreOrdered os → part_among parts os at ≡ Some e → at ≤ more → more < e.to → part_among parts os more ≡ Some e
 among_stays [] os at more e is found low high = found
 among_stays (part ∷ parts) [] at more e is found low high = found
@@ -115,92 +115,92 @@ among_stays (part ∷ parts) (w ∷ os) at more e is found low high =
       by_case : (t u : Bool) → t ≡ (not (w == 0) && (nat_le w at && nat_lt at (first_present os))) → u ≡ (not (w == 0) && (nat_le w more && nat_lt more (first_present os)))
           → cond t (Some here) (part_among parts os at) ≡ Some e → (part_among parts os at ≡ Some e → part_among parts os more ≡ Some e) → (part_among parts os at ≡ Some e → w ≤ at)
           → cond u (Some here) (part_among parts os more) ≡ Some e
-      by_case true true s t f behind from = f
-      by_case true false s t f behind from =
+      by_case true true s t f after from = f
+      by_case true false s t f after from =
           let both = and_parts _ _ (sym s) in
           let within : w ≤ at = leb-true w at (and_parts _ _ both.1).0 in
           let end : first_present os ≡ e.to = ap the_end f in
           absurd (true≢false (stands w more (first_present os) both.0 (omega (arith, within, low)) (omega (arith, high, end)) ∙ sym t))
-      by_case false false s t f behind from = behind f
-      by_case false true s t f behind from =
+      by_case false false s t f after from = after f
+      by_case false true s t f after from =
           let both = and_parts _ _ (sym t) in
           let under : more < first_present os = ltb-true more (first_present os) (and_parts _ _ both.1).1 in
           absurd (true≢false (stands w at (first_present os) both.0 (from f) (omega (arith, under, low)) ∙ sym s))
 
-placed_in : (front : List Step) (e : Extent) → nat_lt (length front) 10 ≡ false → part_at front (size_of front) ≡ Some e → place_behind front ≡ in_part e
-placed_in front e header found = ap (λ b. cond b (in_header (length front)) (place_by (part_at front (size_of front)))) header ∙ ap place_by found
+placed_in : (prefix : List Step) (e : Extent) → nat_lt (length prefix) 10 ≡ false → part_at prefix (size_of prefix) ≡ Some e → location_after prefix ≡ in_part e
+placed_in prefix e header found = ap (λ b. cond b (in_header (length prefix)) (location_by (part_at prefix (size_of prefix)))) header ∙ ap location_by found
 
-raw_next : (reads_debug : Bool) (front : List Step) (e : Extent) (rest : List ℕ) → nat_lt (length front) 10 ≡ false → part_at front (size_of front) ≡ Some e → is_raw reads_debug e.part ≡ true → next_step reads_debug front rest ≡ raw_step rest
-raw_next reads_debug front e rest header found unread =
-    ap (λ pl. step_at reads_debug front pl rest) (placed_in front e header found)
-    ∙ ap (λ b. cond b (raw_step rest) (as_step (size_of front) rest (record_at (body_mode front e rest) rest))) unread
+raw_next : (reads_debug : Bool) (prefix : List Step) (e : Extent) (rest : List ℕ) → nat_lt (length prefix) 10 ≡ false → part_at prefix (size_of prefix) ≡ Some e → is_raw reads_debug e.part ≡ true → next_step reads_debug prefix rest ≡ raw_step rest
+raw_next reads_debug prefix e rest header found unread =
+    ap (λ pl. step_at reads_debug prefix pl rest) (placed_in prefix e header found)
+    ∙ ap (λ b. cond b (raw_step rest) (as_step (size_of prefix) rest (record_at (body_mode prefix e rest) rest))) unread
 
--- the same behind one more byte, where the part does not end
-record StaysIn (reads_debug : Bool) (front : List Step) (e : Extent) : Type 0 where
-  pub unended : is_ended front ≡ false
-  pub whole : ended_part_fault front ≡ None
-  pub header : nat_lt (length front) 10 ≡ false
-  pub found : part_at front (size_of front) ≡ Some e
-  pub ordered : AreOrdered (offsets_of front)
+-- the same after one more byte, where the part does not end
+record StaysIn (reads_debug : Bool) (prefix : List Step) (e : Extent) : Type 0 where
+  pub unended : is_ended prefix ≡ false
+  pub whole : ended_part_fault prefix ≡ None
+  pub header : nat_lt (length prefix) 10 ≡ false
+  pub found : part_at prefix (size_of prefix) ≡ Some e
+  pub ordered : AreOrdered (offsets_of prefix)
 
-stays_in : (reads_debug : Bool) (front : List Step) (e : Extent) (b : ℕ) → StaysIn reads_debug front e → size_of front + 1 < e.to → StaysIn reads_debug (front ++ raw b ∷ []) e
-stays_in reads_debug front e b is within =
-    let pieces = pieces_same front (b ∷ []) in
-    let size : size_of (front ++ raw b ∷ []) ≡ size_of front + 1 = size-append front (raw b ∷ []) in
-    let steps : length (front ++ raw b ∷ []) ≡ length front + 1 = length-append front (raw b ∷ []) in
-    let same : (at : ℕ) → part_at (front ++ raw b ∷ []) at ≡ part_at front at = λ at. ap (λ (ps : List Piece). part_among parts_in_order (offsets_in ps) at) pieces in
-    let back : size_of (front ++ raw b ∷ []) - 1 ≡ size_of front = omega (arith, size) in
-    let last : part_at (front ++ raw b ∷ []) (size_of (front ++ raw b ∷ []) - 1) ≡ Some e = ap (part_at (front ++ raw b ∷ [])) back ∙ same (size_of front) ∙ is.found in
+stays_in : (reads_debug : Bool) (prefix : List Step) (e : Extent) (b : ℕ) → StaysIn reads_debug prefix e → size_of prefix + 1 < e.to → StaysIn reads_debug (prefix ++ raw b ∷ []) e
+stays_in reads_debug prefix e b is within =
+    let records = records_same prefix (b ∷ []) in
+    let size : size_of (prefix ++ raw b ∷ []) ≡ size_of prefix + 1 = size-append prefix (raw b ∷ []) in
+    let steps : length (prefix ++ raw b ∷ []) ≡ length prefix + 1 = length-append prefix (raw b ∷ []) in
+    let same : (at : ℕ) → part_at (prefix ++ raw b ∷ []) at ≡ part_at prefix at = λ at. ap (λ (ps : List SpelledRecord). part_among parts_in_order (offsets_in ps) at) records in
+    let back : size_of (prefix ++ raw b ∷ []) - 1 ≡ size_of prefix = omega (arith, size) in
+    let last : part_at (prefix ++ raw b ∷ []) (size_of (prefix ++ raw b ∷ []) - 1) ≡ Some e = ap (part_at (prefix ++ raw b ∷ [])) back ∙ same (size_of prefix) ∙ is.found in
     record {
-      unended = ap (λ (ps : List Piece). ends_with (last_or None ps)) pieces ∙ is.unended;
-      whole = ap (ended_fault (front ++ raw b ∷ [])) last ∙ ap (λ t. cond t (whole_fault e.part (front ++ raw b ∷ [])) None) (ne_eqb e.to _ (λ end. omega (arith, end, size, within)));
+      unended = ap (λ (ps : List SpelledRecord). ends_with (last_or None ps)) records ∙ is.unended;
+      whole = ap (ended_fault (prefix ++ raw b ∷ [])) last ∙ ap (λ t. cond t (whole_fault e.part (prefix ++ raw b ∷ [])) None) (ne_eqb e.to _ (λ end. omega (arith, end, size, within)));
       header = le-ltb _ _ (omega (arith, steps, ltb-false _ _ is.header));
-      found = ap (part_at (front ++ raw b ∷ [])) size ∙ same (size_of front + 1) ∙ among_stays parts_in_order (offsets_of front) (size_of front) (size_of front + 1) e is.ordered is.found (omega arith) within;
-      ordered = subst (λ (ps : List Piece). AreOrdered (offsets_in ps)) (sym pieces) is.ordered;
+      found = ap (part_at (prefix ++ raw b ∷ [])) size ∙ same (size_of prefix + 1) ∙ among_stays parts_in_order (offsets_of prefix) (size_of prefix) (size_of prefix + 1) e is.ordered is.found (omega arith) within;
+      ordered = subst (λ (ps : List SpelledRecord). AreOrdered (offsets_in ps)) (sym records) is.ordered;
     }
 
 -- they are sound: each byte stands in the part, before its end
-raw_sound : (reads_debug : Bool) (front : List Step) (e : Extent) (bytes rest : List ℕ) → StaysIn reads_debug front e → is_raw reads_debug e.part ≡ true → size_of front + length bytes ≤ e.to → IsSoundFrom reads_debug front (map raw bytes) (bytes ++ rest)
-raw_sound reads_debug front e [] rest is unread within = tt
-raw_sound reads_debug front e (b ∷ []) rest is unread within =
-    let here = raw_next reads_debug front e (b ∷ rest) is.header is.found unread in
-    (is.unended, ap (λ o. option_or o (step_fault reads_debug front (next_step reads_debug front (b ∷ rest)))) is.whole ∙ ap (step_fault reads_debug front) here, here, tt)
-raw_sound reads_debug front e (b ∷ c ∷ bytes) rest is unread within =
-    let here = raw_next reads_debug front e (b ∷ c ∷ bytes ++ rest) is.header is.found unread in
-    let size : size_of (front ++ raw b ∷ []) ≡ size_of front + 1 = size-append front (raw b ∷ []) in (
+raw_sound : (reads_debug : Bool) (prefix : List Step) (e : Extent) (bytes rest : List ℕ) → StaysIn reads_debug prefix e → is_raw reads_debug e.part ≡ true → size_of prefix + length bytes ≤ e.to → IsSoundFrom reads_debug prefix (map raw bytes) (bytes ++ rest)
+raw_sound reads_debug prefix e [] rest is unread within = tt
+raw_sound reads_debug prefix e (b ∷ []) rest is unread within =
+    let here = raw_next reads_debug prefix e (b ∷ rest) is.header is.found unread in
+    (is.unended, ap (λ o. option_or o (step_fault reads_debug prefix (next_step reads_debug prefix (b ∷ rest)))) is.whole ∙ ap (step_fault reads_debug prefix) here, here, tt)
+raw_sound reads_debug prefix e (b ∷ c ∷ bytes) rest is unread within =
+    let here = raw_next reads_debug prefix e (b ∷ c ∷ bytes ++ rest) is.header is.found unread in
+    let size : size_of (prefix ++ raw b ∷ []) ≡ size_of prefix + 1 = size-append prefix (raw b ∷ []) in (
       is.unended,
-      ap (λ o. option_or o (step_fault reads_debug front (next_step reads_debug front (b ∷ c ∷ bytes ++ rest)))) is.whole ∙ ap (step_fault reads_debug front) here,
+      ap (λ o. option_or o (step_fault reads_debug prefix (next_step reads_debug prefix (b ∷ c ∷ bytes ++ rest)))) is.whole ∙ ap (step_fault reads_debug prefix) here,
       here,
-      raw_sound reads_debug (front ++ raw b ∷ []) e (c ∷ bytes) rest (stays_in reads_debug front e b is (omega (arith, within))) unread (omega (arith, within, size)),
+      raw_sound reads_debug (prefix ++ raw b ∷ []) e (c ∷ bytes) rest (stays_in reads_debug prefix e b is (omega (arith, within))) unread (omega (arith, within, size)),
     )
 
 -- bytes that are not read
-pub skip-gone : (reads_debug : Bool) (old : Front) (front : List Step) (e : extents.Extent) (at : code.Place) (rest : List ℕ) (new : Front) (done : Next) → IsFrontOf reads_debug old front → is_ended front ≡ false → ended_part_fault front ≡ None
-    → at ≡ place.Part e → as_place at ≡ place_behind front → is_raw reads_debug (as_part e.part) ≡ true → HasSkipped old e.part (e.to - old.size) rest new done → HasGone reads_debug front rest new done
-skip-gone reads_debug old front e at rest new done is unended whole here same unread skipped = by_done done skipped where
-  found : (nat_lt (length front) 10 ≡ false) × (part_at front (size_of front) ≡ Some (as_extent e))
-  found = part-found front at e here same
+pub skip-gone : (reads_debug : Bool) (old : Prefix) (prefix : List Step) (e : extents.Extent) (at : code.Location) (rest : List ℕ) (new : Prefix) (done : Next) → IsPrefixOf reads_debug old prefix → is_ended prefix ≡ false → ended_part_fault prefix ≡ None
+    → at ≡ offset.Part e → as_location at ≡ location_after prefix → is_raw reads_debug (as_part e.part) ≡ true → HasSkipped old e.part (e.to - old.size) rest new done → IsStepTaken reads_debug prefix rest new done
+skip-gone reads_debug old prefix e at rest new done is unended whole here same unread skipped = by_done done skipped where
+  found : (nat_lt (length prefix) 10 ≡ false) × (part_at prefix (size_of prefix) ≡ Some (as_extent e))
+  found = part-found prefix at e here same
 
-  stays : StaysIn reads_debug front (as_extent e)
+  stays : StaysIn reads_debug prefix (as_extent e)
   stays = record { unended = unended; whole = whole; header = found.0; found = found.1; ordered = is.ordered }
 
-  before : size_of front < e.to
-  before = part-within front at e here same
+  before : size_of prefix < e.to
+  before = part-within prefix at e here same
 
-  by_done : (done : Next) → HasSkipped old e.part (e.to - old.size) rest new done → HasGone reads_debug front rest new done
+  by_done : (done : Next) → HasSkipped old e.part (e.to - old.size) rest new done → IsStepTaken reads_debug prefix rest new done
   by_done (next.Took n) (count, some, more) =
       let long : length (take n rest) ≡ n = taken_length n rest (omega (arith, count)) in
       let size = is.size in (
         map raw (take n rest),
-        raw-front reads_debug old new front e (take n rest) is found.0 found.1 (omega (arith, long, count, before, size)) more,
-        subst (λ (r : List ℕ). IsSoundFrom reads_debug front (map raw (take n rest)) r) (take-append-drop n rest)
-            (raw_sound reads_debug front (as_extent e) (take n rest) (drop n rest) stays unread (omega (arith, long, count, before, size))),
+        raw-prefix reads_debug old new prefix e (take n rest) is found.0 found.1 (omega (arith, long, count, before, size)) more,
+        subst (λ (r : List ℕ). IsSoundFrom reads_debug prefix (map raw (take n rest)) r) (take-append-drop n rest)
+            (raw_sound reads_debug prefix (as_extent e) (take n rest) (drop n rest) stays unread (omega (arith, long, count, before, size))),
         raw_size (take n rest) ∙ long,
         some,
         omega (arith, count),
       )
   by_done next.More (none, same_) = (
-    subst (λ (f : Front). IsFrontOf reads_debug f front) (sym same_) is,
-    raw_next reads_debug front (as_extent e) rest found.0 found.1 unread ∙ ap raw_step none,
+    subst (λ (f : Prefix). IsPrefixOf reads_debug f prefix) (sym same_) is,
+    raw_next reads_debug prefix (as_extent e) rest found.0 found.1 unread ∙ ap raw_step none,
   )
   by_done (next.Refused f) skipped = absurd skipped

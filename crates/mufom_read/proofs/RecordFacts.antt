@@ -10,51 +10,51 @@ use Rattle.mufom_records.specs.declared.record.Mode.{Mode}
 use Rattle.mufom_records.specs.declared.record.Record.{Record}
 use Rattle.mufom_records.specs.Parts.{HasParts}
 use Rattle.mufom_module.specs.Grammar.{offset_in}
-use Rattle.mufom_read.specs.declared.front.Place as code
-use Rattle.mufom_read.specs.declared.front.Place.TheVariants as place
-use Rattle.mufom_read.specs.Fronts.{Step, header_mode}
-use Rattle.mufom_read.specs.FrontOfCode.{IsHeaderRow, IsPlacedWell, IsNotDebug, as_place, mode_at}
+use Rattle.mufom_read.specs.declared.prefix.Location as code
+use Rattle.mufom_read.specs.declared.prefix.Location.TheVariants as fault_offset
+use Rattle.mufom_read.specs.Prefixes.{Step, header_mode}
+use Rattle.mufom_read.specs.PrefixOfCode.{IsHeaderRow, IsPlacedWell, IsNotDebug, as_location, mode_at}
 
 number_some : (n : ℕ) (bytes : List ℕ) → SpellsNumber n bytes → 0 < length bytes
 number_some n [] is = absurd is
 number_some n (b ∷ bytes) is = omega arith
 
-byte_some : (b : ℕ) (front back bytes : List ℕ) → front ≡ b ∷ [] → bytes ≡ front ++ back → 0 < length bytes
-byte_some b front back bytes is all = omega (arith, ap length is, ap length all, length-append front back)
+byte_some : (b : ℕ) (prefix back bytes : List ℕ) → prefix ≡ b ∷ [] → bytes ≡ prefix ++ back → 0 < length bytes
+byte_some b prefix back bytes is all = omega (arith, ap length is, ap length all, length-append prefix back)
 
-item_some : (row : Record) (at : ℕ) (behind : Option ℕ) (back bytes : List ℕ) → Layouts.SpellsRecord (Layouts.constant r.ConstantItem) row at back behind → bytes ≡ back → 0 < length bytes
-item_some row at behind back bytes is all = omega (arith, number_some is.0 is.1 is.3.0, ap length is.5, length-append is.1 is.2, ap length all)
+item_some : (row : Record) (at : ℕ) (after : Option ℕ) (back bytes : List ℕ) → Layouts.SpellsRecord (Layouts.constant r.ConstantItem) row at back after → bytes ≡ back → 0 < length bytes
+item_some row at after back bytes is all = omega (arith, number_some is.0 is.1 is.3.0, ap length is.5, length-append is.1 is.2, ap length all)
 
 -- it has a byte
-pub got-some : (m : Mode) (row : Record) (bytes : List ℕ) (behind : Option ℕ) → Layouts.IsWholeRecord m row bytes behind → 0 < length bytes
-got-some mode.Begin row bytes behind is = byte_some is.0 is.1 is.2 bytes is.3 is.5
-got-some mode.Descriptor row bytes behind is = byte_some is.0 is.1 is.2 bytes is.3 is.5
-got-some (mode.Offset k) row bytes behind is = byte_some is.0 is.1 is.2 bytes is.3 is.5
-got-some mode.Body row bytes behind is = byte_some is.0 is.1 is.2 bytes is.3 is.5
-got-some mode.Items row bytes behind (None, front, back, none, constant, all) = item_some row (0 + length front) behind back bytes constant (all ∙ ap (λ l. l ++ back) none.0)
-got-some mode.Items row bytes behind (Some b, front, back, here, field, all) = byte_some b front back bytes here.0 all
+pub got-some : (m : Mode) (row : Record) (bytes : List ℕ) (after : Option ℕ) → Layouts.IsWholeRecord m row bytes after → 0 < length bytes
+got-some mode.Begin row bytes after is = byte_some is.0 is.1 is.2 bytes is.3 is.5
+got-some mode.Descriptor row bytes after is = byte_some is.0 is.1 is.2 bytes is.3 is.5
+got-some (mode.Offset k) row bytes after is = byte_some is.0 is.1 is.2 bytes is.3 is.5
+got-some mode.Body row bytes after is = byte_some is.0 is.1 is.2 bytes is.3 is.5
+got-some mode.Items row bytes after (None, prefix, back, none, constant, all) = item_some row (0 + length prefix) after back bytes constant (all ∙ ap (λ l. l ++ back) none.0)
+got-some mode.Items row bytes after (Some b, prefix, back, here, field, all) = byte_some b prefix back bytes here.0 all
 
 -- what it names by its position stands in its bytes
-pub got-own : (m : Mode) (row : Record) (bytes : List ℕ) (behind : Option ℕ) → Layouts.IsWholeRecord m row bytes behind → HasParts bytes row
-got-own mode.Begin row bytes behind is = begin_owned row bytes behind is
-got-own mode.Descriptor row bytes behind is = let d = descriptor_row row bytes behind is in subst (HasParts bytes) (sym d.3) tt
-got-own (mode.Offset k) row bytes behind is = let o = offset_row k row bytes behind is in subst (HasParts bytes) (sym o.1) tt
-got-own mode.Body row bytes behind is = body_owned row bytes behind is
-got-own mode.Items row bytes behind is = item_owned row bytes behind is
+pub got-own : (m : Mode) (row : Record) (bytes : List ℕ) (after : Option ℕ) → Layouts.IsWholeRecord m row bytes after → HasParts bytes row
+got-own mode.Begin row bytes after is = begin_owned row bytes after is
+got-own mode.Descriptor row bytes after is = let d = descriptor_row row bytes after is in subst (HasParts bytes) (sym d.3) tt
+got-own (mode.Offset k) row bytes after is = let o = offset_row k row bytes after is in subst (HasParts bytes) (sym o.1) tt
+got-own mode.Body row bytes after is = body_owned row bytes after is
+got-own mode.Items row bytes after is = item_owned row bytes after is
 
 -- those of the header are MB, AD and ASW
-pub got-header : (k : ℕ) (row : Record) (bytes : List ℕ) (behind : Option ℕ) → Layouts.IsWholeRecord (header_mode k) row bytes behind → IsHeaderRow row
-got-header zero row bytes behind is = let b = begin_row row bytes behind is in subst IsHeaderRow (sym b.2) tt
-got-header (suc zero) row bytes behind is = let d = descriptor_row row bytes behind is in subst IsHeaderRow (sym d.3) tt
-got-header (suc (suc k)) row bytes behind is = let o = offset_row k row bytes behind is in subst IsHeaderRow (sym o.1) tt
+pub got-header : (k : ℕ) (row : Record) (bytes : List ℕ) (after : Option ℕ) → Layouts.IsWholeRecord (header_mode k) row bytes after → IsHeaderRow row
+got-header zero row bytes after is = let b = begin_row row bytes after is in subst IsHeaderRow (sym b.2) tt
+got-header (suc zero) row bytes after is = let d = descriptor_row row bytes after is in subst IsHeaderRow (sym d.3) tt
+got-header (suc (suc k)) row bytes after is = let o = offset_row k row bytes after is in subst IsHeaderRow (sym o.1) tt
 
--- and those behind the first two have an offset
-pub got-offset : (k : ℕ) (row : Record) (bytes : List ℕ) (behind : Option ℕ) → Layouts.IsWholeRecord (header_mode k) row bytes behind → is_some (offset_in row) ≡ nat_le 2 k
-got-offset zero row bytes behind is = let b = begin_row row bytes behind is in ap (λ x. is_some (offset_in x)) b.2
-got-offset (suc zero) row bytes behind is = let d = descriptor_row row bytes behind is in ap (λ x. is_some (offset_in x)) d.3
-got-offset (suc (suc k)) row bytes behind is = let o = offset_row k row bytes behind is in ap (λ x. is_some (offset_in x)) o.1 ∙ sym (le-leb 2 (suc (suc k)) (omega arith))
+-- and those after the first two have an offset
+pub got-offset : (k : ℕ) (row : Record) (bytes : List ℕ) (after : Option ℕ) → Layouts.IsWholeRecord (header_mode k) row bytes after → is_some (offset_in row) ≡ nat_le 2 k
+got-offset zero row bytes after is = let b = begin_row row bytes after is in ap (λ x. is_some (offset_in x)) b.2
+got-offset (suc zero) row bytes after is = let d = descriptor_row row bytes after is in ap (λ x. is_some (offset_in x)) d.3
+got-offset (suc (suc k)) row bytes after is = let o = offset_row k row bytes after is in ap (λ x. is_some (offset_in x)) o.1 ∙ sym (le-leb 2 (suc (suc k)) (omega arith))
 
-pub got-placed : (front : List Step) (at : code.Place) (rest : List ℕ) (row : Record) (bytes : List ℕ) (behind : Option ℕ) → IsNotDebug at → Layouts.IsWholeRecord (mode_at front (as_place at) rest) row bytes behind → IsPlacedWell at row
-got-placed front (place.Header k) rest row bytes behind other is = (got-header k row bytes behind is, got-offset k row bytes behind is)
-got-placed front (place.Part e) rest row bytes behind other is = other
-got-placed front place.End rest row bytes behind other is = tt
+pub got-placed : (prefix : List Step) (at : code.Location) (rest : List ℕ) (row : Record) (bytes : List ℕ) (after : Option ℕ) → IsNotDebug at → Layouts.IsWholeRecord (mode_at prefix (as_location at) rest) row bytes after → IsPlacedWell at row
+got-placed prefix (fault_offset.Header k) rest row bytes after other is = (got-header k row bytes after is, got-offset k row bytes after is)
+got-placed prefix (fault_offset.Part e) rest row bytes after other is = other
+got-placed prefix fault_offset.End rest row bytes after other is = tt

@@ -1,4 +1,4 @@
--- The rules for a record, read off the tables, are the rules behind a front.
+-- The rules for a record, read off the tables, are the rules after a prefix.
 use Rattle.std.proofs.Common.{◌≡◌, ℕ, ◌&&◌, ◌||◌, Bool, true, false, not, true≢false, List, [], ◌∷◌, Option, Some, None, is_none, filter_map, map, option_to_list, cond, refl, sym, ap, ◌∙◌, append-nil}
 use Rattle.std.specs.List.{list_any, list_all, last_or}
 use Rattle.std.proofs.lemmas.List.Folds.{list_all-append}
@@ -14,15 +14,15 @@ use Rattle.std.specs.List.{cons_option}
 use Rattle.mufom_debug.specs.Marks.{joined}
 use Rattle.mufom_module.specs.Contents.{any_of}
 use Rattle.mufom_module.specs.Defects.{has_other_counter}
-use Rattle.mufom_module.specs.Pieces.{Piece, FileIndex, is_declared, named_by, named_in_expression, is_public_value, index_of_variable, tree_of_piece}
+use Rattle.mufom_module.specs.SpelledRecords.{SpelledRecord, FileIndex, is_declared, named_by, named_in_expression, is_public_value, index_of_variable, tree_of_record}
 use Rattle.mufom_module.specs.RecordParts.{debug_part, stands_in, is_loading, is_set_section}
-use Rattle.mufom_module.specs.Grammar.{declares_again, says_again, names_unknown, has_no_section}
-use Rattle.mufom_read.specs.Fronts.{Step, pieces_of, placed_of}
+use Rattle.mufom_module.specs.Grammar.{declares_again, states_again, names_unknown, has_no_section}
+use Rattle.mufom_read.specs.Prefixes.{Step, records_of, offset_records_of}
 use Rattle.mufom_read.specs.Faults.{set_by, counter_allowed, misplaces_counter, OpenBlock, open_blocks, ends_badly, is_too_deep, has_bad_alignment, rule_broken}
-use Rattle.mufom_read.specs.Kept.{tables_of, sayings, declares_again_in, says_again_in, is_declared_in, is_unknown, names_unknown_in, has_no_section_in, counter_allowed_in, misplaces_counter_in, rule_broken_in}
+use Rattle.mufom_read.specs.Kept.{tables_of, statements, declares_again_in, states_again_in, is_declared_in, is_unknown, names_unknown_in, has_no_section_in, counter_allowed_in, misplaces_counter_in, rule_broken_in}
 use Rattle.mufom_read.proofs.TableLaws.{alignment-has, size-has, base-has, value-has, weakness-has}
 
-pub declares : (ps : List Piece) (row : Record) → stands_in debug_part row ≡ false → declares_again_in (tables_of ps) row ≡ declares_again ps row
+pub declares : (ps : List SpelledRecord) (row : Record) → stands_in debug_part row ≡ false → declares_again_in (tables_of ps) row ≡ declares_again ps row
 declares ps (r.ModuleBegin a b) plain = refl
 declares ps (r.Descriptor a b c) plain = refl
 declares ps (r.Offset a b) plain = refl
@@ -52,39 +52,39 @@ declares ps (r.RepeatConstant a b) plain = refl
 declares ps (r.RepeatRelocate a) plain = refl
 declares ps (r.Start a) plain = refl
 
-pub says : (ps : List Piece) (row : Record) → says_again_in (tables_of ps) row ≡ says_again ps row
-says ps (r.ModuleBegin a b) = refl
-says ps (r.Descriptor a b c) = refl
-says ps (r.Offset a b) = refl
-says ps r.ModuleEnd = refl
-says ps (r.SectionType a b c d e f g) = refl
-says ps (r.Alignment a b c) = alignment-has a (sayings ps)
-says ps (r.SectionSize a b) = size-has a (sayings ps)
-says ps (r.SectionBase a b) = base-has a (sayings ps)
-says ps (r.PublicName a b) = refl
-says ps (r.PublicValue a b) = value-has a (sayings ps)
-says ps (r.PublicNote a b c d) = refl
-says ps (r.ReferenceName a b) = refl
-says ps (r.WeakReference a b c) = weakness-has a (sayings ps)
-says ps (r.ReferenceNote a b c d) = refl
-says ps (r.BlockBegin a b c d) = refl
-says ps (r.BlockEnd a) = refl
-says ps (r.DebugName a b) = refl
-says ps (r.DebugValue a b) = refl
-says ps (r.DebugNote a b c d) = refl
-says ps (r.SetSection a) = refl
-says ps (r.SetPc a b) = refl
-says ps (r.Constant a) = refl
-says ps r.Relocate = refl
-says ps (r.ConstantItem a) = refl
-says ps (r.FieldItem a b c) = refl
-says ps (r.RepeatConstant a b) = refl
-says ps (r.RepeatRelocate a) = refl
-says ps (r.Start a) = refl
+pub states : (ps : List SpelledRecord) (row : Record) → states_again_in (tables_of ps) row ≡ states_again ps row
+states ps (r.ModuleBegin a b) = refl
+states ps (r.Descriptor a b c) = refl
+states ps (r.Offset a b) = refl
+states ps r.ModuleEnd = refl
+states ps (r.SectionType a b c d e f g) = refl
+states ps (r.Alignment a b c) = alignment-has a (statements ps)
+states ps (r.SectionSize a b) = size-has a (statements ps)
+states ps (r.SectionBase a b) = base-has a (statements ps)
+states ps (r.PublicName a b) = refl
+states ps (r.PublicValue a b) = value-has a (statements ps)
+states ps (r.PublicNote a b c d) = refl
+states ps (r.ReferenceName a b) = refl
+states ps (r.WeakReference a b c) = weakness-has a (statements ps)
+states ps (r.ReferenceNote a b c d) = refl
+states ps (r.BlockBegin a b c d) = refl
+states ps (r.BlockEnd a) = refl
+states ps (r.DebugName a b) = refl
+states ps (r.DebugValue a b) = refl
+states ps (r.DebugNote a b c d) = refl
+states ps (r.SetSection a) = refl
+states ps (r.SetPc a b) = refl
+states ps (r.Constant a) = refl
+states ps r.Relocate = refl
+states ps (r.ConstantItem a) = refl
+states ps (r.FieldItem a b c) = refl
+states ps (r.RepeatConstant a b) = refl
+states ps (r.RepeatRelocate a) = refl
+states ps (r.Start a) = refl
 
 -- ---- indexes that are named
 
-named-entry : (ps : List Piece) (row : Record) → stands_in debug_part row ≡ false → list_all (is_declared_in (tables_of ps)) (option_to_list (named_by row)) ≡ list_all (is_declared ps) (option_to_list (named_by row))
+named-entry : (ps : List SpelledRecord) (row : Record) → stands_in debug_part row ≡ false → list_all (is_declared_in (tables_of ps)) (option_to_list (named_by row)) ≡ list_all (is_declared ps) (option_to_list (named_by row))
 named-entry ps (r.ModuleBegin a b) plain = refl
 named-entry ps (r.Descriptor a b c) plain = refl
 named-entry ps (r.Offset a b) plain = refl
@@ -114,7 +114,7 @@ named-entry ps (r.RepeatConstant a b) plain = refl
 named-entry ps (r.RepeatRelocate a) plain = refl
 named-entry ps (r.Start a) plain = refl
 
-declared-variable : (ps : List Piece) (v : Letter × ℕ) → is_declared_in (tables_of ps) (index_of_variable v) ≡ is_declared ps (index_of_variable v)
+declared-variable : (ps : List SpelledRecord) (v : Letter × ℕ) → is_declared_in (tables_of ps) (index_of_variable v) ≡ is_declared ps (index_of_variable v)
 declared-variable ps (I, i) = refl
 declared-variable ps (L, i) = refl
 declared-variable ps (P, i) = refl
@@ -122,7 +122,7 @@ declared-variable ps (R, i) = refl
 declared-variable ps (S, i) = refl
 declared-variable ps (X, i) = refl
 
-known-variables : (ps : List Piece) (vs : List (Letter × ℕ)) → list_any (is_unknown (tables_of ps)) vs ≡ not (list_all (is_declared ps) (map index_of_variable vs))
+known-variables : (ps : List SpelledRecord) (vs : List (Letter × ℕ)) → list_any (is_unknown (tables_of ps)) vs ≡ not (list_all (is_declared ps) (map index_of_variable vs))
 known-variables ps [] = refl
 known-variables ps (v ∷ vs) =
     ap (λ b. not b || list_any (is_unknown (tables_of ps)) vs) (declared-variable ps v)
@@ -133,14 +133,14 @@ known-variables ps (v ∷ vs) =
       or-not false b = refl
 
 -- the variables of an expression, where there is one
-pub known-tree : (ps : List Piece) (tree : Option Tree) → any_of (λ t. list_any (is_unknown (tables_of ps)) (variables_of t)) tree ≡ not (list_all (is_declared ps) (map index_of_variable (joined (map variables_of (option_to_list tree)))))
+pub known-tree : (ps : List SpelledRecord) (tree : Option Tree) → any_of (λ t. list_any (is_unknown (tables_of ps)) (variables_of t)) tree ≡ not (list_all (is_declared ps) (map index_of_variable (joined (map variables_of (option_to_list tree)))))
 known-tree ps None = refl
 known-tree ps (Some t) = known-variables ps (variables_of t) ∙ ap (λ vs. not (list_all (is_declared ps) (map index_of_variable vs))) (sym (append-nil (variables_of t)))
 
-unknown : (ps : List Piece) (p : Piece) → stands_in debug_part p.row ≡ false → names_unknown_in (tables_of ps) p.row (tree_of_piece p) ≡ names_unknown ps p
+unknown : (ps : List SpelledRecord) (p : SpelledRecord) → stands_in debug_part p.row ≡ false → names_unknown_in (tables_of ps) p.row (tree_of_record p) ≡ names_unknown ps p
 unknown ps p plain =
-    ap (λ b. not b || (not (is_public_value p.row) && any_of (λ t. list_any (is_unknown (tables_of ps)) (variables_of t)) (tree_of_piece p))) (named-entry ps p.row plain)
-    ∙ ap (λ b. not (entry) || (not (is_public_value p.row) && b)) (known-tree ps (tree_of_piece p))
+    ap (λ b. not b || (not (is_public_value p.row) && any_of (λ t. list_any (is_unknown (tables_of ps)) (variables_of t)) (tree_of_record p))) (named-entry ps p.row plain)
+    ∙ ap (λ b. not (entry) || (not (is_public_value p.row) && b)) (known-tree ps (tree_of_record p))
     ∙ by_case entry (is_public_value p.row)
     ∙ ap not (sym (list_all-append (is_declared ps) (option_to_list (named_by p.row)) (if_waits (is_public_value p.row)))) where
       entry : Bool
@@ -156,7 +156,7 @@ unknown ps p plain =
 
 -- ---- the current section
 
-current-from : (o : Option ℕ) (ps : List Piece) → is_none (last_or o (filter_map (λ p. set_by p.row) ps)) ≡ (is_none o && not (list_any (λ q. is_set_section q.row) ps))
+current-from : (o : Option ℕ) (ps : List SpelledRecord) → is_none (last_or o (filter_map (λ p. set_by p.row) ps)) ≡ (is_none o && not (list_any (λ q. is_set_section q.row) ps))
 current-from None [] = refl
 current-from (Some i) [] = refl
 current-from o (p ∷ ps) = by_row p.row (λ o. current-from o ps) where
@@ -194,10 +194,10 @@ current-from o (p ∷ ps) = by_row p.row (λ o. current-from o ps) where
   by_row (r.RepeatRelocate a) rest = rest o
   by_row (r.Start a) rest = rest o
 
-no-section : (ps : List Piece) (row : Record) → has_no_section_in (tables_of ps) row ≡ has_no_section ps row
+no-section : (ps : List SpelledRecord) (row : Record) → has_no_section_in (tables_of ps) row ≡ has_no_section ps row
 no-section ps row = ap (λ b. is_loading row && b) (current-from None ps)
 
-allowed : (ps : List Piece) (row : Record) → counter_allowed_in (tables_of ps) row ≡ counter_allowed ps row
+allowed : (ps : List SpelledRecord) (row : Record) → counter_allowed_in (tables_of ps) row ≡ counter_allowed ps row
 allowed ps (r.ModuleBegin a b) = refl
 allowed ps (r.Descriptor a b c) = refl
 allowed ps (r.Offset a b) = refl
@@ -227,8 +227,8 @@ allowed ps (r.RepeatConstant a b) = refl
 allowed ps (r.RepeatRelocate a) = refl
 allowed ps (r.Start a) = refl
 
-misplaced : (ps : List Piece) (p : Piece) → misplaces_counter_in (tables_of ps) p.row (tree_of_piece p) ≡ misplaces_counter ps p
-misplaced ps p = ap (λ o. any_of (has_other_counter o) (tree_of_piece p)) (allowed ps p.row)
+misplaced : (ps : List SpelledRecord) (p : SpelledRecord) → misplaces_counter_in (tables_of ps) p.row (tree_of_record p) ≡ misplaces_counter ps p
+misplaced ps p = ap (λ o. any_of (has_other_counter o) (tree_of_record p)) (allowed ps p.row)
 
 -- ---- debug blocks
 
@@ -328,16 +328,16 @@ first_broken a b c d e f g h = cond a (Some why.DuplicateIndex) (cond b (Some wh
     (cond e (Some why.NoSection) (cond f (Some why.BadP) (cond g (Some why.BlockNesting) (cond h (Some why.Depth) None)))))))
 
 -- The rule that the tables show to be broken is the first that the record breaks.
-pub rule_broken-tables : (front : List Step) (p : Piece) → stands_in debug_part p.row ≡ false → rule_broken_in (tables_of (pieces_of front)) p.row (tree_of_piece p) ≡ rule_broken front p
-rule_broken-tables front p plain =
-    let ps = pieces_of front in
+pub rule_broken-tables : (prefix : List Step) (p : SpelledRecord) → stands_in debug_part p.row ≡ false → rule_broken_in (tables_of (records_of prefix)) p.row (tree_of_record p) ≡ rule_broken prefix p
+rule_broken-tables prefix p plain =
+    let ps = records_of prefix in
     let t = tables_of ps in
-    let blocks = open_blocks (placed_of front) in
+    let blocks = open_blocks (offset_records_of prefix) in
     let row = p.row in
-    ap (λ x. first_broken x (names_unknown_in t row (tree_of_piece p)) (says_again_in t row) (has_bad_alignment row) (has_no_section_in t row) (misplaces_counter_in t row (tree_of_piece p)) false false) (declares ps row plain)
-    ∙ ap (λ x. first_broken (declares_again ps row) x (says_again_in t row) (has_bad_alignment row) (has_no_section_in t row) (misplaces_counter_in t row (tree_of_piece p)) false false) (unknown ps p plain)
-    ∙ ap (λ x. first_broken (declares_again ps row) (names_unknown ps p) x (has_bad_alignment row) (has_no_section_in t row) (misplaces_counter_in t row (tree_of_piece p)) false false) (says ps row)
-    ∙ ap (λ x. first_broken (declares_again ps row) (names_unknown ps p) (says_again ps row) (has_bad_alignment row) x (misplaces_counter_in t row (tree_of_piece p)) false false) (no-section ps row)
-    ∙ ap (λ x. first_broken (declares_again ps row) (names_unknown ps p) (says_again ps row) (has_bad_alignment row) (has_no_section ps row) x false false) (misplaced ps p)
-    ∙ ap (λ x. first_broken (declares_again ps row) (names_unknown ps p) (says_again ps row) (has_bad_alignment row) (has_no_section ps row) (misplaces_counter ps p) x false) (sym (no-nesting blocks row plain))
-    ∙ ap (λ x. first_broken (declares_again ps row) (names_unknown ps p) (says_again ps row) (has_bad_alignment row) (has_no_section ps row) (misplaces_counter ps p) (ends_badly blocks row) x) (sym (no-depth blocks row plain))
+    ap (λ x. first_broken x (names_unknown_in t row (tree_of_record p)) (states_again_in t row) (has_bad_alignment row) (has_no_section_in t row) (misplaces_counter_in t row (tree_of_record p)) false false) (declares ps row plain)
+    ∙ ap (λ x. first_broken (declares_again ps row) x (states_again_in t row) (has_bad_alignment row) (has_no_section_in t row) (misplaces_counter_in t row (tree_of_record p)) false false) (unknown ps p plain)
+    ∙ ap (λ x. first_broken (declares_again ps row) (names_unknown ps p) x (has_bad_alignment row) (has_no_section_in t row) (misplaces_counter_in t row (tree_of_record p)) false false) (states ps row)
+    ∙ ap (λ x. first_broken (declares_again ps row) (names_unknown ps p) (states_again ps row) (has_bad_alignment row) x (misplaces_counter_in t row (tree_of_record p)) false false) (no-section ps row)
+    ∙ ap (λ x. first_broken (declares_again ps row) (names_unknown ps p) (states_again ps row) (has_bad_alignment row) (has_no_section ps row) x false false) (misplaced ps p)
+    ∙ ap (λ x. first_broken (declares_again ps row) (names_unknown ps p) (states_again ps row) (has_bad_alignment row) (has_no_section ps row) (misplaces_counter ps p) x false) (sym (no-nesting blocks row plain))
+    ∙ ap (λ x. first_broken (declares_again ps row) (names_unknown ps p) (states_again ps row) (has_bad_alignment row) (has_no_section ps row) (misplaces_counter ps p) (ends_badly blocks row) x) (sym (no-depth blocks row plain))

@@ -74,26 +74,26 @@ no_item b bytes h =
 
 -- no record but an item begins as an item does
 pub body_begins : (row : Record) (bytes : List ℕ) (next : Option ℕ) → Layouts.IsWholeRecord mode.Body row bytes next → begins_item bytes ≡ false
-body_begins row bytes next (b, front, back, first, others, split) =
+body_begins row bytes next (b, prefix, back, first, others, split) =
     let low : 0xE0 ≤ b = promised (λ (_ : Record). 0xE0 ≤ b) (Layouts.coded b) row (0 + _) back next others (coded_high b) in
     ap begins_item (split ∙ ap (λ l. l ++ back) first) ∙ no_item b back low
 
 -- ---- items
 
-number_begins : (n : ℕ) (front back : List ℕ) (more : (b : ℕ) × (rest : List ℕ) × (front ≡ b ∷ rest) × (begins_number b ≡ true)) → begins_item (front ++ back) ≡ true
-number_begins n front back (b, rest, same, begins) = ap (λ l. begins_item (l ++ back)) same ∙ or_left (begins_number b) _ begins
+number_begins : (n : ℕ) (prefix back : List ℕ) (more : (b : ℕ) × (rest : List ℕ) × (prefix ≡ b ∷ rest) × (begins_number b ≡ true)) → begins_item (prefix ++ back) ≡ true
+number_begins n prefix back (b, rest, same, begins) = ap (λ l. begins_item (l ++ back)) same ∙ or_left (begins_number b) _ begins
 
 -- an item begins with a number or an opening bracket
 pub items_begin : (row : Record) (bytes : List ℕ) (next : Option ℕ) → Layouts.IsWholeRecord mode.Items row bytes next → begins_item bytes ≡ true
-items_begin row bytes next (None, front, back, first, (n, count, rest, spelled, others, parts), split) =
+items_begin row bytes next (None, prefix, back, first, (n, count, rest, spelled, others, parts), split) =
     ap begins_item (split ∙ (λ i. first.0 i ++ parts i)) ∙ number_begins n count rest (number_first n count spelled.0)
-items_begin row bytes next (Some b, front, back, first, others, split) =
+items_begin row bytes next (Some b, prefix, back, first, others, split) =
     ap begins_item (split ∙ ap (λ l. l ++ back) first.0) ∙ or_right (begins_number b) _ first.1
 
 -- ---- no record is empty
 
 body_some : (row : Record) (bytes : List ℕ) (next : Option ℕ) → Layouts.IsWholeRecord mode.Body row bytes next → 1 ≤ length bytes
-body_some row bytes next (b, front, back, first, others, split) = let e = ap length (split ∙ ap (λ l. l ++ back) first) in omega arith
+body_some row bytes next (b, prefix, back, first, others, split) = let e = ap length (split ∙ ap (λ l. l ++ back) first) in omega arith
 
 item_some : (bytes : List ℕ) → begins_item bytes ≡ true → 1 ≤ length bytes
 item_some [] h = cc
@@ -103,7 +103,7 @@ pub record_some : (test : Bool) (row : Record) (bytes : List ℕ) (next : Option
 record_some true row bytes next is = item_some bytes (items_begin row bytes next is)
 record_some false row bytes next is = body_some row bytes next is
 
--- bytes behind a record do not change what it begins with
+-- bytes after a record do not change what it begins with
 pub begins_grown : (bytes rest : List ℕ) → 1 ≤ length bytes → begins_item (bytes ++ rest) ≡ begins_item bytes
 begins_grown [] rest some = absurd (omega arith)
 begins_grown (b ∷ bytes) rest some = refl

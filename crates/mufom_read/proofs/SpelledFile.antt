@@ -11,10 +11,10 @@ use Rattle.mufom_module.specs.declared.module.Parts.{Parts}
 use Rattle.mufom_module.specs.declared.module.Defect.TheVariants as defect
 use Rattle.mufom_module.specs.Contents.{any_of, any_expression, debug_marks, placed_loads}
 use Rattle.mufom_module.specs.Defects as d
-use Rattle.mufom_module.specs.Pieces.{Piece, section, public, reference, of_kind, declared_by, declared}
+use Rattle.mufom_module.specs.SpelledRecords.{SpelledRecord, section, public, reference, of_kind, declared_by, declared}
 use Rattle.mufom_module.specs.RecordParts.{section_part, external_part, data_part, trailer_part, stands_in}
 use Rattle.mufom_module.specs.Gathered.{sections_of, publics_of, loads_of, starts_of}
-use Rattle.mufom_module.specs.Grammar.{FileParts, header_of, from_trailer, IsCutInto, indexes_of, records_of, FollowFrom, HasNames, Describes, Says}
+use Rattle.mufom_module.specs.Grammar.{FileParts, header_of, from_trailer, IsCutInto, indexes_of, records_of, FollowFrom, HasNames, Describes, States}
 use Rattle.mufom_read.specs.Faults.{set_by, current_section, is_bad_descriptor}
 use Rattle.mufom_read.proofs.EndedRows.{IsDescriptor}
 use Rattle.mufom_read.proofs.EndedParts.{KeptFrom, cond_none}
@@ -44,8 +44,8 @@ sound_module m h =
     let maus = cond_none (has defect.BadMaus) _ _ long.1 in
     let align = cond_none (has defect.BadAlign) _ _ maus.1 in
     let base = cond_none (has defect.MissingBase) _ _ align.1 in
-    let place = cond_none (has defect.Position) _ _ base.1 in
-    let counter = cond_none (has defect.MisplacedP) _ _ place.1 in
+    let offset = cond_none (has defect.Position) _ _ base.1 in
+    let counter = cond_none (has defect.MisplacedP) _ _ offset.1 in
     let first = or_parts (list_any (λ (s : Public). d.has_other_counter None s.value) m.names.publics) _ counter.0 in
     let second = or_parts (any_of (d.has_other_counter None) m.start) _ first.1 in
     let third = or_parts (list_any (any_expression (d.has_other_counter None)) (debug_marks m)) _ second.1 in
@@ -59,12 +59,12 @@ sound_module m h =
     }
 
 good_descriptor : (m : Parts) (row : Record) → d.is_unit_count m.maus ≡ true → IsDescriptor row → Describes m row → is_bad_descriptor row ≡ false
-good_descriptor m row units (bits, maus, letter, is, known) says =
-    let its : Describes m (r.Descriptor bits maus letter) = subst (λ (s : Record). Describes m s) is says in
+good_descriptor m row units (bits, maus, letter, is, known) states =
+    let its : Describes m (r.Descriptor bits maus letter) = subst (λ (s : Record). Describes m s) is states in
     ap is_bad_descriptor is ∙ not_from_true ((bits == 8) && d.is_unit_count maus) (and_from (bits == 8) (d.is_unit_count maus) (eq-eqb bits 8 its.0) (ap d.is_unit_count its.1 ∙ units))
 
 pub no_bad_descriptor : (f : FileParts) (m : Parts) → IsSound m → IsDescriptor f.descriptor.row → Describes m f.descriptor.row → is_bad_descriptor f.descriptor.row ≡ false
-no_bad_descriptor f m good is says = good_descriptor m f.descriptor.row good.units is says
+no_bad_descriptor f m good is states = good_descriptor m f.descriptor.row good.units is states
 
 -- ---- its records
 
@@ -84,7 +84,7 @@ record InTurn (f : FileParts) : Type 0 where
 
 in_turn : (f : FileParts) → f.debug ≡ [] → FollowFrom [] (records_of f) → InTurn f
 in_turn f none follow =
-    let all : FollowFrom [] (f.sections ++ (f.externals ++ (f.loads ++ f.trailer))) = subst (λ (l : List Piece). FollowFrom [] (f.sections ++ (f.externals ++ (l ++ (f.loads ++ f.trailer))))) none follow in
+    let all : FollowFrom [] (f.sections ++ (f.externals ++ (f.loads ++ f.trailer))) = subst (λ (l : List SpelledRecord). FollowFrom [] (f.sections ++ (f.externals ++ (l ++ (f.loads ++ f.trailer))))) none follow in
     let one = follow-parts [] f.sections (f.externals ++ (f.loads ++ f.trailer)) all in
     let two = follow-parts f.sections f.externals (f.loads ++ f.trailer) one.1 in
     let three = follow-parts (f.sections ++ f.externals) f.loads f.trailer two.1 in
@@ -94,7 +94,7 @@ sets_here : (row : Record) → stands_in data_part row ≡ false → set_by row 
 sets_here (r.SetSection i) h = cc
 sets_here row h = refl
 
-no_current : (sections externals : List Piece) → list_all (λ p. stands_in section_part p.row) sections ≡ true → list_all (λ p. stands_in external_part p.row) externals ≡ true → current_section (sections ++ externals) ≡ None
+no_current : (sections externals : List SpelledRecord) → list_all (λ p. stands_in section_part p.row) sections ≡ true → list_all (λ p. stands_in external_part p.row) externals ≡ true → current_section (sections ++ externals) ≡ None
 no_current sections externals own_sections own_externals =
     let a = not_asked data_part section_part (λ p. set_by p.row) (λ p x. sets_here p.row x) refl sections own_sections in
     let b = not_asked data_part external_part (λ p. set_by p.row) (λ p x. sets_here p.row x) refl externals own_externals in
@@ -118,44 +118,44 @@ any_list test None h = refl
 any_list test (Some x) h = ap (λ b. b || false) h
 
 keep_sections : (f : FileParts) (m : Parts) → IsSound m → m.sections ≡ sections_of f.sections → IsSilent (header_of f) → list_all (λ p. stands_in section_part p.row) f.sections ≡ true → FollowFrom [] f.sections → KeptFrom section_part (header_of f) f.sections
-keep_sections f m good says quiet own follow =
-    subst (λ (l : List Piece). KeptFrom section_part l f.sections) (append-nil (header_of f))
-    (keep_part section_part (header_of f) [] f.sections quiet own follow (all_aligned f.sections [] f.sections refl (ap (list_any d.has_bad_alignment) (sym says) ∙ good.aligned) follow) (section_counters [] f.sections own))
+keep_sections f m good states quiet own follow =
+    subst (λ (l : List SpelledRecord). KeptFrom section_part l f.sections) (append-nil (header_of f))
+    (keep_part section_part (header_of f) [] f.sections quiet own follow (all_aligned f.sections [] f.sections refl (ap (list_any d.has_bad_alignment) (sym states) ∙ good.aligned) follow) (section_counters [] f.sections own))
 
 keep_externals : (f : FileParts) (m : Parts) → IsSound m → m.names.publics ≡ publics_of (indexes_of f) f.externals → IsSilent (header_of f) → list_all (λ p. stands_in section_part p.row) f.sections ≡ true
     → list_all (λ p. stands_in external_part p.row) f.externals ≡ true → FollowFrom f.sections f.externals → KeptFrom external_part (header_of f ++ f.sections) f.externals
-keep_externals f m good says quiet others own follow =
+keep_externals f m good states quiet others own follow =
     let same = append-nil f.sections in
-    let counters = public_counters (indexes_of f) f.sections f.externals [] f.externals refl others own (ap (list_any (λ (s : Public). d.has_other_counter None s.value)) (sym says) ∙ good.publics)
-    (subst (λ (l : List Piece). FollowFrom l f.externals) (sym same) follow) in
-    keep_part external_part (header_of f) f.sections f.externals quiet own follow (none_aligned external_part f.externals refl own) (subst (λ (l : List Piece). CounterFrom l f.externals) same counters)
+    let counters = public_counters (indexes_of f) f.sections f.externals [] f.externals refl others own (ap (list_any (λ (s : Public). d.has_other_counter None s.value)) (sym states) ∙ good.publics)
+    (subst (λ (l : List SpelledRecord). FollowFrom l f.externals) (sym same) follow) in
+    keep_part external_part (header_of f) f.sections f.externals quiet own follow (none_aligned external_part f.externals refl own) (subst (λ (l : List SpelledRecord). CounterFrom l f.externals) same counters)
 
 keep_loads : (bytes : List ℕ) (reads_debug : Bool) (f : FileParts) (m : Parts) → IsCutInto bytes reads_debug f → IsSound m → m.loads ≡ loads_of (indexes_of f) m.maus f.loads → IsSilent (header_of f) → FollowFrom (f.sections ++ f.externals) f.loads
     → KeptFrom data_part ((header_of f ++ f.sections) ++ f.externals) f.loads
-keep_loads bytes reads_debug f m cut good says quiet follow =
+keep_loads bytes reads_debug f m cut good states quiet follow =
     let ix = indexes_of f in
     let none = no_current f.sections f.externals cut.sections.own cut.externals.own in
-    let loads : NoneMisplaced None (loads_of ix m.maus f.loads) = subst (λ (l : List Load). NoneMisplaced None l) says good.loads in
+    let loads : NoneMisplaced None (loads_of ix m.maus f.loads) = subst (λ (l : List Load). NoneMisplaced None l) states good.loads in
     let counters = load_counters ix m.maus false (f.sections ++ f.externals) f.loads (from_trailer f) cut.loads.are_whole cut.loads.own follow (are_in f cut.sections.own cut.externals.own)
     (subst (IsListed ix) (sym none) tt) (subst (λ (o : Option ℕ). NoneMisplaced (placed_section ix o) (loads_of ix m.maus f.loads)) (sym none) loads) (λ e. absurd (true≢false (sym e))) in
-    subst (λ (l : List Piece). KeptFrom data_part l f.loads) (sym (append_assoc (header_of f) f.sections f.externals))
+    subst (λ (l : List SpelledRecord). KeptFrom data_part l f.loads) (sym (append_assoc (header_of f) f.sections f.externals))
     (keep_part data_part (header_of f) (f.sections ++ f.externals) f.loads quiet cut.loads.own follow (none_aligned data_part f.loads refl cut.loads.own) counters)
 
 keep_trailer : (bytes : List ℕ) (reads_debug : Bool) (f : FileParts) (m : Parts) → IsCutInto bytes reads_debug f → IsSound m → option_to_list m.start ≡ starts_of (indexes_of f) f.trailer → IsSilent (header_of f)
     → FollowFrom ((f.sections ++ f.externals) ++ f.loads) f.trailer → KeptFrom trailer_part (((header_of f ++ f.sections) ++ f.externals) ++ f.loads) f.trailer
-keep_trailer bytes reads_debug f m cut good says quiet follow =
+keep_trailer bytes reads_debug f m cut good states quiet follow =
     let before = (f.sections ++ f.externals) ++ f.loads in
-    let counters = start_counters (indexes_of f) before f.trailer cut.trailer.own (ap (list_any (d.has_other_counter None)) (sym says) ∙ any_list (d.has_other_counter None) m.start good.start) in
+    let counters = start_counters (indexes_of f) before f.trailer cut.trailer.own (ap (list_any (d.has_other_counter None)) (sym states) ∙ any_list (d.has_other_counter None) m.start good.start) in
     let same : header_of f ++ before ≡ ((header_of f ++ f.sections) ++ f.externals) ++ f.loads = sym (ap (λ l. l ++ f.loads) (append_assoc (header_of f) f.sections f.externals) ∙ append_assoc (header_of f) (f.sections ++ f.externals) f.loads) in
-    subst (λ (l : List Piece). KeptFrom trailer_part l f.trailer) same
+    subst (λ (l : List SpelledRecord). KeptFrom trailer_part l f.trailer) same
     (keep_part trailer_part (header_of f) before f.trailer quiet cut.trailer.own follow (none_aligned trailer_part f.trailer refl cut.trailer.own) counters)
 
-pub are_kept : (bytes : List ℕ) (reads_debug : Bool) (f : FileParts) (m : Parts) → IsCutInto bytes reads_debug f → HasNames f → Says f (indexes_of f) m → IsSound m → f.debug ≡ [] → IsSilent (header_of f) → AreKept f
-are_kept bytes reads_debug f m cut names says good none quiet =
+pub are_kept : (bytes : List ℕ) (reads_debug : Bool) (f : FileParts) (m : Parts) → IsCutInto bytes reads_debug f → HasNames f → States f (indexes_of f) m → IsSound m → f.debug ≡ [] → IsSilent (header_of f) → AreKept f
+are_kept bytes reads_debug f m cut names states good none quiet =
     let turn = in_turn f none names.follow in
     record {
-      sections = keep_sections f m good says.sections quiet cut.sections.own turn.sections;
-      externals = keep_externals f m good says.publics quiet cut.sections.own cut.externals.own turn.externals;
-      loads = keep_loads bytes reads_debug f m cut good says.loads quiet turn.loads;
-      trailer = keep_trailer bytes reads_debug f m cut good says.start quiet turn.trailer;
+      sections = keep_sections f m good states.sections quiet cut.sections.own turn.sections;
+      externals = keep_externals f m good states.publics quiet cut.sections.own cut.externals.own turn.externals;
+      loads = keep_loads bytes reads_debug f m cut good states.loads quiet turn.loads;
+      trailer = keep_trailer bytes reads_debug f m cut good states.start quiet turn.trailer;
     }

@@ -10,26 +10,26 @@ use Rattle.mufom_records.specs.declared.record.Record.TheVariants as r
 use Rattle.mufom_names.specs.declared.name.Public.{Public}
 use Rattle.mufom_module.specs.Contents.{any_of}
 use Rattle.mufom_module.specs.Defects as d
-use Rattle.mufom_module.specs.Pieces.{Piece, public, declared_by, declared, is_declared, named_at_once, named_in_expression, is_public_value, tree_of_piece, value_of_public, assigned_by, is_assigned}
+use Rattle.mufom_module.specs.SpelledRecords.{SpelledRecord, public, declared_by, declared, is_declared, named_at_once, named_in_expression, is_public_value, tree_of_record, value_of_public, assigned_by, is_assigned}
 use Rattle.mufom_module.specs.RecordParts.{Part, section_part, external_part, debug_part, trailer_part, number_of, part_of, stands_in, is_loading}
 use Rattle.mufom_module.specs.Gathered.{sections_of, publics_of, start_by, starts_of}
 use Rattle.mufom_module.specs.Grammar.{Follows, FollowFrom}
-use Rattle.mufom_read.specs.Fronts.{Step, raw, read, pieces_of, Placed, placed_of}
-use Rattle.mufom_read.specs.Faults.{Fault, fault_if, has_bad_alignment, set_by, counter_allowed, misplaces_counter, public_declared, lacks_value, external_fault, lacks_base, section_fault, first_fault, OpenBlock, opened_behind, open_from, open_fault, whole_fault}
+use Rattle.mufom_read.specs.Prefixes.{Step, raw, read, records_of, OffsetRecord, offset_records_of}
+use Rattle.mufom_read.specs.Faults.{Fault, fault_if, has_bad_alignment, set_by, counter_allowed, misplaces_counter, public_declared, lacks_value, external_fault, lacks_base, section_fault, first_fault, OpenBlock, opened_after, open_from, open_fault, whole_fault}
 use Rattle.mufom_read.proofs.EndedParts.{IsKept, KeptFrom}
 use Rattle.mufom_read.proofs.EndedSliced.{IsGiven}
-use Rattle.mufom_read.proofs.EndedNames.{IsSilent, behind_silent, declared_behind, assigned_behind, set_behind, declares_public, assigned-append}
+use Rattle.mufom_read.proofs.EndedNames.{IsSilent, after_silent, declared_after, assigned_after, set_after, declares_public, assigned-append}
 use Rattle.mufom_read.proofs.EndedGathered.{other_part, unplaced}
 use Rattle.mufom_read.proofs.SpelledEntries.{aligned, all_have_bases, public_counter, section_counter, start_counter, none_each}
 use Rattle.mufom_read.proofs.SpelledLoads.{CounterFrom}
 
 -- ---- records in order
 
-pub follow-parts : (before a b : List Piece) → FollowFrom before (a ++ b) → FollowFrom before a × FollowFrom (before ++ a) b
-follow-parts before [] b h = (tt, subst (λ (l : List Piece). FollowFrom l b) (sym (append-nil before)) h)
+pub follow-parts : (before a b : List SpelledRecord) → FollowFrom before (a ++ b) → FollowFrom before a × FollowFrom (before ++ a) b
+follow-parts before [] b h = (tt, subst (λ (l : List SpelledRecord). FollowFrom l b) (sym (append-nil before)) h)
 follow-parts before (p ∷ a) b h =
     let rest = follow-parts (before ++ p ∷ []) a b h.1 in
-    ((h.0, rest.0), subst (λ (l : List Piece). FollowFrom l b) (append_assoc before (p ∷ []) a) rest.1)
+    ((h.0, rest.0), subst (λ (l : List SpelledRecord). FollowFrom l b) (append_assoc before (p ∷ []) a) rest.1)
 
 sets_none : (row : Record) → is_none (part_of row) ≡ true → set_by row ≡ None
 sets_none (r.ModuleBegin a b) h = refl
@@ -37,113 +37,113 @@ sets_none (r.Descriptor a b c) h = refl
 sets_none (r.Offset a b) h = refl
 sets_none row h = cc
 
-same_allowed : (header before : List Piece) (row : Record) → IsSilent header → counter_allowed (header ++ before) row ≡ counter_allowed before row
-same_allowed header before (r.FieldItem kind value n) quiet = ap (last_or None) (behind_silent set_by sets_none header before quiet)
+same_allowed : (header before : List SpelledRecord) (row : Record) → IsSilent header → counter_allowed (header ++ before) row ≡ counter_allowed before row
+same_allowed header before (r.FieldItem kind value n) quiet = ap (last_or None) (after_silent set_by sets_none header before quiet)
 same_allowed header before (r.SetPc i value) quiet = refl
 same_allowed header before row quiet = refl
 
-kept_one : (header before : List Piece) (p : Piece) → IsSilent header → Follows before p → has_bad_alignment p.row ≡ false → misplaces_counter before p ≡ false → IsKept (header ++ before) p
+kept_one : (header before : List SpelledRecord) (p : SpelledRecord) → IsSilent header → Follows before p → has_bad_alignment p.row ≡ false → misplaces_counter before p ≡ false → IsKept (header ++ before) p
 kept_one header before p quiet h fits counter = record {
-  new = ap (λ test. any_of test (declared_by p.row)) (declared_behind header before quiet) ∙ h.new;
-  known = ap (λ test. not (list_all test (named_at_once p))) (declared_behind header before quiet) ∙ h.known;
-  once = ap (λ test. any_of test (assigned_by p.row)) (assigned_behind header before quiet) ∙ h.once;
+  new = ap (λ test. any_of test (declared_by p.row)) (declared_after header before quiet) ∙ h.new;
+  known = ap (λ test. not (list_all test (named_at_once p))) (declared_after header before quiet) ∙ h.known;
+  once = ap (λ test. any_of test (assigned_by p.row)) (assigned_after header before quiet) ∙ h.once;
   aligned = fits;
-  placed = ap (λ b. is_loading p.row && not b) (set_behind header before quiet) ∙ h.placed;
-  counter = ap (λ o. any_of (d.has_other_counter o) (tree_of_piece p)) (same_allowed header before p.row quiet) ∙ counter;
+  placed = ap (λ b. is_loading p.row && not b) (set_after header before quiet) ∙ h.placed;
+  counter = ap (λ o. any_of (d.has_other_counter o) (tree_of_record p)) (same_allowed header before p.row quiet) ∙ counter;
 }
 
 -- the records of a part keep to the rules
-pub keep_part : (part : Part) (header before pieces : List Piece) → IsSilent header → list_all (λ p. stands_in part p.row) pieces ≡ true → FollowFrom before pieces → AllByRecursion (λ p. has_bad_alignment p.row ≡ false) pieces → CounterFrom before pieces
-    → KeptFrom part (header ++ before) pieces
+pub keep_part : (part : Part) (header before records : List SpelledRecord) → IsSilent header → list_all (λ p. stands_in part p.row) records ≡ true → FollowFrom before records → AllByRecursion (λ p. has_bad_alignment p.row ≡ false) records → CounterFrom before records
+    → KeptFrom part (header ++ before) records
 keep_part part header before [] quiet own follow fit counters = tt
-keep_part part header before (p ∷ pieces) quiet own follow fit counters =
+keep_part part header before (p ∷ records) quiet own follow fit counters =
     let both = and_parts (stands_in part p.row) _ own in (
       both.0,
       kept_one header before p quiet follow.0 fit.0 counters.0,
-      subst (λ (l : List Piece). KeptFrom part l pieces) (sym (append_assoc header before (p ∷ []))) (keep_part part header (before ++ p ∷ []) pieces quiet both.1 follow.1 fit.1 counters.1),
+      subst (λ (l : List SpelledRecord). KeptFrom part l records) (sym (append_assoc header before (p ∷ []))) (keep_part part header (before ++ p ∷ []) records quiet both.1 follow.1 fit.1 counters.1),
     )
 
 -- ---- alignments
 
-pub all_aligned : (sections before pieces : List Piece) → sections ≡ before ++ pieces → list_any d.has_bad_alignment (sections_of sections) ≡ false → FollowFrom before pieces → AllByRecursion (λ p. has_bad_alignment p.row ≡ false) pieces
+pub all_aligned : (sections before records : List SpelledRecord) → sections ≡ before ++ records → list_any d.has_bad_alignment (sections_of sections) ≡ false → FollowFrom before records → AllByRecursion (λ p. has_bad_alignment p.row ≡ false) records
 all_aligned sections before [] split good follow = tt
-all_aligned sections before (p ∷ pieces) split good follow =
-    (aligned sections before pieces p split good follow.0, all_aligned sections (before ++ p ∷ []) pieces (split ∙ sym (append_assoc before (p ∷ []) pieces)) good follow.1)
+all_aligned sections before (p ∷ records) split good follow =
+    (aligned sections before records p split good follow.0, all_aligned sections (before ++ p ∷ []) records (split ∙ sym (append_assoc before (p ∷ []) records)) good follow.1)
 
 no_alignment : (part : Part) (row : Record) → (number_of part == 2) ≡ false → stands_in part row ≡ true → has_bad_alignment row ≡ false
 no_alignment part (r.Alignment i n other) differ own = absurd (both_ways (number_of part == 2) differ own)
 no_alignment part row differ own = refl
 
-pub none_aligned : (part : Part) (pieces : List Piece) → (number_of part == 2) ≡ false → list_all (λ p. stands_in part p.row) pieces ≡ true → AllByRecursion (λ p. has_bad_alignment p.row ≡ false) pieces
+pub none_aligned : (part : Part) (records : List SpelledRecord) → (number_of part == 2) ≡ false → list_all (λ p. stands_in part p.row) records ≡ true → AllByRecursion (λ p. has_bad_alignment p.row ≡ false) records
 none_aligned part [] differ own = tt
-none_aligned part (p ∷ pieces) differ own = let both = and_parts (stands_in part p.row) _ own in (no_alignment part p.row differ both.0, none_aligned part pieces differ both.1)
+none_aligned part (p ∷ records) differ own = let both = and_parts (stands_in part p.row) _ own in (no_alignment part p.row differ both.0, none_aligned part records differ both.1)
 
 -- ---- program counters
 
-pub section_counters : (before pieces : List Piece) → list_all (λ p. stands_in section_part p.row) pieces ≡ true → CounterFrom before pieces
+pub section_counters : (before records : List SpelledRecord) → list_all (λ p. stands_in section_part p.row) records ≡ true → CounterFrom before records
 section_counters before [] own = tt
-section_counters before (p ∷ pieces) own = let both = and_parts (stands_in section_part p.row) _ own in (section_counter before p both.0, section_counters (before ++ p ∷ []) pieces both.1)
+section_counters before (p ∷ records) own = let both = and_parts (stands_in section_part p.row) _ own in (section_counter before p both.0, section_counters (before ++ p ∷ []) records both.1)
 
-pub public_counters : (ix : Indexes) (sections externals before pieces : List Piece) → externals ≡ before ++ pieces → list_all (λ p. stands_in section_part p.row) sections ≡ true → list_all (λ p. stands_in external_part p.row) pieces ≡ true
-    → list_any (λ (s : Public). d.has_other_counter None s.value) (publics_of ix externals) ≡ false → FollowFrom (sections ++ before) pieces → CounterFrom (sections ++ before) pieces
+pub public_counters : (ix : Indexes) (sections externals before records : List SpelledRecord) → externals ≡ before ++ records → list_all (λ p. stands_in section_part p.row) sections ≡ true → list_all (λ p. stands_in external_part p.row) records ≡ true
+    → list_any (λ (s : Public). d.has_other_counter None s.value) (publics_of ix externals) ≡ false → FollowFrom (sections ++ before) records → CounterFrom (sections ++ before) records
 public_counters ix sections externals before [] split others own good follow = tt
-public_counters ix sections externals before (p ∷ pieces) split others own good follow =
+public_counters ix sections externals before (p ∷ records) split others own good follow =
     let both = and_parts (stands_in external_part p.row) _ own in
     let same = append_assoc sections before (p ∷ []) in (
-      public_counter ix sections externals before pieces p both.0 others split good follow.0,
-      subst (λ (l : List Piece). CounterFrom l pieces) (sym same)
-          (public_counters ix sections externals (before ++ p ∷ []) pieces (split ∙ sym (append_assoc before (p ∷ []) pieces)) others both.1 good (subst (λ (l : List Piece). FollowFrom l pieces) same follow.1)),
+      public_counter ix sections externals before records p both.0 others split good follow.0,
+      subst (λ (l : List SpelledRecord). CounterFrom l records) (sym same)
+          (public_counters ix sections externals (before ++ p ∷ []) records (split ∙ sym (append_assoc before (p ∷ []) records)) others both.1 good (subst (λ (l : List SpelledRecord). FollowFrom l records) same follow.1)),
     )
 
-start_counters_by : (ix : Indexes) (before pieces : List Piece) → list_all (λ p. stands_in trailer_part p.row) pieces ≡ true → AllByRecursion (λ p. any_of (d.has_other_counter None) (start_by ix p p.row) ≡ false) pieces → CounterFrom before pieces
+start_counters_by : (ix : Indexes) (before records : List SpelledRecord) → list_all (λ p. stands_in trailer_part p.row) records ≡ true → AllByRecursion (λ p. any_of (d.has_other_counter None) (start_by ix p p.row) ≡ false) records → CounterFrom before records
 start_counters_by ix before [] own all = tt
-start_counters_by ix before (p ∷ pieces) own all = let both = and_parts (stands_in trailer_part p.row) _ own in (start_counter ix before p both.0 all.0, start_counters_by ix (before ++ p ∷ []) pieces both.1 all.1)
+start_counters_by ix before (p ∷ records) own all = let both = and_parts (stands_in trailer_part p.row) _ own in (start_counter ix before p both.0 all.0, start_counters_by ix (before ++ p ∷ []) records both.1 all.1)
 
-pub start_counters : (ix : Indexes) (before pieces : List Piece) → list_all (λ p. stands_in trailer_part p.row) pieces ≡ true → list_any (d.has_other_counter None) (starts_of ix pieces) ≡ false → CounterFrom before pieces
-start_counters ix before pieces own good = start_counters_by ix before pieces own (none_each (d.has_other_counter None) (λ p. start_by ix p p.row) pieces good)
+pub start_counters : (ix : Indexes) (before records : List SpelledRecord) → list_all (λ p. stands_in trailer_part p.row) records ≡ true → list_any (d.has_other_counter None) (starts_of ix records) ≡ false → CounterFrom before records
+start_counters ix before records own good = start_counters_by ix before records own (none_each (d.has_other_counter None) (λ p. start_by ix p p.row) records good)
 
 -- ---- parts as wholes
 
-first_all : (fault : Placed → Option Fault) (Q : Piece → Type 0) → ((q : Placed) → Q q.1 → fault q ≡ None) → (front : List Step) → AllByRecursion Q (pieces_of front) → first_fault fault (placed_of front) ≡ None
-first_all fault Q says [] all = refl
-first_all fault Q says (raw b ∷ front) all = first_all fault Q says front all
-first_all fault Q says (read start p ∷ front) all = (λ i. option_or (says (start, p) all.0 i) (first_all fault Q says front all.1 i))
+first_all : (fault : OffsetRecord → Option Fault) (Q : SpelledRecord → Type 0) → ((q : OffsetRecord) → Q q.1 → fault q ≡ None) → (prefix : List Step) → AllByRecursion Q (records_of prefix) → first_fault fault (offset_records_of prefix) ≡ None
+first_all fault Q states [] all = refl
+first_all fault Q states (raw b ∷ prefix) all = first_all fault Q states prefix all
+first_all fault Q states (read start p ∷ prefix) all = (λ i. option_or (states (start, p) all.0 i) (first_all fault Q states prefix all.1 i))
 
-all-append : (Q : Piece → Type 0) (a b : List Piece) → AllByRecursion Q a → AllByRecursion Q b → AllByRecursion Q (a ++ b)
+all-append : (Q : SpelledRecord → Type 0) (a b : List SpelledRecord) → AllByRecursion Q a → AllByRecursion Q b → AllByRecursion Q (a ++ b)
 all-append Q [] b x y = y
 all-append Q (p ∷ a) b x y = (x.0, all-append Q a b x.1 y)
 
-all_silent : (Q : Piece → Type 0) → ((p : Piece) → is_none (part_of p.row) ≡ true → Q p) → (header : List Piece) → IsSilent header → AllByRecursion Q header
-all_silent Q says [] quiet = tt
-all_silent Q says (p ∷ header) quiet = let both = and_parts (is_none (part_of p.row)) _ quiet in (says p both.0, all_silent Q says header both.1)
+all_silent : (Q : SpelledRecord → Type 0) → ((p : SpelledRecord) → is_none (part_of p.row) ≡ true → Q p) → (header : List SpelledRecord) → IsSilent header → AllByRecursion Q header
+all_silent Q states [] quiet = tt
+all_silent Q states (p ∷ header) quiet = let both = and_parts (is_none (part_of p.row)) _ quiet in (states p both.0, all_silent Q states header both.1)
 
-all_own : (part : Part) (Q : Piece → Type 0) → ((p : Piece) → stands_in part p.row ≡ true → Q p) → (pieces : List Piece) → list_all (λ p. stands_in part p.row) pieces ≡ true → AllByRecursion Q pieces
-all_own part Q says [] own = tt
-all_own part Q says (p ∷ pieces) own = let both = and_parts (stands_in part p.row) _ own in (says p both.0, all_own part Q says pieces both.1)
+all_own : (part : Part) (Q : SpelledRecord → Type 0) → ((p : SpelledRecord) → stands_in part p.row ≡ true → Q p) → (records : List SpelledRecord) → list_all (λ p. stands_in part p.row) records ≡ true → AllByRecursion Q records
+all_own part Q states [] own = tt
+all_own part Q states (p ∷ records) own = let both = and_parts (stands_in part p.row) _ own in (states p both.0, all_own part Q states records both.1)
 
 -- sections
 
-silent_base : (all : List Piece) (row : Record) → is_none (part_of row) ≡ true → lacks_base all row ≡ false
+silent_base : (all : List SpelledRecord) (row : Record) → is_none (part_of row) ≡ true → lacks_base all row ≡ false
 silent_base all (r.ModuleBegin a b) h = refl
 silent_base all (r.Descriptor a b c) h = refl
 silent_base all (r.Offset a b) h = refl
 silent_base all row h = cc
 
-pub section_whole : (front : List Step) (header sections : List Piece) → pieces_of front ≡ header ++ sections → IsSilent header → list_any d.lacks_base (sections_of sections) ≡ false → whole_fault section_part front ≡ None
-section_whole front header sections are quiet good =
-    let all = pieces_of front in
+pub section_whole : (prefix : List Step) (header sections : List SpelledRecord) → records_of prefix ≡ header ++ sections → IsSilent header → list_any d.lacks_base (sections_of sections) ≡ false → whole_fault section_part prefix ≡ None
+section_whole prefix header sections are quiet good =
+    let all = records_of prefix in
     let both = all-append (λ p. lacks_base (header ++ sections) p.row ≡ false) header sections (all_silent (λ p. lacks_base (header ++ sections) p.row ≡ false) (λ p h. silent_base (header ++ sections) p.row h) header quiet) (all_have_bases header sections quiet good) in
-    first_all (section_fault all) (λ p. lacks_base all p.row ≡ false) (λ q h. ap (λ b. fault_if b q.0 why.MissingBase) h) front (subst (λ (l : List Piece). AllByRecursion (λ p. lacks_base l p.row ≡ false) l) (sym are) both)
+    first_all (section_fault all) (λ p. lacks_base all p.row ≡ false) (λ q h. ap (λ b. fault_if b q.0 why.MissingBase) h) prefix (subst (λ (l : List SpelledRecord). AllByRecursion (λ p. lacks_base l p.row ≡ false) l) (sym are) both)
 
 -- externals
 
-silent_given : (all : List Piece) (p : Piece) (row : Record) → is_none (part_of row) ≡ true → ((is_public_value row && not (list_all (is_declared all) (named_in_expression p))) ≡ false) × (lacks_value all row ≡ false)
+silent_given : (all : List SpelledRecord) (p : SpelledRecord) (row : Record) → is_none (part_of row) ≡ true → ((is_public_value row && not (list_all (is_declared all) (named_in_expression p))) ≡ false) × (lacks_value all row ≡ false)
 silent_given all p (r.ModuleBegin a b) h = (refl, refl)
 silent_given all p (r.Descriptor a b c) h = (refl, refl)
 silent_given all p (r.Offset a b) h = (refl, refl)
 silent_given all p row h = cc
 
-section_given : (all : List Piece) (p : Piece) (row : Record) → stands_in section_part row ≡ true → ((is_public_value row && not (list_all (is_declared all) (named_in_expression p))) ≡ false) × (lacks_value all row ≡ false)
+section_given : (all : List SpelledRecord) (p : SpelledRecord) (row : Record) → stands_in section_part row ≡ true → ((is_public_value row && not (list_all (is_declared all) (named_in_expression p))) ≡ false) × (lacks_value all row ≡ false)
 section_given all p (r.SectionType i a b c x y z) h = (refl, refl)
 section_given all p (r.Alignment i n other) h = (refl, refl)
 section_given all p (r.SectionSize i n) h = (refl, refl)
@@ -159,14 +159,14 @@ valued_next : (test : ℕ → Bool) (o : Option ℕ) (rest : List ℕ) → list_
 valued_next test None rest h = (refl, h)
 valued_next test (Some i) rest h = let both = and_parts (test i) _ h in (not_from_true (test i) both.0, both.1)
 
-externals_given : (all externals pieces : List Piece) → ((i : ℕ) → is_assigned externals (value_of_public i) ≡ true → is_assigned all (value_of_public i) ≡ true)
-    → list_all (λ p. list_all (is_declared all) (named_in_expression p)) pieces ≡ true → list_all (λ i. is_assigned externals (value_of_public i)) (declared public pieces) ≡ true → AllByRecursion (IsGiven all) pieces
+externals_given : (all externals records : List SpelledRecord) → ((i : ℕ) → is_assigned externals (value_of_public i) ≡ true → is_assigned all (value_of_public i) ≡ true)
+    → list_all (λ p. list_all (is_declared all) (named_in_expression p)) records ≡ true → list_all (λ i. is_assigned externals (value_of_public i)) (declared public records) ≡ true → AllByRecursion (IsGiven all) records
 externals_given all externals [] grows values valued = tt
-externals_given all externals (p ∷ pieces) grows values valued =
+externals_given all externals (p ∷ records) grows values valued =
     let test : ℕ → Bool = λ i. is_assigned externals (value_of_public i) in
     let both = and_parts (list_all (is_declared all) (named_in_expression p)) _ values in
-    let next = valued_next test (public_declared p.row) (declared public pieces) (ap (λ o. list_all test (cons_option o (declared public pieces))) (sym (declares_public p.row)) ∙ valued) in
-    ((and_off (is_public_value p.row) (list_all (is_declared all) (named_in_expression p)) both.0, more (public_declared p.row) next.0), externals_given all externals pieces grows both.1 next.1)
+    let next = valued_next test (public_declared p.row) (declared public records) (ap (λ o. list_all test (cons_option o (declared public records))) (sym (declares_public p.row)) ∙ valued) in
+    ((and_off (is_public_value p.row) (list_all (is_declared all) (named_in_expression p)) both.0, more (public_declared p.row) next.0), externals_given all externals records grows both.1 next.1)
   where
     more : (o : Option ℕ) → any_of (λ i. not (is_assigned externals (value_of_public i))) o ≡ false → any_of (λ i. not (is_assigned all (value_of_public i))) o ≡ false
     more None h = refl
@@ -175,36 +175,36 @@ externals_given all externals (p ∷ pieces) grows values valued =
       grown true b f h = not_from_true b (f refl)
       grown false b f h = cc
 
-pub external_whole : (front : List Step) (header sections externals : List Piece) → pieces_of front ≡ (header ++ sections) ++ externals → IsSilent header → list_all (λ p. stands_in section_part p.row) sections ≡ true
+pub external_whole : (prefix : List Step) (header sections externals : List SpelledRecord) → records_of prefix ≡ (header ++ sections) ++ externals → IsSilent header → list_all (λ p. stands_in section_part p.row) sections ≡ true
     → list_all (λ p. list_all (is_declared (sections ++ externals)) (named_in_expression p)) externals ≡ true → list_all (λ i. is_assigned externals (value_of_public i)) (declared public externals) ≡ true
-    → whole_fault external_part front ≡ None
-external_whole front header sections externals are quiet own values valued =
+    → whole_fault external_part prefix ≡ None
+external_whole prefix header sections externals are quiet own values valued =
     let all = (header ++ sections) ++ externals in
-    let same : is_declared all ≡ is_declared (sections ++ externals) = ap (λ l. is_declared l) (append_assoc header sections externals) ∙ declared_behind header (sections ++ externals) quiet in
+    let same : is_declared all ≡ is_declared (sections ++ externals) = ap (λ l. is_declared l) (append_assoc header sections externals) ∙ declared_after header (sections ++ externals) quiet in
     let given = externals_given all externals externals
     (λ i h. assigned-append (header ++ sections) externals (value_of_public i) ∙ or_right (is_assigned (header ++ sections) (value_of_public i)) (is_assigned externals (value_of_public i)) h)
     (ap (λ test. list_all (λ p. list_all test (named_in_expression p)) externals) same ∙ values) valued in
     let every = all-append (IsGiven all) (header ++ sections) externals (all-append (IsGiven all) header sections
     (all_silent (IsGiven all) (λ p h. silent_given all p p.row h) header quiet) (all_own section_part (IsGiven all) (λ p h. section_given all p p.row h) sections own)) given in
-    first_all (external_fault (pieces_of front)) (IsGiven (pieces_of front)) (λ q h. (λ i. option_or (fault_if (h.0 i) q.0 why.UnknownIndex) (fault_if (h.1 i) q.0 why.MissingValue))) front
-    (subst (λ (l : List Piece). AllByRecursion (IsGiven l) l) (sym are) every)
+    first_all (external_fault (records_of prefix)) (IsGiven (records_of prefix)) (λ q h. (λ i. option_or (fault_if (h.0 i) q.0 why.UnknownIndex) (fault_if (h.1 i) q.0 why.MissingValue))) prefix
+    (subst (λ (l : List SpelledRecord). AllByRecursion (IsGiven l) l) (sym are) every)
 
 -- debug blocks
 
-none_opened : (start : ℕ) (row : Record) → stands_in debug_part row ≡ false → opened_behind [] start row ≡ []
+none_opened : (start : ℕ) (row : Record) → stands_in debug_part row ≡ false → opened_after [] start row ≡ []
 none_opened start (r.BlockBegin kind n name block) h = cc
 none_opened start (r.BlockEnd value) h = refl
 none_opened start row h = refl
 
-none_open : (front : List Step) → AllByRecursion (λ p. stands_in debug_part p.row ≡ false) (pieces_of front) → open_from [] (placed_of front) ≡ []
+none_open : (prefix : List Step) → AllByRecursion (λ p. stands_in debug_part p.row ≡ false) (records_of prefix) → open_from [] (offset_records_of prefix) ≡ []
 none_open [] all = refl
-none_open (raw b ∷ front) all = none_open front all
-none_open (read start p ∷ front) all = ap (λ (l : List OpenBlock). open_from l (placed_of front)) (none_opened start p.row all.0) ∙ none_open front all.1
+none_open (raw b ∷ prefix) all = none_open prefix all
+none_open (read start p ∷ prefix) all = ap (λ (l : List OpenBlock). open_from l (offset_records_of prefix)) (none_opened start p.row all.0) ∙ none_open prefix all.1
 
-pub debug_whole : (front : List Step) (header sections externals : List Piece) → pieces_of front ≡ (header ++ sections) ++ externals → IsSilent header → list_all (λ p. stands_in section_part p.row) sections ≡ true
-    → list_all (λ p. stands_in external_part p.row) externals ≡ true → whole_fault debug_part front ≡ None
-debug_whole front header sections externals are quiet own_sections own_externals =
-    let Q : Piece → Type 0 = λ p. stands_in debug_part p.row ≡ false in
+pub debug_whole : (prefix : List Step) (header sections externals : List SpelledRecord) → records_of prefix ≡ (header ++ sections) ++ externals → IsSilent header → list_all (λ p. stands_in section_part p.row) sections ≡ true
+    → list_all (λ p. stands_in external_part p.row) externals ≡ true → whole_fault debug_part prefix ≡ None
+debug_whole prefix header sections externals are quiet own_sections own_externals =
+    let Q : SpelledRecord → Type 0 = λ p. stands_in debug_part p.row ≡ false in
     let every = all-append Q (header ++ sections) externals (all-append Q header sections (all_silent Q (λ p h. unplaced debug_part (part_of p.row) h) header quiet)
     (all_own section_part Q (λ p h. other_part debug_part section_part (part_of p.row) refl h) sections own_sections)) (all_own external_part Q (λ p h. other_part debug_part external_part (part_of p.row) refl h) externals own_externals) in
-    ap (λ (l : List OpenBlock). open_fault l) (none_open front (subst (λ (l : List Piece). AllByRecursion Q l) (sym are) every))
+    ap (λ (l : List OpenBlock). open_fault l) (none_open prefix (subst (λ (l : List SpelledRecord). AllByRecursion Q l) (sym are) every))

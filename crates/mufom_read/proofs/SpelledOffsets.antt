@@ -1,4 +1,4 @@
--- What holds of the offsets of a file, and the header of a module's file as a sound front.
+-- What holds of the offsets of a file, and the header of a module's file as a sound prefix.
 use Rattle.std.proofs.Common.{◌≡◌, ◌⊎◌, ℕ, zero, suc, ◌+◌, ◌≤◌, Bool, true, false, not, ◌==◌, ◌&&◌, ◌||◌, nat_lt, List, [], ◌∷◌, ◌++◌, length, Option, None, MatchBool, is_none, refl, sym, ap, subst, ◌∙◌, inl, inr, arith, append_assoc, append-nil, eqb-true, ne_eqb, length-append}
 use Rattle.std.specs.List.{list_any, cons_option, AllByRecursion}
 use Rattle.std.proofs.lemmas.Bool.{and_parts, or_from, not-false}
@@ -7,20 +7,20 @@ use Rattle.mufom_records.specs.declared.record.Record.{Record}
 use Rattle.mufom_records.specs.declared.record.Record.TheVariants as r
 use Rattle.mufom_records.specs.Fields.{first_of}
 use Rattle.mufom_records.specs.Layouts.{IsWholeRecord}
-use Rattle.mufom_module.specs.Pieces.{Piece, bytes_of}
+use Rattle.mufom_module.specs.SpelledRecords.{SpelledRecord, bytes_of}
 use Rattle.mufom_module.specs.RecordParts.{part_of}
 use Rattle.mufom_module.specs.Grammar.{FileParts, header_of, parts_of, AreOfModes, header_modes, AreWhole, offset_in, offsets_in, StandAt}
-use Rattle.mufom_read.specs.Fronts.{Step, read, step_bytes, size_of, offsets_of, is_module_end, is_ended}
+use Rattle.mufom_read.specs.Prefixes.{Step, read, step_bytes, size_of, offsets_of, is_module_end, is_ended}
 use Rattle.mufom_read.specs.Faults.{is_bad_descriptor, is_out_of_order, header_fault, fault_if}
 use Rattle.mufom_numbers.specs.declared.reason.Reason.TheVariants as why
 use Rattle.mufom_read.specs.Judging.{IsSoundFrom}
 use Rattle.mufom_read.proofs.EndedRows.{IsBegin, IsDescriptor, begin_row, descriptor_row, offset_row}
 use Rattle.mufom_read.proofs.EndedHeader.{ended-read, offsets-append, modes_from}
 use Rattle.mufom_read.proofs.EndedNames.{IsSilent}
-use Rattle.mufom_read.proofs.EndedSaid.{first_at}
-use Rattle.mufom_read.proofs.SpelledWalk.{steps_of, steps_bytes, steps_pieces, IsStep, sound_step, Beyond, none_ended}
-use Rattle.mufom_read.proofs.SpelledHeader.{header_is_step, AreOrdered, AreNow, IsLeft, Standing, offset_walk, left_behind}
-use Rattle.mufom_read.proofs.SpelledParts.{Joint, no_pieces}
+use Rattle.mufom_read.proofs.EndedStated.{first_at}
+use Rattle.mufom_read.proofs.SpelledWalk.{steps_of, steps_bytes, steps_records, IsStep, sound_step, Beyond, none_ended}
+use Rattle.mufom_read.proofs.SpelledHeader.{header_is_step, AreOrdered, AreNow, IsLeft, Standing, offset_walk, left_after}
+use Rattle.mufom_read.proofs.SpelledParts.{Joint, no_records}
 
 -- ---- offsets
 
@@ -83,44 +83,44 @@ absent w at bytes some now (inl here) = absurd (let none = eqb-true w 0 (not-fal
 absent w at bytes some now (inr none) = none.1
 
 -- no debug part is left for later
-pub debug_none : (reads_debug : Bool) (f : FileParts) (offsets : List ℕ) (n : ℕ) (behind : List ℕ) → 1 ≤ n → AreNow reads_debug [] offsets → StandAt offsets n (parts_of f) → MatchBool reads_debug (f.skipped ≡ []) (f.debug ≡ []) → AreWhole false f.debug behind → f.debug ≡ []
-debug_none false f offsets n behind some now stand is are = is
-debug_none true f [] n behind some now stand is are = absurd stand
-debug_none true f (w0 ∷ []) n behind some now stand is are = absurd stand.1
-debug_none true f (w0 ∷ w1 ∷ []) n behind some now stand is are = absurd stand.1.1
-debug_none true f (w0 ∷ w1 ∷ w2 ∷ []) n behind some now stand is are = absurd stand.1.1.1
-debug_none true f (w0 ∷ w1 ∷ w2 ∷ w3 ∷ []) n behind some now stand is are = absurd stand.1.1.1.1
-debug_none true f (w0 ∷ w1 ∷ w2 ∷ w3 ∷ w4 ∷ offsets) n behind some now stand is are =
+pub debug_none : (reads_debug : Bool) (f : FileParts) (offsets : List ℕ) (n : ℕ) (after : List ℕ) → 1 ≤ n → AreNow reads_debug [] offsets → StandAt offsets n (parts_of f) → MatchBool reads_debug (f.skipped ≡ []) (f.debug ≡ []) → AreWhole false f.debug after → f.debug ≡ []
+debug_none false f offsets n after some now stand is are = is
+debug_none true f [] n after some now stand is are = absurd stand
+debug_none true f (w0 ∷ []) n after some now stand is are = absurd stand.1
+debug_none true f (w0 ∷ w1 ∷ []) n after some now stand is are = absurd stand.1.1
+debug_none true f (w0 ∷ w1 ∷ w2 ∷ []) n after some now stand is are = absurd stand.1.1.1
+debug_none true f (w0 ∷ w1 ∷ w2 ∷ w3 ∷ []) n after some now stand is are = absurd stand.1.1.1.1
+debug_none true f (w0 ∷ w1 ∷ w2 ∷ w3 ∷ w4 ∷ offsets) n after some now stand is are =
     let none = absent w4 _ (bytes_of f.debug ++ f.skipped) (omega arith) now.1.1.1.1.0 stand.1.1.1.1.0 in
     let count = ap length none in
-    no_pieces false f.debug behind are (omega (arith, count, length-append (bytes_of f.debug) f.skipped))
+    no_records false f.debug after are (omega (arith, count, length-append (bytes_of f.debug) f.skipped))
 
 -- ---- records of the header
 
-offsets_silent : (n k : ℕ) (pieces : List Piece) (behind : List ℕ) → AreOfModes (modes_from k n) pieces behind → IsSilent pieces
-offsets_silent zero k [] behind are = refl
-offsets_silent zero k (p ∷ pieces) behind are = absurd are
-offsets_silent (suc n) k [] behind are = absurd are
-offsets_silent (suc n) k (p ∷ pieces) behind are =
-    let row = offset_row k p.row p.bytes (first_of (bytes_of pieces ++ behind) None) are.0 in
-    (λ i. is_none (part_of (row.1 i)) && offsets_silent n (suc k) pieces behind are.1 i)
+offsets_silent : (n k : ℕ) (records : List SpelledRecord) (after : List ℕ) → AreOfModes (modes_from k n) records after → IsSilent records
+offsets_silent zero k [] after are = refl
+offsets_silent zero k (p ∷ records) after are = absurd are
+offsets_silent (suc n) k [] after are = absurd are
+offsets_silent (suc n) k (p ∷ records) after are =
+    let row = offset_row k p.row p.bytes (first_of (bytes_of records ++ after) None) are.0 in
+    (λ i. is_none (part_of (row.1 i)) && offsets_silent n (suc k) records after are.1 i)
 
-offsets_many : (n k : ℕ) (pieces : List Piece) (behind : List ℕ) → AreOfModes (modes_from k n) pieces behind → length pieces ≡ n
-offsets_many zero k [] behind are = refl
-offsets_many zero k (p ∷ pieces) behind are = absurd are
-offsets_many (suc n) k [] behind are = absurd are
-offsets_many (suc n) k (p ∷ pieces) behind are = ap suc (offsets_many n (suc k) pieces behind are.1)
+offsets_many : (n k : ℕ) (records : List SpelledRecord) (after : List ℕ) → AreOfModes (modes_from k n) records after → length records ≡ n
+offsets_many zero k [] after are = refl
+offsets_many zero k (p ∷ records) after are = absurd are
+offsets_many (suc n) k [] after are = absurd are
+offsets_many (suc n) k (p ∷ records) after are = ap suc (offsets_many n (suc k) records after are.1)
 
-steps_many : (at : ℕ) (pieces : List Piece) → length (steps_of at pieces) ≡ length pieces
+steps_many : (at : ℕ) (records : List SpelledRecord) → length (steps_of at records) ≡ length records
 steps_many at [] = refl
-steps_many at (p ∷ pieces) = ap suc (steps_many (at + length p.bytes) pieces)
+steps_many at (p ∷ records) = ap suc (steps_many (at + length p.bytes) records)
 
-silent_unended : (before : List Step) (at : ℕ) (pieces : List Piece) → IsSilent pieces → is_ended before ≡ false → is_ended (before ++ steps_of at pieces) ≡ false
+silent_unended : (before : List Step) (at : ℕ) (records : List SpelledRecord) → IsSilent records → is_ended before ≡ false → is_ended (before ++ steps_of at records) ≡ false
 silent_unended before at [] quiet open_ = ap (λ l. is_ended l) (append-nil before) ∙ open_
-silent_unended before at (p ∷ pieces) quiet open_ =
+silent_unended before at (p ∷ records) quiet open_ =
     let both = and_parts (is_none (part_of p.row)) _ quiet in
-    ap (λ l. is_ended l) (sym (append_assoc before (read at p ∷ []) (steps_of (at + length p.bytes) pieces)))
-    ∙ silent_unended (before ++ read at p ∷ []) (at + length p.bytes) pieces both.1 (ended-read before at p ∙ not_end p.row both.0)
+    ap (λ l. is_ended l) (sym (append_assoc before (read at p ∷ []) (steps_of (at + length p.bytes) records)))
+    ∙ silent_unended (before ++ read at p ∷ []) (at + length p.bytes) records both.1 (ended-read before at p ∙ not_end p.row both.0)
   where
     not_end : (row : Record) → is_none (part_of row) ≡ true → is_module_end row ≡ false
     not_end r.ModuleEnd h = cc
@@ -134,37 +134,37 @@ pub record HeaderRows (f : FileParts) : Type 0 where
   pub many : length (header_of f) ≡ 10
   pub offsets : offsets_in (header_of f) ≡ offsets_in f.offsets
 
-pub header_rows : (f : FileParts) (behind : List ℕ) → AreOfModes header_modes (header_of f) behind → HeaderRows f
-header_rows f behind are =
-    let begins = begin_row f.begin.row f.begin.bytes (first_of (bytes_of (f.descriptor ∷ f.offsets) ++ behind) None) are.0 in
-    let describes = descriptor_row f.descriptor.row f.descriptor.bytes (first_of (bytes_of f.offsets ++ behind) None) are.1.0 in
+pub header_rows : (f : FileParts) (after : List ℕ) → AreOfModes header_modes (header_of f) after → HeaderRows f
+header_rows f after are =
+    let begins = begin_row f.begin.row f.begin.bytes (first_of (bytes_of (f.descriptor ∷ f.offsets) ++ after) None) are.0 in
+    let describes = descriptor_row f.descriptor.row f.descriptor.bytes (first_of (bytes_of f.offsets ++ after) None) are.1.0 in
     record {
       begins = begins;
       describes = describes;
-      silent = (λ i. is_none (part_of (begins.2 i)) && (is_none (part_of (describes.3 i)) && offsets_silent 8 0 f.offsets behind are.1.1 i));
-      many = ap (λ (n : ℕ). suc (suc n)) (offsets_many 8 0 f.offsets behind are.1.1);
+      silent = (λ i. is_none (part_of (begins.2 i)) && (is_none (part_of (describes.3 i)) && offsets_silent 8 0 f.offsets after are.1.1 i));
+      many = ap (λ (n : ℕ). suc (suc n)) (offsets_many 8 0 f.offsets after are.1.1);
       offsets = (λ i. cons_option (offset_in (begins.2 i)) (cons_option (offset_in (describes.3 i)) (offsets_in f.offsets)));
     }
 
--- ---- the header as a front
+-- ---- the header as a prefix
 
 -- the header is sound, and no part is left for later
-pub record HeaderSound (reads_debug : Bool) (f : FileParts) (behind : List ℕ) : Type 0 where
-  pub sound : IsSoundFrom reads_debug [] (steps_of 0 (header_of f)) (bytes_of (header_of f) ++ behind)
+pub record HeaderSound (reads_debug : Bool) (f : FileParts) (after : List ℕ) : Type 0 where
+  pub sound : IsSoundFrom reads_debug [] (steps_of 0 (header_of f)) (bytes_of (header_of f) ++ after)
   pub now : AreNow reads_debug [] (offsets_in f.offsets)
 
 positive : (row : Record) (bytes : List ℕ) (next : Option ℕ) → IsWholeRecord mode.Begin row bytes next → 1 ≤ length bytes
 positive row bytes next is = let e = ap length is.5 ∙ length-append is.1 is.2 in let one = ap length is.3 in omega arith
 
-header_some : (f : FileParts) (behind : List ℕ) → AreOfModes header_modes (header_of f) behind → 1 ≤ length (bytes_of (header_of f))
-header_some f behind are = let one = positive f.begin.row f.begin.bytes _ are.0 in omega (arith, length-append f.begin.bytes (bytes_of (f.descriptor ∷ f.offsets)))
+header_some : (f : FileParts) (after : List ℕ) → AreOfModes header_modes (header_of f) after → 1 ≤ length (bytes_of (header_of f))
+header_some f after are = let one = positive f.begin.row f.begin.bytes _ are.0 in omega (arith, length-append f.begin.bytes (bytes_of (f.descriptor ∷ f.offsets)))
 
--- behind the descriptor
-offsets_standing : (f : FileParts) (behind : List ℕ) (before : List Step) → AreOfModes header_modes (header_of f) behind → HeaderRows f → StandAt (offsets_in f.offsets) (length (bytes_of (header_of f))) (parts_of f) → length before ≡ 2 → offsets_of before ≡ [] → is_ended before ≡ false
+-- after the descriptor
+offsets_standing : (f : FileParts) (after : List ℕ) (before : List Step) → AreOfModes header_modes (header_of f) after → HeaderRows f → StandAt (offsets_in f.offsets) (length (bytes_of (header_of f))) (parts_of f) → length before ≡ 2 → offsets_of before ≡ [] → is_ended before ≡ false
     → size_of before ≡ length f.begin.bytes + length f.descriptor.bytes → Standing 0 8 (length (bytes_of (header_of f))) [] (offsets_in f.offsets) before f.offsets
-offsets_standing f behind before are rows stand two none open_ size =
+offsets_standing f after before are rows stand two none open_ size =
     let end = length (bytes_of (header_of f)) in
-    let some = header_some f behind are in
+    let some = header_some f after are in
     record {
       count = two;
       eight = refl;
@@ -180,20 +180,20 @@ offsets_standing f behind before are rows stand two none open_ size =
     }
 
 -- a step that is no offset
-left_past : (f : FileParts) (reads_debug : Bool) (before : List Step) (step : Step) (behind : List ℕ) → IsStep reads_debug before step behind
-    → IsLeft reads_debug [] (offsets_in f.offsets) (before ++ step ∷ []) behind → IsLeft reads_debug [] (offsets_in f.offsets) before (step_bytes step ++ behind)
-left_past f reads_debug before step behind is left = left_behind reads_debug [] [] (offsets_in f.offsets) (offsets_in f.offsets) before step behind (λ now. now) is left
+left_past : (f : FileParts) (reads_debug : Bool) (before : List Step) (step : Step) (after : List ℕ) → IsStep reads_debug before step after
+    → IsLeft reads_debug [] (offsets_in f.offsets) (before ++ step ∷ []) after → IsLeft reads_debug [] (offsets_in f.offsets) before (step_bytes step ++ after)
+left_past f reads_debug before step after is left = left_after reads_debug [] [] (offsets_in f.offsets) (offsets_in f.offsets) before step after (λ now. now) is left
 
-pub header_front : (reads_debug : Bool) (f : FileParts) (behind : List ℕ) → AreOfModes header_modes (header_of f) behind → HeaderRows f → is_bad_descriptor f.descriptor.row ≡ false → StandAt (offsets_in f.offsets) (length (bytes_of (header_of f))) (parts_of f)
-    → IsLeft reads_debug [] (offsets_in f.offsets) [] (bytes_of (header_of f) ++ behind) ⊎ HeaderSound reads_debug f behind
-header_front reads_debug f behind are rows good stand =
+pub header_prefix : (reads_debug : Bool) (f : FileParts) (after : List ℕ) → AreOfModes header_modes (header_of f) after → HeaderRows f → is_bad_descriptor f.descriptor.row ≡ false → StandAt (offsets_in f.offsets) (length (bytes_of (header_of f))) (parts_of f)
+    → IsLeft reads_debug [] (offsets_in f.offsets) [] (bytes_of (header_of f) ++ after) ⊎ HeaderSound reads_debug f after
+header_prefix reads_debug f after are rows good stand =
     let a = read 0 f.begin in
     let n = length f.begin.bytes in
     let b = read (0 + n) f.descriptor in
-    let later = bytes_of f.offsets ++ behind in
+    let later = bytes_of f.offsets ++ after in
     let rest = f.descriptor.bytes ++ later in
-    let split_rest : bytes_of (f.descriptor ∷ f.offsets) ++ behind ≡ rest = append_assoc f.descriptor.bytes (bytes_of f.offsets) behind in
-    let split : bytes_of (header_of f) ++ behind ≡ f.begin.bytes ++ rest = append_assoc f.begin.bytes (bytes_of (f.descriptor ∷ f.offsets)) behind ∙ ap (λ l. f.begin.bytes ++ l) split_rest in
+    let split_rest : bytes_of (f.descriptor ∷ f.offsets) ++ after ≡ rest = append_assoc f.descriptor.bytes (bytes_of f.offsets) after in
+    let split : bytes_of (header_of f) ++ after ≡ f.begin.bytes ++ rest = append_assoc f.begin.bytes (bytes_of (f.descriptor ∷ f.offsets)) after ∙ ap (λ l. f.begin.bytes ++ l) split_rest in
     let first : IsStep reads_debug [] a rest = header_is_step reads_debug 0 [] f.begin rest refl (omega arith) refl refl
     (subst (λ (l : List ℕ). IsWholeRecord mode.Begin f.begin.row f.begin.bytes (first_of l None)) split_rest are.0)
     (ap (λ (row : Record). header_fault reads_debug [] 0 (0 + n) row) rows.begins.2) in
@@ -204,34 +204,34 @@ header_front reads_debug f behind are rows good stand =
     (none_ended (a ∷ []) (suc n) (subst (λ (l : List ℕ). Beyond (suc n) l) (sym none) tt) (omega (arith, size)) (omega arith)) are.1.0
     ((λ i. header_fault reads_debug (none i) (size_of (a ∷ [])) (size_of (a ∷ []) + length f.descriptor.bytes) (rows.describes.3 i))
     ∙ ap (λ t. fault_if t (size_of (a ∷ [])) why.BadDescriptor) (sym (ap is_bad_descriptor rows.describes.3) ∙ good))) in
-    let front = a ∷ b ∷ [] in
-    let two_size : size_of front ≡ 0 + n + length f.descriptor.bytes = ap (λ (l : List ℕ). length (f.begin.bytes ++ l)) (append-nil f.descriptor.bytes) ∙ length-append f.begin.bytes f.descriptor.bytes ∙ omega arith in
-    let none_two : offsets_of front ≡ [] = offsets-append (a ∷ []) (b ∷ []) ∙ (λ i. none i ++ offsets_in (record { row = rows.describes.3 i; bytes = f.descriptor.bytes } ∷ [])) in
-    let standing = offsets_standing f behind front are rows stand refl none_two (ap is_module_end rows.describes.3) (two_size ∙ omega arith) in
-    elim (offset_walk 8 0 reads_debug (length (bytes_of (header_of f))) [] (offsets_in f.offsets) front f.offsets behind standing are.1.1 refl) [
+    let prefix = a ∷ b ∷ [] in
+    let two_size : size_of prefix ≡ 0 + n + length f.descriptor.bytes = ap (λ (l : List ℕ). length (f.begin.bytes ++ l)) (append-nil f.descriptor.bytes) ∙ length-append f.begin.bytes f.descriptor.bytes ∙ omega arith in
+    let none_two : offsets_of prefix ≡ [] = offsets-append (a ∷ []) (b ∷ []) ∙ (λ i. none i ++ offsets_in (record { row = rows.describes.3 i; bytes = f.descriptor.bytes } ∷ [])) in
+    let standing = offsets_standing f after prefix are rows stand refl none_two (ap is_module_end rows.describes.3) (two_size ∙ omega arith) in
+    elim (offset_walk 8 0 reads_debug (length (bytes_of (header_of f))) [] (offsets_in f.offsets) prefix f.offsets after standing are.1.1 refl) [
       | inl left ↦ inl (subst (λ (l : List ℕ). IsLeft reads_debug [] (offsets_in f.offsets) [] l) (sym split) (left_past f reads_debug [] a rest first (left_past f reads_debug (a ∷ []) b later second left)))
       | inr on ↦ inr (record {
         sound = subst (λ (l : List ℕ). IsSoundFrom reads_debug [] (steps_of 0 (header_of f)) l) (sym split)
             (sound_step reads_debug [] a (b ∷ steps_of (0 + n + length f.descriptor.bytes) f.offsets) rest first
             (sound_step reads_debug (a ∷ []) b (steps_of (0 + n + length f.descriptor.bytes) f.offsets) later second
-            (subst (λ (k : ℕ). IsSoundFrom reads_debug front (steps_of k f.offsets) later) two_size on.sound)));
+            (subst (λ (k : ℕ). IsSoundFrom reads_debug prefix (steps_of k f.offsets) later) two_size on.sound)));
         now = on.now;
       })
     ]
 
--- behind the header the parts begin
-pub header_joint : (f : FileParts) (behind : List ℕ) → AreOfModes header_modes (header_of f) behind → HeaderRows f → StandAt (offsets_in f.offsets) (length (bytes_of (header_of f))) (parts_of f) → Joint (offsets_in f.offsets) (steps_of 0 (header_of f))
-header_joint f behind are rows stand =
-    let front = steps_of 0 (header_of f) in
+-- after the header the parts begin
+pub header_joint : (f : FileParts) (after : List ℕ) → AreOfModes header_modes (header_of f) after → HeaderRows f → StandAt (offsets_in f.offsets) (length (bytes_of (header_of f))) (parts_of f) → Joint (offsets_in f.offsets) (steps_of 0 (header_of f))
+header_joint f after are rows stand =
+    let prefix = steps_of 0 (header_of f) in
     let end = length (bytes_of (header_of f)) in
-    let offsets : offsets_of front ≡ offsets_in f.offsets = ap offsets_in (steps_pieces 0 (header_of f)) ∙ rows.offsets in
-    let size : size_of front ≡ end = ap length (steps_bytes 0 (header_of f)) in
+    let offsets : offsets_of prefix ≡ offsets_in f.offsets = ap offsets_in (steps_records 0 (header_of f)) ∙ rows.offsets in
+    let size : size_of prefix ≡ end = ap length (steps_bytes 0 (header_of f)) in
     record {
       many = omega (arith, steps_many 0 (header_of f), rows.many);
       offsets = offsets;
       unended = silent_unended [] 0 (header_of f) rows.silent refl;
-      whole = none_ended front end (subst (λ (l : List ℕ). Beyond end l) (sym offsets) (stand_beyond (offsets_in f.offsets) end end (parts_of f) (omega arith) stand)) (omega arith) (header_some f behind are);
+      whole = none_ended prefix end (subst (λ (l : List ℕ). Beyond end l) (sym offsets) (stand_beyond (offsets_in f.offsets) end end (parts_of f) (omega arith) stand)) (omega arith) (header_some f after are);
     }
 
-pub header_size : (f : FileParts) (behind : List ℕ) → AreOfModes header_modes (header_of f) behind → (size_of (steps_of 0 (header_of f)) ≡ length (bytes_of (header_of f))) × (1 ≤ length (bytes_of (header_of f)))
-header_size f behind are = (ap length (steps_bytes 0 (header_of f)), header_some f behind are)
+pub header_size : (f : FileParts) (after : List ℕ) → AreOfModes header_modes (header_of f) after → (size_of (steps_of 0 (header_of f)) ≡ length (bytes_of (header_of f))) × (1 ≤ length (bytes_of (header_of f)))
+header_size f after are = (ap length (steps_bytes 0 (header_of f)), header_some f after are)

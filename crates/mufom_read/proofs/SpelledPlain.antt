@@ -77,4 +77,4 @@ coded_plain b =
     (λ _. by_test NoItem (b == 0xF9) Layouts.block_end _ (λ _ _ _. refl) (λ _. tt))))))))))))))))))
 
 pub body_plain : (row : Record) (bytes : List ℕ) (next : Option ℕ) → Layouts.IsWholeRecord mode.Body row bytes next → is_item row ≡ false
-body_plain row bytes next (b, front, back, first, others, split) = promised NoItem (Layouts.coded b) row _ back next others (coded_plain b)
+body_plain row bytes next (b, prefix, back, first, others, split) = promised NoItem (Layouts.coded b) row _ back next others (coded_plain b)

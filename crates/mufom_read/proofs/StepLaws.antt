@@ -1,4 +1,4 @@
--- Steps behind a front, as the code takes them.
+-- Steps after a prefix, as the code takes them.
 use Rattle.std.proofs.Common.{◌≡◌, ◌≢◌, ℕ, ◌<◌, ◌==◌, ◌&&◌, Bool, true, false, not, true≢false, nat_lt, nat_le, List, [], ◌∷◌, ◌++◌, length, drop, Option, Some, None, is_some, option_map, cond, get_or, refl, sym, ap, subst, ◌∙◌, append-nil, ltb-true, ◌⊎◌, inl, inr}
 use Rattle.std.specs.Option.{option_or}
 use Rattle.std.proofs.lemmas.Bool.{and_parts}
@@ -7,19 +7,19 @@ use Rattle.mufom_numbers.specs.declared.taken.Taken.{Taken}
 use Rattle.mufom_numbers.specs.declared.taken.Taken.TheVariants.{Got}
 use Rattle.mufom_records.specs.Reading.{record_at}
 use Rattle.mufom_module.specs.RecordParts.{Part, number_of, extension_part, environment_part, section_part, external_part, debug_part, data_part, trailer_part}
-use Rattle.mufom_read.specs.declared.front.Front.{Front}
-use Rattle.mufom_read.specs.declared.front.Place as code
-use Rattle.mufom_read.specs.declared.front.Place.TheVariants as place
-use Rattle.mufom_read.specs.declared.front.Next.{Next}
-use Rattle.mufom_read.specs.declared.front.Next.TheVariants as next
+use Rattle.mufom_read.specs.declared.prefix.Prefix.{Prefix}
+use Rattle.mufom_read.specs.declared.prefix.Location as code
+use Rattle.mufom_read.specs.declared.prefix.Location.TheVariants as offset
+use Rattle.mufom_read.specs.declared.prefix.Next.{Next}
+use Rattle.mufom_read.specs.declared.prefix.Next.TheVariants as next
 use Rattle.mufom_read.specs.declared.part.Extent as extents
 use Rattle.mufom_read.specs.declared.refusal.ReadRefusal.{ReadRefusal}
-use Rattle.mufom_read.specs.Fronts.{Step, step_bytes, size_of, offsets_of, Extent, in_part, first_present, part_among, parts_in_order, place_behind, is_raw, raw_step, as_step, step_at, next_step, ends_with, is_ended}
+use Rattle.mufom_read.specs.Prefixes.{Step, step_bytes, size_of, offsets_of, Extent, in_part, first_present, part_among, parts_in_order, location_after, is_raw, raw_step, as_step, step_at, next_step, ends_with, is_ended}
 use Rattle.mufom_read.specs.Faults.{step_fault, ended_part_fault, fault_after}
 use Rattle.mufom_read.specs.PartsOfCode.{as_part, as_extent}
-use Rattle.mufom_read.specs.Kept.{piece_of_kept, as_fault}
-use Rattle.mufom_read.specs.FrontOfCode.{IsFrontOf, IsNotDebug, IsRead, as_place, mode_at, HasJudged, HasGone, HasStepped}
-use Rattle.mufom_read.proofs.FrontLaws.{ended-front}
+use Rattle.mufom_read.specs.Kept.{record_of_kept, as_fault}
+use Rattle.mufom_read.specs.PrefixOfCode.{IsPrefixOf, IsNotDebug, IsRead, as_location, mode_at, HasJudged, IsStepTaken, HasAdvanced}
+use Rattle.mufom_read.proofs.PrefixLaws.{ended-prefix}
 use Rattle.mufom_read.proofs.PlaceLaws.{part-found}
 
 nothing : {A : Type 0} {x : A} → Some x ≡ None → ⊥
@@ -40,8 +40,8 @@ among-within (part ∷ parts) (w ∷ os) at e found = by_case _ refl found (amon
   the_end (Some x) = x.to
 
   by_case : (test : Bool) → test ≡ (not (w == 0) && (nat_le w at && nat_lt at (first_present os))) → cond test (Some here) (part_among parts os at) ≡ Some e → (part_among parts os at ≡ Some e → at < e.to) → at < e.to
-  by_case false is found behind = behind found
-  by_case true is found behind = subst (λ n. at < n) (ap the_end found) (ltb-true at (first_present os) (and_parts _ _ (and_parts _ _ (sym is)).1).1)
+  by_case false is found after = after found
+  by_case true is found after = subst (λ n. at < n) (ap the_end found) (ltb-true at (first_present os) (and_parts _ _ (and_parts _ _ (sym is)).1).1)
 
 -- ---- a debug part that would be read
 
@@ -83,82 +83,82 @@ no-debug (a ∷ b ∷ c ∷ []) at e found is absent = nothing (sym (passed _ _ 
 no-debug (a ∷ b ∷ c ∷ d ∷ []) at e found is absent = nothing (sym (passed _ _ e _ (passed _ _ e _ (passed _ _ e _ (passed _ _ e _ found (inr ext) is) (inr env) is) (inr sec) is) (inr nam) is))
 no-debug (a ∷ b ∷ c ∷ d ∷ w ∷ os) at e found is absent =
     let fourth = passed _ _ e _ (passed _ _ e _ (passed _ _ e _ (passed _ _ e _ found (inr ext) is) (inr env) is) (inr sec) is) (inr nam) is in
-    behind os (passed _ _ e _ fourth (inl (ap (λ n. not (n == 0) && (nat_le w at && nat_lt at (first_present os))) absent)) is) where
-      behind : (os : List ℕ) → part_among (data_part ∷ trailer_part ∷ []) os at ≡ Some e → ⊥
-      behind [] found = nothing (sym found)
-      behind (a ∷ []) found = nothing (sym (passed _ _ e _ found (inr dat) is))
-      behind (a ∷ b ∷ os) found = nothing (sym (passed _ _ e _ (passed _ _ e _ found (inr dat) is) (inr tra) is))
+    after os (passed _ _ e _ fourth (inl (ap (λ n. not (n == 0) && (nat_le w at && nat_lt at (first_present os))) absent)) is) where
+      after : (os : List ℕ) → part_among (data_part ∷ trailer_part ∷ []) os at ≡ Some e → ⊥
+      after [] found = nothing (sym found)
+      after (a ∷ []) found = nothing (sym (passed _ _ e _ found (inr dat) is))
+      after (a ∷ b ∷ os) found = nothing (sym (passed _ _ e _ (passed _ _ e _ found (inr dat) is) (inr tra) is))
 
 -- ---- where a step is read
 
 -- where a part is read, it is no debug part
-pub not-debug : (reads_debug : Bool) (f : Front) (front : List Step) (at : code.Place) (e : extents.Extent) → IsFrontOf reads_debug f front → at ≡ place.Part e → as_place at ≡ place_behind front
+pub not-debug : (reads_debug : Bool) (f : Prefix) (prefix : List Step) (at : code.Location) (e : extents.Extent) → IsPrefixOf reads_debug f prefix → at ≡ offset.Part e → as_location at ≡ location_after prefix
     → is_raw reads_debug (as_part e.part) ≡ false → as_part e.part ≢ debug_part
-not-debug reads_debug f front at e is here same unread debug =
-    let found = part-found front at e here same in
+not-debug reads_debug f prefix at e is here same unread debug =
+    let found = part-found prefix at e here same in
     let reads : reads_debug ≡ true = not_not reads_debug (sym (ap (is_raw reads_debug) debug) ∙ unread) in
-    no-debug (offsets_of front) (size_of front) (as_extent e) found.1 debug (is.later reads) where
+    no-debug (offsets_of prefix) (size_of prefix) (as_extent e) found.1 debug (is.later reads) where
       not_not : (b : Bool) → not b ≡ false → b ≡ true
       not_not true e = refl
       not_not false e = absurd (true≢false e)
 
 -- a place that is read is in no debug part
-pub not-debug-at : (reads_debug : Bool) (f : Front) (front : List Step) (at : code.Place) → IsFrontOf reads_debug f front → as_place at ≡ place_behind front → IsRead reads_debug at → IsNotDebug at
-not-debug-at reads_debug f front (place.Header k) is same unread = tt
-not-debug-at reads_debug f front (place.Part e) is same unread = not-debug reads_debug f front (place.Part e) e is refl same unread
-not-debug-at reads_debug f front place.End is same unread = tt
+pub not-debug-at : (reads_debug : Bool) (f : Prefix) (prefix : List Step) (at : code.Location) → IsPrefixOf reads_debug f prefix → as_location at ≡ location_after prefix → IsRead reads_debug at → IsNotDebug at
+not-debug-at reads_debug f prefix (offset.Header k) is same unread = tt
+not-debug-at reads_debug f prefix (offset.Part e) is same unread = not-debug reads_debug f prefix (offset.Part e) e is refl same unread
+not-debug-at reads_debug f prefix offset.End is same unread = tt
 
-step-read : (reads_debug : Bool) (front : List Step) (at : code.Place) (rest : List ℕ) → IsRead reads_debug at
-    → step_at reads_debug front (as_place at) rest ≡ as_step (size_of front) rest (record_at (mode_at front (as_place at) rest) rest)
-step-read reads_debug front (place.Header k) rest is = refl
-step-read reads_debug front (place.Part e) rest is = ap (λ b. cond b (raw_step rest) (as_step (size_of front) rest (record_at (mode_at front (in_part (as_extent e)) rest) rest))) is
-step-read reads_debug front place.End rest is = refl
+step-read : (reads_debug : Bool) (prefix : List Step) (at : code.Location) (rest : List ℕ) → IsRead reads_debug at
+    → step_at reads_debug prefix (as_location at) rest ≡ as_step (size_of prefix) rest (record_at (mode_at prefix (as_location at) rest) rest)
+step-read reads_debug prefix (offset.Header k) rest is = refl
+step-read reads_debug prefix (offset.Part e) rest is = ap (λ b. cond b (raw_step rest) (as_step (size_of prefix) rest (record_at (mode_at prefix (in_part (as_extent e)) rest) rest))) is
+step-read reads_debug prefix offset.End rest is = refl
 
-gone-by : (reads_debug : Bool) (front : List Step) (rest : List ℕ) (stands : Taken Step) (new : Front) (done : Next) → is_ended front ≡ false → ended_part_fault front ≡ None → next_step reads_debug front rest ≡ stands
-    → HasJudged reads_debug front stands rest new done → HasGone reads_debug front rest new done
-gone-by reads_debug front rest stands new (next.Took n) unended whole here (step, got, count, clean, some, within, is) =
+gone-by : (reads_debug : Bool) (prefix : List Step) (rest : List ℕ) (stands : Taken Step) (new : Prefix) (done : Next) → is_ended prefix ≡ false → ended_part_fault prefix ≡ None → next_step reads_debug prefix rest ≡ stands
+    → HasJudged reads_debug prefix stands rest new done → IsStepTaken reads_debug prefix rest new done
+gone-by reads_debug prefix rest stands new (next.Took n) unended whole here (step, got, count, clean, some, within, is) =
     let bytes : size_of (step ∷ []) ≡ length (step_bytes step) = ap length (append-nil (step_bytes step)) in
-    (step ∷ [], is, (unended, ap (λ o. option_or o (step_fault reads_debug front (next_step reads_debug front rest))) whole ∙ ap (step_fault reads_debug front) here ∙ clean, here ∙ got ∙ ap (Got step) (sym count), tt), bytes ∙ count, some, within)
-gone-by reads_debug front rest stands new next.More unended whole here (is, more) = (is, here ∙ more)
-gone-by reads_debug front rest stands new (next.Refused f) unended whole here fault = ap (step_fault reads_debug front) here ∙ fault
+    (step ∷ [], is, (unended, ap (λ o. option_or o (step_fault reads_debug prefix (next_step reads_debug prefix rest))) whole ∙ ap (step_fault reads_debug prefix) here ∙ clean, here ∙ got ∙ ap (Got step) (sym count), tt), bytes ∙ count, some, within)
+gone-by reads_debug prefix rest stands new next.More unended whole here (is, more) = (is, here ∙ more)
+gone-by reads_debug prefix rest stands new (next.Refused f) unended whole here fault = ap (step_fault reads_debug prefix) here ∙ fault
 
 -- a step that is read
-pub read-gone : (reads_debug : Bool) (front : List Step) (at : code.Place) (rest : List ℕ) (new : Front) (done : Next) → is_ended front ≡ false → ended_part_fault front ≡ None → as_place at ≡ place_behind front → IsRead reads_debug at
-    → HasJudged reads_debug front (as_step (size_of front) rest (record_at (mode_at front (as_place at) rest) rest)) rest new done → HasGone reads_debug front rest new done
-read-gone reads_debug front at rest new done unended whole same is judged =
-    gone-by reads_debug front rest _ new done unended whole (ap (λ pl. step_at reads_debug front pl rest) (sym same) ∙ step-read reads_debug front at rest is) judged
+pub read-gone : (reads_debug : Bool) (prefix : List Step) (at : code.Location) (rest : List ℕ) (new : Prefix) (done : Next) → is_ended prefix ≡ false → ended_part_fault prefix ≡ None → as_location at ≡ location_after prefix → IsRead reads_debug at
+    → HasJudged reads_debug prefix (as_step (size_of prefix) rest (record_at (mode_at prefix (as_location at) rest) rest)) rest new done → IsStepTaken reads_debug prefix rest new done
+read-gone reads_debug prefix at rest new done unended whole same is judged =
+    gone-by reads_debug prefix rest _ new done unended whole (ap (λ pl. step_at reads_debug prefix pl rest) (sym same) ∙ step-read reads_debug prefix at rest is) judged
 
 -- a byte of a part stands before its end
-pub part-within : (front : List Step) (at : code.Place) (e : extents.Extent) → at ≡ place.Part e → as_place at ≡ place_behind front → size_of front < e.to
-part-within front at e here same = among-within parts_in_order (offsets_of front) (size_of front) (as_extent e) (part-found front at e here same).1
+pub part-within : (prefix : List Step) (at : code.Location) (e : extents.Extent) → at ≡ offset.Part e → as_location at ≡ location_after prefix → size_of prefix < e.to
+part-within prefix at e here same = among-within parts_in_order (offsets_of prefix) (size_of prefix) (as_extent e) (part-found prefix at e here same).1
 
--- ---- the part that ends behind a step
+-- ---- the part that ends after a step
 
--- a step behind which the module has ended
-pub stepped-end : (reads_debug : Bool) (front : List Step) (rest : List ℕ) (new : Front) (n : ℕ) → HasGone reads_debug front rest new (next.Took n) → true ≡ ends_with (option_map piece_of_kept (last_or None new.kept)) → HasStepped reads_debug front rest new (next.Took n)
-stepped-end reads_debug front rest new n (steps, is, sound, size, some, within) end =
-    (steps, is, sound, size, some, within, λ unended. absurd (true≢false (ended-front reads_debug new (front ++ steps) true is end ∙ unended)))
+-- a step after which the module has ended
+pub stepped-end : (reads_debug : Bool) (prefix : List Step) (rest : List ℕ) (new : Prefix) (n : ℕ) → IsStepTaken reads_debug prefix rest new (next.Took n) → true ≡ ends_with (option_map record_of_kept (last_or None new.kept)) → HasAdvanced reads_debug prefix rest new (next.Took n)
+stepped-end reads_debug prefix rest new n (steps, is, sound, size, some, within) end =
+    (steps, is, sound, size, some, within, λ unended. absurd (true≢false (ended-prefix reads_debug new (prefix ++ steps) true is end ∙ unended)))
 
--- one behind which no part ends with a fault
-pub stepped-whole : (reads_debug : Bool) (front : List Step) (rest : List ℕ) (new : Front) (n : ℕ) → HasGone reads_debug front rest new (next.Took n)
-    → ((steps : List Step) → IsFrontOf reads_debug new steps → None ≡ ended_part_fault steps) → HasStepped reads_debug front rest new (next.Took n)
-stepped-whole reads_debug front rest new n (steps, is, sound, size, some, within) whole = (steps, is, sound, size, some, within, λ unended. sym (whole (front ++ steps) is))
+-- one after which no part ends with a fault
+pub stepped-whole : (reads_debug : Bool) (prefix : List Step) (rest : List ℕ) (new : Prefix) (n : ℕ) → IsStepTaken reads_debug prefix rest new (next.Took n)
+    → ((steps : List Step) → IsPrefixOf reads_debug new steps → None ≡ ended_part_fault steps) → HasAdvanced reads_debug prefix rest new (next.Took n)
+stepped-whole reads_debug prefix rest new n (steps, is, sound, size, some, within) whole = (steps, is, sound, size, some, within, λ unended. sym (whole (prefix ++ steps) is))
 
--- one behind which a part ends with a fault
-pub stepped-fault : (reads_debug : Bool) (front : List Step) (rest : List ℕ) (new : Front) (n : ℕ) (f : ReadRefusal) → HasGone reads_debug front rest new (next.Took n) → false ≡ ends_with (option_map piece_of_kept (last_or None new.kept))
-    → ((steps : List Step) → IsFrontOf reads_debug new steps → Some (as_fault f) ≡ ended_part_fault steps) → HasStepped reads_debug front rest new (next.Refused f)
-stepped-fault reads_debug front rest new n f (steps, is, sound, size, some, within) unended fault = (
+-- one after which a part ends with a fault
+pub stepped-fault : (reads_debug : Bool) (prefix : List Step) (rest : List ℕ) (new : Prefix) (n : ℕ) (f : ReadRefusal) → IsStepTaken reads_debug prefix rest new (next.Took n) → false ≡ ends_with (option_map record_of_kept (last_or None new.kept))
+    → ((steps : List Step) → IsPrefixOf reads_debug new steps → Some (as_fault f) ≡ ended_part_fault steps) → HasAdvanced reads_debug prefix rest new (next.Refused f)
+stepped-fault reads_debug prefix rest new n f (steps, is, sound, size, some, within) unended fault = (
   steps,
   sound,
-  sym (ended-front reads_debug new (front ++ steps) false is unended),
-  ap (λ o. option_or o (step_fault reads_debug (front ++ steps) (next_step reads_debug (front ++ steps) (drop (size_of steps) rest)))) (sym (fault (front ++ steps) is)),
+  sym (ended-prefix reads_debug new (prefix ++ steps) false is unended),
+  ap (λ o. option_or o (step_fault reads_debug (prefix ++ steps) (next_step reads_debug (prefix ++ steps) (drop (size_of steps) rest)))) (sym (fault (prefix ++ steps) is)),
 )
 
 -- one with a fault
-pub stepped-refused : (reads_debug : Bool) (front : List Step) (rest : List ℕ) (new : Front) (f : ReadRefusal) → is_ended front ≡ false → ended_part_fault front ≡ None → HasGone reads_debug front rest new (next.Refused f) → HasStepped reads_debug front rest new (next.Refused f)
-stepped-refused reads_debug front rest new f unended whole fault = (
+pub stepped-refused : (reads_debug : Bool) (prefix : List Step) (rest : List ℕ) (new : Prefix) (f : ReadRefusal) → is_ended prefix ≡ false → ended_part_fault prefix ≡ None → IsStepTaken reads_debug prefix rest new (next.Refused f) → HasAdvanced reads_debug prefix rest new (next.Refused f)
+stepped-refused reads_debug prefix rest new f unended whole fault = (
   [],
   tt,
-  subst (λ (fr : List Step). is_ended fr ≡ false) (sym (append-nil front)) unended,
-  ap (λ (fr : List Step). fault_after reads_debug fr rest) (append-nil front) ∙ ap (λ o. option_or o (step_fault reads_debug front (next_step reads_debug front rest))) whole ∙ fault,
+  subst (λ (fr : List Step). is_ended fr ≡ false) (sym (append-nil prefix)) unended,
+  ap (λ (fr : List Step). fault_after reads_debug fr rest) (append-nil prefix) ∙ ap (λ o. option_or o (step_fault reads_debug prefix (next_step reads_debug prefix rest))) whole ∙ fault,
 )

@@ -14,20 +14,20 @@ use Rattle.mufom_records.specs.declared.record.BlockTail.TheVariants as tail
 use Rattle.mufom_records.specs.declared.record.Record.{Record}
 use Rattle.mufom_records.specs.declared.record.Record.TheVariants as r
 use Rattle.mufom_records.specs.Parts.{IsExpressionIn, IsOptionalExpressionIn, HasTailParts, HasParts}
-use Rattle.mufom_module.specs.Pieces.{expression_of, offset_of_block}
+use Rattle.mufom_module.specs.SpelledRecords.{expression_of, offset_of_block}
 
-drop_front : (front back : List ℕ) → drop (length front) (front ++ back) ≡ back
-drop_front [] back = refl
-drop_front (b ∷ front) back = drop_front front back
+drop_prefix : (prefix back : List ℕ) → drop (length prefix) (prefix ++ back) ≡ back
+drop_prefix [] back = refl
+drop_prefix (b ∷ prefix) back = drop_prefix prefix back
 
 spelled : (k : ℕ) (tokens : List Token) (bytes : List ℕ) → length tokens ≤ k → SpellsTokens tokens bytes → tokens_at k bytes ≡ tokens
 spelled zero [] bytes few s = refl
 spelled zero (token ∷ tokens) bytes few s = absurd (omega arith)
 spelled (suc k) [] bytes few s = ap (λ b. tokens_at (suc k) b) s
-spelled (suc k) (token ∷ tokens) bytes few (front, back, first, rest, split) =
+spelled (suc k) (token ∷ tokens) bytes few (prefix, back, first, rest, split) =
     ap (λ b. tokens_at (suc k) b) split
-    ∙ ap (λ x. first_token x (λ used. tokens_at k (drop used (front ++ back)))) (token_at-spelling token front back first)
-    ∙ ap (λ b. token ∷ tokens_at k b) (drop_front front back)
+    ∙ ap (λ x. first_token x (λ used. tokens_at k (drop used (prefix ++ back)))) (token_at-spelling token prefix back first)
+    ∙ ap (λ b. token ∷ tokens_at k b) (drop_prefix prefix back)
     ∙ ap (λ ts. token ∷ ts) (spelled k tokens back (omega arith) rest)
 
 -- the tree that bytes spell is the one that they are read as

@@ -1,4 +1,4 @@
--- What the records of a file say weighs at most ten times the file.
+-- What the records of a file state weighs at most ten times the file.
 use Rattle.std.proofs.Common.{◌≡◌, ℕ, ◌+◌, ◌*◌, ◌≤◌, false, List, [], ◌∷◌, ◌++◌, length, sum_by, Option, ap, ◌∙◌, arith, length-append}
 use Rattle.std.proofs.lemmas.List.Sums.{sum_by-cons}
 use Rattle.mufom_records.specs.declared.record.Mode.{Mode}
@@ -8,10 +8,10 @@ use Rattle.mufom_records.specs.declared.record.Record.TheVariants as r
 use Rattle.mufom_records.specs.Layouts.{IsWholeRecord}
 use Rattle.mufom_debug.specs.Marks.{marks_of}
 use Rattle.mufom_module.specs.declared.module.Parts.{Parts}
-use Rattle.mufom_module.specs.Pieces.{Piece, bytes_of, section, public, reference}
+use Rattle.mufom_module.specs.SpelledRecords.{SpelledRecord, bytes_of, section, public, reference}
 use Rattle.mufom_module.specs.Written.{weight}
 use Rattle.mufom_module.specs.Weights.{section_weight, public_weight, reference_weight, marks_weight, load_weight, start_weight}
-use Rattle.mufom_module.specs.Grammar.{FileParts, header_of, behind_header, from_sections, from_externals, from_debug, debug_bytes, from_loads, from_trailer, module_end, AreOfModes, header_modes, AreWhole, NamesModule, indexes_of}
+use Rattle.mufom_module.specs.Grammar.{FileParts, header_of, after_header, from_sections, from_externals, from_debug, debug_bytes, from_loads, from_trailer, module_end, AreOfModes, header_modes, AreWhole, NamesModule, indexes_of}
 use Rattle.mufom_module.proofs.WeightLaws.{weight-sum}
 use Rattle.mufom_read.specs.Laws.{FilesWeighTenfold, ModulesWeighTenfold}
 use Rattle.mufom_read.proofs.WeighRecords.{cost, begin_paid, descriptor_paid, offset_paid}
@@ -30,46 +30,46 @@ header_weight (mode.Offset k) = 16
 header_weight mode.Body = 0
 header_weight mode.Items = 0
 
-mode_paid : (m : Mode) (p : Piece) (next : Option ℕ) → IsWholeRecord m p.row p.bytes next → header_weight m ≤ 10 * length p.bytes
+mode_paid : (m : Mode) (p : SpelledRecord) (next : Option ℕ) → IsWholeRecord m p.row p.bytes next → header_weight m ≤ 10 * length p.bytes
 mode_paid mode.Begin p next is = omega arith
 mode_paid mode.Descriptor p next is = descriptor_paid p next is
 mode_paid (mode.Offset k) p next is = offset_paid k p next is
 mode_paid mode.Body p next is = omega arith
 mode_paid mode.Items p next is = omega arith
 
-modes_paid : (modes : List Mode) (pieces : List Piece) (behind : List ℕ) → AreOfModes modes pieces behind → sum_by header_weight modes ≤ 10 * length (bytes_of pieces)
-modes_paid [] [] behind are = omega arith
-modes_paid [] (p ∷ pieces) behind are = absurd are
-modes_paid (m ∷ modes) [] behind are = absurd are
-modes_paid (m ∷ modes) (p ∷ pieces) behind are =
+modes_paid : (modes : List Mode) (records : List SpelledRecord) (after : List ℕ) → AreOfModes modes records after → sum_by header_weight modes ≤ 10 * length (bytes_of records)
+modes_paid [] [] after are = omega arith
+modes_paid [] (p ∷ records) after are = absurd are
+modes_paid (m ∷ modes) [] after are = absurd are
+modes_paid (m ∷ modes) (p ∷ records) after are =
     let own = mode_paid m p _ are.0 in
-    let rest = modes_paid modes pieces behind are.1 in
+    let rest = modes_paid modes records after are.1 in
     let sum = sum_by-cons header_weight m modes in
-    let parts = length-append p.bytes (bytes_of pieces) in
+    let parts = length-append p.bytes (bytes_of records) in
     omega (arith, own, rest, sum, parts)
 
-begin_weight : (m : Parts) (p : Piece) (row : Record) → NamesModule m p row → 7 + length m.processor + length m.name ≡ cost p row
+begin_weight : (m : Parts) (p : SpelledRecord) (row : Record) → NamesModule m p row → 7 + length m.processor + length m.name ≡ cost p row
 begin_weight m p (r.ModuleBegin processor name) names = let a = ap length names.0 in let b = ap length names.1 in omega (arith, a, b)
 begin_weight m p row names = absurd names
 
 -- AD, and the offsets
-abbrev behind_begin : List Mode
-behind_begin = mode.Descriptor ∷ mode.Offset 0 ∷ mode.Offset 1 ∷ mode.Offset 2 ∷ mode.Offset 3 ∷ mode.Offset 4 ∷ mode.Offset 5 ∷ mode.Offset 6 ∷ mode.Offset 7 ∷ []
+abbrev after_begin : List Mode
+after_begin = mode.Descriptor ∷ mode.Offset 0 ∷ mode.Offset 1 ∷ mode.Offset 2 ∷ mode.Offset 3 ∷ mode.Offset 4 ∷ mode.Offset 5 ∷ mode.Offset 6 ∷ mode.Offset 7 ∷ []
 
-header_below : (m : Parts) (f : FileParts) (behind : List ℕ) → AreOfModes header_modes (header_of f) behind → NamesModule m f.begin f.begin.row → 155 + length m.processor + length m.name ≤ 10 * length (bytes_of (header_of f))
-header_below m f behind are names =
+header_below : (m : Parts) (f : FileParts) (after : List ℕ) → AreOfModes header_modes (header_of f) after → NamesModule m f.begin f.begin.row → 155 + length m.processor + length m.name ≤ 10 * length (bytes_of (header_of f))
+header_below m f after are names =
     let begin = begin_paid f.begin _ are.0 in
     let its = begin_weight m f.begin f.begin.row names in
-    let rest = modes_paid behind_begin (f.descriptor ∷ f.offsets) behind are.1 in
+    let rest = modes_paid after_begin (f.descriptor ∷ f.offsets) after are.1 in
     let parts = length-append f.begin.bytes (bytes_of (f.descriptor ∷ f.offsets)) in
     omega (arith, begin, its, rest, parts)
 
 -- ---- the bytes
 
-file_length : (f : FileParts) → length (bytes_of (header_of f) ++ behind_header f) ≡ length (bytes_of (header_of f)) + length f.extension + length f.environment
+file_length : (f : FileParts) → length (bytes_of (header_of f) ++ after_header f) ≡ length (bytes_of (header_of f)) + length f.extension + length f.environment
     + length (bytes_of f.sections) + length (bytes_of f.externals) + length (bytes_of f.debug) + length f.skipped + length (bytes_of f.loads) + length (bytes_of f.trailer) + 1
 file_length f =
-    let a = length-append (bytes_of (header_of f)) (behind_header f) in
+    let a = length-append (bytes_of (header_of f)) (after_header f) in
     let b = length-append f.extension (f.environment ++ from_sections f) in
     let c = length-append f.environment (from_sections f) in
     let d = length-append (bytes_of f.sections) (from_externals f) in
@@ -82,8 +82,8 @@ file_length f =
 
 -- ---- the file
 
-part_paid : (pieces : List Piece) (behind : List ℕ) (w : ℕ) → AreWhole false pieces behind → w ≤ costs pieces → w ≤ 10 * length (bytes_of pieces)
-part_paid pieces behind w are below = let paid = costs_paid false pieces behind are in omega (arith, paid, below)
+part_paid : (records : List SpelledRecord) (after : List ℕ) (w : ℕ) → AreWhole false records after → w ≤ costs records → w ≤ 10 * length (bytes_of records)
+part_paid records after w are below = let paid = costs_paid false records after are in omega (arith, paid, below)
 
 total : (w p n x e s u r d l t all header sections externals debug skipped loads trailer : ℕ) → w ≡ 156 + p + n + x + e + s + u + r + d + l + t
     → all ≡ header + x + e + sections + externals + debug + skipped + loads + trailer + 1 → 155 + p + n ≤ 10 * header → s ≤ 10 * sections → u + r ≤ 10 * externals → d ≤ 10 * debug
@@ -91,27 +91,27 @@ total : (w p n x e s u r d l t all header sections externals debug skipped loads
 total w p n x e s u r d l t all header sections externals debug skipped loads trailer a b c f g h i j = omega arith
 
 pub files_weigh : FilesWeighTenfold
-files_weigh reads_debug bytes f m are cut names says =
+files_weigh reads_debug bytes f m are cut names states =
     let ix = indexes_of f in
     let first = follow_split [] f.sections (f.externals ++ (f.debug ++ (f.loads ++ f.trailer))) names.follow in
     let second = follow_split f.sections f.externals (f.debug ++ (f.loads ++ f.trailer)) first.1 in
-    let sections = ap (sum_by section_weight) says.sections in
-    let publics = ap (sum_by public_weight) says.publics in
-    let references = ap (sum_by reference_weight) says.references in
-    let debug = ap marks_weight says.debug in
-    let loads = ap (sum_by load_weight) says.loads in
+    let sections = ap (sum_by section_weight) states.sections in
+    let publics = ap (sum_by public_weight) states.publics in
+    let references = ap (sum_by reference_weight) states.references in
+    let debug = ap marks_weight states.debug in
+    let loads = ap (sum_by load_weight) states.loads in
     let s = sections_below f.sections (new_in section [] f.sections first.0) in
     let n = names_below ix f.externals (new_in public f.sections f.externals second.0) (new_in reference f.sections f.externals second.0) names.valued in
     let d = marks_below ix f.debug in
     let l = loads_below ix m.maus f.loads in
-    let t = starts_below ix f.trailer m.start says.start in
+    let t = starts_below ix f.trailer m.start states.start in
     total (weight m) (length m.processor) (length m.name) (length f.extension) (length f.environment) (sum_by section_weight m.sections) (sum_by public_weight m.names.publics) (sum_by reference_weight m.names.references)
     (marks_weight (marks_of m.debug)) (sum_by load_weight m.loads) (start_weight m.start) (length bytes) (length (bytes_of (header_of f)))
     (length (bytes_of f.sections)) (length (bytes_of f.externals)) (length (bytes_of f.debug)) (length f.skipped) (length (bytes_of f.loads)) (length (bytes_of f.trailer))
-    (weight-sum m ∙ (λ i. 156 + length m.processor + length m.name + length (says.extension i) + length (says.environment i) + sum_by section_weight m.sections + sum_by public_weight m.names.publics
+    (weight-sum m ∙ (λ i. 156 + length m.processor + length m.name + length (states.extension i) + length (states.environment i) + sum_by section_weight m.sections + sum_by public_weight m.names.publics
     + sum_by reference_weight m.names.references + marks_weight (marks_of m.debug) + sum_by load_weight m.loads + start_weight m.start))
     (ap length cut.all ∙ file_length f)
-    (header_below m f (behind_header f) cut.header says.begin)
+    (header_below m f (after_header f) cut.header states.begin)
     (part_paid f.sections (from_externals f) _ cut.sections.are_whole (omega (arith, sections, s)))
     (part_paid f.externals (from_debug f) _ cut.externals.are_whole (omega (arith, publics, references, n)))
     (part_paid f.debug (from_loads f) _ cut.debug.are_whole (omega (arith, debug, d)))
@@ -119,4 +119,4 @@ files_weigh reads_debug bytes f m are cut names says =
     (part_paid f.trailer module_end _ cut.trailer.are_whole t)
 
 pub modules_weigh : ModulesWeighTenfold
-modules_weigh reads_debug bytes m are (f, cut, names, says, valid) = files_weigh reads_debug bytes f m are cut names says
+modules_weigh reads_debug bytes m are (f, cut, names, states, valid) = files_weigh reads_debug bytes f m are cut names states

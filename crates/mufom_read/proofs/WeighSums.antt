@@ -3,22 +3,22 @@ use Rattle.std.proofs.Common.{◌≡◌, ℕ, ◌+◌, ◌*◌, ◌≤◌, Bool,
 use Rattle.std.specs.List.{list_any, cons_option, AllByRecursion}
 use Rattle.std.proofs.lemmas.List.Sums.{sum_by-cons}
 use Rattle.std.proofs.lemmas.List.Folds.{list_any-append}
-use Rattle.mufom_module.specs.Pieces.{Piece, bytes_of}
+use Rattle.mufom_module.specs.SpelledRecords.{SpelledRecord, bytes_of}
 use Rattle.mufom_module.specs.Grammar.{AreWhole}
 use Rattle.mufom_read.proofs.WeighRecords.{cost, record_paid}
 
 -- ---- all records of a part
 
-abbrev pub costs : List Piece → ℕ
-costs pieces = sum_by (λ (p : Piece). cost p p.row) pieces
+abbrev pub costs : List SpelledRecord → ℕ
+costs spelled_records = sum_by (λ (p : SpelledRecord). cost p p.row) spelled_records
 
-pub costs_paid : (items : Bool) (pieces : List Piece) (behind : List ℕ) → AreWhole items pieces behind → costs pieces ≤ 10 * length (bytes_of pieces)
-costs_paid items [] behind are = omega arith
-costs_paid items (p ∷ pieces) behind are =
+pub costs_paid : (items : Bool) (spelled_records : List SpelledRecord) (after : List ℕ) → AreWhole items spelled_records after → costs spelled_records ≤ 10 * length (bytes_of spelled_records)
+costs_paid items [] after are = omega arith
+costs_paid items (p ∷ spelled_records) after are =
     let own = record_paid p items _ are.0 in
-    let rest = costs_paid _ pieces behind are.1 in
-    let sum = sum_by-cons (λ (q : Piece). cost q q.row) p pieces in
-    let parts = length-append p.bytes (bytes_of pieces) in
+    let rest = costs_paid _ spelled_records after are.1 in
+    let sum = sum_by-cons (λ (q : SpelledRecord). cost q q.row) p spelled_records in
+    let parts = length-append p.bytes (bytes_of spelled_records) in
     omega (arith, own, rest, sum, parts)
 
 -- ---- sums
@@ -63,15 +63,15 @@ always P f (x ∷ xs) = (f x, always P f xs)
 
 -- ---- entries that are gathered
 
--- each entry weighs at most what its record costs, and what is said of its index
-pub gathered_below : {X : Type 0} (weight : X → ℕ) (ask : Piece → Option X) (key : Piece → Option ℕ) (own : Piece → ℕ) (more : ℕ → ℕ) (pieces : List Piece)
-    → AllByRecursion (λ p. value_by weight (ask p) ≤ own p + value_by more (key p)) pieces → sum_by weight (filter_map ask pieces) ≤ sum_by own pieces + sum_by more (filter_map key pieces)
+-- each entry weighs at most what its record costs, and what is stated of its index
+pub gathered_below : {X : Type 0} (weight : X → ℕ) (ask : SpelledRecord → Option X) (key : SpelledRecord → Option ℕ) (own : SpelledRecord → ℕ) (more : ℕ → ℕ) (spelled_records : List SpelledRecord)
+    → AllByRecursion (λ p. value_by weight (ask p) ≤ own p + value_by more (key p)) spelled_records → sum_by weight (filter_map ask spelled_records) ≤ sum_by own spelled_records + sum_by more (filter_map key spelled_records)
 gathered_below weight ask key own more [] are = omega arith
-gathered_below weight ask key own more (p ∷ pieces) are =
-    let rest = gathered_below weight ask key own more pieces are.1 in
-    let entries = sum_by-option weight (ask p) (filter_map ask pieces) in
-    let keys = sum_by-option more (key p) (filter_map key pieces) in
-    let records = sum_by-cons own p pieces in
+gathered_below weight ask key own more (p ∷ spelled_records) are =
+    let rest = gathered_below weight ask key own more spelled_records are.1 in
+    let entries = sum_by-option weight (ask p) (filter_map ask spelled_records) in
+    let keys = sum_by-option more (key p) (filter_map key spelled_records) in
+    let records = sum_by-cons own p spelled_records in
     omega (arith, are.0, rest, entries, keys, records)
 
 -- ---- indexes that are declared once
@@ -122,18 +122,18 @@ for_each : (is : List ℕ) (o : Option ℕ) (n : ℕ) → NewFrom [] is → sum_
 for_each is None n new = let none = sum_by-none is in omega (arith, none)
 for_each is (Some j) n new = let once = at_most_once j n [] is new in omega (arith, once)
 
--- what records say of indexes that are declared once is counted once
-pub shares_below : (is : List ℕ) → NewFrom [] is → (ask : Piece → Option ℕ) (price : Piece → ℕ) (pieces : List Piece)
-    → sum_by (λ i. sum_by (λ (p : Piece). paid_for i (ask p) (price p)) pieces) is ≤ sum_by (λ (p : Piece). value_by (λ _. price p) (ask p)) pieces
+-- what records state of indexes that are declared once is counted once
+pub shares_below : (is : List ℕ) → NewFrom [] is → (ask : SpelledRecord → Option ℕ) (price : SpelledRecord → ℕ) (spelled_records : List SpelledRecord)
+    → sum_by (λ i. sum_by (λ (p : SpelledRecord). paid_for i (ask p) (price p)) spelled_records) is ≤ sum_by (λ (p : SpelledRecord). value_by (λ _. price p) (ask p)) spelled_records
 shares_below is new ask price [] = let none = sum_by-none is in omega (arith, none)
-shares_below is new ask price (p ∷ pieces) =
-    let share : ℕ → Piece → ℕ = λ i q. paid_for i (ask q) (price q) in
-    let rest = shares_below is new ask price pieces in
+shares_below is new ask price (p ∷ spelled_records) =
+    let share : ℕ → SpelledRecord → ℕ = λ i q. paid_for i (ask q) (price q) in
+    let rest = shares_below is new ask price spelled_records in
     let own = for_each is (ask p) (price p) new in
-    let inner : (i : ℕ) → sum_by (λ q. paid_for i (ask q) (price q)) (p ∷ pieces) ≤ paid_for i (ask p) (price p) + sum_by (λ q. paid_for i (ask q) (price q)) pieces
-    = λ i. (let e = sum_by-cons (λ (q : Piece). paid_for i (ask q) (price q)) p pieces in omega (arith, e)) in
-    let split = sum_by-below (λ i. sum_by (λ (q : Piece). paid_for i (ask q) (price q)) (p ∷ pieces)) (λ i. paid_for i (ask p) (price p) + sum_by (λ (q : Piece). paid_for i (ask q) (price q)) pieces) is
-    (always (λ i. sum_by (λ q. paid_for i (ask q) (price q)) (p ∷ pieces) ≤ paid_for i (ask p) (price p) + sum_by (λ q. paid_for i (ask q) (price q)) pieces) inner is) in
-    let two = sum_by-two (λ i. paid_for i (ask p) (price p)) (λ i. sum_by (λ (q : Piece). paid_for i (ask q) (price q)) pieces) is in
-    let sum = sum_by-cons (λ (q : Piece). value_by (λ _. price q) (ask q)) p pieces in
+    let inner : (i : ℕ) → sum_by (λ q. paid_for i (ask q) (price q)) (p ∷ spelled_records) ≤ paid_for i (ask p) (price p) + sum_by (λ q. paid_for i (ask q) (price q)) spelled_records
+    = λ i. (let e = sum_by-cons (λ (q : SpelledRecord). paid_for i (ask q) (price q)) p spelled_records in omega (arith, e)) in
+    let split = sum_by-below (λ i. sum_by (λ (q : SpelledRecord). paid_for i (ask q) (price q)) (p ∷ spelled_records)) (λ i. paid_for i (ask p) (price p) + sum_by (λ (q : SpelledRecord). paid_for i (ask q) (price q)) spelled_records) is
+    (always (λ i. sum_by (λ q. paid_for i (ask q) (price q)) (p ∷ spelled_records) ≤ paid_for i (ask p) (price p) + sum_by (λ q. paid_for i (ask q) (price q)) spelled_records) inner is) in
+    let two = sum_by-two (λ i. paid_for i (ask p) (price p)) (λ i. sum_by (λ (q : SpelledRecord). paid_for i (ask q) (price q)) spelled_records) is in
+    let sum = sum_by-cons (λ (q : SpelledRecord). value_by (λ _. price q) (ask q)) p spelled_records in
     omega (arith, rest, own, split, two, sum)

@@ -11,7 +11,7 @@ use Rattle.mufom_expr.specs.Terms.{the_term}
 use Rattle.mufom_expr.specs.TokenAt.{tokens_in}
 use Rattle.mufom_expr.specs.Value.{with_variables}
 use Rattle.mufom_expr.specs.Spelled.{SpellsToken, SpellsTokens, SpellsTree, Indexes}
-use Rattle.mufom_module.specs.Pieces.{positioned, positioned_variable}
+use Rattle.mufom_module.specs.SpelledRecords.{positioned, positioned_variable}
 use Rattle.mufom_module.specs.Weights.{token_weight, expression_weight}
 use Rattle.mufom_module.proofs.SpelledLaws.{term-spelling}
 
@@ -22,19 +22,19 @@ number_long n (b ∷ bytes) is = omega arith
 
 token_tenfold : (token : Token) (bytes : List ℕ) → SpellsToken token bytes → token_weight token ≤ 10 * length bytes
 token_tenfold (Number n) bytes is = let long = number_long n bytes is in omega (arith, long)
-token_tenfold (Var letter i) bytes (below, behind, is, split) =
-    let long = number_long i behind is in
-    let all : length bytes ≡ length (letter_byte letter ∷ behind) = ap length split in
+token_tenfold (Var letter i) bytes (below, after, is, split) =
+    let long = number_long i after is in
+    let all : length bytes ≡ length (letter_byte letter ∷ after) = ap length split in
     omega (arith, long, all)
 token_tenfold (Fun f) bytes is = let all : length bytes ≡ length (function_byte f ∷ []) = ap length is in omega (arith, all)
 
 tokens_tenfold : (tokens : List Token) (bytes : List ℕ) → SpellsTokens tokens bytes → sum_by token_weight tokens ≤ 10 * length bytes
 tokens_tenfold [] bytes is = omega arith
-tokens_tenfold (token ∷ tokens) bytes (front, back, first, others, split) =
-    let own = token_tenfold token front first in
+tokens_tenfold (token ∷ tokens) bytes (prefix, back, first, others, split) =
+    let own = token_tenfold token prefix first in
     let rest = tokens_tenfold tokens back others in
     let all = ap length split in
-    let parts = length-append front back in
+    let parts = length-append prefix back in
     let sum = sum_by-cons token_weight token tokens in
     omega (arith, own, rest, all, parts, sum)
 

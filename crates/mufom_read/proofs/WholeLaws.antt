@@ -5,10 +5,10 @@ use Rattle.std.specs.Option.{option_or}
 use Rattle.mufom_numbers.specs.declared.reason.Reason.TheVariants as why
 use Rattle.mufom_records.specs.declared.record.Record.{Record}
 use Rattle.mufom_module.specs.Contents.{any_of}
-use Rattle.mufom_module.specs.Pieces.{Piece, is_public_value, tree_of_piece}
-use Rattle.mufom_read.specs.Fronts.{Placed, first_present}
+use Rattle.mufom_module.specs.SpelledRecords.{SpelledRecord, is_public_value, tree_of_record}
+use Rattle.mufom_read.specs.Prefixes.{OffsetRecord, first_present}
 use Rattle.mufom_read.specs.Faults.{Fault, leaves_gap, fault_if, first_fault, absolute_declared, public_declared, lacks_base, lacks_value, has_unknown_variable, section_fault, external_fault}
-use Rattle.mufom_read.specs.Kept.{tables_of, sayings, lacks_base_in, lacks_value_in, has_unknown_value_in, section_fault_in, external_fault_in, first_or}
+use Rattle.mufom_read.specs.Kept.{tables_of, statements, lacks_base_in, lacks_value_in, has_unknown_value_in, section_fault_in, external_fault_in, first_or}
 use Rattle.mufom_read.proofs.TableLaws.{base-has, value-has}
 use Rattle.mufom_read.proofs.RuleLaws.{known-tree}
 
@@ -25,7 +25,7 @@ one_more n m = by_case (cases_eq n m) where
   by_case (inl e) = eq-eqb (n + 1) (m + 1) (ap (λ k. k + 1) e) ∙ sym (eq-eqb n m e)
   by_case (inr d) = ne_eqb (n + 1) (m + 1) (λ e. d (omega (arith, e))) ∙ sym (ne_eqb n m d)
 
--- the eighth offset leaves a gap behind seven
+-- the eighth offset leaves a gap after seven
 pub gap-last : (earlier : List ℕ) (w end : ℕ) → leaves_gap (earlier ++ w ∷ []) end ≡ ((length earlier == 7) && not (first_or (first_present earlier) w == end))
 gap-last earlier w end =
     ap (λ n. (n == 8) && not (first_present (earlier ++ w ∷ []) == end)) (length-append earlier (w ∷ []))
@@ -41,25 +41,25 @@ same_any : (f g : ℕ → Bool) (o : Option ℕ) → ((i : ℕ) → f i ≡ g i)
 same_any f g None same = refl
 same_any f g (Some i) same = same i
 
-base : (ps : List Piece) (row : Record) → lacks_base_in (tables_of ps) row ≡ lacks_base ps row
-base ps row = same_any _ _ (absolute_declared row) (λ i. ap not (base-has i (sayings ps)))
+base : (ps : List SpelledRecord) (row : Record) → lacks_base_in (tables_of ps) row ≡ lacks_base ps row
+base ps row = same_any _ _ (absolute_declared row) (λ i. ap not (base-has i (statements ps)))
 
-value : (ps : List Piece) (row : Record) → lacks_value_in (tables_of ps) row ≡ lacks_value ps row
-value ps row = same_any _ _ (public_declared row) (λ i. ap not (value-has i (sayings ps)))
+value : (ps : List SpelledRecord) (row : Record) → lacks_value_in (tables_of ps) row ≡ lacks_value ps row
+value ps row = same_any _ _ (public_declared row) (λ i. ap not (value-has i (statements ps)))
 
-unknown : (ps : List Piece) (p : Piece) → has_unknown_value_in (tables_of ps) p ≡ has_unknown_variable ps p
-unknown ps p = ap (λ b. is_public_value p.row && b) (known-tree ps (tree_of_piece p))
+unknown : (ps : List SpelledRecord) (p : SpelledRecord) → has_unknown_value_in (tables_of ps) p ≡ has_unknown_variable ps p
+unknown ps p = ap (λ b. is_public_value p.row && b) (known-tree ps (tree_of_record p))
 
-same_first : (f g : Placed → Option Fault) (placed : List Placed) → ((p : Placed) → f p ≡ g p) → first_fault f placed ≡ first_fault g placed
+same_first : (f g : OffsetRecord → Option Fault) (placed : List OffsetRecord) → ((p : OffsetRecord) → f p ≡ g p) → first_fault f placed ≡ first_fault g placed
 same_first f g [] same = refl
 same_first f g (p ∷ placed) same = ap (λ o. option_or o (first_fault f placed)) (same p) ∙ ap (λ o. option_or (g p) o) (same_first f g placed same)
 
 -- the first section without a base
-pub section_fault-tables : (ps : List Piece) (placed : List Placed) → first_fault (section_fault_in (tables_of ps)) placed ≡ first_fault (section_fault ps) placed
+pub section_fault-tables : (ps : List SpelledRecord) (placed : List OffsetRecord) → first_fault (section_fault_in (tables_of ps)) placed ≡ first_fault (section_fault ps) placed
 section_fault-tables ps placed = same_first _ _ placed (λ p. ap (λ b. fault_if b p.0 why.MissingBase) (base ps p.1.row))
 
 -- the first public without a value, or value with a variable that names no entry
-pub external_fault-tables : (ps : List Piece) (placed : List Placed) → first_fault (external_fault_in (tables_of ps)) placed ≡ first_fault (external_fault ps) placed
+pub external_fault-tables : (ps : List SpelledRecord) (placed : List OffsetRecord) → first_fault (external_fault_in (tables_of ps)) placed ≡ first_fault (external_fault ps) placed
 external_fault-tables ps placed = same_first _ _ placed (λ p.
     ap (λ b. option_or (fault_if b p.0 why.UnknownIndex) (fault_if (lacks_value_in (tables_of ps) p.1.row) p.0 why.MissingValue)) (unknown ps p.1)
     ∙ ap (λ b. option_or (fault_if (has_unknown_variable ps p.1) p.0 why.UnknownIndex) (fault_if b p.0 why.MissingValue)) (value ps p.1.row))

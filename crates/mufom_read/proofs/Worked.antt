@@ -4,7 +4,7 @@ use Rattle.mufom_numbers.specs.declared.reason.Reason.{Reason}
 use Rattle.mufom_numbers.specs.declared.reason.Reason.TheVariants as why
 use Rattle.mufom_numbers.specs.declared.taken.Taken.{Taken}
 use Rattle.mufom_numbers.specs.declared.taken.Taken.TheVariants.{Got}
-use Rattle.mufom_read.specs.Fronts.{Step, size_of, next_step, is_ended}
+use Rattle.mufom_read.specs.Prefixes.{Step, size_of, next_step, is_ended}
 use Rattle.mufom_read.specs.Faults.{Fault, fault_after}
 
 -- where the module ended, what was refused, or where more bytes are wanted
@@ -14,8 +14,8 @@ data Outcome : Type 0 where
   waiting : ℕ → Outcome
 
 abbrev after_step : List Step → Taken Step → (Step → ℕ → Outcome) → Outcome
-after_step front (Got step used) next = next step used
-after_step front _ next = waiting (size_of front)
+after_step prefix (Got step used) next = next step used
+after_step prefix _ next = waiting (size_of prefix)
 
 abbrev after_fault : Option Fault → (ℕ → Outcome) → Outcome
 after_fault (Some f) next = fault f
@@ -25,11 +25,11 @@ abbrev unless_ended : Bool → ℕ → (ℕ → Outcome) → Outcome
 unless_ended true size next = ended size
 unless_ended false size next = next 0
 
--- what so many steps behind a front come to
+-- what the given number of steps after a prefix come to
 abbrev judged_from : ℕ → Bool → List Step → List ℕ → Outcome
-judged_from zero reads_debug front rest = waiting 0
-judged_from (suc k) reads_debug front rest = unless_ended (is_ended front) (size_of front) (λ _. after_fault (fault_after reads_debug front rest)
-    (λ _. after_step front (next_step reads_debug front rest) (λ step used. judged_from k reads_debug (front ++ step ∷ []) (drop used rest))))
+judged_from zero reads_debug prefix rest = waiting 0
+judged_from (suc k) reads_debug prefix rest = unless_ended (is_ended prefix) (size_of prefix) (λ _. after_fault (fault_after reads_debug prefix rest)
+    (λ _. after_step prefix (next_step reads_debug prefix rest) (λ step used. judged_from k reads_debug (prefix ++ step ∷ []) (drop used rest))))
 
 abbrev judged : List ℕ → Outcome
 judged bytes = judged_from 200 true [] bytes

@@ -1,4 +1,4 @@
--- What the code gathers from the records of a front for the module that they say (IEEE Std 695, module structure).
+-- What the code gathers from the records of a prefix for the module that they state (IEEE Std 695, module structure).
 use Rattle.std.specs.Prelude.{◌≡◌, ℕ, ◌<◌, ◌≤◌, ◌==◌, Bool, true, List, [], ◌∷◌, ◌++◌, length, map, filter_map, position, slice_get, Option, Some, None, option_and_then, option_to_list, unwrap_or, if◌then◌else◌}
 use Rattle.std.specs.List.{cons_option}
 use Rattle.mufom_numbers.specs.Spelling.{AreBytes}
@@ -10,17 +10,17 @@ use Rattle.mufom_names.specs.declared.name.Note.{Note}
 use Rattle.mufom_names.specs.declared.name.Weak.{Weak}
 use Rattle.mufom_module.specs.declared.module.Parts.{Parts}
 use Rattle.mufom_module.specs.Grammar.{NamesModule, Describes, file_limit}
-use Rattle.mufom_module.specs.Pieces.{Piece, tree_in, Kind, public, reference}
+use Rattle.mufom_module.specs.SpelledRecords.{SpelledRecord, tree_in, Kind, public, reference}
 use Rattle.mufom_module.specs.Gathered.{answers, note_of, public_note_for, reference_note_for, sections_of, publics_of, references_of, loads_of, starts_of}
 use Rattle.mufom_read.specs.declared.tables.Tables.{Tables}
-use Rattle.mufom_read.specs.declared.front.Front.{Front}
+use Rattle.mufom_read.specs.declared.prefix.Prefix.{Prefix}
 use Rattle.mufom_read.specs.declared.sections.SectionFacts.{SectionFacts}
 use Rattle.mufom_read.specs.declared.notes.Named.{Named}
 use Rattle.mufom_read.specs.declared.notes.Named.TheVariants as named
-use Rattle.mufom_read.specs.Fronts.{Step, size_of, is_ended}
-use Rattle.mufom_read.specs.Judging.{IsSoundFront}
-use Rattle.mufom_read.specs.Kept.{piece_of_kept}
-use Rattle.mufom_read.specs.FrontOfCode.{IsFrontOf}
+use Rattle.mufom_read.specs.Prefixes.{Step, size_of, is_ended}
+use Rattle.mufom_read.specs.Judging.{IsSoundPrefix}
+use Rattle.mufom_read.specs.Kept.{record_of_kept}
+use Rattle.mufom_read.specs.PrefixOfCode.{IsPrefixOf}
 
 -- ---- by the tables
 
@@ -28,47 +28,47 @@ use Rattle.mufom_read.specs.FrontOfCode.{IsFrontOf}
 abbrev pub indexes_by : Tables → Indexes
 indexes_by t = record { sections = t.sections; publics = t.publics; references = t.references; debug_names = [] }
 
--- what is said for an index, of what is said for these indexes, in their order
-abbrev pub said_at : {X : Type 0} → List ℕ → List X → ℕ → Option X
-said_at indexes said i = option_and_then (λ k. slice_get said k) (position (λ j. j == i) indexes)
+-- what is stated for an index, of what is stated for these indexes, in their order
+abbrev pub stated_at : {X : Type 0} → List ℕ → List X → ℕ → Option X
+stated_at indexes stated i = option_and_then (λ k. slice_get stated k) (position (λ j. j == i) indexes)
 
 -- ---- sections
 
--- the size that a record says, of whichever section
+-- the size that a record states, of whichever section
 abbrev pub size_in : Record → Option ℕ
 size_in (r.SectionSize i n) = Some n
 size_in _ = None
 
--- the alignment that it says
+-- the alignment that it states
 abbrev pub alignment_in : Record → Option ℕ
 alignment_in (r.Alignment i n _) = Some n
 alignment_in _ = None
 
--- the base that it says
+-- the base that it states
 abbrev pub base_in : Record → Option ℕ
 base_in (r.SectionBase i n) = Some n
 base_in _ = None
 
--- the sizes, alignments and bases that records say, in order
-abbrev pub section_facts : List Piece → SectionFacts
+-- the sizes, alignments and bases that records state, in order
+abbrev pub section_facts : List SpelledRecord → SectionFacts
 section_facts ps = record { sizes = answers size_in ps; alignments = answers alignment_in ps; bases = answers base_in ps }
 
--- those with what one more record says
+-- those with what one more record states
 abbrev pub with_facts : SectionFacts → Record → SectionFacts
 with_facts f row = record { sizes = f.sizes ++ cons_option (size_in row) []; alignments = f.alignments ++ cons_option (alignment_in row) []; bases = f.bases ++ cons_option (base_in row) [] }
 
 -- ---- names
 
--- the value that a record says, of whichever public
-abbrev pub value_in : Piece → Record → Option Tree
+-- the value that a record states, of whichever public
+abbrev pub value_in : SpelledRecord → Record → Option Tree
 value_in p (r.PublicValue i value) = Some (tree_in p value)
 value_in p _ = None
 
--- the values that records say, in order
-abbrev pub values_in : List Piece → List Tree
+-- the values that records state, in order
+abbrev pub values_in : List SpelledRecord → List Tree
 values_in ps = filter_map (λ p. value_in p p.row) ps
 
--- what it says that makes a reference weak, whichever it is
+-- what it states that makes a reference weak, whichever it is
 abbrev pub weak_in : Record → Option Weak
 weak_in (r.WeakReference i n default) = Some (record { size = n; default = unwrap_or default 0 })
 weak_in _ = None
@@ -96,7 +96,7 @@ note_for named.Public i row = public_note_for i row
 note_for named.Reference i row = reference_note_for i row
 
 -- the notes of the name with this index, in order
-abbrev pub notes_for : Named → ℕ → List Piece → List Note
+abbrev pub notes_for : Named → ℕ → List SpelledRecord → List Note
 notes_for which i ps = answers (note_for which i) ps
 
 -- those with one more, of this index
@@ -105,29 +105,29 @@ notes_with index note notes i = if i == index then notes i ++ note ∷ [] else n
 
 -- ---- the module
 
--- What the records and the bytes that the code keeps say is what the module has.
-pub record IsSaidByKept (f : Front) (m : Parts) : Type 0 where
-  pub begin : Piece
-  pub descriptor : Piece
-  pub behind : List Piece
-  pub pieces : map piece_of_kept f.kept ≡ begin ∷ descriptor ∷ behind
+-- What the records and the bytes that the code keeps state is what the module has.
+pub record IsStatedByKept (f : Prefix) (m : Parts) : Type 0 where
+  pub begin : SpelledRecord
+  pub descriptor : SpelledRecord
+  pub after : List SpelledRecord
+  pub records : map record_of_kept f.kept ≡ begin ∷ descriptor ∷ after
   pub begins : NamesModule m begin begin.row
   pub describes : Describes m descriptor.row
   pub small : m.maus < 256
   pub extension : m.ext ≡ f.extension
   pub environment : m.env ≡ f.environment
-  pub sections : m.sections ≡ sections_of (map piece_of_kept f.kept)
-  pub publics : m.names.publics ≡ publics_of (indexes_by f.tables) (map piece_of_kept f.kept)
-  pub references : m.names.references ≡ references_of (map piece_of_kept f.kept)
+  pub sections : m.sections ≡ sections_of (map record_of_kept f.kept)
+  pub publics : m.names.publics ≡ publics_of (indexes_by f.tables) (map record_of_kept f.kept)
+  pub references : m.names.references ≡ references_of (map record_of_kept f.kept)
   pub debug : m.debug ≡ []
-  pub loads : m.loads ≡ loads_of (indexes_by f.tables) m.maus (map piece_of_kept f.kept)
-  pub start : option_to_list m.start ≡ starts_of (indexes_by f.tables) (map piece_of_kept f.kept)
+  pub loads : m.loads ≡ loads_of (indexes_by f.tables) m.maus (map record_of_kept f.kept)
+  pub start : option_to_list m.start ≡ starts_of (indexes_by f.tables) (map record_of_kept f.kept)
 
--- The code keeps this front; it is sound, ends with the stream of these bytes, and is the whole of it.
-pub record IsWhole (reads_debug : Bool) (f : Front) (front : List Step) (bytes : List ℕ) : Type 0 where
-  pub kept : IsFrontOf reads_debug f front
+-- The code keeps this prefix; it is sound, ends with the stream of these bytes, and is the whole of it.
+pub record IsWhole (reads_debug : Bool) (f : Prefix) (prefix : List Step) (bytes : List ℕ) : Type 0 where
+  pub kept : IsPrefixOf reads_debug f prefix
   pub fits : AreBytes bytes
   pub limit : length bytes ≤ file_limit
-  pub sound : IsSoundFront reads_debug front bytes
-  pub ends : is_ended front ≡ true
-  pub all : size_of front ≡ length bytes
+  pub sound : IsSoundPrefix reads_debug prefix bytes
+  pub ends : is_ended prefix ≡ true
+  pub all : size_of prefix ≡ length bytes

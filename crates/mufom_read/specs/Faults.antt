@@ -1,4 +1,4 @@
--- The faults of records in their places, and of parts as wholes, behind a front of the stream. Each is a fact of what
+-- The faults of records in their places, and of parts as wholes, after a prefix of the stream. Each is a fact of what
 -- stands before it: no running state is kept here.
 use Rattle.std.specs.Prelude.{ℕ, ◌+◌, ◌-◌, ◌==◌, ◌&&◌, ◌||◌, nat_lt, nat_le, Bool, true, false, not, List, [], ◌∷◌, ◌++◌, length, filter_map, Option, Some, None, is_some, if◌then◌else◌}
 use Rattle.std.specs.List.{list_all, list_any, find, last_or}
@@ -11,10 +11,10 @@ use Rattle.mufom_records.specs.declared.record.Record.{Record}
 use Rattle.mufom_records.specs.declared.record.Record.TheVariants as r
 use Rattle.mufom_module.specs.Contents.{any_of}
 use Rattle.mufom_module.specs.Defects.{is_unit_count, has_other_counter}
-use Rattle.mufom_module.specs.Pieces.{Piece, value_of_public, section_base, is_declared, named_in_expression, is_assigned, is_public_value, tree_of_piece}
+use Rattle.mufom_module.specs.SpelledRecords.{SpelledRecord, value_of_public, section_base, is_declared, named_in_expression, is_assigned, is_public_value, tree_of_record}
 use Rattle.mufom_module.specs.RecordParts.{Part, section_part, external_part, debug_part, end_part, stands_in}
-use Rattle.mufom_module.specs.Grammar.{declares_again, says_again, names_unknown, has_no_section}
-use Rattle.mufom_read.specs.Fronts.{Step, raw, read, Placed, Extent, Place, in_header, in_part, at_end, size_of, pieces_of, placed_of, offsets_of, first_present, part_at, place_behind, next_step}
+use Rattle.mufom_module.specs.Grammar.{declares_again, states_again, names_unknown, has_no_section}
+use Rattle.mufom_read.specs.Prefixes.{Step, raw, read, OffsetRecord, Extent, Location, in_header, in_part, at_end, size_of, records_of, offset_records_of, offsets_of, first_present, part_at, location_after, next_step}
 
 -- the offset at which a stream is refused, and why
 abbrev pub Fault : Type 0
@@ -22,12 +22,12 @@ Fault = ℕ × Reason
 
 -- this fault, where the test holds
 abbrev pub fault_if : Bool → ℕ → Reason → Option Fault
-fault_if test place reason = if test then Some (place, reason) else None
+fault_if test fault_offset reason = if test then Some (fault_offset, reason) else None
 
 -- this fault, where there is a reason
 abbrev pub fault_for : ℕ → Option Reason → Option Fault
-fault_for place None = None
-fault_for place (Some reason) = Some (place, reason)
+fault_for fault_offset None = None
+fault_for fault_offset (Some reason) = Some (fault_offset, reason)
 
 -- ---- whole records of the header
 
@@ -44,11 +44,11 @@ is_out_of_order earlier w = (not (w == 0) && list_any (λ e. nat_lt w e) earlier
 abbrev pub is_left_for_later : Bool → List ℕ → ℕ → Bool
 is_left_for_later reads_debug earlier w = reads_debug && ((length earlier == 4) && not (w == 0))
 
--- the first offset that is not 0 is not that of the byte behind the eight records
+-- the first offset that is not 0 is not that of the byte after the eight records
 abbrev pub leaves_gap : List ℕ → ℕ → Bool
 leaves_gap offsets end = (length offsets == 8) && not (first_present offsets == end)
 
--- the fault of an offset behind earlier ones, in the record from one offset of the file to another
+-- the fault of an offset after earlier ones, in the record from one offset of the file to another
 abbrev pub offset_fault : Bool → List ℕ → ℕ → ℕ → ℕ → Option Fault
 offset_fault reads_debug earlier w start end = option_or (fault_if (is_out_of_order earlier w) start why.OffsetOrder)
     (option_or (fault_if (is_left_for_later reads_debug earlier w) start why.NotBuilt)
@@ -71,36 +71,36 @@ set_by (r.SetSection i) = Some i
 set_by _ = None
 
 -- the index of the current section: that of the last SB
-abbrev pub current_section : List Piece → Option ℕ
+abbrev pub current_section : List SpelledRecord → Option ℕ
 current_section before = last_or None (filter_map (λ p. set_by p.row) before)
 
 -- the section whose program counter the record's expression may name
-abbrev pub counter_allowed : List Piece → Record → Option ℕ
+abbrev pub counter_allowed : List SpelledRecord → Record → Option ℕ
 counter_allowed before (r.SetPc i value) = Some i
 counter_allowed before (r.FieldItem kind value size) = current_section before
 counter_allowed before _ = None
 
 -- its expression names another one
-abbrev pub misplaces_counter : List Piece → Piece → Bool
-misplaces_counter before p = any_of (has_other_counter (counter_allowed before p.row)) (tree_of_piece p)
+abbrev pub misplaces_counter : List SpelledRecord → SpelledRecord → Bool
+misplaces_counter before p = any_of (has_other_counter (counter_allowed before p.row)) (tree_of_record p)
 
 -- a debug block by the offset of its begin, and its kind
 abbrev pub OpenBlock : Type 0
 OpenBlock = ℕ × ℕ
 
--- the blocks that are open behind a record, where these were open before it, the innermost first
-abbrev pub opened_behind : List OpenBlock → ℕ → Record → List OpenBlock
-opened_behind blocks start (r.BlockBegin kind n name block) = (start, kind) ∷ blocks
-opened_behind [] start (r.BlockEnd value) = []
-opened_behind (innermost ∷ blocks) start (r.BlockEnd value) = blocks
-opened_behind blocks start _ = blocks
+-- the blocks that are open after a record, where these were open before it, the innermost first
+abbrev pub opened_after : List OpenBlock → ℕ → Record → List OpenBlock
+opened_after blocks start (r.BlockBegin kind n name block) = (start, kind) ∷ blocks
+opened_after [] start (r.BlockEnd value) = []
+opened_after (innermost ∷ blocks) start (r.BlockEnd value) = blocks
+opened_after blocks start _ = blocks
 
-abbrev pub open_from : List OpenBlock → List Placed → List OpenBlock
+abbrev pub open_from : List OpenBlock → List OffsetRecord → List OpenBlock
 open_from blocks [] = blocks
-open_from blocks (p ∷ more) = open_from (opened_behind blocks p.0 p.1.row) more
+open_from blocks (p ∷ more) = open_from (opened_after blocks p.0 p.1.row) more
 
--- the blocks that are open behind records
-abbrev pub open_blocks : List Placed → List OpenBlock
+-- the blocks that are open after records
+abbrev pub open_blocks : List OffsetRecord → List OpenBlock
 open_blocks before = open_from [] before
 
 -- an end with no open block, or with an expression after a kind that has none
@@ -114,11 +114,11 @@ abbrev pub is_too_deep : List OpenBlock → Record → Bool
 is_too_deep blocks (r.BlockBegin kind n name block) = nat_le 32 (length blocks)
 is_too_deep blocks _ = false
 
--- What a record in its part breaks, behind those before it.
-abbrev pub breaks : List Placed → List Piece → Piece → Reason → Bool
+-- What a record in its part breaks, after those before it.
+abbrev pub breaks : List OffsetRecord → List SpelledRecord → SpelledRecord → Reason → Bool
 breaks placed before p why.DuplicateIndex = declares_again before p.row
 breaks placed before p why.UnknownIndex = names_unknown before p
-breaks placed before p why.DuplicateValue = says_again before p.row
+breaks placed before p why.DuplicateValue = states_again before p.row
 breaks placed before p why.BadAlignment = has_bad_alignment p.row
 breaks placed before p why.NoSection = has_no_section before p.row
 breaks placed before p why.BadP = misplaces_counter before p
@@ -130,28 +130,28 @@ breaks placed before p _ = false
 abbrev pub rules : List Reason
 rules = why.DuplicateIndex ∷ why.UnknownIndex ∷ why.DuplicateValue ∷ why.BadAlignment ∷ why.NoSection ∷ why.BadP ∷ why.BlockNesting ∷ why.Depth ∷ []
 
--- the first rule that a record breaks behind a front
-abbrev pub rule_broken : List Step → Piece → Option Reason
-rule_broken front p = find (breaks (placed_of front) (pieces_of front) p) rules
+-- the first rule that a record breaks after a prefix
+abbrev pub rule_broken : List Step → SpelledRecord → Option Reason
+rule_broken prefix p = find (breaks (offset_records_of prefix) (records_of prefix) p) rules
 
 -- its end past the part's end, its kind in its part, and then the rules
-abbrev pub part_record_fault : List Step → Extent → ℕ → Piece → Option Fault
-part_record_fault front extent start p = option_or (fault_if (nat_lt extent.to (start + length p.bytes)) start why.PartGap)
+abbrev pub part_record_fault : List Step → Extent → ℕ → SpelledRecord → Option Fault
+part_record_fault prefix extent start p = option_or (fault_if (nat_lt extent.to (start + length p.bytes)) start why.PartGap)
     (option_or (fault_if (not (stands_in extent.part p.row)) start why.WrongPart)
-    (fault_for start (rule_broken front p)))
+    (fault_for start (rule_broken prefix p)))
 
 -- the fault of a whole record at its place; where the module must end any record but its end stands in the wrong part
-abbrev pub record_fault : Bool → List Step → Place → ℕ → Piece → Option Fault
-record_fault reads_debug front (in_header k) start p = header_fault reads_debug (offsets_of front) start (start + length p.bytes) p.row
-record_fault reads_debug front (in_part extent) start p = part_record_fault front extent start p
-record_fault reads_debug front at_end start p = fault_if (not (stands_in end_part p.row)) start why.WrongPart
+abbrev pub record_fault : Bool → List Step → Location → ℕ → SpelledRecord → Option Fault
+record_fault reads_debug prefix (in_header k) start p = header_fault reads_debug (offsets_of prefix) start (start + length p.bytes) p.row
+record_fault reads_debug prefix (in_part extent) start p = part_record_fault prefix extent start p
+record_fault reads_debug prefix at_end start p = fault_if (not (stands_in end_part p.row)) start why.WrongPart
 
--- the fault of what stands behind a front, which may be one of its fields
+-- the fault of what stands after a prefix, which may be one of its fields
 abbrev pub step_fault : Bool → List Step → Taken Step → Option Fault
-step_fault reads_debug front (Got (raw b) used) = None
-step_fault reads_debug front (Got (read start p) used) = record_fault reads_debug front (place_behind front) start p
-step_fault reads_debug front More = None
-step_fault reads_debug front (Bad offset reason) = Some (size_of front + offset, reason)
+step_fault reads_debug prefix (Got (raw b) used) = None
+step_fault reads_debug prefix (Got (read start p) used) = record_fault reads_debug prefix (location_after prefix) start p
+step_fault reads_debug prefix More = None
+step_fault reads_debug prefix (Bad offset reason) = Some (size_of prefix + offset, reason)
 
 -- ---- parts as wholes
 
@@ -161,14 +161,14 @@ public_declared (r.PublicName i name) = Some i
 public_declared _ = None
 
 -- the public that a record declares has no value in the whole part
-abbrev pub lacks_value : List Piece → Record → Bool
+abbrev pub lacks_value : List SpelledRecord → Record → Bool
 lacks_value all row = any_of (λ i. not (is_assigned all (value_of_public i))) (public_declared row)
 
 -- a variable of a public's value is not declared up to the part's end
-abbrev pub has_unknown_variable : List Piece → Piece → Bool
+abbrev pub has_unknown_variable : List SpelledRecord → SpelledRecord → Bool
 has_unknown_variable all p = is_public_value p.row && not (list_all (is_declared all) (named_in_expression p))
 
-abbrev pub external_fault : List Piece → Placed → Option Fault
+abbrev pub external_fault : List SpelledRecord → OffsetRecord → Option Fault
 external_fault all p = option_or (fault_if (has_unknown_variable all p.1) p.0 why.UnknownIndex) (fault_if (lacks_value all p.1.row) p.0 why.MissingValue)
 
 -- a section with the letters of an absolute one
@@ -177,14 +177,14 @@ absolute_declared (r.SectionType i true purpose name a b c) = Some i
 absolute_declared _ = None
 
 -- the absolute section that a record declares has no base in the whole part
-abbrev pub lacks_base : List Piece → Record → Bool
+abbrev pub lacks_base : List SpelledRecord → Record → Bool
 lacks_base all row = any_of (λ i. not (is_assigned all (section_base i))) (absolute_declared row)
 
-abbrev pub section_fault : List Piece → Placed → Option Fault
+abbrev pub section_fault : List SpelledRecord → OffsetRecord → Option Fault
 section_fault all p = fault_if (lacks_base all p.1.row) p.0 why.MissingBase
 
 -- the fault of the first record that has one
-abbrev pub first_fault : (Placed → Option Fault) → List Placed → Option Fault
+abbrev pub first_fault : (OffsetRecord → Option Fault) → List OffsetRecord → Option Fault
 first_fault fault [] = None
 first_fault fault (p ∷ more) = option_or (fault p) (first_fault fault more)
 
@@ -195,22 +195,22 @@ open_fault (innermost ∷ blocks) = Some (innermost.0, why.BlockNesting)
 
 -- the fault of a part as a whole, of several the one with the smallest offset
 abbrev pub whole_fault : Part → List Step → Option Fault
-whole_fault section_part front = first_fault (section_fault (pieces_of front)) (placed_of front)
-whole_fault external_part front = first_fault (external_fault (pieces_of front)) (placed_of front)
-whole_fault debug_part front = open_fault (open_blocks (placed_of front))
-whole_fault _ front = None
+whole_fault section_part prefix = first_fault (section_fault (records_of prefix)) (offset_records_of prefix)
+whole_fault external_part prefix = first_fault (external_fault (records_of prefix)) (offset_records_of prefix)
+whole_fault debug_part prefix = open_fault (open_blocks (offset_records_of prefix))
+whole_fault _ prefix = None
 
--- the part ends where the front does
+-- the part ends where the prefix does
 abbrev pub ended_fault : List Step → Option Extent → Option Fault
-ended_fault front None = None
-ended_fault front (Some extent) = if extent.to == size_of front then whole_fault extent.part front else None
+ended_fault prefix None = None
+ended_fault prefix (Some extent) = if extent.to == size_of prefix then whole_fault extent.part prefix else None
 
--- the fault of the part that ends where the front does, if one does: that of the front's last byte
+-- the fault of the part that ends where the prefix does, if one does: that of the prefix's last byte
 abbrev pub ended_part_fault : List Step → Option Fault
-ended_part_fault front = ended_fault front (part_at front (size_of front - 1))
+ended_part_fault prefix = ended_fault prefix (part_at prefix (size_of prefix - 1))
 
 -- ---- together
 
--- The first fault behind a front, in the order of judging: of the part that ended, and then of what stands next.
+-- The first fault after a prefix, in the order of judging: of the part that ended, and then of what stands next.
 abbrev pub fault_after : Bool → List Step → List ℕ → Option Fault
-fault_after reads_debug front rest = option_or (ended_part_fault front) (step_fault reads_debug front (next_step reads_debug front rest))
+fault_after reads_debug prefix rest = option_or (ended_part_fault prefix) (step_fault reads_debug prefix (next_step reads_debug prefix rest))

@@ -1,15 +1,15 @@
 -- What a reader answers for a stream: a module, or a refusal at an offset. The stream is judged as a whole; how it came
--- in pieces makes no difference.
+-- in chunks makes no difference.
 use Rattle.std.specs.Prelude.{◌≡◌, ◌⊎◌, ℕ, ◌<◌, ◌≤◌, Bool, true, false, List, [], ◌∷◌, ◌++◌, length, take, drop, Some, None}
 use Rattle.mufom_numbers.specs.declared.reason.Reason.{Reason}
 use Rattle.mufom_numbers.specs.declared.reason.Reason.TheVariants as why
 use Rattle.mufom_numbers.specs.declared.taken.Taken.TheVariants.{Got, More}
 use Rattle.mufom_module.specs.declared.module.Parts.{Parts}
 use Rattle.mufom_module.specs.Grammar.{SpellsModule, file_limit}
-use Rattle.mufom_read.specs.Fronts.{Step, step_bytes, size_of, next_step, is_ended}
+use Rattle.mufom_read.specs.Prefixes.{Step, step_bytes, size_of, next_step, is_ended}
 use Rattle.mufom_read.specs.Faults.{fault_after}
 
--- the steps are those with which the stream goes on behind a front, and none of them has a fault
+-- the steps are those with which the stream goes on after a prefix, and none of them has a fault
 abbrev pub IsSoundFrom : Bool → List Step → List Step → List ℕ → Type 0
 IsSoundFrom reads_debug before [] rest = Unit {0}
 IsSoundFrom reads_debug before (step ∷ steps) rest = (is_ended before ≡ false) × (fault_after reads_debug before rest ≡ None)
@@ -17,47 +17,47 @@ IsSoundFrom reads_debug before (step ∷ steps) rest = (is_ended before ≡ fals
     × IsSoundFrom reads_debug (before ++ step ∷ []) steps (drop (length (step_bytes step)) rest)
 
 -- The stream begins with these steps; no record in them, and no part that ends before their end, has a fault.
-abbrev pub IsSoundFront : Bool → List Step → List ℕ → Type 0
-IsSoundFront reads_debug front bytes = IsSoundFrom reads_debug [] front bytes
+abbrev pub IsSoundPrefix : Bool → List Step → List ℕ → Type 0
+IsSoundPrefix reads_debug prefix bytes = IsSoundFrom reads_debug [] prefix bytes
 
--- the bytes that are judged; what stands behind them is too long
+-- the bytes that are judged; what stands after them is too long
 abbrev pub within_limit : List ℕ → List ℕ
 within_limit bytes = take file_limit bytes
 
--- a fault stands behind a sound front, which is the longest then
-pub record HasFault (reads_debug : Bool) (bytes : List ℕ) (place : ℕ) (reason : Reason) : Type 0 where
-  pub front : List Step
-  pub sound : IsSoundFront reads_debug front (within_limit bytes)
-  pub unended : is_ended front ≡ false
-  pub fault : fault_after reads_debug front (drop (size_of front) (within_limit bytes)) ≡ Some (place, reason)
+-- a fault stands after a sound prefix, which is the longest then
+pub record HasFault (reads_debug : Bool) (bytes : List ℕ) (offset : ℕ) (reason : Reason) : Type 0 where
+  pub prefix : List Step
+  pub sound : IsSoundPrefix reads_debug prefix (within_limit bytes)
+  pub unended : is_ended prefix ≡ false
+  pub fault : fault_after reads_debug prefix (drop (size_of prefix) (within_limit bytes)) ≡ Some (offset, reason)
 
 -- the module ends before this offset, with no fault before it
-pub record EndsAt (reads_debug : Bool) (bytes : List ℕ) (place : ℕ) : Type 0 where
-  pub front : List Step
-  pub sound : IsSoundFront reads_debug front (within_limit bytes)
-  pub ended : is_ended front ≡ true
-  pub here : size_of front ≡ place
+pub record EndsAt (reads_debug : Bool) (bytes : List ℕ) (offset : ℕ) : Type 0 where
+  pub prefix : List Step
+  pub sound : IsSoundPrefix reads_debug prefix (within_limit bytes)
+  pub ended : is_ended prefix ≡ true
+  pub here : size_of prefix ≡ offset
 
--- behind a sound front, the longest, more bytes are wanted; these are there
+-- after a sound prefix, the longest, more bytes are wanted; these are there
 pub record IsWaiting (reads_debug : Bool) (bytes pending : List ℕ) : Type 0 where
-  pub front : List Step
-  pub sound : IsSoundFront reads_debug front (within_limit bytes)
-  pub unended : is_ended front ≡ false
-  pub faultless : fault_after reads_debug front pending ≡ None
-  pub wanting : next_step reads_debug front pending ≡ More
-  pub behind : pending ≡ drop (size_of front) (within_limit bytes)
+  pub prefix : List Step
+  pub sound : IsSoundPrefix reads_debug prefix (within_limit bytes)
+  pub unended : is_ended prefix ≡ false
+  pub faultless : fault_after reads_debug prefix pending ≡ None
+  pub wanting : next_step reads_debug prefix pending ≡ More
+  pub after : pending ≡ drop (size_of prefix) (within_limit bytes)
 
 -- The stream is refused at this offset.
 abbrev pub IsRefusedAt : Bool → List ℕ → ℕ → Reason → Type 0
-IsRefusedAt reads_debug bytes place reason = HasFault reads_debug bytes place reason
-    ⊎ (((reason ≡ why.AfterEnd) × EndsAt reads_debug bytes place × (place < length bytes))
-    ⊎ ((reason ≡ why.FileLimit) × (place ≡ file_limit) × (file_limit < length bytes) × (pending : List ℕ) × IsWaiting reads_debug bytes pending))
+IsRefusedAt reads_debug bytes offset reason = HasFault reads_debug bytes offset reason
+    ⊎ (((reason ≡ why.AfterEnd) × EndsAt reads_debug bytes offset × (offset < length bytes))
+    ⊎ ((reason ≡ why.FileLimit) × (offset ≡ file_limit) × (file_limit < length bytes) × (pending : List ℕ) × IsWaiting reads_debug bytes pending))
 
 -- The stream ends too early: nothing is refused, and the module has not ended.
 abbrev pub IsTruncated : Bool → List ℕ → Type 0
 IsTruncated reads_debug bytes = (length bytes ≤ file_limit) × (pending : List ℕ) × IsWaiting reads_debug bytes pending
 
--- how many bytes stand behind the whole records and the bytes of parts that are not read
+-- how many bytes stand after the whole records and the bytes of parts that are not read
 abbrev pub IsPending : Bool → List ℕ → ℕ → Type 0
 IsPending reads_debug bytes n = ((pending : List ℕ) × IsWaiting reads_debug bytes pending × (length pending ≡ n))
     ⊎ (EndsAt reads_debug bytes (length bytes) × (n ≡ 0))
@@ -69,9 +69,9 @@ pub data Judgment : Type 0 where
 
 -- The stream is the file of a module, and has no debug part that this release leaves for later.
 abbrev pub IsModule : Bool → List ℕ → Parts → Type 0
-IsModule reads_debug bytes m = SpellsModule m bytes reads_debug × ((place : ℕ) → ¬ IsRefusedAt reads_debug bytes place why.NotBuilt)
+IsModule reads_debug bytes m = SpellsModule m bytes reads_debug × ((offset : ℕ) → ¬ IsRefusedAt reads_debug bytes offset why.NotBuilt)
 
 abbrev pub IsJudged : Bool → List ℕ → Judgment → Type 0
 IsJudged reads_debug bytes (module_of m) = IsModule reads_debug bytes m
-IsJudged reads_debug bytes (refusal place reason) = IsRefusedAt reads_debug bytes place reason
-    ⊎ ((reason ≡ why.Truncated) × (place ≡ length bytes) × IsTruncated reads_debug bytes)
+IsJudged reads_debug bytes (refusal offset reason) = IsRefusedAt reads_debug bytes offset reason
+    ⊎ ((reason ≡ why.Truncated) × (offset ≡ length bytes) × IsTruncated reads_debug bytes)

@@ -1,4 +1,4 @@
--- What the code keeps of the records of a front: which indexes they declare, and which they give a value.
+-- What the code keeps of the records of a prefix: which indexes they declare, and which they give a value.
 use Rattle.std.specs.Prelude.{ℕ, zero, suc, ◌<◌, ◌-◌, ◌^◌, ◌==◌, ◌||◌, ◌&&◌, Bool, true, false, not, List, [], ◌∷◌, ◌++◌, length, filter_map, Option, Some, None, is_none, option_to_list, if◌then◌else◌}
 use Rattle.std.specs.List.{list_any, list_all}
 use Rattle.mufom_numbers.specs.declared.reason.Reason.{Reason}
@@ -11,60 +11,60 @@ use Rattle.mufom_records.specs.declared.record.Record.TheVariants as r
 use Rattle.mufom_module.specs.Contents.{any_of}
 use Rattle.mufom_module.specs.Defects.{has_other_counter}
 use Rattle.mufom_module.specs.RecordParts.{is_loading}
-use Rattle.mufom_module.specs.Pieces.{Piece, Kind, FileIndex, section, public, reference, debug_name, declared, named_by, is_public_value, tree_of_piece, index_of_variable, Once, value_of_public, weakness, alignment, section_size, section_base, start_address, assigned_by, is_assigned}
+use Rattle.mufom_module.specs.SpelledRecords.{SpelledRecord, Kind, FileIndex, section, public, reference, debug_name, declared, named_by, is_public_value, tree_of_record, index_of_variable, Once, value_of_public, weakness, alignment, section_size, section_base, start_address, assigned_by, is_assigned}
 use Rattle.mufom_read.specs.declared.tables.Tables.{Tables}
 use Rattle.std.specs.Option.{option_or}
 use Rattle.mufom_records.specs.Parts.{HasParts}
 use Rattle.mufom_read.specs.declared.kept.KeptRecord.{KeptRecord}
 use Rattle.mufom_read.specs.declared.refusal.ReadRefusal.{ReadRefusal}
-use Rattle.mufom_read.specs.Fronts.{Placed}
+use Rattle.mufom_read.specs.Prefixes.{OffsetRecord}
 use Rattle.mufom_read.specs.Faults.{Fault, fault_if, current_section, has_bad_alignment, absolute_declared, public_declared}
 
--- ---- what records say once
+-- ---- what records state once
 
--- the index that has its alignment, size, base, value or weakness said
-abbrev pub alignment_said : Once → Option ℕ
-alignment_said (alignment i) = Some i
-alignment_said _ = None
+-- the index that has its alignment, size, base, value or weakness stated
+abbrev pub alignment_stated : Once → Option ℕ
+alignment_stated (alignment i) = Some i
+alignment_stated _ = None
 
-abbrev pub size_said : Once → Option ℕ
-size_said (section_size i) = Some i
-size_said _ = None
+abbrev pub size_stated : Once → Option ℕ
+size_stated (section_size i) = Some i
+size_stated _ = None
 
-abbrev pub base_said : Once → Option ℕ
-base_said (section_base i) = Some i
-base_said _ = None
+abbrev pub base_stated : Once → Option ℕ
+base_stated (section_base i) = Some i
+base_stated _ = None
 
-abbrev pub value_said : Once → Option ℕ
-value_said (value_of_public i) = Some i
-value_said _ = None
+abbrev pub value_stated : Once → Option ℕ
+value_stated (value_of_public i) = Some i
+value_stated _ = None
 
-abbrev pub weakness_said : Once → Option ℕ
-weakness_said (weakness i) = Some i
-weakness_said _ = None
+abbrev pub weakness_stated : Once → Option ℕ
+weakness_stated (weakness i) = Some i
+weakness_stated _ = None
 
--- what records say once, in order
-abbrev pub sayings : List Piece → List Once
-sayings pieces = filter_map (λ p. assigned_by p.row) pieces
+-- what records state once, in order
+abbrev pub statements : List SpelledRecord → List Once
+statements records = filter_map (λ p. assigned_by p.row) records
 
 -- ---- the tables
 
 -- the tables of records
-abbrev pub tables_of : List Piece → Tables
-tables_of pieces = record {
-  sections = declared section pieces;
-  publics = declared public pieces;
-  references = declared reference pieces;
-  alignments = filter_map alignment_said (sayings pieces);
-  sizes = filter_map size_said (sayings pieces);
-  bases = filter_map base_said (sayings pieces);
-  values = filter_map value_said (sayings pieces);
-  weaknesses = filter_map weakness_said (sayings pieces);
-  current = current_section pieces;
-  has_start = is_assigned pieces start_address;
+abbrev pub tables_of : List SpelledRecord → Tables
+tables_of records = record {
+  sections = declared section records;
+  publics = declared public records;
+  references = declared reference records;
+  alignments = filter_map alignment_stated (statements records);
+  sizes = filter_map size_stated (statements records);
+  bases = filter_map base_stated (statements records);
+  values = filter_map value_stated (statements records);
+  weaknesses = filter_map weakness_stated (statements records);
+  current = current_section records;
+  has_start = is_assigned records start_address;
 }
 
--- the tables with what one more record declares or says
+-- the tables with what one more record declares or states
 abbrev pub with_row : Tables → Record → Tables
 with_row t (r.SectionType i _ _ _ _ _ _) = record t { sections = t.sections ++ i ∷ [] }
 with_row t (r.PublicName i _) = record t { publics = t.publics ++ i ∷ [] }
@@ -88,18 +88,18 @@ declares_again_in t (r.PublicName i _) = has t.publics i
 declares_again_in t (r.ReferenceName i _) = has t.references i
 declares_again_in t _ = false
 
--- the record says for an index what the tables have it say
-abbrev pub says_again_in : Tables → Record → Bool
-says_again_in t (r.PublicValue i _) = has t.values i
-says_again_in t (r.WeakReference i _ _) = has t.weaknesses i
-says_again_in t (r.Alignment i _ _) = has t.alignments i
-says_again_in t (r.SectionSize i _) = has t.sizes i
-says_again_in t (r.SectionBase i _) = has t.bases i
-says_again_in t (r.Start _) = t.has_start
-says_again_in t _ = false
+-- the record states for an index what the tables have it state
+abbrev pub states_again_in : Tables → Record → Bool
+states_again_in t (r.PublicValue i _) = has t.values i
+states_again_in t (r.WeakReference i _ _) = has t.weaknesses i
+states_again_in t (r.Alignment i _ _) = has t.alignments i
+states_again_in t (r.SectionSize i _) = has t.sizes i
+states_again_in t (r.SectionBase i _) = has t.bases i
+states_again_in t (r.Start _) = t.has_start
+states_again_in t _ = false
 
 abbrev pub is_new : Tables → Record → Bool
-is_new t row = not (declares_again_in t row) && not (says_again_in t row)
+is_new t row = not (declares_again_in t row) && not (states_again_in t row)
 
 -- ---- the rules, read off the tables
 
@@ -140,7 +140,7 @@ misplaces_counter_in t row tree = any_of (has_other_counter (counter_allowed_in 
 abbrev pub rule_broken_in : Tables → Record → Option Tree → Option Reason
 rule_broken_in t row tree = if declares_again_in t row then Some why.DuplicateIndex
     else (if names_unknown_in t row tree then Some why.UnknownIndex
-    else (if says_again_in t row then Some why.DuplicateValue
+    else (if states_again_in t row then Some why.DuplicateValue
     else (if has_bad_alignment row then Some why.BadAlignment
     else (if has_no_section_in t row then Some why.NoSection
     else (if misplaces_counter_in t row tree then Some why.BadP else None)))))
@@ -154,30 +154,30 @@ abbrev pub lacks_value_in : Tables → Record → Bool
 lacks_value_in t row = any_of (λ i. not (has t.values i)) (public_declared row)
 
 -- a public's value with a variable that names no entry
-abbrev pub has_unknown_value_in : Tables → Piece → Bool
-has_unknown_value_in t p = is_public_value p.row && any_of (λ e. list_any (is_unknown t) (variables_of e)) (tree_of_piece p)
+abbrev pub has_unknown_value_in : Tables → SpelledRecord → Bool
+has_unknown_value_in t p = is_public_value p.row && any_of (λ e. list_any (is_unknown t) (variables_of e)) (tree_of_record p)
 
-abbrev pub section_fault_in : Tables → Placed → Option Fault
+abbrev pub section_fault_in : Tables → OffsetRecord → Option Fault
 section_fault_in t p = fault_if (lacks_base_in t p.1.row) p.0 why.MissingBase
 
-abbrev pub external_fault_in : Tables → Placed → Option Fault
+abbrev pub external_fault_in : Tables → OffsetRecord → Option Fault
 external_fault_in t p = option_or (fault_if (has_unknown_value_in t p.1) p.0 why.UnknownIndex) (fault_if (lacks_value_in t p.1.row) p.0 why.MissingValue)
 
 -- ---- records that are kept
 
 -- a record with its bytes
-abbrev pub piece_of_kept : KeptRecord → Piece
-piece_of_kept k = record { row = k.row; bytes = k.bytes }
+abbrev pub record_of_kept : KeptRecord → SpelledRecord
+record_of_kept k = record { row = k.row; bytes = k.bytes }
 
-abbrev pub as_piece : Record → List ℕ → Piece
-as_piece row bytes = record { row = row; bytes = bytes }
+abbrev pub as_record : Record → List ℕ → SpelledRecord
+as_record row bytes = record { row = row; bytes = bytes }
 
 abbrev pub kept_record : ℕ → Record → List ℕ → KeptRecord
 kept_record start row bytes = record { start = start; row = row; bytes = bytes }
 
 -- and its offset
-abbrev pub placed : KeptRecord → Placed
-placed k = (k.start, piece_of_kept k)
+abbrev pub placed : KeptRecord → OffsetRecord
+placed k = (k.start, record_of_kept k)
 
 -- the strings, the runs and the expressions of the record stand in its bytes
 abbrev pub HasOwnParts : KeptRecord → Type 0

@@ -1,11 +1,11 @@
-pub mod Fronts
+pub mod Prefixes
 pub mod Faults
 pub mod Judging
-pub mod Said
+pub mod Stated
 pub mod Laws
 pub mod PartsOfCode
 pub mod Kept
-pub mod FrontOfCode
+pub mod PrefixOfCode
 pub mod Reader
 pub mod Built
 pub mod Source

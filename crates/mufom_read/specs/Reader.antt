@@ -1,62 +1,62 @@
--- What a reader has read: the streams of which its state tells the longest sound front, or the refusal.
+-- What a reader has read: the streams of which its state shows the longest sound prefix, or the refusal.
 use Rattle.std.specs.Prelude.{◌≡◌, ◌≢◌, ◌⊎◌, ℕ, ◌≤◌, Bool, true, false, List, [], ◌++◌, length, drop, Option, Some, None, Result, Ok, Err}
 use Rattle.mufom_numbers.specs.declared.taken.Taken.TheVariants.{More}
 use Rattle.mufom_numbers.specs.declared.reason.Reason.TheVariants as why
 use Rattle.mufom_numbers.specs.Spelling.{AreBytes}
 use Rattle.mufom_module.specs.Grammar.{file_limit}
-use Rattle.mufom_read.specs.declared.front.Front.{Front}
+use Rattle.mufom_read.specs.declared.prefix.Prefix.{Prefix}
 use Rattle.mufom_read.specs.declared.state.State.{State}
 use Rattle.mufom_read.specs.declared.refusal.ReadRefusal.{ReadRefusal}
 use Rattle.mufom_read.specs.declared.refusal.ReadStop.{ReadStop}
 use Rattle.mufom_read.specs.declared.refusal.ReadStop.TheVariants as stop
-use Rattle.mufom_read.specs.Fronts.{Step, size_of, next_step, is_ended}
+use Rattle.mufom_read.specs.Prefixes.{Step, size_of, next_step, is_ended}
 use Rattle.mufom_read.specs.Faults.{fault_after}
-use Rattle.mufom_read.specs.Judging.{IsSoundFrom, IsSoundFront, IsRefusedAt}
+use Rattle.mufom_read.specs.Judging.{IsSoundFrom, IsSoundPrefix, IsRefusedAt}
 use Rattle.mufom_read.specs.Kept.{as_fault}
-use Rattle.mufom_read.specs.FrontOfCode.{IsFrontOf}
+use Rattle.mufom_read.specs.PrefixOfCode.{IsPrefixOf}
 
--- more bytes are wanted behind a front, where these stand
-pub record IsWanting (reads_debug : Bool) (front : List Step) (rest : List ℕ) : Type 0 where
-  pub unended : is_ended front ≡ false
-  pub faultless : fault_after reads_debug front rest ≡ None
-  pub wanting : next_step reads_debug front rest ≡ More
+-- more bytes are wanted after a prefix, where these stand
+pub record IsIncomplete (reads_debug : Bool) (prefix : List Step) (rest : List ℕ) : Type 0 where
+  pub unended : is_ended prefix ≡ false
+  pub faultless : fault_after reads_debug prefix rest ≡ None
+  pub wanting : next_step reads_debug prefix rest ≡ More
 
--- What all that the bytes behind a front have was taken is: a front without a fault, behind which the module has ended or more
--- bytes are wanted; or a fault behind one.
-abbrev pub HasTakenAll : Bool → List Step → List ℕ → Front → Result ℕ ReadStop → Type 0
-HasTakenAll reads_debug before rest new (Ok n) = (steps : List Step) × IsFrontOf reads_debug new (before ++ steps) × IsSoundFrom reads_debug before steps rest × (size_of steps ≡ n) × (n ≤ length rest)
-    × ((is_ended (before ++ steps) ≡ true) ⊎ IsWanting reads_debug (before ++ steps) (drop n rest))
+-- What all that the bytes after a prefix have was taken is: a prefix without a fault, after which the module has ended or more
+-- bytes are wanted; or a fault after one.
+abbrev pub HasTakenAll : Bool → List Step → List ℕ → Prefix → Result ℕ ReadStop → Type 0
+HasTakenAll reads_debug before rest new (Ok n) = (steps : List Step) × IsPrefixOf reads_debug new (before ++ steps) × IsSoundFrom reads_debug before steps rest × (size_of steps ≡ n) × (n ≤ length rest)
+    × ((is_ended (before ++ steps) ≡ true) ⊎ IsIncomplete reads_debug (before ++ steps) (drop n rest))
 HasTakenAll reads_debug before rest new (Err (stop.Refused f)) = (steps : List Step) × IsSoundFrom reads_debug before steps rest × (is_ended (before ++ steps) ≡ false)
     × (fault_after reads_debug (before ++ steps) (drop (size_of steps) rest) ≡ Some (as_fault f))
 HasTakenAll reads_debug before rest new (Err stop.NoMemory) = Unit {0}
 
--- What is said behind a piece whose steps were taken, where this is whether the module has ended, how many bytes the front
--- has, whether the stream has more than may be read, and what stands behind the front: nothing; or that a byte stands behind
+-- What is stated after a chunk whose steps were taken, where this is whether the module has ended, how many bytes the prefix
+-- has, whether the stream has more than may be read, and what stands after the prefix: nothing; or that a byte stands after
 -- the end; or that the stream is too long.
-abbrev pub HasEndedPiece : Bool → ℕ → Bool → List ℕ → State → Option ReadStop → Type 0
-HasEndedPiece ended size longer rest new None = (new.rest.items ≡ rest) × (longer ≡ false) × (ended ≡ true → rest ≡ [])
-HasEndedPiece ended size longer rest new (Some (stop.Refused f)) = ((ended ≡ true) × (as_fault f ≡ (size, why.AfterEnd)) × ((longer ≡ true) ⊎ (rest ≢ [])))
+abbrev pub HasEndedChunk : Bool → ℕ → Bool → List ℕ → State → Option ReadStop → Type 0
+HasEndedChunk ended size longer rest new None = (new.rest.items ≡ rest) × (longer ≡ false) × (ended ≡ true → rest ≡ [])
+HasEndedChunk ended size longer rest new (Some (stop.Refused f)) = ((ended ≡ true) × (as_fault f ≡ (size, why.AfterEnd)) × ((longer ≡ true) ⊎ (rest ≢ [])))
     ⊎ ((ended ≡ false) × (as_fault f ≡ (file_limit, why.FileLimit)) × (longer ≡ true))
-HasEndedPiece ended size longer rest new (Some stop.NoMemory) = Unit {0}
+HasEndedChunk ended size longer rest new (Some stop.NoMemory) = Unit {0}
 
--- What is known of all that the bytes behind a front have, where this is whether the stream has more than may be read: a fault
--- behind sound steps; or these steps, which the reader keeps, and what is said behind them; where memory ran out, nothing.
+-- What is known of all that the bytes after a prefix have, where this is whether the stream has more than may be read: a fault
+-- after sound steps; or these steps, which the reader keeps, and what is stated after them; where memory ran out, nothing.
 abbrev pub HasJudgedRest : Bool → List Step → List ℕ → Bool → State → Option ReadStop → Type 0
-HasJudgedRest reads_debug before rest longer new result = ((f : ReadRefusal) × (result ≡ Some (stop.Refused f)) × HasTakenAll reads_debug before rest new.front (Err (stop.Refused f)))
+HasJudgedRest reads_debug before rest longer new result = ((f : ReadRefusal) × (result ≡ Some (stop.Refused f)) × HasTakenAll reads_debug before rest new.prefix (Err (stop.Refused f)))
     ⊎ ((result ≡ Some stop.NoMemory)
-    ⊎ ((n : ℕ) × (steps : List Step) × IsFrontOf reads_debug new.front (before ++ steps) × IsSoundFrom reads_debug before steps rest × (size_of steps ≡ n) × (n ≤ length rest)
-    × ((is_ended (before ++ steps) ≡ true) ⊎ IsWanting reads_debug (before ++ steps) (drop n rest))
-    × HasEndedPiece (is_ended (before ++ steps)) new.front.size longer (drop n rest) new result))
+    ⊎ ((n : ℕ) × (steps : List Step) × IsPrefixOf reads_debug new.prefix (before ++ steps) × IsSoundFrom reads_debug before steps rest × (size_of steps ≡ n) × (n ≤ length rest)
+    × ((is_ended (before ++ steps) ≡ true) ⊎ IsIncomplete reads_debug (before ++ steps) (drop n rest))
+    × HasEndedChunk (is_ended (before ++ steps)) new.prefix.size longer (drop n rest) new result))
 
--- the reader keeps the longest sound front of the stream, and the bytes behind it
+-- the reader keeps the longest sound prefix of the stream, and the bytes after it
 pub record IsReading (reader : State) (stream : List ℕ) : Type 0 where
-  pub front : List Step
-  pub kept : IsFrontOf reader.reads_debug reader.front front
-  pub sound : IsSoundFront reader.reads_debug front stream
+  pub prefix : List Step
+  pub kept : IsPrefixOf reader.reads_debug reader.prefix prefix
+  pub sound : IsSoundPrefix reader.reads_debug prefix stream
   pub within : length stream ≤ file_limit
-  pub inside : size_of front ≤ length stream
-  pub rest : reader.rest.items ≡ drop (size_of front) stream
-  pub waits : ((is_ended front ≡ true) × (size_of front ≡ length stream)) ⊎ IsWanting reader.reads_debug front reader.rest.items
+  pub inside : size_of prefix ≤ length stream
+  pub rest : reader.rest.items ≡ drop (size_of prefix) stream
+  pub waits : ((is_ended prefix ≡ true) × (size_of prefix ≡ length stream)) ⊎ IsIncomplete reader.reads_debug prefix reader.rest.items
 
 -- what a reader with this stop knows of a stream; where memory ran out, nothing
 abbrev pub Knows : State → List ℕ → Option ReadStop → Type 0
@@ -69,8 +69,8 @@ abbrev pub HasRead : State → List ℕ → Type 0
 HasRead reader stream = AreBytes stream × Knows reader stream reader.stop
 
 -- why a reader reads no further, if it does not
-abbrev pub stop_of : State → Option ReadStop
-stop_of reader = reader.stop
+abbrev pub reader_stop : State → Option ReadStop
+reader_stop reader = reader.stop
 
 -- whether a reader reads the debug part
 abbrev pub reads_debug_of : State → Bool

@@ -1,4 +1,4 @@
--- What reading a module from a source answers, where what the source has left is told.
+-- What reading a module from a source answers, where what the source has left is known.
 use Rattle.std.specs.Prelude.{◌≡◌, ◌⊎◌, ℕ, ◌<◌, ◌≤◌, Bool, List, [], ◌++◌, length, take, Option, Some, Result, Ok, Err, IfSome}
 use Rattle.mufom_numbers.specs.declared.reason.Reason.{Reason}
 use Rattle.mufom_numbers.specs.Spelling.{AreBytes}
@@ -14,18 +14,18 @@ use Rattle.mufom_read.specs.Reader.{HasRead, reads_debug_of}
 
 -- no refusal stands in the stream
 abbrev pub IsUnrefused : Bool → List ℕ → Type 0
-IsUnrefused reads_debug bytes = (place : ℕ) (reason : Reason) → ¬ IsRefusedAt reads_debug bytes place reason
+IsUnrefused reads_debug bytes = (offset : ℕ) (reason : Reason) → ¬ IsRefusedAt reads_debug bytes offset reason
 
--- The first so many bytes are refused at this offset, or there are no more of them and the whole is.
+-- The first bytes, as many as are given, are refused at this offset, or there are no more of them and the whole is.
 abbrev pub IsRefusedWithin : Bool → ℕ → List ℕ → ℕ → Reason → Type 0
-IsRefusedWithin reads_debug limit bytes place reason = IsRefusedAt reads_debug (take limit bytes) place reason
-    ⊎ ((length bytes ≤ limit) × IsJudged reads_debug bytes (refusal place reason))
+IsRefusedWithin reads_debug limit bytes offset reason = IsRefusedAt reads_debug (take limit bytes) offset reason
+    ⊎ ((length bytes ≤ limit) × IsJudged reads_debug bytes (refusal offset reason))
 
--- There are more bytes than that, and the first so many are not refused.
+-- There are more bytes than that, and the first of them, as counted, are not refused.
 abbrev pub IsPastLimit : Bool → ℕ → List ℕ → Type 0
 IsPastLimit reads_debug limit bytes = (limit < length bytes) × IsUnrefused reads_debug (take limit bytes)
 
--- A module is that of all bytes that were left, with their number; each stop but want of memory and a failed read has its
+-- A module is that of all bytes that were left, with their number; each stop but out of memory and a failed read has its
 -- cause in them.
 abbrev pub ReadsModule : Bool → ℕ → Option (List ℕ) → Option (List ℕ) → Result (Parts × ℕ) SourceStop → Type 0
 ReadsModule reads_debug limit before after (Ok read) = IfSome before (λ left. IsModule reads_debug left read.0 × (read.1 ≡ length left) × (length left ≤ limit) × (after ≡ Some []))
@@ -41,25 +41,25 @@ stop_by read_stop.NoMemory = stop.NoMemory
 
 -- ---- the reader and what the source has left
 
--- A reader of this stream was fed a piece, of which it may read so many bytes: it has read the piece; or the stream is refused
--- with the bytes that it may read; or it is not, and the piece has more.
+-- A reader of this stream was fed a chunk, of which it may read the given number of bytes: it has read the record; or the stream is refused
+-- with the bytes that it may read; or it is not, and the record has more.
 abbrev pub HasFed : ℕ → List ℕ → List ℕ → State → Result (Unit {0}) SourceStop → Type 0
-HasFed room stream piece reader (Ok done) = (length piece ≤ room) × HasRead reader (stream ++ piece)
-HasFed room stream piece reader (Err (stop.Refused r)) = AreBytes (stream ++ take room piece) × IsRefusedAt (reads_debug_of reader) (stream ++ take room piece) r.place r.reason
-HasFed room stream piece reader (Err stop.Limit) = (room < length piece) × IsUnrefused (reads_debug_of reader) (stream ++ take room piece)
-HasFed room stream piece reader (Err stop.Fault) = ⊥
-HasFed room stream piece reader (Err stop.NoMemory) = Unit {0}
+HasFed room stream chunk reader (Ok done) = (length chunk ≤ room) × HasRead reader (stream ++ chunk)
+HasFed room stream chunk reader (Err (stop.Refused r)) = AreBytes (stream ++ take room chunk) × IsRefusedAt (reads_debug_of reader) (stream ++ take room chunk) r.place r.reason
+HasFed room stream chunk reader (Err stop.Limit) = (room < length chunk) × IsUnrefused (reads_debug_of reader) (stream ++ take room chunk)
+HasFed room stream chunk reader (Err stop.Fault) = ⊥
+HasFed room stream chunk reader (Err stop.NoMemory) = Unit {0}
 
--- A reader of this stream was fed what one read gave, of which it may read so many bytes: it has read them, and no byte where
+-- A reader of this stream was fed what one read gave, of which it may read the given number of bytes: it has read them, and no byte where
 -- none was left; or the stream is refused with the bytes that it may read; or it is not, and more are left.
-abbrev pub HasReadPiece : ℕ → Option (List ℕ) → Option (List ℕ) → List ℕ → State → Result ℕ SourceStop → Type 0
-HasReadPiece room before after stream reader (Ok n) = (piece : List ℕ) × (length piece ≡ n) × (n ≤ room) × ReadsOff before after piece × HasRead reader (stream ++ piece) × (n ≡ 0 → IfSome before (λ left. left ≡ []))
-HasReadPiece room before after stream reader (Err (stop.Refused r)) = IfSome before (λ left. IsRefusedAt (reads_debug_of reader) (stream ++ take room left) r.place r.reason)
-HasReadPiece room before after stream reader (Err stop.Limit) = IfSome before (λ left. (room < length left) × IsUnrefused (reads_debug_of reader) (stream ++ take room left))
-HasReadPiece room before after stream reader (Err stop.Fault) = Unit {0}
-HasReadPiece room before after stream reader (Err stop.NoMemory) = Unit {0}
+abbrev pub HasReadChunk : ℕ → Option (List ℕ) → Option (List ℕ) → List ℕ → State → Result ℕ SourceStop → Type 0
+HasReadChunk room before after stream reader (Ok n) = (chunk : List ℕ) × (length chunk ≡ n) × (n ≤ room) × ReadsOff before after chunk × HasRead reader (stream ++ chunk) × (n ≡ 0 → IfSome before (λ left. left ≡ []))
+HasReadChunk room before after stream reader (Err (stop.Refused r)) = IfSome before (λ left. IsRefusedAt (reads_debug_of reader) (stream ++ take room left) r.place r.reason)
+HasReadChunk room before after stream reader (Err stop.Limit) = IfSome before (λ left. (room < length left) × IsUnrefused (reads_debug_of reader) (stream ++ take room left))
+HasReadChunk room before after stream reader (Err stop.Fault) = Unit {0}
+HasReadChunk room before after stream reader (Err stop.NoMemory) = Unit {0}
 
--- The reader has read all that was left, at most so many bytes; or the stop has its cause in what was left.
+-- The reader has read all that was left, at most the given number of bytes; or the stop has its cause in what was left.
 abbrev pub HasReadAll : ℕ → Option (List ℕ) → Option (List ℕ) → State → Result ℕ SourceStop → Type 0
 HasReadAll limit before after reader (Ok n) = (bytes : List ℕ) × (length bytes ≡ n) × (n ≤ limit) × HasRead reader bytes × IfSome before (λ left. (left ≡ bytes) × (after ≡ Some []))
 HasReadAll limit before after reader (Err s) = ReadsModule (reads_debug_of reader) limit before after (Err s)

@@ -1,21 +1,21 @@
-//! The module that the records and the unread bytes of a whole front say.
+//! The module that the records and the unread bytes of a whole prefix state.
 
 ghost use Rattle.std.specs.Prelude.{◌≡◌, ◌<◌, ℕ, Bool, List, ◌∷◌, All, map, slice_get, IfOk};
 ghost use Rattle.mufom_module.specs.declared.module.Order as module_order;
 ghost use Rattle.mufom_module.specs.declared.module.Parts as module_parts;
-ghost use Rattle.mufom_module.specs.Pieces as pieces;
+ghost use Rattle.mufom_module.specs.SpelledRecords as spelled_records;
 ghost use Rattle.mufom_module.specs.Gathered as gathered;
 ghost use Rattle.mufom_module.specs.Defects.{IsValid};
 ghost use Rattle.mufom_module.specs.Grammar.{NamesModule, Describes, IsLetterOf, SpellsModule};
-ghost use Rattle.mufom_read.specs.Fronts.{Step};
-ghost use Rattle.mufom_read.specs.Kept.{piece_of_kept, tables_of, HasOwnParts};
-ghost use Rattle.mufom_read.specs.Built.{indexes_by, IsSaidByKept, IsWhole};
+ghost use Rattle.mufom_read.specs.Prefixes.{Step};
+ghost use Rattle.mufom_read.specs.Kept.{record_of_kept, tables_of, HasOwnParts};
+ghost use Rattle.mufom_read.specs.Built.{indexes_by, IsStatedByKept, IsWhole};
 
-use crate::front::Front;
 use crate::kept::KeptRecord;
 use crate::loads::loads_of;
 use crate::names::{publics_of, references_of};
 use crate::positions::value_in;
+use crate::prefix::Prefix;
 use crate::sections::sections_of;
 use crate::tables::Tables;
 use mufom_expr::Postfix;
@@ -27,8 +27,8 @@ use std::alloc::Global;
 
 // The first record.
 fn begin_of(kept: &[KeptRecord]) -> &KeptRecord
-    requires { (begin descriptor : pieces.Piece) × (behind : List pieces.Piece) × (map piece_of_kept kept.now ≡ begin ∷ descriptor ∷ behind) }
-    ensures first { (begin descriptor : pieces.Piece) (behind : List pieces.Piece) → map piece_of_kept kept.now ≡ begin ∷ descriptor ∷ behind → piece_of_kept result.now ≡ begin }
+    requires { (begin descriptor : spelled_records.SpelledRecord) × (after : List spelled_records.SpelledRecord) × (map record_of_kept kept.now ≡ begin ∷ descriptor ∷ after) }
+    ensures first { (begin descriptor : spelled_records.SpelledRecord) (after : List spelled_records.SpelledRecord) → map record_of_kept kept.now ≡ begin ∷ descriptor ∷ after → record_of_kept result.now ≡ begin }
     ensures own { All HasOwnParts kept.now → HasOwnParts result.now }
 {
     match kept {
@@ -39,8 +39,8 @@ fn begin_of(kept: &[KeptRecord]) -> &KeptRecord
 
 // The second record.
 fn descriptor_of(kept: &[KeptRecord]) -> &KeptRecord
-    requires { (begin descriptor : pieces.Piece) × (behind : List pieces.Piece) × (map piece_of_kept kept.now ≡ begin ∷ descriptor ∷ behind) }
-    ensures { (begin descriptor : pieces.Piece) (behind : List pieces.Piece) → map piece_of_kept kept.now ≡ begin ∷ descriptor ∷ behind → piece_of_kept result.now ≡ descriptor }
+    requires { (begin descriptor : spelled_records.SpelledRecord) × (after : List spelled_records.SpelledRecord) × (map record_of_kept kept.now ≡ begin ∷ descriptor ∷ after) }
+    ensures { (begin descriptor : spelled_records.SpelledRecord) (after : List spelled_records.SpelledRecord) → map record_of_kept kept.now ≡ begin ∷ descriptor ∷ after → record_of_kept result.now ≡ descriptor }
 {
     match kept {
         [_, descriptor, ..] => descriptor,
@@ -51,8 +51,8 @@ fn descriptor_of(kept: &[KeptRecord]) -> &KeptRecord
 // The processor and the name of the module, which the record gives.
 fn names_of(alloc: Global, begin: &KeptRecord) -> Result<(Bytes, Bytes), NoMemory>
     requires own { HasOwnParts begin.now }
-    requires begins { (m : module_parts.Parts) × NamesModule m (piece_of_kept begin.now) begin.now.row }
-    ensures { IfOk result (λ names. (m : module_parts.Parts) → NamesModule m (piece_of_kept begin.now) begin.now.row → (names.0 ≡ m.processor) × (names.1 ≡ m.name)) }
+    requires begins { (m : module_parts.Parts) × NamesModule m (record_of_kept begin.now) begin.now.row }
+    ensures { IfOk result (λ names. (m : module_parts.Parts) → NamesModule m (record_of_kept begin.now) begin.now.row → (names.0 ≡ m.processor) × (names.1 ≡ m.name)) }
 {
     match &begin.row {
         Record::ModuleBegin(processor, name) => {
@@ -92,7 +92,7 @@ fn start_by(
     record: &KeptRecord,
 ) -> Result<Option<Postfix>, NoMemory>
     requires { HasOwnParts «record».now }
-    ensures { IfOk result (λ start. start ≡ gathered.start_by (indexes_by tables.now) (piece_of_kept «record».now) «record».now.row) }
+    ensures { IfOk result (λ start. start ≡ gathered.start_by (indexes_by tables.now) (record_of_kept «record».now) «record».now.row) }
 {
     match &record.row {
         Record::Start(span) => {
@@ -110,7 +110,7 @@ fn start_of(
     kept: &[KeptRecord],
 ) -> Result<Option<Postfix>, NoMemory>
     requires { All HasOwnParts kept.now }
-    ensures { IfOk result (λ start. start ≡ slice_get (gathered.starts_of (indexes_by tables.now) (map piece_of_kept kept.now)) 0) }
+    ensures { IfOk result (λ start. start ≡ slice_get (gathered.starts_of (indexes_by tables.now) (map record_of_kept kept.now)) 0) }
 {
     for record in kept {
         let start = start_by(alloc, tables, record)?;
@@ -124,9 +124,9 @@ fn start_of(
 // The publics and the references.
 fn name_table(alloc: Global, tables: &Tables, kept: &[KeptRecord]) -> Result<NameTable, NoMemory>
     requires own { All HasOwnParts kept.now }
-    requires tables { tables.now ≡ tables_of (map piece_of_kept kept.now) }
-    ensures publics { IfOk result (λ names. names.publics ≡ gathered.publics_of (indexes_by tables.now) (map piece_of_kept kept.now)) }
-    ensures references { IfOk result (λ names. names.references ≡ gathered.references_of (map piece_of_kept kept.now)) }
+    requires tables { tables.now ≡ tables_of (map record_of_kept kept.now) }
+    ensures publics { IfOk result (λ names. names.publics ≡ gathered.publics_of (indexes_by tables.now) (map record_of_kept kept.now)) }
+    ensures references { IfOk result (λ names. names.references ≡ gathered.references_of (map record_of_kept kept.now)) }
 {
     let publics = publics_of(alloc, tables, kept)?;
     let references = references_of(alloc, tables, kept)?;
@@ -136,20 +136,20 @@ fn name_table(alloc: Global, tables: &Tables, kept: &[KeptRecord]) -> Result<Nam
     })
 }
 
-// The parts of the module that the front says.
-fn parts_of(alloc: Global, front: Front) -> Result<Parts, NoMemory>
-    requires own { All HasOwnParts front.kept }
-    requires tables { front.tables ≡ tables_of (map piece_of_kept front.kept) }
-    requires said { (m : module_parts.Parts) × IsSaidByKept front m }
-    ensures { IfOk result (λ parts. (m : module_parts.Parts) → IsSaidByKept front m → parts ≡ m) }
+// The parts of the module that the prefix states.
+fn parts_of(alloc: Global, prefix: Prefix) -> Result<Parts, NoMemory>
+    requires own { All HasOwnParts prefix.kept }
+    requires tables { prefix.tables ≡ tables_of (map record_of_kept prefix.kept) }
+    requires stated { (m : module_parts.Parts) × IsStatedByKept prefix m }
+    ensures { IfOk result (λ parts. (m : module_parts.Parts) → IsStatedByKept prefix m → parts ≡ m) }
 {
-    let Front {
+    let Prefix {
         kept,
         tables,
         extension,
         environment,
         ..
-    } = front;
+    } = prefix;
     let records = kept.as_slice();
     let (processor, name) = names_of(alloc, begin_of(records))?;
     let (maus, order) = layout_of(&descriptor_of(records).row);
@@ -183,11 +183,11 @@ fn assembled(parts: Parts) -> Module
     }
 }
 
-/// The module that a front says, which is sound, has ended, and is the whole stream.
-pub(crate) fn module_of(alloc: Global, front: Front) -> Result<Module, NoMemory>
-    requires { (reads_debug : Bool) × (steps : List Step) × (bytes : List ℕ) × IsWhole reads_debug front steps bytes }
-    ensures { IfOk result (λ m. (reads_debug : Bool) (steps : List Step) (bytes : List ℕ) → IsWhole reads_debug front steps bytes → SpellsModule m bytes reads_debug) }
+/// The module that a prefix states, which is sound, has ended, and is the whole stream.
+pub(crate) fn module_of(alloc: Global, prefix: Prefix) -> Result<Module, NoMemory>
+    requires { (reads_debug : Bool) × (steps : List Step) × (bytes : List ℕ) × IsWhole reads_debug prefix steps bytes }
+    ensures { IfOk result (λ m. (reads_debug : Bool) (steps : List Step) (bytes : List ℕ) → IsWhole reads_debug prefix steps bytes → SpellsModule m bytes reads_debug) }
 {
-    let parts = parts_of(alloc, front)?;
+    let parts = parts_of(alloc, prefix)?;
     Ok(assembled(parts))
 }

@@ -40,14 +40,14 @@ fn first_or(first: u64, second: u64) -> u64
     }
 }
 
-// Whether the eight offsets are there, and the first that is not 0 is not that of the byte behind them.
+// Whether the eight offsets are there, and the first that is not 0 is not that of the byte after them.
 fn leaves_gap(earlier: &[u64], offset: u64, end: u64) -> bool
     ensures { result ≡ faults.leaves_gap (earlier.now ++ offset ∷ []) end }
 {
     earlier.len() == 7 && first_or(first_present(earlier), offset) != end
 }
 
-// The fault of an offset behind earlier ones, in the record between these two offsets of the file.
+// The fault of an offset after earlier ones, in the record between these two offsets of the file.
 fn offset_fault(
     reads_debug: bool,
     earlier: &[u64],

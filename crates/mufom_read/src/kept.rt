@@ -1,9 +1,9 @@
-//! The records of a front, with their bytes.
+//! The records of a prefix, with their bytes.
 
 ghost use Rattle.std.specs.Prelude.{◌≡◌, ◌+◌, ◌≤◌, length, slice_range, IfOk, IfSome};
 ghost use Rattle.mufom_records.specs.Parts.{LiesIn, IsExpressionIn, HasParts};
-ghost use Rattle.mufom_module.specs.Pieces as pieces;
-ghost use Rattle.mufom_read.specs.Kept.{piece_of_kept};
+ghost use Rattle.mufom_module.specs.SpelledRecords as records;
+ghost use Rattle.mufom_read.specs.Kept.{record_of_kept};
 
 use mufom_expr::Postfix;
 use mufom_numbers::{Bytes, NoMemory, Span};
@@ -20,7 +20,7 @@ pub(crate) struct KeptRecord {
 
 // The offset of a block, of the kinds that have one.
 fn offset_of(block: &BlockTail) -> Option<Span>
-    ensures { result ≡ pieces.offset_of_block block.now }
+    ensures { result ≡ records.offset_of_block block.now }
 {
     match block {
         BlockTail::Module => None,
@@ -32,7 +32,7 @@ fn offset_of(block: &BlockTail) -> Option<Span>
 
 // Where the expression of a record stands in its bytes.
 fn expression_of(record: &Record) -> Option<Span>
-    ensures { result ≡ pieces.expression_of «record».now }
+    ensures { result ≡ records.expression_of «record».now }
 {
     match record {
         Record::PublicValue(_, value) => Some(*value),
@@ -58,7 +58,7 @@ impl KeptRecord {
     /// The bytes of a part of the record.
     pub(crate) fn text(&self, span: Span) -> &[u8]
         requires { LiesIn self.now.bytes span }
-        ensures { result.now ≡ pieces.text_in (piece_of_kept self.now) span }
+        ensures { result.now ≡ records.text_in (record_of_kept self.now) span }
     {
         part_of(self.bytes.as_slice(), span)
     }
@@ -66,7 +66,7 @@ impl KeptRecord {
     /// A copy of them.
     pub(crate) fn copy_text(&self, alloc: Global, span: Span) -> Result<Bytes, NoMemory>
         requires { LiesIn self.now.bytes span }
-        ensures { IfOk result (λ bytes. bytes ≡ pieces.text_in (piece_of_kept self.now) span) }
+        ensures { IfOk result (λ bytes. bytes ≡ records.text_in (record_of_kept self.now) span) }
     {
         Bytes::from_slice(alloc, self.text(span))
     }
@@ -74,7 +74,7 @@ impl KeptRecord {
     /// The expression at a part of the record, over the indexes of the file.
     pub(crate) fn tree(&self, alloc: Global, span: Span) -> Result<Postfix, NoMemory>
         requires { IsExpressionIn self.now.bytes span }
-        ensures { IfOk result (λ tree. tree ≡ pieces.tree_in (piece_of_kept self.now) span) }
+        ensures { IfOk result (λ tree. tree ≡ records.tree_in (record_of_kept self.now) span) }
     {
         postfix_of(alloc, self.text(span))
     }
@@ -82,7 +82,7 @@ impl KeptRecord {
     /// The record's expression; none has more than one.
     pub(crate) fn expression(&self, alloc: Global) -> Result<Option<Postfix>, NoMemory>
         requires { HasParts self.now.bytes self.now.row }
-        ensures { IfOk result (λ tree. tree ≡ pieces.tree_of_piece (piece_of_kept self.now)) }
+        ensures { IfOk result (λ tree. tree ≡ records.tree_of_record (record_of_kept self.now)) }
     {
         match expression_of(&self.row) {
             None => Ok(None),

@@ -1,15 +1,14 @@
-//! What the bytes of a file are: a module, a refusal at an offset, or the front of a module's file; and
+//! What the bytes of a file are: a module, a refusal at an offset, or the prefix of a module's file; and
 //! the reader that answers so.
 //!
-//! A stream is judged record by record, by what stands before each. A [`Reader`] takes it in pieces: it
-//! keeps the records without a fault with which the stream begins, what they declare and say once, and
-//! the bytes behind them. The crate stands on `mufom_module` for the file of a module and on
+//! A stream is judged record by record, by what stands before each. A [`Reader`] takes it in chunks: it
+//! keeps the records without a fault with which the stream begins, what they declare and state once, and
+//! the bytes after them. The crate stands on `mufom_module` for the file of a module and on
 //! `mufom_records`. Its main clause is that of [`Reader::feed`]: a refusal is answered exactly where the
 //! stream so far is refused, however it was cut; its main law is [`has_one_judgment`].
 #![tactic(auto)]
 
 mod build;
-mod front;
 mod header;
 mod kept;
 mod laws;
@@ -18,6 +17,7 @@ mod names;
 mod notes;
 mod part;
 mod positions;
+mod prefix;
 mod reader;
 mod refusal;
 mod rules;
@@ -31,8 +31,8 @@ mod weight_laws;
 mod whole;
 
 pub use laws::{
-    ended_front_is_module, fronts_are_one, fronts_of_modules_are_cut_off, fronts_stay,
-    has_judgment, has_one_judgment, judgments_exclude_each_other, module_is_ended_front,
+    ended_prefix_is_module, has_judgment, has_one_judgment, judgments_exclude_each_other,
+    module_is_ended_prefix, prefixes_are_one, prefixes_of_modules_are_cut_off, prefixes_stay,
     refusal_is_single, refusal_stays,
 };
 pub use reader::Reader;

@@ -1,9 +1,9 @@
-//! The loads of a module, from the records that say them.
+//! The loads of a module, from the records that state them.
 
 ghost use Rattle.std.specs.Prelude.{◌≡◌, ◌+◌, ◌<◌, [], ◌∷◌, ◌++◌, length, drop, IfOk, OnOk, List, All, map};
 ghost use Rattle.mufom_loads.specs.declared.load.Load.TheVariants.{One as one};
 ghost use Rattle.mufom_module.specs.Gathered as gathered;
-ghost use Rattle.mufom_read.specs.Kept.{piece_of_kept, HasOwnParts};
+ghost use Rattle.mufom_read.specs.Kept.{record_of_kept, HasOwnParts};
 ghost use Rattle.mufom_read.specs.Built.{indexes_by};
 
 use crate::kept::KeptRecord;
@@ -22,7 +22,7 @@ fn item_by(
     record: &KeptRecord,
 ) -> Result<Option<Item>, NoMemory>
     requires { HasOwnParts «record».now }
-    ensures { IfOk result (λ item. item ≡ gathered.item_by (indexes_by tables.now) maus (piece_of_kept «record».now) «record».now.row) }
+    ensures { IfOk result (λ item. item ≡ gathered.item_by (indexes_by tables.now) maus (record_of_kept «record».now) «record».now.row) }
 {
     match &record.row {
         Record::ConstantItem(run) => {
@@ -41,15 +41,15 @@ fn item_by(
     }
 }
 
-// The items at the front of the records, up to the first record that is none.
-fn items_at_front(
+// The items at the start of the records, up to the first record that is none.
+fn items_at_prefix(
     alloc: Global,
     tables: &Tables,
     maus: u8,
     kept: &[KeptRecord],
 ) -> Result<List<Item>, NoMemory>
     requires { All HasOwnParts kept.now }
-    ensures { IfOk result (λ items. items ≡ gathered.items_at_front (indexes_by tables.now) maus (map piece_of_kept kept.now)) }
+    ensures { IfOk result (λ items. items ≡ gathered.items_at_prefix (indexes_by tables.now) maus (map record_of_kept kept.now)) }
 {
     let mut items = List::new(alloc);
     for record in kept {
@@ -80,19 +80,19 @@ fn one_item(alloc: Global, item: Item) -> Result<List<Item>, NoMemory>
     Ok(items)
 }
 
-// Adds the loads that the record says, behind which these stand.
+// Adds the loads that the record states, after which these stand.
 fn add_loads(
     alloc: Global,
     tables: &Tables,
     maus: u8,
     loads: &mut List<Load>,
     record: &KeptRecord,
-    behind: &[KeptRecord],
+    after: &[KeptRecord],
 ) -> Result<(), NoMemory>
     requires own { HasOwnParts «record».now }
-    requires behind { All HasOwnParts behind.now }
-    ensures { OnOk result (loads.new ≡ loads.old ++ gathered.loads_by (indexes_by tables.now) (piece_of_kept «record».now)
-        (gathered.items_at_front (indexes_by tables.now) maus (map piece_of_kept behind.now)) «record».now.row) }
+    requires after { All HasOwnParts after.now }
+    ensures { OnOk result (loads.new ≡ loads.old ++ gathered.loads_by (indexes_by tables.now) (record_of_kept «record».now)
+        (gathered.items_at_prefix (indexes_by tables.now) maus (map record_of_kept after.now)) «record».now.row) }
 {
     match &record.row {
         Record::SetSection(index) => {
@@ -107,7 +107,7 @@ fn add_loads(
             let bytes = record.copy_text(alloc, *run)?;
             loads.push(Load::One(Item::Literal(bytes)))
         }
-        Record::Relocate => add_each(loads, items_at_front(alloc, tables, maus, behind)?),
+        Record::Relocate => add_each(loads, items_at_prefix(alloc, tables, maus, after)?),
         Record::RepeatConstant(count, run) => {
             let bytes = record.copy_text(alloc, *run)?;
             let items = one_item(alloc, Item::Literal(bytes))?;
@@ -117,7 +117,7 @@ fn add_loads(
             })
         }
         Record::RepeatRelocate(count) => {
-            let items = items_at_front(alloc, tables, maus, behind)?;
+            let items = items_at_prefix(alloc, tables, maus, after)?;
             loads.push(Load::Repeat {
                 count: *count,
                 items,
@@ -127,15 +127,15 @@ fn add_loads(
     }
 }
 
-// The records behind the one at a place.
-fn behind(kept: &[KeptRecord], place: usize) -> &[KeptRecord]
+// The records after the one at a place.
+fn after(kept: &[KeptRecord], place: usize) -> &[KeptRecord]
     requires { place < length kept.now }
     ensures { result.now ≡ drop (place + 1) kept.now }
 {
     &kept[place + 1..]
 }
 
-/// The loads that the records say, with so many addressable units in an address.
+/// The loads that the records state, with the given number of addressable units in an address.
 pub(crate) fn loads_of(
     alloc: Global,
     tables: &Tables,
@@ -143,11 +143,11 @@ pub(crate) fn loads_of(
     kept: &[KeptRecord],
 ) -> Result<List<Load>, NoMemory>
     requires { All HasOwnParts kept.now }
-    ensures { IfOk result (λ loads. loads ≡ gathered.loads_of (indexes_by tables.now) maus (map piece_of_kept kept.now)) }
+    ensures { IfOk result (λ loads. loads ≡ gathered.loads_of (indexes_by tables.now) maus (map record_of_kept kept.now)) }
 {
     let mut loads = List::new(alloc);
     for (place, record) in kept.iter().enumerate() {
-        add_loads(alloc, tables, maus, &mut loads, record, behind(kept, place))?;
+        add_loads(alloc, tables, maus, &mut loads, record, after(kept, place))?;
     }
     Ok(loads)
 }

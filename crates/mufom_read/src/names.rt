@@ -4,15 +4,15 @@ ghost use Rattle.std.specs.Prelude.{◌≡◌, ℕ, List, All, map, IfOk};
 ghost use Rattle.std.specs.List.{cons_option};
 ghost use Rattle.std.specs.Vec.Iter.{into_iter_items};
 ghost use Rattle.mufom_names.specs.declared.name.Note as name_note;
-ghost use Rattle.mufom_module.specs.Pieces as pieces;
+ghost use Rattle.mufom_module.specs.SpelledRecords as records;
 ghost use Rattle.mufom_module.specs.Gathered as gathered;
-ghost use Rattle.mufom_read.specs.Kept.{piece_of_kept, tables_of, HasOwnParts};
+ghost use Rattle.mufom_read.specs.Kept.{record_of_kept, tables_of, HasOwnParts};
 ghost use Rattle.mufom_read.specs.Built.{indexes_by, value_in, values_in, weak_in, notes_for};
 ghost use Rattle.mufom_read.specs.declared.notes.Named.TheVariants as named;
 
 use crate::kept::KeptRecord;
 use crate::notes::{Named, next_notes, notes_of};
-use crate::positions::{positioned, said_at};
+use crate::positions::{positioned, stated_at};
 use crate::sections::push_some;
 use crate::tables::Tables;
 use mufom_expr::Postfix;
@@ -27,7 +27,7 @@ use std::vec::IntoIter;
 // The value that the record gives, over the indexes of the file, if it gives one.
 fn value_by(alloc: Global, record: &KeptRecord) -> Result<Option<Postfix>, NoMemory>
     requires { HasOwnParts «record».now }
-    ensures { IfOk result (λ value. value ≡ value_in (piece_of_kept «record».now) «record».now.row) }
+    ensures { IfOk result (λ value. value ≡ value_in (record_of_kept «record».now) «record».now.row) }
 {
     match &record.row {
         Record::PublicValue(_, span) => {
@@ -41,7 +41,7 @@ fn value_by(alloc: Global, record: &KeptRecord) -> Result<Option<Postfix>, NoMem
 // The values that the records give, in order.
 fn values_of(alloc: Global, kept: &[KeptRecord]) -> Result<List<Postfix>, NoMemory>
     requires { All HasOwnParts kept.now }
-    ensures { IfOk result (λ values. values ≡ values_in (map piece_of_kept kept.now)) }
+    ensures { IfOk result (λ values. values ≡ values_in (map record_of_kept kept.now)) }
 {
     let mut values = List::new(alloc);
     for record in kept {
@@ -58,9 +58,9 @@ fn value_of(
     values: &List<Postfix>,
     index: u32,
 ) -> Result<Postfix, NoMemory>
-    ensures { IfOk result (λ value. (part : List pieces.Piece) → tables.now ≡ tables_of part → values.now ≡ values_in part → value ≡ gathered.value_of (indexes_by tables.now) index part) }
+    ensures { IfOk result (λ value. (part : List records.SpelledRecord) → tables.now ≡ tables_of part → values.now ≡ values_in part → value ≡ gathered.value_of (indexes_by tables.now) index part) }
 {
-    match said_at(&tables.values, values, index) {
+    match stated_at(&tables.values, values, index) {
         None => Postfix::constant(alloc, 0),
         Some(tree) => positioned(alloc, tables, tree),
     }
@@ -75,11 +75,11 @@ fn public_by(
     record: &KeptRecord,
 ) -> Result<Option<Public>, NoMemory>
     requires own { HasOwnParts «record».now }
-    requires groups { (notes : ℕ → List name_note.Note) × (more : List ℕ) × (into_iter_items groups.old ≡ map notes (cons_option (pieces.of_kind pieces.public (pieces.declared_by «record».now.row)) more)) }
-    ensures public { IfOk result (λ public. (part : List pieces.Piece) (more : List ℕ) → tables.now ≡ tables_of part → values.now ≡ values_in part
-        → into_iter_items groups.old ≡ map (λ i. notes_for named.Public i part) (cons_option (pieces.of_kind pieces.public (pieces.declared_by «record».now.row)) more)
-        → public ≡ gathered.public_by (indexes_by tables.now) part (piece_of_kept «record».now) «record».now.row) }
-    ensures groups { IfOk result (λ public. (notes : ℕ → List name_note.Note) (more : List ℕ) → into_iter_items groups.old ≡ map notes (cons_option (pieces.of_kind pieces.public (pieces.declared_by «record».now.row)) more)
+    requires groups { (notes : ℕ → List name_note.Note) × (more : List ℕ) × (into_iter_items groups.old ≡ map notes (cons_option (records.of_kind records.public (records.declared_by «record».now.row)) more)) }
+    ensures public { IfOk result (λ public. (part : List records.SpelledRecord) (more : List ℕ) → tables.now ≡ tables_of part → values.now ≡ values_in part
+        → into_iter_items groups.old ≡ map (λ i. notes_for named.Public i part) (cons_option (records.of_kind records.public (records.declared_by «record».now.row)) more)
+        → public ≡ gathered.public_by (indexes_by tables.now) part (record_of_kept «record».now) «record».now.row) }
+    ensures groups { IfOk result (λ public. (notes : ℕ → List name_note.Note) (more : List ℕ) → into_iter_items groups.old ≡ map notes (cons_option (records.of_kind records.public (records.declared_by «record».now.row)) more)
         → into_iter_items groups.new ≡ map notes more) }
 {
     match &record.row {
@@ -93,15 +93,15 @@ fn public_by(
     }
 }
 
-/// The publics that the records declare, with what they say of them.
+/// The publics that the records declare, with what they state of them.
 pub(crate) fn publics_of(
     alloc: Global,
     tables: &Tables,
     kept: &[KeptRecord],
 ) -> Result<List<Public>, NoMemory>
     requires own { All HasOwnParts kept.now }
-    requires tables { tables.now ≡ tables_of (map piece_of_kept kept.now) }
-    ensures { IfOk result (λ publics. publics ≡ gathered.publics_of (indexes_by tables.now) (map piece_of_kept kept.now)) }
+    requires tables { tables.now ≡ tables_of (map record_of_kept kept.now) }
+    ensures { IfOk result (λ publics. publics ≡ gathered.publics_of (indexes_by tables.now) (map record_of_kept kept.now)) }
 {
     let values = values_of(alloc, kept)?;
     let groups = notes_of(alloc, Named::Public, &tables.publics, kept)?;
@@ -116,7 +116,7 @@ pub(crate) fn publics_of(
 
 // ---- references
 
-// What the record says that makes a reference weak, if it says so.
+// What the record states that makes a reference weak, if it states so.
 fn weak_by(record: &Record) -> Option<Weak>
     ensures { result ≡ weak_in «record».now }
 {
@@ -129,9 +129,9 @@ fn weak_by(record: &Record) -> Option<Weak>
     }
 }
 
-// What the records say so, in order.
+// What the records state so, in order.
 fn weaknesses_of(alloc: Global, kept: &[KeptRecord]) -> Result<List<Weak>, NoMemory>
-    ensures { IfOk result (λ all. all ≡ gathered.answers weak_in (map piece_of_kept kept.now)) }
+    ensures { IfOk result (λ all. all ≡ gathered.answers weak_in (map record_of_kept kept.now)) }
 {
     let mut all = List::new(alloc);
     for record in kept {
@@ -149,33 +149,33 @@ fn reference_by(
     record: &KeptRecord,
 ) -> Result<Option<Reference>, NoMemory>
     requires own { HasOwnParts «record».now }
-    requires groups { (notes : ℕ → List name_note.Note) × (more : List ℕ) × (into_iter_items groups.old ≡ map notes (cons_option (pieces.of_kind pieces.reference (pieces.declared_by «record».now.row)) more)) }
-    ensures reference { IfOk result (λ reference. (part : List pieces.Piece) (more : List ℕ) → tables.now ≡ tables_of part → weaknesses.now ≡ gathered.answers weak_in part
-        → into_iter_items groups.old ≡ map (λ i. notes_for named.Reference i part) (cons_option (pieces.of_kind pieces.reference (pieces.declared_by «record».now.row)) more)
-        → reference ≡ gathered.reference_by part (piece_of_kept «record».now) «record».now.row) }
-    ensures groups { IfOk result (λ reference. (notes : ℕ → List name_note.Note) (more : List ℕ) → into_iter_items groups.old ≡ map notes (cons_option (pieces.of_kind pieces.reference (pieces.declared_by «record».now.row)) more)
+    requires groups { (notes : ℕ → List name_note.Note) × (more : List ℕ) × (into_iter_items groups.old ≡ map notes (cons_option (records.of_kind records.reference (records.declared_by «record».now.row)) more)) }
+    ensures reference { IfOk result (λ reference. (part : List records.SpelledRecord) (more : List ℕ) → tables.now ≡ tables_of part → weaknesses.now ≡ gathered.answers weak_in part
+        → into_iter_items groups.old ≡ map (λ i. notes_for named.Reference i part) (cons_option (records.of_kind records.reference (records.declared_by «record».now.row)) more)
+        → reference ≡ gathered.reference_by part (record_of_kept «record».now) «record».now.row) }
+    ensures groups { IfOk result (λ reference. (notes : ℕ → List name_note.Note) (more : List ℕ) → into_iter_items groups.old ≡ map notes (cons_option (records.of_kind records.reference (records.declared_by «record».now.row)) more)
         → into_iter_items groups.new ≡ map notes more) }
 {
     match &record.row {
         Record::ReferenceName(index, name) => {
             let notes = next_notes(groups);
             let name = record.copy_text(alloc, *name)?;
-            let weak = said_at(&tables.weaknesses, weaknesses, *index).copied();
+            let weak = stated_at(&tables.weaknesses, weaknesses, *index).copied();
             Ok(Some(Reference { name, weak, notes }))
         }
         _ => Ok(None),
     }
 }
 
-/// The references that the records declare, with what they say of them.
+/// The references that the records declare, with what they state of them.
 pub(crate) fn references_of(
     alloc: Global,
     tables: &Tables,
     kept: &[KeptRecord],
 ) -> Result<List<Reference>, NoMemory>
     requires own { All HasOwnParts kept.now }
-    requires tables { tables.now ≡ tables_of (map piece_of_kept kept.now) }
-    ensures { IfOk result (λ references. references ≡ gathered.references_of (map piece_of_kept kept.now)) }
+    requires tables { tables.now ≡ tables_of (map record_of_kept kept.now) }
+    ensures { IfOk result (λ references. references ≡ gathered.references_of (map record_of_kept kept.now)) }
 {
     let weaknesses = weaknesses_of(alloc, kept)?;
     let groups = notes_of(alloc, Named::Reference, &tables.references, kept)?;

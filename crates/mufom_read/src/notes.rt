@@ -4,9 +4,9 @@ ghost use Rattle.std.specs.Prelude.{◌≡◌, [], ◌∷◌, ◌++◌, ◌<◌,
 ghost use Rattle.std.specs.List.{cons_option};
 ghost use Rattle.std.specs.Vec.Iter.{into_iter_items};
 ghost use Rattle.mufom_names.specs.declared.name.Note as name_note;
-ghost use Rattle.mufom_module.specs.Pieces as pieces;
+ghost use Rattle.mufom_module.specs.SpelledRecords as records;
 ghost use Rattle.mufom_module.specs.Gathered as gathered;
-ghost use Rattle.mufom_read.specs.Kept.{piece_of_kept};
+ghost use Rattle.mufom_read.specs.Kept.{record_of_kept};
 ghost use Rattle.mufom_read.specs.Built.{kind_of, none_for, note_in, note_for, notes_for, notes_with};
 
 use crate::kept::KeptRecord;
@@ -67,7 +67,7 @@ fn note_by(named: Named, record: &Record) -> Result<Option<(u32, Note)>, NoMemor
 
 // No notes yet, for each such name that the records declare.
 fn no_notes(alloc: Global, named: Named, kept: &[KeptRecord]) -> Result<Vec<List<Note>>, NoMemory>
-    ensures { IfOk result (λ groups. groups.items ≡ filter_map (λ p. none_for named p.row) (map piece_of_kept kept.now)) }
+    ensures { IfOk result (λ groups. groups.items ≡ filter_map (λ p. none_for named p.row) (map record_of_kept kept.now)) }
 {
     let mut groups = List::new(alloc);
     for record in kept {
@@ -115,8 +115,8 @@ pub(crate) fn notes_of(
     table: &IndexTable,
     kept: &[KeptRecord],
 ) -> Result<Vec<List<Note>>, NoMemory>
-    requires { table.now ≡ pieces.declared (kind_of named) (map piece_of_kept kept.now) }
-    ensures { IfOk result (λ groups. groups.items ≡ map (λ i. notes_for named i (map piece_of_kept kept.now)) table.now) }
+    requires { table.now ≡ records.declared (kind_of named) (map record_of_kept kept.now) }
+    ensures { IfOk result (λ groups. groups.items ≡ map (λ i. notes_for named i (map record_of_kept kept.now)) table.now) }
 {
     let mut groups = no_notes(alloc, named, kept)?;
     for record in kept {

@@ -1,7 +1,7 @@
 //! The parts of a file, and the one in which a byte stands.
 
 ghost use Rattle.std.specs.Prelude.{◌≡◌, option_map};
-ghost use Rattle.mufom_read.specs.Fronts.{first_present, part_among, parts_in_order, is_raw};
+ghost use Rattle.mufom_read.specs.Prefixes.{first_present, part_among, parts_in_order, is_raw};
 ghost use Rattle.mufom_module.specs.RecordParts as parts;
 ghost use Rattle.mufom_read.specs.PartsOfCode.{as_part, as_parts, as_extent};
 
@@ -20,7 +20,7 @@ pub(crate) enum Part {
     End,
 }
 
-/// A part, the offset of its first byte, and that of the byte behind it.
+/// A part, the offset of its first byte, and that of the byte after it.
 #[derive(Clone, Copy, Debug, PartialEq, Eq)]
 pub(crate) struct Extent {
     pub part: Part,
@@ -44,7 +44,7 @@ pub(crate) fn first_present(offsets: &[u64]) -> u64
 {
     match offsets {
         [] => 0,
-        [0, behind @ ..] => first_present(behind),
+        [0, after @ ..] => first_present(after),
         [first, ..] => *first,
     }
 }

@@ -3,9 +3,9 @@
 ghost use Rattle.std.specs.Prelude.{◌≡◌, IfOk, option_map};
 ghost use Rattle.mufom_expr.specs.Spelled.{list_of};
 ghost use Rattle.mufom_records.specs.Parts.{IsExpressionIn};
-ghost use Rattle.mufom_module.specs.Pieces as pieces;
-ghost use Rattle.mufom_read.specs.Kept.{piece_of_kept};
-ghost use Rattle.mufom_read.specs.Built.{indexes_by, said_at};
+ghost use Rattle.mufom_module.specs.SpelledRecords as records;
+ghost use Rattle.mufom_read.specs.Kept.{record_of_kept};
+ghost use Rattle.mufom_read.specs.Built.{indexes_by, stated_at};
 
 use crate::kept::KeptRecord;
 use crate::tables::Tables;
@@ -16,18 +16,18 @@ use std::alloc::Global;
 
 /// The position of an index that the table has.
 pub(crate) fn position_in(table: &IndexTable, index: u32) -> u32
-    ensures { result ≡ pieces.position_in table.now index }
+    ensures { result ≡ records.position_in table.now index }
 {
     table.position(index).unwrap_or(0)
 }
 
-/// What is said for an index, of what is said for the indexes of the table, in their order.
-pub(crate) fn said_at<'a, T>(table: &IndexTable, said: &'a List<T>, index: u32) -> Option<&'a T>
-    ensures { option_map (λ item. item.now) result ≡ said_at table.now said.now index }
+/// What is stated for an index, of what is stated for the indexes of the table, in their order.
+pub(crate) fn stated_at<'a, T>(table: &IndexTable, stated: &'a List<T>, index: u32) -> Option<&'a T>
+    ensures { option_map (λ item. item.now) result ≡ stated_at table.now stated.now index }
 {
     match table.position(index) {
         None => None,
-        Some(place) => said.get(place as usize),
+        Some(place) => stated.get(place as usize),
     }
 }
 
@@ -52,7 +52,7 @@ pub(crate) struct Positions<'a> {
 }
 
 impl VarMap for Positions<'_> {
-    ghost meaning = { λ map letter index. pieces.positioned_variable (indexes_by map.tables.now) letter index };
+    ghost meaning = { λ map letter index. records.positioned_variable (indexes_by map.tables.now) letter index };
 
     fn map(&self, letter: Letter, index: u32) -> (Letter, u32) {
         (letter, position_in(entries(self.tables, letter), index))
@@ -65,7 +65,7 @@ pub(crate) fn positioned(
     tables: &Tables,
     tree: &Postfix,
 ) -> Result<Postfix, NoMemory>
-    ensures { IfOk result (λ p. p ≡ pieces.positioned (indexes_by tables.now) tree.now) }
+    ensures { IfOk result (λ p. p ≡ records.positioned (indexes_by tables.now) tree.now) }
 {
     tree.map_vars(alloc, &Positions { tables })
 }
@@ -78,7 +78,7 @@ pub(crate) fn value_in(
     span: Span,
 ) -> Result<Postfix, NoMemory>
     requires { IsExpressionIn «record».now.bytes span }
-    ensures { IfOk result (λ tree. tree ≡ pieces.positioned (indexes_by tables.now) (pieces.tree_in (piece_of_kept «record».now) span)) }
+    ensures { IfOk result (λ tree. tree ≡ records.positioned (indexes_by tables.now) (records.tree_in (record_of_kept «record».now) span)) }
 {
     let tree = record.tree(alloc, span)?;
     positioned(alloc, tables, &tree)

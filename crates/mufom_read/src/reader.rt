@@ -1,14 +1,14 @@
-//! The reader of a stream that comes in pieces.
+//! The reader of a stream that comes in chunks.
 
 ghost use Rattle.std.specs.Prelude.{◌≡◌, ◌≢◌, ◌↔◌, ◌<◌, ◌≤◌, ◌*◌, ℕ, List, [], ◌++◌, length, Some, None, Ok, Err, IsSome, IfSome, IfOk};
 ghost use Rattle.mufom_numbers.specs.declared.reason.Reason.{Reason};
 ghost use Rattle.mufom_module.specs.declared.module.Parts.{Parts};
 ghost use Rattle.mufom_module.specs.Written.{weight};
 ghost use Rattle.mufom_read.specs.Judging.{IsRefusedAt, IsPending, IsModule, IsJudged, refusal};
-ghost use Rattle.mufom_read.specs.Reader.{HasRead, stop_of, reads_debug_of, answer_of};
+ghost use Rattle.mufom_read.specs.Reader.{HasRead, reader_stop, reads_debug_of, answer_of};
 
 use crate::build::module_of;
-use crate::front::Front;
+use crate::prefix::Prefix;
 use crate::refusal::ReadStop;
 use crate::state::{State, refused};
 use mufom_module::Module;
@@ -16,7 +16,7 @@ use mufom_numbers::{NoMemory, Reason};
 use std::alloc::Global;
 use std::marker::Model;
 
-/// A reader of the bytes of a module, which come in pieces. How they are cut makes no difference.
+/// A reader of the bytes of a module, which come in chunks. How they are cut makes no difference.
 /// Contracts see it as what it keeps of the stream.
 #[derive(Debug, Drop)]
 pub struct Reader {
@@ -41,39 +41,39 @@ impl Reader {
     pub fn new(alloc: Global, reads_debug: bool) -> Result<Reader, NoMemory>
         ensures read { IfOk result (λ reader. HasRead reader []) }
         ensures reads_debug { IfOk result (λ reader. reads_debug_of reader ≡ reads_debug) }
-        ensures stop { IfOk result (λ reader. stop_of reader ≡ None) }
+        ensures stop { IfOk result (λ reader. reader_stop reader ≡ None) }
     {
         Ok(Reader {
             state: State {
                 alloc,
                 reads_debug,
-                front: Front::new(alloc),
+                prefix: Prefix::new(alloc),
                 rest: Vec::new(alloc),
                 stop: None,
             },
         })
     }
 
-    /// Reads one more piece of the stream. `Refused` comes exactly where the stream so far is refused.
+    /// Reads one more record of the stream. `Refused` comes exactly where the stream so far is refused.
     /// After a stop each further call answers the same.
-    pub fn feed(&mut self, piece: &[u8]) -> Result<(), ReadStop>
+    pub fn feed(&mut self, chunk: &[u8]) -> Result<(), ReadStop>
         // The reader has read the stream so far.
-        ensures read { (stream : List ℕ) → HasRead self.old stream → HasRead self.new (stream ++ piece.now) }
-        ensures answer { result ≡ answer_of (stop_of self.new) }
-        ensures stays { IsSome (stop_of self.old) → self.new ≡ self.old }
+        ensures read { (stream : List ℕ) → HasRead self.old stream → HasRead self.new (stream ++ chunk.now) }
+        ensures answer { result ≡ answer_of (reader_stop self.new) }
+        ensures stays { IsSome (reader_stop self.old) → self.new ≡ self.old }
         ensures reads_debug { reads_debug_of self.new ≡ reads_debug_of self.old }
-        ensures refused { (place : ℕ) (reason : Reason) (stream : List ℕ) → HasRead self.old stream → stop_of self.new ≢ Some ReadStop.NoMemory
-            → (result ≡ Err (ReadStop.Refused (record { place = place; reason = reason }))) ↔ IsRefusedAt (reads_debug_of self.old) (stream ++ piece.now) place reason }
+        ensures refused { (place : ℕ) (reason : Reason) (stream : List ℕ) → HasRead self.old stream → reader_stop self.new ≢ Some ReadStop.NoMemory
+            → (result ≡ Err (ReadStop.Refused (record { place = place; reason = reason }))) ↔ IsRefusedAt (reads_debug_of self.old) (stream ++ chunk.now) place reason }
     {
         match self.state.stop {
-            None => self.state.read_on(piece),
+            None => self.state.read_on(chunk),
             Some(stop) => Err(stop),
         }
     }
 
     /// The module of the whole stream, or why there is none: `Truncated` where it ends too early.
     pub fn finish(self) -> Result<Module, ReadStop>
-        ensures stopped { IfSome (stop_of self) (λ stop. result ≡ Err stop) }
+        ensures stopped { IfSome (reader_stop self) (λ stop. result ≡ Err stop) }
         ensures ok { (stream : List ℕ) → HasRead self stream → IfOk result (λ m. IsModule (reads_debug_of self) stream m) }
         // It weighs at most ten times the stream.
         ensures weighs { (stream : List ℕ) → HasRead self stream → IfOk result (λ m. weight m ≤ 10 * length stream) }
@@ -86,21 +86,21 @@ impl Reader {
         if let Some(stop) = state.stop {
             return Err(stop);
         }
-        if !state.front.is_ended() {
+        if !state.prefix.is_ended() {
             return Err(refused(state.len(), Reason::Truncated));
         }
-        let State { alloc, front, .. } = state;
-        match module_of(alloc, front) {
+        let State { alloc, prefix, .. } = state;
+        match module_of(alloc, prefix) {
             Ok(module) => Ok(module),
             Err(NoMemory) => Err(ReadStop::NoMemory),
         }
     }
 
-    /// How many bytes stand behind the whole records and the bytes that are not read. Takes no memory.
+    /// How many bytes stand after the whole records and the bytes that are not read. Takes no memory.
     pub fn pending(&self) -> usize
-        ensures exact { (stream : List ℕ) → HasRead self.now stream → stop_of self.now ≡ None → IsPending (reads_debug_of self.now) stream result }
+        ensures exact { (stream : List ℕ) → HasRead self.now stream → reader_stop self.now ≡ None → IsPending (reads_debug_of self.now) stream result }
         // Fewer than the longest record has, which is MB with two strings of 65,535 bytes.
-        ensures small { stop_of self.now ≡ None → result < 131077 }
+        ensures small { reader_stop self.now ≡ None → result < 131077 }
     {
         self.state.rest.as_slice().len()
     }

@@ -1,4 +1,4 @@
-//! The rules for a whole record in its part, behind the records before it.
+//! The rules for a whole record in its part, after the records before it.
 
 ghost use Rattle.std.specs.Prelude.{◌≡◌, ◌∷◌, [], ◌&&◌, not, false, option_map, List};
 ghost use Rattle.std.specs.List.{list_any};
@@ -6,11 +6,11 @@ ghost use Rattle.mufom_expr.specs.Mentions.{variables_in};
 ghost use Rattle.mufom_expr.specs.Value.{variables_of};
 ghost use Rattle.mufom_module.specs.Contents.{any_of};
 ghost use Rattle.mufom_module.specs.Defects as defects;
-ghost use Rattle.mufom_module.specs.Pieces as pieces;
+ghost use Rattle.mufom_module.specs.SpelledRecords as records;
 ghost use Rattle.mufom_module.specs.RecordParts as parts;
-ghost use Rattle.mufom_read.specs.Fronts.{Step, pieces_of};
+ghost use Rattle.mufom_read.specs.Prefixes.{Step, records_of};
 ghost use Rattle.mufom_read.specs.Faults as faults;
-ghost use Rattle.mufom_read.specs.Kept.{tables_of, declares_again_in, says_again_in, entries_in, is_unknown, names_unknown_entry_in, names_unknown_in, has_no_section_in, counter_allowed_in, misplaces_counter_in, rule_broken_in};
+ghost use Rattle.mufom_read.specs.Kept.{tables_of, declares_again_in, states_again_in, entries_in, is_unknown, names_unknown_entry_in, names_unknown_in, has_no_section_in, counter_allowed_in, misplaces_counter_in, rule_broken_in};
 
 use crate::tables::{Tables, has};
 use mufom_expr::{Letter, Postfix, Token};
@@ -22,7 +22,7 @@ use mufom_sections::IndexTable;
 
 // The entries that a variable's letter names.
 fn entries(tables: &Tables, letter: Letter) -> &IndexTable
-    ensures { result.now ≡ entries_in tables.now (pieces.kind_of_letter letter) }
+    ensures { result.now ≡ entries_in tables.now (records.kind_of_letter letter) }
 {
     match letter {
         Letter::I => &tables.publics,
@@ -92,14 +92,14 @@ pub(crate) fn has_unknown_variable(tables: &Tables, tree: &Postfix) -> bool
 
 /// Whether the record is the value of a public, whose variables may be declared later.
 pub(crate) fn is_public_value(record: &Record) -> bool
-    ensures { result ≡ pieces.is_public_value «record».now }
+    ensures { result ≡ records.is_public_value «record».now }
 {
     matches!(record, Record::PublicValue(..))
 }
 
 // Whether the expression of the record has such a variable, and is not to wait.
 fn has_unknown_variable_now(tables: &Tables, record: &Record, tree: Option<&Postfix>) -> bool
-    ensures { result ≡ (not (pieces.is_public_value «record».now) && any_of (λ e. list_any (is_unknown tables.now) (variables_of e)) (option_map (λ t. t.now) tree.entry)) }
+    ensures { result ≡ (not (records.is_public_value «record».now) && any_of (λ e. list_any (is_unknown tables.now) (variables_of e)) (option_map (λ t. t.now) tree.entry)) }
 {
     match tree {
         None => false,
@@ -115,9 +115,9 @@ fn names_unknown(tables: &Tables, record: &Record, tree: Option<&Postfix>) -> bo
     names_unknown_entry(tables, record) || has_unknown_variable_now(tables, record, tree)
 }
 
-// Whether the record says for an index what was said.
-fn says_again(tables: &Tables, record: &Record) -> bool
-    ensures { result ≡ says_again_in tables.now «record».now }
+// Whether the record states for an index what was stated.
+fn states_again(tables: &Tables, record: &Record) -> bool
+    ensures { result ≡ states_again_in tables.now «record».now }
 {
     match record {
         Record::PublicValue(i, _) => has(&tables.values, *i),
@@ -216,7 +216,7 @@ fn first_broken(tables: &Tables, record: &Record, tree: Option<&Postfix>) -> Opt
         Some(Reason::DuplicateIndex)
     } else if names_unknown(tables, record, tree) {
         Some(Reason::UnknownIndex)
-    } else if says_again(tables, record) {
+    } else if states_again(tables, record) {
         Some(Reason::DuplicateValue)
     } else if has_bad_alignment(record) {
         Some(Reason::BadAlignment)
@@ -229,14 +229,14 @@ fn first_broken(tables: &Tables, record: &Record, tree: Option<&Postfix>) -> Opt
     }
 }
 
-/// The first rule that the record, with this expression, breaks behind those before it.
+/// The first rule that the record, with this expression, breaks after those before it.
 pub(crate) fn rule_broken(
     tables: &Tables,
     record: &Record,
     tree: Option<&Postfix>,
 ) -> Option<Reason>
     requires { parts.stands_in parts.debug_part «record».now ≡ false }
-    ensures { (front : List Step) (p : pieces.Piece) → tables.now ≡ tables_of (pieces_of front) → p.row ≡ «record».now → pieces.tree_of_piece p ≡ option_map (λ t. t.now) tree.entry → result ≡ faults.rule_broken front p }
+    ensures { (prefix : List Step) (p : records.SpelledRecord) → tables.now ≡ tables_of (records_of prefix) → p.row ≡ «record».now → records.tree_of_record p ≡ option_map (λ t. t.now) tree.entry → result ≡ faults.rule_broken prefix p }
 {
     first_broken(tables, record, tree)
 }

@@ -2,20 +2,20 @@
 
 ghost use Rattle.std.specs.Prelude.{◌≡◌, [], ◌++◌, IfOk, OnOk, List, All, map, option_map};
 ghost use Rattle.std.specs.List.{cons_option};
-ghost use Rattle.mufom_module.specs.Pieces as pieces;
+ghost use Rattle.mufom_module.specs.SpelledRecords as records;
 ghost use Rattle.mufom_module.specs.Gathered as gathered;
-ghost use Rattle.mufom_read.specs.Kept.{piece_of_kept, tables_of, HasOwnParts};
+ghost use Rattle.mufom_read.specs.Kept.{record_of_kept, tables_of, HasOwnParts};
 ghost use Rattle.mufom_read.specs.Built.{size_in, alignment_in, base_in, section_facts, with_facts};
 
 use crate::kept::KeptRecord;
-use crate::positions::said_at;
+use crate::positions::stated_at;
 use crate::tables::Tables;
 use mufom_numbers::{List, NoMemory};
 use mufom_records::Record;
 use mufom_sections::{Purpose, Section};
 use std::alloc::Global;
 
-/// The sizes, alignments and bases that records say, in order.
+/// The sizes, alignments and bases that records state, in order.
 #[derive(Debug, Drop)]
 pub(crate) struct SectionFacts {
     pub sizes: List<u64>,
@@ -34,7 +34,7 @@ pub(crate) fn push_some<T: Drop>(list: &mut List<T>, item: Option<T>) -> Result<
 }
 
 impl SectionFacts {
-    // Adds what a record says.
+    // Adds what a record states.
     fn add(&mut self, record: &Record) -> Result<(), NoMemory>
         ensures { OnOk result (self.new ≡ with_facts self.old «record».now) }
     {
@@ -47,9 +47,9 @@ impl SectionFacts {
     }
 }
 
-// What the records say.
+// What the records state.
 fn facts_of(alloc: Global, kept: &[KeptRecord]) -> Result<SectionFacts, NoMemory>
-    ensures { IfOk result (λ facts. facts ≡ section_facts (map piece_of_kept kept.now)) }
+    ensures { IfOk result (λ facts. facts ≡ section_facts (map record_of_kept kept.now)) }
 {
     let mut facts = SectionFacts {
         sizes: List::new(alloc),
@@ -90,14 +90,14 @@ fn section_by(
     record: &KeptRecord,
 ) -> Result<Option<Section>, NoMemory>
     requires { HasOwnParts «record».now }
-    ensures { IfOk result (λ section. (part : List pieces.Piece) → tables.now ≡ tables_of part → facts.now ≡ section_facts part
-        → section ≡ gathered.section_by part (piece_of_kept «record».now) «record».now.row) }
+    ensures { IfOk result (λ section. (part : List records.SpelledRecord) → tables.now ≡ tables_of part → facts.now ≡ section_facts part
+        → section ≡ gathered.section_by part (record_of_kept «record».now) «record».now.row) }
 {
     match &record.row {
         Record::SectionType(index, absolute, letter, name, ..) => {
-            let size = said_at(&tables.sizes, &facts.sizes, *index);
-            let align = said_at(&tables.alignments, &facts.alignments, *index);
-            let base = said_at(&tables.bases, &facts.bases, *index);
+            let size = stated_at(&tables.sizes, &facts.sizes, *index);
+            let align = stated_at(&tables.alignments, &facts.alignments, *index);
+            let base = stated_at(&tables.bases, &facts.bases, *index);
             Ok(Some(Section {
                 name: record.copy_text(alloc, *name)?,
                 absolute: *absolute,
@@ -111,15 +111,15 @@ fn section_by(
     }
 }
 
-/// The sections that the records declare, with what they say of them.
+/// The sections that the records declare, with what they state of them.
 pub(crate) fn sections_of(
     alloc: Global,
     tables: &Tables,
     kept: &[KeptRecord],
 ) -> Result<List<Section>, NoMemory>
     requires own { All HasOwnParts kept.now }
-    requires tables { tables.now ≡ tables_of (map piece_of_kept kept.now) }
-    ensures { IfOk result (λ sections. sections ≡ gathered.sections_of (map piece_of_kept kept.now)) }
+    requires tables { tables.now ≡ tables_of (map record_of_kept kept.now) }
+    ensures { IfOk result (λ sections. sections ≡ gathered.sections_of (map record_of_kept kept.now)) }
 {
     let facts = facts_of(alloc, kept)?;
     let mut sections = List::new(alloc);

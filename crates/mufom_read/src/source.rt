@@ -7,7 +7,7 @@ ghost use Rattle.mufom_module.specs.Grammar.{file_limit};
 ghost use Rattle.mufom_module.specs.Written.{weight};
 ghost use Rattle.mufom_read.specs.Judging.{IsModule};
 ghost use Rattle.mufom_read.specs.Reader.{HasRead, reads_debug_of};
-ghost use Rattle.mufom_read.specs.Source.{IsRefusedWithin, IsPastLimit, ReadsModule, HasFed, HasReadPiece, HasReadAll};
+ghost use Rattle.mufom_read.specs.Source.{IsRefusedWithin, IsPastLimit, ReadsModule, HasFed, HasReadChunk, HasReadAll};
 
 use crate::reader::Reader;
 use crate::refusal::{ReadRefusal, ReadStop};
@@ -42,7 +42,7 @@ impl From<ReadStop> for SourceStop {
     }
 }
 
-// Feeds the first bytes of the buffer, so many, of which no more may be read than this.
+// Feeds the first bytes of the buffer, the given number, of which no more may be read than this.
 fn feed_within(
     reader: &mut Reader,
     buffer: &[u8],
@@ -63,14 +63,14 @@ fn feed_within(
 }
 
 // Reads once, and answers how many bytes came.
-fn read_piece<S: Source>(
+fn read_chunk<S: Source>(
     source: &mut S,
     reader: &mut Reader,
     buffer: &mut [u8],
     room: u64,
 ) -> Result<usize, SourceStop>
     requires { 0 < length buffer.old }
-    ensures read { (stream : List ℕ) → HasRead reader.old stream → HasReadPiece room (S.meaning source.old).left (S.meaning source.new).left stream reader.new result }
+    ensures read { (stream : List ℕ) → HasRead reader.old stream → HasReadChunk room (S.meaning source.old).left (S.meaning source.new).left stream reader.new result }
     ensures reads_debug { reads_debug_of reader.new ≡ reads_debug_of reader.old }
     ensures fault { result ≡ Err SourceStop.Fault → Rose (S.faults source.old).reads (S.faults source.new).reads }
     ensures stays { KeepsAllButLeft (S.meaning source.old) (S.meaning source.new) }
@@ -104,7 +104,7 @@ fn read_all<S: Source>(
 {
     let mut length = 0;
     loop {
-        let count = read_piece(source, reader, buffer, limit - length)?;
+        let count = read_chunk(source, reader, buffer, limit - length)?;
         if count == 0 {
             return Ok(length);
         }
@@ -113,7 +113,7 @@ fn read_all<S: Source>(
 }
 
 /// The module of the bytes that the source has left, and how many they are: at most `limit`, which is
-/// at most 67,108,864. The source is read in pieces of up to 65,536 bytes, and no further once it is
+/// at most 67,108,864. The source is read in chunks of up to 65,536 bytes, and no further once it is
 /// refused or has given more than `limit`.
 pub fn read_module<S: Source>(
     alloc: Global,
@@ -122,11 +122,11 @@ pub fn read_module<S: Source>(
     reads_debug: bool,
 ) -> Result<(Module, u64), SourceStop>
     requires { limit ≤ file_limit }
-    // Each answer but a fault and want of memory has its cause in the bytes that were left.
+    // Each answer but a fault and out of memory has its cause in the bytes that were left.
     ensures reads { ReadsModule reads_debug limit (S.meaning source.old).left (S.meaning source.new).left result }
     // The module of all bytes that were left, and how many they are; none is left then.
     ensures ok { IfOk result (λ r. IfSome (S.meaning source.old).left (λ left. IsModule reads_debug left r.0 × (r.1 ≡ length left) × (r.1 ≤ limit) × ((S.meaning source.new).left ≡ Some []))) }
-    // Also where the source does not tell what it has left.
+    // Also where the source does not reveal what it has left.
     ensures weighs { IfOk result (λ r. (weight r.0 ≤ 10 * r.1) × (r.1 ≤ limit)) }
     ensures refused { (place : ℕ) (reason : Reason) → IfSome (S.meaning source.old).left (λ left. result ≢ Err SourceStop.NoMemory → result ≢ Err SourceStop.Fault
         → (result ≡ Err (SourceStop.Refused (record { place = place; reason = reason }))) ↔ IsRefusedWithin reads_debug limit left place reason) }

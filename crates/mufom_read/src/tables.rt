@@ -1,4 +1,4 @@
-//! What the records of a front declare and say once, by index.
+//! What the records of a prefix declare and state once, by index.
 
 ghost use Rattle.std.specs.Prelude.{◌≡◌, ◌++◌, ◌∷◌, [], ◌<◌, ◌^◌, ◌-◌, ◌==◌, false, true, length, OnOk};
 ghost use Rattle.std.specs.List.{list_any};
@@ -66,7 +66,7 @@ impl Tables {
         }
     }
 
-    /// Adds what one more record declares or says.
+    /// Adds what one more record declares or states.
     pub(crate) fn add(&mut self, record: &Record) -> Result<(), NoMemory>
         requires room { HasRoom self.old }
         requires new { is_new self.old «record».now ≡ true }

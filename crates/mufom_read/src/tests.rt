@@ -45,7 +45,7 @@ const LIBRARY: [u8; 111] = [
     0x78, 0x69, 0x74, 0xE2, 0xC9, 0x20, 0xD2, 0x01, 0xE5, 0x01, 0xED, 0x02, 0x4E, 0x75, 0xE1,
 ];
 
-// What the program says.
+// What the program states.
 const PROGRAM_TEXT: &str =
     "Parts { processor: List { items: [54, 56, 48, 48, 48] }, name: List { items: [112, \
     114, 111, 103] }, maus: 4, order: Most, ext: List { items: [240, 32, 0] }, env: List \
@@ -268,7 +268,7 @@ fn header(alloc: Global, offsets: [u16; 8]) -> Result<Vec<u8>, Fail> {
     Ok(all)
 }
 
-// The plain module with this header and part, and with no other part behind its section.
+// The plain module with this header and part, and with no other part after its section.
 fn with_part(alloc: Global, offsets: [u16; 8], part: &[u8]) -> Result<Vec<u8>, Fail> {
     let header = header(alloc, offsets)?;
     changed(alloc, &[&header, &PLAIN[77..100], part, &[0xE1]], &[])
@@ -277,18 +277,18 @@ fn with_part(alloc: Global, offsets: [u16; 8], part: &[u8]) -> Result<Vec<u8>, F
 fn stream(alloc: Global, row: Row) -> Result<Vec<u8>, Fail> {
     match row {
         Row::Byte(place, byte) => changed(alloc, &[&PLAIN], &[(place, byte)]),
-        Row::Data(part) => with_part(alloc, [0, 0, 77, 0, 0, 100, 0, end_behind(part)], part),
-        Row::Debug(part) => with_part(alloc, [0, 0, 77, 0, 100, 0, 0, end_behind(part)], part),
-        Row::External(part) => with_part(alloc, [0, 0, 77, 100, 0, 0, 0, end_behind(part)], part),
+        Row::Data(part) => with_part(alloc, [0, 0, 77, 0, 0, 100, 0, end_after(part)], part),
+        Row::Debug(part) => with_part(alloc, [0, 0, 77, 0, 100, 0, 0, end_after(part)], part),
+        Row::External(part) => with_part(alloc, [0, 0, 77, 100, 0, 0, 0, end_after(part)], part),
     }
 }
 
-// Where ME stands behind a part that begins at 100.
-fn end_behind(part: &[u8]) -> u16 {
+// Where ME stands after a part that begins at 100.
+fn end_after(part: &[u8]) -> u16 {
     u16::try_from(part.len().saturating_add(100)).unwrap_or(u16::MAX)
 }
 
-// The module of a stream that is fed in pieces of so many bytes, or why there is none.
+// The module of a stream that is fed in chunks of the given number of bytes, or why there is none.
 fn read(
     alloc: Global,
     stream: &[u8],
@@ -298,8 +298,8 @@ fn read(
     requires { 0 < size }
 {
     let mut reader = Reader::new(alloc, reads_debug)?;
-    for piece in stream.chunks(size) {
-        if let Err(stop) = reader.feed(piece) {
+    for chunk in stream.chunks(size) {
+        if let Err(stop) = reader.feed(chunk) {
             return Ok(Err(stop));
         }
     }
@@ -349,7 +349,7 @@ fn modules_are_read_whole_and_byte_by_byte(rt: HostRuntime) -> Result<(), Fail> 
 }
 
 #[test]
-fn a_front_of_a_module_is_truncated(rt: HostRuntime) -> Result<(), Fail> {
+fn a_prefix_of_a_module_is_truncated(rt: HostRuntime) -> Result<(), Fail> {
     let alloc = rt.alloc();
     for length in 0..PROGRAM.len() {
         let stop = stop(alloc, &PROGRAM[..length], 1000, true)?;
@@ -359,7 +359,7 @@ fn a_front_of_a_module_is_truncated(rt: HostRuntime) -> Result<(), Fail> {
 }
 
 #[test]
-fn a_byte_behind_the_end_is_refused(rt: HostRuntime) -> Result<(), Fail> {
+fn a_byte_after_the_end_is_refused(rt: HostRuntime) -> Result<(), Fail> {
     let alloc = rt.alloc();
     let stream = changed(alloc, &[&PLAIN, &[0]], &[])?;
     assert_eq!(rt;
@@ -433,7 +433,7 @@ fn long_expression(alloc: Global) -> Result<Vec<u8>, Fail> {
 fn a_256th_token_is_refused(rt: HostRuntime) -> Result<(), Fail> {
     let alloc = rt.alloc();
     let part = long_expression(alloc)?;
-    let offsets = [0, 0, 77, 0, 0, 100, 0, end_behind(&part)];
+    let offsets = [0, 0, 77, 0, 0, 100, 0, end_after(&part)];
     let mut stream = with_part(alloc, offsets, &part)?;
     assert_eq!(rt;
         stop(alloc, &stream, 1000, true)?,
@@ -460,11 +460,11 @@ fn zeros(alloc: Global, count: usize) -> Result<Vec<u8>, Fail> {
 fn nearly_full(alloc: Global, more: usize) -> Result<Reader, Fail> {
     let changes = [(20, 0x4D), (36, 0), (60, 0), (68, 0), (73, 4), (76, 0)];
     let header = changed(alloc, &[&PLAIN[..77]], &changes)?;
-    let piece = zeros(alloc, 1_048_576)?;
+    let chunk = zeros(alloc, 1_048_576)?;
     let mut reader = Reader::new(alloc, true)?;
     let _ = reader.feed(&header);
     for _ in 0..63 {
-        let _ = reader.feed(&piece);
+        let _ = reader.feed(&chunk);
     }
     let _ = reader.feed(&zeros(alloc, more)?);
     Ok(reader)
@@ -478,9 +478,9 @@ const BEYOND_THE_LIMIT: ReadStop = ReadStop::Refused(ReadRefusal {
 #[test]
 fn a_stream_beyond_the_limit_is_refused(rt: HostRuntime) -> Result<(), Fail> {
     let alloc = rt.alloc();
-    let piece = zeros(alloc, 1_048_576)?;
+    let chunk = zeros(alloc, 1_048_576)?;
     let mut reader = nearly_full(alloc, 0)?;
-    assert_eq!(rt; reader.feed(&piece), Err(BEYOND_THE_LIMIT));
+    assert_eq!(rt; reader.feed(&chunk), Err(BEYOND_THE_LIMIT));
     Ok(())
 }
 
@@ -506,20 +506,20 @@ fn a_debug_part_is_passed_over(rt: HostRuntime) -> Result<(), Fail> {
     Ok(())
 }
 
-// How many bytes wait behind a stream.
-fn pending_behind(alloc: Global, stream: &[u8]) -> Result<usize, Fail> {
+// How many bytes wait after a stream.
+fn pending_after(alloc: Global, stream: &[u8]) -> Result<usize, Fail> {
     let mut reader = Reader::new(alloc, true)?;
     let _ = reader.feed(stream);
     Ok(reader.pending())
 }
 
 #[test]
-fn bytes_behind_whole_records_are_pending(rt: HostRuntime) -> Result<(), Fail> {
+fn bytes_after_whole_records_are_pending(rt: HostRuntime) -> Result<(), Fail> {
     let alloc = rt.alloc();
-    assert_eq!(rt; pending_behind(alloc, &[])?, 0);
-    assert_eq!(rt; pending_behind(alloc, &PROGRAM[..8])?, 8);
-    assert_eq!(rt; pending_behind(alloc, &PROGRAM[..81])?, 0);
-    assert_eq!(rt; pending_behind(alloc, &PROGRAM[..96])?, 1);
+    assert_eq!(rt; pending_after(alloc, &[])?, 0);
+    assert_eq!(rt; pending_after(alloc, &PROGRAM[..8])?, 8);
+    assert_eq!(rt; pending_after(alloc, &PROGRAM[..81])?, 0);
+    assert_eq!(rt; pending_after(alloc, &PROGRAM[..96])?, 1);
     Ok(())
 }
 

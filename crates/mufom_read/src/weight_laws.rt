@@ -2,7 +2,7 @@
 
 ghost use Rattle.mufom_read.specs.Laws.{FilesWeighTenfold, ModulesWeighTenfold};
 
-/// What the records of a file say weighs at most ten times the file; that it is valid is not asked.
+/// What the records of a file state weighs at most ten times the file; that it is valid is not asked.
 pub fn files_weigh_tenfold()
     ensures { FilesWeighTenfold }
 {}

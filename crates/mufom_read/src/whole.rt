@@ -1,10 +1,10 @@
 //! The faults of parts as wholes, which are judged where a part ends.
 
 ghost use Rattle.std.specs.Prelude.{◌≡◌, List, [], map, option_map, IfOk, All};
-ghost use Rattle.mufom_read.specs.Fronts.{Step, pieces_of, placed_of};
+ghost use Rattle.mufom_read.specs.Prefixes.{Step, records_of, offset_records_of};
 ghost use Rattle.mufom_read.specs.Faults as faults;
 ghost use Rattle.mufom_read.specs.PartsOfCode.{as_part};
-ghost use Rattle.mufom_read.specs.Kept.{tables_of, piece_of_kept, placed, HasOwnParts, as_fault, lacks_base_in, lacks_value_in, has_unknown_value_in, section_fault_in, external_fault_in};
+ghost use Rattle.mufom_read.specs.Kept.{tables_of, record_of_kept, placed, HasOwnParts, as_fault, lacks_base_in, lacks_value_in, has_unknown_value_in, section_fault_in, external_fault_in};
 
 use crate::kept::KeptRecord;
 use crate::part::Part;
@@ -53,7 +53,7 @@ fn section_fault(tables: &Tables, kept: &[KeptRecord]) -> Option<ReadRefusal>
 // Whether the record is the value of a public, with a variable that names no entry.
 fn has_unknown_value(alloc: Global, tables: &Tables, record: &KeptRecord) -> Result<bool, NoMemory>
     requires { HasOwnParts «record».now }
-    ensures { IfOk result (λ b. b ≡ has_unknown_value_in tables.now (piece_of_kept «record».now)) }
+    ensures { IfOk result (λ b. b ≡ has_unknown_value_in tables.now (record_of_kept «record».now)) }
 {
     if !is_public_value(&record.row) {
         return Ok(false);
@@ -95,8 +95,8 @@ pub(crate) fn whole_fault(
     kept: &[KeptRecord],
 ) -> Result<Option<ReadRefusal>, NoMemory>
     requires { All HasOwnParts kept.now }
-    ensures { IfOk result (λ fault. (front : List Step) → tables.now ≡ tables_of (pieces_of front) → map placed kept.now ≡ placed_of front → faults.open_blocks (placed_of front) ≡ []
-        → option_map as_fault fault ≡ faults.whole_fault (as_part part) front) }
+    ensures { IfOk result (λ fault. (prefix : List Step) → tables.now ≡ tables_of (records_of prefix) → map placed kept.now ≡ offset_records_of prefix → faults.open_blocks (offset_records_of prefix) ≡ []
+        → option_map as_fault fault ≡ faults.whole_fault (as_part part) prefix) }
 {
     match part {
         Part::Section => Ok(section_fault(tables, kept)),

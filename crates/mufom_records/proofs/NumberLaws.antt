@@ -22,9 +22,9 @@ byte_got : (input : List ℕ) (at b after : ℕ) (bytes : List ℕ) → drop at 
 byte_got input at b after [] e gives = absurd (ok_not_err b after More (sym gives))
 byte_got input at b after (c ∷ rest) e gives = found-as byte input at c (at + 1) b after (found byte input at c (at + 1) (c ∷ []) rest refl e refl) gives
 
-byte_not_bad : (bytes : List ℕ) (at place : ℕ) (reason : Reason) → first_byte bytes at ≡ Err (Bad place reason) → ⊥
-byte_not_bad [] at place reason gives = let same : More ≡ Bad place reason = same_stop {X = ℕ} More (Bad place reason) gives in cc
-byte_not_bad (b ∷ rest) at place reason gives = ok_not_err b (at + 1) (Bad place reason) gives
+byte_not_bad : (bytes : List ℕ) (at fault_offset : ℕ) (reason : Reason) → first_byte bytes at ≡ Err (Bad fault_offset reason) → ⊥
+byte_not_bad [] at fault_offset reason gives = let same : More ≡ Bad fault_offset reason = same_stop {X = ℕ} More (Bad fault_offset reason) gives in cc
+byte_not_bad (b ∷ rest) at fault_offset reason gives = ok_not_err b (at + 1) (Bad fault_offset reason) gives
 
 byte_more : (bytes : List ℕ) (at : ℕ) → first_byte bytes at ≡ Err More → bytes ≡ []
 byte_more [] at gives = refl
@@ -33,30 +33,30 @@ byte_more (b ∷ rest) at gives = absurd (ok_not_err b (at + 1) More gives)
 pub byte-exact : IsExact byte
 byte-exact = record {
   got = λ input at fits x after gives. byte_got input at x after (drop at input) refl gives;
-  only = λ input at x front rest spells split. rw (split, spells) refl;
-  bad = λ input at fits place reason gives. absurd (byte_not_bad (drop at input) at place reason gives);
-  fault = λ input at place reason has. absurd has;
+  only = λ input at x prefix rest spells split. rw (split, spells) refl;
+  bad = λ input at fits fault_offset reason gives. absurd (byte_not_bad (drop at input) at fault_offset reason gives);
+  fault = λ input at fault_offset reason has. absurd has;
   more = λ input at fits gives. byte_more (drop at input) at gives;
   ends = λ input at ends. rw ends refl;
-  later = λ x at front next spells. spells;
-  grows = λ at bytes more place reason has. has;
+  later = λ x at prefix next spells. spells;
+  grows = λ at bytes more fault_offset reason has. has;
 }
 
 -- ---- a number, whatever it is
 
 pub record FoundNumber (input : List ℕ) (at n after : ℕ) : Type 0 where
-  pub front : List ℕ
+  pub prefix : List ℕ
   pub rest : List ℕ
-  pub spells : SpellsNumber n front
-  pub split : drop at input ≡ front ++ rest
-  pub count : after ≡ at + length front
+  pub spells : SpellsNumber n prefix
+  pub split : drop at input ≡ prefix ++ rest
+  pub count : after ≡ at + length prefix
 
 plain_got : (input : List ℕ) (at n after : ℕ) (answer : Taken ℕ) → IfGot answer (λ m used. (used ≤ length (drop at input)) × SpellsNumber m (take used (drop at input))) → moved at answer ≡ Ok (n, after) → FoundNumber input at n after
 plain_got input at n after (taken.Got m used) got gives =
     let bytes = drop at input in
     let count : length (take used bytes) ≡ used = omega (arith, length-take used bytes, got.0) in
     record {
-      front = take used bytes;
+      prefix = take used bytes;
       rest = drop used bytes;
       spells = subst (λ (k : ℕ). SpellsNumber k (take used bytes)) (same_value m n (at + used) after gives) got.1;
       split = sym (take-append-drop used bytes);
@@ -68,8 +68,8 @@ plain_got input at n after (taken.Bad offset reason) got gives = absurd (ok_not_
 pub plain-got : (input : List ℕ) (at : ℕ) → AreBytes input → (n after : ℕ) → plain_number_at input at ≡ Ok (n, after) → FoundNumber input at n after
 plain-got input at fits n after gives = plain_got input at n after (number_at (drop at input)) (number_at-got (drop at input) (AreBytes-drop at input fits)) gives
 
-pub plain-only : (input : List ℕ) (at n : ℕ) (front rest : List ℕ) → SpellsNumber n front → drop at input ≡ front ++ rest → plain_number_at input at ≡ Ok (n, at + length front)
-plain-only input at n front rest spells split = ap (λ (l : List ℕ). moved at (number_at l)) split ∙ ap (λ (t : Taken ℕ). moved at t) (number_at-spelling n front rest spells)
+pub plain-only : (input : List ℕ) (at n : ℕ) (prefix rest : List ℕ) → SpellsNumber n prefix → drop at input ≡ prefix ++ rest → plain_number_at input at ≡ Ok (n, at + length prefix)
+plain-only input at n prefix rest spells split = ap (λ (l : List ℕ). moved at (number_at l)) split ∙ ap (λ (t : Taken ℕ). moved at t) (number_at-spelling n prefix rest spells)
 
 abbrev more_number : Taken ℕ
 more_number = taken.More
@@ -98,19 +98,19 @@ bad_is (b ∷ bytes) offset reason e = elim (cases_lt 136 b) [
   | inr within ↦ absurd (not_bad b bytes within offset reason e)
 ]
 
-plain_bad : (input : List ℕ) (at place : ℕ) (reason : Reason) → AreBytes (drop at input) → (answer : Taken ℕ) → number_at (drop at input) ≡ answer → moved at answer ≡ Err (Bad place reason)
-    → (reason ≡ BadNumber) × (place ≡ at) × BeginsIn 0x89 0xFF (drop at input)
-plain_bad input at place reason fits (taken.Got m used) is gives = absurd (ok_not_err m (at + used) (Bad place reason) gives)
-plain_bad input at place reason fits taken.More is gives = let same : More ≡ Bad place reason = same_stop {X = ℕ} More (Bad place reason) gives in absurd cc
-plain_bad input at place reason fits (taken.Bad offset why) is gives =
-    let same : Bad (at + offset) why ≡ Bad place reason = same_stop {X = ℕ} (Bad (at + offset) why) (Bad place reason) gives in
+plain_bad : (input : List ℕ) (at fault_offset : ℕ) (reason : Reason) → AreBytes (drop at input) → (answer : Taken ℕ) → number_at (drop at input) ≡ answer → moved at answer ≡ Err (Bad fault_offset reason)
+    → (reason ≡ BadNumber) × (fault_offset ≡ at) × BeginsIn 0x89 0xFF (drop at input)
+plain_bad input at fault_offset reason fits (taken.Got m used) is gives = absurd (ok_not_err m (at + used) (Bad fault_offset reason) gives)
+plain_bad input at fault_offset reason fits taken.More is gives = let same : More ≡ Bad fault_offset reason = same_stop {X = ℕ} More (Bad fault_offset reason) gives in absurd cc
+plain_bad input at fault_offset reason fits (taken.Bad offset why) is gives =
+    let same : Bad (at + offset) why ≡ Bad fault_offset reason = same_stop {X = ℕ} (Bad (at + offset) why) (Bad fault_offset reason) gives in
     let one = bad_is (drop at input) offset why is in
     let offset_is : 0 ≡ offset = cc in
-    let place_is : at + offset ≡ place = cc in
+    let place_is : at + offset ≡ fault_offset = cc in
     (cc, omega (arith, offset_is, place_is), bad-number_at (drop at input) fits (is ∙ sym one))
 
-pub plain-bad : (input : List ℕ) (at : ℕ) → AreBytes input → (place : ℕ) (reason : Reason) → plain_number_at input at ≡ Err (Bad place reason) → (reason ≡ BadNumber) × (place ≡ at) × BeginsIn 0x89 0xFF (drop at input)
-plain-bad input at fits place reason gives = plain_bad input at place reason (AreBytes-drop at input fits) (number_at (drop at input)) refl gives
+pub plain-bad : (input : List ℕ) (at : ℕ) → AreBytes input → (fault_offset : ℕ) (reason : Reason) → plain_number_at input at ≡ Err (Bad fault_offset reason) → (reason ≡ BadNumber) × (fault_offset ≡ at) × BeginsIn 0x89 0xFF (drop at input)
+plain-bad input at fits fault_offset reason gives = plain_bad input at fault_offset reason (AreBytes-drop at input fits) (number_at (drop at input)) refl gives
 
 pub plain-fault : (input : List ℕ) (at : ℕ) → BeginsIn 0x89 0xFF (drop at input) → plain_number_at input at ≡ Err (Bad at BadNumber)
 plain-fault input at begins = let same : at + 0 ≡ at = omega arith in rw (number_at-bad (drop at input) begins, same) refl
@@ -142,24 +142,24 @@ module _ (fits : ℕ → Bool) (where_ : ℕ → ℕ) (fault : Reason) where
     | inl h ↦
         let e : ok r.0 r.1 ≡ ok x after = rw h at gives in
         let one = plain-got input at are r.0 r.1 is in
-        found-as (number fits where_ fault) input at r.0 r.1 x after (found (number fits where_ fault) input at r.0 r.1 one.front one.rest (one.spells, h) one.split one.count) e
+        found-as (number fits where_ fault) input at r.0 r.1 x after (found (number fits where_ fault) input at r.0 r.1 one.prefix one.rest (one.spells, h) one.split one.count) e
     | inr h ↦ let e : stopped {X = ℕ} (Bad (where_ at) fault) ≡ ok x after = rw h at gives in absurd (ok_not_err x after (Bad (where_ at) fault) (sym e))
   ]
 
-  number_bad : (input : List ℕ) (at : ℕ) → AreBytes input → (place : ℕ) (reason : Reason) (answer : Reading ℕ) → plain_number_at input at ≡ answer → (answer >>= tested at) ≡ Err (Bad place reason) → FieldFault (number fits where_ fault) at (drop at input) place reason
-  number_bad input at are place reason (Err stop) is gives = inl (plain-bad input at are place reason (is ∙ gives))
-  number_bad input at are place reason (Ok r) is gives = elim (cases_Bool (fits r.0)) [
-    | inl h ↦ let e : ok r.0 r.1 ≡ stopped (Bad place reason) = rw h at gives in absurd (ok_not_err r.0 r.1 (Bad place reason) e)
+  number_bad : (input : List ℕ) (at : ℕ) → AreBytes input → (fault_offset : ℕ) (reason : Reason) (answer : Reading ℕ) → plain_number_at input at ≡ answer → (answer >>= tested at) ≡ Err (Bad fault_offset reason) → FieldFault (number fits where_ fault) at (drop at input) fault_offset reason
+  number_bad input at are fault_offset reason (Err stop) is gives = inl (plain-bad input at are fault_offset reason (is ∙ gives))
+  number_bad input at are fault_offset reason (Ok r) is gives = elim (cases_Bool (fits r.0)) [
+    | inl h ↦ let e : ok r.0 r.1 ≡ stopped (Bad fault_offset reason) = rw h at gives in absurd (ok_not_err r.0 r.1 (Bad fault_offset reason) e)
     | inr h ↦
-        let e : stopped {X = ℕ} (Bad (where_ at) fault) ≡ stopped (Bad place reason) = rw h at gives in
-        let same = same_stop {X = ℕ} (Bad (where_ at) fault) (Bad place reason) e in
+        let e : stopped {X = ℕ} (Bad (where_ at) fault) ≡ stopped (Bad fault_offset reason) = rw h at gives in
+        let same = same_stop {X = ℕ} (Bad (where_ at) fault) (Bad fault_offset reason) e in
         let one = plain-got input at are r.0 r.1 is in
-        inr (cc, cc, (r.0, one.front, one.rest, one.spells, h, one.split))
+        inr (cc, cc, (r.0, one.prefix, one.rest, one.spells, h, one.split))
   ]
 
-  number_fault : (input : List ℕ) (at place : ℕ) (reason : Reason) → FieldFault (number fits where_ fault) at (drop at input) place reason → (plain_number_at input at >>= tested at) ≡ Err (Bad place reason)
-  number_fault input at place reason (inl (why, same, begins)) = rw (why, same, plain-fault input at begins) refl
-  number_fault input at place reason (inr (why, same, (n, text, rest, spells, fails, split))) = rw (why, same, plain-only input at n text rest spells split, fails) refl
+  number_fault : (input : List ℕ) (at fault_offset : ℕ) (reason : Reason) → FieldFault (number fits where_ fault) at (drop at input) fault_offset reason → (plain_number_at input at >>= tested at) ≡ Err (Bad fault_offset reason)
+  number_fault input at fault_offset reason (inl (why, same, begins)) = rw (why, same, plain-fault input at begins) refl
+  number_fault input at fault_offset reason (inr (why, same, (n, text, rest, spells, fails, split))) = rw (why, same, plain-only input at n text rest spells split, fails) refl
 
   number_more : (input : List ℕ) (at : ℕ) → AreBytes input → (answer : Reading ℕ) → plain_number_at input at ≡ answer → (answer >>= tested at) ≡ Err More → IsCutOffNumber (drop at input)
   number_more input at are (Err stop) is gives = plain-more input at are (is ∙ gives)
@@ -170,20 +170,20 @@ module _ (fits : ℕ → Bool) (where_ : ℕ → ℕ) (fault : Reason) where
         let same = same_stop {X = ℕ} (Bad (where_ at) fault) More e in absurd cc
   ]
 
-  number_grows : (at : ℕ) (bytes more : List ℕ) (place : ℕ) (reason : Reason) → FieldFault (number fits where_ fault) at bytes place reason → FieldFault (number fits where_ fault) at (bytes ++ more) place reason
-  number_grows at bytes more place reason (inl (why, same, begins)) = inl (why, same, BeginsIn-grows 0x89 0xFF bytes more begins)
-  number_grows at bytes more place reason (inr (why, same, (n, text, rest, spells, fails, split))) =
+  number_grows : (at : ℕ) (bytes more : List ℕ) (fault_offset : ℕ) (reason : Reason) → FieldFault (number fits where_ fault) at bytes fault_offset reason → FieldFault (number fits where_ fault) at (bytes ++ more) fault_offset reason
+  number_grows at bytes more fault_offset reason (inl (why, same, begins)) = inl (why, same, BeginsIn-grows 0x89 0xFF bytes more begins)
+  number_grows at bytes more fault_offset reason (inr (why, same, (n, text, rest, spells, fails, split))) =
       inr (why, same, (n, text, rest ++ more, spells, fails, ap (λ (l : List ℕ). l ++ more) split ∙ append_assoc text rest more))
 
   pub number-exact : IsExact (number fits where_ fault)
   number-exact = record {
     got = λ input at are x after gives. number_got input at are x after (plain_number_at input at) refl gives;
-    only = λ input at x front rest spells split. rw (plain-only input at x front rest spells.0 split, spells.1) refl;
-    bad = λ input at are place reason gives. number_bad input at are place reason (plain_number_at input at) refl gives;
+    only = λ input at x prefix rest spells split. rw (plain-only input at x prefix rest spells.0 split, spells.1) refl;
+    bad = λ input at are fault_offset reason gives. number_bad input at are fault_offset reason (plain_number_at input at) refl gives;
     fault = number_fault;
     more = λ input at are gives. number_more input at are (plain_number_at input at) refl gives;
     ends = λ input at ends. rw (plain-ends input at ends) refl;
-    later = λ x at front next spells. spells;
+    later = λ x at prefix next spells. spells;
     grows = number_grows;
   }
 
@@ -206,13 +206,13 @@ module _ (known : List ℕ) where
     | inr h ↦ found-as (letter known) input at None at x after (found (letter known) input at None at [] (b ∷ rest) (refl, h) e (omega arith)) (sym (letter_no input at b rest e h) ∙ gives)
   ]
 
-  letter_only : (input : List ℕ) (at : ℕ) (x : Option ℕ) (front rest : List ℕ) → SpellsField (letter known) x at front (first_of rest None) → drop at input ≡ front ++ rest → letter_at known input at ≡ Ok (x, at + length front)
-  letter_only input at None front [] spells split = absurd spells.1
-  letter_only input at None front (b ∷ rest) spells split =
-      let count : at ≡ at + length front = omega (arith, ap length spells.0) in
+  letter_only : (input : List ℕ) (at : ℕ) (x : Option ℕ) (prefix rest : List ℕ) → SpellsField (letter known) x at prefix (first_of rest None) → drop at input ≡ prefix ++ rest → letter_at known input at ≡ Ok (x, at + length prefix)
+  letter_only input at None prefix [] spells split = absurd spells.1
+  letter_only input at None prefix (b ∷ rest) spells split =
+      let count : at ≡ at + length prefix = omega (arith, ap length spells.0) in
       letter_no input at b rest (split ∙ ap (λ (l : List ℕ). l ++ b ∷ rest) spells.0) spells.1 ∙ ap (λ (n : ℕ). ok None n) count
-  letter_only input at (Some b) front rest spells split =
-      let count : at + 1 ≡ at + length front = omega (arith, ap length spells.0) in
+  letter_only input at (Some b) prefix rest spells split =
+      let count : at + 1 ≡ at + length prefix = omega (arith, ap length spells.0) in
       letter_yes input at b rest (split ∙ ap (λ (l : List ℕ). l ++ rest) spells.0) spells.1 ∙ ap (λ (n : ℕ). ok (Some b) n) count
 
   letter_stops : (input : List ℕ) (at : ℕ) (stop : Stop) (bytes : List ℕ) → drop at input ≡ bytes → letter_at known input at ≡ Err stop → (bytes ≡ []) × (stop ≡ More)
@@ -222,25 +222,25 @@ module _ (known : List ℕ) where
     | inr h ↦ absurd (ok_not_err None at stop (sym (letter_no input at b rest e h) ∙ gives))
   ]
 
-  letter_later : (x : Option ℕ) (at : ℕ) (front : List ℕ) (next : Option ℕ) → SpellsField (letter known) x at front None → SpellsField (letter known) x at front next
-  letter_later None at front next spells = absurd spells.1
-  letter_later (Some b) at front next spells = spells
+  letter_later : (x : Option ℕ) (at : ℕ) (prefix : List ℕ) (next : Option ℕ) → SpellsField (letter known) x at prefix None → SpellsField (letter known) x at prefix next
+  letter_later None at prefix next spells = absurd spells.1
+  letter_later (Some b) at prefix next spells = spells
 
   pub letter-exact : IsExact (letter known)
   letter-exact = record {
     got = λ input at fits x after gives. letter_got input at x after (drop at input) refl gives;
     only = letter_only;
-    bad = λ input at fits place reason gives. let no = (letter_stops input at (Bad place reason) (drop at input) refl gives).1 in absurd cc;
-    fault = λ input at place reason has. absurd has;
+    bad = λ input at fits fault_offset reason gives. let no = (letter_stops input at (Bad fault_offset reason) (drop at input) refl gives).1 in absurd cc;
+    fault = λ input at fault_offset reason has. absurd has;
     more = λ input at fits gives. (letter_stops input at More (drop at input) refl gives).0;
     ends = λ input at ends. letter_end input at ends;
     later = letter_later;
-    grows = λ at bytes more place reason has. has;
+    grows = λ at bytes more fault_offset reason has. has;
   }
 
 -- ---- a number, or none
 
-pub number_first : (n : ℕ) (front : List ℕ) → SpellsNumber n front → (b : ℕ) × (rest : List ℕ) × (front ≡ b ∷ rest) × (begins_number b ≡ true)
+pub number_first : (n : ℕ) (prefix : List ℕ) → SpellsNumber n prefix → (b : ℕ) × (rest : List ℕ) × (prefix ≡ b ∷ rest) × (begins_number b ≡ true)
 number_first n [] spells = absurd spells
 number_first n (b ∷ rest) (inl short) = let low : b ≤ 136 = omega (arith, short.0) in (b, rest, refl, begins b low) where
   begins : (b : ℕ) → b ≤ 136 → begins_number b ≡ true
@@ -267,7 +267,7 @@ optional_end input at e = rw e refl
 some_got : (input : List ℕ) (at : ℕ) → AreBytes input → (x : Option ℕ) (after : ℕ) (answer : Reading ℕ) → plain_number_at input at ≡ answer → (answer >>= some_number) ≡ Ok (x, after) → Found optional_number input at x after
 some_got input at fits x after (Ok r) is gives =
     let one = plain-got input at fits r.0 r.1 is in
-    found-as optional_number input at (Some r.0) r.1 x after (found optional_number input at (Some r.0) r.1 one.front one.rest one.spells one.split one.count) gives
+    found-as optional_number input at (Some r.0) r.1 x after (found optional_number input at (Some r.0) r.1 one.prefix one.rest one.spells one.split one.count) gives
 some_got input at fits x after (Err stop) is gives = absurd (ok_not_err x after stop (sym gives))
 
 optional_got : (input : List ℕ) (at : ℕ) → AreBytes input → (x : Option ℕ) (after : ℕ) (bytes : List ℕ) → drop at input ≡ bytes → optional_number_at input at ≡ Ok (x, after) → Found optional_number input at x after
@@ -277,15 +277,15 @@ optional_got input at fits x after (b ∷ rest) e gives = elim (cases_Bool (begi
   | inr h ↦ found-as optional_number input at None at x after (found optional_number input at None at [] (b ∷ rest) (refl, h) e (omega arith)) (sym (optional_no input at b rest e h) ∙ gives)
 ]
 
-optional_only : (input : List ℕ) (at : ℕ) (x : Option ℕ) (front rest : List ℕ) → SpellsField optional_number x at front (first_of rest None) → drop at input ≡ front ++ rest → optional_number_at input at ≡ Ok (x, at + length front)
-optional_only input at None front [] spells split = absurd spells.1
-optional_only input at None front (b ∷ rest) spells split =
-    let count : at ≡ at + length front = omega (arith, ap length spells.0) in
+optional_only : (input : List ℕ) (at : ℕ) (x : Option ℕ) (prefix rest : List ℕ) → SpellsField optional_number x at prefix (first_of rest None) → drop at input ≡ prefix ++ rest → optional_number_at input at ≡ Ok (x, at + length prefix)
+optional_only input at None prefix [] spells split = absurd spells.1
+optional_only input at None prefix (b ∷ rest) spells split =
+    let count : at ≡ at + length prefix = omega (arith, ap length spells.0) in
     optional_no input at b rest (split ∙ ap (λ (l : List ℕ). l ++ b ∷ rest) spells.0) spells.1 ∙ ap (λ (n : ℕ). ok None n) count
-optional_only input at (Some n) front rest spells split =
-    let first = number_first n front spells in
+optional_only input at (Some n) prefix rest spells split =
+    let first = number_first n prefix spells in
     let e : drop at input ≡ first.0 ∷ (first.1 ++ rest) = split ∙ ap (λ (l : List ℕ). l ++ rest) first.2 in
-    optional_yes input at first.0 (first.1 ++ rest) e first.3 ∙ ap (λ (r : Reading ℕ). r >>= some_number) (plain-only input at n front rest spells split)
+    optional_yes input at first.0 (first.1 ++ rest) e first.3 ∙ ap (λ (r : Reading ℕ). r >>= some_number) (plain-only input at n prefix rest spells split)
 
 some_stops : (input : List ℕ) (at : ℕ) (stop : Stop) (answer : Reading ℕ) → plain_number_at input at ≡ answer → (answer >>= some_number) ≡ Err stop → plain_number_at input at ≡ Err stop
 some_stops input at stop (Ok r) is gives = absurd (ok_not_err (Some r.0) r.1 stop gives)
@@ -295,13 +295,13 @@ begins_apart : (b : ℕ) (bytes rest : List ℕ) → bytes ≡ b ∷ rest → be
 begins_apart b [] rest e h begins = begins
 begins_apart b (c ∷ bytes) rest e h begins = let same : c ≡ b = cc in let low = begins_low b h in omega (arith, begins.0, low, same)
 
-optional_bad : (input : List ℕ) (at : ℕ) → AreBytes input → (place : ℕ) (reason : Reason) (bytes : List ℕ) → drop at input ≡ bytes → optional_number_at input at ≡ Err (Bad place reason) → ⊥
-optional_bad input at fits place reason [] e gives = let same : More ≡ Bad place reason = same_stop {X = Option ℕ} More (Bad place reason) (sym (optional_end input at e) ∙ gives) in cc
-optional_bad input at fits place reason (b ∷ rest) e gives = elim (cases_Bool (begins_number b)) [
+optional_bad : (input : List ℕ) (at : ℕ) → AreBytes input → (fault_offset : ℕ) (reason : Reason) (bytes : List ℕ) → drop at input ≡ bytes → optional_number_at input at ≡ Err (Bad fault_offset reason) → ⊥
+optional_bad input at fits fault_offset reason [] e gives = let same : More ≡ Bad fault_offset reason = same_stop {X = Option ℕ} More (Bad fault_offset reason) (sym (optional_end input at e) ∙ gives) in cc
+optional_bad input at fits fault_offset reason (b ∷ rest) e gives = elim (cases_Bool (begins_number b)) [
   | inl h ↦
-      let plain = some_stops input at (Bad place reason) (plain_number_at input at) refl (sym (optional_yes input at b rest e h) ∙ gives) in
-      begins_apart b (drop at input) rest e h (plain-bad input at fits place reason plain).2
-  | inr h ↦ ok_not_err None at (Bad place reason) (sym (optional_no input at b rest e h) ∙ gives)
+      let plain = some_stops input at (Bad fault_offset reason) (plain_number_at input at) refl (sym (optional_yes input at b rest e h) ∙ gives) in
+      begins_apart b (drop at input) rest e h (plain-bad input at fits fault_offset reason plain).2
+  | inr h ↦ ok_not_err None at (Bad fault_offset reason) (sym (optional_no input at b rest e h) ∙ gives)
 ]
 
 optional_more : (input : List ℕ) (at : ℕ) → AreBytes input → (bytes : List ℕ) → drop at input ≡ bytes → optional_number_at input at ≡ Err More → IsCutOffNumber (drop at input)
@@ -324,18 +324,18 @@ optional_ends input at [] e ends = optional_end input at e
 optional_ends input at (b ∷ rest) e ends =
     optional_yes input at b rest e (cut_first b rest ends) ∙ ap (λ (r : Reading ℕ). r >>= some_number) (plain-ends input at (subst (λ (l : List ℕ). IsCutOffNumber l) (sym e) ends))
 
-optional_later : (x : Option ℕ) (at : ℕ) (front : List ℕ) (next : Option ℕ) → SpellsField optional_number x at front None → SpellsField optional_number x at front next
-optional_later None at front next spells = absurd spells.1
-optional_later (Some n) at front next spells = spells
+optional_later : (x : Option ℕ) (at : ℕ) (prefix : List ℕ) (next : Option ℕ) → SpellsField optional_number x at prefix None → SpellsField optional_number x at prefix next
+optional_later None at prefix next spells = absurd spells.1
+optional_later (Some n) at prefix next spells = spells
 
 pub optional_number-exact : IsExact optional_number
 optional_number-exact = record {
   got = λ input at fits x after gives. optional_got input at fits x after (drop at input) refl gives;
   only = optional_only;
-  bad = λ input at fits place reason gives. absurd (optional_bad input at fits place reason (drop at input) refl gives);
-  fault = λ input at place reason has. absurd has;
+  bad = λ input at fits fault_offset reason gives. absurd (optional_bad input at fits fault_offset reason (drop at input) refl gives);
+  fault = λ input at fault_offset reason has. absurd has;
   more = λ input at fits gives. optional_more input at fits (drop at input) refl gives;
   ends = λ input at ends. optional_ends input at (drop at input) refl ends;
   later = optional_later;
-  grows = λ at bytes more place reason has. has;
+  grows = λ at bytes more fault_offset reason has. has;
 }

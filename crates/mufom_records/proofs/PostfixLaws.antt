@@ -48,7 +48,7 @@ left_next input rest built token used is some got = by_tokens is.tokens is.spell
       let count : length text ≡ used = cc in
       let begins = token_first first text [] spelled in
       let longer : 0 < length text = omega (arith, ap length begins.2, length-append text []) in
-      let behind : drop used rest ≡ back = ap (drop used) parts ∙ drop_at text back used count in
+      let after : drop used rest ≡ back = ap (drop used) parts ∙ drop_at text back used count in
       let split_there : tokens_of is.tree ≡ built ++ token ∷ tokens = split ∙ ap (λ (t : Token). built ++ t ∷ tokens) same in
       record {
         room = omega (arith, is.whole.0, ap length split, length-append built (first ∷ tokens));
@@ -58,7 +58,7 @@ left_next input rest built token used is some got = by_tokens is.tokens is.spell
           tree = is.tree;
           tokens = tokens;
           whole = is.whole;
-          spells = subst (λ (l : List ℕ). SpellsTokens tokens l) (sym behind) spells;
+          spells = subst (λ (l : List ℕ). SpellsTokens tokens l) (sym after) spells;
           split = split_there ∙ sym (append_assoc built (token ∷ []) tokens);
         };
       }

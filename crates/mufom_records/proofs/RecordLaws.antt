@@ -20,7 +20,7 @@ use Rattle.mufom_records.proofs.ExpressionLaws.{expression-exact, optional_expre
 -- each field is read exactly
 pub exact : (f : Field) → IsExact f
 exact byte = byte-exact
-exact (number fits place fault) = number-exact fits place fault
+exact (number fits offset fault) = number-exact fits offset fault
 exact string = string-exact
 exact (run n) = run-exact n
 exact (letter known) = letter-exact known
@@ -33,76 +33,76 @@ abbrev got_record : Record → ℕ → Taken Record
 got_record row used = taken.Got row used
 
 abbrev bad_record : ℕ → Reason → Taken Record
-bad_record place reason = taken.Bad place reason
+bad_record offset reason = taken.Bad offset reason
 
 abbrev more_record : Taken Record
 more_record = taken.More
 
--- ---- what an answer says
+-- ---- what an answer states
 
--- what is got is the front of the input and a whole record
-pub record IsFront (mode : Mode) (input : List ℕ) (row : Record) (used : ℕ) : Type 0 where
+-- what is got is the prefix of the input and a whole record
+pub record IsPrefix (mode : Mode) (input : List ℕ) (row : Record) (used : ℕ) : Type 0 where
   pub within : used ≤ length input
   pub is_whole : IsWholeRecord mode row (take used input) (first_of (drop used input) None)
 
-front_of : (mode : Mode) (input : List ℕ) (row : Record) (used : ℕ) → FoundRecord exact (layout_of mode) input 0 row used → IsFront mode input row used
-front_of mode input row used all =
-    let count : length all.front ≡ used = omega (arith, all.count) in
-    let text : take used input ≡ all.front = ap (take used) all.split ∙ take_at all.front (drop used input) used count in
+prefix_of : (mode : Mode) (input : List ℕ) (row : Record) (used : ℕ) → FoundRecord exact (layout_of mode) input 0 row used → IsPrefix mode input row used
+prefix_of mode input row used all =
+    let count : length all.prefix ≡ used = omega (arith, all.count) in
+    let text : take used input ≡ all.prefix = ap (take used) all.split ∙ take_at all.prefix (drop used input) used count in
     record {
-      within = omega (arith, ap length all.split, length-append all.front (drop used input), count);
+      within = omega (arith, ap length all.split, length-append all.prefix (drop used input), count);
       is_whole = subst (λ (l : List ℕ). IsWholeRecord mode row l (first_of (drop used input) None)) (sym text) all.spells;
     }
 
-pub data Says (mode : Mode) (input : List ℕ) : Taken Record → Type 0 where
-  says_got : (row : Record) (used : ℕ) → IsFront mode input row used → Says mode input (taken.Got row used)
-  says_more : IsUnended mode input → Says mode input taken.More
-  says_bad : (place : ℕ) (reason : Reason) → IsFaulty mode input place reason → Says mode input (taken.Bad place reason)
+pub data States (mode : Mode) (input : List ℕ) : Taken Record → Type 0 where
+  states_got : (row : Record) (used : ℕ) → IsPrefix mode input row used → States mode input (taken.Got row used)
+  states_more : IsUnended mode input → States mode input taken.More
+  states_bad : (offset : ℕ) (reason : Reason) → IsFaulty mode input offset reason → States mode input (taken.Bad offset reason)
 
-says_by : (mode : Mode) (input : List ℕ) → AreBytes input → (answer : Reading Record) → read (layout_of mode) input 0 ≡ answer → Says mode input (as_taken answer)
-says_by mode input fits (Ok (row, used)) is = says_got row used (front_of mode input row used (read-got exact (layout_of mode) input 0 fits row used is))
-says_by mode input fits (Err More) is = says_more (read-more exact (layout_of mode) input 0 fits is)
-says_by mode input fits (Err (Bad place reason)) is = says_bad place reason (read-bad exact (layout_of mode) input 0 fits place reason is)
+states_by : (mode : Mode) (input : List ℕ) → AreBytes input → (answer : Reading Record) → read (layout_of mode) input 0 ≡ answer → States mode input (as_taken answer)
+states_by mode input fits (Ok (row, used)) is = states_got row used (prefix_of mode input row used (read-got exact (layout_of mode) input 0 fits row used is))
+states_by mode input fits (Err More) is = states_more (read-more exact (layout_of mode) input 0 fits is)
+states_by mode input fits (Err (Bad offset reason)) is = states_bad offset reason (read-bad exact (layout_of mode) input 0 fits offset reason is)
 
-pub says : (mode : Mode) (input : List ℕ) → AreBytes input → Says mode input (record_at mode input)
-says mode input fits = says_by mode input fits (read (layout_of mode) input 0) refl
+pub states : (mode : Mode) (input : List ℕ) → AreBytes input → States mode input (record_at mode input)
+states mode input fits = states_by mode input fits (read (layout_of mode) input 0) refl
 
-said_got : (mode : Mode) (input : List ℕ) (answer : Taken Record) → Says mode input answer → IfGot answer (λ row used. (used ≤ length input) × IsWholeRecord mode row (take used input) (first_of (drop used input) None))
-said_got mode input answer (says_got row used is) = (is.within, is.is_whole)
-said_got mode input answer (says_more ends) = tt
-said_got mode input answer (says_bad place reason has) = tt
+stated_got : (mode : Mode) (input : List ℕ) (answer : Taken Record) → States mode input answer → IfGot answer (λ row used. (used ≤ length input) × IsWholeRecord mode row (take used input) (first_of (drop used input) None))
+stated_got mode input answer (states_got row used is) = (is.within, is.is_whole)
+stated_got mode input answer (states_more ends) = tt
+stated_got mode input answer (states_bad offset reason has) = tt
 
 pub record_at-got : (mode : Mode) (input : List ℕ) → AreBytes input → IfGot (record_at mode input) (λ row used. (used ≤ length input) × IsWholeRecord mode row (take used input) (first_of (drop used input) None))
-record_at-got mode input fits = said_got mode input (record_at mode input) (says mode input fits)
+record_at-got mode input fits = stated_got mode input (record_at mode input) (states mode input fits)
 
 pub record_at-only : (mode : Mode) (input : List ℕ) (row : Record) (text rest : List ℕ) → IsWholeRecord mode row text (first_of rest None) → input ≡ text ++ rest → record_at mode input ≡ taken.Got row (length text)
 record_at-only mode input row text rest is split = let none : 0 + length text ≡ length text = omega arith in rw (read-only exact (layout_of mode) input 0 row text rest is split, none) refl
 
-pub record_at-bad : (mode : Mode) (input : List ℕ) (place : ℕ) (reason : Reason) → IsFaulty mode input place reason → record_at mode input ≡ taken.Bad place reason
-record_at-bad mode input place reason has = ap (λ a. as_taken a) (read-fault exact (layout_of mode) input 0 place reason has)
+pub record_at-bad : (mode : Mode) (input : List ℕ) (offset : ℕ) (reason : Reason) → IsFaulty mode input offset reason → record_at mode input ≡ taken.Bad offset reason
+record_at-bad mode input offset reason has = ap (λ a. as_taken a) (read-fault exact (layout_of mode) input 0 offset reason has)
 
-said_bad : (mode : Mode) (input : List ℕ) (place : ℕ) (reason : Reason) (answer : Taken Record) → Says mode input answer → answer ≡ taken.Bad place reason → IsFaulty mode input place reason
-said_bad mode input place reason answer (says_got row used is) same = let wrong : got_record row used ≡ bad_record place reason = same in absurd cc
-said_bad mode input place reason answer (says_more ends) same = let wrong : more_record ≡ bad_record place reason = same in absurd cc
-said_bad mode input place reason answer (says_bad where_ why has) same =
-    let e : bad_record where_ why ≡ bad_record place reason = same in
-    let place_is : where_ ≡ place = cc in
+stated_bad : (mode : Mode) (input : List ℕ) (offset : ℕ) (reason : Reason) (answer : Taken Record) → States mode input answer → answer ≡ taken.Bad offset reason → IsFaulty mode input offset reason
+stated_bad mode input offset reason answer (states_got row used is) same = let wrong : got_record row used ≡ bad_record offset reason = same in absurd cc
+stated_bad mode input offset reason answer (states_more ends) same = let wrong : more_record ≡ bad_record offset reason = same in absurd cc
+stated_bad mode input offset reason answer (states_bad where_ why has) same =
+    let e : bad_record where_ why ≡ bad_record offset reason = same in
+    let place_is : where_ ≡ offset = cc in
     let reason_is : why ≡ reason = cc in
     subst (λ (p : ℕ). IsFaulty mode input p reason) place_is (subst (λ (r : Reason). IsFaulty mode input where_ r) reason_is has)
 
-pub bad-record_at : (mode : Mode) (input : List ℕ) → AreBytes input → (place : ℕ) (reason : Reason) → record_at mode input ≡ taken.Bad place reason → IsFaulty mode input place reason
-bad-record_at mode input fits place reason e = said_bad mode input place reason (record_at mode input) (says mode input fits) e
+pub bad-record_at : (mode : Mode) (input : List ℕ) → AreBytes input → (offset : ℕ) (reason : Reason) → record_at mode input ≡ taken.Bad offset reason → IsFaulty mode input offset reason
+bad-record_at mode input fits offset reason e = stated_bad mode input offset reason (record_at mode input) (states mode input fits) e
 
 pub record_at-more : (mode : Mode) (input : List ℕ) → IsUnended mode input → record_at mode input ≡ taken.More
 record_at-more mode input ends = ap (λ a. as_taken a) (read-ends exact (layout_of mode) input 0 ends)
 
-said_more : (mode : Mode) (input : List ℕ) (answer : Taken Record) → Says mode input answer → answer ≡ taken.More → IsUnended mode input
-said_more mode input answer (says_got row used is) same = let wrong : got_record row used ≡ more_record = same in absurd cc
-said_more mode input answer (says_more ends) same = ends
-said_more mode input answer (says_bad place reason has) same = let wrong : bad_record place reason ≡ more_record = same in absurd cc
+stated_more : (mode : Mode) (input : List ℕ) (answer : Taken Record) → States mode input answer → answer ≡ taken.More → IsUnended mode input
+stated_more mode input answer (states_got row used is) same = let wrong : got_record row used ≡ more_record = same in absurd cc
+stated_more mode input answer (states_more ends) same = ends
+stated_more mode input answer (states_bad offset reason has) same = let wrong : bad_record offset reason ≡ more_record = same in absurd cc
 
 pub more-record_at : (mode : Mode) (input : List ℕ) → AreBytes input → record_at mode input ≡ taken.More → IsUnended mode input
-more-record_at mode input fits e = said_more mode input (record_at mode input) (says mode input fits) e
+more-record_at mode input fits e = stated_more mode input (record_at mode input) (states mode input fits) e
 
 -- ---- laws
 
@@ -110,19 +110,19 @@ later_of : (mode : Mode) (it : Record) (text rest more : List ℕ) → IsWholeRe
 later_of mode it text [] more is = record-later exact (layout_of mode) it 0 text (first_of more None) is
 later_of mode it text (b ∷ rest) more is = is
 
-stable_by : (mode : Mode) (input more : List ℕ) (answer : Taken Record) → Says mode input answer → (answer ≡ taken.More → ⊥) → record_at mode (input ++ more) ≡ answer
-stable_by mode input more answer (says_got row used is) wanted =
+stable_by : (mode : Mode) (input more : List ℕ) (answer : Taken Record) → States mode input answer → (answer ≡ taken.More → ⊥) → record_at mode (input ++ more) ≡ answer
+stable_by mode input more answer (states_got row used is) wanted =
     let text = take used input in
     let rest = drop used input in
     let split : input ≡ text ++ rest = sym (take-append-drop used input) in
     let count : length text ≡ used = omega (arith, length-take used input, is.within) in
     record_at-only mode (input ++ more) row text (rest ++ more) (later_of mode row text rest more is.is_whole) (ap (λ (l : List ℕ). l ++ more) split ∙ append_assoc text rest more) ∙ ap (λ (n : ℕ). got_record row n) count
-stable_by mode input more answer (says_more ends) wanted = absurd (wanted refl)
-stable_by mode input more answer (says_bad place reason has) wanted = record_at-bad mode (input ++ more) place reason (fault-grows exact (layout_of mode) 0 input more place reason has)
+stable_by mode input more answer (states_more ends) wanted = absurd (wanted refl)
+stable_by mode input more answer (states_bad offset reason has) wanted = record_at-bad mode (input ++ more) offset reason (fault-grows exact (layout_of mode) 0 input more offset reason has)
 
 -- a longer input has the same answer, once it is not More
 pub record_at-stable : (mode : Mode) (input more : List ℕ) → AreBytes input → (record_at mode input ≡ taken.More → ⊥) → record_at mode (input ++ more) ≡ record_at mode input
-record_at-stable mode input more fits wanted = stable_by mode input more (record_at mode input) (says mode input fits) wanted
+record_at-stable mode input more fits wanted = stable_by mode input more (record_at mode input) (states mode input fits) wanted
 
 -- two whole records at one place are one
 pub one_record : (mode : Mode) (r s : Record) (text rest other more : List ℕ) → IsWholeRecord mode r text (first_of rest None) → IsWholeRecord mode s other (first_of more None) → text ++ rest ≡ other ++ more → (r ≡ s) × (text ≡ other)

@@ -19,7 +19,7 @@ use Rattle.mufom_records.proofs.RecordLaws.{exact}
 
 -- ---- two spellings of which one begins the other
 
--- two numbers at the front of one list are one
+-- two numbers at the start of one list are one
 one_number : (n m : ℕ) (one two rest more : List ℕ) → SpellsNumber n one → SpellsNumber m two → one ++ rest ≡ two ++ more → (n ≡ m) × (length one ≡ length two)
 one_number n m one two rest more first second same =
     let e : taken.Got n (length one) ≡ taken.Got m (length two) = sym (number_at-spelling n one rest first) ∙ ap number_at same ∙ number_at-spelling m two more second in
@@ -41,14 +41,14 @@ not_none n (b ∷ bytes) spells none = cc
 
 one_row : (ns ms bytes : List ℕ) → SpellsNumbers ns bytes → SpellsNumbers ms bytes → ns ≡ ms
 one_row [] [] bytes first second = refl
-one_row [] (m ∷ ms) bytes none (one, two, spelled, spells, parts) = absurd (not_none m one spelled (front_none one two (sym parts ∙ none))) where
-  front_none : (xs ys : List ℕ) → xs ++ ys ≡ [] → xs ≡ []
-  front_none [] ys e = refl
-  front_none (x ∷ xs) ys e = absurd cc
-one_row (n ∷ ns) [] bytes (one, two, spelled, spells, parts) none = absurd (not_none n one spelled (front_none one two (sym parts ∙ none))) where
-  front_none : (xs ys : List ℕ) → xs ++ ys ≡ [] → xs ≡ []
-  front_none [] ys e = refl
-  front_none (x ∷ xs) ys e = absurd cc
+one_row [] (m ∷ ms) bytes none (one, two, spelled, spells, parts) = absurd (not_none m one spelled (prefix_none one two (sym parts ∙ none))) where
+  prefix_none : (xs ys : List ℕ) → xs ++ ys ≡ [] → xs ≡ []
+  prefix_none [] ys e = refl
+  prefix_none (x ∷ xs) ys e = absurd cc
+one_row (n ∷ ns) [] bytes (one, two, spelled, spells, parts) none = absurd (not_none n one spelled (prefix_none one two (sym parts ∙ none))) where
+  prefix_none : (xs ys : List ℕ) → xs ++ ys ≡ [] → xs ≡ []
+  prefix_none [] ys e = refl
+  prefix_none (x ∷ xs) ys e = absurd cc
 one_row (n ∷ ns) (m ∷ ms) bytes (one, two, spelled, spells, parts) (one2, two2, spelled2, spells2, parts2) =
     let same = one_number n m one one2 two two2 spelled spelled2 (sym parts ∙ parts2) in
     let tails = same_length one one2 two two2 (sym parts ∙ parts2) same.1 in
@@ -71,31 +71,31 @@ no_tree bytes tree spells none =
     let e : [] ≡ begins.0 ∷ begins.1 = sym (append-nil bytes ∙ none) ∙ begins.2 in cc
 
 -- a field whose spelling does not see what follows
-by_bytes : (f : Field) (x y : ValueOf f) (at : ℕ) (front : List ℕ) → SpellsField f x at front None → SpellsField f y at front None → x ≡ y
-by_bytes f x y at front first second =
-    let input = zeros at ++ front in
-    let split : drop at input ≡ front ++ [] = dropped at front ∙ sym (append-nil front) in
-    same_value x y (at + length front) (at + length front) (sym ((exact f).only input at x front [] first split) ∙ (exact f).only input at y front [] second split)
+by_bytes : (f : Field) (x y : ValueOf f) (at : ℕ) (prefix : List ℕ) → SpellsField f x at prefix None → SpellsField f y at prefix None → x ≡ y
+by_bytes f x y at prefix first second =
+    let input = zeros at ++ prefix in
+    let split : drop at input ≡ prefix ++ [] = dropped at prefix ∙ sym (append-nil prefix) in
+    same_value x y (at + length prefix) (at + length prefix) (sym ((exact f).only input at x prefix [] first split) ∙ (exact f).only input at y prefix [] second split)
 
-same_field : (f : Field) (x y : ValueOf f) (at : ℕ) (front : List ℕ) (next other : Option ℕ) → SpellsField f x at front next → SpellsField f y at front other → x ≡ y
-same_field byte x y at front next other first second = by_bytes byte x y at front first second
-same_field (number fits place fault) x y at front next other first second = by_bytes (number fits place fault) x y at front first second
-same_field string x y at front next other first second = by_bytes string x y at front first second
-same_field (run n) x y at front next other first second = by_bytes (run n) x y at front first second
-same_field (letter known) None None at front next other first second = refl
-same_field (letter known) None (Some b) at front next other first second = let e : [] ≡ b ∷ [] = sym first.0 ∙ second.0 in absurd cc
-same_field (letter known) (Some b) None at front next other first second = let e : [] ≡ b ∷ [] = sym second.0 ∙ first.0 in absurd cc
-same_field (letter known) (Some b) (Some c) at front next other first second = by_bytes (letter known) (Some b) (Some c) at front first second
-same_field optional_number None None at front next other first second = refl
-same_field optional_number None (Some n) at front next other first second = absurd (not_none n front second first.0)
-same_field optional_number (Some n) None at front next other first second = absurd (not_none n front first second.0)
-same_field optional_number (Some n) (Some m) at front next other first second = by_bytes optional_number (Some n) (Some m) at front first second
-same_field (numbers most) x y at front next other first second = ap items_of (one_row x.items y.items front first.0 second.0)
-same_field expression x y at front next other first second = first.1 ∙ sym second.1
-same_field optional_expression None None at front next other first second = refl
-same_field optional_expression None (Some y) at front next other first second = absurd (no_tree front second.0.0 second.0.1 first.0)
-same_field optional_expression (Some x) None at front next other first second = absurd (no_tree front first.0.0 first.0.1 second.0)
-same_field optional_expression (Some x) (Some y) at front next other first second = ap (λ (s : Span). Some s) (first.1 ∙ sym second.1)
+same_field : (f : Field) (x y : ValueOf f) (at : ℕ) (prefix : List ℕ) (next other : Option ℕ) → SpellsField f x at prefix next → SpellsField f y at prefix other → x ≡ y
+same_field byte x y at prefix next other first second = by_bytes byte x y at prefix first second
+same_field (number fits offset fault) x y at prefix next other first second = by_bytes (number fits offset fault) x y at prefix first second
+same_field string x y at prefix next other first second = by_bytes string x y at prefix first second
+same_field (run n) x y at prefix next other first second = by_bytes (run n) x y at prefix first second
+same_field (letter known) None None at prefix next other first second = refl
+same_field (letter known) None (Some b) at prefix next other first second = let e : [] ≡ b ∷ [] = sym first.0 ∙ second.0 in absurd cc
+same_field (letter known) (Some b) None at prefix next other first second = let e : [] ≡ b ∷ [] = sym second.0 ∙ first.0 in absurd cc
+same_field (letter known) (Some b) (Some c) at prefix next other first second = by_bytes (letter known) (Some b) (Some c) at prefix first second
+same_field optional_number None None at prefix next other first second = refl
+same_field optional_number None (Some n) at prefix next other first second = absurd (not_none n prefix second first.0)
+same_field optional_number (Some n) None at prefix next other first second = absurd (not_none n prefix first second.0)
+same_field optional_number (Some n) (Some m) at prefix next other first second = by_bytes optional_number (Some n) (Some m) at prefix first second
+same_field (numbers most) x y at prefix next other first second = ap items_of (one_row x.items y.items prefix first.0 second.0)
+same_field expression x y at prefix next other first second = first.1 ∙ sym second.1
+same_field optional_expression None None at prefix next other first second = refl
+same_field optional_expression None (Some y) at prefix next other first second = absurd (no_tree prefix second.0.0 second.0.1 first.0)
+same_field optional_expression (Some x) None at prefix next other first second = absurd (no_tree prefix first.0.0 first.0.1 second.0)
+same_field optional_expression (Some x) (Some y) at prefix next other first second = ap (λ (s : Span). Some s) (first.1 ∙ sym second.1)
 
 -- ---- records by bytes
 
@@ -104,27 +104,27 @@ first_of-option None = refl
 first_of-option (Some b) = refl
 
 -- of two values that the same fields begin with, neither has fewer bytes
-not_shorter : (f : Field) (x y : ValueOf f) (at : ℕ) (front back front2 back2 : List ℕ) (next other : Option ℕ) → SpellsField f x at front (first_of back next) → SpellsField f y at front2 (first_of back2 other) → front ++ back ≡ front2 ++ back2
-    → length front < length front2 → ⊥
-not_shorter f x y at front [] front2 back2 next other first second same less =
-    omega (arith, less, ap length same, length-append front [], length-append front2 back2)
-not_shorter f x y at front (b ∷ back) front2 back2 next other first second same less =
-    let behind = option_to_list other in
-    let input = zeros at ++ ((front ++ b ∷ back) ++ behind) in
-    let one : drop at input ≡ front ++ ((b ∷ back) ++ behind) = dropped at ((front ++ b ∷ back) ++ behind) ∙ append_assoc front (b ∷ back) behind in
-    let two : drop at input ≡ front2 ++ (back2 ++ behind) = dropped at ((front ++ b ∷ back) ++ behind) ∙ ap (λ (l : List ℕ). l ++ behind) same ∙ append_assoc front2 back2 behind in
-    let follows : first_of (back2 ++ behind) None ≡ first_of back2 other = first_of-append back2 behind None ∙ ap (first_of back2) (first_of-option other) in
-    let x_read = (exact f).only input at x front ((b ∷ back) ++ behind) first one in
-    let y_read = (exact f).only input at y front2 (back2 ++ behind) (subst (λ (n : Option ℕ). SpellsField f y at front2 n) (sym follows) second) two in
-    let place = same_place x y (at + length front) (at + length front2) (sym x_read ∙ y_read) in
-    omega (arith, less, place)
+not_shorter : (f : Field) (x y : ValueOf f) (at : ℕ) (prefix back front2 back2 : List ℕ) (next other : Option ℕ) → SpellsField f x at prefix (first_of back next) → SpellsField f y at front2 (first_of back2 other) → prefix ++ back ≡ front2 ++ back2
+    → length prefix < length front2 → ⊥
+not_shorter f x y at prefix [] front2 back2 next other first second same less =
+    omega (arith, less, ap length same, length-append prefix [], length-append front2 back2)
+not_shorter f x y at prefix (b ∷ back) front2 back2 next other first second same less =
+    let after = option_to_list other in
+    let input = zeros at ++ ((prefix ++ b ∷ back) ++ after) in
+    let one : drop at input ≡ prefix ++ ((b ∷ back) ++ after) = dropped at ((prefix ++ b ∷ back) ++ after) ∙ append_assoc prefix (b ∷ back) after in
+    let two : drop at input ≡ front2 ++ (back2 ++ after) = dropped at ((prefix ++ b ∷ back) ++ after) ∙ ap (λ (l : List ℕ). l ++ after) same ∙ append_assoc front2 back2 after in
+    let follows : first_of (back2 ++ after) None ≡ first_of back2 other = first_of-append back2 after None ∙ ap (first_of back2) (first_of-option other) in
+    let x_read = (exact f).only input at x prefix ((b ∷ back) ++ after) first one in
+    let y_read = (exact f).only input at y front2 (back2 ++ after) (subst (λ (n : Option ℕ). SpellsField f y at front2 n) (sym follows) second) two in
+    let offset = same_place x y (at + length prefix) (at + length front2) (sym x_read ∙ y_read) in
+    omega (arith, less, offset)
 
-one_front : (f : Field) (x y : ValueOf f) (at : ℕ) (front back front2 back2 : List ℕ) (next other : Option ℕ) → SpellsField f x at front (first_of back next) → SpellsField f y at front2 (first_of back2 other) → front ++ back ≡ front2 ++ back2
-    → (front ≡ front2) × (back ≡ back2)
-one_front f x y at front back front2 back2 next other first second same = same_length front front2 back back2 same (elim (cases_lt (length front) (length front2)) [
-  | inl less ↦ absurd (not_shorter f x y at front back front2 back2 next other first second same less)
-  | inr most ↦ elim (cases_lt (length front2) (length front)) [
-    | inl less ↦ absurd (not_shorter f y x at front2 back2 front back other next second first (sym same) less)
+one_prefix : (f : Field) (x y : ValueOf f) (at : ℕ) (prefix back front2 back2 : List ℕ) (next other : Option ℕ) → SpellsField f x at prefix (first_of back next) → SpellsField f y at front2 (first_of back2 other) → prefix ++ back ≡ front2 ++ back2
+    → (prefix ≡ front2) × (back ≡ back2)
+one_prefix f x y at prefix back front2 back2 next other first second same = same_length prefix front2 back back2 same (elim (cases_lt (length prefix) (length front2)) [
+  | inl less ↦ absurd (not_shorter f x y at prefix back front2 back2 next other first second same less)
+  | inr most ↦ elim (cases_lt (length front2) (length prefix)) [
+    | inl less ↦ absurd (not_shorter f y x at front2 back2 prefix back other next second first (sym same) less)
     | inr least ↦ omega (arith, most, least)
   ]
 ])
@@ -132,13 +132,13 @@ one_front f x y at front back front2 back2 next other first second same = same_l
 same_record : (layout : Layout) (r s : Record) (at : ℕ) (bytes : List ℕ) (next other : Option ℕ) → SpellsRecord layout r at bytes next → SpellsRecord layout s at bytes other → r ≡ s
 same_record (whole row) r s at bytes next other first second = first.0 ∙ sym second.0
 same_record (refused back reason) r s at bytes next other first second = absurd first
-same_record (field f rest) r s at bytes next other (x, front, back, spelled, spells, parts) (y, front2, back2, spelled2, spells2, parts2) =
-    let both = one_front f x y at front back front2 back2 next other spelled spelled2 (sym parts ∙ parts2) in
-    let same : x ≡ y = same_field f x y at front (first_of back next) (first_of back2 other) spelled (subst (λ (l : List ℕ). SpellsField f y at l (first_of back2 other)) (sym both.0) spelled2) in
-    let other_spells : SpellsRecord (rest x) s (at + length front) back other
-    = subst (λ (v : ValueOf f). SpellsRecord (rest v) s (at + length front) back other) (sym same)
+same_record (field f rest) r s at bytes next other (x, prefix, back, spelled, spells, parts) (y, front2, back2, spelled2, spells2, parts2) =
+    let both = one_prefix f x y at prefix back front2 back2 next other spelled spelled2 (sym parts ∙ parts2) in
+    let same : x ≡ y = same_field f x y at prefix (first_of back next) (first_of back2 other) spelled (subst (λ (l : List ℕ). SpellsField f y at l (first_of back2 other)) (sym both.0) spelled2) in
+    let other_spells : SpellsRecord (rest x) s (at + length prefix) back other
+    = subst (λ (v : ValueOf f). SpellsRecord (rest v) s (at + length prefix) back other) (sym same)
     (subst (λ (l : List ℕ). SpellsRecord (rest y) s (at + length l) back other) (sym both.0) (subst (λ (l : List ℕ). SpellsRecord (rest y) s (at + length front2) l other) (sym both.1) spells2)) in
-    same_record (rest x) r s (at + length front) back next other spells other_spells
+    same_record (rest x) r s (at + length prefix) back next other spells other_spells
 
 pub one_by_bytes : (mode : Mode) (r s : Record) (text : List ℕ) (next other : Option ℕ) → IsWholeRecord mode r text next → IsWholeRecord mode s text other → r ≡ s
 one_by_bytes mode r s text next other first second = same_record (layout_of mode) r s 0 text next other first second

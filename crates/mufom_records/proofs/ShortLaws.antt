@@ -48,18 +48,18 @@ token_short (Fun f) bytes is = let all = ap length is in omega (arith, all)
 
 tokens_short : (tokens : List Token) (bytes : List ℕ) → SpellsTokens tokens bytes → length bytes ≤ 10 * length tokens
 tokens_short [] bytes is = let none = ap length is in omega (arith, none)
-tokens_short (token ∷ tokens) bytes (front, back, first, later, same) =
-    let one = token_short token front first in
+tokens_short (token ∷ tokens) bytes (prefix, back, first, later, same) =
+    let one = token_short token prefix first in
     let rest = tokens_short tokens back later in
-    let all = ap length same ∙ length-append front back in
+    let all = ap length same ∙ length-append prefix back in
     omega (arith, one, rest, all)
 
 numbers_short : (ns bytes : List ℕ) → SpellsNumbers ns bytes → length bytes ≤ 9 * length ns
 numbers_short [] bytes is = let none = ap length is in omega (arith, none)
-numbers_short (n ∷ ns) bytes (front, back, first, later, same) =
-    let one = number_short n front first in
+numbers_short (n ∷ ns) bytes (prefix, back, first, later, same) =
+    let one = number_short n prefix first in
     let rest = numbers_short ns back later in
-    let all = ap length same ∙ length-append front back in
+    let all = ap length same ∙ length-append prefix back in
     omega (arith, one, rest, all)
 
 -- a list that is not empty has a length
@@ -67,7 +67,7 @@ some_length : (rest : List ℕ) → rest ≢ [] → 0 < length rest
 some_length [] none = absurd (none refl)
 some_length (b ∷ rest) none = omega arith
 
--- the front of a number, and not all of it
+-- the prefix of a number, and not all of it
 cut_number_short : (bytes : List ℕ) → IsCutOffNumber bytes → length bytes < 9
 cut_number_short bytes (n, cut) =
     let rest = cut.0 in
@@ -83,7 +83,7 @@ cut_token_short bytes (inr (it, rest, same, n, cut)) = let few = cut_number_shor
 -- how many bytes a field has at most
 abbrev most : Field → ℕ
 most byte = 1
-most (number fits place fault) = 9
+most (number fits fault_offset fault) = 9
 most string = 65538
 most (run n) = n
 most (letter known) = 1
@@ -96,16 +96,16 @@ expression_short : (bytes : List ℕ) (x : ValueOf expression) (at : ℕ) (next 
 expression_short bytes x at next is = let few = is.0.1.0 in let all = tokens_short _ bytes is.0.1.1 in omega (arith, few, all)
 
 ends_short : (bytes : List ℕ) → ExpressionEnds bytes → length bytes < 2560
-ends_short bytes (tokens, terms, front, rest, spells, leave, few, cut, same) =
-    let one = tokens_short tokens front spells in
+ends_short bytes (tokens, terms, prefix, rest, spells, leave, few, cut, same) =
+    let one = tokens_short tokens prefix spells in
     let last = cut_token_short rest cut in
-    let all = ap length same ∙ length-append front rest in
+    let all = ap length same ∙ length-append prefix rest in
     omega (arith, one, last, all, few)
 
 spelled_short : (f : Field) (x : ValueOf f) (at : ℕ) (bytes : List ℕ) (next : Option ℕ) → SpellsField f x at bytes next → length bytes ≤ most f
 spelled_short byte x at bytes next is = let all = ap length is in omega (arith, all)
-spelled_short (number fits place fault) x at bytes next is = number_short x bytes is.0
-spelled_short string x at bytes next (lead, text, leads, fits, place, same) = let few = string_short text bytes (lead, leads, fits, same) in omega (arith, few)
+spelled_short (number fits fault_offset fault) x at bytes next is = number_short x bytes is.0
+spelled_short string x at bytes next (lead, text, leads, fits, fault_offset, same) = let few = string_short text bytes (lead, leads, fits, same) in omega (arith, few)
 spelled_short (run n) x at bytes next is = let all = is.0 in omega (arith, all)
 spelled_short (letter known) None at bytes next is = let all = ap length is.0 in omega (arith, all)
 spelled_short (letter known) (Some b) at bytes next is = let all = ap length is.0 in omega (arith, all)
@@ -119,7 +119,7 @@ spelled_short optional_expression (Some x) at bytes next is = expression_short b
 -- bytes that end before a field or inside it have fewer than the field at most
 unended_short : (f : Field) (bytes : List ℕ) → FieldEnds f bytes → length bytes < most f
 unended_short byte bytes is = let none = ap length is in omega (arith, none)
-unended_short (number fits place fault) bytes is = cut_number_short bytes is
+unended_short (number fits fault_offset fault) bytes is = cut_number_short bytes is
 unended_short string bytes (text, cut) =
     let rest = cut.0 in
     let some = cut.1 in
@@ -129,10 +129,10 @@ unended_short string bytes (text, cut) =
 unended_short (run n) bytes is = is
 unended_short (letter known) bytes is = let none = ap length is in omega (arith, none)
 unended_short optional_number bytes is = cut_number_short bytes is
-unended_short (numbers count) bytes (ns, front, rest, spells, few, cut, same) =
-    let one = numbers_short ns front spells in
+unended_short (numbers count) bytes (ns, prefix, rest, spells, few, cut, same) =
+    let one = numbers_short ns prefix spells in
     let last = cut_number_short rest cut in
-    let all = ap length same ∙ length-append front rest in
+    let all = ap length same ∙ length-append prefix rest in
     omega (arith, one, last, all, few)
 unended_short expression bytes is = ends_short bytes is
 unended_short optional_expression bytes is = ends_short bytes is
@@ -141,7 +141,7 @@ unended_short optional_expression bytes is = ends_short bytes is
 
 -- what is known of a field's value
 abbrev Admits : (f : Field) → ValueOf f → Type 0
-Admits (number fits place fault) n = fits n ≡ true
+Admits (number fits fault_offset fault) n = fits n ≡ true
 Admits byte x = Unit {0}
 Admits string x = Unit {0}
 Admits (run n) x = Unit {0}
@@ -152,7 +152,7 @@ Admits expression x = Unit {0}
 Admits optional_expression x = Unit {0}
 
 admitted : (f : Field) (x : ValueOf f) (at : ℕ) (bytes : List ℕ) (next : Option ℕ) → SpellsField f x at bytes next → Admits f x
-admitted (number fits place fault) x at bytes next is = is.1
+admitted (number fits fault_offset fault) x at bytes next is = is.1
 admitted byte x at bytes next is = tt
 admitted string x at bytes next is = tt
 admitted (run n) x at bytes next is = tt
@@ -162,7 +162,7 @@ admitted (numbers count) x at bytes next is = tt
 admitted expression x at bytes next is = tt
 admitted optional_expression x at bytes next is = tt
 
--- the fields of the layout have at most so many bytes
+-- the fields of the layout have at most the given number of bytes
 abbrev AtMost : Layout → ℕ → Type 0
 AtMost (whole row) n = Unit {0}
 AtMost (refused back reason) n = Unit {0}
@@ -172,10 +172,10 @@ early_short : (l : Layout) (n at : ℕ) (bytes : List ℕ) → AtMost l n → En
 early_short (whole row) n at bytes fits early = elim early [ ]
 early_short (refused back reason) n at bytes fits early = elim early [ ]
 early_short (field f rest) n at bytes fits (inl ends) = let few = unended_short f bytes ends in let room = fits.0 in omega (arith, few, room)
-early_short (field f rest) n at bytes fits (inr (x, front, back, spells, ends, same)) =
-    let first = spelled_short f x at front _ spells in
-    let later = early_short (rest x) (n - most f) (at + length front) back (fits.1 x (admitted f x at front _ spells)) ends in
-    let all = ap length same ∙ length-append front back in
+early_short (field f rest) n at bytes fits (inr (x, prefix, back, spells, ends, same)) =
+    let first = spelled_short f x at prefix _ spells in
+    let later = early_short (rest x) (n - most f) (at + length prefix) back (fits.1 x (admitted f x at prefix _ spells)) ends in
+    let all = ap length same ∙ length-append prefix back in
     omega (arith, first, later, all)
 
 choose : (c : Bool) (a b : Layout) (n : ℕ) → AtMost a n → AtMost b n → AtMost (if c then a else b) n

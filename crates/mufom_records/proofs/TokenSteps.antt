@@ -21,7 +21,7 @@ use Rattle.mufom_expr.specs.Spelled.{SpellsToken, BeginsWith, IsLeftOutFunction,
 use Rattle.mufom_expr.specs.TokenAt.{begins_number, begins_token, token_at}
 use Rattle.mufom_expr.proofs.Running.{enough}
 use Rattle.mufom_expr.proofs.Leaves.{terms_after-append, leaves-zero}
-use Rattle.mufom_expr.proofs.TokenLaws.{Says, says, token_at-spelling, cut_off-more, left_out-function, left_out-letter, bad_index}
+use Rattle.mufom_expr.proofs.TokenLaws.{States, states, token_at-spelling, cut_off-more, left_out-function, left_out-letter, bad_index}
 use Rattle.mufom_records.specs.declared.stop.Stop.{Stop}
 use Rattle.mufom_records.specs.declared.stop.Stop.TheVariants.{More, Bad}
 use Rattle.mufom_records.specs.Reading.{byte_at, terms_with, expression_end, tokens_from}
@@ -258,23 +258,23 @@ module _ (room terms : ℕ) (before : List Token) (input : List ℕ) (at : ℕ) 
   letter_both [] begins left_out = left_out
   letter_both (b ∷ bytes) (c, rest, same, h) left_out = let e : c ≡ b = cc in (subst (λ (n : ℕ). begins_token n ≡ true) e h, left_out)
 
-  token_step : (answer : Taken Token) → Begins (drop at input) → Says (drop at input) answer → Step room terms before input at
-  token_step (taken.Got token used) begins said = got_step token used said.0 said.1
-  token_step taken.More begins said = cut said (tokens-cut room terms input at (drop at input) refl said)
-  token_step (taken.Bad zero UnsupportedFunction) begins said = as_fault 0 UnsupportedFunction (refl, said)
-  token_step (taken.Bad zero UnsupportedVariable) begins said = as_fault 0 UnsupportedVariable (refl, letter_both (drop at input) begins said)
-  token_step (taken.Bad (suc zero) BadNumber) begins said = elim (cases_eq room 0) [
-    | inl none ↦ as_fault 0 TooLong (refl, omega (arith, count, none), inr said)
-    | inr some ↦ as_fault 1 BadNumber (refl, omega (arith, count, some), said)
+  token_step : (answer : Taken Token) → Begins (drop at input) → States (drop at input) answer → Step room terms before input at
+  token_step (taken.Got token used) begins stated = got_step token used stated.0 stated.1
+  token_step taken.More begins stated = cut stated (tokens-cut room terms input at (drop at input) refl stated)
+  token_step (taken.Bad zero UnsupportedFunction) begins stated = as_fault 0 UnsupportedFunction (refl, stated)
+  token_step (taken.Bad zero UnsupportedVariable) begins stated = as_fault 0 UnsupportedVariable (refl, letter_both (drop at input) begins stated)
+  token_step (taken.Bad (suc zero) BadNumber) begins stated = elim (cases_eq room 0) [
+    | inl none ↦ as_fault 0 TooLong (refl, omega (arith, count, none), inr stated)
+    | inr some ↦ as_fault 1 BadNumber (refl, omega (arith, count, some), stated)
   ]
-  token_step (taken.Bad _ _) begins said = absurd said
+  token_step (taken.Bad _ _) begins stated = absurd stated
 
   step_at : AreBytes input → (bytes : List ℕ) → drop at input ≡ bytes → Step room terms before input at
   step_at fits [] e =
-      let none : IsCutOffToken (drop at input) = subst (λ (l : List ℕ). IsCutOffToken l) (sym e) (says [] tt) in
+      let none : IsCutOffToken (drop at input) = subst (λ (l : List ℕ). IsCutOffToken l) (sym e) (states [] tt) in
       cut none (tokens-none room terms input at e)
   step_at fits (b ∷ rest) e = elim (cases_Bool (begins_token b)) [
-    | inl h ↦ token_step (token_at (drop at input)) (b, rest, e, h) (says (drop at input) (AreBytes-drop at input fits))
+    | inl h ↦ token_step (token_at (drop at input)) (b, rest, e, h) (states (drop at input) (AreBytes-drop at input fits))
     | inr h ↦ end_step (subst (λ (l : List ℕ). EndsTokens l) (sym e) h)
   ]
 

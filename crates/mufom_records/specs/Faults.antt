@@ -1,4 +1,4 @@
--- The faults of fields and records: what stands at a place where a field must stand, and is none. Each is told by the
+-- The faults of fields and records: what stands at a place where a field must stand, and is none. Each is known by the
 -- bytes that show it, whatever follows them.
 use Rattle.std.specs.Prelude.{◌≡◌, ◌⊎◌, ℕ, ◌+◌, ◌-◌, ◌<◌, ◌≤◌, true, false, List, [], ◌++◌, length, Some, None}
 use Rattle.mufom_numbers.specs.declared.reason.Reason.{Reason}
@@ -23,8 +23,8 @@ EndsTokens bytes = BeginsWith (λ b. begins_token b ≡ false) bytes
 abbrev pub BeginsWithToken : (Token → Type 0) → List ℕ → Type 0
 BeginsWithToken Is bytes = (token : Token) × (text : List ℕ) × (rest : List ℕ) × SpellsToken token text × Is token × (bytes ≡ text ++ rest)
 
--- What is wrong at the front of these bytes, where so many tokens stand before them that leave so many terms, and how
--- far behind the front it is named.
+-- What is wrong at the start of these bytes, where the given number of tokens stand before them that leave the given number of terms, and how
+-- far after the prefix it is named.
 abbrev pub TokenFault : ℕ → ℕ → List ℕ → ℕ → Reason → Type 0
 TokenFault tokens terms bytes offset UnsupportedFunction = (offset ≡ 0) × BeginsWith IsLeftOutFunction bytes
 TokenFault tokens terms bytes offset UnsupportedVariable = (offset ≡ 0) × BeginsWith (λ b. (begins_token b ≡ true) × IsLeftOutLetter b) bytes
@@ -37,20 +37,20 @@ TokenFault tokens terms bytes offset _ = ⊥
 
 -- at most 255 tokens stand first, each of which finds its terms, and then there is this
 abbrev pub AfterTokens : List ℕ → (ℕ → ℕ → List ℕ → List ℕ → Type 0) → Type 0
-AfterTokens bytes Is = (tokens : List Token) × (terms : ℕ) × (front : List ℕ) × (rest : List ℕ) × SpellsTokens tokens front
-    × (leaves tokens ≡ Some terms) × (length tokens ≤ 255) × Is (length tokens) terms front rest × (bytes ≡ front ++ rest)
+AfterTokens bytes Is = (tokens : List Token) × (terms : ℕ) × (prefix : List ℕ) × (rest : List ℕ) × SpellsTokens tokens prefix
+    × (leaves tokens ≡ Some terms) × (length tokens ≤ 255) × Is (length tokens) terms prefix rest × (bytes ≡ prefix ++ rest)
 
 -- tokens stand first, and then this fault of one, or of their end
 abbrev pub ExpressionFault : ℕ → List ℕ → ℕ → Reason → Type 0
-ExpressionFault at bytes place reason = (offset : ℕ) × AfterTokens bytes (λ tokens terms front rest. TokenFault tokens terms rest offset reason × (place ≡ at + length front + offset))
+ExpressionFault at bytes fault_offset reason = (offset : ℕ) × AfterTokens bytes (λ tokens terms prefix rest. TokenFault tokens terms rest offset reason × (fault_offset ≡ at + length prefix + offset))
 
 -- tokens stand first, and then the bytes end before another one or inside it
 abbrev pub ExpressionEnds : List ℕ → Type 0
-ExpressionEnds bytes = AfterTokens bytes (λ tokens terms front rest. IsCutOffToken rest)
+ExpressionEnds bytes = AfterTokens bytes (λ tokens terms prefix rest. IsCutOffToken rest)
 
 -- ---- fields
 
--- the bytes are the front of a number, and not all of it
+-- the bytes are the prefix of a number, and not all of it
 abbrev pub IsCutOffNumber : List ℕ → Type 0
 IsCutOffNumber bytes = (n : ℕ) × IsCutOff (SpellsNumber n) bytes
 
@@ -60,26 +60,26 @@ BeginsWithNumber Is bytes = (n : ℕ) × (text : List ℕ) × (rest : List ℕ) 
 
 -- The bytes, which begin at a place, show that the field does not stand there, for this reason, named at that place.
 abbrev pub FieldFault : Field → ℕ → List ℕ → ℕ → Reason → Type 0
-FieldFault byte at bytes place reason = ⊥
-FieldFault (number fits where_ fault) at bytes place reason = ((reason ≡ BadNumber) × (place ≡ at) × BeginsIn 0x89 0xFF bytes)
-    ⊎ ((reason ≡ fault) × (place ≡ where_ at) × BeginsWithNumber (λ n. fits n ≡ false) bytes)
-FieldFault string at bytes place reason = (reason ≡ BadId) × (place ≡ at) × (BeginsIn 0x80 0xDD bytes ⊎ BeginsIn 0xE0 0xFF bytes)
-FieldFault (run n) at bytes place reason = ⊥
-FieldFault (letter known) at bytes place reason = ⊥
-FieldFault optional_number at bytes place reason = ⊥
-FieldFault (numbers most) at bytes place reason = ⊥
-FieldFault expression at bytes place reason = ExpressionFault at bytes place reason
-FieldFault optional_expression at bytes place reason = BeginsWith (λ b. begins_token b ≡ true) bytes × ExpressionFault at bytes place reason
+FieldFault byte at bytes fault_offset reason = ⊥
+FieldFault (number fits where_ fault) at bytes fault_offset reason = ((reason ≡ BadNumber) × (fault_offset ≡ at) × BeginsIn 0x89 0xFF bytes)
+    ⊎ ((reason ≡ fault) × (fault_offset ≡ where_ at) × BeginsWithNumber (λ n. fits n ≡ false) bytes)
+FieldFault string at bytes fault_offset reason = (reason ≡ BadId) × (fault_offset ≡ at) × (BeginsIn 0x80 0xDD bytes ⊎ BeginsIn 0xE0 0xFF bytes)
+FieldFault (run n) at bytes fault_offset reason = ⊥
+FieldFault (letter known) at bytes fault_offset reason = ⊥
+FieldFault optional_number at bytes fault_offset reason = ⊥
+FieldFault (numbers most) at bytes fault_offset reason = ⊥
+FieldFault expression at bytes fault_offset reason = ExpressionFault at bytes fault_offset reason
+FieldFault optional_expression at bytes fault_offset reason = BeginsWith (λ b. begins_token b ≡ true) bytes × ExpressionFault at bytes fault_offset reason
 
 -- The bytes end before the field or inside it, or where it could still begin, and show no fault.
 abbrev pub FieldEnds : Field → List ℕ → Type 0
 FieldEnds byte bytes = bytes ≡ []
-FieldEnds (number fits place fault) bytes = IsCutOffNumber bytes
+FieldEnds (number fits fault_offset fault) bytes = IsCutOffNumber bytes
 FieldEnds string bytes = (text : List ℕ) × IsCutOff (SpellsString text) bytes
 FieldEnds (run n) bytes = length bytes < n
 FieldEnds (letter known) bytes = bytes ≡ []
 FieldEnds optional_number bytes = IsCutOffNumber bytes
-FieldEnds (numbers most) bytes = (ns : List ℕ) × (front : List ℕ) × (rest : List ℕ) × SpellsNumbers ns front × (length ns < most) × IsCutOffNumber rest × (bytes ≡ front ++ rest)
+FieldEnds (numbers most) bytes = (ns : List ℕ) × (prefix : List ℕ) × (rest : List ℕ) × SpellsNumbers ns prefix × (length ns < most) × IsCutOffNumber rest × (bytes ≡ prefix ++ rest)
 FieldEnds expression bytes = ExpressionEnds bytes
 FieldEnds optional_expression bytes = ExpressionEnds bytes
 
@@ -87,23 +87,23 @@ FieldEnds optional_expression bytes = ExpressionEnds bytes
 
 -- Fields of the layout stand first, and then there is this fault.
 abbrev pub HasFault : Layout → ℕ → List ℕ → ℕ → Reason → Type 0
-HasFault (whole row) at bytes place reason = ⊥
-HasFault (refused back why) at bytes place reason = (place ≡ at - back) × (reason ≡ why)
-HasFault (field f rest) at bytes place reason = FieldFault f at bytes place reason
-    ⊎ ((x : ValueOf f) × (front : List ℕ) × (back : List ℕ) × SpellsField f x at front (first_of back None) × HasFault (rest x) (at + length front) back place reason × (bytes ≡ front ++ back))
+HasFault (whole row) at bytes fault_offset reason = ⊥
+HasFault (refused back why) at bytes fault_offset reason = (fault_offset ≡ at - back) × (reason ≡ why)
+HasFault (field f rest) at bytes fault_offset reason = FieldFault f at bytes fault_offset reason
+    ⊎ ((x : ValueOf f) × (prefix : List ℕ) × (back : List ℕ) × SpellsField f x at prefix (first_of back None) × HasFault (rest x) (at + length prefix) back fault_offset reason × (bytes ≡ prefix ++ back))
 
 -- Fields of the layout stand first, and then the bytes end too early.
 abbrev pub EndsEarly : Layout → ℕ → List ℕ → Type 0
 EndsEarly (whole row) at bytes = ⊥
 EndsEarly (refused back why) at bytes = ⊥
 EndsEarly (field f rest) at bytes = FieldEnds f bytes
-    ⊎ ((x : ValueOf f) × (front : List ℕ) × (back : List ℕ) × SpellsField f x at front (first_of back None) × EndsEarly (rest x) (at + length front) back × (bytes ≡ front ++ back))
+    ⊎ ((x : ValueOf f) × (prefix : List ℕ) × (back : List ℕ) × SpellsField f x at prefix (first_of back None) × EndsEarly (rest x) (at + length prefix) back × (bytes ≡ prefix ++ back))
 
--- The input shows this fault of a record that would stand at its front, named at that place.
+-- The input shows this fault of a record that would stand at its start, named at that place.
 abbrev pub IsFaulty : Mode → List ℕ → ℕ → Reason → Type 0
-IsFaulty mode input place reason = HasFault (layout_of mode) 0 input place reason
+IsFaulty mode input fault_offset reason = HasFault (layout_of mode) 0 input fault_offset reason
 
--- The input is the front of a record without a fault, and ends inside a field, before one that must follow, or where an
+-- The input is the prefix of a record without a fault, and ends inside a field, before one that must follow, or where an
 -- optional one could begin.
 abbrev pub IsUnended : Mode → List ℕ → Type 0
 IsUnended mode input = EndsEarly (layout_of mode) 0 input

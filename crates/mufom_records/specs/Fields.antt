@@ -16,16 +16,16 @@ pub data Field : Type 0 where
   -- any byte
   byte : Field
   -- a number that passes the test; one that does not is a fault of this reason, named at this place (of the field's own)
-  number : (fits : ℕ → Bool) → (place : ℕ → ℕ) → (fault : Reason) → Field
+  number : (fits : ℕ → Bool) → (offset : ℕ → ℕ) → (fault : Reason) → Field
   -- a string; its value is the place of its bytes without the lead
   string : Field
-  -- so many bytes; the value is their place
+  -- the given number of bytes; the value is their place
   run : ℕ → Field
   -- one of these bytes, or none
   letter : List ℕ → Field
   -- a number, or none
   optional_number : Field
-  -- at most so many numbers
+  -- at most the given number of numbers
   numbers : ℕ → Field
   -- an expression; its value is the place of its bytes
   expression : Field
@@ -35,7 +35,7 @@ pub data Field : Type 0 where
 -- what a field holds
 abbrev pub ValueOf : Field → Type 0
 ValueOf byte = ℕ
-ValueOf (number fits place fault) = ℕ
+ValueOf (number fits offset fault) = ℕ
 ValueOf string = Span
 ValueOf (run n) = Span
 ValueOf (letter known) = Option ℕ
@@ -49,7 +49,7 @@ abbrev pub Stops : (ℕ → Bool) → Option ℕ → Type 0
 Stops begins None = ⊥
 Stops begins (Some b) = begins b ≡ false
 
--- the part of an input from a place on, of so many bytes
+-- the part of an input from a place on, of the given number of bytes
 abbrev pub span_at : ℕ → ℕ → Span
 span_at start len = record { start = start; len = len }
 
@@ -64,7 +64,7 @@ items_of ns = record { items = ns }
 -- spellings of the numbers, one after the other
 abbrev pub SpellsNumbers : List ℕ → List ℕ → Type 0
 SpellsNumbers [] bytes = bytes ≡ []
-SpellsNumbers (n ∷ ns) bytes = (front : List ℕ) × (back : List ℕ) × SpellsNumber n front × SpellsNumbers ns back × (bytes ≡ front ++ back)
+SpellsNumbers (n ∷ ns) bytes = (prefix : List ℕ) × (back : List ℕ) × SpellsNumber n prefix × SpellsNumbers ns back × (bytes ≡ prefix ++ back)
 
 -- all bytes of an expression, which ends before a byte that begins no token
 abbrev pub SpellsExpression : Span → ℕ → List ℕ → Option ℕ → Type 0
@@ -73,7 +73,7 @@ SpellsExpression span at bytes next = ((tree : Tree) × SpellsTree tree bytes) �
 -- The bytes, which begin at a place and are followed by that byte (or end the input), are the field with this value.
 abbrev pub SpellsField : (f : Field) → ValueOf f → ℕ → List ℕ → Option ℕ → Type 0
 SpellsField byte b at bytes next = bytes ≡ b ∷ []
-SpellsField (number fits place fault) n at bytes next = SpellsNumber n bytes × (fits n ≡ true)
+SpellsField (number fits offset fault) n at bytes next = SpellsNumber n bytes × (fits n ≡ true)
 SpellsField string span at bytes next = (lead : List ℕ) × (text : List ℕ) × IsStringLead (length text) lead × AreBytes text
     × (span ≡ span_at (at + length lead) (length text)) × (bytes ≡ lead ++ text)
 SpellsField (run n) span at bytes next = (length bytes ≡ n) × AreBytes bytes × (span ≡ span_at at n)

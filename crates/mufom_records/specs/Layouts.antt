@@ -14,7 +14,7 @@ use Rattle.mufom_records.specs.declared.record.Record.{Record}
 use Rattle.mufom_records.specs.declared.record.Record.TheVariants as r
 use Rattle.mufom_records.specs.Fields.{Field, ValueOf, byte, number, string, run, letter, optional_number, numbers, expression, optional_expression, is_one_of, SpellsField, first_of}
 
--- a field and what may follow each value of it; no further field, and the record; or that the last bytes, so many of
+-- a field and what may follow each value of it; no further field, and the record; or that the last bytes, the given number of
 -- them, may not stand there
 pub data Layout : Type 0 where
   whole : Record → Layout
@@ -30,8 +30,8 @@ f ▹ rest = field f rest
 abbrev pub SpellsRecord : Layout → Record → ℕ → List ℕ → Option ℕ → Type 0
 SpellsRecord (whole row) record_ at bytes next = (record_ ≡ row) × (bytes ≡ [])
 SpellsRecord (refused back reason) record_ at bytes next = ⊥
-SpellsRecord (field f rest) record_ at bytes next = (x : ValueOf f) × (front : List ℕ) × (back : List ℕ) × SpellsField f x at front (first_of back next)
-    × SpellsRecord (rest x) record_ (at + length front) back next × (bytes ≡ front ++ back)
+SpellsRecord (field f rest) record_ at bytes next = (x : ValueOf f) × (prefix : List ℕ) × (back : List ℕ) × SpellsField f x at prefix (first_of back next)
+    × SpellsRecord (rest x) record_ (at + length prefix) back next × (bytes ≡ prefix ++ back)
 
 -- ---- numbers with their tests
 
@@ -137,12 +137,12 @@ offset = any_number ▹ λ n. any_number ▹ λ value. whole (r.Offset n value)
 abbrev pub numbered_offset : ℕ → Layout
 numbered_offset k = offset_number k ▹ λ n. any_number ▹ λ value. whole (r.Offset n value)
 
--- ST behind the letters of its type: the purpose, the name, and three numbers that may be absent
+-- ST after the letters of its type: the purpose, the name, and three numbers that may be absent
 abbrev pub named_section : ℕ → Bool → Layout
 named_section i absolute = letter purposes ▹ λ purpose. string ▹ λ name. optional_number ▹ λ a. optional_number ▹ λ b. optional_number ▹ λ c.
     whole (r.SectionType i absolute purpose name a b c)
 
--- ST behind its letter A: S
+-- ST after its letter A: S
 abbrev pub absolute_section : ℕ → Layout
 absolute_section i = byte ▹ λ s. if s == 0xD3 then named_section i true else refused 2 BadSectionType
 
@@ -191,7 +191,7 @@ source_begin kind n name = numbers 6 ▹ λ ns. whole (r.BlockBegin kind n name 
 abbrev pub section_begin : ℕ → ℕ → Span → Layout
 section_begin kind n name = any_number ▹ λ type_. index ▹ λ section. expression ▹ λ value. whole (r.BlockBegin kind n name (tail.Section type_ section value))
 
--- BB behind its name: what the kind adds; 3 adds nothing
+-- BB after its name: what the kind adds; 3 adds nothing
 abbrev pub block_by_kind : ℕ → ℕ → Span → Layout
 block_by_kind kind n name = if kind == 3 then whole (r.BlockBegin kind n name tail.Module)
     else (if kind == 5 then source_begin kind n name
@@ -209,11 +209,11 @@ block_end = optional_expression ▹ λ value. whole (r.BlockEnd value)
 abbrev pub set_section : Layout
 set_section = index ▹ λ i. whole (r.SetSection i)
 
--- LD, and an item of literal bytes: a count and so many bytes
+-- LD, and an item of literal bytes: a count and the given number of bytes
 abbrev pub constant : (Span → Record) → Layout
 constant row = count ▹ λ n. run n ▹ λ bytes. whole (row bytes)
 
--- RE behind its times: LD, or LR whose items follow
+-- RE after its times: LD, or LR whose items follow
 abbrev pub repeated : ℕ → ℕ → Layout
 repeated times b = if b == 0xED then constant (r.RepeatConstant times)
     else (if b == 0xE4 then whole (r.RepeatRelocate times) else refused 1 BadRecord)
@@ -222,7 +222,7 @@ repeated times b = if b == 0xED then constant (r.RepeatConstant times)
 abbrev pub repeat : Layout
 repeat = any_number ▹ λ times. byte ▹ λ b. repeated times b
 
--- ASG behind its opening bracket, or without one: an expression, and then the partner of the bracket
+-- ASG after its opening bracket, or without one: an expression, and then the partner of the bracket
 abbrev pub start_by_bracket : Option ℕ → Layout
 start_by_bracket None = expression ▹ λ value. whole (r.Start value)
 start_by_bracket (Some bracket) = expression ▹ λ value. closed_by bracket (whole (r.Start value))
@@ -231,12 +231,12 @@ start_by_bracket (Some bracket) = expression ▹ λ value. closed_by bracket (wh
 abbrev pub start_address : Layout
 start_address = letter opening_brackets ▹ λ bracket. start_by_bracket bracket
 
--- a field of an LR behind its expression and its comma, where there is one: the size, and the closing bracket
+-- a field of an LR after its expression and its comma, where there is one: the size, and the closing bracket
 abbrev pub item_by_comma : ℕ → Span → Option ℕ → Layout
 item_by_comma bracket value None = closed_by bracket (whole (r.FieldItem (kind_of bracket) value None))
 item_by_comma bracket value (Some comma_) = field_size ▹ λ n. closed_by bracket (whole (r.FieldItem (kind_of bracket) value (Some n)))
 
--- an item behind its opening bracket, or one without a bracket
+-- an item after its opening bracket, or one without a bracket
 abbrev pub item_by_bracket : Option ℕ → Layout
 item_by_bracket None = constant r.ConstantItem
 item_by_bracket (Some bracket) = expression ▹ λ value. letter (comma ∷ []) ▹ λ c. item_by_comma bracket value c

@@ -1,4 +1,4 @@
--- One record at the front of an input, read field by field from left to right: its value and the place after it,
+-- One record at the start of an input, read field by field from left to right: its value and the place after it,
 -- that the input ends too early, or the first fault with its place.
 use Rattle.std.specs.Prelude.{ℕ, zero, suc, ◌+◌, ◌-◌, Bool, ◌==◌, nat_lt, List, [], ◌∷◌, length, drop, Option, Some, None, Result, Ok, Err, if◌then◌else◌}
 use Rattle.mufom_numbers.specs.declared.reason.Reason.{Reason}
@@ -27,7 +27,7 @@ abbrev pub ◌>>=◌ : {X Y : Type 0} → Reading X → (X × ℕ → Reading Y)
 (Ok x) >>= next = next x
 (Err stop) >>= next = Err stop
 
--- what stands so far behind the front of the input
+-- what stands so far after the prefix of the input
 abbrev pub moved : {X : Type 0} → ℕ → Taken X → Reading X
 moved at (taken.Got x used) = Ok (x, at + used)
 moved at taken.More = Err More
@@ -48,9 +48,9 @@ plain_number_at input at = moved at (number_at (drop at input))
 
 -- the number at a place, which must pass a test
 abbrev pub tested_number_at : (ℕ → Bool) → (ℕ → ℕ) → Reason → List ℕ → ℕ → Reading ℕ
-tested_number_at fits place fault input at = do
+tested_number_at fits fault_offset fault input at = do
   n ← plain_number_at input at
-  if fits n.0 then Ok (n.0, n.1) else Err (Bad (place at) fault)
+  if fits n.0 then Ok (n.0, n.1) else Err (Bad (fault_offset at) fault)
 
 -- the place of the bytes of the string at a place
 abbrev pub text_at : List ℕ → ℕ → Reading Span
@@ -58,7 +58,7 @@ text_at input at = do
   span ← moved at (string_at (drop at input))
   Ok (span_at (at + span.0.start) span.0.len, span.1)
 
--- the place of so many bytes, which must be there
+-- the place of the given number of bytes, which must be there
 abbrev pub run_at : ℕ → List ℕ → ℕ → Reading Span
 run_at n input at = if nat_lt (length (drop at input)) n then Err More else Ok (span_at at n, at + n)
 
@@ -79,7 +79,7 @@ abbrev pub with_first : Option ℕ → ℕ → Reading (List ℕ) → Reading (L
 with_first None at later = Ok ([], at)
 with_first (Some n) at later = later >>= λ ns. Ok (n ∷ ns.0, ns.1)
 
--- at most so many numbers at a place
+-- at most the given number of numbers at a place
 abbrev pub numbers_at : ℕ → List ℕ → ℕ → Reading (List ℕ)
 numbers_at zero input at = Ok ([], at)
 numbers_at (suc k) input at = do
@@ -88,8 +88,8 @@ numbers_at (suc k) input at = do
 
 -- ---- expressions
 
--- What a token makes of the terms before it, where so many more tokens may stand. Of two faults at one byte the one of
--- the least number is named, so Underflow goes before TooLong, and a fault of a variable's index, a byte later, behind.
+-- What a token makes of the terms before it, where the given number of further tokens may stand. Of two faults at one byte the one of
+-- the least number is named, so Underflow goes before TooLong, and a fault of a variable's index, a byte later, after.
 abbrev pub terms_with : ℕ → ℕ → ℕ → Taken Token → Reading ℕ
 terms_with room terms at taken.More = Err More
 terms_with zero terms at (taken.Bad (suc offset) reason) = Err (Bad at TooLong)
@@ -107,7 +107,7 @@ token_or_end room terms input at next = do
   b ← byte_at input at
   if begins_token b.0 then (terms_with room terms at (token_at (drop at input)) >>= next) else expression_end (room == 255) terms at
 
--- the place after the tokens from a place on, where so many more of them may stand
+-- the place after the tokens from a place on, where the given number of them may stand
 abbrev pub tokens_from : ℕ → ℕ → List ℕ → ℕ → Reading (Unit {0})
 tokens_from zero terms input at = token_or_end 0 terms input at (λ after. Err More)
 tokens_from (suc room) terms input at = token_or_end (suc room) terms input at (λ after. tokens_from room after.0 input after.1)
@@ -129,7 +129,7 @@ optional_expression_at input at = do
 -- the field at a place
 abbrev pub field_at : (f : Field) → List ℕ → ℕ → Reading (ValueOf f)
 field_at byte input at = byte_at input at
-field_at (number fits place fault) input at = tested_number_at fits place fault input at
+field_at (number fits fault_offset fault) input at = tested_number_at fits fault_offset fault input at
 field_at string input at = text_at input at
 field_at (run n) input at = run_at n input at
 field_at (letter known) input at = letter_at known input at
@@ -144,12 +144,12 @@ read (whole row) input at = Ok (row, at)
 read (refused back reason) input at = Err (Bad (at - back) reason)
 read (field f rest) input at = field_at f input at >>= λ x. read (rest x.0) input x.1
 
--- the answer of a reading at the front of the input
+-- the answer of a reading at the start of the input
 abbrev pub as_taken : {X : Type 0} → Reading X → Taken X
 as_taken (Ok x) = taken.Got x.0 x.1
 as_taken (Err More) = taken.More
-as_taken (Err (Bad place reason)) = taken.Bad place reason
+as_taken (Err (Bad fault_offset reason)) = taken.Bad fault_offset reason
 
--- The record at the front of the input, in a mode.
+-- The record at the start of the input, in a mode.
 abbrev pub record_at : Mode → List ℕ → Taken Record
 record_at mode input = as_taken (read (layout_of mode) input 0)

@@ -24,7 +24,7 @@ fn kind_of(opening: u8) -> FieldKind
     }
 }
 
-// The partner of an opening bracket, behind which the record ends.
+// The partner of an opening bracket, after which the record ends.
 fn closed_by(opening: u8, row: Record, input: &[u8], at: usize) -> Read
     requires within { at ≤ length input.now }
     requires parts { HasParts input.now row }

@@ -30,7 +30,7 @@ fn operands(token: Token) -> usize
     }
 }
 
-// What the token at a place makes of the terms before it, where so many more tokens may stand.
+// What the token at a place makes of the terms before it, where the given number of further tokens may stand.
 fn terms_at(room: usize, terms: usize, input: &[u8], at: usize) -> Result<(usize, usize), Stop>
     requires at { at ≤ length input.now }
     requires terms { terms ≤ 255 }
@@ -59,7 +59,7 @@ fn terms_at(room: usize, terms: usize, input: &[u8], at: usize) -> Result<(usize
     }
 }
 
-// The end of an expression, which leaves so many terms.
+// The end of an expression, which leaves the given number of terms.
 fn end_of(is_empty: bool, terms: usize, at: usize) -> Result<((), usize), Stop>
     ensures exact { result ≡ expression_end is_empty terms at }
     ensures within { IfOk result (λ r. r.1 ≡ at) }
@@ -73,7 +73,7 @@ fn end_of(is_empty: bool, terms: usize, at: usize) -> Result<((), usize), Stop>
     }
 }
 
-// The place after the tokens from a place on, where so many more of them may stand: at most 255.
+// The place after the tokens from a place on, where the given number of them may stand: at most 255.
 fn tokens(room: usize, terms: usize, input: &[u8], at: usize) -> Result<((), usize), Stop>
     requires at { at ≤ length input.now }
     requires few { room + terms ≤ 255 }

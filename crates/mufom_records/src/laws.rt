@@ -11,7 +11,7 @@ ghost use Rattle.mufom_records.specs.Reading.{record_at};
 use mufom_numbers::Taken;
 
 /// A longer input gives the same answer, once that is not `More`. So it makes no difference how bytes
-/// are cut into pieces.
+/// are cut into chunks.
 pub fn longer_inputs_answer_the_same()
     ensures { (mode : Mode) (input more : List ℕ) → AreBytes input → record_at mode input ≢ Taken.More → record_at mode (input ++ more) ≡ record_at mode input }
 {}
@@ -23,13 +23,13 @@ pub fn whole_records_at_one_place_are_one()
 {}
 
 /// The bytes of a record determine it, whatever follows them. Its strings, literal bytes and expressions
-/// are told by their positions behind its first byte.
+/// are known by their positions after its first byte.
 pub fn bytes_determine_the_record()
     ensures { (mode : Mode) (r s : Record) (text : List ℕ) (next other : Option ℕ) → IsWholeRecord mode r text next → IsWholeRecord mode s text other → r ≡ s }
 {}
 
 /// An input of which more is wanted has fewer than 131,077 bytes: the longest record of which the end may
 /// not stand yet is MB with two strings of 65,535 bytes.
-pub fn unended_inputs_are_short()
+pub fn incomplete_inputs_are_short()
     ensures { (mode : Mode) (input : List ℕ) → AreBytes input → record_at mode input ≡ Taken.More → length input < 131077 }
 {}

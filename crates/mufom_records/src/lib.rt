@@ -17,7 +17,7 @@ mod rows;
 mod stop;
 
 pub use laws::{
-    bytes_determine_the_record, longer_inputs_answer_the_same, unended_inputs_are_short,
+    bytes_determine_the_record, incomplete_inputs_are_short, longer_inputs_answer_the_same,
     whole_records_at_one_place_are_one,
 };
 pub use next::next_record;

@@ -23,7 +23,7 @@ use crate::rows::{
 use crate::stop::Stop;
 use mufom_numbers::{Reason, Taken};
 
-// What stands behind E2 and a second byte.
+// What stands after E2 and a second byte.
 fn assignment(second: u8, input: &[u8], at: usize) -> Read
     requires low { 2 ≤ at }
     requires within { at ≤ length input.now }
@@ -43,7 +43,7 @@ fn assignment(second: u8, input: &[u8], at: usize) -> Read
     }
 }
 
-// What stands behind F1 and a second byte.
+// What stands after F1 and a second byte.
 fn noted(second: u8, input: &[u8], at: usize) -> Read
     requires low { 1 ≤ at }
     requires within { at ≤ length input.now }
@@ -77,7 +77,7 @@ fn note(input: &[u8], at: usize) -> Read
     noted(second, input, at)
 }
 
-// What stands behind a first byte.
+// What stands after a first byte.
 fn coded(code: u8, input: &[u8], at: usize) -> Read
     requires low { 1 ≤ at }
     requires within { at ≤ length input.now }
@@ -192,16 +192,16 @@ fn next(input: &[u8], mode: Mode) -> Taken<Record>
     }
 }
 
-/// Reads the record at the front of the input that stands next in this mode, and says how many bytes
+/// Reads the record at the start of the input that stands next in this mode, and states how many bytes
 /// it takes. Takes no memory.
 ///
 /// `Bad` is the first fault from the left, and the position of the byte at which it is named. A number
 /// or a token is judged once it is whole, anything else once its byte is there. `More` is answered for
-/// the front of a record without a fault: where the input ends within a field, before one that is
+/// the prefix of a record without a fault: where the input ends within a field, before one that is
 /// wanted, or where one that may be absent could begin. Strings, literal bytes and expressions are positions in the input, and
 /// literal bytes are not looked at.
 pub fn next_record(input: &[u8], mode: Mode) -> Taken<Record>
-    // What is taken is the front of the input, and a whole record before the byte that follows.
+    // What is taken is the prefix of the input, and a whole record before the byte that follows.
     ensures got { IfGot result (λ row used. (used ≤ length input.now) × IsWholeRecord mode row (take used input.now) (first_of (drop used input.now) None)) }
     // An input that begins with a whole record gives it.
     ensures only { (row : Record) (text rest : List ℕ) → IsWholeRecord mode row text (first_of rest None) → input.now ≡ text ++ rest → result ≡ Taken.Got row (length text) }

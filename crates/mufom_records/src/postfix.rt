@@ -11,7 +11,7 @@ use mufom_expr::{Builder, ExprFault, Postfix, Token, read_token};
 use mufom_numbers::{NoMemory, Taken};
 use std::alloc::Global;
 
-// The token at the front, which is there, and how many bytes it takes.
+// The token at the start, which is there, and how many bytes it takes.
 fn first_token(input: &[u8]) -> (Token, usize)
     requires { BeginsWithToken (λ token. Unit {0}) input.now }
     ensures token { token_at input.now ≡ Taken.Got result.0 result.1 }
@@ -23,7 +23,7 @@ fn first_token(input: &[u8]) -> (Token, usize)
     }
 }
 
-fn behind(input: &[u8], used: usize) -> &[u8]
+fn after(input: &[u8], used: usize) -> &[u8]
     requires { used ≤ length input.now }
     ensures { result.now ≡ drop used input.now }
 {
@@ -65,7 +65,7 @@ pub fn postfix_of(alloc: Global, input: &[u8]) -> Result<Postfix, NoMemory>
     while !rest.is_empty() {
         let (token, used) = first_token(rest);
         add(&mut builder, token)?;
-        rest = behind(rest, used);
+        rest = after(rest, used);
     }
     Ok(finished(builder))
 }

@@ -13,7 +13,7 @@ pub enum Mode {
     Offset(u8),
     /// Any record, the first byte of which is a code.
     Body,
-    /// An item behind LR.
+    /// An item after LR.
     Items,
 }
 
@@ -41,7 +41,7 @@ pub enum BlockTail {
 /// A record, or an item of one, with its fields in the order of the bytes.
 ///
 /// A string is the part of the input at which its bytes stand, without their lead; an expression the
-/// part of all its bytes; literal bytes the part behind their count. An index is a `u32`, any other
+/// part of all its bytes; literal bytes the part after their count. An index is a `u32`, any other
 /// number a `u64`.
 #[derive(Debug, Drop)]
 pub enum Record {
@@ -90,7 +90,7 @@ pub enum Record {
     SetPc(u32, Span),
     /// LD: literal bytes.
     Constant(Span),
-    /// LR, behind which items follow.
+    /// LR, after which items follow.
     Relocate,
     /// Literal bytes of an LR.
     ConstantItem(Span),

@@ -1,4 +1,4 @@
-//! The rows of the table of records, each read behind its code.
+//! The rows of the table of records, each read after its code.
 
 ghost use Rattle.std.specs.Prelude.{◌≡◌, ◌≤◌, length, IfOk};
 ghost use Rattle.mufom_records.specs.declared.record.Record.TheVariants as r;

@@ -3,7 +3,7 @@ use mufom_expr::{Function, Letter, Token};
 use mufom_numbers::{Reason, Taken};
 use std::test::Fail;
 
-// Whole records, each with the byte E1 behind it, in the mode that reads them, and their values.
+// Whole records, each with the byte E1 after it, in the mode that reads them, and their values.
 const RECORDS: [(Mode, &[u8], &str); 54] = [
     (
         Mode::Begin,

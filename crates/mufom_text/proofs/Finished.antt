@@ -9,7 +9,7 @@ use Rattle.mufom_text.specs.Chains.{Puts-joins}
 pub moved : {S : Type 0} (P : S → Type 0) (now last : S) → last ≡ now → P now → P last
 moved P now last same p = subst P (sym same) p
 
--- where nothing was held and nothing is held, the output grew by the text, or by a front of it
+-- where nothing was held and nothing is held, the output grew by the text, or by a prefix of it
 grown : (a c : Meaning) (f h : Faults) (keeps text : List ℕ) (has : Bool) (r : Result (Unit {0}) Failed) → is_err r ≡ has → (has ≡ false → keeps ≡ [])
     → Adds a c f h [] keeps false has text → Grows a.out c.out r text
 grown a c f h keeps text true (Ok done) answer empty added = absurd cc
@@ -17,13 +17,13 @@ grown a c f h keeps text false (Ok done) answer empty (printed, grows, e) =
     let none = empty cc in
     let all : printed ≡ text = sym (append-nil printed) ∙ ap (λ (l : List ℕ). printed ++ l) (sym none) ∙ e in
     subst (λ (l : List ℕ). GrowsBy a.out c.out l) all grows
-grown a c f h keeps text true (Err e) answer empty (front, rose) = front
+grown a c f h keeps text true (Err e) answer empty (prefix, rose) = prefix
 grown a c f h keeps text false (Err e) answer empty added = absurd cc
 
 caused : (a c : Meaning) (f h : Faults) (keeps text : List ℕ) (has : Bool) (r : Result (Unit {0}) Failed) → is_err r ≡ has → f.writes ≤ h.writes
     → Adds a c f h [] keeps false has text → HasCause f.writes h.writes r
 caused a c f h keeps text has (Ok done) answer later added = record { later = later; failed = tt }
-caused a c f h keeps text true (Err e) answer later (front, rose) = record { later = later; failed = rose }
+caused a c f h keeps text true (Err e) answer later (prefix, rose) = record { later = later; failed = rose }
 caused a c f h keeps text false (Err e) answer later added = absurd cc
 
 -- what was put on a page that held nothing, and then printed

@@ -5,30 +5,30 @@ use Rattle.mufom_names.specs.declared.name.Note.{Note}
 use Rattle.mufom_debug.specs.declared.item.BlockHead.TheVariants as heads
 use Rattle.mufom_debug.specs.declared.item.DebugItem.{DebugItem, Block as block_case, Name as name_case, Note as note_case, Value as value_case, the_lemmas}
 use Rattle.mufom_debug.specs.declared.item.DebugItem.TheOpen.{Block-F}
-use Rattle.mufom_debug.specs.Marks.{DebugMark, block_begin, block_end, name_mark, note_mark, value_mark, marks_of_item, marks_of, open_behind, depth_from, depth_of, IsBalanced, names_behind, names_behind_all}
+use Rattle.mufom_debug.specs.Marks.{DebugMark, block_begin, block_end, name_mark, note_mark, value_mark, marks_of_item, marks_of, open_after, depth_from, depth_of, IsBalanced, names_after, names_after_all}
 use Rattle.mufom_debug.proofs.MarksLemmas.{marks-Block, marks_of_more}
 use Rattle.mufom_debug.proofs.Balance.{items_balanced}
 use Rattle.mufom_text.specs.Words.{indent, line}
-use Rattle.mufom_text.specs.Show.{mark_line, mark_lines, depth_behind_all, end_text}
+use Rattle.mufom_text.specs.Show.{mark_line, mark_lines, depth_after_all, end_text}
 
-pub lines-append : (depth n : ℕ) (xs ys : List DebugMark) → mark_lines depth n (xs ++ ys) ≡ mark_lines depth n xs ++ mark_lines (depth_behind_all depth xs) (names_behind_all n xs) ys
+pub lines-append : (depth n : ℕ) (xs ys : List DebugMark) → mark_lines depth n (xs ++ ys) ≡ mark_lines depth n xs ++ mark_lines (depth_after_all depth xs) (names_after_all n xs) ys
 lines-append depth n [] ys = refl
 lines-append depth n (x ∷ xs) ys =
-    let inside = open_behind depth x in
-    let next = names_behind n x in
+    let inside = open_after depth x in
+    let next = names_after n x in
     ap (λ rest. mark_line depth n x ++ rest) (lines-append inside next xs ys)
-    ∙ sym (append_assoc (mark_line depth n x) (mark_lines inside next xs) (mark_lines (depth_behind_all inside xs) (names_behind_all next xs) ys))
+    ∙ sym (append_assoc (mark_line depth n x) (mark_lines inside next xs) (mark_lines (depth_after_all inside xs) (names_after_all next xs) ys))
 
--- ---- behind balanced marks as many blocks are open as before them
+-- ---- after balanced marks as many blocks are open as before them
 
-depth_from-append : (depth : ℕ) (xs ys : List DebugMark) → depth_from depth (xs ++ ys) ≡ max (depth_from depth xs) (depth_from (depth_behind_all depth xs) ys)
+depth_from-append : (depth : ℕ) (xs ys : List DebugMark) → depth_from depth (xs ++ ys) ≡ max (depth_from depth xs) (depth_from (depth_after_all depth xs) ys)
 depth_from-append depth [] ys = let least = le-depth_from depth ys in omega (arith, least) where
   le-depth_from : (opened : ℕ) (marks : List DebugMark) → opened ≤ depth_from opened marks
   le-depth_from opened [] = omega arith
   le-depth_from opened (mark ∷ marks) = omega arith
-depth_from-append depth (x ∷ xs) ys = let rest = depth_from-append (open_behind depth x) xs ys in omega (arith, rest)
+depth_from-append depth (x ∷ xs) ys = let rest = depth_from-append (open_after depth x) xs ys in omega (arith, rest)
 
--- so many blocks begin
+-- the given number of blocks begin
 begins : ℕ → List DebugMark
 begins zero = []
 begins (suc n) = block_begin heads.Module [] ∷ begins n
@@ -38,7 +38,7 @@ unfolding begins
 depth_from-begins depth zero = omega arith
 depth_from-begins depth (suc n) = let rest = depth_from-begins (depth + 1) n in omega (arith, rest)
 
-pub level : (marks : List DebugMark) → IsBalanced marks → (depth : ℕ) → depth_behind_all depth marks ≡ depth
+pub level : (marks : List DebugMark) → IsBalanced marks → (depth : ℕ) → depth_after_all depth marks ≡ depth
 level marks balanced depth =
     let n = depth_of marks + 1 in
     let alone = balanced.deep depth [] in
@@ -46,8 +46,8 @@ level marks balanced depth =
     let same = ap (depth_from depth) (append-nil marks) in
     let parts = depth_from-append depth marks (begins n) in
     let on_top = depth_from-begins depth n in
-    let behind = depth_from-begins (depth_behind_all depth marks) n in
-    omega (arith, alone, whole, same, parts, on_top, behind)
+    let after = depth_from-begins (depth_after_all depth marks) n in
+    omega (arith, alone, whole, same, parts, on_top, after)
 
 -- ---- items
 
@@ -62,7 +62,7 @@ lines-Block depth n b =
     ap (mark_lines depth n) (marks-Block b)
     ∙ ap (λ rest. begin ++ rest)
     (lines-append (depth + 1) n items (block_end b.end ∷ [])
-    ∙ ap (λ d. inside ++ mark_lines d (names_behind_all n items) (block_end b.end ∷ [])) still
+    ∙ ap (λ d. inside ++ mark_lines d (names_after_all n items) (block_end b.end ∷ [])) still
     ∙ ap (λ end. inside ++ end) (append-nil (line (indent (depth + 1 - 1) ++ end_text b.end)))
     ∙ ap (λ d. inside ++ line (indent d ++ end_text b.end)) out)
     ∙ sym (append_assoc begin inside (line (indent depth ++ end_text b.end)))
@@ -85,10 +85,10 @@ lines-Value depth n name value =
 -- ---- one item more
 
 pub lines-more : (depth n : ℕ) (items : List DebugItem) (i : ℕ) (x : DebugItem) → i < length items → x ≡ get_or items i x
-    → mark_lines depth n (marks_of (take (i + 1) items)) ≡ mark_lines depth n (marks_of (take i items)) ++ mark_lines depth (names_behind_all n (marks_of (take i items))) (marks_of_item x)
+    → mark_lines depth n (marks_of (take (i + 1) items)) ≡ mark_lines depth n (marks_of (take i items)) ++ mark_lines depth (names_after_all n (marks_of (take i items))) (marks_of_item x)
 lines-more depth n items i x inside is =
     let before = marks_of (take i items) in
-    let names = names_behind_all n before in
+    let names = names_after_all n before in
     ap (mark_lines depth n) (marks_of_more items i x inside)
     ∙ ap (λ y. mark_lines depth n (before ++ marks_of_item y)) (sym is)
     ∙ lines-append depth n before (marks_of_item x)

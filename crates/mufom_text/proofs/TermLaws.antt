@@ -1,4 +1,4 @@
--- The last token of an expression tells its tree's form.
+-- The last token of an expression shows its tree's form.
 use Rattle.std.proofs.Common.{◌≡◌, ℕ, ◌-◌, ◌<◌, Bool, true, false, List, [], ◌∷◌, ◌++◌, length, take, drop, codes, refl, sym, ap, ◌∙◌, subst, append_assoc, length-append, arith, true≢false}
 use Rattle.std.proofs.Math.Seq.{take-append_seam, drop-append_seam}
 use Rattle.std.proofs.lemmas.List.{take_all, length-drop}
@@ -42,90 +42,90 @@ snoc_same (a ∷ []) [] x y e = absurd cc
 snoc_same (a ∷ (c ∷ xs)) [] x y e = absurd cc
 snoc_same (a ∷ xs) (b ∷ ys) x y e =
     let first : a ≡ b = cc in
-    let behind : xs ++ x ∷ [] ≡ ys ++ y ∷ [] = cc in
-    let rest = snoc_same xs ys x y behind in
+    let after : xs ++ x ∷ [] ≡ ys ++ y ∷ [] = cc in
+    let rest = snoc_same xs ys x y after in
     ((λ i. first i ∷ rest.0 i), rest.1)
 
 -- a token that is no function ends a tree of one token
-pub plain_end : (front : List Token) (tree : Tree) (before : List Token) (last : Token) → ((function : Function) → last ≡ token.Fun function → ⊥) → before ++ last ∷ [] ≡ front ++ tokens_of tree
-    → (before ≡ front) × (tokens_of tree ≡ last ∷ [])
-plain_end front (number n) before last plain e = let same = snoc_same before front last (token.Number n) e in (same.0, λ i. sym same.1 i ∷ [])
-plain_end front (variable l p) before last plain e = let same = snoc_same before front last (token.Var l p) e in (same.0, λ i. sym same.1 i ∷ [])
-plain_end front (one f a) before last plain e =
-    let same = snoc_same before (front ++ tokens_of a) last (token.Fun (function_of_one f)) (e ∙ sym (append_assoc front (tokens_of a) (token.Fun (function_of_one f) ∷ []))) in
+pub plain_end : (prefix : List Token) (tree : Tree) (before : List Token) (last : Token) → ((function : Function) → last ≡ token.Fun function → ⊥) → before ++ last ∷ [] ≡ prefix ++ tokens_of tree
+    → (before ≡ prefix) × (tokens_of tree ≡ last ∷ [])
+plain_end prefix (number n) before last plain e = let same = snoc_same before prefix last (token.Number n) e in (same.0, λ i. sym same.1 i ∷ [])
+plain_end prefix (variable l p) before last plain e = let same = snoc_same before prefix last (token.Var l p) e in (same.0, λ i. sym same.1 i ∷ [])
+plain_end prefix (one f a) before last plain e =
+    let same = snoc_same before (prefix ++ tokens_of a) last (token.Fun (function_of_one f)) (e ∙ sym (append_assoc prefix (tokens_of a) (token.Fun (function_of_one f) ∷ []))) in
     absurd (plain (function_of_one f) same.1)
-plain_end front (two f a b) before last plain e =
-    let same = snoc_same before (front ++ (tokens_of a ++ tokens_of b)) last (token.Fun (function_of_two f)) (e ∙ sym (append_assoc front (tokens_of a ++ tokens_of b) (token.Fun (function_of_two f) ∷ []))) in
+plain_end prefix (two f a b) before last plain e =
+    let same = snoc_same before (prefix ++ (tokens_of a ++ tokens_of b)) last (token.Fun (function_of_two f)) (e ∙ sym (append_assoc prefix (tokens_of a ++ tokens_of b) (token.Fun (function_of_two f) ∷ []))) in
     absurd (plain (function_of_two f) same.1)
 
 same_function : (f g : Function) → token.Fun f ≡ token.Fun g → f ≡ g
 same_function f g e = cc
 
 -- the tree that a function of one operand ends, and what stands before it
-pub record Operand (front : List Token) (tree : Tree) (before : List Token) (function : Function) : Type 0 where
+pub record Operand (prefix : List Token) (tree : Tree) (before : List Token) (function : Function) : Type 0 where
   pub f : OneOperand
   pub a : Tree
   pub is : tree ≡ one f a
   pub function_is : function ≡ function_of_one f
-  pub split : before ≡ front ++ tokens_of a
+  pub split : before ≡ prefix ++ tokens_of a
 
 -- the tree that a function of two operands ends, and what stands before it
-pub record Operands (front : List Token) (tree : Tree) (before : List Token) (function : Function) : Type 0 where
+pub record Operands (prefix : List Token) (tree : Tree) (before : List Token) (function : Function) : Type 0 where
   pub f : TwoOperands
   pub a : Tree
   pub b : Tree
   pub is : tree ≡ two f a b
   pub function_is : function ≡ function_of_two f
-  pub split : before ≡ (front ++ tokens_of a) ++ tokens_of b
+  pub split : before ≡ (prefix ++ tokens_of a) ++ tokens_of b
 
-pub one_end : (front : List Token) (tree : Tree) (before : List Token) (function : Function) → takes_one function ≡ true → before ++ token.Fun function ∷ [] ≡ front ++ tokens_of tree → Operand front tree before function
-one_end front (number n) before function takes e = let same = snoc_same before front (token.Fun function) (token.Number n) e in absurd (let wrong = same.1 in cc)
-one_end front (variable l p) before function takes e = let same = snoc_same before front (token.Fun function) (token.Var l p) e in absurd (let wrong = same.1 in cc)
-one_end front (one f a) before function takes e =
-    let same = snoc_same before (front ++ tokens_of a) (token.Fun function) (token.Fun (function_of_one f)) (e ∙ sym (append_assoc front (tokens_of a) (token.Fun (function_of_one f) ∷ []))) in
+pub one_end : (prefix : List Token) (tree : Tree) (before : List Token) (function : Function) → takes_one function ≡ true → before ++ token.Fun function ∷ [] ≡ prefix ++ tokens_of tree → Operand prefix tree before function
+one_end prefix (number n) before function takes e = let same = snoc_same before prefix (token.Fun function) (token.Number n) e in absurd (let wrong = same.1 in cc)
+one_end prefix (variable l p) before function takes e = let same = snoc_same before prefix (token.Fun function) (token.Var l p) e in absurd (let wrong = same.1 in cc)
+one_end prefix (one f a) before function takes e =
+    let same = snoc_same before (prefix ++ tokens_of a) (token.Fun function) (token.Fun (function_of_one f)) (e ∙ sym (append_assoc prefix (tokens_of a) (token.Fun (function_of_one f) ∷ []))) in
     record { f = f; a = a; is = refl; function_is = same_function function (function_of_one f) same.1; split = same.0 }
-one_end front (two f a b) before function takes e =
-    let same = snoc_same before (front ++ (tokens_of a ++ tokens_of b)) (token.Fun function) (token.Fun (function_of_two f)) (e ∙ sym (append_assoc front (tokens_of a ++ tokens_of b) (token.Fun (function_of_two f) ∷ []))) in
+one_end prefix (two f a b) before function takes e =
+    let same = snoc_same before (prefix ++ (tokens_of a ++ tokens_of b)) (token.Fun function) (token.Fun (function_of_two f)) (e ∙ sym (append_assoc prefix (tokens_of a ++ tokens_of b) (token.Fun (function_of_two f) ∷ []))) in
     absurd (true≢false (sym takes ∙ ap takes_one (same_function function (function_of_two f) same.1) ∙ two_takes_two f))
 
-pub two_end : (front : List Token) (tree : Tree) (before : List Token) (function : Function) → takes_one function ≡ false → before ++ token.Fun function ∷ [] ≡ front ++ tokens_of tree → Operands front tree before function
-two_end front (number n) before function takes e = let same = snoc_same before front (token.Fun function) (token.Number n) e in absurd (let wrong = same.1 in cc)
-two_end front (variable l p) before function takes e = let same = snoc_same before front (token.Fun function) (token.Var l p) e in absurd (let wrong = same.1 in cc)
-two_end front (one f a) before function takes e =
-    let same = snoc_same before (front ++ tokens_of a) (token.Fun function) (token.Fun (function_of_one f)) (e ∙ sym (append_assoc front (tokens_of a) (token.Fun (function_of_one f) ∷ []))) in
+pub two_end : (prefix : List Token) (tree : Tree) (before : List Token) (function : Function) → takes_one function ≡ false → before ++ token.Fun function ∷ [] ≡ prefix ++ tokens_of tree → Operands prefix tree before function
+two_end prefix (number n) before function takes e = let same = snoc_same before prefix (token.Fun function) (token.Number n) e in absurd (let wrong = same.1 in cc)
+two_end prefix (variable l p) before function takes e = let same = snoc_same before prefix (token.Fun function) (token.Var l p) e in absurd (let wrong = same.1 in cc)
+two_end prefix (one f a) before function takes e =
+    let same = snoc_same before (prefix ++ tokens_of a) (token.Fun function) (token.Fun (function_of_one f)) (e ∙ sym (append_assoc prefix (tokens_of a) (token.Fun (function_of_one f) ∷ []))) in
     absurd (true≢false (sym (ap takes_one (same_function function (function_of_one f) same.1) ∙ one_takes_one f) ∙ takes))
-two_end front (two f a b) before function takes e =
-    let same = snoc_same before (front ++ (tokens_of a ++ tokens_of b)) (token.Fun function) (token.Fun (function_of_two f)) (e ∙ sym (append_assoc front (tokens_of a ++ tokens_of b) (token.Fun (function_of_two f) ∷ []))) in
-    record { f = f; a = a; b = b; is = refl; function_is = same_function function (function_of_two f) same.1; split = same.0 ∙ sym (append_assoc front (tokens_of a) (tokens_of b)) }
+two_end prefix (two f a b) before function takes e =
+    let same = snoc_same before (prefix ++ (tokens_of a ++ tokens_of b)) (token.Fun function) (token.Fun (function_of_two f)) (e ∙ sym (append_assoc prefix (tokens_of a ++ tokens_of b) (token.Fun (function_of_two f) ∷ []))) in
+    record { f = f; a = a; b = b; is = refl; function_is = same_function function (function_of_two f) same.1; split = same.0 ∙ sym (append_assoc prefix (tokens_of a) (tokens_of b)) }
 
--- behind the operands of a function a term ends
+-- after the operands of a function a term ends
 pub last_known : (before : List Token) (function : Function) → EndsWithTerm (before ++ token.Fun function ∷ []) → EndsWithTerm before
-last_known before function (front, tree, e) = by_case (takes_one function) refl where
+last_known before function (prefix, tree, e) = by_case (takes_one function) refl where
   by_case : (b : Bool) → takes_one function ≡ b → EndsWithTerm before
-  by_case true takes = let it = one_end front tree before function takes e in (front, it.a, it.split)
-  by_case false takes = let it = two_end front tree before function takes e in (front ++ tokens_of it.a, it.b, it.split)
+  by_case true takes = let it = one_end prefix tree before function takes e in (prefix, it.a, it.split)
+  by_case false takes = let it = two_end prefix tree before function takes e in (prefix ++ tokens_of it.a, it.b, it.split)
 
 -- before the second operand the first one ends
 pub first_known : (before : List Token) (function : Function) (last : ℕ) → takes_one function ≡ false → EndsWithTerm (before ++ token.Fun function ∷ [])
-    → ((front : List Token) (tree : Tree) → before ≡ front ++ tokens_of tree → last ≡ length front) → EndsWithTerm (take last before)
-first_known before function last takes (front, tree, e) starts =
-    let it = two_end front tree before function takes e in
-    (front, it.a, ap (λ n. take n before) (starts (front ++ tokens_of it.a) it.b it.split) ∙ ap (take (length (front ++ tokens_of it.a))) it.split ∙ take-append_seam (front ++ tokens_of it.a) (tokens_of it.b))
+    → ((prefix : List Token) (tree : Tree) → before ≡ prefix ++ tokens_of tree → last ≡ length prefix) → EndsWithTerm (take last before)
+first_known before function last takes (prefix, tree, e) starts =
+    let it = two_end prefix tree before function takes e in
+    (prefix, it.a, ap (λ n. take n before) (starts (prefix ++ tokens_of it.a) it.b it.split) ∙ ap (take (length (prefix ++ tokens_of it.a))) it.split ∙ take-append_seam (prefix ++ tokens_of it.a) (tokens_of it.b))
 
-pub first_start : (before : List Token) (function : Function) (last first : ℕ) → takes_one function ≡ false → ((front : List Token) (tree : Tree) → before ≡ front ++ tokens_of tree → last ≡ length front)
-    → ((front : List Token) (tree : Tree) → take last before ≡ front ++ tokens_of tree → first ≡ length front) → (front : List Token) (tree : Tree) → before ++ token.Fun function ∷ [] ≡ front ++ tokens_of tree → first ≡ length front
-first_start before function last first takes starts begins front tree e =
-    let it = two_end front tree before function takes e in
-    begins front it.a (ap (λ n. take n before) (starts (front ++ tokens_of it.a) it.b it.split) ∙ ap (take (length (front ++ tokens_of it.a))) it.split ∙ take-append_seam (front ++ tokens_of it.a) (tokens_of it.b))
+pub first_start : (before : List Token) (function : Function) (last first : ℕ) → takes_one function ≡ false → ((prefix : List Token) (tree : Tree) → before ≡ prefix ++ tokens_of tree → last ≡ length prefix)
+    → ((prefix : List Token) (tree : Tree) → take last before ≡ prefix ++ tokens_of tree → first ≡ length prefix) → (prefix : List Token) (tree : Tree) → before ++ token.Fun function ∷ [] ≡ prefix ++ tokens_of tree → first ≡ length prefix
+first_start before function last first takes starts begins prefix tree e =
+    let it = two_end prefix tree before function takes e in
+    begins prefix it.a (ap (λ n. take n before) (starts (prefix ++ tokens_of it.a) it.b it.split) ∙ ap (take (length (prefix ++ tokens_of it.a))) it.split ∙ take-append_seam (prefix ++ tokens_of it.a) (tokens_of it.b))
 
 -- the last token is the function that ends a term
 pub split_known : (tokens before : List Token) (last : Token) (function : Function) → tokens ≡ before ++ last ∷ [] → last ≡ token.Fun function → EndsWithTerm tokens → EndsWithTerm (before ++ token.Fun function ∷ [])
 split_known tokens before last function split is known = subst EndsWithTerm (split ∙ ap (λ t. before ++ t ∷ []) is) known
 
 -- where a term of one token begins
-pub plain_start : (tokens before : List Token) (last : Token) → tokens ≡ before ++ last ∷ [] → ((function : Function) → last ≡ token.Fun function → ⊥) → (front : List Token) (tree : Tree) → tokens ≡ front ++ tokens_of tree
-    → length before ≡ length front
-plain_start tokens before last split plain front tree e = ap length (plain_end front tree before last plain (sym split ∙ e)).0
+pub plain_start : (tokens before : List Token) (last : Token) → tokens ≡ before ++ last ∷ [] → ((function : Function) → last ≡ token.Fun function → ⊥) → (prefix : List Token) (tree : Tree) → tokens ≡ prefix ++ tokens_of tree
+    → length before ≡ length prefix
+plain_start tokens before last split plain prefix tree e = ap length (plain_end prefix tree before last plain (sym split ∙ e)).0
 
 pub number_plain : (n : ℕ) (function : Function) → token.Number n ≡ token.Fun function → ⊥
 number_plain n function e = cc
@@ -141,9 +141,9 @@ some_tokens (two f a b) = let all = length-append (tokens_of a ++ tokens_of b) (
 
 -- no tokens end with no term
 pub none_ends : (tokens : List Token) → length tokens ≡ 0 → EndsWithTerm tokens → ⊥
-none_ends tokens none (front, tree, e) =
+none_ends tokens none (prefix, tree, e) =
     let some = some_tokens tree in
-    let all = ap length e ∙ length-append front (tokens_of tree) in
+    let all = ap length e ∙ length-append prefix (tokens_of tree) in
     omega (arith, none, some, all)
 
 -- ---- trees alone, with nothing before them
@@ -181,7 +181,7 @@ pub record Parted (operands : List Token) (second : ℕ) (function : Function) (
   pub first_is : take second operands ≡ tokens_of a
   pub second_is : drop second operands ≡ tokens_of b
 
-pub parted : (operands : List Token) (second : ℕ) (function : Function) → takes_one function ≡ false → ((front : List Token) (tree : Tree) → operands ≡ front ++ tokens_of tree → second ≡ length front)
+pub parted : (operands : List Token) (second : ℕ) (function : Function) → takes_one function ≡ false → ((prefix : List Token) (tree : Tree) → operands ≡ prefix ++ tokens_of tree → second ≡ length prefix)
     → (tree : Tree) → operands ++ token.Fun function ∷ [] ≡ tokens_of tree → Parted operands second function tree
 parted operands second function takes starts tree e =
     let it = two_end [] tree operands function takes e in
@@ -208,5 +208,5 @@ pub over_two_form : (operands : List Token) (second : ℕ) (function : Function)
 over_two_form operands second function tree p = ap infix_text p.is ∙ ap (λ f. (((opening_text f ++ infix_text p.a) ++ middle_text f) ++ infix_text p.b) ++ codes ")") (sym p.function_is)
 
 -- all that stands from a place on
-pub all_behind : (tokens : List Token) (n : ℕ) → take (length tokens - n) (drop n tokens) ≡ drop n tokens
-all_behind tokens n = let count = length-drop n tokens in take_all (length tokens - n) (drop n tokens) (omega (arith, count))
+pub all_after : (tokens : List Token) (n : ℕ) → take (length tokens - n) (drop n tokens) ≡ drop n tokens
+all_after tokens n = let count = length-drop n tokens in take_all (length tokens - n) (drop n tokens) (omega (arith, count))

@@ -1,8 +1,8 @@
--- Text that is put on a page piece by piece.
+-- Text that is put on a page chunk by chunk.
 use Rattle.std.proofs.Common.{◌≡◌, ℕ, ◌≤◌, Bool, true, false, List, [], ◌++◌, Option, refl, sym, subst, ap, ◌∙◌, arith, append_assoc}
 use Rattle.std.proofs.lemmas.List.{append-nil}
-use Rattle.mufom_host.specs.World.{Meaning, Faults, GrowsByFront}
-use Rattle.mufom_host.proofs.Composing.{GrowsBy-refl, GrowsBy-trans, GrowsByFront-trans, GrowsByFront-more, KeepsAllButOut-trans, KeepsAllButWrites-trans, later-Rose, Rose-later}
+use Rattle.mufom_host.specs.World.{Meaning, Faults, GrowsByPrefix}
+use Rattle.mufom_host.proofs.Composing.{GrowsBy-refl, GrowsBy-trans, GrowsByPrefix-trans, GrowsByPrefix-more, KeepsAllButOut-trans, KeepsAllButWrites-trans, later-Rose, Rose-later}
 use Rattle.mufom_text.specs.Printing.{HoldsOn, Adds, Puts}
 
 adds_nothing : (m : Meaning) (f : Faults) (held : List ℕ) (had : Bool) → Adds m m f f held held had had []
@@ -26,12 +26,12 @@ module _ (a b c : Meaning) (f g h : Faults) (held holds keeps xs ys : List ℕ) 
 
   adds_both : (had so_far has : Bool) → f.writes ≤ g.writes → g.writes ≤ h.writes → Adds a b f g held holds had so_far xs → Adds b c g h holds keeps so_far has ys → Adds a c f h held keeps had has (xs ++ ys)
   adds_both false false false p q first second = holds_on first second
-  adds_both false false true p q (printed, grows, e) (front, rose) =
-      (subst (λ (l : List ℕ). GrowsByFront a.out c.out l) (both printed e) (GrowsByFront-trans a.out b.out c.out printed (holds ++ ys) grows front), later-Rose f.writes g.writes h.writes p rose)
+  adds_both false false true p q (printed, grows, e) (prefix, rose) =
+      (subst (λ (l : List ℕ). GrowsByPrefix a.out c.out l) (both printed e) (GrowsByPrefix-trans a.out b.out c.out printed (holds ++ ys) grows prefix), later-Rose f.writes g.writes h.writes p rose)
   adds_both false true false p q first second = elim second [ ]
-  adds_both false true true p q (front, rose) same = (
-    subst (λ (o : Option (List ℕ)). GrowsByFront a.out o (held ++ (xs ++ ys))) (sym same)
-        (subst (λ (l : List ℕ). GrowsByFront a.out b.out l) (append_assoc held xs ys) (GrowsByFront-more a.out b.out (held ++ xs) ys front)),
+  adds_both false true true p q (prefix, rose) same = (
+    subst (λ (o : Option (List ℕ)). GrowsByPrefix a.out o (held ++ (xs ++ ys))) (sym same)
+        (subst (λ (l : List ℕ). GrowsByPrefix a.out b.out l) (append_assoc held xs ys) (GrowsByPrefix-more a.out b.out (held ++ xs) ys prefix)),
     Rose-later f.writes g.writes h.writes rose q,
   )
   adds_both true false has p q first second = elim first [ ]

@@ -18,7 +18,7 @@ use Rattle.mufom_loads.specs.declared.load.Load.{Load}
 use Rattle.mufom_loads.specs.declared.load.Load.TheVariants.{SetSection, SetPc, One, Repeat}
 use Rattle.mufom_debug.specs.declared.item.BlockHead.{BlockHead}
 use Rattle.mufom_debug.specs.declared.item.BlockHead.TheVariants as heads
-use Rattle.mufom_debug.specs.Marks.{DebugMark, block_begin, block_end, name_mark, note_mark, value_mark, marks_of, open_behind, kind_number, names_behind}
+use Rattle.mufom_debug.specs.Marks.{DebugMark, block_begin, block_end, name_mark, note_mark, value_mark, marks_of, open_after, kind_number, names_after}
 use Rattle.mufom_module.specs.declared.module.Order.{Order}
 use Rattle.mufom_module.specs.declared.module.Order.TheVariants.{Least, Most}
 use Rattle.mufom_module.specs.declared.module.Parts.{Parts}
@@ -106,7 +106,7 @@ abbrev pub end_text : Option Tree → Text
 end_text None = codes "end"
 end_text (Some value) = end_value value
 
--- the line of a mark, in so many open blocks, behind so many debug names
+-- the line of a mark, in the given number of open blocks, after the given number of debug names
 abbrev pub mark_line : ℕ → ℕ → DebugMark → Text
 mark_line depth n (block_begin head name) = line (indent depth ++ codes "block " ++ decimal (kind_number head) ++ codes " " ++ quoted name ++ head_text head)
 mark_line depth n (block_end end) = line (indent (depth - 1) ++ end_text end)
@@ -114,15 +114,15 @@ mark_line depth n (name_mark name) = line (indent depth ++ codes "name " ++ deci
 mark_line depth n (note_mark name note) = line (indent depth ++ codes "note " ++ decimal name ++ note_text note)
 mark_line depth n (value_mark name value) = line (indent depth ++ codes "value " ++ decimal name ++ codes " = " ++ infix_text value)
 
--- how many blocks are open behind marks
-abbrev pub depth_behind_all : ℕ → List DebugMark → ℕ
-depth_behind_all depth [] = depth
-depth_behind_all depth (mark ∷ marks) = depth_behind_all (open_behind depth mark) marks
+-- how many blocks are open after marks
+abbrev pub depth_after_all : ℕ → List DebugMark → ℕ
+depth_after_all depth [] = depth
+depth_after_all depth (mark ∷ marks) = depth_after_all (open_after depth mark) marks
 
--- the lines of marks, in so many open blocks, behind so many debug names
+-- the lines of marks, in the given number of open blocks, after the given number of debug names
 abbrev pub mark_lines : ℕ → ℕ → List DebugMark → Text
 mark_lines depth n [] = []
-mark_lines depth n (mark ∷ marks) = mark_line depth n mark ++ mark_lines (open_behind depth mark) (names_behind n mark) marks
+mark_lines depth n (mark ∷ marks) = mark_line depth n mark ++ mark_lines (open_after depth mark) (names_after n mark) marks
 
 -- ---- loads
 

@@ -1,4 +1,4 @@
--- The terms of an expression's tokens, the last of which is told by the last token.
+-- The terms of an expression's tokens, the last of which is known by the last token.
 use Rattle.std.specs.Prelude.{◌≡◌, ◌==◌, Bool, List, ◌++◌}
 use Rattle.mufom_expr.specs.declared.token.Function.{Function}
 use Rattle.mufom_expr.specs.declared.token.Token.{Token}
@@ -11,4 +11,4 @@ takes_one f = operands f == 1
 
 -- the tokens of a tree stand at the end
 abbrev pub EndsWithTerm : List Token → Type 0
-EndsWithTerm tokens = (front : List Token) × (tree : Tree) × (tokens ≡ front ++ tokens_of tree)
+EndsWithTerm tokens = (prefix : List Token) × (tree : Tree) × (tokens ≡ prefix ++ tokens_of tree)

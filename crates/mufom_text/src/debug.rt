@@ -1,7 +1,7 @@
 //! The lines of debug items.
 
 ghost use Rattle.std.specs.Prelude.{◌≡◌, ◌+◌, ◌<◌, ◌^◌, ◌++◌, ℕ, length};
-ghost use Rattle.mufom_debug.specs.Marks.{block_begin, marks_of, marks_of_item, name_mark, note_mark, value_mark, names_behind_all};
+ghost use Rattle.mufom_debug.specs.Marks.{block_begin, marks_of, marks_of_item, name_mark, note_mark, value_mark, names_after_all};
 ghost use Rattle.mufom_text.specs.Words.{indent, line};
 ghost use Rattle.mufom_text.specs.Show.{end_text, end_value, head_text, mark_line, mark_lines, part_text, scope_text};
 
@@ -135,14 +135,14 @@ fn value_line<K: Output>(out: &mut K, depth: u32, name: u32, value: &Postfix)
 
 // ---- items
 
-// An item in so many open blocks; `names` counts the names that stand before it, and then behind
+// An item in the given number of open blocks; `names` counts the names that stand before it, and then after
 // it.
 #[cycle(showing)]
 fn debug_item<K: Output>(out: &mut K, depth: u32, item: &DebugItem, names: &mut u64)
     requires deep { depth + length (marks_of_item item.now) < 2 ^ 32 }
     requires few { names.old + length (marks_of_item item.now) < 2 ^ 63 }
     ensures takes { K.takes out.old out.new (mark_lines depth names.old (marks_of_item item.now)) }
-    ensures names { names.new ≡ names_behind_all names.old (marks_of_item item.now) }
+    ensures names { names.new ≡ names_after_all names.old (marks_of_item item.now) }
 {
     match item {
         DebugItem::Block(block) => {
@@ -159,14 +159,14 @@ fn debug_item<K: Output>(out: &mut K, depth: u32, item: &DebugItem, names: &mut 
     }
 }
 
-/// The lines of the items, in so many open blocks; `names` counts the names that stand before
-/// them, and then behind them.
+/// The lines of the items, in the given number of open blocks; `names` counts the names that stand before
+/// them, and then after them.
 #[cycle(showing)]
 pub(crate) fn debug_items<K: Output>(out: &mut K, depth: u32, items: &[DebugItem], names: &mut u64)
     requires deep { depth + length (marks_of items.now) < 2 ^ 32 }
     requires few { names.old + length (marks_of items.now) < 2 ^ 63 }
     ensures takes { K.takes out.old out.new (mark_lines depth names.old (marks_of items.now)) }
-    ensures names { names.new ≡ names_behind_all names.old (marks_of items.now) }
+    ensures names { names.new ≡ names_after_all names.old (marks_of items.now) }
 {
     for place in 0..items.len() {
         debug_item(out, depth, &items[place], names);

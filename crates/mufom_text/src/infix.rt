@@ -18,11 +18,11 @@ fn takes_one(function: Function) -> bool
     matches!(function, Function::Abs | Function::Neg)
 }
 
-// Where the operands begin of a function behind these tokens.
+// Where the operands begin of a function after these tokens.
 #[cycle(terms)]
 fn operands_begin(before: &[Token], function: Function) -> usize
     requires known { EndsWithTerm (before.now ++ Token.Fun function ∷ []) }
-    ensures start { (front : List one_token) (tree : Tree) → before.now ++ Token.Fun function ∷ [] ≡ front ++ tokens_of tree → result ≡ length front }
+    ensures start { (prefix : List one_token) (tree : Tree) → before.now ++ Token.Fun function ∷ [] ≡ prefix ++ tokens_of tree → result ≡ length prefix }
     ensures within { result ≤ length before.now }
 {
     let last = last_term(before);
@@ -37,7 +37,7 @@ fn operands_begin(before: &[Token], function: Function) -> usize
 #[cycle(terms)]
 fn last_term(tokens: &[Token]) -> usize
     requires known { EndsWithTerm tokens.now }
-    ensures start { (front : List one_token) (tree : Tree) → tokens.now ≡ front ++ tokens_of tree → result ≡ length front }
+    ensures start { (prefix : List one_token) (tree : Tree) → tokens.now ≡ prefix ++ tokens_of tree → result ≡ length prefix }
     ensures within { result < length tokens.now }
 {
     let Some((last, before)) = tokens.split_last() else {

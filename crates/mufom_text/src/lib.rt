@@ -3,9 +3,9 @@
 //! It stands on the crates of a module's entries, `mufom_module`, `mufom_host`, `itoa` and `thiserror`,
 //! and its definitions on `hex`; `arrayvec` is for the tests. All lines are put by functions over one
 //! trait, and a page of a fixed size implements it: the text goes through the page to a host, so that
-//! printing takes no memory behind the page's. Its main clause is that of [`print_module`]: the output
+//! printing takes no memory after the page's. Its main clause is that of [`print_module`]: the output
 //! grows by exactly the module's text, or a print failed, its count of faults rose, and the output grew
-//! by a front of that text.
+//! by a prefix of that text.
 #![tactic(auto)]
 
 mod debug;

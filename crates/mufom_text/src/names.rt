@@ -9,7 +9,7 @@ use crate::output::Output;
 use crate::words::{number, quoted, spaced_numbers};
 use mufom_names::{Note, Public, Reference, Weak};
 
-/// What a note says, behind the word that begins its line.
+/// What a note states, after the word that begins its line.
 pub(crate) fn note_text<K: Output>(out: &mut K, note: &Note)
     ensures { K.takes out.old out.new (note_text note.now) }
 {

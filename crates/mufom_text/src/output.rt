@@ -2,7 +2,7 @@ ghost use Rattle.std.specs.Prelude.{◌≡◌, ℕ, List, [], ◌++◌};
 
 /// Where text goes. Once it could not go on, no more is added; whoever made the output learns of it at the end.
 pub(crate) trait Output {
-    /// What stands before and behind text that is put.
+    /// What stands before and after text that is put.
     ghost takes: { Self → Self → List ℕ → Type 0 };
 
     /// Adds the text.

@@ -1,4 +1,4 @@
-//! A page: text that is held, and printed in large pieces.
+//! A page: text that is held, and printed in large chunks.
 
 ghost use Rattle.std.specs.Prelude.{◌≡◌, ◌+◌, ◌≤◌, ◌<◌, ℕ, List, [], ◌++◌, length, take, true, false, vec_len, is_err};
 ghost use Rattle.mufom_text.specs.Printing.{Puts};
@@ -31,7 +31,7 @@ pub(crate) fn room(alloc: Global) -> Result<Vec<u8>, NoMemory> {
 // Copies text to a place.
 fn copy_to(room: &mut [u8], place: usize, text: &[u8])
     requires { place + length text.now ≤ length room.old }
-    ensures front { take (place + length text.now) room.new ≡ take place room.old ++ text.now }
+    ensures prefix { take (place + length text.now) room.new ≡ take place room.old ++ text.now }
     ensures len { length room.new ≡ length room.old }
 {
     room[place..place + text.len()].copy_from_slice(text);

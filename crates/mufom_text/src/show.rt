@@ -1,5 +1,5 @@
 ghost use Rattle.std.specs.Prelude.{◌≡◌, ◌≤◌, Err, OnOk, take};
-ghost use Rattle.mufom_host.specs.World.{Grows, GrowsBy, GrowsByFront, HasCause, KeepsAllButOut, KeepsAllButWrites, Rose};
+ghost use Rattle.mufom_host.specs.World.{Grows, GrowsBy, GrowsByPrefix, HasCause, KeepsAllButOut, KeepsAllButWrites, Rose};
 ghost use Rattle.mufom_module.specs.Defects.{IsValid};
 ghost use Rattle.mufom_text.specs.Printing.{Puts};
 ghost use Rattle.mufom_text.specs.Show.{module_text};
@@ -67,13 +67,13 @@ fn print_all<H: Host>(room: Vec<u8>, host: &mut H, parts: &Parts) -> Result<(), 
     printed
 }
 
-/// Prints the text of the module, in pieces of about 65,536 bytes but for the last.
+/// Prints the text of the module, in chunks of about 65,536 bytes but for the last.
 ///
 /// `NoMemory` comes before anything is printed. `Fault` comes only where a print failed and the
-/// count of such faults rose; a front of the text may then be printed.
+/// count of such faults rose; a prefix of the text may then be printed.
 pub fn print_module<H: Host>(alloc: Global, host: &mut H, object: &Module) -> Result<(), PrintStop>
     ensures done { OnOk result (GrowsBy (H.meaning host.old).out (H.meaning host.new).out (module_text object.now)) }
-    ensures fault { result ≡ Err PrintStop.Fault → GrowsByFront (H.meaning host.old).out (H.meaning host.new).out (module_text object.now) × Rose (H.faults host.old).writes (H.faults host.new).writes }
+    ensures fault { result ≡ Err PrintStop.Fault → GrowsByPrefix (H.meaning host.old).out (H.meaning host.new).out (module_text object.now) × Rose (H.faults host.old).writes (H.faults host.new).writes }
     ensures unmade { result ≡ Err PrintStop.NoMemory → (H.meaning host.new).out ≡ (H.meaning host.old).out }
     ensures stays { KeepsAllButOut (H.meaning host.old) (H.meaning host.new) }
     ensures counts { KeepsAllButWrites (H.faults host.old) (H.faults host.new) }

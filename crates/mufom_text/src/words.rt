@@ -19,7 +19,7 @@ pub(crate) fn number<K: Output>(out: &mut K, value: u64)
     out.put(buffer.format(value).as_bytes());
 }
 
-/// A word and a number in decimal behind it.
+/// A word and a number in decimal after it.
 pub(crate) fn numbered<K: Output>(out: &mut K, word: &[u8], value: u64)
     ensures { K.takes out.old out.new (word.now ++ decimal value) }
 {

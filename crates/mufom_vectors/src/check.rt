@@ -125,7 +125,7 @@ fn a_changed_byte_of_a_part_is_named_at_its_place(rt: HostRuntime) -> Result<(),
 }
 
 #[test]
-fn a_byte_behind_the_end_is_refused(rt: HostRuntime) -> Result<(), Fail> {
+fn a_byte_after_the_end_is_refused(rt: HostRuntime) -> Result<(), Fail> {
     let mut file = [0u8; 121];
     file[..120].copy_from_slice(&ABSOLUTE);
     let line = b"refused: file 0 at 120: AfterEnd\n";
@@ -159,12 +159,12 @@ fn usage(
     alloc: Global,
     line: &[&str],
     fault: UsageFault,
-    told: &[u8],
+    known: &[u8],
 ) -> Result<(), Fail>
     requires { length line.now < 2 ^ 32 }
 {
     let wanted = Outcome::Usage(fault);
-    answers(rt, alloc, &[("m1", &ABSOLUTE)], line, (wanted, b"", told))
+    answers(rt, alloc, &[("m1", &ABSOLUTE)], line, (wanted, b"", known))
 }
 
 #[test]

@@ -1,5 +1,5 @@
 //! Worked runs of the program as tests, each named by what it shows: the files and texts come from
-//! outside. They say nothing that a contract says.
+//! outside. They state nothing that a contract states.
 //!
 //! It stands on all other crates, and so has the one law that joins the reader and the writer: what is
 //! written of a module is read back ([`read_back`]).

@@ -8,7 +8,7 @@ ghost use Rattle.mufom_read.specs.Reader.{HasRead, reads_debug_of};
 use mufom_module::Module;
 use mufom_read::{ReadStop, Reader};
 
-/// The answer of a reader that has read, in pieces of any size, what `mufom_write::write_module` writes
+/// The answer of a reader that has read, in chunks of any size, what `mufom_write::write_module` writes
 /// of a module: that module, unless memory runs out. The written form is no longer than a file may be,
 /// and has no debug part, since the reader leaves such parts for later.
 pub fn read_back(reader: Reader, module: &Module) -> Result<Module, ReadStop>

@@ -16,11 +16,11 @@ const EMPTY_TEXT: &[u8] = b"module \"A\" processor \"68000\" maus 4 order M\n";
 const EVERY_KIND_TEXT: &[u8] =
     b"module \"m\" processor \"P\" maus 2 order L\nextension 3 bytes\nenvironment 1 bytes\nsection 0 \"c\" CP size 12 align 2\nsection 1 \"d\" ASD size 0 align 1 base 4096\nsection 2 \"\" CR size 0 align 1\nsection 3 \"n\" C size 0 align 1\npublic 0 \"f\" = (R0 + 4)\nnote type 15 attribute 19 1\nreference 0 \"x\" weak size 8 default 300\nnote type 1 attribute 2\nreference 1 \"y\" weak size 0 default 0\nreference 2 \"z\"\nselect 0\ncounter 0 = R0\nbytes 2 4E71\nfield either 4 = X0\nrepeat 3\n  bytes 1 00\nrepeat 4\n  field signed 2 = 6\nrepeat 2\n  field unsigned 1 = 1\n  bytes 1 09\nrepeat 0\nstart = R0\n";
 
-// The module of a file that comes in these pieces.
-fn read(rt: &impl Abort, alloc: Global, pieces: &[&[u8]]) -> Result<Module, Fail> {
+// The module of a file that comes in these chunks.
+fn read(rt: &impl Abort, alloc: Global, fed: &[&[u8]]) -> Result<Module, Fail> {
     let mut reader = Reader::new(alloc, true)?;
-    for piece in pieces {
-        assert_eq!(rt; reader.feed(piece), Ok(()));
+    for chunk in fed {
+        assert_eq!(rt; reader.feed(chunk), Ok(()));
     }
     match reader.finish() {
         Ok(module) => Ok(module),
@@ -28,9 +28,9 @@ fn read(rt: &impl Abort, alloc: Global, pieces: &[&[u8]]) -> Result<Module, Fail
     }
 }
 
-// What is written of the module of a file that comes in these pieces.
-fn rewritten(rt: &impl Abort, alloc: Global, pieces: &[&[u8]]) -> Result<Vec<u8>, Fail> {
-    let module = read(rt, alloc, pieces)?;
+// What is written of the module of a file that comes in these chunks.
+fn rewritten(rt: &impl Abort, alloc: Global, fed: &[&[u8]]) -> Result<Vec<u8>, Fail> {
+    let module = read(rt, alloc, fed)?;
     let mut host = host(alloc, &[])?;
     assert_eq!(rt; host.create("a"), Ok(()));
     assert_eq!(rt; write_module(&module, &mut host), Ok(()));

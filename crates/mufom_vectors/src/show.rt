@@ -48,7 +48,7 @@ fn a_relocatable_module_is_shown(rt: HostRuntime) -> Result<(), Fail> {
 }
 
 #[test]
-fn names_behind_two_dashes_and_a_dash_alone_are_files(rt: HostRuntime) -> Result<(), Fail> {
+fn names_after_two_dashes_and_a_dash_alone_are_files(rt: HostRuntime) -> Result<(), Fail> {
     let alloc = rt.alloc();
     shows(
         &rt,
@@ -67,39 +67,39 @@ fn faulty(
     alloc: Global,
     line: &[&str],
     fault: UsageFault,
-    told: &[u8],
+    known: &[u8],
 ) -> Result<(), Fail>
     requires { length line.now < 2 ^ 32 }
 {
     let wanted = Outcome::Usage(fault);
-    answers(rt, alloc, &[("m1", &ABSOLUTE)], line, (wanted, b"", told))
+    answers(rt, alloc, &[("m1", &ABSOLUTE)], line, (wanted, b"", known))
 }
 
 #[test]
 fn words_without_a_command_or_a_file_are_usage_faults(rt: HostRuntime) -> Result<(), Fail> {
     let alloc = rt.alloc();
-    let told = b"usage: no command\n";
-    faulty(&rt, alloc, &[], UsageFault::NoCommand, told)?;
-    faulty(&rt, alloc, &["dmup", "a"], UsageFault::NoCommand, told)?;
-    let told = b"usage: no file\n";
-    faulty(&rt, alloc, &["dump"], UsageFault::NoFile, told)
+    let known = b"usage: no command\n";
+    faulty(&rt, alloc, &[], UsageFault::NoCommand, known)?;
+    faulty(&rt, alloc, &["dmup", "a"], UsageFault::NoCommand, known)?;
+    let known = b"usage: no file\n";
+    faulty(&rt, alloc, &["dump"], UsageFault::NoFile, known)
 }
 
 #[test]
 fn words_that_name_not_one_file_are_usage_faults(rt: HostRuntime) -> Result<(), Fail> {
     let alloc = rt.alloc();
-    let told = b"usage: file count\n";
+    let known = b"usage: file count\n";
     faulty(
         &rt,
         alloc,
         &["show", "m1", "m1"],
         UsageFault::FileCount,
-        told,
+        known,
     )?;
-    let told = b"usage: stray bracket\n";
-    faulty(&rt, alloc, &["show", "["], UsageFault::StrayBracket, told)?;
-    let told = b"usage: bad words\n";
-    faulty(&rt, alloc, &["show", "--help"], UsageFault::BadWords, told)?;
+    let known = b"usage: stray bracket\n";
+    faulty(&rt, alloc, &["show", "["], UsageFault::StrayBracket, known)?;
+    let known = b"usage: bad words\n";
+    faulty(&rt, alloc, &["show", "--help"], UsageFault::BadWords, known)?;
     let twice = ["show", "--no-debug", "--no-debug", "m1"];
-    faulty(&rt, alloc, &twice, UsageFault::BadWords, told)
+    faulty(&rt, alloc, &twice, UsageFault::BadWords, known)
 }

@@ -1,4 +1,4 @@
--- The command of `clap` for each verb is one of which its definitions say all.
+-- The command of `clap` for each verb is one of which its definitions state all.
 use Rattle.std.proofs.Common.{◌≡◌, true, refl}
 use Rattle.clap.specs.Faults.{is_simple_and_free}
 use Rattle.clap.specs.Simple.{is_simple}

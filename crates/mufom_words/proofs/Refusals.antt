@@ -11,7 +11,7 @@ use Rattle.mufom_words.specs.declared.stop.UsageFault.TheVariants as fault
 use Rattle.std.proofs.Common.{Some, cond}
 use Rattle.std.specs.Option.{option_or}
 
--- an error of a kind that the words give, or of want of memory
+-- an error of a kind that the words give, or of out of memory
 pub refusal_answers : (v : Verb) (words : List Text) (k : ErrorKind) → (k ≡ kind.OutOfMemory) ⊎ IsAmong k (refusals v words) → stop_by k ≢ stop.NoMemory → answer_for (Some v) words ≡ Err (stop_by k)
 refusal_answers v words k found other = elim found [
   | inl memory ↦ absurd (other (ap stop_by memory))

@@ -33,9 +33,9 @@ flag : answer_of (codes "show" ∷ codes "--no-debug" ∷ codes "a" ∷ []) ≡ 
 unfolding clap_on_literals
 flag = refl
 
-flag_behind_files : answer_of (codes "check" ∷ codes "a" ∷ codes "b" ∷ codes "--no-debug" ∷ []) ≡ Ok (record { verb = verb.Check; no_debug = true; files = codes "a" ∷ codes "b" ∷ [] })
+flag_after_files : answer_of (codes "check" ∷ codes "a" ∷ codes "b" ∷ codes "--no-debug" ∷ []) ≡ Ok (record { verb = verb.Check; no_debug = true; files = codes "a" ∷ codes "b" ∷ [] })
 unfolding clap_on_literals
-flag_behind_files = refl
+flag_after_files = refl
 
 flag_between_files : answer_of (codes "check" ∷ codes "a" ∷ codes "--no-debug" ∷ codes "b" ∷ []) ≡ Ok (record { verb = verb.Check; no_debug = true; files = codes "a" ∷ codes "b" ∷ [] })
 unfolding clap_on_literals
@@ -69,9 +69,9 @@ no_help : answer_of (codes "show" ∷ codes "--help" ∷ codes "a" ∷ []) ≡ E
 unfolding clap_on_literals
 no_help = refl
 
-front_of_an_option : answer_of (codes "show" ∷ codes "--no-deb" ∷ codes "a" ∷ []) ≡ Err (stop.Usage fault.BadWords)
+prefix_of_an_option : answer_of (codes "show" ∷ codes "--no-deb" ∷ codes "a" ∷ []) ≡ Err (stop.Usage fault.BadWords)
 unfolding clap_on_literals
-front_of_an_option = refl
+prefix_of_an_option = refl
 
 flag_with_a_value : answer_of (codes "show" ∷ codes "--no-debug=true" ∷ codes "a" ∷ []) ≡ Err (stop.Usage fault.BadWords)
 unfolding clap_on_literals
@@ -141,9 +141,9 @@ bracket_before_count : answer_of (codes "show" ∷ codes "a" ∷ codes "b" ∷ c
 unfolding clap_on_literals
 bracket_before_count = refl
 
-bracket_behind_options_end : answer_of (codes "check" ∷ codes "--" ∷ codes "[" ∷ []) ≡ Err (stop.Usage fault.StrayBracket)
+bracket_after_options_end : answer_of (codes "check" ∷ codes "--" ∷ codes "[" ∷ []) ≡ Err (stop.Usage fault.StrayBracket)
 unfolding clap_on_literals
-bracket_behind_options_end = refl
+bracket_after_options_end = refl
 
 -- ---- the limit
 

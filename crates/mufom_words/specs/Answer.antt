@@ -44,8 +44,8 @@ stop_by k = if is_memory k then stop.NoMemory else stop.Usage fault.BadWords
 abbrev pub files_stop : Verb → List Text → Option WordsStop
 files_stop v files = option_or (usage (files_fault files)) (option_or (usage (count_fault v files)) (limit_stop files))
 
-abbrev pub stop_of : Verb → List Text → Option WordsStop
-stop_of v words = option_or (refused_stop (refusals v words)) (files_stop v (given v words).files)
+abbrev pub words_stop : Verb → List Text → Option WordsStop
+words_stop v words = option_or (refused_stop (refusals v words)) (files_stop v (given v words).files)
 
 abbrev pub command_by : Verb → Given → Command
 command_by v g = record { verb = v; no_debug = g.no_debug; files = g.files }
@@ -56,7 +56,7 @@ unless_stopped (Some s) command = Err s
 
 abbrev pub answer_for : Option Verb → List Text → Result Command WordsStop
 answer_for None words = Err (stop.Usage fault.NoCommand)
-answer_for (Some v) words = unless_stopped (stop_of v words) (command_by v (given v words))
+answer_for (Some v) words = unless_stopped (words_stop v words) (command_by v (given v words))
 
 -- The command of the words, or the first thing that is wrong with them.
 abbrev pub answer_of : List Text → Result Command WordsStop

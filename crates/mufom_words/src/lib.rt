@@ -2,7 +2,7 @@
 //!
 //! The first word names the command, and `clap` reads the others, as one simple command for each
 //! name. Its main clause is that of [`read_words`]: the command that it answers is the one that the
-//! words give, and a stop other than want of memory is the first thing that is wrong with them, in
+//! words give, and a stop other than out of memory is the first thing that is wrong with them, in
 //! a fixed order.
 #![tactic(auto)]
 

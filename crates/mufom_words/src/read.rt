@@ -30,7 +30,7 @@ fn files_stop(verb: Verb, words: &[&str]) -> Option<WordsStop>
     limit_stop(words)
 }
 
-// What an error of `clap` says of the words.
+// What an error of `clap` states of the words.
 fn refusal(error: &Error) -> WordsStop
     ensures { result ≡ stop_by (kind_of error.now) }
 {
@@ -40,7 +40,7 @@ fn refusal(error: &Error) -> WordsStop
     }
 }
 
-// The command of the words behind a verb's name, which stands first among them.
+// The command of the words after a verb's name, which stands first among them.
 fn command_for(alloc: Global, verb: Verb, words: &[String]) -> Result<Command, WordsStop>
     requires { length words.now < 2 ^ 32 }
     ensures ok { IfOk result (λ command. answer_for (Some verb) (map (λ word. string_bytes word) words.now) ≡ Ok command) }

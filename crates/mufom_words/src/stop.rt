@@ -21,7 +21,7 @@ pub enum UsageFault {
 pub enum WordsStop {
     /// The words are no command.
     Usage(UsageFault),
-    /// The words have so many files, which are too many.
+    /// The words name this many files, which are too many.
     TooManyFiles(u32),
     /// There was no memory.
     NoMemory,

@@ -19,11 +19,11 @@ use Rattle.mufom_module.specs.Written as w
 use Rattle.mufom_module.specs.Defects.{is_long}
 use Rattle.mufom_write.proofs.Rows.{IsCode, IsWhole, stops-number, stops-token, spells, spells_index, spells_numbers, spells_string, spells_expression, text_at}
 
--- where what the kind of a block adds stands, behind its name
+-- where what the kind of a block adds stands, after its name
 abbrev pub tail_place : List ℕ → ℕ
 tail_place name = 3 + length (w.string shortest name)
 
--- where the offset of a block stands, behind two numbers
+-- where the offset of a block stands, after two numbers
 abbrev pub offset_at : List ℕ → ℕ → ℕ → Tree → Span
 offset_at name a b offset = span_at (tail_place name + length (w.number shortest a) + length (w.number shortest b)) (length (w.expression shortest offset))
 

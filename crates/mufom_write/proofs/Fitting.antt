@@ -27,7 +27,7 @@ use Rattle.mufom_module.specs.Weights.{section_weight, public_weight, reference_
 use Rattle.mufom_module.specs.Written.{weight, shortest}
 use Rattle.mufom_module.specs.Written as w
 use Rattle.mufom_module.specs.Made.{IsNumber, IsMadeTree, IsMadeSection, IsMadeNote, IsMadeWeak, IsMadePublic, IsMadeReference, IsMadeItem, IsMadeLoad, IsMadeHead, IsMadeMark, IsMade}
-use Rattle.mufom_module.specs.Defects.{is_long, has_long_name, counts_of, names_outside, has_bad_place, loads_nowhere, names_no_section, names_bad_section, has_bad_mark, declared_behind, has_unknown_attribute, is_long_literal, has_bad_size, has_defect, defects, IsValid}
+use Rattle.mufom_module.specs.Defects.{is_long, has_long_name, counts_of, names_outside, has_bad_place, loads_nowhere, names_no_section, names_bad_section, has_bad_mark, declared_after, has_unknown_attribute, is_long_literal, has_bad_size, has_defect, defects, IsValid}
 use Rattle.mufom_module.proofs.WeightLaws.{weight-sum}
 use Rattle.mufom_module.proofs.Valid.{weighs_less}
 use Rattle.mufom_write.proofs.Shorter.{eight-offsets}
@@ -35,10 +35,10 @@ use Rattle.mufom_write.proofs.Placing.{places-fit, offsets-fit}
 use Rattle.mufom_write.proofs.CutFile.{IsFittingModule}
 use Rattle.mufom_write.proofs.Rows.{IsSpelledNote}
 use Rattle.mufom_write.proofs.Indexed.{AreFew, IsFittingTree, fitting}
-use Rattle.mufom_write.proofs.SectionPieces.{IsFittingSection}
-use Rattle.mufom_write.proofs.NamePieces.{IsFittingPublic, IsFittingReference}
-use Rattle.mufom_write.proofs.DebugPieces.{IsFittingHead, IsFittingEnd, AreFittingMarks}
-use Rattle.mufom_write.proofs.LoadPieces.{IsFittingItem, IsFittingLoad, IsFittingStart}
+use Rattle.mufom_write.proofs.SectionRecords.{IsFittingSection}
+use Rattle.mufom_write.proofs.NameRecords.{IsFittingPublic, IsFittingReference}
+use Rattle.mufom_write.proofs.DebugRecords.{IsFittingHead, IsFittingEnd, AreFittingMarks}
+use Rattle.mufom_write.proofs.LoadRecords.{IsFittingItem, IsFittingLoad, IsFittingStart}
 
 -- ---- lists
 
@@ -155,7 +155,7 @@ known-attribute attribute h = unless (is_one_of debug_attributes attribute) h wh
   unless true h = refl
   unless false h = cc
 
--- how many names are declared behind a mark that is sound, and behind those after it
+-- how many names are declared after a mark that is sound, and after those after it
 pub first-declared : (b : Bool) (n : ℕ) (rest : ℕ → Option ℕ) → is_none (option_and_then rest (cond b (Some n) None)) ≡ false → (b ≡ true) × (is_none (rest n) ≡ false)
 first-declared true n rest h = (refl, h)
 first-declared false n rest h = cc
@@ -167,7 +167,7 @@ record IsSound (m : Parts) (mark : DebugMark) : Type 0 where
   inside : has_bad_mark (counts_of m) mark ≡ false
   known : has_unknown_attribute mark ≡ false
 
-marks-fit : (m : Parts) (n : ℕ) (marks : List DebugMark) → AreFew m → n + length marks + 32 ≤ 2 ^ 32 → AllByRecursion (IsSound m) marks → is_none (declared_behind n marks) ≡ false → AreFittingMarks n marks
+marks-fit : (m : Parts) (n : ℕ) (marks : List DebugMark) → AreFew m → n + length marks + 32 ≤ 2 ^ 32 → AllByRecursion (IsSound m) marks → is_none (declared_after n marks) ≡ false → AreFittingMarks n marks
 marks-fit m n [] few count sound declared = tt
 marks-fit m n (block_begin head name ∷ marks) few count sound declared =
     let parts = or_parts (names_bad_section (counts_of m) head) (any_of (names_outside (counts_of m)) (offset_of head)) sound.0.inside in
@@ -177,11 +177,11 @@ marks-fit m n (block_end value ∷ marks) few count sound declared =
 marks-fit m n (name_mark name ∷ marks) few count sound declared =
     ((sound.0.short, sound.0.made, omega (arith, count)), marks-fit m (n + 1) marks few (omega (arith, count)) sound.1 declared)
 marks-fit m n (note_mark name its ∷ marks) few count sound declared =
-    let step = first-declared (nat_lt name n) n (λ k. declared_behind k marks) declared in
+    let step = first-declared (nat_lt name n) n (λ k. declared_after k marks) declared in
     let within = ltb-true name n step.0 in
     ((omega (arith, within, count), note-fits its sound.0.made.1, known-attribute its.attribute sound.0.known), marks-fit m n marks few (omega (arith, count)) sound.1 step.1)
 marks-fit m n (value_mark name value ∷ marks) few count sound declared =
-    let step = first-declared (nat_lt name n) n (λ k. declared_behind k marks) declared in
+    let step = first-declared (nat_lt name n) n (λ k. declared_after k marks) declared in
     let within = ltb-true name n step.0 in
     ((omega (arith, within, count), tree-fits m value few sound.0.made.1 sound.0.inside), marks-fit m n marks few (omega (arith, count)) sound.1 step.1)
 
@@ -254,7 +254,7 @@ pub record IsInside (m : Parts) : Type 0 where
   pub places : list_any (has_bad_place (counts_of m)) m.loads ≡ false
   pub marks : list_any (has_bad_mark (counts_of m)) (marks_of m.debug) ≡ false
   pub start : any_of (names_outside (counts_of m)) m.start ≡ false
-  pub declared : is_none (declared_behind 0 (marks_of m.debug)) ≡ false
+  pub declared : is_none (declared_after 0 (marks_of m.debug)) ≡ false
 
 inside : (m : Parts) → has_defect m d.LongId ≡ false → has_defect m d.Position ≡ false → IsInside m
 inside m long position =
@@ -264,10 +264,10 @@ inside m long position =
     let c = or_parts (list_any (λ s. is_long s.name) m.sections) (list_any (λ p. is_long p.name) m.names.publics || (list_any (λ r. is_long r.name) m.names.references || list_any has_long_name (marks_of m.debug))) b.1 in
     let e = or_parts (list_any (λ p. is_long p.name) m.names.publics) (list_any (λ r. is_long r.name) m.names.references || list_any has_long_name (marks_of m.debug)) c.1 in
     let f = or_parts (list_any (λ r. is_long r.name) m.names.references) (list_any has_long_name (marks_of m.debug)) e.1 in
-    let g = or_parts (list_any (λ p. names_outside n p.value) m.names.publics) (list_any (has_bad_place n) m.loads || (list_any (has_bad_mark n) (marks_of m.debug) || (any_of (names_outside n) m.start || is_none (declared_behind 0 (marks_of m.debug))))) position in
-    let h = or_parts (list_any (has_bad_place n) m.loads) (list_any (has_bad_mark n) (marks_of m.debug) || (any_of (names_outside n) m.start || is_none (declared_behind 0 (marks_of m.debug)))) g.1 in
-    let k = or_parts (list_any (has_bad_mark n) (marks_of m.debug)) (any_of (names_outside n) m.start || is_none (declared_behind 0 (marks_of m.debug))) h.1 in
-    let l = or_parts (any_of (names_outside n) m.start) (is_none (declared_behind 0 (marks_of m.debug))) k.1 in
+    let g = or_parts (list_any (λ p. names_outside n p.value) m.names.publics) (list_any (has_bad_place n) m.loads || (list_any (has_bad_mark n) (marks_of m.debug) || (any_of (names_outside n) m.start || is_none (declared_after 0 (marks_of m.debug))))) position in
+    let h = or_parts (list_any (has_bad_place n) m.loads) (list_any (has_bad_mark n) (marks_of m.debug) || (any_of (names_outside n) m.start || is_none (declared_after 0 (marks_of m.debug)))) g.1 in
+    let k = or_parts (list_any (has_bad_mark n) (marks_of m.debug)) (any_of (names_outside n) m.start || is_none (declared_after 0 (marks_of m.debug))) h.1 in
+    let l = or_parts (any_of (names_outside n) m.start) (is_none (declared_after 0 (marks_of m.debug))) k.1 in
     record { processor = a.0; name = b.0; sections = c.0; publics = e.0; references = f.0; debug = f.1; values = g.0; places = h.0; marks = k.0; start = l.0; declared = l.1 }
 
 pub inside_module : (m : Parts) → IsValid m → IsInside m

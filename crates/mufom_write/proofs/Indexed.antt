@@ -13,7 +13,7 @@ use Rattle.mufom_expr.specs.Value.{variables_of, with_variables}
 use Rattle.mufom_expr.specs.Renamed.{renamed_token, renamed_tokens}
 use Rattle.mufom_expr.specs.Spelled.{SpellsTokens, SpellsTree, SpellsToken, Indexes, list_of}
 use Rattle.mufom_expr.proofs.TermsLemmas.{renamed_tokens-tokens_of}
-use Rattle.mufom_module.specs.Pieces.{position_in, positioned}
+use Rattle.mufom_module.specs.SpelledRecords.{position_in, positioned}
 use Rattle.mufom_module.specs.Written.{shortest, index_of, each_from}
 use Rattle.mufom_module.specs.Written as w
 use Rattle.mufom_module.specs.declared.module.Parts.{Parts}
@@ -59,9 +59,9 @@ all-append : {X : Type 0} (Is : X → Type 0) (xs ys : List X) → AllByRecursio
 all-append Is [] ys a b = b
 all-append Is (x ∷ xs) ys a b = (a.0, all-append Is xs ys a.1 b)
 
-all-front : {X : Type 0} (Is : X → Type 0) (xs ys : List X) → AllByRecursion Is (xs ++ ys) → AllByRecursion Is xs
-all-front Is [] ys a = tt
-all-front Is (x ∷ xs) ys a = (a.0, all-front Is xs ys a.1)
+all-prefix : {X : Type 0} (Is : X → Type 0) (xs ys : List X) → AllByRecursion Is (xs ++ ys) → AllByRecursion Is xs
+all-prefix Is [] ys a = tt
+all-prefix Is (x ∷ xs) ys a = (a.0, all-prefix Is xs ys a.1)
 
 all-back : {X : Type 0} (Is : X → Type 0) (xs ys : List X) → AllByRecursion Is (xs ++ ys) → AllByRecursion Is ys
 all-back Is [] ys a = a
@@ -87,13 +87,13 @@ tree-fits m (variable letter place) few range inside =
     let within = leb-false (count_for (counts_of m) letter) place (or_parts (nat_le (count_for (counts_of m) letter) place) false inside).0 in
     (index-fits m letter place few within, tt)
 tree-fits m (one f a) few range inside =
-    all-append IsFitting (tokens_of a) (Fun (function_of_one f) ∷ []) (tree-fits m a few (all-front IsInRange (tokens_of a) (Fun (function_of_one f) ∷ []) range) inside) (tt, tt)
+    all-append IsFitting (tokens_of a) (Fun (function_of_one f) ∷ []) (tree-fits m a few (all-prefix IsInRange (tokens_of a) (Fun (function_of_one f) ∷ []) range) inside) (tt, tt)
 tree-fits m (two f a b) few range inside =
-    let both = all-front IsInRange (tokens_of a ++ tokens_of b) (Fun (function_of_two f) ∷ []) range in
+    let both = all-prefix IsInRange (tokens_of a ++ tokens_of b) (Fun (function_of_two f) ∷ []) range in
     let parts = or_parts (list_any (is_outside (counts_of m)) (variables_of a)) (list_any (is_outside (counts_of m)) (variables_of b)) (sym (list_any-append (is_outside (counts_of m)) (variables_of a) (variables_of b)) ∙ inside) in
     all-append IsFitting (tokens_of a ++ tokens_of b) (Fun (function_of_two f) ∷ [])
     (all-append IsFitting (tokens_of a) (tokens_of b)
-    (tree-fits m a few (all-front IsInRange (tokens_of a) (tokens_of b) both) parts.0)
+    (tree-fits m a few (all-prefix IsInRange (tokens_of a) (tokens_of b) both) parts.0)
     (tree-fits m b few (all-back IsInRange (tokens_of a) (tokens_of b) both) parts.1))
     (tt, tt)
 
@@ -102,12 +102,12 @@ fitting m tree few short range inside = (short, tree-fits m tree few range insid
 
 -- ---- positions
 
--- so many indexes from the first on
+-- the given number of indexes from the first on
 abbrev pub counting : ℕ → ℕ → List ℕ
 counting first zero = []
 counting first (suc n) = first ∷ counting (first + 1) n
 
--- the index lists of the written form, with so many debug names
+-- the index lists of the written form, with the given number of debug names
 abbrev pub written_indexes : Parts → ℕ → Indexes
 written_indexes m debug_names = record {
   sections = counting 1 (length m.sections);

@@ -15,7 +15,7 @@ use Rattle.mufom_expr.specs.TokenAt.{tokens_in}
 use Rattle.mufom_debug.specs.Marks.{joined}
 use Rattle.mufom_module.specs.declared.module.Parts.{Parts}
 use Rattle.mufom_module.specs.Contents.{any_of}
-use Rattle.mufom_module.specs.Pieces.{Piece, Kind, FileIndex, section, public, reference, declared, declared_by, of_kind, is_declared, expression_of, tree_in, text_in, named_in_expression, named_at_once, index_of_variable, kind_of_letter, Once, is_same_saying, assigned_by, is_assigned}
+use Rattle.mufom_module.specs.SpelledRecords.{SpelledRecord, Kind, FileIndex, section, public, reference, declared, declared_by, of_kind, is_declared, expression_of, tree_in, text_in, named_in_expression, named_at_once, index_of_variable, kind_of_letter, Once, is_same_statement, assigned_by, is_assigned}
 use Rattle.mufom_module.specs.Grammar.{Follows, has_no_section}
 use Rattle.mufom_module.specs.Written.{shortest, index_of}
 use Rattle.mufom_module.specs.Written as w
@@ -25,13 +25,13 @@ use Rattle.mufom_write.proofs.Indexed.{IsFittingTree, indexed, expression-spells
 use Rattle.mufom_write.proofs.Naming.{found, declared-append}
 
 -- the records declare the sections and the names of the module, and no others
-pub record DeclareEntries (m : Parts) (before : List Piece) : Type 0 where
+pub record DeclareEntries (m : Parts) (before : List SpelledRecord) : Type 0 where
   pub sections : declared section before ≡ counting 1 (length m.sections)
   pub publics : declared public before ≡ counting 32 (length m.names.publics)
   pub references : declared reference before ≡ counting 11 (length m.names.references)
 
 -- further records that declare none of them
-pub declare-more : (m : Parts) (before xs : List Piece) → DeclareEntries m before → declared section xs ≡ [] → declared public xs ≡ [] → declared reference xs ≡ [] → DeclareEntries m (before ++ xs)
+pub declare-more : (m : Parts) (before xs : List SpelledRecord) → DeclareEntries m before → declared section xs ≡ [] → declared public xs ≡ [] → declared reference xs ≡ [] → DeclareEntries m (before ++ xs)
 declare-more m before xs its s p r = record {
   sections = declared-append section before xs ∙ (λ i. its.sections i ++ s i) ∙ append-nil (counting 1 (length m.sections));
   publics = declared-append public before xs ∙ (λ i. its.publics i ++ p i) ∙ append-nil (counting 32 (length m.names.publics));
@@ -39,7 +39,7 @@ declare-more m before xs its s p r = record {
 }
 
 -- the variables of a record's expression are those of the tree over the indexes of the file
-named-in : (p : Piece) (span : Span) (tree : Tree) → expression_of p.row ≡ Some span → text_in p span ≡ w.expression shortest tree → IsFittingTree tree
+named-in : (p : SpelledRecord) (span : Span) (tree : Tree) → expression_of p.row ≡ Some span → text_in p span ≡ w.expression shortest tree → IsFittingTree tree
     → named_in_expression p ≡ map index_of_variable (variables_of (indexed tree))
 named-in p span tree has text fits =
     let back = ap (λ (l : List ℕ). the_term (tokens_in l)) text ∙ term-spelling (indexed tree) (w.expression shortest tree) (expression-spells tree fits) in
@@ -47,7 +47,7 @@ named-in p span tree has text fits =
     ∙ ap (λ (t : Tree). map index_of_variable (joined (variables_of t ∷ []))) back
     ∙ ap (map index_of_variable) (append-nil (variables_of (indexed tree)))
 
-module _ (m : Parts) (before : List Piece) (its : DeclareEntries m before) where
+module _ (m : Parts) (before : List SpelledRecord) (its : DeclareEntries m before) where
   pub section-known : (place : ℕ) → place < length m.sections → is_declared before (section, place + 1) ≡ true
   section-known place within = ap (list_any (λ j. j == place + 1)) its.sections ∙ found (place + 1) 1 (length m.sections) (omega arith) (omega (arith, within))
 
@@ -80,39 +80,39 @@ module _ (m : Parts) (before : List Piece) (its : DeclareEntries m before) where
       ∙ list_all-append (is_declared before) (map index_of_variable (variables_of (indexed a))) (map index_of_variable (variables_of (indexed b))) ∙ (λ i. left i && right i)
 
   -- those of the expression of a record, of which its bytes hold the text
-  pub expression-known : (p : Piece) (span : Span) (tree : Tree) → expression_of p.row ≡ Some span → text_in p span ≡ w.expression shortest tree → IsFittingTree tree
+  pub expression-known : (p : SpelledRecord) (span : Span) (tree : Tree) → expression_of p.row ≡ Some span → text_in p span ≡ w.expression shortest tree → IsFittingTree tree
       → names_outside (counts_of m) tree ≡ false → list_all (is_declared before) (named_in_expression p) ≡ true
   expression-known p span tree has text fits inside =
       ap (λ (l : List FileIndex). list_all (is_declared before) l) (named-in p span tree has text fits) ∙ tree-known tree inside
 
--- ---- records that declare nothing and say nothing once
+-- ---- records that declare nothing and state nothing once
 
-pub record IsPlain (p : Piece) : Type 0 where
+pub record IsPlain (p : SpelledRecord) : Type 0 where
   pub declares : declared_by p.row ≡ None
-  pub says : assigned_by p.row ≡ None
+  pub states : assigned_by p.row ≡ None
 
 -- such a record keeps to what stands before it, where the indexes that it names are declared
-pub plain-follows : (before : List Piece) (p : Piece) → IsPlain p → list_all (is_declared before) (named_at_once p) ≡ true → has_no_section before p.row ≡ false → Follows before p
+pub plain-follows : (before : List SpelledRecord) (p : SpelledRecord) → IsPlain p → list_all (is_declared before) (named_at_once p) ≡ true → has_no_section before p.row ≡ false → Follows before p
 plain-follows before p its known placed = record {
   new = ap (any_of (is_declared before)) its.declares;
   known = ap not known;
-  once = ap (any_of (is_assigned before)) its.says;
+  once = ap (any_of (is_assigned before)) its.states;
   placed = placed;
 }
 
-pub plain-declare : (kind : Kind) (pieces : List Piece) → AllByRecursion IsPlain pieces → declared kind pieces ≡ []
+pub plain-declare : (kind : Kind) (records : List SpelledRecord) → AllByRecursion IsPlain records → declared kind records ≡ []
 plain-declare kind [] all = refl
-plain-declare kind (p ∷ pieces) all =
+plain-declare kind (p ∷ records) all =
     let none = all.0.declares in
-    let rest = plain-declare kind pieces all.1 in
+    let rest = plain-declare kind records all.1 in
     λ i. cons_option (of_kind kind (none i)) (rest i)
 
-pub plain-unsaid : (pieces : List Piece) (once : Once) → AllByRecursion IsPlain pieces → is_assigned pieces once ≡ false
-plain-unsaid [] once all = refl
-plain-unsaid (p ∷ pieces) once all =
-    let none = all.0.says in
-    (λ i. list_any (is_same_saying once) (cons_option (none i) (filter_map (λ p. assigned_by p.row) pieces))) ∙ plain-unsaid pieces once all.1
+pub plain-unstated : (records : List SpelledRecord) (once : Once) → AllByRecursion IsPlain records → is_assigned records once ≡ false
+plain-unstated [] once all = refl
+plain-unstated (p ∷ records) once all =
+    let none = all.0.states in
+    (λ i. list_any (is_same_statement once) (cons_option (none i) (filter_map (λ p. assigned_by p.row) records))) ∙ plain-unstated records once all.1
 
--- behind them the same entries are declared
-pub declare-behind : (m : Parts) (before xs : List Piece) → DeclareEntries m before → AllByRecursion IsPlain xs → DeclareEntries m (before ++ xs)
-declare-behind m before xs its all = declare-more m before xs its (plain-declare section xs all) (plain-declare public xs all) (plain-declare reference xs all)
+-- after them the same entries are declared
+pub declare-after : (m : Parts) (before xs : List SpelledRecord) → DeclareEntries m before → AllByRecursion IsPlain xs → DeclareEntries m (before ++ xs)
+declare-after m before xs its all = declare-more m before xs its (plain-declare section xs all) (plain-declare public xs all) (plain-declare reference xs all)

@@ -28,7 +28,7 @@ set_section-whole i hi next code =
 count-fits : (n : ℕ) → nat_lt 65535 n ≡ false → (n < 2 ^ 64) × (nat_lt n 65536 ≡ true)
 count-fits n short = let few = ltb-false 65535 n short in (omega (arith, few), lt-ltb n 65536 (omega (arith, few)))
 
--- where the bytes of a run stand behind their count, which begins at a place
+-- where the bytes of a run stand after their count, which begins at a place
 abbrev pub run_at : ℕ → List ℕ → Span
 run_at at bytes = span_at (at + length (w.number shortest (length bytes))) (length bytes)
 
@@ -91,10 +91,10 @@ IsWholeItem row bytes = (next : Option ℕ) → IsWholeRecord mode.Items row byt
 no_bracket : (b : ℕ) → begins_number b ≡ true → is_one_of opening_brackets b ≡ false
 no_bracket b h = grind arith
 
-number-stops : (n : ℕ) (front rest : List ℕ) (next : Option ℕ) → SpellsNumber n front → Stops (is_one_of opening_brackets) (first_of (front ++ rest) next)
+number-stops : (n : ℕ) (prefix rest : List ℕ) (next : Option ℕ) → SpellsNumber n prefix → Stops (is_one_of opening_brackets) (first_of (prefix ++ rest) next)
 number-stops n [] rest next spelled = absurd spelled
-number-stops n (b ∷ front) rest next spelled =
-    let first = number_first n (b ∷ front) spelled in
+number-stops n (b ∷ prefix) rest next spelled =
+    let first = number_first n (b ∷ prefix) spelled in
     let same : b ≡ first.0 = cc in
     no_bracket b (ap begins_number same ∙ first.3)
 

@@ -30,13 +30,13 @@ module _ {S : Type 0} (takes : S → S → List ℕ → Result (Unit {0}) Failed
   pub leads-start : (a : S) (all : List ℕ) → LeadsTo takes a a all all
   leads-start a all = record { leads = λ s r h. h }
 
-  pub leads-step : Joins → (start now next : S) (bytes behind rest all : List ℕ) → rest ≡ bytes ++ behind → LeadsTo takes start now rest all
-      → takes now next bytes (Ok tt) → LeadsTo takes start next behind all
-  leads-step joins start now next bytes behind rest all split so_far one = record { leads = λ s r h. so_far.leads s r (joins now next s bytes behind rest r one h split) }
+  pub leads-step : Joins → (start now next : S) (bytes after rest all : List ℕ) → rest ≡ bytes ++ after → LeadsTo takes start now rest all
+      → takes now next bytes (Ok tt) → LeadsTo takes start next after all
+  leads-step joins start now next bytes after rest all split so_far one = record { leads = λ s r h. so_far.leads s r (joins now next s bytes after rest r one h split) }
 
-  pub leads-stop : Stops → (start now next : S) (bytes behind rest all : List ℕ) (e : Failed) (r : Result (Unit {0}) Failed) → rest ≡ bytes ++ behind → LeadsTo takes start now rest all
+  pub leads-stop : Stops → (start now next : S) (bytes after rest all : List ℕ) (e : Failed) (r : Result (Unit {0}) Failed) → rest ≡ bytes ++ after → LeadsTo takes start now rest all
       → takes now next bytes (Err e) → IsErr r → takes start next all r
-  leads-stop stops start now next bytes behind rest all e r split so_far one failed = so_far.leads next r (stops now next bytes behind rest e r one failed split)
+  leads-stop stops start now next bytes after rest all e r split so_far one failed = so_far.leads next r (stops now next bytes after rest e r one failed split)
 
   pub leads-end : Nothing → (start now : S) (rest all : List ℕ) → rest ≡ [] → LeadsTo takes start now rest all → takes start now all (Ok tt)
   leads-end nothing start now rest all none so_far = so_far.leads now (Ok tt) (subst (λ (bytes : List ℕ). takes now now bytes (Ok tt)) (sym none) (nothing now))

@@ -7,18 +7,18 @@ use Rattle.std.proofs.lemmas.List.Elements.{filter_map-append}
 use Rattle.std.proofs.lemmas.List.Folds.{list_any-append}
 use Rattle.std.proofs.lemmas.Bool.{eq-eqb, ne_eqb, cases_lt}
 use Rattle.mufom_sections.specs.declared.section.Section.{Section}
-use Rattle.mufom_module.specs.Pieces.{Piece, Kind, section, FileIndex, declared, declared_by, of_kind, is_declared, named_at_once, Once, alignment, section_size, section_base, is_same_saying, assigned_by, is_assigned}
-use Rattle.mufom_module.specs.Grammar.{Follows, FollowFrom, declares_again, says_again, has_no_section}
+use Rattle.mufom_module.specs.SpelledRecords.{SpelledRecord, Kind, section, FileIndex, declared, declared_by, of_kind, is_declared, named_at_once, Once, alignment, section_size, section_base, is_same_statement, assigned_by, is_assigned}
+use Rattle.mufom_module.specs.Grammar.{Follows, FollowFrom, declares_again, states_again, has_no_section}
 use Rattle.mufom_write.proofs.Indexed.{counting}
-use Rattle.mufom_write.proofs.Laying.{pieces_from}
-use Rattle.mufom_write.proofs.SectionPieces.{declaration, alignment_piece, size_piece, base_piece, alignment_pieces, size_pieces, base_pieces, settings, section_pieces}
-use Rattle.mufom_write.proofs.SaidSections.{settings-nothing}
+use Rattle.mufom_write.proofs.Laying.{records_from}
+use Rattle.mufom_write.proofs.SectionRecords.{declaration, alignment_spelling, size_spelling, base_spelling, alignment_spellings, size_spellings, base_spellings, settings, section_records}
+use Rattle.mufom_write.proofs.StatedSections.{settings-nothing}
 
 -- ---- what follows in steps
 
-pub follow-append : (before xs ys : List Piece) → FollowFrom before xs → FollowFrom (before ++ xs) ys → FollowFrom before (xs ++ ys)
-follow-append before [] ys a b = subst (λ (l : List Piece). FollowFrom l ys) (append-nil before) b
-follow-append before (x ∷ xs) ys a b = (a.0, follow-append (before ++ x ∷ []) xs ys a.1 (subst (λ (l : List Piece). FollowFrom l ys) (sym (append_assoc before (x ∷ []) xs)) b))
+pub follow-append : (before xs ys : List SpelledRecord) → FollowFrom before xs → FollowFrom (before ++ xs) ys → FollowFrom before (xs ++ ys)
+follow-append before [] ys a b = subst (λ (l : List SpelledRecord). FollowFrom l ys) (append-nil before) b
+follow-append before (x ∷ xs) ys a b = (a.0, follow-append (before ++ x ∷ []) xs ys a.1 (subst (λ (l : List SpelledRecord). FollowFrom l ys) (sym (append_assoc before (x ∷ []) xs)) b))
 
 -- ---- indexes that were counted
 
@@ -39,33 +39,33 @@ found i first (suc n) above below = elim (cases_lt first i) [
   | inr least ↦ let same : first ≡ i = omega (arith, above, least) in ap (λ (b : Bool). b || list_any (λ j. j == i) (counting (first + 1) n)) (eq-eqb first i same)
 ]
 
--- ---- what was said
+-- ---- what was stated
 
-pub unsaid-append : (before xs : List Piece) (once : Once) → is_assigned before once ≡ false → is_assigned xs once ≡ false → is_assigned (before ++ xs) once ≡ false
-unsaid-append before xs once a b =
-    ap (list_any (is_same_saying once)) (filter_map-append (λ p. assigned_by p.row) before xs)
-    ∙ list_any-append (is_same_saying once) (filter_map (λ p. assigned_by p.row) before) (filter_map (λ p. assigned_by p.row) xs) ∙ (λ k. a k || b k)
+pub unstated-append : (before xs : List SpelledRecord) (once : Once) → is_assigned before once ≡ false → is_assigned xs once ≡ false → is_assigned (before ++ xs) once ≡ false
+unstated-append before xs once a b =
+    ap (list_any (is_same_statement once)) (filter_map-append (λ p. assigned_by p.row) before xs)
+    ∙ list_any-append (is_same_statement once) (filter_map (λ p. assigned_by p.row) before) (filter_map (λ p. assigned_by p.row) xs) ∙ (λ k. a k || b k)
 
-pub declared-append : (kind : Kind) (before xs : List Piece) → declared kind (before ++ xs) ≡ declared kind before ++ declared kind xs
+pub declared-append : (kind : Kind) (before xs : List SpelledRecord) → declared kind (before ++ xs) ≡ declared kind before ++ declared kind xs
 declared-append kind before xs = filter_map-append (λ p. of_kind kind (declared_by p.row)) before xs
 
 -- ---- sections
 
-unless-unsaid : (b : Bool) (p : Piece) (once : Once) → is_assigned (p ∷ []) once ≡ false → is_assigned (cond b [] (p ∷ [])) once ≡ false
-unless-unsaid true p once h = refl
-unless-unsaid false p once h = h
+unless-unstated : (b : Bool) (p : SpelledRecord) (once : Once) → is_assigned (p ∷ []) once ≡ false → is_assigned (cond b [] (p ∷ [])) once ≡ false
+unless-unstated true p once h = refl
+unless-unstated false p once h = h
 
 pub not_same : (i j : ℕ) → (i ≡ j → ⊥) → ((i == j) || false) ≡ false
 not_same i j differ = ap (λ (b : Bool). b || false) (ne_eqb i j differ)
 
 -- a follow of a record that is there or not
-unless-follow : (b : Bool) (before : List Piece) (p : Piece) → Follows before p → FollowFrom before (cond b [] (p ∷ []))
+unless-follow : (b : Bool) (before : List SpelledRecord) (p : SpelledRecord) → Follows before p → FollowFrom before (cond b [] (p ∷ []))
 unless-follow true before p h = tt
 unless-follow false before p h = (h, tt)
 
 -- what a record keeps to that names one index, which is declared before it
-pub index-follows : (before : List Piece) (index : FileIndex) (p : Piece) → named_at_once p ≡ index ∷ [] → declares_again before p.row ≡ false → has_no_section before p.row ≡ false
-    → is_declared before index ≡ true → says_again before p.row ≡ false → Follows before p
+pub index-follows : (before : List SpelledRecord) (index : FileIndex) (p : SpelledRecord) → named_at_once p ≡ index ∷ [] → declares_again before p.row ≡ false → has_no_section before p.row ≡ false
+    → is_declared before index ≡ true → states_again before p.row ≡ false → Follows before p
 index-follows before index p names new placed known once = record {
   new = new;
   known = ap (λ (l : List FileIndex). not (list_all (is_declared before) l)) names ∙ ap (λ (b : Bool). not (b && true)) known;
@@ -73,7 +73,7 @@ index-follows before index p names new placed known once = record {
   placed = placed;
 }
 
-pub declared-more : (before xs : List Piece) (index : FileIndex) → is_declared before index ≡ true → is_declared (before ++ xs) index ≡ true
+pub declared-more : (before xs : List SpelledRecord) (index : FileIndex) → is_declared before index ≡ true → is_declared (before ++ xs) index ≡ true
 declared-more before xs index h =
     ap (list_any (λ j. j == index.1)) (declared-append index.0 before xs)
     ∙ list_any-append (λ j. j == index.1) (declared index.0 before) (declared index.0 xs) ∙ ap (λ (b : Bool). b || list_any (λ j. j == index.1) (declared index.0 xs)) h
@@ -83,13 +83,13 @@ or_true true = refl
 or_true false = refl
 
 -- what precedes the records of the section with index n + 1
-pub record BeforeSection (before : List Piece) (n : ℕ) : Type 0 where
+pub record BeforeSection (before : List SpelledRecord) (n : ℕ) : Type 0 where
   pub indexes : declared section before ≡ counting 1 n
   pub alignments : (i : ℕ) → n < i → is_assigned before (alignment i) ≡ false
   pub sizes : (i : ℕ) → n < i → is_assigned before (section_size i) ≡ false
   pub bases : (i : ℕ) → n < i → is_assigned before (section_base i) ≡ false
 
-declaration-follows : (before : List Piece) (n : ℕ) (s : Section) → BeforeSection before n → Follows before (declaration (n + 1) s)
+declaration-follows : (before : List SpelledRecord) (n : ℕ) (s : Section) → BeforeSection before n → Follows before (declaration (n + 1) s)
 declaration-follows before n s state = record {
   new = ap (list_any (λ j. j == n + 1)) state.indexes ∙ missing (n + 1) 1 n (omega arith);
   known = refl;
@@ -97,51 +97,51 @@ declaration-follows before n s state = record {
   placed = refl;
 }
 
-declared-here : (before : List Piece) (n : ℕ) (s : Section) → is_declared (before ++ declaration (n + 1) s ∷ []) (section, n + 1) ≡ true
+declared-here : (before : List SpelledRecord) (n : ℕ) (s : Section) → is_declared (before ++ declaration (n + 1) s ∷ []) (section, n + 1) ≡ true
 declared-here before n s =
     let i = n + 1 in
     ap (list_any (λ j. j == i)) (declared-append section before (declaration i s ∷ []))
     ∙ list_any-append (λ j. j == i) (declared section before) (i ∷ [])
     ∙ ap (λ (b : Bool). list_any (λ j. j == i) (declared section before) || (b || false)) (eq-eqb i i refl) ∙ or_true (list_any (λ j. j == i) (declared section before))
 
-base-follows : (before : List Piece) (i : ℕ) (base : Option ℕ) → is_declared before (section, i) ≡ true → is_assigned before (section_base i) ≡ false → FollowFrom before (base_pieces i base)
-base-follows before i None known unsaid = tt
-base-follows before i (Some base) known unsaid = (index-follows before (section, i) (base_piece i base) refl refl refl known unsaid, tt)
+base-follows : (before : List SpelledRecord) (i : ℕ) (base : Option ℕ) → is_declared before (section, i) ≡ true → is_assigned before (section_base i) ≡ false → FollowFrom before (base_spellings i base)
+base-follows before i None known unstated = tt
+base-follows before i (Some base) known unstated = (index-follows before (section, i) (base_spelling i base) refl refl refl known unstated, tt)
 
-settings-follow : (before : List Piece) (i : ℕ) (s : Section) → is_declared before (section, i) ≡ true → is_assigned before (alignment i) ≡ false → is_assigned before (section_size i) ≡ false
+settings-follow : (before : List SpelledRecord) (i : ℕ) (s : Section) → is_declared before (section, i) ≡ true → is_assigned before (alignment i) ≡ false → is_assigned before (section_size i) ≡ false
     → is_assigned before (section_base i) ≡ false → FollowFrom before (settings i s)
 settings-follow before i s known aligned sized based =
-    let a = alignment_pieces i s.align in
-    let b = size_pieces i s.size in
-    let second = unsaid-append before a (section_size i) sized (unless-unsaid (s.align == 1) (alignment_piece i s.align) (section_size i) refl) in
-    let third = unsaid-append before a (section_base i) based (unless-unsaid (s.align == 1) (alignment_piece i s.align) (section_base i) refl) in
-    let last = unsaid-append (before ++ a) b (section_base i) third (unless-unsaid (s.size == 0) (size_piece i s.size) (section_base i) refl) in
-    let behind = declared-more before a (section, i) known in
-    follow-append before a (b ++ base_pieces i s.base)
-    (unless-follow (s.align == 1) before (alignment_piece i s.align) (index-follows before (section, i) (alignment_piece i s.align) refl refl refl known aligned))
-    (follow-append (before ++ a) b (base_pieces i s.base)
-    (unless-follow (s.size == 0) (before ++ a) (size_piece i s.size) (index-follows (before ++ a) (section, i) (size_piece i s.size) refl refl refl behind second))
-    (base-follows ((before ++ a) ++ b) i s.base (declared-more (before ++ a) b (section, i) behind) last))
+    let a = alignment_spellings i s.align in
+    let b = size_spellings i s.size in
+    let second = unstated-append before a (section_size i) sized (unless-unstated (s.align == 1) (alignment_spelling i s.align) (section_size i) refl) in
+    let third = unstated-append before a (section_base i) based (unless-unstated (s.align == 1) (alignment_spelling i s.align) (section_base i) refl) in
+    let last = unstated-append (before ++ a) b (section_base i) third (unless-unstated (s.size == 0) (size_spelling i s.size) (section_base i) refl) in
+    let after = declared-more before a (section, i) known in
+    follow-append before a (b ++ base_spellings i s.base)
+    (unless-follow (s.align == 1) before (alignment_spelling i s.align) (index-follows before (section, i) (alignment_spelling i s.align) refl refl refl known aligned))
+    (follow-append (before ++ a) b (base_spellings i s.base)
+    (unless-follow (s.size == 0) (before ++ a) (size_spelling i s.size) (index-follows (before ++ a) (section, i) (size_spelling i s.size) refl refl refl after second))
+    (base-follows ((before ++ a) ++ b) i s.base (declared-more (before ++ a) b (section, i) after) last))
 
-section-follows : (before : List Piece) (n : ℕ) (s : Section) → BeforeSection before n → FollowFrom before (section_pieces n s)
+section-follows : (before : List SpelledRecord) (n : ℕ) (s : Section) → BeforeSection before n → FollowFrom before (section_records n s)
 section-follows before n s state =
     let i = n + 1 in
     let d = declaration i s ∷ [] in (
       declaration-follows before n s state,
-      settings-follow (before ++ d) i s (declared-here before n s) (unsaid-append before d (alignment i) (state.alignments i (omega arith)) refl)
-          (unsaid-append before d (section_size i) (state.sizes i (omega arith)) refl) (unsaid-append before d (section_base i) (state.bases i (omega arith)) refl),
+      settings-follow (before ++ d) i s (declared-here before n s) (unstated-append before d (alignment i) (state.alignments i (omega arith)) refl)
+          (unstated-append before d (section_size i) (state.sizes i (omega arith)) refl) (unstated-append before d (section_base i) (state.bases i (omega arith)) refl),
     )
 
-base-unsaid : (i : ℕ) (base : Option ℕ) (once : Once) → ((b : ℕ) → is_assigned (base_piece i b ∷ []) once ≡ false) → is_assigned (base_pieces i base) once ≡ false
-base-unsaid i None once h = refl
-base-unsaid i (Some base) once h = h base
+base-unstated : (i : ℕ) (base : Option ℕ) (once : Once) → ((b : ℕ) → is_assigned (base_spelling i b ∷ []) once ≡ false) → is_assigned (base_spellings i base) once ≡ false
+base-unstated i None once h = refl
+base-unstated i (Some base) once h = h base
 
-pub section-unsaid : (n : ℕ) (s : Section) (once : Once) → is_assigned (alignment_piece (n + 1) s.align ∷ []) once ≡ false → is_assigned (size_piece (n + 1) s.size ∷ []) once ≡ false
-    → ((b : ℕ) → is_assigned (base_piece (n + 1) b ∷ []) once ≡ false) → is_assigned (section_pieces n s) once ≡ false
-section-unsaid n s once a b c =
+pub section-unstated : (n : ℕ) (s : Section) (once : Once) → is_assigned (alignment_spelling (n + 1) s.align ∷ []) once ≡ false → is_assigned (size_spelling (n + 1) s.size ∷ []) once ≡ false
+    → ((b : ℕ) → is_assigned (base_spelling (n + 1) b ∷ []) once ≡ false) → is_assigned (section_records n s) once ≡ false
+section-unstated n s once a b c =
     let i = n + 1 in
-    unsaid-append (alignment_pieces i s.align) (size_pieces i s.size ++ base_pieces i s.base) once (unless-unsaid (s.align == 1) (alignment_piece i s.align) once a)
-    (unsaid-append (size_pieces i s.size) (base_pieces i s.base) once (unless-unsaid (s.size == 0) (size_piece i s.size) once b) (base-unsaid i s.base once c))
+    unstated-append (alignment_spellings i s.align) (size_spellings i s.size ++ base_spellings i s.base) once (unless-unstated (s.align == 1) (alignment_spelling i s.align) once a)
+    (unstated-append (size_spellings i s.size) (base_spellings i s.base) once (unless-unstated (s.size == 0) (size_spelling i s.size) once b) (base-unstated i s.base once c))
 
 pub counting-more : (first n : ℕ) → counting first n ++ (first + n) ∷ [] ≡ counting first (suc n)
 counting-more first zero = let same : first + 0 ≡ first = omega arith in ap (λ (x : ℕ). x ∷ []) same
@@ -149,14 +149,14 @@ counting-more first (suc n) =
     let same : first + suc n ≡ first + 1 + n = omega arith in
     ap (λ (x : ℕ). first ∷ (counting (first + 1) n ++ x ∷ [])) same ∙ ap (λ (l : List ℕ). first ∷ l) (counting-more (first + 1) n)
 
-next-section : (before : List Piece) (n : ℕ) (s : Section) → BeforeSection before n → BeforeSection (before ++ section_pieces n s) (n + 1)
+next-section : (before : List SpelledRecord) (n : ℕ) (s : Section) → BeforeSection before n → BeforeSection (before ++ section_records n s) (n + 1)
 next-section before n s state = record {
-  indexes = declared-append section before (section_pieces n s)
+  indexes = declared-append section before (section_records n s)
       ∙ (λ k. state.indexes k ++ ((n + 1) ∷ settings-nothing (λ p. of_kind section (declared_by p.row)) (n + 1) s refl refl (λ b. refl) k))
       ∙ ap (λ (x : ℕ). counting 1 n ++ x ∷ []) (sum n) ∙ counting-more 1 n ∙ ap (counting 1) (next n);
-  alignments = λ i high. unsaid-append before (section_pieces n s) (alignment i) (state.alignments i (omega (arith, high))) (section-unsaid n s (alignment i) (not_same i (n + 1) (λ same. omega (arith, same, high))) refl (λ b. refl));
-  sizes = λ i high. unsaid-append before (section_pieces n s) (section_size i) (state.sizes i (omega (arith, high))) (section-unsaid n s (section_size i) refl (not_same i (n + 1) (λ same. omega (arith, same, high))) (λ b. refl));
-  bases = λ i high. unsaid-append before (section_pieces n s) (section_base i) (state.bases i (omega (arith, high))) (section-unsaid n s (section_base i) refl refl (λ b. not_same i (n + 1) (λ same. omega (arith, same, high))));
+  alignments = λ i high. unstated-append before (section_records n s) (alignment i) (state.alignments i (omega (arith, high))) (section-unstated n s (alignment i) (not_same i (n + 1) (λ same. omega (arith, same, high))) refl (λ b. refl));
+  sizes = λ i high. unstated-append before (section_records n s) (section_size i) (state.sizes i (omega (arith, high))) (section-unstated n s (section_size i) refl (not_same i (n + 1) (λ same. omega (arith, same, high))) (λ b. refl));
+  bases = λ i high. unstated-append before (section_records n s) (section_base i) (state.bases i (omega (arith, high))) (section-unstated n s (section_base i) refl refl (λ b. not_same i (n + 1) (λ same. omega (arith, same, high))));
 } where
   sum : (n : ℕ) → n + 1 ≡ 1 + n
   sum n = omega arith
@@ -164,12 +164,12 @@ next-section before n s state = record {
   next : (n : ℕ) → suc n ≡ n + 1
   next n = omega arith
 
-sections-follow : (before : List Piece) (n : ℕ) (sections : List Section) → BeforeSection before n → FollowFrom before (pieces_from n section_pieces sections)
+sections-follow : (before : List SpelledRecord) (n : ℕ) (sections : List Section) → BeforeSection before n → FollowFrom before (records_from n section_records sections)
 sections-follow before n [] state = tt
 sections-follow before n (s ∷ sections) state =
-    follow-append before (section_pieces n s) (pieces_from (n + 1) section_pieces sections) (section-follows before n s state)
-    (sections-follow (before ++ section_pieces n s) (n + 1) sections (next-section before n s state))
+    follow-append before (section_records n s) (records_from (n + 1) section_records sections) (section-follows before n s state)
+    (sections-follow (before ++ section_records n s) (n + 1) sections (next-section before n s state))
 
 -- each record of the section part keeps to what stands before it
-pub section_part-follows : (sections : List Section) → FollowFrom [] (pieces_from 0 section_pieces sections)
+pub section_part-follows : (sections : List Section) → FollowFrom [] (records_from 0 section_records sections)
 section_part-follows sections = sections-follow [] 0 sections (record { indexes = refl; alignments = λ i h. refl; sizes = λ i h. refl; bases = λ i h. refl })

@@ -82,14 +82,14 @@ pub place-step : (at i v len : ℕ) (parts : List (List ℕ)) (offsets all : Lis
     → take i offsets ++ w.offsets_from at (drop i parts) ≡ all
     → take (i + 1) (slice_set offsets i v) ++ w.offsets_from (at + len) (drop (i + 1) parts) ≡ all
 place-step at i v len parts offsets all inside within is place h =
-    let behind = drop (i + 1) parts in
+    let after = drop (i + 1) parts in
     let bytes = get_or parts i [] in
-    let next : w.offsets_from at (drop i parts) ≡ v ∷ w.offsets_from (at + len) behind =
-    ap (w.offsets_from at) (drop_more parts i [] inside) ∙ offsets-next at bytes behind
-    ∙ ap (λ (n : ℕ). cond (n == 0) 0 at ∷ w.offsets_from (at + n) behind) (sym is)
-    ∙ ap (λ (n : ℕ). n ∷ w.offsets_from (at + len) behind) (sym place) in
-    ap (λ (l : List ℕ). l ++ w.offsets_from (at + len) behind) (take_more_set offsets i v within)
-    ∙ append_assoc (take i offsets) (v ∷ []) (w.offsets_from (at + len) behind)
+    let next : w.offsets_from at (drop i parts) ≡ v ∷ w.offsets_from (at + len) after =
+    ap (w.offsets_from at) (drop_more parts i [] inside) ∙ offsets-next at bytes after
+    ∙ ap (λ (n : ℕ). cond (n == 0) 0 at ∷ w.offsets_from (at + n) after) (sym is)
+    ∙ ap (λ (n : ℕ). n ∷ w.offsets_from (at + len) after) (sym place) in
+    ap (λ (l : List ℕ). l ++ w.offsets_from (at + len) after) (take_more_set offsets i v within)
+    ∙ append_assoc (take i offsets) (v ∷ []) (w.offsets_from (at + len) after)
     ∙ ap (λ (l : List ℕ). take i offsets ++ l) (sym next) ∙ h
 
 -- the last offset is the place where the parts end

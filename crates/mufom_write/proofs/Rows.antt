@@ -1,4 +1,4 @@
--- The records of a written form: each is a whole one where the first byte of a record stands behind it.
+-- The records of a written form: each is a whole one where the first byte of a record stands after it.
 use Rattle.std.proofs.Common.{◌≡◌, ℕ, ◌+◌, ◌^◌, ◌<◌, ◌≤◌, ◌==◌, Bool, true, false, nat_lt, List, [], ◌∷◌, ◌++◌, length, Option, Some, None, refl, sym, inl, inr, cond, arith}
 use Rattle.std.specs.Prelude.{if◌then◌else◌}
 use Rattle.std.specs.List.{AllByRecursion}
@@ -266,7 +266,7 @@ index_and_string-spells row i name next hi short bytes = (
   refl,
 )
 
--- where a name stands behind its index
+-- where a name stands after its index
 abbrev pub name_at : ℕ → List ℕ → Span
 name_at i name = text_at (1 + length (w.number shortest i)) name
 
@@ -296,7 +296,7 @@ index_and_expression-spells row i tree text next hi spelled code = (
   refl,
 )
 
--- where an expression stands behind its index
+-- where an expression stands after its index
 abbrev pub value_at : ℕ → List ℕ → Span
 value_at i text = span_at (2 + length (w.number shortest i)) (length text)
 

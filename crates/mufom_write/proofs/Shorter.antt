@@ -21,7 +21,7 @@ use Rattle.mufom_loads.specs.declared.load.Load.{Load}
 use Rattle.mufom_loads.specs.declared.load.Load.TheVariants.{SetSection, SetPc, One, Repeat}
 use Rattle.mufom_debug.specs.declared.item.BlockHead.{BlockHead}
 use Rattle.mufom_debug.specs.declared.item.BlockHead.TheVariants as heads
-use Rattle.mufom_debug.specs.Marks.{DebugMark, block_begin, block_end, name_mark, note_mark, value_mark, joined, marks_of, kind_number, names_behind}
+use Rattle.mufom_debug.specs.Marks.{DebugMark, block_begin, block_end, name_mark, note_mark, value_mark, joined, marks_of, kind_number, names_after}
 use Rattle.mufom_module.specs.declared.module.Parts.{Parts}
 use Rattle.mufom_module.specs.Written as w
 use Rattle.mufom_module.specs.Written.{Style, shortest, weight}
@@ -255,7 +255,7 @@ module _ (style : Style) (number-within : (n : ℕ) → length (style.number n) 
   marks-within : (n : ℕ) (marks : List DebugMark) → length (w.debug_records style n marks) ≤ marks_weight marks
   marks-within n [] = omega arith
   marks-within n (mark ∷ marks) =
-      let next = names_behind n mark in
+      let next = names_after n mark in
       let rest = marks-within next marks in
       let own = mark-within n mark in
       let whole = length-append (w.debug_record style n mark) (w.debug_records style next marks) in

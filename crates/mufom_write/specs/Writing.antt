@@ -4,7 +4,7 @@ use Rattle.mufom_host.specs.declared.world.Failed.{Failed}
 use Rattle.mufom_host.specs.World.{Meaning, Faults, WritesAll, HasCause, KeepsAllButMaking, KeepsAllButWrites}
 use Rattle.mufom_module.specs.Weights.{capped}
 
--- the file being made grows by all of the bytes, or on a failure by the front of them, and all else stays
+-- the file being made grows by all of the bytes, or on a failure by the prefix of them, and all else stays
 pub record Writes (old new : Meaning) (before now : Faults) (bytes : List ℕ) (result : Result (Unit {0}) Failed) : Type 0 where
   pub added : WritesAll old.making new.making result bytes
   pub stays : KeepsAllButMaking old new

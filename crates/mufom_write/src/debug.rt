@@ -2,7 +2,7 @@
 
 ghost use Rattle.std.specs.Prelude.{◌≡◌, ◌∷◌, ◌++◌, ◌+◌, ◌<◌, ◌^◌, false, ℕ, length, OnOk};
 ghost use Rattle.std.specs.List.{list_any};
-ghost use Rattle.mufom_debug.specs.Marks.{block_begin, block_end, name_mark, note_mark, value_mark, marks_of, marks_of_item, names_behind_all};
+ghost use Rattle.mufom_debug.specs.Marks.{block_begin, block_end, name_mark, note_mark, value_mark, marks_of, marks_of_item, names_after_all};
 ghost use Rattle.mufom_module.specs.Written as written;
 ghost use Rattle.mufom_module.specs.Written.{shortest};
 ghost use Rattle.mufom_module.specs.Defects.{is_long, has_long_name};
@@ -89,13 +89,13 @@ fn value_record<K: Output>(out: &mut K, name: u32, value: &Postfix) -> Result<()
     expression(out, value)
 }
 
-// An item; `names` counts the names that stand before it, and then behind it.
+// An item; `names` counts the names that stand before it, and then after it.
 #[cycle(writing)]
 fn debug_item<K: Output>(out: &mut K, item: &DebugItem, names: &mut u64) -> Result<(), Failed>
     requires short { list_any has_long_name (marks_of_item item.now) ≡ false }
     requires few { names.old + length (marks_of_item item.now) < 2 ^ 63 }
     ensures takes { K.takes out.old out.new (written.debug_records shortest names.old (marks_of_item item.now)) result }
-    ensures names { OnOk result (names.new ≡ names_behind_all names.old (marks_of_item item.now)) }
+    ensures names { OnOk result (names.new ≡ names_after_all names.old (marks_of_item item.now)) }
 {
     match item {
         DebugItem::Block(block) => {
@@ -118,7 +118,7 @@ fn debug_item<K: Output>(out: &mut K, item: &DebugItem, names: &mut u64) -> Resu
     }
 }
 
-/// The items, one after another; `names` counts the names that stand before them, and then behind
+/// The items, one after another; `names` counts the names that stand before them, and then after
 /// them.
 #[cycle(writing)]
 pub(crate) fn debug_items<K: Output>(
@@ -129,7 +129,7 @@ pub(crate) fn debug_items<K: Output>(
     requires short { list_any has_long_name (marks_of items.now) ≡ false }
     requires few { names.old + length (marks_of items.now) < 2 ^ 63 }
     ensures takes { K.takes out.old out.new (written.debug_records shortest names.old (marks_of items.now)) result }
-    ensures names { OnOk result (names.new ≡ names_behind_all names.old (marks_of items.now)) }
+    ensures names { OnOk result (names.new ≡ names_after_all names.old (marks_of items.now)) }
 {
     for place in 0..items.len() {
         debug_item(out, &items[place], names)?;

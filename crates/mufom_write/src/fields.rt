@@ -31,7 +31,7 @@ pub(crate) fn number<K: Output>(out: &mut K, value: u64) -> Result<(), Failed>
     out.put(number_spelling(value).as_slice())
 }
 
-/// The bytes of a command, and a number behind them.
+/// The bytes of a command, and a number after them.
 pub(crate) fn numbered<K: Output>(out: &mut K, command: &[u8], value: u64) -> Result<(), Failed>
     ensures { K.takes out.old out.new (command.now ++ written.number shortest value) result }
 {
@@ -58,7 +58,7 @@ pub(crate) fn string<K: Output>(out: &mut K, text: &Bytes) -> Result<(), Failed>
     out.put(text.as_slice())
 }
 
-/// Bytes behind their number.
+/// Bytes after their number.
 pub(crate) fn counted<K: Output>(out: &mut K, bytes: &Bytes) -> Result<(), Failed>
     ensures { K.takes out.old out.new (written.counted shortest bytes.now) result }
 {
@@ -152,7 +152,7 @@ pub(crate) fn opening(kind: FieldKind) -> u8
     }
 }
 
-/// The bracket behind an expression.
+/// The bracket after an expression.
 pub(crate) fn closing(kind: FieldKind) -> u8
     ensures { result ≡ closing kind }
 {

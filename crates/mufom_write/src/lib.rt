@@ -4,7 +4,7 @@
 //! `thiserror`, and takes no memory. All records are written by functions over one trait, whose two
 //! implementations write to a sink and count bytes. Its main clause is that of [`write_module`]: the
 //! file being made grows by exactly the written form, or a write failed, its count of faults rose,
-//! and the file grew by a front of that form; and the form, where it is no longer than a file may be,
+//! and the file grew by a prefix of that form; and the form, where it is no longer than a file may be,
 //! is a file of the module. [`layout`] answers where the parts of the form begin and how long it is.
 #![tactic(auto)]
 

@@ -7,10 +7,10 @@ use mufom_host::{Failed, Sink, write_all};
 
 /// Where the bytes of a file go.
 pub(crate) trait Output {
-    /// What stands before and behind bytes that are put, with the answer.
+    /// What stands before and after bytes that are put, with the answer.
     ghost takes: { Self → Self → List ℕ → Result (Unit {0}) Failed → Type 0 };
 
-    /// Adds all of the bytes, or on a failure a front of them.
+    /// Adds all of the bytes, or on a failure a prefix of them.
     fn put(&mut self, bytes: &[u8]) -> Result<(), Failed>
         ensures { takes self.old self.new bytes.now result };
 

@@ -2,7 +2,7 @@
 #[derive(Clone, Copy, Debug, PartialEq, Eq)]
 pub struct Layout {
     /// Where the extension, environment, section, external, debug, data and trailer parts begin, 0
-    /// for one with nothing to say, and where they end; each from the begin of the form.
+    /// for one with nothing to state, and where they end; each from the begin of the form.
     pub offsets: [u64; 8],
     /// The length of the whole form.
     pub length: u64,

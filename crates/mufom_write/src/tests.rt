@@ -13,7 +13,7 @@ use std::alloc::Global;
 use std::process::Abort;
 use std::test::Fail;
 
-// The module is written as these bytes, where so many are taken at a call.
+// The module is written as these bytes, where the given number are taken at a call.
 fn writes_by(rt: &impl Abort, module: &Module, most: usize, bytes: &[u8]) {
     let mut disk = Disk::new(most, 1000);
     assert_eq!(rt; write_module(module, &mut disk), Ok(()));
@@ -32,7 +32,7 @@ fn stops_by(rt: &impl Abort, module: &Module, bytes: &[u8]) {
     }
 }
 
-// The module of the parts is written as these records, in hexadecimal, in pieces of any size and up
+// The module of the parts is written as these records, in hexadecimal, in records of any size and up
 // to each write that fails; and its layout has these offsets and their length.
 fn writes(
     rt: &impl Abort,

@@ -1,5 +1,5 @@
 ghost use Rattle.std.specs.Prelude.{◌≡◌, ◌≤◌, true, length, OnOk, OnErr};
-ghost use Rattle.mufom_host.specs.World.{MakingGrowsBy, MakingGrowsByFront, KeepsAllButMaking, KeepsAllButWrites, Rose};
+ghost use Rattle.mufom_host.specs.World.{MakingGrowsBy, MakingGrowsByPrefix, KeepsAllButMaking, KeepsAllButWrites, Rose};
 ghost use Rattle.mufom_module.specs.Written.{written};
 ghost use Rattle.mufom_module.specs.Defects.{IsValid};
 ghost use Rattle.mufom_module.specs.Grammar.{file_limit, SpellsModule};
@@ -35,11 +35,11 @@ fn write_form<K: Output>(out: &mut K, parts: &Parts) -> Result<(), Failed>
 /// `write` for each. Takes no memory.
 ///
 /// The written form, where it is no longer than a file may be, is a file of this module. `Fault` comes
-/// only where a write failed and the count of such faults rose; a front of the written form may then be
+/// only where a write failed and the count of such faults rose; a prefix of the written form may then be
 /// in the file.
 pub fn write_module<K: Sink>(module: &Module, sink: &mut K) -> Result<(), WriteStop>
     ensures whole { OnOk result (MakingGrowsBy (K.meaning sink.old).making (K.meaning sink.new).making (written «module».now)) }
-    ensures front { OnErr result (MakingGrowsByFront (K.meaning sink.old).making (K.meaning sink.new).making (written «module».now)) }
+    ensures prefix { OnErr result (MakingGrowsByPrefix (K.meaning sink.old).making (K.meaning sink.new).making (written «module».now)) }
     ensures spells { length (written «module».now) ≤ file_limit → SpellsModule «module».now (written «module».now) true }
     ensures stays { KeepsAllButMaking (K.meaning sink.old) (K.meaning sink.new) }
     ensures later { (K.faults sink.old).writes ≤ (K.faults sink.new).writes }

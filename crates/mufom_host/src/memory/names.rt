@@ -6,13 +6,13 @@ use std::alloc::Global;
 use std::marker::Model;
 
 /// Names in room that is taken at the start, where each counts its bytes and 8 more. The first
-/// that passes the room ends the list: from then on it is not told.
+/// that passes the room ends the list: from then on it is not known.
 #[derive(Drop)]
 pub struct Names {
     bytes: Vec<u8>,
     lengths: Vec<usize>,
     room: usize,
-    is_told: bool,
+    is_known: bool,
 }
 
 impl Model for Names {
@@ -22,7 +22,7 @@ impl Model for Names {
 
     ghost Value = { NameStore };
 
-    ghost view = { λ n. record { names = if n.is_told then Some (cut n.lengths.items n.bytes.items) else None; room = n.room } };
+    ghost view = { λ n. record { names = if n.is_known then Some (cut n.lengths.items n.bytes.items) else None; room = n.room } };
 
     ghost invariant = { λ n. HasRoom n.bytes n.lengths n.room };
 }
@@ -37,21 +37,21 @@ impl Names {
             bytes,
             lengths,
             room,
-            is_told: true,
+            is_known: true,
         })
     }
 
-    /// Adds a name, and answers whether the names are told now.
+    /// Adds a name, and answers whether the names are known now.
     pub fn add(&mut self, name: &[u8]) -> bool
         ensures after { self.new ≡ record self.old { names = names_with self.old.room self.old.names name.now } }
-        ensures told { result ≡ is_some self.new.names }
+        ensures known { result ≡ is_some self.new.names }
     {
-        if !self.is_told {
+        if !self.is_known {
             return false;
         }
         let free = self.room - (self.bytes.len() + 8 * self.lengths.len());
         if free < 8 || free - 8 < name.len() {
-            self.is_told = false;
+            self.is_known = false;
             return false;
         }
         // It is done, since the room is there.
@@ -63,9 +63,9 @@ impl Names {
 
 #[cfg(test)]
 impl Names {
-    /// The bytes of all names after one another, where they are told.
-    pub fn told(&self) -> Option<&[u8]> {
-        if self.is_told {
+    /// The bytes of all names after one another, where they are known.
+    pub fn known(&self) -> Option<&[u8]> {
+        if self.is_known {
             Some(self.bytes.as_slice())
         } else {
             None

@@ -89,7 +89,7 @@ impl Output {
         self.stage = Stage::Making;
     }
 
-    /// Whether the file being made has room for so many bytes more. While none is being made
+    /// Whether the file being made has room for the given number of further bytes. While none is being made
     /// there is room for any.
     pub fn has_room_for(&self, count: usize) -> bool
         ensures { not result ≡ passes_file self.now.making self.now.room count }
@@ -101,12 +101,12 @@ impl Output {
     }
 
     /// Adds the bytes to the file being made. While none is being made nothing changes.
-    pub fn add(&mut self, piece: &[u8])
-        requires { passes_file self.old.making self.old.room (length piece.now) ≡ false }
-        ensures { self.new ≡ record self.old { making = with_bytes self.old.making piece.now } }
+    pub fn add(&mut self, chunk: &[u8])
+        requires { passes_file self.old.making self.old.room (length chunk.now) ≡ false }
+        ensures { self.new ≡ record self.old { making = with_bytes self.old.making chunk.now } }
     {
         match self.stage {
-            Stage::Making => self.bytes.add(piece),
+            Stage::Making => self.bytes.add(chunk),
             Stage::Unmade | Stage::Made => {}
         }
     }

@@ -20,9 +20,9 @@ enum Call {
 
 type Named = Option<(&'static str, &'static str)>;
 
-/// All that a host tells, the names after one another, and its counts of faults.
+/// All that a host reveals, the names after one another, and its counts of faults.
 #[derive(Clone, Copy, Debug)]
-struct Told {
+struct Known {
     left: &'static str,
     making: Named,
     made: Named,
@@ -37,7 +37,7 @@ struct Told {
 /// those that fail; and what stands after them.
 struct Step {
     calls: &'static [(Call, Option<usize>)],
-    after: Told,
+    after: Known,
 }
 
 /// A host with the files `a` and `b`, the numbers of its calls that fail, and its room.
@@ -55,7 +55,7 @@ fn taken(host: &mut MemHost, call: Call) -> Option<usize> {
         Call::Open(name) => host.open(name).map(|()| 0),
         Call::Read => host.read(&mut buffer),
         Call::Create(name) => host.create(name).map(|()| 0),
-        Call::Write(piece) => host.write(piece.as_bytes()),
+        Call::Write(chunk) => host.write(chunk.as_bytes()),
         Call::WriteAll(bytes) => write_all(host, bytes.as_bytes()).map(|()| 0),
         Call::Finish => host.finish().map(|()| 0),
         Call::Print(text) => host.print(text.as_bytes()).map(|()| 0),
@@ -80,15 +80,15 @@ fn is_text(text: Option<&[u8]>, want: Option<&str>) -> bool {
     }
 }
 
-fn tells(host: &MemHost, want: &Told) -> bool {
+fn reveals(host: &MemHost, want: &Known) -> bool {
     let counts = host.counts;
     is_text(Some(host.files.left()), Some(want.left))
         && is_file(host.making(), want.making)
         && is_file(host.made(), want.made)
         && is_text(Some(host.out()), Some(want.out))
         && is_text(Some(host.err()), Some(want.err))
-        && is_text(host.opened.told(), want.opened)
-        && is_text(host.created.told(), want.created)
+        && is_text(host.opened.known(), want.opened)
+        && is_text(host.created.known(), want.created)
         && (counts.reads, counts.writes, counts.complaints) == want.faults
 }
 
@@ -117,7 +117,7 @@ fn do_step(rt: &impl Abort, host: &mut MemHost, step: &Step) {
         assert!(rt; taken(host, *call) == *want, "{call:?}");
     }
     let after = step.after;
-    assert!(rt; tells(host, &after), "{after:?}");
+    assert!(rt; reveals(host, &after), "{after:?}");
 }
 
 fn do_all(rt: &impl Abort, alloc: Global, run: &Run) -> Result<(), NoMemory> {
@@ -131,8 +131,8 @@ fn do_all(rt: &impl Abort, alloc: Global, run: &Run) -> Result<(), NoMemory> {
 // The room of the hosts that are not short of it.
 const ROOM: usize = 1_048_576;
 
-// What a fresh host tells.
-const FRESH: Told = Told {
+// What a fresh host reveals.
+const FRESH: Known = Known {
     left: "",
     making: None,
     made: None,
@@ -154,7 +154,7 @@ const READING: Run = Run {
                 (Call::Open("a"), Some(0)),
                 (Call::Read, Some(3)),
             ],
-            after: Told {
+            after: Known {
                 left: "lo",
                 opened: Some("a"),
                 ..FRESH
@@ -166,7 +166,7 @@ const READING: Run = Run {
                 (Call::Read, Some(0)),
                 (Call::Open("b"), Some(0)),
             ],
-            after: Told {
+            after: Known {
                 left: "xyz",
                 opened: Some("ab"),
                 ..FRESH
@@ -176,7 +176,7 @@ const READING: Run = Run {
 };
 
 #[test]
-fn files_are_opened_and_read_in_pieces(rt: HostRuntime) -> Result<(), Fail> {
+fn files_are_opened_and_read_in_chunks(rt: HostRuntime) -> Result<(), Fail> {
     do_all(&rt, rt.alloc(), &READING)?;
     Ok(())
 }
@@ -192,7 +192,7 @@ const WRITING: Run = Run {
                 (Call::Finish, Some(0)),
                 (Call::Create("out"), Some(0)),
             ],
-            after: Told {
+            after: Known {
                 making: Some(("out", "")),
                 created: Some("out"),
                 ..FRESH
@@ -203,7 +203,7 @@ const WRITING: Run = Run {
                 (Call::Write("one "), Some(4)),
                 (Call::WriteAll("two"), Some(0)),
             ],
-            after: Told {
+            after: Known {
                 making: Some(("out", "one two")),
                 created: Some("out"),
                 ..FRESH
@@ -216,7 +216,7 @@ const WRITING: Run = Run {
                 (Call::Print("print"), Some(0)),
                 (Call::Complain("oh"), Some(0)),
             ],
-            after: Told {
+            after: Known {
                 made: Some(("out", "one two")),
                 created: Some("out"),
                 out: "to print",
@@ -240,7 +240,7 @@ const FAILING_READS: Run = Run {
     steps: &[
         Step {
             calls: &[(Call::Open("a"), Some(0)), (Call::Read, None)],
-            after: Told {
+            after: Known {
                 left: "hello",
                 opened: Some("a"),
                 faults: (1, 0, 0),
@@ -249,7 +249,7 @@ const FAILING_READS: Run = Run {
         },
         Step {
             calls: &[(Call::Read, Some(3)), (Call::Open("b"), None)],
-            after: Told {
+            after: Known {
                 left: "lo",
                 opened: Some("ab"),
                 faults: (2, 0, 0),
@@ -258,7 +258,7 @@ const FAILING_READS: Run = Run {
         },
         Step {
             calls: &[(Call::Open("c"), None)],
-            after: Told {
+            after: Known {
                 left: "lo",
                 opened: Some("abc"),
                 faults: (3, 0, 0),
@@ -282,7 +282,7 @@ const FAILING_WRITES: Run = Run {
     steps: &[
         Step {
             calls: &[(Call::Create("o"), None)],
-            after: Told {
+            after: Known {
                 created: Some("o"),
                 faults: (0, 1, 0),
                 ..FRESH
@@ -295,7 +295,7 @@ const FAILING_WRITES: Run = Run {
                 (Call::Write("y"), Some(1)),
                 (Call::Finish, None),
             ],
-            after: Told {
+            after: Known {
                 making: Some(("p", "y")),
                 created: Some("op"),
                 faults: (0, 3, 0),
@@ -310,7 +310,7 @@ const FAILING_WRITES: Run = Run {
                 (Call::Complain("x"), None),
                 (Call::Create("q"), None),
             ],
-            after: Told {
+            after: Known {
                 made: Some(("p", "y")),
                 created: Some("opq"),
                 out: "y",
@@ -340,7 +340,7 @@ const SHORT_OF_BYTES: Run = Run {
                 (Call::Print("five."), Some(0)),
                 (Call::Complain("more than twenty letters"), None),
             ],
-            after: Told {
+            after: Known {
                 out: "fifteen lettersfive.",
                 faults: (0, 1, 1),
                 ..FRESH
@@ -353,7 +353,7 @@ const SHORT_OF_BYTES: Run = Run {
                 (Call::Write("six me"), None),
                 (Call::Write("five."), Some(5)),
             ],
-            after: Told {
+            after: Known {
                 making: Some(("o", "fifteen lettersfive.")),
                 created: Some("o"),
                 out: "fifteen lettersfive.",
@@ -381,7 +381,7 @@ const SHORT_OF_NAMES: Run = Run {
                 (Call::Open("b"), Some(0)),
                 (Call::Create("twelve bytes"), Some(0)),
             ],
-            after: Told {
+            after: Known {
                 left: "xyz",
                 making: Some(("twelve bytes", "")),
                 opened: Some("ab"),
@@ -396,7 +396,7 @@ const SHORT_OF_NAMES: Run = Run {
                 (Call::Open(""), None),
                 (Call::Create(""), None),
             ],
-            after: Told {
+            after: Known {
                 left: "xyz",
                 making: Some(("twelve bytes", "")),
                 opened: None,

@@ -73,7 +73,7 @@ pub(super) fn sections(alloc: Global, rows: &[SectionRow]) -> Result<List<Sectio
 
 // ---- names
 
-/// A note of these numbers, with the number behind them if there is one.
+/// A note of these numbers, with the number after them if there is one.
 pub(super) fn note(type_index: u64, attribute: u64, number: Option<u64>) -> Note {
     let mut numbers = ArrayVec::new();
     if let Some(number) = number {

@@ -7,9 +7,9 @@ use std::alloc::Global;
 use std::process::Abort;
 use std::test::Fail;
 
-const PIECES: [&str; 6] = ["ab", "cd", "e", "", "fghijk", "l"];
+const Chunks: [&str; 6] = ["ab", "cd", "e", "", "fghijk", "l"];
 
-// Whether a page of four bytes prints the pieces on a host on which these calls fail, and what it
+// Whether a page of four bytes prints the chunks on a host on which these calls fail, and what it
 // prints.
 fn prints(
     rt: &impl Abort,
@@ -20,8 +20,8 @@ fn prints(
 ) -> Result<(), Fail> {
     let mut host = host(alloc, calls)?;
     let mut page = Page::new(&mut host, vec![in alloc; 0u8; 4]?);
-    for piece in PIECES {
-        page.put(piece.as_bytes());
+    for chunk in Chunks {
+        page.put(chunk.as_bytes());
     }
     let printed = page.finish();
     let _host = page.into_host();
@@ -36,7 +36,7 @@ fn a_page_prints_what_it_is_given(rt: HostRuntime) -> Result<(), Fail> {
 }
 
 #[test]
-fn nothing_is_printed_behind_a_print_that_fails(rt: HostRuntime) -> Result<(), Fail> {
+fn nothing_is_printed_after_a_print_that_fails(rt: HostRuntime) -> Result<(), Fail> {
     prints(&rt, rt.alloc(), &[0], false, b"")?;
     prints(&rt, rt.alloc(), &[1], false, b"abcd")?;
     prints(&rt, rt.alloc(), &[2], false, b"abcde")?;

@@ -4,7 +4,7 @@ ghost use Rattle.mufom_host.specs.World.{HasCause, Rose};
 use arrayvec::ArrayVec;
 use mufom_host::{Failed, Sink, World};
 
-/// A file of at most 512 bytes, which takes so many at a call. The call with one number fails.
+/// A file of at most 512 bytes, which takes the given number at a call. The call with one number fails.
 #[derive(Drop)]
 pub(super) struct Disk {
     bytes: ArrayVec<u8, 512>,
@@ -40,13 +40,13 @@ impl Disk {
     }
 }
 
-// Takes the front of the piece, at most so many bytes, and answers how many it was.
-fn take(bytes: &mut ArrayVec<u8, 512>, most: usize, piece: &[u8]) -> usize
-    ensures { result ≤ length piece.now }
+// Takes the prefix of the record, at most the given number of bytes, and answers how many it was.
+fn take(bytes: &mut ArrayVec<u8, 512>, most: usize, chunk: &[u8]) -> usize
+    ensures { result ≤ length chunk.now }
 {
-    let count = piece.len().min(most);
+    let count = chunk.len().min(most);
     for place in 0..count {
-        if bytes.try_push(piece[place]).is_err() {
+        if bytes.try_push(chunk[place]).is_err() {
             return place;
         }
     }
@@ -58,17 +58,17 @@ impl World for Disk {
 
     ghost faults = { λ disk. record { reads = 0; writes = disk.faults; complaints = 0 } };
 
-    ghost together = { λ disk. record { left = λ told. told; making = λ told. told } };
+    ghost together = { λ disk. record { left = λ known. known; making = λ known. known } };
 }
 
 impl Sink for Disk {
-    fn write(&mut self, piece: &[u8]) -> Result<usize, Failed> {
+    fn write(&mut self, chunk: &[u8]) -> Result<usize, Failed> {
         let call = self.calls;
         self.calls = call.saturating_add(1);
         if call == self.fails {
             return Err(self.failed());
         }
-        match take(&mut self.bytes, self.most, piece) {
+        match take(&mut self.bytes, self.most, chunk) {
             0 => Err(self.failed()),
             count => Ok(count),
         }

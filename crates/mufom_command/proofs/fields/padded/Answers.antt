@@ -9,4 +9,4 @@ drop-zeros (suc k) zero = rw zero-sub refl
 drop-zeros (suc k) (suc n) = rw suc-sub-suc (drop-zeros k n)
 
 pub returns : goal.returns
-returns c = rw c.copy_from_slice.ensures.after (ap (λ rest. c.args.front.now ++ rest) (drop-zeros _ 9))
+returns c = rw c.copy_from_slice.ensures.after (ap (λ rest. c.args.prefix.now ++ rest) (drop-zeros _ 9))

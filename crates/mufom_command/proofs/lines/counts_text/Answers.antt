@@ -4,7 +4,7 @@ use Rattle.mufom_module.specs.declared.module.Parts.{Parts}
 use Rattle.mufom_command.specs.Text.{Text, line}
 use Rattle.mufom_command.proofs.lines.counts_text.Goals as goal
 
--- as the pieces are written, one behind another
+-- as the chunks are written, one after another
 written : Text → Text → Text → Text → Text → Text
 written s p r l d = codes ": sections " ++ (s ++ (codes " publics " ++ (p ++ (codes " references " ++ (r ++ (codes " loads " ++ (l ++ (codes " debug " ++ (d ++ 10 ∷ [])))))))))
 

@@ -20,7 +20,7 @@ loop-rest-preserved c =
     let few : length c.loop-rest.offsets.items < 8 = fewer _ c.loop-rest.invariant.few (sym c.is_full.ensures.value ∙ c.loop-rest-test.true) in
     rw c.push.ensures.items (record {
       few = omega (arith, length-append c.loop-rest.offsets.items (c.in_ok-offset.offset ∷ []));
-      same = sym (offsets_from-next c.loop-rest.offsets.items c.loop-rest.rest.now c.in_ok-offset.offset c.in_ok-offset.behind.now few (sym c.in_ok-offset.ensures)) ∙ c.loop-rest.invariant.same;
+      same = sym (offsets_from-next c.loop-rest.offsets.items c.loop-rest.rest.now c.in_ok-offset.offset c.in_ok-offset.after.now few (sym c.in_ok-offset.ensures)) ∙ c.loop-rest.invariant.same;
     })
 
 pub returns : goal.returns

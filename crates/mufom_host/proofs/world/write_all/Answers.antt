@@ -1,11 +1,11 @@
 use Rattle.std.proofs.Common.{◌≡◌, ◌-◌, ℕ, List, length, take, drop, arith, length-drop}
 use Rattle.std.proofs.Math.Seq.{take-add}
 use Rattle.std.proofs.lemmas.List.{take_all, take-append-drop}
-use Rattle.mufom_host.proofs.Composing.{later-Rose, MakingGrowsByFront-trans, KeepsAllButMaking-trans, KeepsAllButWrites-trans}
+use Rattle.mufom_host.proofs.Composing.{later-Rose, MakingGrowsByPrefix-trans, KeepsAllButMaking-trans, KeepsAllButWrites-trans}
 use Rattle.mufom_host.proofs.Spanning.{AfterWrites-write}
 use Rattle.mufom_host.proofs.world.write_all.Goals as goal
 
--- the piece that is handed on is what is not written yet
+-- the chunk that is handed on is what is not written yet
 rest : (bytes : List ℕ) (n : ℕ) → take (length bytes - n) (drop n bytes) ≡ drop n bytes
 rest bytes n = take_all (length bytes - n) (drop n bytes) (rw length-drop (omega arith))
 
@@ -31,7 +31,7 @@ returns-in-Err g c =
     let between = g.S.World.faults c.loop-written.sink in
     let now = g.S.World.faults c.write.new.self in
     record {
-      bytes = rw take-append-drop at (MakingGrowsByFront-trans old.making mid.making new.making (take written bytes) (drop written bytes) so_far.added (rw rest at c.in-Err.ensures.bytes));
+      bytes = rw take-append-drop at (MakingGrowsByPrefix-trans old.making mid.making new.making (take written bytes) (drop written bytes) so_far.added (rw rest at c.in-Err.ensures.bytes));
       stays = KeepsAllButMaking-trans old mid new so_far.stays c.in-Err.ensures.stays;
       cause = record { later = omega (arith, so_far.later, c.in-Err.ensures.cause.later); failed = later-Rose before.writes between.writes now.writes so_far.later c.in-Err.ensures.cause.failed };
       counts = KeepsAllButWrites-trans before between now so_far.counts c.in-Err.ensures.counts;

@@ -4,7 +4,7 @@ use borrow.Rule.Slice.PartMut.{put_mid}
 use Rattle.mufom_numbers.specs.Spelling.{big_endian}
 use Rattle.mufom_numbers.proofs.spelling.value_of.Goals as goal
 
--- up to eight bytes behind zeros
+-- up to eight bytes after zeros
 abbrev padded : List ℕ → List ℕ
 padded bytes = put_mid (8 - length bytes) (8 - (8 - length bytes)) (0 ∷ 0 ∷ 0 ∷ 0 ∷ 0 ∷ 0 ∷ 0 ∷ 0 ∷ []) bytes
 

@@ -2,7 +2,7 @@
 -- debug items, and some of these are blocks.
 --
 -- A `List` is seen as a list, and its one field is a `Vec` whose items are that list. So everything here goes
--- from the list to the `Vec` and back, and nothing is said of the memory behind it: `Vec`'s own file does that.
+-- from the list to the `Vec` and back, and nothing is stated of the memory after it: `Vec`'s own file does that.
 use mathlib.Core.Path.{◌≡◌, refl, sym}
 use mathlib.Core.List.{List, []}
 use mathlib.Core.Former.{Former, this, via, children, list as list_of}

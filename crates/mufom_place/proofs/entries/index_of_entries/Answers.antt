@@ -2,7 +2,7 @@ use Rattle.std.proofs.Common.{◌≡◌, ◌<◌, length, get_or, ◌+◌, ◌�
 use Rattle.std.proofs.lemmas.List.{drop_more}
 use Rattle.std.proofs.lemmas.Grind.{flat_map-append}
 use Rattle.mufom_plan.specs.Names.{AreDistinctNames, listed_names}
-use Rattle.mufom_place.proofs.EntryLaws.{distinct-front}
+use Rattle.mufom_place.proofs.EntryLaws.{distinct-prefix}
 use Rattle.mufom_place.proofs.entries.index_of_entries.Goals as goal
 
 pub add_names-requires : goal.add_names-requires
@@ -19,5 +19,5 @@ add_names-requires c =
     ap listed_names cut ∙ flat_map-append (λ r. r.sections) (take i regions) (region ∷ drop (i + 1) regions)
     ∙ sym (append_assoc (listed_names (take i regions)) region.sections (listed_names (drop (i + 1) regions))) in
     let whole = subst AreDistinctNames names c.requires in
-    let front = distinct-front (listed_names (take i regions) ++ region.sections) (listed_names (drop (i + 1) regions)) whole in
-    subst AreDistinctNames (λ j. sym c.loop-region.invariant j ++ sym c.as_slice.ensures j) front
+    let prefix = distinct-prefix (listed_names (take i regions) ++ region.sections) (listed_names (drop (i + 1) regions)) whole in
+    subst AreDistinctNames (λ j. sym c.loop-region.invariant j ++ sym c.as_slice.ensures j) prefix

@@ -38,12 +38,12 @@ loop-place-preserved-then-is_some c =
     let sections = c.args.sections.now in
     let place = c.loop-place.place in
     let section = c.index-sections-place.result in
-    let front = take place (numbered sections) in
+    let prefix = take place (numbered sections) in
     let based = none_of_some section.base (sym c.is_some.ensures ∙ c.if-is_some.true) in
     let none : unplaced_at listed (place, section) ≡ None = λ i. if based i && not (is_listed listed section.name) then Some (Unplaced place) else None in
     let total = c.loop-place.invariant.total in
     record {
-      waiting = c.loop-place.invariant.waiting ∙ waiting-based listed front (place, section) based
+      waiting = c.loop-place.invariant.waiting ∙ waiting-based listed prefix (place, section) based
           ∙ ap (λ ss. map (waiting_among listed ss) listed) (sym (take-numbered sections place section c.loop-place-test.true c.index-sections-place.is));
       total = omega (arith, total);
       placed = c.loop-place.invariant.placed
@@ -57,7 +57,7 @@ loop-place-preserved c =
     let sections = c.args.sections.now in
     let place = c.loop-place.place in
     let section = c.index-sections-place.result in
-    let front = take place (numbered sections) in
+    let prefix = take place (numbered sections) in
     let e = c.in-Some.entry in
     let baseless = none_of_not_some section.base (sym c.is_some.ensures ∙ c.if-is_some.false) in
     let alone = entry_for-some listed section.name e c.requires.names (ap (entry_for listed) (sym c.as_slice.ensures) ∙ sym c.entry_of.ensures ∙ c.in-Some.is) in
@@ -65,16 +65,16 @@ loop-place-preserved c =
     let none : unplaced_at listed (place, section) ≡ None = λ i. if baseless i && not (known i) then Some (Unplaced place) else None in
     let entries = c.loop-place.entries.items in
     let lent = c.index_mut.result.now in
-    let old = c.index_mut.ensures.value ∙ ap (λ es. get_or es e lent) c.loop-place.invariant.waiting ∙ get_or-map (waiting_among listed front) listed e [] lent alone.within in
-    let pushed : c.push.new.self ≡ waiting_among listed front (get_or listed e []) ++ waiting_of (place, section) ∷ [] = c.in_ok-push.ensures.ok ∙ (λ j. old j ++ c.waiting.ensures j ∷ []) in
-    let long = ap length c.loop-place.invariant.waiting ∙ length-map listed (waiting_among listed front) in
+    let old = c.index_mut.ensures.value ∙ ap (λ es. get_or es e lent) c.loop-place.invariant.waiting ∙ get_or-map (waiting_among listed prefix) listed e [] lent alone.within in
+    let pushed : c.push.new.self ≡ waiting_among listed prefix (get_or listed e []) ++ waiting_of (place, section) ∷ [] = c.in_ok-push.ensures.ok ∙ (λ j. old j ++ c.waiting.ensures j ∷ []) in
+    let long = ap length c.loop-place.invariant.waiting ∙ length-map listed (waiting_among listed prefix) in
     let within = alone.within in
     let sum = sum_by-set length entries e c.push.new.self lent (omega (arith, long, within)) in
     let before = ap length c.index_mut.ensures.value in
     let after = ap length c.in_ok-push.ensures.ok ∙ length-append lent (c.waiting.result ∷ []) in
     let total = c.loop-place.invariant.total in
     record {
-      waiting = (λ j. set (c.loop-place.invariant.waiting j) e (pushed j)) ∙ sym (waiting-added listed front (place, section) e baseless alone)
+      waiting = (λ j. set (c.loop-place.invariant.waiting j) e (pushed j)) ∙ sym (waiting-added listed prefix (place, section) e baseless alone)
           ∙ ap (λ ss. map (waiting_among listed ss) listed) (sym (take-numbered sections place section c.loop-place-test.true c.index-sections-place.is));
       total = omega (arith, sum, before, after, total);
       placed = c.loop-place.invariant.placed

@@ -2,7 +2,7 @@ use Rattle.std.proofs.Common.{◌≡◌, ◌∙◌, ap, sym, arith, ◌∷◌, [
 use Rattle.std.proofs.lemmas.List.{drop_more}
 use Rattle.toml.specs.View.{view, table_view}
 use Rattle.mufom_plan.specs.Names.{region_names, listed_names}
-use Rattle.mufom_plan.specs.PlanText.{in_front, region_of, regions_of}
+use Rattle.mufom_plan.specs.PlanText.{in_prefix, region_of, regions_of}
 use Rattle.mufom_plan.proofs.PlanLemmas.{regions_of-next, region_names-append, listed_names-append}
 use Rattle.mufom_plan.proofs.read.regions.Goals as goal
 
@@ -14,13 +14,13 @@ loop-place-preserved c =
     let more = map view (drop (c.loop-place.place + 1) c.args.values.now) in
     let pushed = c.in_ok-push.ensures.ok in
     let next = drop_more c.args.values.now c.loop-place.place value c.loop-place-test.true ∙ ap (λ v. v ∷ drop (c.loop-place.place + 1) c.args.values.now) (sym c.index-values-place.is) in
-    let behind : region_of (length taken) (region_names taken) (listed_names taken) (table_view c.in-Some.table.now) ≡ region_of c.loop-place.place c.loop-place.names c.loop-place.listed (table_view c.in-Some.table.now) = (λ i. region_of (c.loop-place.invariant.count i) (sym c.loop-place.invariant.named i) (sym c.loop-place.invariant.listed i) (table_view c.in-Some.table.now)) in
+    let after : region_of (length taken) (region_names taken) (listed_names taken) (table_view c.in-Some.table.now) ≡ region_of c.loop-place.place c.loop-place.names c.loop-place.listed (table_view c.in-Some.table.now) = (λ i. region_of (c.loop-place.invariant.count i) (sym c.loop-place.invariant.named i) (sym c.loop-place.invariant.listed i) (table_view c.in-Some.table.now)) in
     record {
       count = ap length pushed ∙ length-append taken (region ∷ []) ∙ omega arith;
       named = c.in_ok-region.ensures.named ∙ ap (λ names. names ++ region.name ∷ []) c.loop-place.invariant.named ∙ sym (region_names-append taken region) ∙ ap region_names (sym pushed);
       listed = c.in_ok-region.ensures.listed ∙ ap (λ names. names ++ region.sections) c.loop-place.invariant.listed ∙ sym (listed_names-append taken region) ∙ ap listed_names (sym pushed);
       rest = c.loop-place.invariant.rest
-          ∙ ap (λ values. in_front taken (regions_of taken (map view values))) next
-          ∙ regions_of-next taken (view value) more (table_view c.in-Some.table.now) region (sym c.in-Some.ensures) (behind ∙ c.in_ok-region.ensures.ok)
-          ∙ ap (λ regions. in_front regions (regions_of regions more)) (sym pushed);
+          ∙ ap (λ values. in_prefix taken (regions_of taken (map view values))) next
+          ∙ regions_of-next taken (view value) more (table_view c.in-Some.table.now) region (sym c.in-Some.ensures) (after ∙ c.in_ok-region.ensures.ok)
+          ∙ ap (λ regions. in_prefix regions (regions_of regions more)) (sym pushed);
     }

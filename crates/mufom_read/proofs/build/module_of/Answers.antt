@@ -3,24 +3,24 @@ use Rattle.mufom_module.specs.declared.module.Parts.{Parts}
 use Rattle.mufom_module.specs.Defects.{IsValid}
 use Rattle.mufom_module.specs.Grammar.{SpellsModule}
 use Rattle.mufom_read.specs.Kept.{tables_of}
-use Rattle.mufom_read.proofs.BuildLaws.{kept-pieces, whole-said}
+use Rattle.mufom_read.proofs.BuildLaws.{kept-records, whole-stated}
 use Rattle.mufom_read.proofs.build.module_of.Goals as goal
 
 pub parts_of-requires-clause-tables : goal.parts_of-requires-clause-tables
 parts_of-requires-clause-tables c =
     let is = c.requires.3 in
-    is.kept.tables ∙ ap tables_of (sym (kept-pieces c.requires.0 c.args.front c.requires.1 is.kept))
+    is.kept.tables ∙ ap tables_of (sym (kept-records c.requires.0 c.args.prefix c.requires.1 is.kept))
 
-pub parts_of-requires-clause-said : goal.parts_of-requires-clause-said
-parts_of-requires-clause-said c = let said = whole-said c.requires.0 c.args.front c.requires.1 c.requires.2 c.requires.3 in (said.0, said.2)
+pub parts_of-requires-clause-stated : goal.parts_of-requires-clause-stated
+parts_of-requires-clause-stated c = let stated = whole-stated c.requires.0 c.args.prefix c.requires.1 c.requires.2 c.requires.3 in (stated.0, stated.2)
 
 pub assembled-requires : goal.assembled-requires
 assembled-requires c =
-    let said = whole-said c.requires.0 c.args.front c.requires.1 c.requires.2 c.requires.3 in
-    let spells = said.1 in
-    subst IsValid (sym (c.in_ok-parts.ensures said.0 said.2)) spells.4
+    let stated = whole-stated c.requires.0 c.args.prefix c.requires.1 c.requires.2 c.requires.3 in
+    let spells = stated.1 in
+    subst IsValid (sym (c.in_ok-parts.ensures stated.0 stated.2)) spells.4
 
 pub returns : goal.returns
 returns c = λ reads_debug steps bytes is.
-    let said = whole-said reads_debug c.args.front steps bytes is in
-    subst (λ (m : Parts). SpellsModule m bytes reads_debug) (sym (c.assembled.ensures ∙ c.in_ok-parts.ensures said.0 said.2)) said.1
+    let stated = whole-stated reads_debug c.args.prefix steps bytes is in
+    subst (λ (m : Parts). SpellsModule m bytes reads_debug) (sym (c.assembled.ensures ∙ c.in_ok-parts.ensures stated.0 stated.2)) stated.1

@@ -1,4 +1,4 @@
-use Rattle.mufom_read.proofs.FrontJudged.{has_one_judgment}
+use Rattle.mufom_read.proofs.PrefixJudged.{has_one_judgment}
 use Rattle.mufom_read.proofs.SpelledJudged.{judgments_exclude_each_other}
 use Rattle.mufom_read.proofs.laws.has_one_judgment.Goals as goal
 

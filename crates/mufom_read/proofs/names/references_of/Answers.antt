@@ -1,10 +1,10 @@
 use Rattle.std.proofs.Common.{ℕ, ◌+◌, ◌<◌, [], ◌∷◌, ◌++◌, length, map, filter_map, take, drop, sym, ap, ◌∙◌, arith}
 use Rattle.std.specs.List.{cons_option}
 use Rattle.std.proofs.lemmas.List.Elements.{filter_map-append}
-use Rattle.mufom_module.specs.Pieces.{Piece, declared, reference}
+use Rattle.mufom_module.specs.SpelledRecords.{SpelledRecord, declared, reference}
 use Rattle.mufom_module.specs.Gathered.{reference_by}
 use Rattle.mufom_read.specs.declared.notes.Named.TheVariants as named
-use Rattle.mufom_read.specs.Kept.{piece_of_kept}
+use Rattle.mufom_read.specs.Kept.{record_of_kept}
 use Rattle.mufom_read.specs.Built.{notes_for}
 use Rattle.mufom_read.proofs.LoadLaws.{from-place}
 use Rattle.mufom_read.proofs.NameLaws.{take-more}
@@ -15,15 +15,15 @@ loop-record-preserved c =
     let kept = c.args.kept.now in
     let n = c.loop-record.record-index in
     let k = c.record-item.result in
-    let all = map piece_of_kept kept in
+    let all = map record_of_kept kept in
     let notes = λ (i : ℕ). notes_for named.Reference i all in
-    let more = declared reference (map piece_of_kept (drop (n + 1) kept)) in
+    let more = declared reference (map record_of_kept (drop (n + 1) kept)) in
     let within : n < length kept = omega arith in
     let before = c.loop-record.invariant.groups ∙ ap (λ ps. map notes (declared reference ps)) (from-place kept n k within c.record-item.is) in
     let here = c.in_ok-reference.ensures.reference all more c.requires.tables c.in_ok-weaknesses.ensures before in
-    let one_by = λ (p : Piece). reference_by all p p.row in
+    let one_by = λ (p : SpelledRecord). reference_by all p p.row in
     record {
       groups = c.in_ok-reference.ensures.groups notes more before;
       references = c.in_ok-push_some.ensures ∙ (λ z. c.loop-record.invariant.references z ++ cons_option (here z) [])
-          ∙ sym (ap (filter_map one_by) (take-more kept n k within c.record-item.is) ∙ filter_map-append one_by (map piece_of_kept (take n kept)) (piece_of_kept k ∷ []));
+          ∙ sym (ap (filter_map one_by) (take-more kept n k within c.record-item.is) ∙ filter_map-append one_by (map record_of_kept (take n kept)) (record_of_kept k ∷ []));
     }

@@ -8,18 +8,18 @@ use Rattle.mufom_read.proofs.source.feed_within.Goals as goal
 
 pub returns-in_err-feed-clause-fed : goal.returns-in_err-feed-clause-fed
 returns-in_err-feed-clause-fed c = λ stream has.
-    let piece = take c.args.count c.args.buffer.now in
+    let chunk = take c.args.count c.args.buffer.now in
     let p = err_from_is_err_and c.from_residual.result c.from_residual.ensures.1 in
-    subst (λ (r : Result (Unit {0}) SourceStop). HasFed c.args.room stream piece c.feed.new.self r) (sym p.1)
-    (fed-stopped c.args.room stream piece piece c.feed.new.self c.in_err-feed.field-0.0 p.0 (take_all c.args.room piece (omega (arith, length-take c.args.count c.args.buffer.now, c.if-count-room.true)))
+    subst (λ (r : Result (Unit {0}) SourceStop). HasFed c.args.room stream chunk c.feed.new.self r) (sym p.1)
+    (fed-stopped c.args.room stream chunk chunk c.feed.new.self c.in_err-feed.field-0.0 p.0 (take_all c.args.room chunk (omega (arith, length-take c.args.count c.args.buffer.now, c.if-count-room.true)))
     p.2 c.in_err-feed.ensures.answer (c.in_err-feed.ensures.read stream has))
 
 pub returns-in_err-feed-2-clause-fed : goal.returns-in_err-feed-2-clause-fed
 returns-in_err-feed-2-clause-fed c = λ stream has.
-    let piece = take c.args.count c.args.buffer.now in
+    let chunk = take c.args.count c.args.buffer.now in
     let p = err_from_is_err_and c.from_residual-in_err-feed-2.result c.from_residual-in_err-feed-2.ensures.1 in
-    subst (λ (r : Result (Unit {0}) SourceStop). HasFed c.args.room stream piece c.feed-2.new.self r) (sym p.1)
-    (fed-stopped c.args.room stream piece (take c.args.room c.args.buffer.now) c.feed-2.new.self c.in_err-feed-2.field-0.0 p.0 (take-take c.args.room c.args.count c.args.buffer.now (omega (arith, c.if-count-room.false)))
+    subst (λ (r : Result (Unit {0}) SourceStop). HasFed c.args.room stream chunk c.feed-2.new.self r) (sym p.1)
+    (fed-stopped c.args.room stream chunk (take c.args.room c.args.buffer.now) c.feed-2.new.self c.in_err-feed-2.field-0.0 p.0 (take-take c.args.room c.args.count c.args.buffer.now (omega (arith, c.if-count-room.false)))
     p.2 c.in_err-feed-2.ensures.answer (c.in_err-feed-2.ensures.read stream has))
 
 pub returns-clause-fed : goal.returns-clause-fed

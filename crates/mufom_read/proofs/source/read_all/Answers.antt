@@ -10,24 +10,24 @@ pub returns-in_err-count-clause-read : goal.returns-in_err-count-clause-read
 returns-in_err-count-clause-read g c =
     let before = (g.S.World.meaning c.args.source.now).left in
     let between = (g.S.World.meaning c.loop-count.source).left in
-    let after = (g.S.World.meaning c.read_piece.new.source).left in
+    let after = (g.S.World.meaning c.read_chunk.new.source).left in
     let come = c.loop-count.invariant in
     let p = err_from_is_err_and c.from_residual.result c.from_residual.ensures.1 in
-    subst (λ (r : Result ℕ SourceStop). HasReadAll c.args.limit before after c.read_piece.new.reader r) (sym (p.1 ∙ ap Err p.2))
-    (come-stopped c.args.limit c.loop-count.length c.read_piece.new.reader before between after come.bytes c.in_err-count.field-0.0 come.count come.within come.after.taken (c.in_err-count.ensures.read come.bytes come.read))
+    subst (λ (r : Result ℕ SourceStop). HasReadAll c.args.limit before after c.read_chunk.new.reader r) (sym (p.1 ∙ ap Err p.2))
+    (come-stopped c.args.limit c.loop-count.length c.read_chunk.new.reader before between after come.bytes c.in_err-count.field-0.0 come.count come.within come.after.taken (c.in_err-count.ensures.read come.bytes come.read))
 
 pub returns-then-count-eq0-clause-read : goal.returns-then-count-eq0-clause-read
 returns-then-count-eq0-clause-read g c =
     let before = (g.S.World.meaning c.args.source.now).left in
     let between = (g.S.World.meaning c.loop-count.source).left in
-    let after = (g.S.World.meaning c.read_piece.new.source).left in
+    let after = (g.S.World.meaning c.read_chunk.new.source).left in
     let come = c.loop-count.invariant in
-    come-end c.args.limit c.loop-count.length c.in_ok-count.count c.read_piece.new.reader before between after come.bytes come.count come.within come.after.taken (omega (arith, c.if-count-eq0.true)) (c.in_ok-count.ensures.read come.bytes come.read)
+    come-end c.args.limit c.loop-count.length c.in_ok-count.count c.read_chunk.new.reader before between after come.bytes come.count come.within come.after.taken (omega (arith, c.if-count-eq0.true)) (c.in_ok-count.ensures.read come.bytes come.read)
 
 pub loop-count-preserved : goal.loop-count-preserved
 loop-count-preserved g c =
     let come = c.loop-count.invariant in
-    come-on c.args.limit c.loop-count.length (reads_debug_of c.args.reader.now) c.loop-count.reader c.read_piece.new.reader
-    (g.S.World.meaning c.args.source.now) (g.S.World.meaning c.loop-count.source) (g.S.World.meaning c.read_piece.new.source)
-    (g.S.World.faults c.args.source.now) (g.S.World.faults c.loop-count.source) (g.S.World.faults c.read_piece.new.source)
-    c.in_ok-count.count come (c.in_ok-count.ensures.read come.bytes come.read) c.read_piece.ensures.reads_debug c.read_piece.ensures.stays c.read_piece.ensures.counts c.read_piece.ensures.later
+    come-on c.args.limit c.loop-count.length (reads_debug_of c.args.reader.now) c.loop-count.reader c.read_chunk.new.reader
+    (g.S.World.meaning c.args.source.now) (g.S.World.meaning c.loop-count.source) (g.S.World.meaning c.read_chunk.new.source)
+    (g.S.World.faults c.args.source.now) (g.S.World.faults c.loop-count.source) (g.S.World.faults c.read_chunk.new.source)
+    c.in_ok-count.count come (c.in_ok-count.ensures.read come.bytes come.read) c.read_chunk.ensures.reads_debug c.read_chunk.ensures.stays c.read_chunk.ensures.counts c.read_chunk.ensures.later

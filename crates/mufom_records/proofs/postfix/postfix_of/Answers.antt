@@ -21,13 +21,13 @@ pub loop-rest-smaller : goal.loop-rest-smaller
 loop-rest-smaller c =
     let some : 0 < length c.loop-rest.rest.now = search rules in
     let next = left_next c.args.input.now c.loop-rest.rest.now c.loop-rest.builder c.first_token-token.result.0 c.first_token-token.result.1 c.loop-rest.invariant some c.first_token-token.ensures.token in
-    rw c.behind-rest.ensures (omega (arith, length-drop c.first_token-token.result.1 c.loop-rest.rest.now, next.some, some))
+    rw c.after-rest.ensures (omega (arith, length-drop c.first_token-token.result.1 c.loop-rest.rest.now, next.some, some))
 
 pub loop-rest-preserved : goal.loop-rest-preserved
 loop-rest-preserved c =
     let some : 0 < length c.loop-rest.rest.now = search rules in
     let next = left_next c.args.input.now c.loop-rest.rest.now c.loop-rest.builder c.first_token-token.result.0 c.first_token-token.result.1 c.loop-rest.invariant some c.first_token-token.ensures.token in
-    rw (c.behind-rest.ensures, c.in_ok-add.ensures) next.left
+    rw (c.after-rest.ensures, c.in_ok-add.ensures) next.left
 
 pub finished-requires : goal.finished-requires
 finished-requires c =

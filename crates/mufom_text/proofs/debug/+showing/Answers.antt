@@ -1,6 +1,6 @@
 use Rattle.std.proofs.Common.{ℕ, List, ◌+◌, ◌++◌, length, length-append, drop, take, sym, ap, subst, ◌∙◌, arith}
 use Rattle.mufom_debug.specs.declared.item.DebugItem.{DebugItem}
-use Rattle.mufom_debug.specs.Marks.{marks_of, marks_of_item, names_behind_all}
+use Rattle.mufom_debug.specs.Marks.{marks_of, marks_of_item, names_after_all}
 use Rattle.mufom_text.specs.Show.{mark_lines}
 use Rattle.mufom_debug.proofs.NameCounts.{names-Block, names-more, names-bound, marks-next}
 use Rattle.mufom_text.proofs.MarkLines.{lines-Block, lines-Note, lines-Value, lines-more}
@@ -18,8 +18,8 @@ debug_item-returns-in-Block-clause-takes g t c =
 pub debug_item-returns-in-Block-clause-names : goal.debug_item-returns-in-Block-clause-names
 debug_item-returns-in-Block-clause-names g t c =
     let n = c.args.names.now in
-    c.debug_items.ensures.names ∙ ap (λ (items : List DebugItem). names_behind_all n (marks_of items)) c.as_slice-in-Block.ensures
-    ∙ sym (names-Block n c.in-Block.block) ∙ ap (λ (x : DebugItem). names_behind_all n (marks_of_item x)) (sym c.in-Block.is)
+    c.debug_items.ensures.names ∙ ap (λ (items : List DebugItem). names_after_all n (marks_of items)) c.as_slice-in-Block.ensures
+    ∙ sym (names-Block n c.in-Block.block) ∙ ap (λ (x : DebugItem). names_after_all n (marks_of_item x)) (sym c.in-Block.is)
 
 pub debug_item-returns-in-Note-clause-takes : goal.debug_item-returns-in-Note-clause-takes
 debug_item-returns-in-Note-clause-takes g t c =
@@ -49,7 +49,7 @@ debug_items-loop-place-preserved g t c =
     let count = ap length (marks-next all i x c.loop-place-test.true c.index-items-place.is) ∙ length-append (marks_of_item x) (marks_of (drop (i + 1) all)) in
     record {
       takes = subst (λ (bytes : List ℕ). g.K.Output.takes c.args.out.now c.debug_item.new.out bytes) (sym lines) (g.met.K.Output.joins _ _ _ _ _ c.loop-place.invariant.takes c.debug_item.ensures.takes);
-      names = c.debug_item.ensures.names ∙ ap (λ (k : ℕ). names_behind_all k (marks_of_item x)) names ∙ sym (names-more n all i x c.loop-place-test.true c.index-items-place.is);
+      names = c.debug_item.ensures.names ∙ ap (λ (k : ℕ). names_after_all k (marks_of_item x)) names ∙ sym (names-more n all i x c.loop-place-test.true c.index-items-place.is);
       deep = omega (arith, count, c.loop-place.invariant.deep);
       few = omega (arith, count, c.debug_item.ensures.names, bound, c.loop-place.invariant.few);
     }

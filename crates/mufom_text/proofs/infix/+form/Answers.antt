@@ -1,6 +1,6 @@
 use Rattle.std.proofs.Common.{List, ℕ, [], ◌∷◌, arith, subst, sym, ◌∙◌}
 use Rattle.std.proofs.lemmas.List.{length-take-le}
-use Rattle.mufom_text.proofs.TermLaws.{some_left, all_behind, number_plain, variable_plain, number_form, variable_form, plain_whole, operand_known, operands_known, parted, over_one_form, over_two_form}
+use Rattle.mufom_text.proofs.TermLaws.{some_left, all_after, number_plain, variable_plain, number_form, variable_form, plain_whole, operand_known, operands_known, parted, over_one_form, over_two_form}
 use Rattle.mufom_text.proofs.infix.+form.Goals as goal
 
 pub infix-unreachable-requires : goal.infix-unreachable-requires
@@ -38,7 +38,7 @@ over_two-infix-requires g t c κs within =
 pub over_two-infix-requires-2 : goal.over_two-infix-requires-2
 over_two-infix-requires-2 g t c κs within =
     let both = parted c.args.operands.now c.last_term-second.result c.args.function c.requires.two c.last_term-second.ensures.start c.requires.known.0 c.requires.known.1 in
-    (omega arith, (within, (both.b, all_behind c.args.operands.now c.last_term-second.result ∙ both.second_is)))
+    (omega arith, (within, (both.b, all_after c.args.operands.now c.last_term-second.result ∙ both.second_is)))
 
 pub over_two-returns : goal.over_two-returns
 over_two-returns g t c = λ tree e.
@@ -47,4 +47,4 @@ over_two-returns g t c = λ tree e.
     let form = over_two_form c.args.operands.now c.last_term-second.result c.args.function tree both in
     subst (λ (text : List ℕ). g.K.Output.takes c.args.out.now c.put-3.new.self text) (sym form)
     (l.joins _ _ _ _ _ (l.joins _ _ _ _ _ (l.joins _ _ _ _ _ (l.joins _ _ _ _ _ (rw (c.as_bytes.ensures.value, c.infix_opening.ensures) at c.put.ensures) (c.infix.ensures both.a both.first_is)) (rw (c.as_bytes-2.ensures.value, c.infix_middle.ensures) at c.put-2.ensures))
-    (c.infix-2.ensures both.b (all_behind c.args.operands.now c.last_term-second.result ∙ both.second_is))) c.put-3.ensures)
+    (c.infix-2.ensures both.b (all_after c.args.operands.now c.last_term-second.result ∙ both.second_is))) c.put-3.ensures)

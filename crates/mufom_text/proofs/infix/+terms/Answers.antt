@@ -26,8 +26,8 @@ pub operands_begin-last_term-requires : goal.operands_begin-last_term-requires
 operands_begin-last_term-requires t c = (omega (arith, c.last_term-last.ensures.within, length-take-le c.last_term-last.result c.args.before.now (omega (arith, c.last_term-last.ensures.within))), first_known c.args.before.now c.args.function c.last_term-last.result (sym c.takes_one.ensures ∙ c.if-takes_one.false) c.requires.known c.last_term-last.ensures.start)
 
 pub operands_begin-returns-then-takes_one-clause-start : goal.operands_begin-returns-then-takes_one-clause-start
-operands_begin-returns-then-takes_one-clause-start t c = λ front tree e.
-    let it = one_end front tree c.args.before.now c.args.function (sym c.takes_one.ensures ∙ c.if-takes_one.true) e in c.last_term-last.ensures.start front it.a it.split
+operands_begin-returns-then-takes_one-clause-start t c = λ prefix tree e.
+    let it = one_end prefix tree c.args.before.now c.args.function (sym c.takes_one.ensures ∙ c.if-takes_one.true) e in c.last_term-last.ensures.start prefix it.a it.split
 
 pub operands_begin-returns-else-takes_one-clause-start : goal.operands_begin-returns-else-takes_one-clause-start
 operands_begin-returns-else-takes_one-clause-start t c = first_start c.args.before.now c.args.function c.last_term-last.result c.last_term.result (sym c.takes_one.ensures ∙ c.if-takes_one.false) c.last_term-last.ensures.start c.last_term.ensures.start

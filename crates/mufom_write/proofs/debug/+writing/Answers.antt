@@ -1,6 +1,6 @@
 use Rattle.std.proofs.Common.{◌≡◌, ℕ, List, ◌+◌, ◌++◌, drop, length, refl, sym, ap, subst, ◌∙◌, arith, length-append}
 use Rattle.mufom_debug.specs.declared.item.DebugItem.{DebugItem}
-use Rattle.mufom_debug.specs.Marks.{marks_of, marks_of_item, names_behind_all}
+use Rattle.mufom_debug.specs.Marks.{marks_of, marks_of_item, names_after_all}
 use Rattle.mufom_module.specs.Written.{shortest, debug_records}
 use Rattle.mufom_module.specs.Defects.{has_long_name}
 use Rattle.mufom_module.proofs.Walks.{any_mark_next}
@@ -33,9 +33,9 @@ debug_item-returns-in_ok-debug_items-in-Block-clause-takes g t c =
 pub debug_item-returns-in_ok-debug_items-in-Block-clause-names : goal.debug_item-returns-in_ok-debug_items-in-Block-clause-names
 debug_item-returns-in_ok-debug_items-in-Block-clause-names g t c =
     let n = c.args.names.now in
-    let inside = c.in_ok-debug_items-in-Block.ensures.names ∙ ap (λ (items : List DebugItem). names_behind_all n (marks_of items)) c.as_slice.ensures in
-    let all = inside ∙ sym (names-Block n c.in-Block.block) ∙ ap (λ (x : DebugItem). names_behind_all n (marks_of_item x)) (sym c.in-Block.is) in
-    however_ok c.block_end.result (c.debug_items.new.names ≡ names_behind_all n (marks_of_item c.args.item.now)) all
+    let inside = c.in_ok-debug_items-in-Block.ensures.names ∙ ap (λ (items : List DebugItem). names_after_all n (marks_of items)) c.as_slice.ensures in
+    let all = inside ∙ sym (names-Block n c.in-Block.block) ∙ ap (λ (x : DebugItem). names_after_all n (marks_of_item x)) (sym c.in-Block.is) in
+    however_ok c.block_end.result (c.debug_items.new.names ≡ names_after_all n (marks_of_item c.args.item.now)) all
 
 pub debug_item-returns-in-Value-clause-takes : goal.debug_item-returns-in-Value-clause-takes
 debug_item-returns-in-Value-clause-takes g t c =
@@ -49,9 +49,9 @@ debug_items-returns-in_err-debug_item-clause-takes g t c =
     let i = c.loop-place.place in
     let all = c.args.items.now in
     let x = c.index-items-place.result in
-    let behind = marks_of (drop (i + 1) all) in
-    let split = ap (debug_records shortest n) (marks-next all i x c.loop-place-test.true c.index-items-place.is) ∙ records-append n (marks_of_item x) behind in
-    leads-stop g.K.Output.takes g.met.K.Output.stops _ _ _ (debug_records shortest n (marks_of_item x)) (debug_records shortest (names_behind_all n (marks_of_item x)) behind) _ _ _ _ split c.loop-place.invariant.leads c.in_err-debug_item.ensures.takes c.from_residual.ensures.0
+    let after = marks_of (drop (i + 1) all) in
+    let split = ap (debug_records shortest n) (marks-next all i x c.loop-place-test.true c.index-items-place.is) ∙ records-append n (marks_of_item x) after in
+    leads-stop g.K.Output.takes g.met.K.Output.stops _ _ _ (debug_records shortest n (marks_of_item x)) (debug_records shortest (names_after_all n (marks_of_item x)) after) _ _ _ _ split c.loop-place.invariant.leads c.in_err-debug_item.ensures.takes c.from_residual.ensures.0
 
 pub debug_items-loop-place-preserved : goal.debug_items-loop-place-preserved
 debug_items-loop-place-preserved g t c =
@@ -59,15 +59,15 @@ debug_items-loop-place-preserved g t c =
     let i = c.loop-place.place in
     let all = c.args.items.now in
     let x = c.index-items-place.result in
-    let behind = marks_of (drop (i + 1) all) in
+    let after = marks_of (drop (i + 1) all) in
     let next = marks-next all i x c.loop-place-test.true c.index-items-place.is in
     let names = c.in_ok-debug_item.ensures.names in
-    let split = ap (debug_records shortest n) next ∙ records-append n (marks_of_item x) behind ∙ ap (λ (k : ℕ). debug_records shortest n (marks_of_item x) ++ debug_records shortest k behind) (sym names) in
+    let split = ap (debug_records shortest n) next ∙ records-append n (marks_of_item x) after ∙ ap (λ (k : ℕ). debug_records shortest n (marks_of_item x) ++ debug_records shortest k after) (sym names) in
     let bound = names-bound n (marks_of_item x) in
-    let count = ap length next ∙ length-append (marks_of_item x) behind in
+    let count = ap length next ∙ length-append (marks_of_item x) after in
     record {
-      leads = leads-step g.K.Output.takes g.met.K.Output.joins _ _ _ (debug_records shortest n (marks_of_item x)) (debug_records shortest c.debug_item.new.names behind) _ _ split c.loop-place.invariant.leads c.in_ok-debug_item.ensures.takes;
-      behind = ap (λ (k : ℕ). names_behind_all k behind) names ∙ sym (names-append n (marks_of_item x) behind) ∙ ap (names_behind_all n) (sym next) ∙ c.loop-place.invariant.behind;
+      leads = leads-step g.K.Output.takes g.met.K.Output.joins _ _ _ (debug_records shortest n (marks_of_item x)) (debug_records shortest c.debug_item.new.names after) _ _ split c.loop-place.invariant.leads c.in_ok-debug_item.ensures.takes;
+      after = ap (λ (k : ℕ). names_after_all k after) names ∙ sym (names-append n (marks_of_item x) after) ∙ ap (names_after_all n) (sym next) ∙ c.loop-place.invariant.after;
       short = or_last _ _ _ (any_mark_next has_long_name all i x c.loop-place-test.true) c.loop-place.invariant.short;
       few = omega (arith, names, bound, count, c.loop-place.invariant.few);
     }

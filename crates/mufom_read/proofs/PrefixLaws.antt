@@ -1,0 +1,249 @@
+-- A prefix with one more record, as the code keeps it.
+use Rattle.std.proofs.Common.{◌≡◌, ℕ, zero, suc, ◌+◌, ◌-◌, ◌<◌, ◌≤◌, ◌==◌, ◌&&◌, ◌||◌, Bool, true, false, not, true≢false, List, [], ◌∷◌, ◌++◌, length, map, filter_map, Option, Some, None, option_map, get_or, refl, sym, ap, subst, ◌∙◌, arith, append-nil, append_assoc, length-append}
+use Rattle.std.specs.List.{list_any, last_or, cons_option}
+use Rattle.std.specs.Prelude.{All}
+use Rattle.std.proofs.lemmas.List.Elements.{All-append}
+use Rattle.std.proofs.lemmas.List.Elements.{filter_map-append}
+use Rattle.std.proofs.lemmas.List.Folds.{list_any-append}
+use Rattle.mufom_records.specs.declared.record.Record.{Record}
+use Rattle.mufom_records.specs.declared.record.Record.TheVariants as r
+use Rattle.mufom_module.specs.SpelledRecords.{SpelledRecord, section, public, reference, of_kind, declared_by, Once, start_address, is_same_statement, assigned_by}
+use Rattle.mufom_module.specs.RecordParts.{debug_part, stands_in, begins_item}
+use Rattle.mufom_module.specs.Grammar.{offset_in}
+use Rattle.mufom_read.specs.declared.prefix.Prefix.{Prefix}
+use Rattle.mufom_read.specs.declared.kept.KeptRecord.{KeptRecord}
+use Rattle.mufom_read.specs.declared.tables.Tables.{Tables}
+use Rattle.mufom_read.specs.Prefixes.{Step, raw, read, step_bytes, prefix_bytes, size_of, record_of, records_of, offset_record, offset_records_of, offsets_of, first_present, OffsetRecord, awaits_items, ends_with, is_ended}
+use Rattle.mufom_read.specs.Faults.{set_by, OpenBlock, opened_after, open_from, open_blocks}
+use Rattle.mufom_read.specs.Kept.{tables_of, with_row, statements, alignment_stated, size_stated, base_stated, value_stated, weakness_stated, record_of_kept, placed, HasOwnParts}
+use Rattle.mufom_read.specs.PrefixOfCode.{AreOrdered, offset_count, IsPrefixOf, with_record, IsAddable}
+use Rattle.mufom_read.proofs.PartBytes.{KeepsBytes}
+
+-- ---- lists with one more
+
+last-append : {A : Type 0} (o : Option A) (xs ys : List A) → last_or o (xs ++ ys) ≡ last_or (last_or o xs) ys
+last-append o [] ys = refl
+last-append o (x ∷ xs) ys = last-append (Some x) xs ys
+
+map-append : {A B : Type 0} (f : A → B) (xs ys : List A) → map f (xs ++ ys) ≡ map f xs ++ map f ys
+map-append f [] ys = refl
+map-append f (x ∷ xs) ys = ap (λ zs. f x ∷ zs) (map-append f xs ys)
+
+bytes-append : (a b : List Step) → prefix_bytes (a ++ b) ≡ prefix_bytes a ++ prefix_bytes b
+bytes-append [] b = refl
+bytes-append (s ∷ a) b = ap (λ l. step_bytes s ++ l) (bytes-append a b) ∙ sym (append_assoc (step_bytes s) (prefix_bytes a) (prefix_bytes b))
+
+pub size-append : (a b : List Step) → size_of (a ++ b) ≡ size_of a + size_of b
+size-append a b = ap length (bytes-append a b) ∙ length-append (prefix_bytes a) (prefix_bytes b)
+
+-- ---- tables with one more record
+
+made : (a b c d e f g h : List ℕ) → Option ℕ → Bool → Tables
+made a b c d e f g h i j = record { sections = a; publics = b; references = c; alignments = d; sizes = e; bases = f; values = g; weaknesses = h; current = i; has_start = j }
+
+-- the tables with the entries of one more record, each at the end of its list
+grown : Tables → Record → Tables
+grown t row = record {
+  sections = t.sections ++ cons_option (of_kind section (declared_by row)) [];
+  publics = t.publics ++ cons_option (of_kind public (declared_by row)) [];
+  references = t.references ++ cons_option (of_kind reference (declared_by row)) [];
+  alignments = t.alignments ++ filter_map alignment_stated (cons_option (assigned_by row) []);
+  sizes = t.sizes ++ filter_map size_stated (cons_option (assigned_by row) []);
+  bases = t.bases ++ filter_map base_stated (cons_option (assigned_by row) []);
+  values = t.values ++ filter_map value_stated (cons_option (assigned_by row) []);
+  weaknesses = t.weaknesses ++ filter_map weakness_stated (cons_option (assigned_by row) []);
+  current = last_or t.current (cons_option (set_by row) []);
+  has_start = t.has_start || list_any (is_same_statement start_address) (cons_option (assigned_by row) []);
+}
+
+same_tables : (t u : Tables) → t.sections ≡ u.sections → t.publics ≡ u.publics → t.references ≡ u.references → t.alignments ≡ u.alignments → t.sizes ≡ u.sizes → t.bases ≡ u.bases
+    → t.values ≡ u.values → t.weaknesses ≡ u.weaknesses → t.current ≡ u.current → t.has_start ≡ u.has_start → t ≡ u
+unfolding made
+same_tables t u a b c d e f g h i j =
+    ap (λ x. made x t.publics t.references t.alignments t.sizes t.bases t.values t.weaknesses t.current t.has_start) a
+    ∙ ap (λ x. made u.sections x t.references t.alignments t.sizes t.bases t.values t.weaknesses t.current t.has_start) b
+    ∙ ap (λ x. made u.sections u.publics x t.alignments t.sizes t.bases t.values t.weaknesses t.current t.has_start) c
+    ∙ ap (λ x. made u.sections u.publics u.references x t.sizes t.bases t.values t.weaknesses t.current t.has_start) d
+    ∙ ap (λ x. made u.sections u.publics u.references u.alignments x t.bases t.values t.weaknesses t.current t.has_start) e
+    ∙ ap (λ x. made u.sections u.publics u.references u.alignments u.sizes x t.values t.weaknesses t.current t.has_start) f
+    ∙ ap (λ x. made u.sections u.publics u.references u.alignments u.sizes u.bases x t.weaknesses t.current t.has_start) g
+    ∙ ap (λ x. made u.sections u.publics u.references u.alignments u.sizes u.bases u.values x t.current t.has_start) h
+    ∙ ap (λ x. made u.sections u.publics u.references u.alignments u.sizes u.bases u.values u.weaknesses x t.has_start) i
+    ∙ ap (λ x. made u.sections u.publics u.references u.alignments u.sizes u.bases u.values u.weaknesses u.current x) j
+
+or_false : (b : Bool) → b ≡ (b || false)
+or_false true = refl
+or_false false = refl
+
+or_true : (b : Bool) → true ≡ (b || true)
+or_true true = refl
+or_true false = refl
+
+statements-append : (ps : List SpelledRecord) (p : SpelledRecord) → statements (ps ++ p ∷ []) ≡ statements ps ++ cons_option (assigned_by p.row) []
+statements-append ps p = filter_map-append (λ q. assigned_by q.row) ps (p ∷ [])
+
+stated : (f : Once → Option ℕ) (ps : List SpelledRecord) (p : SpelledRecord) → filter_map f (statements (ps ++ p ∷ [])) ≡ filter_map f (statements ps) ++ filter_map f (cons_option (assigned_by p.row) [])
+stated f ps p = ap (filter_map f) (statements-append ps p) ∙ filter_map-append f (statements ps) (cons_option (assigned_by p.row) [])
+
+tables-append : (ps : List SpelledRecord) (p : SpelledRecord) → tables_of (ps ++ p ∷ []) ≡ grown (tables_of ps) p.row
+unfolding grown
+tables-append ps p = same_tables (tables_of (ps ++ p ∷ [])) (grown (tables_of ps) p.row)
+    (filter_map-append (λ q. of_kind section (declared_by q.row)) ps (p ∷ []))
+    (filter_map-append (λ q. of_kind public (declared_by q.row)) ps (p ∷ []))
+    (filter_map-append (λ q. of_kind reference (declared_by q.row)) ps (p ∷ []))
+    (stated alignment_stated ps p)
+    (stated size_stated ps p)
+    (stated base_stated ps p)
+    (stated value_stated ps p)
+    (stated weakness_stated ps p)
+    (ap (last_or None) (filter_map-append (λ q. set_by q.row) ps (p ∷ [])) ∙ last-append None (filter_map (λ q. set_by q.row) ps) (cons_option (set_by p.row) []))
+    (ap (list_any (is_same_statement start_address)) (statements-append ps p) ∙ list_any-append (is_same_statement start_address) (statements ps) (cons_option (assigned_by p.row) []))
+
+with-grown : (t : Tables) (row : Record) → with_row t row ≡ grown t row
+unfolding grown
+with-grown t (r.ModuleBegin a b) = same_tables (with_row t (r.ModuleBegin a b)) (grown t (r.ModuleBegin a b)) (sym (append-nil t.sections)) (sym (append-nil t.publics)) (sym (append-nil t.references)) (sym (append-nil t.alignments)) (sym (append-nil t.sizes)) (sym (append-nil t.bases)) (sym (append-nil t.values)) (sym (append-nil t.weaknesses)) refl (or_false t.has_start)
+with-grown t (r.Descriptor a b c) = same_tables (with_row t (r.Descriptor a b c)) (grown t (r.Descriptor a b c)) (sym (append-nil t.sections)) (sym (append-nil t.publics)) (sym (append-nil t.references)) (sym (append-nil t.alignments)) (sym (append-nil t.sizes)) (sym (append-nil t.bases)) (sym (append-nil t.values)) (sym (append-nil t.weaknesses)) refl (or_false t.has_start)
+with-grown t (r.Offset a b) = same_tables (with_row t (r.Offset a b)) (grown t (r.Offset a b)) (sym (append-nil t.sections)) (sym (append-nil t.publics)) (sym (append-nil t.references)) (sym (append-nil t.alignments)) (sym (append-nil t.sizes)) (sym (append-nil t.bases)) (sym (append-nil t.values)) (sym (append-nil t.weaknesses)) refl (or_false t.has_start)
+with-grown t r.ModuleEnd = same_tables (with_row t r.ModuleEnd) (grown t r.ModuleEnd) (sym (append-nil t.sections)) (sym (append-nil t.publics)) (sym (append-nil t.references)) (sym (append-nil t.alignments)) (sym (append-nil t.sizes)) (sym (append-nil t.bases)) (sym (append-nil t.values)) (sym (append-nil t.weaknesses)) refl (or_false t.has_start)
+with-grown t (r.SectionType a b c d e f g) = same_tables (with_row t (r.SectionType a b c d e f g)) (grown t (r.SectionType a b c d e f g)) refl (sym (append-nil t.publics)) (sym (append-nil t.references)) (sym (append-nil t.alignments)) (sym (append-nil t.sizes)) (sym (append-nil t.bases)) (sym (append-nil t.values)) (sym (append-nil t.weaknesses)) refl (or_false t.has_start)
+with-grown t (r.Alignment a b c) = same_tables (with_row t (r.Alignment a b c)) (grown t (r.Alignment a b c)) (sym (append-nil t.sections)) (sym (append-nil t.publics)) (sym (append-nil t.references)) refl (sym (append-nil t.sizes)) (sym (append-nil t.bases)) (sym (append-nil t.values)) (sym (append-nil t.weaknesses)) refl (or_false t.has_start)
+with-grown t (r.SectionSize a b) = same_tables (with_row t (r.SectionSize a b)) (grown t (r.SectionSize a b)) (sym (append-nil t.sections)) (sym (append-nil t.publics)) (sym (append-nil t.references)) (sym (append-nil t.alignments)) refl (sym (append-nil t.bases)) (sym (append-nil t.values)) (sym (append-nil t.weaknesses)) refl (or_false t.has_start)
+with-grown t (r.SectionBase a b) = same_tables (with_row t (r.SectionBase a b)) (grown t (r.SectionBase a b)) (sym (append-nil t.sections)) (sym (append-nil t.publics)) (sym (append-nil t.references)) (sym (append-nil t.alignments)) (sym (append-nil t.sizes)) refl (sym (append-nil t.values)) (sym (append-nil t.weaknesses)) refl (or_false t.has_start)
+with-grown t (r.PublicName a b) = same_tables (with_row t (r.PublicName a b)) (grown t (r.PublicName a b)) (sym (append-nil t.sections)) refl (sym (append-nil t.references)) (sym (append-nil t.alignments)) (sym (append-nil t.sizes)) (sym (append-nil t.bases)) (sym (append-nil t.values)) (sym (append-nil t.weaknesses)) refl (or_false t.has_start)
+with-grown t (r.PublicValue a b) = same_tables (with_row t (r.PublicValue a b)) (grown t (r.PublicValue a b)) (sym (append-nil t.sections)) (sym (append-nil t.publics)) (sym (append-nil t.references)) (sym (append-nil t.alignments)) (sym (append-nil t.sizes)) (sym (append-nil t.bases)) refl (sym (append-nil t.weaknesses)) refl (or_false t.has_start)
+with-grown t (r.PublicNote a b c d) = same_tables (with_row t (r.PublicNote a b c d)) (grown t (r.PublicNote a b c d)) (sym (append-nil t.sections)) (sym (append-nil t.publics)) (sym (append-nil t.references)) (sym (append-nil t.alignments)) (sym (append-nil t.sizes)) (sym (append-nil t.bases)) (sym (append-nil t.values)) (sym (append-nil t.weaknesses)) refl (or_false t.has_start)
+with-grown t (r.ReferenceName a b) = same_tables (with_row t (r.ReferenceName a b)) (grown t (r.ReferenceName a b)) (sym (append-nil t.sections)) (sym (append-nil t.publics)) refl (sym (append-nil t.alignments)) (sym (append-nil t.sizes)) (sym (append-nil t.bases)) (sym (append-nil t.values)) (sym (append-nil t.weaknesses)) refl (or_false t.has_start)
+with-grown t (r.WeakReference a b c) = same_tables (with_row t (r.WeakReference a b c)) (grown t (r.WeakReference a b c)) (sym (append-nil t.sections)) (sym (append-nil t.publics)) (sym (append-nil t.references)) (sym (append-nil t.alignments)) (sym (append-nil t.sizes)) (sym (append-nil t.bases)) (sym (append-nil t.values)) refl refl (or_false t.has_start)
+with-grown t (r.ReferenceNote a b c d) = same_tables (with_row t (r.ReferenceNote a b c d)) (grown t (r.ReferenceNote a b c d)) (sym (append-nil t.sections)) (sym (append-nil t.publics)) (sym (append-nil t.references)) (sym (append-nil t.alignments)) (sym (append-nil t.sizes)) (sym (append-nil t.bases)) (sym (append-nil t.values)) (sym (append-nil t.weaknesses)) refl (or_false t.has_start)
+with-grown t (r.BlockBegin a b c d) = same_tables (with_row t (r.BlockBegin a b c d)) (grown t (r.BlockBegin a b c d)) (sym (append-nil t.sections)) (sym (append-nil t.publics)) (sym (append-nil t.references)) (sym (append-nil t.alignments)) (sym (append-nil t.sizes)) (sym (append-nil t.bases)) (sym (append-nil t.values)) (sym (append-nil t.weaknesses)) refl (or_false t.has_start)
+with-grown t (r.BlockEnd a) = same_tables (with_row t (r.BlockEnd a)) (grown t (r.BlockEnd a)) (sym (append-nil t.sections)) (sym (append-nil t.publics)) (sym (append-nil t.references)) (sym (append-nil t.alignments)) (sym (append-nil t.sizes)) (sym (append-nil t.bases)) (sym (append-nil t.values)) (sym (append-nil t.weaknesses)) refl (or_false t.has_start)
+with-grown t (r.DebugName a b) = same_tables (with_row t (r.DebugName a b)) (grown t (r.DebugName a b)) (sym (append-nil t.sections)) (sym (append-nil t.publics)) (sym (append-nil t.references)) (sym (append-nil t.alignments)) (sym (append-nil t.sizes)) (sym (append-nil t.bases)) (sym (append-nil t.values)) (sym (append-nil t.weaknesses)) refl (or_false t.has_start)
+with-grown t (r.DebugValue a b) = same_tables (with_row t (r.DebugValue a b)) (grown t (r.DebugValue a b)) (sym (append-nil t.sections)) (sym (append-nil t.publics)) (sym (append-nil t.references)) (sym (append-nil t.alignments)) (sym (append-nil t.sizes)) (sym (append-nil t.bases)) (sym (append-nil t.values)) (sym (append-nil t.weaknesses)) refl (or_false t.has_start)
+with-grown t (r.DebugNote a b c d) = same_tables (with_row t (r.DebugNote a b c d)) (grown t (r.DebugNote a b c d)) (sym (append-nil t.sections)) (sym (append-nil t.publics)) (sym (append-nil t.references)) (sym (append-nil t.alignments)) (sym (append-nil t.sizes)) (sym (append-nil t.bases)) (sym (append-nil t.values)) (sym (append-nil t.weaknesses)) refl (or_false t.has_start)
+with-grown t (r.SetSection a) = same_tables (with_row t (r.SetSection a)) (grown t (r.SetSection a)) (sym (append-nil t.sections)) (sym (append-nil t.publics)) (sym (append-nil t.references)) (sym (append-nil t.alignments)) (sym (append-nil t.sizes)) (sym (append-nil t.bases)) (sym (append-nil t.values)) (sym (append-nil t.weaknesses)) refl (or_false t.has_start)
+with-grown t (r.SetPc a b) = same_tables (with_row t (r.SetPc a b)) (grown t (r.SetPc a b)) (sym (append-nil t.sections)) (sym (append-nil t.publics)) (sym (append-nil t.references)) (sym (append-nil t.alignments)) (sym (append-nil t.sizes)) (sym (append-nil t.bases)) (sym (append-nil t.values)) (sym (append-nil t.weaknesses)) refl (or_false t.has_start)
+with-grown t (r.Constant a) = same_tables (with_row t (r.Constant a)) (grown t (r.Constant a)) (sym (append-nil t.sections)) (sym (append-nil t.publics)) (sym (append-nil t.references)) (sym (append-nil t.alignments)) (sym (append-nil t.sizes)) (sym (append-nil t.bases)) (sym (append-nil t.values)) (sym (append-nil t.weaknesses)) refl (or_false t.has_start)
+with-grown t r.Relocate = same_tables (with_row t r.Relocate) (grown t r.Relocate) (sym (append-nil t.sections)) (sym (append-nil t.publics)) (sym (append-nil t.references)) (sym (append-nil t.alignments)) (sym (append-nil t.sizes)) (sym (append-nil t.bases)) (sym (append-nil t.values)) (sym (append-nil t.weaknesses)) refl (or_false t.has_start)
+with-grown t (r.ConstantItem a) = same_tables (with_row t (r.ConstantItem a)) (grown t (r.ConstantItem a)) (sym (append-nil t.sections)) (sym (append-nil t.publics)) (sym (append-nil t.references)) (sym (append-nil t.alignments)) (sym (append-nil t.sizes)) (sym (append-nil t.bases)) (sym (append-nil t.values)) (sym (append-nil t.weaknesses)) refl (or_false t.has_start)
+with-grown t (r.FieldItem a b c) = same_tables (with_row t (r.FieldItem a b c)) (grown t (r.FieldItem a b c)) (sym (append-nil t.sections)) (sym (append-nil t.publics)) (sym (append-nil t.references)) (sym (append-nil t.alignments)) (sym (append-nil t.sizes)) (sym (append-nil t.bases)) (sym (append-nil t.values)) (sym (append-nil t.weaknesses)) refl (or_false t.has_start)
+with-grown t (r.RepeatConstant a b) = same_tables (with_row t (r.RepeatConstant a b)) (grown t (r.RepeatConstant a b)) (sym (append-nil t.sections)) (sym (append-nil t.publics)) (sym (append-nil t.references)) (sym (append-nil t.alignments)) (sym (append-nil t.sizes)) (sym (append-nil t.bases)) (sym (append-nil t.values)) (sym (append-nil t.weaknesses)) refl (or_false t.has_start)
+with-grown t (r.RepeatRelocate a) = same_tables (with_row t (r.RepeatRelocate a)) (grown t (r.RepeatRelocate a)) (sym (append-nil t.sections)) (sym (append-nil t.publics)) (sym (append-nil t.references)) (sym (append-nil t.alignments)) (sym (append-nil t.sizes)) (sym (append-nil t.bases)) (sym (append-nil t.values)) (sym (append-nil t.weaknesses)) refl (or_false t.has_start)
+with-grown t (r.Start a) = same_tables (with_row t (r.Start a)) (grown t (r.Start a)) (sym (append-nil t.sections)) (sym (append-nil t.publics)) (sym (append-nil t.references)) (sym (append-nil t.alignments)) (sym (append-nil t.sizes)) (sym (append-nil t.bases)) (sym (append-nil t.values)) (sym (append-nil t.weaknesses)) refl (or_true t.has_start)
+
+-- ---- open blocks
+
+open-append : (blocks : List OpenBlock) (a b : List OffsetRecord) → open_from blocks (a ++ b) ≡ open_from (open_from blocks a) b
+open-append blocks [] b = refl
+open-append blocks (p ∷ a) b = open-append (opened_after blocks p.0 p.1.row) a b
+
+none-opened : (start : ℕ) (row : Record) → stands_in debug_part row ≡ false → opened_after [] start row ≡ []
+none-opened start (r.ModuleBegin a b) plain = refl
+none-opened start (r.Descriptor a b c) plain = refl
+none-opened start (r.Offset a b) plain = refl
+none-opened start r.ModuleEnd plain = refl
+none-opened start (r.SectionType a b c d e f g) plain = refl
+none-opened start (r.Alignment a b c) plain = refl
+none-opened start (r.SectionSize a b) plain = refl
+none-opened start (r.SectionBase a b) plain = refl
+none-opened start (r.PublicName a b) plain = refl
+none-opened start (r.PublicValue a b) plain = refl
+none-opened start (r.PublicNote a b c d) plain = refl
+none-opened start (r.ReferenceName a b) plain = refl
+none-opened start (r.WeakReference a b c) plain = refl
+none-opened start (r.ReferenceNote a b c d) plain = refl
+none-opened start (r.BlockBegin a b c d) plain = absurd (true≢false plain)
+none-opened start (r.BlockEnd a) plain = refl
+none-opened start (r.DebugName a b) plain = refl
+none-opened start (r.DebugValue a b) plain = refl
+none-opened start (r.DebugNote a b c d) plain = refl
+none-opened start (r.SetSection a) plain = refl
+none-opened start (r.SetPc a b) plain = refl
+none-opened start (r.Constant a) plain = refl
+none-opened start r.Relocate plain = refl
+none-opened start (r.ConstantItem a) plain = refl
+none-opened start (r.FieldItem a b c) plain = refl
+none-opened start (r.RepeatConstant a b) plain = refl
+none-opened start (r.RepeatRelocate a) plain = refl
+none-opened start (r.Start a) plain = refl
+
+-- ---- the prefix
+
+all_snoc : {A : Type 0} (P : A → Type 0) (xs : List A) (x : A) → All P xs → P x → All P (xs ++ x ∷ [])
+all_snoc P xs x all one_ = All-append P xs (x ∷ []) all (λ k d below. subst P (sym (first k d below)) one_) where
+  first : (k : ℕ) (d : _) → k < 1 → get_or (x ∷ []) k d ≡ x
+  first zero d below = refl
+  first (suc k) d below = absurd (omega (arith, below))
+
+-- a record is added after a prefix
+pub prefix-add : (reads_debug : Bool) (f : Prefix) (prefix : List Step) (k : KeptRecord) → IsPrefixOf reads_debug f prefix → HasOwnParts k → 0 < length k.bytes → k.start ≡ f.size
+    → IsAddable reads_debug prefix k.row → KeepsBytes prefix (record_of_kept k) → IsPrefixOf reads_debug (with_record f k) (prefix ++ read (size_of prefix) (record_of_kept k) ∷ [])
+prefix-add reads_debug f prefix k is own some start fits keeps =
+    let p = record_of_kept k in
+    let more : List Step = read (size_of prefix) p ∷ [] in
+    let records : records_of (prefix ++ more) ≡ records_of prefix ++ p ∷ [] = filter_map-append record_of prefix more in
+    let offsets_named : offset_records_of (prefix ++ more) ≡ offset_records_of prefix ++ (size_of prefix, p) ∷ [] = filter_map-append offset_record prefix more in
+    let size : size_of (prefix ++ more) ≡ size_of prefix + length k.bytes = size-append prefix more ∙ ap (λ n. size_of prefix + n) (ap length (append-nil k.bytes)) in
+    let offsets : offsets_of (prefix ++ more) ≡ offsets_of prefix ++ cons_option (offset_in k.row) [] =
+    ap (λ ps. filter_map (λ q. offset_in q.row) ps) records ∙ filter_map-append (λ q. offset_in q.row) (records_of prefix) (p ∷ []) in
+    record {
+      kept = map-append placed f.kept (k ∷ []) ∙ ap (λ ps. ps ++ placed k ∷ []) is.kept ∙ ap (λ n. offset_records_of prefix ++ (n, p) ∷ []) (start ∙ is.size) ∙ sym offsets_named;
+      own = all_snoc HasOwnParts f.kept k is.own own;
+      tables = ap (λ t. with_row t k.row) is.tables ∙ with-grown (tables_of (records_of prefix)) k.row ∙ sym (tables-append (records_of prefix) p) ∙ ap tables_of (sym records);
+      offsets = ap (λ os. os ++ cons_option (offset_in k.row) []) is.offsets ∙ sym offsets;
+      extension = is.extension ∙ sym keeps.extension;
+      environment = is.environment ∙ sym keeps.environment;
+      steps = ap (λ n. n + 1) is.steps ∙ sym (length-append prefix more);
+      size = ap (λ n. n + length k.bytes) is.size ∙ sym size;
+      few = omega (arith, is.few, some, size, length-append prefix more);
+      blocks = ap open_blocks offsets_named ∙ open-append [] (offset_records_of prefix) ((size_of prefix, p) ∷ []) ∙ ap (λ bs. opened_after bs (size_of prefix) k.row) is.blocks ∙ none-opened (size_of prefix) k.row fits.plain;
+      later = λ reads. subst (λ os. get_or os 4 0 ≡ 0) (sym offsets) (fits.later reads);
+      ordered = subst AreOrdered (sym offsets) (fits.ordered is.ordered);
+      count = ap length offsets ∙ keeps.count ∙ ap offset_count (sym (length-append prefix more));
+      begun = λ many. subst (λ (os : List ℕ). first_present os ≤ size_of (prefix ++ more)) (sym offsets) (omega (arith, size, keeps.begun (omega (arith, many, length-append prefix more))));
+    }
+
+-- ---- the last record
+
+records-placed : (prefix : List Step) → records_of prefix ≡ map (λ (p : OffsetRecord). p.1) (offset_records_of prefix)
+records-placed [] = refl
+records-placed (raw b ∷ prefix) = records-placed prefix
+records-placed (read start p ∷ prefix) = ap (λ ps. p ∷ ps) (records-placed prefix)
+
+last-map : {A B : Type 0} (f : A → B) (o : Option A) (xs : List A) → last_or (option_map f o) (map f xs) ≡ option_map f (last_or o xs)
+last-map f o [] = refl
+last-map f o (x ∷ xs) = last-map f (Some x) xs
+
+map-map : (ks : List KeptRecord) → map (λ (p : OffsetRecord). p.1) (map placed ks) ≡ map record_of_kept ks
+map-map [] = refl
+map-map (k ∷ ks) = ap (λ ps. record_of_kept k ∷ ps) (map-map ks)
+
+-- the last record of the prefix is the last that is kept
+pub last-spelled : (reads_debug : Bool) (f : Prefix) (prefix : List Step) → IsPrefixOf reads_debug f prefix → last_or None (records_of prefix) ≡ option_map record_of_kept (last_or None f.kept)
+last-spelled reads_debug f prefix is =
+    ap (last_or None) (records-placed prefix ∙ ap (map (λ (p : OffsetRecord). p.1)) (sym is.kept) ∙ map-map f.kept) ∙ last-map record_of_kept None f.kept
+
+last-at : {A : Type 0} (x : A) (xs : List A) (d : A) → last_or (Some x) xs ≡ Some (get_or (x ∷ xs) (length xs) d)
+last-at x [] d = refl
+last-at x (y ∷ ys) d = last-at y ys d
+
+-- the item at the last place is the last
+pub last-is : {A : Type 0} (xs : List A) (x : A) → 1 ≤ length xs → x ≡ get_or xs (length xs - 1) x → Some x ≡ last_or None xs
+last-is [] x some is = absurd (omega (arith, some))
+last-is (y ∷ ys) x some is =
+    let offset : length (y ∷ ys) - 1 ≡ length ys = omega arith in
+    ap Some (is ∙ ap (λ i. get_or (y ∷ ys) i x) offset) ∙ sym (last-at y ys x)
+
+-- whether items may stand
+pub items-prefix : (reads_debug : Bool) (f : Prefix) (prefix : List Step) (from : ℕ) (rest : List ℕ) → IsPrefixOf reads_debug f prefix
+    → (not (f.size == from) && (awaits_items (option_map record_of_kept (last_or None f.kept)) && begins_item rest)) ≡ (not (size_of prefix == from) && (awaits_items (last_or None (records_of prefix)) && begins_item rest))
+items-prefix reads_debug f prefix from rest is =
+    ap (λ n. not (n == from) && (awaits_items (option_map record_of_kept (last_or None f.kept)) && begins_item rest)) is.size
+    ∙ ap (λ o. not (size_of prefix == from) && (awaits_items o && begins_item rest)) (sym (last-spelled reads_debug f prefix is))
+
+-- whether the module has ended
+pub ended-prefix : (reads_debug : Bool) (f : Prefix) (prefix : List Step) (b : Bool) → IsPrefixOf reads_debug f prefix → b ≡ ends_with (option_map record_of_kept (last_or None f.kept)) → b ≡ is_ended prefix
+ended-prefix reads_debug f prefix b is same = same ∙ ap ends_with (sym (last-spelled reads_debug f prefix is))
+
+-- none is kept
+pub none-own : (kept : List KeptRecord) → kept ≡ [] → All HasOwnParts kept
+none-own kept none = subst (All HasOwnParts) (sym none) (λ k d below. absurd (omega (arith, below)))

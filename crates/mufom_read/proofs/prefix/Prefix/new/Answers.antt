@@ -1,0 +1,22 @@
+use Rattle.std.proofs.Common.{refl, ap, arith, map}
+use Rattle.mufom_read.specs.Kept.{placed}
+use Rattle.mufom_read.proofs.PrefixLaws.{none-own}
+use Rattle.mufom_read.proofs.prefix.Prefix.new.Goals as goal
+
+pub returns : goal.returns
+returns c = λ reads_debug. record {
+  kept = ap (map placed) c.new.ensures;
+  own = none-own _ c.new.ensures;
+  tables = c.new-2.ensures;
+  offsets = c.new-3.ensures;
+  extension = c.new-4.ensures;
+  environment = c.new-5.ensures;
+  steps = refl;
+  size = refl;
+  few = omega arith;
+  blocks = refl;
+  later = λ reads. refl;
+  ordered = tt;
+  count = refl;
+  begun = λ many. omega (arith, many);
+}

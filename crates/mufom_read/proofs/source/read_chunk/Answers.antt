@@ -1,0 +1,21 @@
+use Rattle.std.proofs.Common.{◌∙◌, sym, ap, subst, arith, ℕ, Result, Err}
+use Rattle.std.proofs.lemmas.Result.{err_from_is_err_and}
+use Rattle.mufom_read.specs.declared.source.SourceStop.{SourceStop}
+use Rattle.mufom_read.specs.Source.{HasReadChunk}
+use Rattle.mufom_read.proofs.SourceLaws.{chunk-stopped, chunk-read}
+use Rattle.mufom_read.proofs.source.read_chunk.Goals as goal
+
+pub returns-in_err-feed_within-in-Ok-clause-read : goal.returns-in_err-feed_within-in-Ok-clause-read
+returns-in_err-feed_within-in-Ok-clause-read g c = λ stream has.
+    let before = (g.S.World.meaning c.args.source.now).left in
+    let after = (g.S.World.meaning c.read.new.self).left in
+    let p = err_from_is_err_and c.from_residual.result c.from_residual.ensures.1 in
+    subst (λ (r : Result ℕ SourceStop). HasReadChunk c.args.room before after stream c.feed_within.new.reader r) (sym (p.1 ∙ ap Err p.2))
+    (chunk-stopped c.args.room c.in-Ok.count before after stream c.read.new.buffer c.feed_within.new.reader c.in_err-feed_within-in-Ok.field-0.0 c.in-Ok.ensures.bytes (c.in_err-feed_within-in-Ok.ensures.fed stream has))
+
+pub returns-in_ok-feed_within-in-Ok-clause-read : goal.returns-in_ok-feed_within-in-Ok-clause-read
+returns-in_ok-feed_within-in-Ok-clause-read g c = λ stream has.
+    let before = (g.S.World.meaning c.args.source.now).left in
+    let after = (g.S.World.meaning c.read.new.self).left in
+    chunk-read c.args.room c.in-Ok.count before after stream c.read.new.buffer c.feed_within.new.reader c.in_ok-feed_within-in-Ok.field-0 c.in-Ok.ensures.bytes c.in-Ok.ensures.bound (omega (arith, c.requires, c.read.auto.buffer))
+    (c.in_ok-feed_within-in-Ok.ensures.fed stream has)

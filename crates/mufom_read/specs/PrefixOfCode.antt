@@ -1,0 +1,182 @@
+-- What the code keeps of a prefix, and which prefix that is.
+use Rattle.std.specs.Prelude.{◌≡◌, ◌≢◌, ◌⊎◌, ℕ, ◌+◌, ◌-◌, ◌<◌, ◌≤◌, nat_lt, nat_le, min, Bool, true, false, List, [], ◌∷◌, ◌++◌, length, map, take, drop, All, None, Some, is_some, if◌then◌else◌}
+use Rattle.std.specs.List.{cons_option}
+use Rattle.std.specs.Prelude.{slice_index_or as get_or}
+use Rattle.mufom_records.specs.declared.record.Mode.{Mode}
+use Rattle.mufom_records.specs.declared.record.Mode.TheVariants as mode
+use Rattle.mufom_records.specs.declared.record.Record.{Record}
+use Rattle.mufom_records.specs.declared.record.Record.TheVariants as r
+use Rattle.mufom_module.specs.SpelledRecords.{SpelledRecord}
+use Rattle.mufom_numbers.specs.declared.taken.Taken.{Taken}
+use Rattle.mufom_numbers.specs.declared.taken.Taken.TheVariants.{Got, More}
+use Rattle.mufom_module.specs.RecordParts.{Part, extension_part, environment_part, debug_part, stands_in}
+use Rattle.mufom_module.specs.Grammar.{offset_in}
+use Rattle.mufom_read.specs.declared.kept.KeptRecord.{KeptRecord}
+use Rattle.mufom_read.specs.declared.prefix.Prefix.{Prefix}
+use Rattle.mufom_read.specs.declared.prefix.Location as code
+use Rattle.mufom_read.specs.declared.prefix.Location.TheVariants as offset
+use Rattle.mufom_read.specs.declared.part.Part as codes
+use Rattle.mufom_read.specs.declared.part.Part.TheVariants as part_of_code
+use Rattle.mufom_read.specs.declared.part.Extent as extents
+use Rattle.mufom_read.specs.declared.prefix.Next.{Next}
+use Rattle.mufom_read.specs.declared.prefix.Next.TheVariants as next
+use Rattle.mufom_read.specs.Prefixes.{Step, step_bytes, read, header_mode, body_mode, is_raw, location_after, size_of, records_of, offset_records_of, offsets_of, first_present, header_count, Location, in_header, in_part, at_end, next_step, is_ended}
+use Rattle.mufom_read.specs.Faults.{open_blocks, record_fault, step_fault, ended_part_fault, fault_after}
+use Rattle.mufom_read.specs.Judging.{IsSoundFrom}
+use Rattle.mufom_read.specs.Stated.{part_bytes}
+use Rattle.mufom_read.specs.PartsOfCode.{as_part, as_extent}
+use Rattle.mufom_read.specs.Kept.{tables_of, with_row, is_new, placed, HasOwnParts, as_fault}
+
+-- where the next byte stands
+abbrev pub as_location : code.Location → Location
+as_location (offset.Header k) = in_header k
+as_location (offset.Part e) = in_part (as_extent e)
+as_location offset.End = at_end
+
+-- each of the offsets that is not 0 is at least this
+abbrev pub AreFrom : ℕ → List ℕ → Type 0
+AreFrom w [] = Unit {0}
+AreFrom w (v ∷ offsets) = ((v ≡ 0) ⊎ (w ≤ v)) × AreFrom w offsets
+
+-- the offsets that are not 0 do not decrease
+abbrev pub AreOrdered : List ℕ → Type 0
+AreOrdered [] = Unit {0}
+AreOrdered (w ∷ offsets) = AreFrom w offsets × AreOrdered offsets
+
+-- how many offsets stand after the given number of records: those after MB and AD, at most eight
+abbrev pub offset_count : ℕ → ℕ
+offset_count n = min (n - 2) 8
+
+-- the bytes that a prefix has of a part; none before the header is whole
+abbrev pub bytes_so_far : Part → List Step → List ℕ
+bytes_so_far part prefix = if nat_lt (length prefix) header_count then [] else part_bytes part prefix
+
+-- The code keeps this prefix: its records, what they declare and state once, the offsets of the header, the bytes of the
+-- extension and of the environment, and how many steps and bytes there are. No debug block is open, and a debug part that
+-- would be read is absent. After the header the first part has begun.
+pub record IsPrefixOf (reads_debug : Bool) (f : Prefix) (prefix : List Step) : Type 0 where
+  pub kept : map placed f.kept ≡ offset_records_of prefix
+  pub own : All HasOwnParts f.kept
+  pub tables : f.tables ≡ tables_of (records_of prefix)
+  pub offsets : f.offsets ≡ offsets_of prefix
+  pub extension : f.extension ≡ bytes_so_far extension_part prefix
+  pub environment : f.environment ≡ bytes_so_far environment_part prefix
+  pub steps : f.steps ≡ length prefix
+  pub size : f.size ≡ size_of prefix
+  pub few : length prefix ≤ size_of prefix
+  pub blocks : open_blocks (offset_records_of prefix) ≡ []
+  pub later : reads_debug ≡ true → get_or (offsets_of prefix) 4 0 ≡ 0
+  pub ordered : AreOrdered (offsets_of prefix)
+  pub count : length (offsets_of prefix) ≡ offset_count (length prefix)
+  pub begun : 10 ≤ length prefix → first_present (offsets_of prefix) ≤ size_of prefix
+
+-- the prefix with one more record
+abbrev pub with_record : Prefix → KeptRecord → Prefix
+with_record f k = record {
+  kept = f.kept ++ k ∷ [];
+  tables = with_row f.tables k.row;
+  offsets = f.offsets ++ cons_option (offset_in k.row) [];
+  extension = f.extension;
+  environment = f.environment;
+  steps = f.steps + 1;
+  size = f.size + length k.bytes;
+}
+
+-- what the record must be to be added after a prefix
+pub record IsAddable (reads_debug : Bool) (prefix : List Step) (row : Record) : Type 0 where
+  pub plain : stands_in debug_part row ≡ false
+  pub new : is_new (tables_of (records_of prefix)) row ≡ true
+  pub later : reads_debug ≡ true → get_or (offsets_of prefix ++ cons_option (offset_in row) []) 4 0 ≡ 0
+  pub ordered : AreOrdered (offsets_of prefix) → AreOrdered (offsets_of prefix ++ cons_option (offset_in row) [])
+
+-- a record of the header: MB, AD and ASW
+abbrev pub IsHeaderRow : Record → Type 0
+IsHeaderRow (r.ModuleBegin _ _) = Unit {0}
+IsHeaderRow (r.Descriptor _ _ _) = Unit {0}
+IsHeaderRow (r.Offset _ _) = Unit {0}
+IsHeaderRow _ = ⊥
+
+-- a record at its place: one of the header in it, which has an offset after the first two, and none in a debug part, which
+-- is not read yet
+abbrev pub IsPlacedWell : code.Location → Record → Type 0
+IsPlacedWell (offset.Header k) row = IsHeaderRow row × (is_some (offset_in row) ≡ nat_le 2 k)
+IsPlacedWell (offset.Part e) row = as_part e.part ≢ debug_part
+IsPlacedWell offset.End row = Unit {0}
+
+-- what must stand at a place, where these bytes stand
+abbrev pub mode_at : List Step → Location → List ℕ → Mode
+mode_at prefix (in_header k) rest = header_mode k
+mode_at prefix (in_part e) rest = body_mode prefix e rest
+mode_at prefix at_end rest = mode.Body
+
+-- What was done with a whole record after a prefix: it has no fault and was added, or it has this fault.
+abbrev pub HasTaken : Bool → List Step → SpelledRecord → Prefix → Next → Type 0
+HasTaken reads_debug prefix p new (next.Took n) = (n ≡ length p.bytes) × (record_fault reads_debug prefix (location_after prefix) (size_of prefix) p ≡ None)
+    × IsPrefixOf reads_debug new (prefix ++ read (size_of prefix) p ∷ [])
+HasTaken reads_debug prefix p new next.More = ⊥
+HasTaken reads_debug prefix p new (next.Refused f) = record_fault reads_debug prefix (location_after prefix) (size_of prefix) p ≡ Some (as_fault f)
+
+-- the place is in no debug part, which is not read yet
+abbrev pub IsNotDebug : code.Location → Type 0
+IsNotDebug (offset.Header k) = Unit {0}
+IsNotDebug (offset.Part e) = as_part e.part ≢ debug_part
+IsNotDebug offset.End = Unit {0}
+
+-- what stands at the place is read
+abbrev pub IsRead : Bool → code.Location → Type 0
+IsRead reads_debug (offset.Header k) = Unit {0}
+IsRead reads_debug (offset.Part e) = is_raw reads_debug (as_part e.part) ≡ false
+IsRead reads_debug offset.End = Unit {0}
+
+-- the place is in this part, whose bytes are not read
+abbrev pub IsRawPart : Bool → code.Location → extents.Extent → Type 0
+IsRawPart reads_debug at e = (at ≡ offset.Part e) × (is_raw reads_debug (as_part e.part) ≡ true)
+
+-- What was done with what stands after a prefix: a step without a fault was taken; or more bytes are wanted; or there is this fault.
+abbrev pub HasJudged : Bool → List Step → Taken Step → List ℕ → Prefix → Next → Type 0
+HasJudged reads_debug prefix stands rest new (next.Took n) = (step : Step) × (stands ≡ Got step n) × (length (step_bytes step) ≡ n) × (step_fault reads_debug prefix stands ≡ None)
+    × (0 < n) × (n ≤ length rest) × IsPrefixOf reads_debug new (prefix ++ step ∷ [])
+HasJudged reads_debug prefix stands rest new next.More = IsPrefixOf reads_debug new prefix × (stands ≡ More)
+HasJudged reads_debug prefix stands rest new (next.Refused f) = step_fault reads_debug prefix stands ≡ Some (as_fault f)
+
+-- of the bytes of a part, those that are of the extension
+abbrev pub extension_in : codes.Part → List ℕ → List ℕ
+extension_in part_of_code.Extension bytes = bytes
+extension_in _ bytes = []
+
+-- and those that are of the environment
+abbrev pub environment_in : codes.Part → List ℕ → List ℕ
+environment_in part_of_code.Environment bytes = bytes
+environment_in _ bytes = []
+
+-- The prefix has these bytes of a part more, which are not read: those of the extension and of the environment are kept.
+pub record HasRaw (old : Prefix) (part : codes.Part) (bytes : List ℕ) (new : Prefix) : Type 0 where
+  pub kept : new.kept ≡ old.kept
+  pub tables : new.tables ≡ old.tables
+  pub offsets : new.offsets ≡ old.offsets
+  pub extension : new.extension ≡ old.extension ++ extension_in part bytes
+  pub environment : new.environment ≡ old.environment ++ environment_in part bytes
+  pub steps : new.steps ≡ old.steps + length bytes
+  pub size : new.size ≡ old.size + length bytes
+
+-- bytes that are not read were taken of a part, as many as there are of those up to the part's end
+abbrev pub HasSkipped : Prefix → codes.Part → ℕ → List ℕ → Prefix → Next → Type 0
+HasSkipped old part most rest new (next.Took n) = (n ≡ min most (length rest)) × (0 < n) × HasRaw old part (take n rest) new
+HasSkipped old part most rest new next.More = (rest ≡ []) × (new ≡ old)
+HasSkipped old part most rest new (next.Refused f) = ⊥
+
+-- What was done with the next step after a prefix: steps without a fault were taken; or more bytes are wanted; or there is this fault.
+abbrev pub IsStepTaken : Bool → List Step → List ℕ → Prefix → Next → Type 0
+IsStepTaken reads_debug prefix rest new (next.Took n) = (steps : List Step) × IsPrefixOf reads_debug new (prefix ++ steps) × IsSoundFrom reads_debug prefix steps rest
+    × (size_of steps ≡ n) × (0 < n) × (n ≤ length rest)
+IsStepTaken reads_debug prefix rest new next.More = IsPrefixOf reads_debug new prefix × (next_step reads_debug prefix rest ≡ More)
+IsStepTaken reads_debug prefix rest new (next.Refused f) = step_fault reads_debug prefix (next_step reads_debug prefix rest) ≡ Some (as_fault f)
+
+-- What a step has done after a prefix where these bytes stand: it took steps without a fault; or it found that more bytes
+-- are wanted; or it found a fault, maybe after steps without one.
+abbrev pub HasAdvanced : Bool → List Step → List ℕ → Prefix → Next → Type 0
+HasAdvanced reads_debug prefix rest new (next.Took n) = (steps : List Step) × IsPrefixOf reads_debug new (prefix ++ steps) × IsSoundFrom reads_debug prefix steps rest
+    × (size_of steps ≡ n) × (0 < n) × (n ≤ length rest) × (is_ended (prefix ++ steps) ≡ false → ended_part_fault (prefix ++ steps) ≡ None)
+HasAdvanced reads_debug prefix rest new next.More = IsPrefixOf reads_debug new prefix × (next_step reads_debug prefix rest ≡ More)
+HasAdvanced reads_debug prefix rest new (next.Refused f) = (steps : List Step) × IsSoundFrom reads_debug prefix steps rest × (is_ended (prefix ++ steps) ≡ false)
+    × (fault_after reads_debug (prefix ++ steps) (drop (size_of steps) rest) ≡ Some (as_fault f))

@@ -1,0 +1,497 @@
+//! The records and unread bytes with which a stream begins, and the step after them.
+
+ghost use Rattle.std.specs.Prelude.{◌≡◌, ◌≢◌, ◌+◌, ◌-◌, ◌≤◌, ◌<◌, [], ◌++◌, ℕ, Bool, true, false, ◌==◌, ◌&&◌, not, if◌then◌else◌, Some, OnOk, List, length, take, None, option_map, IfOk, All, MatchOption};
+ghost use Rattle.std.specs.List.{last_or, cons_option};
+ghost use Rattle.mufom_module.specs.SpelledRecords as records;
+ghost use Rattle.mufom_module.specs.RecordParts as parts;
+ghost use Rattle.mufom_read.specs.Prefixes as prefixes;
+ghost use Rattle.mufom_read.specs.Faults as faults;
+ghost use Rattle.mufom_read.specs.PartsOfCode.{as_part, as_extent};
+ghost use Rattle.mufom_read.specs.Kept.{record_of_kept, kept_record, HasOwnParts, HasRoom, is_new, as_fault};
+ghost use Rattle.mufom_read.specs.PrefixOfCode.{IsPrefixOf, IsRead, IsRawPart, IsNotDebug, HasJudged, HasRaw, HasSkipped, IsPlacedWell, with_record, as_location, mode_at, HasTaken, IsStepTaken, HasAdvanced};
+ghost use Rattle.mufom_read.specs.declared.prefix.Next.TheVariants as nexts;
+ghost use Rattle.mufom_records.specs.Reading.{record_at};
+ghost use Rattle.mufom_records.specs.declared.record.Mode.TheVariants as modes;
+ghost use Rattle.mufom_module.specs.Grammar.{offset_in, file_limit};
+
+use crate::header::header_fault;
+use crate::kept::KeptRecord;
+use crate::part::{Extent, Part, is_raw, part_at, stands_in};
+use crate::refusal::ReadRefusal;
+use crate::rules::rule_broken;
+use crate::tables::Tables;
+use crate::whole::whole_fault;
+use mufom_expr::Postfix;
+use mufom_numbers::{Bytes, List, NoMemory, Reason, Taken};
+use mufom_records::{Mode, Record, next_record};
+use std::alloc::Global;
+
+/// How many records the header has.
+pub(crate) const HEADER_COUNT: u64 = 10;
+
+/// What was judged of a stream so far, and has no fault.
+#[derive(Debug, Drop)]
+pub(crate) struct Prefix {
+    pub kept: List<KeptRecord>,
+    pub tables: Tables,
+    /// The offsets of the header, as far as they stand.
+    pub offsets: List<u64>,
+    pub extension: Bytes,
+    pub environment: Bytes,
+    /// How many records and unread bytes there are.
+    pub steps: u64,
+    /// How many bytes there are.
+    pub size: u64,
+}
+
+/// Where the next byte stands.
+#[derive(Clone, Copy, Debug, PartialEq, Eq)]
+pub(crate) enum Location {
+    /// In the header, after the given number of records.
+    Header(u8),
+    Part(Extent),
+    /// Where the end of the module must stand.
+    End,
+}
+
+/// What stands after a prefix.
+#[derive(Clone, Copy, Debug, PartialEq, Eq)]
+pub(crate) enum Next {
+    /// The given number of bytes, which the prefix now has too.
+    Took(usize),
+    /// More bytes are wanted.
+    More,
+    Refused(ReadRefusal),
+}
+
+// The first bytes of these, as counted.
+fn prefix_of(bytes: &[u8], count: usize) -> &[u8]
+    requires { count ≤ length bytes.now }
+    ensures { result.now ≡ take count bytes.now }
+{
+    &bytes[..count]
+}
+
+// Whether a number or an opening bracket begins the bytes, as an item of LR begins.
+fn begins_item(rest: &[u8]) -> bool
+    ensures { result ≡ parts.begins_item rest.now }
+{
+    match rest {
+        [] => false,
+        [0x00..=0x88, ..] => true,
+        [0xBA | 0xBC | 0xBE, ..] => true,
+        _ => false,
+    }
+}
+
+// Whether items may stand after the record.
+fn opens_items(record: &Record) -> bool
+    ensures { result ≡ parts.opens_items «record».now }
+{
+    match record {
+        Record::Relocate => true,
+        Record::RepeatRelocate(_) => true,
+        Record::ConstantItem(_) => true,
+        Record::FieldItem(..) => true,
+        _ => false,
+    }
+}
+
+// The record that must stand in the header after the given number.
+fn header_mode(count: u8) -> Mode
+    ensures { result ≡ prefixes.header_mode count }
+{
+    match count {
+        0 => Mode::Begin,
+        1 => Mode::Descriptor,
+        _ => Mode::Offset(count - 2),
+    }
+}
+
+// Adds the offset that a record of the header gives, if it gives one.
+fn add_offset(offsets: &mut List<u64>, record: &Record) -> Result<(), NoMemory>
+    ensures { OnOk result (offsets.new ≡ offsets.old ++ cons_option (offset_in «record».now) []) }
+{
+    match record {
+        Record::Offset(_, offset) => offsets.push(*offset),
+        _ => Ok(()),
+    }
+}
+
+// The part in which the place is, where its bytes are not read.
+fn raw_part(reads_debug: bool, place: Location) -> Option<Extent>
+    ensures { MatchOption result (IsRead reads_debug place) (IsRawPart reads_debug place) }
+{
+    match place {
+        Location::Header(_) => None,
+        Location::Part(extent) => {
+            if is_raw(reads_debug, extent.part) {
+                Some(extent)
+            } else {
+                None
+            }
+        }
+        Location::End => None,
+    }
+}
+
+fn body_mode(items: bool) -> Mode
+    ensures { result ≡ (if items then modes.Items else modes.Body) }
+{
+    if items { Mode::Items } else { Mode::Body }
+}
+
+// The first bytes of these, at most as counted.
+fn at_most(bytes: &[u8], count: u64) -> &[u8]
+    ensures { result.now ≡ take count bytes.now }
+{
+    if (bytes.len() as u64) <= count {
+        bytes
+    } else {
+        &bytes[..count as usize]
+    }
+}
+
+// Adds bytes at the end of others.
+fn append(bytes: &mut Bytes, more: &[u8]) -> Result<(), NoMemory>
+    ensures { OnOk result (bytes.new ≡ bytes.old ++ more.now) }
+{
+    for byte in more {
+        bytes.push(*byte)?;
+    }
+    Ok(())
+}
+
+// A record with a copy of its bytes.
+fn keep(alloc: Global, start: u64, row: Record, bytes: &[u8]) -> Result<KeptRecord, NoMemory>
+    ensures { IfOk result (λ kept. kept ≡ kept_record start row bytes.now) }
+{
+    let bytes = Bytes::from_slice(alloc, bytes)?;
+    Ok(KeptRecord { start, row, bytes })
+}
+
+impl Prefix {
+    /// The prefix of no bytes. Takes no memory.
+    pub(crate) fn new(alloc: Global) -> Prefix
+        ensures { (reads_debug : Bool) → IsPrefixOf reads_debug result [] }
+    {
+        Prefix {
+            kept: List::new(alloc),
+            tables: Tables::new(alloc),
+            offsets: List::new(alloc),
+            extension: Bytes::new(alloc),
+            environment: Bytes::new(alloc),
+            steps: 0,
+            size: 0,
+        }
+    }
+
+    // Where the byte after the prefix stands.
+    fn place(&self) -> Location
+        ensures { (reads_debug : Bool) (prefix : List prefixes.Step) → IsPrefixOf reads_debug self.now prefix → as_location result ≡ prefixes.location_after prefix }
+    {
+        if self.steps < HEADER_COUNT {
+            return Location::Header(self.steps as u8);
+        }
+        match part_at(self.offsets.as_slice(), self.size) {
+            Some(extent) => Location::Part(extent),
+            None => Location::End,
+        }
+    }
+
+    // The last record.
+    fn last(&self) -> Option<&KeptRecord>
+        ensures { option_map (λ k. k.now) result ≡ last_or None self.now.kept }
+    {
+        match self.kept.as_slice() {
+            [] => None,
+            [.., last] => Some(last),
+        }
+    }
+
+    // Whether items may stand after the last record.
+    fn awaits_items(&self) -> bool
+        ensures { result ≡ prefixes.awaits_items (option_map record_of_kept (last_or None self.now.kept)) }
+    {
+        match self.last() {
+            None => false,
+            Some(last) => opens_items(&last.row),
+        }
+    }
+
+    /// Whether the end of the module was read.
+    pub(crate) fn is_ended(&self) -> bool
+        ensures kept { result ≡ prefixes.ends_with (option_map record_of_kept (last_or None self.now.kept)) }
+        ensures prefix { (reads_debug : Bool) (prefix : List prefixes.Step) → IsPrefixOf reads_debug self.now prefix → result ≡ prefixes.is_ended prefix }
+    {
+        self.has_end()
+    }
+
+    // Whether the last record is the end of the module.
+    fn has_end(&self) -> bool
+        ensures { result ≡ prefixes.ends_with (option_map record_of_kept (last_or None self.now.kept)) }
+    {
+        match self.last() {
+            None => false,
+            Some(last) => matches!(last.row, Record::ModuleEnd),
+        }
+    }
+
+    // Whether an item may stand after the prefix in this part, and one does.
+    fn may_go_on(&self, extent: Extent, rest: &[u8]) -> bool
+        ensures { result ≡ (not (self.now.size == extent.from) && (prefixes.awaits_items (option_map record_of_kept (last_or None self.now.kept)) && parts.begins_item rest.now)) }
+    {
+        self.size != extent.from && self.awaits_items() && begins_item(rest)
+    }
+
+    // What must stand at a place, where these bytes stand.
+    fn mode(&self, place: Location, rest: &[u8]) -> Mode
+        ensures { (reads_debug : Bool) (prefix : List prefixes.Step) → IsPrefixOf reads_debug self.now prefix → result ≡ mode_at prefix (as_location place) rest.now }
+    {
+        match place {
+            Location::Header(count) => header_mode(count),
+            Location::Part(extent) => body_mode(self.may_go_on(extent, rest)),
+            Location::End => Mode::Body,
+        }
+    }
+
+    // The refusal of a record that begins after the prefix.
+    fn refused(&self, reason: Reason) -> Option<ReadRefusal>
+        ensures { option_map as_fault result ≡ Some (self.now.size, reason) }
+    {
+        Some(ReadRefusal {
+            place: self.size,
+            reason,
+        })
+    }
+
+    // The fault of a whole record in its part, with this expression, by the rules.
+    fn rule_fault(&self, record: &Record, tree: Option<&Postfix>) -> Option<ReadRefusal>
+        requires { parts.stands_in parts.debug_part «record».now ≡ false }
+        ensures { (reads_debug : Bool) (prefix : List prefixes.Step) (p : records.SpelledRecord) → IsPrefixOf reads_debug self.now prefix → p.row ≡ «record».now → records.tree_of_record p ≡ option_map (λ t. t.now) tree.entry
+            → option_map as_fault result ≡ faults.fault_for self.now.size (faults.rule_broken prefix p) }
+    {
+        match rule_broken(&self.tables, record, tree) {
+            None => None,
+            Some(reason) => self.refused(reason),
+        }
+    }
+
+    // The fault of a whole record in a part.
+    fn part_fault(
+        &self,
+        alloc: Global,
+        extent: Extent,
+        next: &KeptRecord,
+    ) -> Result<Option<ReadRefusal>, NoMemory>
+        requires own { HasOwnParts next.now }
+        requires fits { self.now.size + length next.now.bytes ≤ file_limit }
+        requires other { as_part extent.part ≢ parts.debug_part }
+        ensures { IfOk result (λ fault. (reads_debug : Bool) (prefix : List prefixes.Step) → IsPrefixOf reads_debug self.now prefix
+            → option_map as_fault fault ≡ faults.part_record_fault prefix (as_extent extent) self.now.size (record_of_kept next.now)) }
+    {
+        if self.size + next.bytes.len() as u64 > extent.to {
+            return Ok(self.refused(Reason::PartGap));
+        }
+        if !stands_in(extent.part, &next.row) {
+            return Ok(self.refused(Reason::WrongPart));
+        }
+        let tree = next.expression(alloc)?;
+        Ok(self.rule_fault(&next.row, tree.as_ref()))
+    }
+
+    // The fault of a whole record at its place.
+    fn record_fault(
+        &self,
+        alloc: Global,
+        reads_debug: bool,
+        place: Location,
+        next: &KeptRecord,
+    ) -> Result<Option<ReadRefusal>, NoMemory>
+        requires own { HasOwnParts next.now }
+        requires fits { self.now.size + length next.now.bytes ≤ file_limit }
+        requires placed { IsPlacedWell place next.now.row }
+        ensures { IfOk result (λ fault. (prefix : List prefixes.Step) → IsPrefixOf reads_debug self.now prefix
+            → option_map as_fault fault ≡ faults.record_fault reads_debug prefix (as_location place) self.now.size (record_of_kept next.now)) }
+    {
+        match place {
+            Location::Header(_) => {
+                let end = self.size + next.bytes.len() as u64;
+                let earlier = self.offsets.as_slice();
+                Ok(header_fault(reads_debug, earlier, &next.row, self.size, end))
+            }
+            Location::Part(extent) => self.part_fault(alloc, extent, next),
+            Location::End => {
+                if stands_in(Part::End, &next.row) {
+                    Ok(None)
+                } else {
+                    Ok(self.refused(Reason::WrongPart))
+                }
+            }
+        }
+    }
+
+    // Adds a record without a fault.
+    fn add(&mut self, next: KeptRecord) -> Result<(), NoMemory>
+        requires room { HasRoom self.old.tables }
+        requires new { is_new self.old.tables next.row ≡ true }
+        requires few { self.old.steps ≤ file_limit }
+        requires fits { self.old.size + length next.bytes ≤ file_limit }
+        ensures { OnOk result (self.new ≡ with_record self.old next) }
+    {
+        self.tables.add(&next.row)?;
+        add_offset(&mut self.offsets, &next.row)?;
+        self.steps += 1;
+        self.size += next.bytes.len() as u64;
+        self.kept.push(next)
+    }
+
+    // Judges the record that begins after the prefix, and adds it.
+    fn take(
+        &mut self,
+        alloc: Global,
+        reads_debug: bool,
+        place: Location,
+        next: KeptRecord,
+    ) -> Result<Next, NoMemory>
+        requires known { (prefix : List prefixes.Step) × IsPrefixOf reads_debug self.old prefix × (as_location place ≡ prefixes.location_after prefix) }
+        requires own { HasOwnParts next }
+        requires some { 0 < length next.bytes }
+        requires start { next.start ≡ self.old.size }
+        requires fits { self.old.size + length next.bytes ≤ file_limit }
+        requires placed { IsPlacedWell place next.row }
+        ensures { IfOk result (λ done. (prefix : List prefixes.Step) → IsPrefixOf reads_debug self.old prefix → as_location place ≡ prefixes.location_after prefix
+            → HasTaken reads_debug prefix (record_of_kept next) self.new done) }
+    {
+        let used = next.bytes.len();
+        match self.record_fault(alloc, reads_debug, place, &next)? {
+            Some(refusal) => Ok(Next::Refused(refusal)),
+            None => {
+                self.add(next)?;
+                Ok(Next::Took(used))
+            }
+        }
+    }
+
+    // Takes the record at the start of the rest.
+    fn read(
+        &mut self,
+        alloc: Global,
+        reads_debug: bool,
+        place: Location,
+        rest: &[u8],
+    ) -> Result<Next, NoMemory>
+        requires known { (prefix : List prefixes.Step) × IsPrefixOf reads_debug self.old prefix × (as_location place ≡ prefixes.location_after prefix) }
+        requires fits { self.old.size + length rest.now ≤ file_limit }
+        requires other { IsNotDebug place }
+        ensures { IfOk result (λ next. (prefix : List prefixes.Step) → IsPrefixOf reads_debug self.old prefix → as_location place ≡ prefixes.location_after prefix
+            → HasJudged reads_debug prefix (prefixes.as_step (prefixes.size_of prefix) rest.now (record_at (mode_at prefix (as_location place) rest.now) rest.now)) rest.now self.new next) }
+    {
+        match next_record(rest, self.mode(place, rest)) {
+            Taken::Got(record, used) => {
+                let next = keep(alloc, self.size, record, prefix_of(rest, used))?;
+                self.take(alloc, reads_debug, place, next)
+            }
+            Taken::More => Ok(Next::More),
+            Taken::Bad { offset, reason } => Ok(Next::Refused(ReadRefusal {
+                place: self.size + offset as u64,
+                reason,
+            })),
+        }
+    }
+
+    // Adds bytes that are not read, of this part.
+    fn add_raw(&mut self, part: Part, bytes: &[u8]) -> Result<(), NoMemory>
+        requires few { self.old.steps ≤ self.old.size }
+        requires fits { self.old.size + length bytes.now ≤ file_limit }
+        ensures { OnOk result (HasRaw self.old part bytes.now self.new) }
+    {
+        match part {
+            Part::Extension => append(&mut self.extension, bytes)?,
+            Part::Environment => append(&mut self.environment, bytes)?,
+            _ => {}
+        }
+        self.steps += bytes.len() as u64;
+        self.size += bytes.len() as u64;
+        Ok(())
+    }
+
+    // Takes bytes that are not read, as many of the part's as there are.
+    fn skip(&mut self, extent: Extent, rest: &[u8]) -> Result<Next, NoMemory>
+        requires few { self.old.steps ≤ self.old.size }
+        requires fits { self.old.size + length rest.now ≤ file_limit }
+        requires within { self.old.size < extent.to }
+        ensures { IfOk result (λ next. HasSkipped self.old extent.part (extent.to - self.old.size) rest.now self.new next) }
+    {
+        if rest.is_empty() {
+            return Ok(Next::More);
+        }
+        let bytes = at_most(rest, extent.to - self.size);
+        self.add_raw(extent.part, bytes)?;
+        Ok(Next::Took(bytes.len()))
+    }
+
+    /// The fault of the part that ends where the prefix does, as a whole, if one ends there.
+    fn ended_fault(&self, alloc: Global) -> Result<Option<ReadRefusal>, NoMemory>
+        requires known { All HasOwnParts self.now.kept }
+        ensures { IfOk result (λ fault. (reads_debug : Bool) (prefix : List prefixes.Step) → IsPrefixOf reads_debug self.now prefix → option_map as_fault fault ≡ faults.ended_part_fault prefix) }
+    {
+        match part_at(self.offsets.as_slice(), self.size.saturating_sub(1)) {
+            None => Ok(None),
+            Some(extent) => {
+                if extent.to == self.size {
+                    whole_fault(alloc, extent.part, &self.tables, self.kept.as_slice())
+                } else {
+                    Ok(None)
+                }
+            }
+        }
+    }
+
+    // Takes what stands after the prefix.
+    fn step(&mut self, alloc: Global, reads_debug: bool, rest: &[u8]) -> Result<Next, NoMemory>
+        requires known { (prefix : List prefixes.Step) × IsPrefixOf reads_debug self.old prefix }
+        requires fits { self.old.size + length rest.now ≤ file_limit }
+        ensures { IfOk result (λ next. (prefix : List prefixes.Step) → IsPrefixOf reads_debug self.old prefix → prefixes.is_ended prefix ≡ false → faults.ended_part_fault prefix ≡ None
+            → IsStepTaken reads_debug prefix rest.now self.new next) }
+    {
+        let place = self.place();
+        match raw_part(reads_debug, place) {
+            Some(extent) => self.skip(extent, rest),
+            None => self.read(alloc, reads_debug, place, rest),
+        }
+    }
+
+    /// Takes the next record, or bytes that are not read, and judges the part that ends after them.
+    pub(crate) fn advance(
+        &mut self,
+        alloc: Global,
+        reads_debug: bool,
+        rest: &[u8],
+    ) -> Result<Next, NoMemory>
+        requires known { (prefix : List prefixes.Step) × IsPrefixOf reads_debug self.old prefix × (prefixes.is_ended prefix ≡ false) × (faults.ended_part_fault prefix ≡ None) }
+        requires fits { self.old.size + length rest.now ≤ file_limit }
+        ensures { IfOk result (λ next. (prefix : List prefixes.Step) → IsPrefixOf reads_debug self.old prefix → prefixes.is_ended prefix ≡ false → faults.ended_part_fault prefix ≡ None
+            → HasAdvanced reads_debug prefix rest.now self.new next) }
+    {
+        match self.step(alloc, reads_debug, rest)? {
+            Next::Took(count) => self.judge_part(alloc, count),
+            Next::More => Ok(Next::More),
+            Next::Refused(refusal) => Ok(Next::Refused(refusal)),
+        }
+    }
+
+    // Judges the part that ends after the bytes that were taken, by their number, unless the module has ended.
+    fn judge_part(&self, alloc: Global, count: usize) -> Result<Next, NoMemory>
+        requires known { All HasOwnParts self.now.kept }
+        ensures { IfOk result (λ next. (reads_debug : Bool) (prefix : List prefixes.Step) (rest : List ℕ) → IsStepTaken reads_debug prefix rest self.now (nexts.Took count) → HasAdvanced reads_debug prefix rest self.now next) }
+    {
+        if self.is_ended() {
+            return Ok(Next::Took(count));
+        }
+        match self.ended_fault(alloc)? {
+            None => Ok(Next::Took(count)),
+            Some(refusal) => Ok(Next::Refused(refusal)),
+        }
+    }
+}
