@@ -1,0 +1,87 @@
+"""Tries the examples of docs/REFUSALS.md with the program.
+
+    python3 bench/refusals.py PROGRAM
+
+Makes each example of the tables, gives it to `check`, and compares the line on standard error with
+the row. The last line has the number of examples that hold and of those that do not; the status is
+0 where all hold.
+"""
+
+import os
+import re
+import subprocess
+import sys
+import tempfile
+
+TOP = os.path.dirname(os.path.dirname(os.path.abspath(__file__)))
+SAMPLE = open(os.path.join(TOP, "crates/mufom/data/a.695"), "rb").read()
+SECTIONS_END = 100
+# Where the four bytes of each part's offset stand in the sample.
+OFFSETS = {"external": 13 + 8 * 3 + 4, "debug": 13 + 8 * 4 + 4, "data": 13 + 8 * 5 + 4, "trailer": 13 + 8 * 6 + 4, "end": 13 + 8 * 7 + 4}
+
+
+def with_offset(data, part, value):
+    at = OFFSETS[part]
+    return data[:at] + value.to_bytes(4, "big") + data[at + 4:]
+
+
+def with_part(part, contents):
+    """The sample with one part after its sections, and no trailer."""
+    data = SAMPLE[:SECTIONS_END]
+    for other in ("data", "trailer"):
+        data = with_offset(data, other, 0)
+    data = with_offset(data, part, SECTIONS_END)
+    data = with_offset(data, "end", SECTIONS_END + len(contents))
+    return data + contents + b"\xE1"
+
+
+def file_of(example):
+    """The bytes of the file that an example stands for; None where it is none of the forms."""
+    kind, _, rest = example.partition(" ")
+    if kind == "byte":
+        at, _, byte = rest.partition(" = ")
+        return SAMPLE[:int(at)] + bytes.fromhex(byte) + SAMPLE[int(at) + 1:]
+    if kind == "first":
+        return SAMPLE[:int(rest)]
+    if kind == "and":
+        return SAMPLE + bytes.fromhex(rest)
+    if kind in ("data", "external", "debug"):
+        return with_part(kind, bytes.fromhex(rest))
+    return None
+
+
+def examples():
+    for line in open(os.path.join(TOP, "docs/REFUSALS.md")):
+        cells = [cell.strip() for cell in line.strip().strip("|").split("|")]
+        name = re.fullmatch(r"`([^`]*)`", cells[0])
+        if not name:
+            continue
+        if len(cells) == 5:
+            example = re.fullmatch(r"`([^`]*)` at (\d+)", cells[3])
+            if example and file_of(example.group(1)) is not None:
+                yield ["check", "x.695"], file_of(example.group(1)), "refused: file 0 at %s: %s" % (example.group(2), name.group(1))
+        elif len(cells) == 3:
+            example = re.fullmatch(r"`words ([^`]*)`", cells[2])
+            if example:
+                yield example.group(1).split(), None, name.group(1).replace(" N", " 0")
+
+
+def main():
+    program = os.path.abspath(sys.argv[1])
+    passed = failed = 0
+    with tempfile.TemporaryDirectory() as folder:
+        open(os.path.join(folder, "a.695"), "wb").write(SAMPLE)
+        for words, data, wanted in examples():
+            if data is not None:
+                open(os.path.join(folder, "x.695"), "wb").write(data)
+            run = subprocess.run([program, *words], cwd=folder, capture_output=True, text=True, check=False)
+            if run.stderr == wanted + "\n" and run.stdout == "":
+                passed += 1
+            else:
+                failed += 1
+                print("%s: wanted %r, got %r, %r" % (" ".join(words), wanted, run.stderr, run.stdout))
+    print("%d passed, %d failed" % (passed, failed))
+    sys.exit(1 if failed else 0)
+
+
+main()
