@@ -29,7 +29,8 @@ use std::alloc::Global;
 // The text of a plain module's image, or why there is none.
 fn located_text(alloc: Global, bytes: &[u8]) -> Result<Vec<u8>, Outcome>
     ensures text { IfOk result (λ text. (image : PlainImage) × IsPlainModule image bytes.now × (text.items ≡ dump_text image)) }
-    ensures stops { IfErr result (λ stop. ((refusal : ReadRefusal) × (stop ≡ Outcome.Refused (Refusal.Read 0 refusal)) × Refuses bytes.now refusal) ⊎ (stop ≡ Outcome.NoMemory)) }
+    ensures stops { IfErr result (λ stop. ((refusal : ReadRefusal) × (stop ≡ Outcome.Refused (Refusal.Read 0 refusal))
+        × Refuses bytes.now refusal) ⊎ (stop ≡ Outcome.NoMemory)) }
 {
     match judge(bytes) {
         Ok(image) => match image_text(alloc, &image) {
@@ -63,7 +64,8 @@ fn dump<H: Host>(alloc: Global, name: &str, host: &mut H) -> Outcome
 
 // Prints a line for each module; the answer is whose error line is not printed yet.
 fn print_lines<H: Host>(alloc: Global, modules: &[Module], host: &mut H) -> Outcome
-    ensures answer { IsPrinted (check_text modules.now) (H.meaning host.old).out (H.meaning host.new).out (H.faults host.old).writes (H.faults host.new).writes result }
+    ensures answer { IsPrinted (check_text modules.now) (H.meaning host.old).out (H.meaning host.new).out (H.faults host.old).writes
+        (H.faults host.new).writes result }
     ensures stays { KeepsAllButOut (H.meaning host.old) (H.meaning host.new) }
     ensures counts { KeepsAllButWrites (H.faults host.old) (H.faults host.new) }
     ensures later { (H.faults host.old).writes ≤ (H.faults host.new).writes }
@@ -80,7 +82,8 @@ fn print_lines<H: Host>(alloc: Global, modules: &[Module], host: &mut H) -> Outc
 // Prints the text of one module; the answer is whose error line is not printed yet.
 fn print_text<H: Host>(alloc: Global, modules: &[Module], host: &mut H) -> Outcome
     requires { length modules.now ≡ 1 }
-    ensures answer { IsPrinted (flat_map module_text modules.now) (H.meaning host.old).out (H.meaning host.new).out (H.faults host.old).writes (H.faults host.new).writes result }
+    ensures answer { IsPrinted (flat_map module_text modules.now) (H.meaning host.old).out (H.meaning host.new).out
+        (H.faults host.old).writes (H.faults host.new).writes result }
     ensures stays { KeepsAllButOut (H.meaning host.old) (H.meaning host.new) }
     ensures counts { KeepsAllButWrites (H.faults host.old) (H.faults host.new) }
     ensures later { (H.faults host.old).writes ≤ (H.faults host.new).writes }
@@ -109,7 +112,8 @@ fn check<H: Host>(alloc: Global, names: &[Text], reads_debug: bool, host: &mut H
 // Reads the one file of these names and prints its text; the answer is whose error line is not printed yet.
 fn show<H: Host>(alloc: Global, names: &[Text], reads_debug: bool, host: &mut H) -> Outcome
     requires { length names.now ≡ 1 }
-    ensures answer { Lists reads_debug (λ ms. flat_map module_text ms) names.now (H.meaning host.old) (H.meaning host.new) (H.faults host.old) (H.faults host.new) result }
+    ensures answer { Lists reads_debug (λ ms. flat_map module_text ms) names.now (H.meaning host.old) (H.meaning host.new)
+        (H.faults host.old) (H.faults host.new) result }
     ensures opened { OpensPrefix names.now (H.meaning host.old) (H.meaning host.new) result }
     ensures stays { ReadsAndPrints (H.meaning host.old) (H.meaning host.new) }
     ensures counts { NoneFalls (H.faults host.old) (H.faults host.new) }
@@ -187,7 +191,8 @@ fn run_command<H: Host>(alloc: Global, command: &Command, host: &mut H) -> Outco
     requires some { 1 ≤ length command.now.files }
     requires few { length command.now.files < 2 ^ 32 }
     requires one { takes_one_file command.now.verb ≡ true → length command.now.files ≡ 1 }
-    ensures answers { (words : List (List ℕ)) → answer_of words ≡ Ok command.now → Answers words (H.meaning host.old) (H.meaning host.new) (H.faults host.old) (H.faults host.new) result }
+    ensures answers { (words : List (List ℕ)) → answer_of words ≡ Ok command.now
+        → Answers words (H.meaning host.old) (H.meaning host.new) (H.faults host.old) (H.faults host.new) result }
     ensures stays { ReadsAndPrints (H.meaning host.old) (H.meaning host.new) }
     ensures counts { NoneFalls (H.faults host.old) (H.faults host.new) }
 {
@@ -203,7 +208,8 @@ fn run_command<H: Host>(alloc: Global, command: &Command, host: &mut H) -> Outco
 // What the words ask for is done; the answer is whose error line is not printed yet.
 fn answer<H: Host>(alloc: Global, words: &[String], host: &mut H) -> Outcome
     requires { length words.now < 2 ^ 32 }
-    ensures answers { Answers (map (λ word. string_bytes word) words.now) (H.meaning host.old) (H.meaning host.new) (H.faults host.old) (H.faults host.new) result }
+    ensures answers { Answers (map (λ word. string_bytes word) words.now) (H.meaning host.old) (H.meaning host.new) (H.faults host.old)
+        (H.faults host.new) result }
     ensures stays { ReadsAndPrints (H.meaning host.old) (H.meaning host.new) }
     ensures counts { NoneFalls (H.faults host.old) (H.faults host.new) }
 {
@@ -220,7 +226,8 @@ fn answer<H: Host>(alloc: Global, words: &[String], host: &mut H) -> Outcome
 pub fn run<H: Host>(alloc: Global, words: &[String], host: &mut H) -> Outcome
     requires { length words.now < 2 ^ 32 }
     // The answer is that of the words, of the files' bytes, and of the faults in this call.
-    ensures answers { Answers (map (λ word. string_bytes word) words.now) (H.meaning host.old) (H.meaning host.new) (H.faults host.old) (H.faults host.new) result }
+    ensures answers { Answers (map (λ word. string_bytes word) words.now) (H.meaning host.old) (H.meaning host.new) (H.faults host.old)
+        (H.faults host.new) result }
     // Every answer but Done complains its line.
     ensures complains { Complains (H.meaning host.old) (H.meaning host.new) (H.faults host.old) (H.faults host.new) result }
     // No file is made, and the files that may be opened stay.

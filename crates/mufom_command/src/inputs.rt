@@ -40,7 +40,8 @@ fn read_file<H: Host>(
 ) -> Result<(Module, u64), Outcome>
     requires { limit ≤ most_input_bytes }
     ensures read { IfOk result (λ read. FileHas name.now (H.meaning host.old).files (HasModule reads_debug limit read.0 read.1)) }
-    ensures stops { IfErr result (λ stop. FileStops reads_debug name.now file limit (H.meaning host.old).files (H.faults host.old) (H.faults host.new) stop) }
+    ensures stops { IfErr result
+        (λ stop. FileStops reads_debug name.now file limit (H.meaning host.old).files (H.faults host.old) (H.faults host.new) stop) }
     ensures opened { OnSome (H.meaning host.new).opened (GrowsBy (H.meaning host.old).opened (H.meaning host.new).opened (name.now ∷ [])) }
     ensures opens { IfOk result (λ read. GrowsBy (H.meaning host.old).opened (H.meaning host.new).opened (name.now ∷ [])) }
     ensures stays { KeepsAllButOpened (H.meaning host.old) (H.meaning host.new) }
@@ -67,7 +68,8 @@ pub(crate) fn read_files<H: Host>(
     ensures read { IfOk result (λ modules. IfSome (H.meaning host.old).files (λ files. ComeTo reads_debug files names.now (accepted modules))) }
     ensures count { IfOk result (λ modules. length modules ≡ length names.now) }
     ensures all { IfOk result (λ modules. GrowsBy (H.meaning host.old).opened (H.meaning host.new).opened names.now) }
-    ensures stops { IfErr result (λ stop. (text : List module_parts → List ℕ) → Lists reads_debug text names.now (H.meaning host.old) (H.meaning host.new) (H.faults host.old) (H.faults host.new) stop) }
+    ensures stops { IfErr result (λ stop. (text : List module_parts → List ℕ)
+        → Lists reads_debug text names.now (H.meaning host.old) (H.meaning host.new) (H.faults host.old) (H.faults host.new) stop) }
     ensures opened { IfErr result (λ stop. OpensPrefix names.now (H.meaning host.old) (H.meaning host.new) stop) }
     ensures stays { KeepsAllButOpened (H.meaning host.old) (H.meaning host.new) }
     ensures counts { KeepsAllButReads (H.faults host.old) (H.faults host.new) }

@@ -76,7 +76,8 @@ fn expected(section: u64, loads: u64, trailer: u64, end: u64) -> [Offset; 8]
 
 fn has_offsets(chain: &Chain<'_>) -> bool
     requires { chain.now.header_len + chain.now.section_len + chain.now.loads_len + chain.now.start_len < 2 ^ 64 }
-    ensures { IsTrue result ↔ HasOffsets (as_chain (as_header chain.now.header.bits chain.now.header.maus chain.now.header.offsets.items) chain.now.header_len chain.now.section chain.now.section_len
+    ensures { IsTrue result ↔ HasOffsets
+        (as_chain (as_header chain.now.header.bits chain.now.header.maus chain.now.header.offsets.items) chain.now.header_len chain.now.section chain.now.section_len
         (as_data chain.now.loads.section chain.now.loads.counter chain.now.loads.run.now) chain.now.loads_len chain.now.start chain.now.start_len) }
 {
     let section = chain.header_len;
@@ -89,9 +90,12 @@ fn has_offsets(chain: &Chain<'_>) -> bool
 // The image of a chain that is a module.
 fn image_of<'a>(chain: &Chain<'a>) -> Option<Image<'a>>
     requires { chain.now.header_len + chain.now.section_len + chain.now.loads_len + chain.now.start_len < 2 ^ 64 }
-    ensures some { IfSome result (λ image. Loads (as_chain (as_header chain.now.header.bits chain.now.header.maus chain.now.header.offsets.items) chain.now.header_len chain.now.section chain.now.section_len
+    ensures some { IfSome result
+        (λ image. Loads (as_chain
+        (as_header chain.now.header.bits chain.now.header.maus chain.now.header.offsets.items) chain.now.header_len chain.now.section chain.now.section_len
         (as_data chain.now.loads.section chain.now.loads.counter chain.now.loads.run.now) chain.now.loads_len chain.now.start chain.now.start_len) (as_image image.address image.bytes.now image.start)) }
-    ensures none { IsNone result → (image : PlainImage) → Loads (as_chain (as_header chain.now.header.bits chain.now.header.maus chain.now.header.offsets.items) chain.now.header_len chain.now.section chain.now.section_len
+    ensures none { IsNone result → (image : PlainImage)
+        → Loads (as_chain (as_header chain.now.header.bits chain.now.header.maus chain.now.header.offsets.items) chain.now.header_len chain.now.section chain.now.section_len
         (as_data chain.now.loads.section chain.now.loads.counter chain.now.loads.run.now) chain.now.loads_len chain.now.start chain.now.start_len) image → ⊥ }
 {
     let (section, loads) = (&chain.section, &chain.loads);

@@ -74,7 +74,8 @@ fn read_bytes<S: Source>(source: &mut S, buffer: &mut [u8], bytes: &mut Vec<u8>)
 /// Opens the file with this name, and reads its bytes, or more of them than are wanted.
 pub(crate) fn load<H: Host>(alloc: Global, name: &str, host: &mut H) -> Result<Vec<u8>, Outcome>
     ensures bytes { IfOk result (λ bytes. FileHas name.now (H.meaning host.old).files (λ all. IsEnoughOf all bytes.items)) }
-    ensures stops { IfErr result (λ stop. ((stop ≡ Outcome.ReadFault (Input.File 0)) × Rose (H.faults host.old).reads (H.faults host.new).reads) ⊎ (stop ≡ Outcome.NoMemory)) }
+    ensures stops { IfErr result (λ stop. ((stop ≡ Outcome.ReadFault (Input.File 0))
+        × Rose (H.faults host.old).reads (H.faults host.new).reads) ⊎ (stop ≡ Outcome.NoMemory)) }
     ensures opened { OnSome (H.meaning host.new).opened (GrowsBy (H.meaning host.old).opened (H.meaning host.new).opened (name.now ∷ [])) }
     ensures stays { KeepsAllButOpened (H.meaning host.old) (H.meaning host.new) }
     ensures counts { KeepsAllButReads (H.faults host.old) (H.faults host.new) }

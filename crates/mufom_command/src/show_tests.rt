@@ -9,8 +9,13 @@ use std::alloc::Global;
 use std::process::Abort;
 use std::test::Fail;
 
-const TEXT: &[u8] =
-    b"module \"A\" processor \"68000\" maus 4 order M\nsection 0 \"code\" ASP size 4 align 2 base 4096\nselect 0\ncounter 0 = 4096\nbytes 4 4E714E75\nstart = 4096\n";
+const TEXT: &[u8] = b"\
+      module \"A\" processor \"68000\" maus 4 order M\n\
+      section 0 \"code\" ASP size 4 align 2 base 4096\n\
+      select 0\n\
+      counter 0 = 4096\n\
+      bytes 4 4E714E75\n\
+      start = 4096\n";
 
 // A host with one file `a`, on which the writes with these numbers fail.
 fn host(alloc: Global, file: &[u8], writes: &[u64]) -> Result<MemHost, Fail> {

@@ -50,7 +50,22 @@ impl Model for MemHost {
 
     ghost Value = { Memory };
 
-    ghost view = { λ h. record { files = h.files.files; left = h.files.left; making = h.output.making; made = h.output.made; out = h.out.bytes; err = h.err.bytes; opened = h.opened.names; created = h.created.names; room = h.out.room; faults = faults_of h.counts; fail_reads = h.reads.failing; fail_writes = h.writes.failing; read_number = h.reads.number; write_number = h.writes.number } };
+    ghost view = { λ h. record {
+      files = h.files.files;
+      left = h.files.left;
+      making = h.output.making;
+      made = h.output.made;
+      out = h.out.bytes;
+      err = h.err.bytes;
+      opened = h.opened.names;
+      created = h.created.names;
+      room = h.out.room;
+      faults = faults_of h.counts;
+      fail_reads = h.reads.failing;
+      fail_writes = h.writes.failing;
+      read_number = h.reads.number;
+      write_number = h.writes.number;
+    } };
 
     ghost invariant = { λ h. HasOneRoom h.out.room h.err.room h.output.room h.opened.room h.created.room };
 }

@@ -20,5 +20,6 @@ pub fn string_spellings_exclude()
 pub fn shortest_spellings_are_read()
     ensures number { (n : ℕ) (rest : List ℕ) → n < 2 ^ 64 → number_at (shortest_number n ++ rest) ≡ Taken.Got n (length (shortest_number n)) }
     ensures string { (text rest : List ℕ) → length text < 2 ^ 16
-        → string_at (shortest_lead (length text) ++ (text ++ rest)) ≡ Taken.Got (record { start = length (shortest_lead (length text)); len = length text }) (length (shortest_lead (length text)) + length text) }
+        → string_at (shortest_lead (length text) ++ (text ++ rest)) ≡ Taken.Got
+        (record { start = length (shortest_lead (length text)); len = length text }) (length (shortest_lead (length text)) + length text) }
 {}

@@ -27,8 +27,10 @@ use std::alloc::Global;
 
 // The first record.
 fn begin_of(kept: &[KeptRecord]) -> &KeptRecord
-    requires { (begin descriptor : spelled_records.SpelledRecord) × (after : List spelled_records.SpelledRecord) × (map record_of_kept kept.now ≡ begin ∷ descriptor ∷ after) }
-    ensures first { (begin descriptor : spelled_records.SpelledRecord) (after : List spelled_records.SpelledRecord) → map record_of_kept kept.now ≡ begin ∷ descriptor ∷ after → record_of_kept result.now ≡ begin }
+    requires { (begin descriptor : spelled_records.SpelledRecord) × (after : List spelled_records.SpelledRecord)
+        × (map record_of_kept kept.now ≡ begin ∷ descriptor ∷ after) }
+    ensures first { (begin descriptor : spelled_records.SpelledRecord) (after : List spelled_records.SpelledRecord)
+        → map record_of_kept kept.now ≡ begin ∷ descriptor ∷ after → record_of_kept result.now ≡ begin }
     ensures own { All HasOwnParts kept.now → HasOwnParts result.now }
 {
     match kept {
@@ -39,8 +41,10 @@ fn begin_of(kept: &[KeptRecord]) -> &KeptRecord
 
 // The second record.
 fn descriptor_of(kept: &[KeptRecord]) -> &KeptRecord
-    requires { (begin descriptor : spelled_records.SpelledRecord) × (after : List spelled_records.SpelledRecord) × (map record_of_kept kept.now ≡ begin ∷ descriptor ∷ after) }
-    ensures { (begin descriptor : spelled_records.SpelledRecord) (after : List spelled_records.SpelledRecord) → map record_of_kept kept.now ≡ begin ∷ descriptor ∷ after → record_of_kept result.now ≡ descriptor }
+    requires { (begin descriptor : spelled_records.SpelledRecord) × (after : List spelled_records.SpelledRecord)
+        × (map record_of_kept kept.now ≡ begin ∷ descriptor ∷ after) }
+    ensures { (begin descriptor : spelled_records.SpelledRecord) (after : List spelled_records.SpelledRecord)
+        → map record_of_kept kept.now ≡ begin ∷ descriptor ∷ after → record_of_kept result.now ≡ descriptor }
 {
     match kept {
         [_, descriptor, ..] => descriptor,
@@ -52,7 +56,8 @@ fn descriptor_of(kept: &[KeptRecord]) -> &KeptRecord
 fn names_of(alloc: Global, begin: &KeptRecord) -> Result<(Bytes, Bytes), NoMemory>
     requires own { HasOwnParts begin.now }
     requires begins { (m : module_parts.Parts) × NamesModule m (record_of_kept begin.now) begin.now.row }
-    ensures { IfOk result (λ names. (m : module_parts.Parts) → NamesModule m (record_of_kept begin.now) begin.now.row → (names.0 ≡ m.processor) × (names.1 ≡ m.name)) }
+    ensures { IfOk result (λ names. (m : module_parts.Parts) → NamesModule m (record_of_kept begin.now) begin.now.row
+        → (names.0 ≡ m.processor) × (names.1 ≡ m.name)) }
 {
     match &begin.row {
         Record::ModuleBegin(processor, name) => {
@@ -186,7 +191,8 @@ fn assembled(parts: Parts) -> Module
 /// The module that a prefix states, which is sound, has ended, and is the whole stream.
 pub(crate) fn module_of(alloc: Global, prefix: Prefix) -> Result<Module, NoMemory>
     requires { (reads_debug : Bool) × (steps : List Step) × (bytes : List ℕ) × IsWhole reads_debug prefix steps bytes }
-    ensures { IfOk result (λ m. (reads_debug : Bool) (steps : List Step) (bytes : List ℕ) → IsWhole reads_debug prefix steps bytes → SpellsModule m bytes reads_debug) }
+    ensures { IfOk result (λ m. (reads_debug : Bool) (steps : List Step) (bytes : List ℕ) → IsWhole reads_debug prefix steps bytes
+        → SpellsModule m bytes reads_debug) }
 {
     let parts = parts_of(alloc, prefix)?;
     Ok(assembled(parts))

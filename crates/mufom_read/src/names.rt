@@ -58,7 +58,8 @@ fn value_of(
     values: &List<Postfix>,
     index: u32,
 ) -> Result<Postfix, NoMemory>
-    ensures { IfOk result (λ value. (part : List records.SpelledRecord) → tables.now ≡ tables_of part → values.now ≡ values_in part → value ≡ gathered.value_of (indexes_by tables.now) index part) }
+    ensures { IfOk result (λ value. (part : List records.SpelledRecord) → tables.now ≡ tables_of part → values.now ≡ values_in part
+        → value ≡ gathered.value_of (indexes_by tables.now) index part) }
 {
     match stated_at(&tables.values, values, index) {
         None => Postfix::constant(alloc, 0),
@@ -75,11 +76,16 @@ fn public_by(
     record: &KeptRecord,
 ) -> Result<Option<Public>, NoMemory>
     requires own { HasOwnParts «record».now }
-    requires groups { (notes : ℕ → List name_note.Note) × (more : List ℕ) × (into_iter_items groups.old ≡ map notes (cons_option (records.of_kind records.public (records.declared_by «record».now.row)) more)) }
-    ensures public { IfOk result (λ public. (part : List records.SpelledRecord) (more : List ℕ) → tables.now ≡ tables_of part → values.now ≡ values_in part
-        → into_iter_items groups.old ≡ map (λ i. notes_for named.Public i part) (cons_option (records.of_kind records.public (records.declared_by «record».now.row)) more)
+    requires groups { (notes : ℕ
+        → List name_note.Note) × (more : List ℕ)
+        × (into_iter_items groups.old ≡ map notes (cons_option (records.of_kind records.public (records.declared_by «record».now.row)) more)) }
+    ensures public { IfOk result (λ public. (part : List records.SpelledRecord) (more : List ℕ) → tables.now ≡ tables_of part
+        → values.now ≡ values_in part
+        → into_iter_items groups.old ≡ map (λ i. notes_for named.Public i part)
+        (cons_option (records.of_kind records.public (records.declared_by «record».now.row)) more)
         → public ≡ gathered.public_by (indexes_by tables.now) part (record_of_kept «record».now) «record».now.row) }
-    ensures groups { IfOk result (λ public. (notes : ℕ → List name_note.Note) (more : List ℕ) → into_iter_items groups.old ≡ map notes (cons_option (records.of_kind records.public (records.declared_by «record».now.row)) more)
+    ensures groups { IfOk result (λ public. (notes : ℕ → List name_note.Note) (more : List ℕ)
+        → into_iter_items groups.old ≡ map notes (cons_option (records.of_kind records.public (records.declared_by «record».now.row)) more)
         → into_iter_items groups.new ≡ map notes more) }
 {
     match &record.row {
@@ -149,11 +155,16 @@ fn reference_by(
     record: &KeptRecord,
 ) -> Result<Option<Reference>, NoMemory>
     requires own { HasOwnParts «record».now }
-    requires groups { (notes : ℕ → List name_note.Note) × (more : List ℕ) × (into_iter_items groups.old ≡ map notes (cons_option (records.of_kind records.reference (records.declared_by «record».now.row)) more)) }
-    ensures reference { IfOk result (λ reference. (part : List records.SpelledRecord) (more : List ℕ) → tables.now ≡ tables_of part → weaknesses.now ≡ gathered.answers weak_in part
-        → into_iter_items groups.old ≡ map (λ i. notes_for named.Reference i part) (cons_option (records.of_kind records.reference (records.declared_by «record».now.row)) more)
+    requires groups { (notes : ℕ
+        → List name_note.Note) × (more : List ℕ)
+        × (into_iter_items groups.old ≡ map notes (cons_option (records.of_kind records.reference (records.declared_by «record».now.row)) more)) }
+    ensures reference { IfOk result (λ reference. (part : List records.SpelledRecord) (more : List ℕ) → tables.now ≡ tables_of part
+        → weaknesses.now ≡ gathered.answers weak_in part
+        → into_iter_items groups.old ≡ map (λ i. notes_for named.Reference i part)
+        (cons_option (records.of_kind records.reference (records.declared_by «record».now.row)) more)
         → reference ≡ gathered.reference_by part (record_of_kept «record».now) «record».now.row) }
-    ensures groups { IfOk result (λ reference. (notes : ℕ → List name_note.Note) (more : List ℕ) → into_iter_items groups.old ≡ map notes (cons_option (records.of_kind records.reference (records.declared_by «record».now.row)) more)
+    ensures groups { IfOk result (λ reference. (notes : ℕ → List name_note.Note) (more : List ℕ)
+        → into_iter_items groups.old ≡ map notes (cons_option (records.of_kind records.reference (records.declared_by «record».now.row)) more)
         → into_iter_items groups.new ≡ map notes more) }
 {
     match &record.row {

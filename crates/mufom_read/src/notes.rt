@@ -84,7 +84,8 @@ fn add_note(
     note: Note,
 ) -> Result<(), NoMemory>
     requires { (notes : ℕ → List name_note.Note) × (groups.old.items ≡ map notes table.now) }
-    ensures { OnOk result ((notes : ℕ → List name_note.Note) → groups.old.items ≡ map notes table.now → groups.new.items ≡ map (notes_with index note notes) table.now) }
+    ensures { OnOk result ((notes : ℕ → List name_note.Note) → groups.old.items ≡ map notes table.now
+        → groups.new.items ≡ map (notes_with index note notes) table.now) }
 {
     match table.position(index) {
         None => Ok(()),
@@ -100,7 +101,8 @@ fn take_note(
     record: &Record,
 ) -> Result<(), NoMemory>
     requires { (notes : ℕ → List name_note.Note) × (groups.old.items ≡ map notes table.now) }
-    ensures { OnOk result ((notes : ℕ → List name_note.Note) → groups.old.items ≡ map notes table.now → groups.new.items ≡ map (λ i. notes i ++ cons_option (note_for named i «record».now) []) table.now) }
+    ensures { OnOk result ((notes : ℕ → List name_note.Note) → groups.old.items ≡ map notes table.now
+        → groups.new.items ≡ map (λ i. notes i ++ cons_option (note_for named i «record».now) []) table.now) }
 {
     match note_by(named, record)? {
         None => Ok(()),

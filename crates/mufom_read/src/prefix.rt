@@ -188,7 +188,8 @@ impl Prefix {
 
     // Where the byte after the prefix stands.
     fn place(&self) -> Location
-        ensures { (reads_debug : Bool) (prefix : List prefixes.Step) → IsPrefixOf reads_debug self.now prefix → as_location result ≡ prefixes.location_after prefix }
+        ensures { (reads_debug : Bool) (prefix : List prefixes.Step) → IsPrefixOf reads_debug self.now prefix
+            → as_location result ≡ prefixes.location_after prefix }
     {
         if self.steps < HEADER_COUNT {
             return Location::Header(self.steps as u8);
@@ -222,7 +223,8 @@ impl Prefix {
     /// Whether the end of the module was read.
     pub(crate) fn is_ended(&self) -> bool
         ensures kept { result ≡ prefixes.ends_with (option_map record_of_kept (last_or None self.now.kept)) }
-        ensures prefix { (reads_debug : Bool) (prefix : List prefixes.Step) → IsPrefixOf reads_debug self.now prefix → result ≡ prefixes.is_ended prefix }
+        ensures prefix { (reads_debug : Bool) (prefix : List prefixes.Step) → IsPrefixOf reads_debug self.now prefix
+            → result ≡ prefixes.is_ended prefix }
     {
         self.has_end()
     }
@@ -239,14 +241,16 @@ impl Prefix {
 
     // Whether an item may stand after the prefix in this part, and one does.
     fn may_go_on(&self, extent: Extent, rest: &[u8]) -> bool
-        ensures { result ≡ (not (self.now.size == extent.from) && (prefixes.awaits_items (option_map record_of_kept (last_or None self.now.kept)) && parts.begins_item rest.now)) }
+        ensures { result ≡ (not (self.now.size == extent.from) &&
+            (prefixes.awaits_items (option_map record_of_kept (last_or None self.now.kept)) && parts.begins_item rest.now)) }
     {
         self.size != extent.from && self.awaits_items() && begins_item(rest)
     }
 
     // What must stand at a place, where these bytes stand.
     fn mode(&self, place: Location, rest: &[u8]) -> Mode
-        ensures { (reads_debug : Bool) (prefix : List prefixes.Step) → IsPrefixOf reads_debug self.now prefix → result ≡ mode_at prefix (as_location place) rest.now }
+        ensures { (reads_debug : Bool) (prefix : List prefixes.Step) → IsPrefixOf reads_debug self.now prefix
+            → result ≡ mode_at prefix (as_location place) rest.now }
     {
         match place {
             Location::Header(count) => header_mode(count),
@@ -268,7 +272,8 @@ impl Prefix {
     // The fault of a whole record in its part, with this expression, by the rules.
     fn rule_fault(&self, record: &Record, tree: Option<&Postfix>) -> Option<ReadRefusal>
         requires { parts.stands_in parts.debug_part «record».now ≡ false }
-        ensures { (reads_debug : Bool) (prefix : List prefixes.Step) (p : records.SpelledRecord) → IsPrefixOf reads_debug self.now prefix → p.row ≡ «record».now → records.tree_of_record p ≡ option_map (λ t. t.now) tree.entry
+        ensures { (reads_debug : Bool) (prefix : List prefixes.Step) (p : records.SpelledRecord) → IsPrefixOf reads_debug self.now prefix
+            → p.row ≡ «record».now → records.tree_of_record p ≡ option_map (λ t. t.now) tree.entry
             → option_map as_fault result ≡ faults.fault_for self.now.size (faults.rule_broken prefix p) }
     {
         match rule_broken(&self.tables, record, tree) {
@@ -354,13 +359,15 @@ impl Prefix {
         place: Location,
         next: KeptRecord,
     ) -> Result<Next, NoMemory>
-        requires known { (prefix : List prefixes.Step) × IsPrefixOf reads_debug self.old prefix × (as_location place ≡ prefixes.location_after prefix) }
+        requires known { (prefix : List prefixes.Step) × IsPrefixOf reads_debug self.old prefix
+            × (as_location place ≡ prefixes.location_after prefix) }
         requires own { HasOwnParts next }
         requires some { 0 < length next.bytes }
         requires start { next.start ≡ self.old.size }
         requires fits { self.old.size + length next.bytes ≤ file_limit }
         requires placed { IsPlacedWell place next.row }
-        ensures { IfOk result (λ done. (prefix : List prefixes.Step) → IsPrefixOf reads_debug self.old prefix → as_location place ≡ prefixes.location_after prefix
+        ensures { IfOk result (λ done. (prefix : List prefixes.Step) → IsPrefixOf reads_debug self.old prefix
+            → as_location place ≡ prefixes.location_after prefix
             → HasTaken reads_debug prefix (record_of_kept next) self.new done) }
     {
         let used = next.bytes.len();
@@ -381,11 +388,15 @@ impl Prefix {
         place: Location,
         rest: &[u8],
     ) -> Result<Next, NoMemory>
-        requires known { (prefix : List prefixes.Step) × IsPrefixOf reads_debug self.old prefix × (as_location place ≡ prefixes.location_after prefix) }
+        requires known { (prefix : List prefixes.Step) × IsPrefixOf reads_debug self.old prefix
+            × (as_location place ≡ prefixes.location_after prefix) }
         requires fits { self.old.size + length rest.now ≤ file_limit }
         requires other { IsNotDebug place }
-        ensures { IfOk result (λ next. (prefix : List prefixes.Step) → IsPrefixOf reads_debug self.old prefix → as_location place ≡ prefixes.location_after prefix
-            → HasJudged reads_debug prefix (prefixes.as_step (prefixes.size_of prefix) rest.now (record_at (mode_at prefix (as_location place) rest.now) rest.now)) rest.now self.new next) }
+        ensures { IfOk result (λ next. (prefix : List prefixes.Step) → IsPrefixOf reads_debug self.old prefix
+            → as_location place ≡ prefixes.location_after prefix
+            → HasJudged reads_debug prefix
+            (prefixes.as_step (prefixes.size_of prefix) rest.now
+            (record_at (mode_at prefix (as_location place) rest.now) rest.now)) rest.now self.new next) }
     {
         match next_record(rest, self.mode(place, rest)) {
             Taken::Got(record, used) => {
@@ -434,7 +445,8 @@ impl Prefix {
     /// The fault of the part that ends where the prefix does, as a whole, if one ends there.
     fn ended_fault(&self, alloc: Global) -> Result<Option<ReadRefusal>, NoMemory>
         requires known { All HasOwnParts self.now.kept }
-        ensures { IfOk result (λ fault. (reads_debug : Bool) (prefix : List prefixes.Step) → IsPrefixOf reads_debug self.now prefix → option_map as_fault fault ≡ faults.ended_part_fault prefix) }
+        ensures { IfOk result (λ fault. (reads_debug : Bool) (prefix : List prefixes.Step) → IsPrefixOf reads_debug self.now prefix
+            → option_map as_fault fault ≡ faults.ended_part_fault prefix) }
     {
         match part_at(self.offsets.as_slice(), self.size.saturating_sub(1)) {
             None => Ok(None),
@@ -452,7 +464,8 @@ impl Prefix {
     fn step(&mut self, alloc: Global, reads_debug: bool, rest: &[u8]) -> Result<Next, NoMemory>
         requires known { (prefix : List prefixes.Step) × IsPrefixOf reads_debug self.old prefix }
         requires fits { self.old.size + length rest.now ≤ file_limit }
-        ensures { IfOk result (λ next. (prefix : List prefixes.Step) → IsPrefixOf reads_debug self.old prefix → prefixes.is_ended prefix ≡ false → faults.ended_part_fault prefix ≡ None
+        ensures { IfOk result (λ next. (prefix : List prefixes.Step) → IsPrefixOf reads_debug self.old prefix
+            → prefixes.is_ended prefix ≡ false → faults.ended_part_fault prefix ≡ None
             → IsStepTaken reads_debug prefix rest.now self.new next) }
     {
         let place = self.place();
@@ -469,9 +482,11 @@ impl Prefix {
         reads_debug: bool,
         rest: &[u8],
     ) -> Result<Next, NoMemory>
-        requires known { (prefix : List prefixes.Step) × IsPrefixOf reads_debug self.old prefix × (prefixes.is_ended prefix ≡ false) × (faults.ended_part_fault prefix ≡ None) }
+        requires known { (prefix : List prefixes.Step) × IsPrefixOf reads_debug self.old prefix × (prefixes.is_ended prefix ≡ false)
+            × (faults.ended_part_fault prefix ≡ None) }
         requires fits { self.old.size + length rest.now ≤ file_limit }
-        ensures { IfOk result (λ next. (prefix : List prefixes.Step) → IsPrefixOf reads_debug self.old prefix → prefixes.is_ended prefix ≡ false → faults.ended_part_fault prefix ≡ None
+        ensures { IfOk result (λ next. (prefix : List prefixes.Step) → IsPrefixOf reads_debug self.old prefix
+            → prefixes.is_ended prefix ≡ false → faults.ended_part_fault prefix ≡ None
             → HasAdvanced reads_debug prefix rest.now self.new next) }
     {
         match self.step(alloc, reads_debug, rest)? {
@@ -484,7 +499,8 @@ impl Prefix {
     // Judges the part that ends after the bytes that were taken, by their number, unless the module has ended.
     fn judge_part(&self, alloc: Global, count: usize) -> Result<Next, NoMemory>
         requires known { All HasOwnParts self.now.kept }
-        ensures { IfOk result (λ next. (reads_debug : Bool) (prefix : List prefixes.Step) (rest : List ℕ) → IsStepTaken reads_debug prefix rest self.now (nexts.Took count) → HasAdvanced reads_debug prefix rest self.now next) }
+        ensures { IfOk result (λ next. (reads_debug : Bool) (prefix : List prefixes.Step) (rest : List ℕ)
+            → IsStepTaken reads_debug prefix rest self.now (nexts.Took count) → HasAdvanced reads_debug prefix rest self.now next) }
     {
         if self.is_ended() {
             return Ok(Next::Took(count));

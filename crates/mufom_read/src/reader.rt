@@ -63,7 +63,8 @@ impl Reader {
         ensures stays { IsSome (reader_stop self.old) → self.new ≡ self.old }
         ensures reads_debug { reads_debug_of self.new ≡ reads_debug_of self.old }
         ensures refused { (place : ℕ) (reason : Reason) (stream : List ℕ) → HasRead self.old stream → reader_stop self.new ≢ Some ReadStop.NoMemory
-            → (result ≡ Err (ReadStop.Refused (record { place = place; reason = reason }))) ↔ IsRefusedAt (reads_debug_of self.old) (stream ++ chunk.now) place reason }
+            → (result ≡ Err (ReadStop.Refused (record { place = place; reason = reason }))) ↔ IsRefusedAt (reads_debug_of self.old)
+            (stream ++ chunk.now) place reason }
     {
         match self.state.stop {
             None => self.state.read_on(chunk),
@@ -78,9 +79,11 @@ impl Reader {
         // It weighs at most ten times the stream.
         ensures weighs { (stream : List ℕ) → HasRead self stream → IfOk result (λ m. weight m ≤ 10 * length stream) }
         // A module's file is read, unless memory runs out.
-        ensures module { (stream : List ℕ) (m : Parts) → HasRead self stream → IsModule (reads_debug_of self) stream m → result ≢ Err ReadStop.NoMemory → result ≡ Ok m }
+        ensures module { (stream : List ℕ) (m : Parts) → HasRead self stream → IsModule (reads_debug_of self) stream m
+            → result ≢ Err ReadStop.NoMemory → result ≡ Ok m }
         ensures refused { (place : ℕ) (reason : Reason) (stream : List ℕ) → HasRead self stream → result ≢ Err ReadStop.NoMemory
-            → (result ≡ Err (ReadStop.Refused (record { place = place; reason = reason }))) ↔ IsJudged (reads_debug_of self) stream (refusal place reason) }
+            → (result ≡ Err (ReadStop.Refused (record { place = place; reason = reason }))) ↔ IsJudged (reads_debug_of self) stream
+            (refusal place reason) }
     {
         let Reader { state } = self;
         if let Some(stop) = state.stop {
@@ -98,7 +101,8 @@ impl Reader {
 
     /// How many bytes stand after the whole records and the bytes that are not read. Takes no memory.
     pub fn pending(&self) -> usize
-        ensures exact { (stream : List ℕ) → HasRead self.now stream → reader_stop self.now ≡ None → IsPending (reads_debug_of self.now) stream result }
+        ensures exact { (stream : List ℕ) → HasRead self.now stream → reader_stop self.now ≡ None
+            → IsPending (reads_debug_of self.now) stream result }
         // Fewer than the longest record has, which is MB with two strings of 65,535 bytes.
         ensures small { reader_stop self.now ≡ None → result < 131077 }
     {

@@ -99,7 +99,8 @@ pub(crate) fn is_public_value(record: &Record) -> bool
 
 // Whether the expression of the record has such a variable, and is not to wait.
 fn has_unknown_variable_now(tables: &Tables, record: &Record, tree: Option<&Postfix>) -> bool
-    ensures { result ≡ (not (records.is_public_value «record».now) && any_of (λ e. list_any (is_unknown tables.now) (variables_of e)) (option_map (λ t. t.now) tree.entry)) }
+    ensures { result ≡ (not (records.is_public_value «record».now) && any_of (λ e. list_any (is_unknown tables.now) (variables_of e))
+        (option_map (λ t. t.now) tree.entry)) }
 {
     match tree {
         None => false,
@@ -236,7 +237,8 @@ pub(crate) fn rule_broken(
     tree: Option<&Postfix>,
 ) -> Option<Reason>
     requires { parts.stands_in parts.debug_part «record».now ≡ false }
-    ensures { (prefix : List Step) (p : records.SpelledRecord) → tables.now ≡ tables_of (records_of prefix) → p.row ≡ «record».now → records.tree_of_record p ≡ option_map (λ t. t.now) tree.entry → result ≡ faults.rule_broken prefix p }
+    ensures { (prefix : List Step) (p : records.SpelledRecord) → tables.now ≡ tables_of (records_of prefix) → p.row ≡ «record».now
+        → records.tree_of_record p ≡ option_map (λ t. t.now) tree.entry → result ≡ faults.rule_broken prefix p }
 {
     first_broken(tables, record, tree)
 }

@@ -70,7 +70,8 @@ fn read_chunk<S: Source>(
     room: u64,
 ) -> Result<usize, SourceStop>
     requires { 0 < length buffer.old }
-    ensures read { (stream : List ℕ) → HasRead reader.old stream → HasReadChunk room (S.meaning source.old).left (S.meaning source.new).left stream reader.new result }
+    ensures read { (stream : List ℕ) → HasRead reader.old stream
+        → HasReadChunk room (S.meaning source.old).left (S.meaning source.new).left stream reader.new result }
     ensures reads_debug { reads_debug_of reader.new ≡ reads_debug_of reader.old }
     ensures fault { result ≡ Err SourceStop.Fault → Rose (S.faults source.old).reads (S.faults source.new).reads }
     ensures stays { KeepsAllButLeft (S.meaning source.old) (S.meaning source.new) }
@@ -125,12 +126,15 @@ pub fn read_module<S: Source>(
     // Each answer but a fault and out of memory has its cause in the bytes that were left.
     ensures reads { ReadsModule reads_debug limit (S.meaning source.old).left (S.meaning source.new).left result }
     // The module of all bytes that were left, and how many they are; none is left then.
-    ensures ok { IfOk result (λ r. IfSome (S.meaning source.old).left (λ left. IsModule reads_debug left r.0 × (r.1 ≡ length left) × (r.1 ≤ limit) × ((S.meaning source.new).left ≡ Some []))) }
+    ensures ok { IfOk result (λ r. IfSome (S.meaning source.old).left (λ left. IsModule reads_debug left r.0 × (r.1 ≡ length left)
+        × (r.1 ≤ limit) × ((S.meaning source.new).left ≡ Some []))) }
     // Also where the source does not reveal what it has left.
     ensures weighs { IfOk result (λ r. (weight r.0 ≤ 10 * r.1) × (r.1 ≤ limit)) }
-    ensures refused { (place : ℕ) (reason : Reason) → IfSome (S.meaning source.old).left (λ left. result ≢ Err SourceStop.NoMemory → result ≢ Err SourceStop.Fault
+    ensures refused { (place : ℕ) (reason : Reason)
+        → IfSome (S.meaning source.old).left (λ left. result ≢ Err SourceStop.NoMemory → result ≢ Err SourceStop.Fault
         → (result ≡ Err (SourceStop.Refused (record { place = place; reason = reason }))) ↔ IsRefusedWithin reads_debug limit left place reason) }
-    ensures limit { IfSome (S.meaning source.old).left (λ left. result ≢ Err SourceStop.NoMemory → result ≢ Err SourceStop.Fault → (result ≡ Err SourceStop.Limit) ↔ IsPastLimit reads_debug limit left) }
+    ensures limit { IfSome (S.meaning source.old).left (λ left. result ≢ Err SourceStop.NoMemory → result ≢ Err SourceStop.Fault
+        → (result ≡ Err SourceStop.Limit) ↔ IsPastLimit reads_debug limit left) }
     ensures fault { result ≡ Err SourceStop.Fault → Rose (S.faults source.old).reads (S.faults source.new).reads }
     ensures stays { KeepsAllButLeft (S.meaning source.old) (S.meaning source.new) }
     ensures counts { KeepsAllButReads (S.faults source.old) (S.faults source.new) }

@@ -73,7 +73,8 @@ fn take_all(
 ) -> Result<usize, ReadStop>
     requires known { (before : List Step) × IsPrefixOf reads_debug prefix.old before × (is_ended before ≡ false → ended_part_fault before ≡ None) }
     requires fits { prefix.old.size + length rest.now ≤ file_limit }
-    ensures { (before : List Step) → IsPrefixOf reads_debug prefix.old before → (is_ended before ≡ false → ended_part_fault before ≡ None) → HasTakenAll reads_debug before rest.now prefix.new result }
+    ensures { (before : List Step) → IsPrefixOf reads_debug prefix.old before → (is_ended before ≡ false → ended_part_fault before ≡ None)
+        → HasTakenAll reads_debug before rest.now prefix.new result }
 {
     let mut taken = 0;
     while !prefix.is_ended() {
@@ -125,7 +126,8 @@ impl State {
 
     // What is to be stated where all steps were taken: that a byte stands after the end, or that the stream is too long.
     fn final_stop(&self, is_longer: bool) -> Option<ReadStop>
-        ensures { (reads_debug : Bool) (prefix : List Step) → IsPrefixOf reads_debug self.now.prefix prefix → HasEndedChunk (is_ended prefix) self.now.prefix.size is_longer self.now.rest.items self.now result }
+        ensures { (reads_debug : Bool) (prefix : List Step) → IsPrefixOf reads_debug self.now.prefix prefix
+            → HasEndedChunk (is_ended prefix) self.now.prefix.size is_longer self.now.rest.items self.now result }
     {
         if self.prefix.is_ended() {
             self.stop_after_end(is_longer)
@@ -141,7 +143,8 @@ impl State {
         requires { taken ≤ length self.old.rest.items }
         ensures prefix { self.new.prefix ≡ self.old.prefix }
         ensures reads_debug { self.new.reads_debug ≡ self.old.reads_debug }
-        ensures ended { (reads_debug : Bool) (prefix : List Step) → IsPrefixOf reads_debug self.old.prefix prefix → HasEndedChunk (is_ended prefix) self.old.prefix.size is_longer (drop taken self.old.rest.items) self.new result }
+        ensures ended { (reads_debug : Bool) (prefix : List Step) → IsPrefixOf reads_debug self.old.prefix prefix
+            → HasEndedChunk (is_ended prefix) self.old.prefix.size is_longer (drop taken self.old.rest.items) self.new result }
     {
         match self.keep_after(taken) {
             Ok(()) => self.final_stop(is_longer),
@@ -154,8 +157,10 @@ impl State {
         requires { self.old.prefix.size + length self.old.rest.items ≤ file_limit }
         ensures prefix { self.new.prefix ≡ self.old.prefix }
         ensures reads_debug { self.new.reads_debug ≡ self.old.reads_debug }
-        ensures rest { OnOk result (self.new.rest.items ≡ self.old.rest.items ++ take (file_limit - (self.old.prefix.size + length self.old.rest.items)) chunk.now) }
-        ensures longer { IfOk result (λ longer. longer ≡ nat_lt (file_limit - (self.old.prefix.size + length self.old.rest.items)) (length chunk.now)) }
+        ensures rest { OnOk result
+            (self.new.rest.items ≡ self.old.rest.items ++ take (file_limit - (self.old.prefix.size + length self.old.rest.items)) chunk.now) }
+        ensures longer { IfOk result
+            (λ longer. longer ≡ nat_lt (file_limit - (self.old.prefix.size + length self.old.rest.items)) (length chunk.now)) }
     {
         let room = FILE_LIMIT - self.len();
         self.rest.extend_from_slice(at_most(chunk, room))?;
@@ -164,9 +169,11 @@ impl State {
 
     // Takes all that the bytes after the prefix have, and judges what stands after them.
     fn judge_rest(&mut self, is_longer: bool) -> Option<ReadStop>
-        requires known { (before : List Step) × IsPrefixOf self.old.reads_debug self.old.prefix before × (is_ended before ≡ false → ended_part_fault before ≡ None) }
+        requires known { (before : List Step) × IsPrefixOf self.old.reads_debug self.old.prefix before × (is_ended before ≡ false
+            → ended_part_fault before ≡ None) }
         requires fits { self.old.prefix.size + length self.old.rest.items ≤ file_limit }
-        ensures judged { (before : List Step) → IsPrefixOf self.old.reads_debug self.old.prefix before → (is_ended before ≡ false → ended_part_fault before ≡ None)
+        ensures judged { (before : List Step) → IsPrefixOf self.old.reads_debug self.old.prefix before
+            → (is_ended before ≡ false → ended_part_fault before ≡ None)
             → HasJudgedRest self.old.reads_debug before self.old.rest.items is_longer self.new result }
         ensures reads_debug { self.new.reads_debug ≡ self.old.reads_debug }
     {
@@ -191,7 +198,8 @@ impl State {
     /// Reads a chunk, and keeps why no more is read.
     pub(crate) fn read_on(&mut self, chunk: &[u8]) -> Result<(), ReadStop>
         requires known { (stream : List ℕ) × IsReading self.old stream }
-        ensures known { (stream : List ℕ) → AreBytes (stream ++ chunk.now) → IsReading self.old stream → Knows self.new (stream ++ chunk.now) self.new.stop }
+        ensures known { (stream : List ℕ) → AreBytes (stream ++ chunk.now) → IsReading self.old stream
+            → Knows self.new (stream ++ chunk.now) self.new.stop }
         ensures answer { result ≡ answer_of self.new.stop }
         ensures reads_debug { self.new.reads_debug ≡ self.old.reads_debug }
     {

@@ -95,7 +95,8 @@ pub(crate) fn whole_fault(
     kept: &[KeptRecord],
 ) -> Result<Option<ReadRefusal>, NoMemory>
     requires { All HasOwnParts kept.now }
-    ensures { IfOk result (λ fault. (prefix : List Step) → tables.now ≡ tables_of (records_of prefix) → map placed kept.now ≡ offset_records_of prefix → faults.open_blocks (offset_records_of prefix) ≡ []
+    ensures { IfOk result (λ fault. (prefix : List Step) → tables.now ≡ tables_of (records_of prefix)
+        → map placed kept.now ≡ offset_records_of prefix → faults.open_blocks (offset_records_of prefix) ≡ []
         → option_map as_fault fault ≡ faults.whole_fault (as_part part) prefix) }
 {
     match part {

@@ -13,19 +13,22 @@ use mufom_numbers::Taken;
 /// A longer input gives the same answer, once that is not `More`. So it makes no difference how bytes
 /// are cut into chunks.
 pub fn longer_inputs_answer_the_same()
-    ensures { (mode : Mode) (input more : List ℕ) → AreBytes input → record_at mode input ≢ Taken.More → record_at mode (input ++ more) ≡ record_at mode input }
+    ensures { (mode : Mode) (input more : List ℕ) → AreBytes input → record_at mode input ≢ Taken.More
+        → record_at mode (input ++ more) ≡ record_at mode input }
 {}
 
 /// Two whole records that begin at one place are one.
 pub fn whole_records_at_one_place_are_one()
-    ensures { (mode : Mode) (r s : Record) (text rest other more : List ℕ) → IsWholeRecord mode r text (first_of rest None) → IsWholeRecord mode s other (first_of more None)
+    ensures { (mode : Mode) (r s : Record) (text rest other more : List ℕ) → IsWholeRecord mode r text (first_of rest None)
+        → IsWholeRecord mode s other (first_of more None)
         → text ++ rest ≡ other ++ more → (r ≡ s) × (text ≡ other) }
 {}
 
 /// The bytes of a record determine it, whatever follows them. Its strings, literal bytes and expressions
 /// are known by their positions after its first byte.
 pub fn bytes_determine_the_record()
-    ensures { (mode : Mode) (r s : Record) (text : List ℕ) (next other : Option ℕ) → IsWholeRecord mode r text next → IsWholeRecord mode s text other → r ≡ s }
+    ensures { (mode : Mode) (r s : Record) (text : List ℕ) (next other : Option ℕ) → IsWholeRecord mode r text next
+        → IsWholeRecord mode s text other → r ≡ s }
 {}
 
 /// An input of which more is wanted has fewer than 131,077 bytes: the longest record of which the end may

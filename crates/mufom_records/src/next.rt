@@ -202,9 +202,11 @@ fn next(input: &[u8], mode: Mode) -> Taken<Record>
 /// literal bytes are not looked at.
 pub fn next_record(input: &[u8], mode: Mode) -> Taken<Record>
     // What is taken is the prefix of the input, and a whole record before the byte that follows.
-    ensures got { IfGot result (λ row used. (used ≤ length input.now) × IsWholeRecord mode row (take used input.now) (first_of (drop used input.now) None)) }
+    ensures got { IfGot result (λ row used. (used ≤ length input.now)
+        × IsWholeRecord mode row (take used input.now) (first_of (drop used input.now) None)) }
     // An input that begins with a whole record gives it.
-    ensures only { (row : Record) (text rest : List ℕ) → IsWholeRecord mode row text (first_of rest None) → input.now ≡ text ++ rest → result ≡ Taken.Got row (length text) }
+    ensures only { (row : Record) (text rest : List ℕ) → IsWholeRecord mode row text (first_of rest None) → input.now ≡ text ++ rest
+        → result ≡ Taken.Got row (length text) }
     ensures bad { (place : ℕ) (reason : Reason) → (result ≡ Taken.Bad place reason) ↔ IsFaulty mode input.now place reason }
     ensures more { (result ≡ Taken.More) ↔ IsUnended mode input.now }
     // What the record names by its position lies in the input, and its expressions are expressions.

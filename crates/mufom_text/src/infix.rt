@@ -22,7 +22,8 @@ fn takes_one(function: Function) -> bool
 #[cycle(terms)]
 fn operands_begin(before: &[Token], function: Function) -> usize
     requires known { EndsWithTerm (before.now ++ Token.Fun function ∷ []) }
-    ensures start { (prefix : List one_token) (tree : Tree) → before.now ++ Token.Fun function ∷ [] ≡ prefix ++ tokens_of tree → result ≡ length prefix }
+    ensures start { (prefix : List one_token) (tree : Tree) → before.now ++ Token.Fun function ∷ [] ≡ prefix ++ tokens_of tree
+        → result ≡ length prefix }
     ensures within { result ≤ length before.now }
 {
     let last = last_term(before);

@@ -58,7 +58,9 @@ impl<'a, H: Host> Page<'a, H> {
         ensures same { self.new.host.ghost_name ≡ self.old.host.ghost_name }
         ensures room { vec_len self.new.room ≡ vec_len self.old.room }
         ensures empty { self.new.has_failed ≡ false → self.new.used ≡ 0 }
-        ensures puts { Puts (H.meaning self.old.host.now) (H.meaning self.new.host.now) (H.faults self.old.host.now) (H.faults self.new.host.now) (take self.old.used self.old.room.items) (take self.new.used self.new.room.items) self.old.has_failed self.new.has_failed [] }
+        ensures puts { Puts (H.meaning self.old.host.now) (H.meaning self.new.host.now) (H.faults self.old.host.now)
+            (H.faults self.new.host.now) (take self.old.used self.old.room.items)
+            (take self.new.used self.new.room.items) self.old.has_failed self.new.has_failed [] }
     {
         if self.has_failed {
             return;
@@ -75,7 +77,9 @@ impl<'a, H: Host> Page<'a, H> {
         requires fits { self.old.used + length text.now ≤ vec_len self.old.room }
         ensures same { self.new.host.ghost_name ≡ self.old.host.ghost_name }
         ensures room { vec_len self.new.room ≡ vec_len self.old.room }
-        ensures puts { Puts (H.meaning self.old.host.now) (H.meaning self.new.host.now) (H.faults self.old.host.now) (H.faults self.new.host.now) (take self.old.used self.old.room.items) (take self.new.used self.new.room.items) self.old.has_failed self.new.has_failed text.now }
+        ensures puts { Puts (H.meaning self.old.host.now) (H.meaning self.new.host.now) (H.faults self.old.host.now)
+            (H.faults self.new.host.now) (take self.old.used self.old.room.items)
+            (take self.new.used self.new.room.items) self.old.has_failed self.new.has_failed text.now }
     {
         copy_to(&mut self.room, self.used, text);
         self.used += text.len();
@@ -86,7 +90,9 @@ impl<'a, H: Host> Page<'a, H> {
         requires fine { self.old.has_failed ≡ false }
         requires empty { self.old.used ≡ 0 }
         ensures same { self.new.host.ghost_name ≡ self.old.host.ghost_name }
-        ensures puts { Puts (H.meaning self.old.host.now) (H.meaning self.new.host.now) (H.faults self.old.host.now) (H.faults self.new.host.now) (take self.old.used self.old.room.items) (take self.new.used self.new.room.items) self.old.has_failed self.new.has_failed text.now }
+        ensures puts { Puts (H.meaning self.old.host.now) (H.meaning self.new.host.now) (H.faults self.old.host.now)
+            (H.faults self.new.host.now) (take self.old.used self.old.room.items)
+            (take self.new.used self.new.room.items) self.old.has_failed self.new.has_failed text.now }
     {
         match self.host.print(text) {
             Ok(()) => {}
@@ -98,7 +104,9 @@ impl<'a, H: Host> Page<'a, H> {
     fn begin(&mut self, text: &[u8])
         requires empty { self.old.has_failed ≡ false → self.old.used ≡ 0 }
         ensures same { self.new.host.ghost_name ≡ self.old.host.ghost_name }
-        ensures puts { Puts (H.meaning self.old.host.now) (H.meaning self.new.host.now) (H.faults self.old.host.now) (H.faults self.new.host.now) (take self.old.used self.old.room.items) (take self.new.used self.new.room.items) self.old.has_failed self.new.has_failed text.now }
+        ensures puts { Puts (H.meaning self.old.host.now) (H.meaning self.new.host.now) (H.faults self.old.host.now)
+            (H.faults self.new.host.now) (take self.old.used self.old.room.items)
+            (take self.new.used self.new.room.items) self.old.has_failed self.new.has_failed text.now }
     {
         if self.has_failed {
             return;
@@ -113,7 +121,9 @@ impl<'a, H: Host> Page<'a, H> {
     // Puts text.
     fn add(&mut self, text: &[u8])
         ensures same { self.new.host.ghost_name ≡ self.old.host.ghost_name }
-        ensures puts { Puts (H.meaning self.old.host.now) (H.meaning self.new.host.now) (H.faults self.old.host.now) (H.faults self.new.host.now) (take self.old.used self.old.room.items) (take self.new.used self.new.room.items) self.old.has_failed self.new.has_failed text.now }
+        ensures puts { Puts (H.meaning self.old.host.now) (H.meaning self.new.host.now) (H.faults self.old.host.now)
+            (H.faults self.new.host.now) (take self.old.used self.old.room.items)
+            (take self.new.used self.new.room.items) self.old.has_failed self.new.has_failed text.now }
     {
         if !self.has_failed && text.len() <= self.room.len() - self.used {
             self.hold(text);
@@ -127,7 +137,9 @@ impl<'a, H: Host> Page<'a, H> {
     pub(crate) fn finish(&mut self) -> Result<(), Failed>
         ensures same { self.new.host.ghost_name ≡ self.old.host.ghost_name }
         ensures empty { self.new.has_failed ≡ false → self.new.used ≡ 0 }
-        ensures puts { Puts (H.meaning self.old.host.now) (H.meaning self.new.host.now) (H.faults self.old.host.now) (H.faults self.new.host.now) (take self.old.used self.old.room.items) (take self.new.used self.new.room.items) self.old.has_failed self.new.has_failed [] }
+        ensures puts { Puts (H.meaning self.old.host.now) (H.meaning self.new.host.now) (H.faults self.old.host.now)
+            (H.faults self.new.host.now) (take self.old.used self.old.room.items)
+            (take self.new.used self.new.room.items) self.old.has_failed self.new.has_failed [] }
         ensures answer { is_err result ≡ self.new.has_failed }
     {
         self.turn();
@@ -145,13 +157,16 @@ impl<'a, H: Host> Page<'a, H> {
 }
 
 impl<'a, H: Host> Output for Page<'a, H> {
-    ghost takes = { λ a b xs. (b.host.ghost_name ≡ a.host.ghost_name) × Puts (H.meaning a.host.now) (H.meaning b.host.now) (H.faults a.host.now) (H.faults b.host.now) (take a.used a.room.items) (take b.used b.room.items) a.has_failed b.has_failed xs };
+    ghost takes = { λ a b xs. (b.host.ghost_name ≡ a.host.ghost_name)
+        × Puts (H.meaning a.host.now) (H.meaning b.host.now) (H.faults a.host.now) (H.faults b.host.now) (take a.used a.room.items)
+        (take b.used b.room.items) a.has_failed b.has_failed xs };
 
     ghost nothing = { λ a. (refl, Puts-nothing (H.meaning a.host.now) (H.faults a.host.now) (take a.used a.room.items) a.has_failed) };
 
     ghost joins = { λ a b c xs ys p q. (
       q.0 ∙ p.0,
-      Puts-joins (H.meaning a.host.now) (H.meaning b.host.now) (H.meaning c.host.now) (H.faults a.host.now) (H.faults b.host.now) (H.faults c.host.now)
+      Puts-joins (H.meaning a.host.now) (H.meaning b.host.now) (H.meaning c.host.now) (H.faults a.host.now) (H.faults b.host.now)
+          (H.faults c.host.now)
           (take a.used a.room.items) (take b.used b.room.items) (take c.used c.room.items) xs ys a.has_failed b.has_failed c.has_failed p.1 q.1,
     ) };
 

@@ -47,7 +47,9 @@ fn module_text<K: Output>(out: &mut K, parts: &Parts)
 fn fill<H: Host>(page: &mut Page<H>, parts: &Parts)
     requires { IsValid parts.now }
     ensures same { page.new.host.ghost_name ≡ page.old.host.ghost_name }
-    ensures puts { Puts (H.meaning page.old.host.now) (H.meaning page.new.host.now) (H.faults page.old.host.now) (H.faults page.new.host.now) (take page.old.used page.old.room.items) (take page.new.used page.new.room.items) page.old.has_failed page.new.has_failed (module_text parts.now) }
+    ensures puts { Puts (H.meaning page.old.host.now) (H.meaning page.new.host.now) (H.faults page.old.host.now)
+        (H.faults page.new.host.now) (take page.old.used page.old.room.items)
+        (take page.new.used page.new.room.items) page.old.has_failed page.new.has_failed (module_text parts.now) }
 {
     module_text(page, parts);
 }
@@ -73,7 +75,9 @@ fn print_all<H: Host>(room: Vec<u8>, host: &mut H, parts: &Parts) -> Result<(), 
 /// count of such faults rose; a prefix of the text may then be printed.
 pub fn print_module<H: Host>(alloc: Global, host: &mut H, object: &Module) -> Result<(), PrintStop>
     ensures done { OnOk result (GrowsBy (H.meaning host.old).out (H.meaning host.new).out (module_text object.now)) }
-    ensures fault { result ≡ Err PrintStop.Fault → GrowsByPrefix (H.meaning host.old).out (H.meaning host.new).out (module_text object.now) × Rose (H.faults host.old).writes (H.faults host.new).writes }
+    ensures fault { result ≡ Err PrintStop.Fault
+        → GrowsByPrefix (H.meaning host.old).out (H.meaning host.new).out (module_text object.now)
+        × Rose (H.faults host.old).writes (H.faults host.new).writes }
     ensures unmade { result ≡ Err PrintStop.NoMemory → (H.meaning host.new).out ≡ (H.meaning host.old).out }
     ensures stays { KeepsAllButOut (H.meaning host.old) (H.meaning host.new) }
     ensures counts { KeepsAllButWrites (H.faults host.old) (H.faults host.new) }

@@ -46,8 +46,10 @@ fn an_absolute_module_has_a_line(rt: HostRuntime) -> Result<(), Fail> {
 
 #[test]
 fn three_modules_have_their_lines_in_order(rt: HostRuntime) -> Result<(), Fail> {
-    let lines =
-        b"file 0 \"A\": sections 1 publics 0 references 0 loads 3 debug 0\nfile 1 \"prog\": sections 1 publics 1 references 1 loads 5 debug 0\nfile 2 \"lib\": sections 1 publics 1 references 0 loads 2 debug 0\n";
+    let lines = b"\
+          file 0 \"A\": sections 1 publics 0 references 0 loads 3 debug 0\n\
+          file 1 \"prog\": sections 1 publics 1 references 1 loads 5 debug 0\n\
+          file 2 \"lib\": sections 1 publics 1 references 0 loads 2 debug 0\n";
     answers(
         &rt,
         rt.alloc(),

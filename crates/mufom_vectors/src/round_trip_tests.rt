@@ -1,6 +1,6 @@
 use crate::files::{ABSOLUTE, EMPTY, EVERY_KIND, LIBRARY, RELOCATABLE, host};
 use crate::show::{ABSOLUTE_TEXT, RELOCATABLE_TEXT, shows};
-use mufom_host::Host;
+use mufom_host::{Host, MemHost};
 use mufom_module::Module;
 use mufom_read::Reader;
 use mufom_write::write_module;
@@ -13,8 +13,33 @@ const LIBRARY_TEXT: &[u8] =
 
 const EMPTY_TEXT: &[u8] = b"module \"A\" processor \"68000\" maus 4 order M\n";
 
-const EVERY_KIND_TEXT: &[u8] =
-    b"module \"m\" processor \"P\" maus 2 order L\nextension 3 bytes\nenvironment 1 bytes\nsection 0 \"c\" CP size 12 align 2\nsection 1 \"d\" ASD size 0 align 1 base 4096\nsection 2 \"\" CR size 0 align 1\nsection 3 \"n\" C size 0 align 1\npublic 0 \"f\" = (R0 + 4)\nnote type 15 attribute 19 1\nreference 0 \"x\" weak size 8 default 300\nnote type 1 attribute 2\nreference 1 \"y\" weak size 0 default 0\nreference 2 \"z\"\nselect 0\ncounter 0 = R0\nbytes 2 4E71\nfield either 4 = X0\nrepeat 3\n  bytes 1 00\nrepeat 4\n  field signed 2 = 6\nrepeat 2\n  field unsigned 1 = 1\n  bytes 1 09\nrepeat 0\nstart = R0\n";
+const EVERY_KIND_TEXT: &[u8] = b"\
+      module \"m\" processor \"P\" maus 2 order L\n\
+      extension 3 bytes\n\
+      environment 1 bytes\n\
+      section 0 \"c\" CP size 12 align 2\n\
+      section 1 \"d\" ASD size 0 align 1 base 4096\n\
+      section 2 \"\" CR size 0 align 1\n\
+      section 3 \"n\" C size 0 align 1\n\
+      public 0 \"f\" = (R0 + 4)\n\
+      note type 15 attribute 19 1\n\
+      reference 0 \"x\" weak size 8 default 300\n\
+      note type 1 attribute 2\n\
+      reference 1 \"y\" weak size 0 default 0\n\
+      reference 2 \"z\"\n\
+      select 0\n\
+      counter 0 = R0\n\
+      bytes 2 4E71\n\
+      field either 4 = X0\n\
+      repeat 3\n\
+      \x20\x20bytes 1 00\n\
+      repeat 4\n\
+      \x20\x20field signed 2 = 6\n\
+      repeat 2\n\
+      \x20\x20field unsigned 1 = 1\n\
+      \x20\x20bytes 1 09\n\
+      repeat 0\n\
+      start = R0\n";
 
 // The module of a file that comes in these chunks.
 fn read(rt: &impl Abort, alloc: Global, fed: &[&[u8]]) -> Result<Module, Fail> {
@@ -28,18 +53,28 @@ fn read(rt: &impl Abort, alloc: Global, fed: &[&[u8]]) -> Result<Module, Fail> {
     }
 }
 
-// What is written of the module of a file that comes in these chunks.
-fn rewritten(rt: &impl Abort, alloc: Global, fed: &[&[u8]]) -> Result<Vec<u8>, Fail> {
-    let module = read(rt, alloc, fed)?;
-    let mut host = host(alloc, &[])?;
+// Makes the file "a" of a module.
+fn make(rt: &impl Abort, module: &Module, host: &mut MemHost) {
     assert_eq!(rt; host.create("a"), Ok(()));
-    assert_eq!(rt; write_module(&module, &mut host), Ok(()));
+    assert_eq!(rt; write_module(module, host), Ok(()));
     assert_eq!(rt; host.finish(), Ok(()));
+}
+
+// The bytes of the file that was made.
+fn made(alloc: Global, host: &MemHost) -> Result<Vec<u8>, Fail> {
     let mut bytes = Vec::new(alloc);
     if let Some((_, file)) = host.made() {
         bytes.extend_from_slice(file)?;
     }
     Ok(bytes)
+}
+
+// What is written of the module of a file that comes in these chunks.
+fn rewritten(rt: &impl Abort, alloc: Global, fed: &[&[u8]]) -> Result<Vec<u8>, Fail> {
+    let module = read(rt, alloc, fed)?;
+    let mut host = host(alloc, &[])?;
+    make(rt, &module, &mut host);
+    made(alloc, &host)
 }
 
 // The module of a file is shown as this text; so is what is written of it, which is written again as

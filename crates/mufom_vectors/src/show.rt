@@ -7,11 +7,28 @@ use std::alloc::Global;
 use std::process::Abort;
 use std::test::Fail;
 
-pub(crate) const ABSOLUTE_TEXT: &[u8] =
-    b"module \"A\" processor \"68000\" maus 4 order M\nsection 0 \"code\" ASP size 4 align 2 base 4096\nselect 0\ncounter 0 = 4096\nbytes 4 4E714E75\nstart = 4096\n";
+pub(crate) const ABSOLUTE_TEXT: &[u8] = b"\
+      module \"A\" processor \"68000\" maus 4 order M\n\
+      section 0 \"code\" ASP size 4 align 2 base 4096\n\
+      select 0\n\
+      counter 0 = 4096\n\
+      bytes 4 4E714E75\n\
+      start = 4096\n";
 
-pub(crate) const RELOCATABLE_TEXT: &[u8] =
-    b"module \"prog\" processor \"68000\" maus 4 order M\nextension 3 bytes\nenvironment 3 bytes\nsection 0 \".text\" CP size 12 align 2\npublic 0 \"main\" = (R0 + 4)\nnote type 15 attribute 19 1\nreference 0 \"exit\"\nselect 0\ncounter 0 = R0\nbytes 4 4E714E71\nfield either 4 = (R0 + 4)\nfield signed 4 = (X0 - P0)\nstart = (R0 + 4)\n";
+pub(crate) const RELOCATABLE_TEXT: &[u8] = b"\
+      module \"prog\" processor \"68000\" maus 4 order M\n\
+      extension 3 bytes\n\
+      environment 3 bytes\n\
+      section 0 \".text\" CP size 12 align 2\n\
+      public 0 \"main\" = (R0 + 4)\n\
+      note type 15 attribute 19 1\n\
+      reference 0 \"exit\"\n\
+      select 0\n\
+      counter 0 = R0\n\
+      bytes 4 4E714E71\n\
+      field either 4 = (R0 + 4)\n\
+      field signed 4 = (X0 - P0)\n\
+      start = (R0 + 4)\n";
 
 // The text of a file that is named by these words.
 pub(crate) fn shows(

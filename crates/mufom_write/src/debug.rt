@@ -20,7 +20,8 @@ use mufom_numbers::Bytes;
 
 // Two numbers, and the expression of a block's begin.
 fn scope<K: Output>(out: &mut K, first: u64, second: u64, offset: &Postfix) -> Result<(), Failed>
-    ensures { K.takes out.old out.new (written.number shortest first ++ (written.number shortest second ++ written.expression shortest offset.now)) result }
+    ensures { K.takes out.old out.new
+        (written.number shortest first ++ (written.number shortest second ++ written.expression shortest offset.now)) result }
 {
     number(out, first)?;
     number(out, second)?;

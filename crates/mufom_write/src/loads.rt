@@ -98,7 +98,8 @@ fn repeated<K: Output>(out: &mut K, list: &[Item]) -> Result<(), Failed>
 
 // ASP.
 fn counter_record<K: Output>(out: &mut K, section: u32, value: &Postfix) -> Result<(), Failed>
-    ensures { K.takes out.old out.new (0xE2 ∷ 0xD0 ∷ (written.number shortest (written.section_index section) ++ written.expression shortest value.now)) result }
+    ensures { K.takes out.old out.new
+        (0xE2 ∷ 0xD0 ∷ (written.number shortest (written.section_index section) ++ written.expression shortest value.now)) result }
 {
     numbered(out, &[0xE2, 0xD0], section as u64 + FIRST_SECTION)?;
     expression(out, value)

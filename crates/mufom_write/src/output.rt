@@ -16,9 +16,11 @@ pub(crate) trait Output {
 
     ghost nothing: { (a : Self) → takes a a [] (Ok tt) };
 
-    ghost joins: { (a b c : Self) (xs ys all : List ℕ) (r : Result (Unit {0}) Failed) → takes a b xs (Ok tt) → takes b c ys r → all ≡ xs ++ ys → takes a c all r };
+    ghost joins: { (a b c : Self) (xs ys all : List ℕ) (r : Result (Unit {0}) Failed) → takes a b xs (Ok tt) → takes b c ys r
+        → all ≡ xs ++ ys → takes a c all r };
 
-    ghost stops: { (a b : Self) (xs ys all : List ℕ) (e : Failed) (r : Result (Unit {0}) Failed) → takes a b xs (Err e) → IsErr r → all ≡ xs ++ ys → takes a b all r };
+    ghost stops: { (a b : Self) (xs ys all : List ℕ) (e : Failed) (r : Result (Unit {0}) Failed) → takes a b xs (Err e) → IsErr r
+        → all ≡ xs ++ ys → takes a b all r };
 }
 
 impl<K: Sink> Output for K {
@@ -28,7 +30,8 @@ impl<K: Sink> Output for K {
 
     ghost joins = { λ a b c xs ys all r. Writes-then (K.meaning a) (K.meaning b) (K.meaning c) (K.faults a) (K.faults b) (K.faults c) xs ys all r };
 
-    ghost stops = { λ a b xs ys all e r. Writes-stopped (K.meaning a) (K.meaning b) (K.meaning b) (K.faults a) (K.faults b) (K.faults b) xs ys all e r };
+    ghost stops = { λ a b xs ys all e r. Writes-stopped (K.meaning a) (K.meaning b) (K.meaning b) (K.faults a) (K.faults b)
+        (K.faults b) xs ys all e r };
 
     fn put(&mut self, bytes: &[u8]) -> Result<(), Failed> {
         write_all(self, bytes)

@@ -38,7 +38,8 @@ fn begin_record<K: Output>(out: &mut K, parts: &Parts) -> Result<(), Failed>
 
 // AD.
 fn descriptor_record<K: Output>(out: &mut K, parts: &Parts) -> Result<(), Failed>
-    ensures { K.takes out.old out.new (0xEC ∷ (written.number shortest 8 ++ (written.number shortest parts.now.maus ++ written.order_letter parts.now.order ∷ []))) result }
+    ensures { K.takes out.old out.new
+        (0xEC ∷ (written.number shortest 8 ++ (written.number shortest parts.now.maus ++ written.order_letter parts.now.order ∷ []))) result }
 {
     numbered(out, &[0xEC], 8)?;
     number(out, parts.maus as u64)?;

@@ -29,7 +29,12 @@ impl Model for Output {
 
     ghost Value = { FileStore };
 
-    ghost view = { λ o. record { making = making_at o.stage (o.name.bytes, o.bytes.bytes); made = made_at o.stage (o.name.bytes, o.bytes.bytes); room = o.bytes.room } };
+    ghost view = { λ o. record {
+      making = making_at o.stage (o.name.bytes, o.bytes.bytes);
+      made = made_at o.stage
+          (o.name.bytes, o.bytes.bytes);
+      room = o.bytes.room;
+    } };
 
     ghost invariant = { λ o. o.name.room ≡ o.bytes.room };
 }

@@ -54,7 +54,16 @@ fn take(bytes: &mut ArrayVec<u8, 512>, most: usize, chunk: &[u8]) -> usize
 }
 
 impl World for Disk {
-    ghost meaning = { λ disk. record { left = None; files = None; making = None; made = None; out = None; err = None; opened = None; created = None } };
+    ghost meaning = { λ disk. record {
+      left = None;
+      files = None;
+      making = None;
+      made = None;
+      out = None;
+      err = None;
+      opened = None;
+      created = None;
+    } };
 
     ghost faults = { λ disk. record { reads = 0; writes = disk.faults; complaints = 0 } };
 
