@@ -2,6 +2,7 @@
 -- `ieee.h`, the other functions are this project's profile), and how many terms a function takes.
 use Rattle.std.specs.Prelude.{ℕ, List, [], ◌∷◌, Option, ◌==◌}
 use Rattle.std.specs.List.{find}
+use Rattle.mufom_numbers.specs.declared.codes.TheConstants.{FUNCTION_ABS, FUNCTION_AND, FUNCTION_DIVIDE, FUNCTION_EQUAL, FUNCTION_GREATER, FUNCTION_LESS, FUNCTION_MAX, FUNCTION_MIN, FUNCTION_MINUS, FUNCTION_MOD, FUNCTION_NEG, FUNCTION_OR, FUNCTION_PLUS, FUNCTION_TIMES, FUNCTION_UNEQUAL, FUNCTION_XOR, LETTER_I, LETTER_L, LETTER_P, LETTER_R, LETTER_S, LETTER_X}
 use Rattle.mufom_expr.specs.declared.token.Letter.{Letter}
 use Rattle.mufom_expr.specs.declared.token.Letter.TheVariants.{I, L, P, R, S, X}
 use Rattle.mufom_expr.specs.declared.token.Token.{Token}
@@ -11,31 +12,31 @@ use Rattle.mufom_expr.specs.declared.token.Function.TheVariants.{Abs, Neg, Plus,
 
 -- the byte of a letter
 abbrev pub letter_byte : Letter → ℕ
-letter_byte I = 0xC9
-letter_byte L = 0xCC
-letter_byte P = 0xD0
-letter_byte R = 0xD2
-letter_byte S = 0xD3
-letter_byte X = 0xD8
+letter_byte I = LETTER_I
+letter_byte L = LETTER_L
+letter_byte P = LETTER_P
+letter_byte R = LETTER_R
+letter_byte S = LETTER_S
+letter_byte X = LETTER_X
 
 -- the byte of a function
 abbrev pub function_byte : Function → ℕ
-function_byte Abs = 0xA2
-function_byte Neg = 0xA3
-function_byte Plus = 0xA5
-function_byte Minus = 0xA6
-function_byte Divide = 0xA7
-function_byte Times = 0xA8
-function_byte Max = 0xA9
-function_byte Min = 0xAA
-function_byte Mod = 0xAB
-function_byte Less = 0xAC
-function_byte Greater = 0xAD
-function_byte Equal = 0xAE
-function_byte Unequal = 0xAF
-function_byte And = 0xB0
-function_byte Or = 0xB1
-function_byte Xor = 0xB2
+function_byte Abs = FUNCTION_ABS
+function_byte Neg = FUNCTION_NEG
+function_byte Plus = FUNCTION_PLUS
+function_byte Minus = FUNCTION_MINUS
+function_byte Divide = FUNCTION_DIVIDE
+function_byte Times = FUNCTION_TIMES
+function_byte Max = FUNCTION_MAX
+function_byte Min = FUNCTION_MIN
+function_byte Mod = FUNCTION_MOD
+function_byte Less = FUNCTION_LESS
+function_byte Greater = FUNCTION_GREATER
+function_byte Equal = FUNCTION_EQUAL
+function_byte Unequal = FUNCTION_UNEQUAL
+function_byte And = FUNCTION_AND
+function_byte Or = FUNCTION_OR
+function_byte Xor = FUNCTION_XOR
 
 -- the letters that are read
 abbrev pub all_letters : List Letter

@@ -1,6 +1,7 @@
 -- How tokens and expressions are spelled in a file (IEEE Std 695, expressions). A variable's number is the index that
 -- the file gives to a section, a public or a reference.
 use Rattle.std.specs.Prelude.{◌≡◌, ◌≢◌, ◌⊎◌, slice_get, ℕ, ◌<◌, ◌≤◌, ◌^◌, List, [], ◌∷◌, ◌++◌, length, Some}
+use Rattle.mufom_numbers.specs.declared.codes.TheConstants.{FIRST_FUNCTION, LAST_FUNCTION, LAST_NUMBER}
 use Rattle.mufom_numbers.specs.Spelling.{SpellsNumber, IsCutOff, BeginsIn}
 use Rattle.mufom_expr.specs.declared.token.Letter.{Letter}
 use Rattle.mufom_expr.specs.declared.token.Letter.TheVariants.{I, X}
@@ -34,11 +35,11 @@ BeginsWith Is (b ∷ _) = Is b
 
 -- a byte of the functions that is that of none that is read
 abbrev pub IsLeftOutFunction : ℕ → Type 0
-IsLeftOutFunction b = (0xA0 ≤ b) × (b ≤ 0xB9) × ((f : Function) → b ≢ function_byte f)
+IsLeftOutFunction b = (FIRST_FUNCTION ≤ b) × (b ≤ LAST_FUNCTION) × ((f : Function) → b ≢ function_byte f)
 
 -- a byte that begins no number, is none of the functions' and is that of no letter that is read
 abbrev pub IsLeftOutLetter : ℕ → Type 0
-IsLeftOutLetter b = (0x88 < b) × ((b < 0xA0) ⊎ (0xB9 < b)) × ((letter : Letter) → b ≢ letter_byte letter)
+IsLeftOutLetter b = (LAST_NUMBER < b) × ((b < FIRST_FUNCTION) ⊎ (LAST_FUNCTION < b)) × ((letter : Letter) → b ≢ letter_byte letter)
 
 -- a letter, and then no number, or one that is no index
 abbrev pub HasBadIndex : List ℕ → Type 0

@@ -1,5 +1,6 @@
 -- One token at the start of bytes, and the tokens of an expression's bytes.
 use Rattle.std.specs.Prelude.{ℕ, zero, suc, ◌+◌, ◌^◌, Bool, List, [], ◌∷◌, drop, Option, Some, None, nat_lt, nat_le, ◌&&◌, ◌||◌, if◌then◌else◌}
+use Rattle.mufom_numbers.specs.declared.codes.TheConstants.{FIRST_FUNCTION, LAST_FUNCTION, LAST_NUMBER, LETTER_A, LETTER_Z}
 use Rattle.mufom_numbers.specs.declared.reason.Reason.TheVariants.{BadNumber, UnsupportedFunction, UnsupportedVariable}
 use Rattle.mufom_numbers.specs.declared.taken.Taken.{Taken}
 use Rattle.mufom_numbers.specs.declared.taken.Taken.TheVariants.{Got, More, Bad}
@@ -16,11 +17,11 @@ is_from_to low high b = nat_le low b && nat_le b high
 
 -- a byte that begins a number: 00 to 88
 abbrev pub begins_number : ℕ → Bool
-begins_number b = nat_le b 0x88
+begins_number b = nat_le b LAST_NUMBER
 
 -- a byte that begins a number, a function or a letter, those that are left out too
 abbrev pub begins_token : ℕ → Bool
-begins_token b = begins_number b || (is_from_to 0xA0 0xB9 b || is_from_to 0xC1 0xDA b)
+begins_token b = begins_number b || (is_from_to FIRST_FUNCTION LAST_FUNCTION b || is_from_to LETTER_A LETTER_Z b)
 
 -- a number as a token
 abbrev pub number_token : Taken ℕ → Taken Token
@@ -44,7 +45,7 @@ variable_token (Some letter) (Bad offset reason) = Bad 1 BadNumber
 abbrev pub token_at : List ℕ → Taken Token
 token_at [] = More
 token_at (b ∷ bytes) = if begins_number b then number_token (number_at (b ∷ bytes))
-    else (if is_from_to 0xA0 0xB9 b then function_token (function_of b)
+    else (if is_from_to FIRST_FUNCTION LAST_FUNCTION b then function_token (function_of b)
     else variable_token (letter_of b) (number_at bytes))
 
 -- a token that was got, and those after it

@@ -6,18 +6,18 @@ ghost use Rattle.mufom_expr.specs.Spelled.{SpellsToken, IsCutOffToken, BeginsWit
 ghost use Rattle.mufom_expr.specs.TokenAt.{token_at, variable_token};
 
 use crate::token::{Function, Letter, Token};
-use mufom_numbers::{Reason, Taken, read_number};
+use mufom_numbers::{Reason, Taken, codes, read_number};
 
 fn letter(b: u8) -> Option<Letter>
     ensures { result ≡ letter_of b }
 {
     match b {
-        0xC9 => Some(Letter::I),
-        0xCC => Some(Letter::L),
-        0xD0 => Some(Letter::P),
-        0xD2 => Some(Letter::R),
-        0xD3 => Some(Letter::S),
-        0xD8 => Some(Letter::X),
+        codes::LETTER_I => Some(Letter::I),
+        codes::LETTER_L => Some(Letter::L),
+        codes::LETTER_P => Some(Letter::P),
+        codes::LETTER_R => Some(Letter::R),
+        codes::LETTER_S => Some(Letter::S),
+        codes::LETTER_X => Some(Letter::X),
         _ => None,
     }
 }
@@ -26,22 +26,22 @@ fn function(b: u8) -> Option<Function>
     ensures { result ≡ function_of b }
 {
     match b {
-        0xA2 => Some(Function::Abs),
-        0xA3 => Some(Function::Neg),
-        0xA5 => Some(Function::Plus),
-        0xA6 => Some(Function::Minus),
-        0xA7 => Some(Function::Divide),
-        0xA8 => Some(Function::Times),
-        0xA9 => Some(Function::Max),
-        0xAA => Some(Function::Min),
-        0xAB => Some(Function::Mod),
-        0xAC => Some(Function::Less),
-        0xAD => Some(Function::Greater),
-        0xAE => Some(Function::Equal),
-        0xAF => Some(Function::Unequal),
-        0xB0 => Some(Function::And),
-        0xB1 => Some(Function::Or),
-        0xB2 => Some(Function::Xor),
+        codes::FUNCTION_ABS => Some(Function::Abs),
+        codes::FUNCTION_NEG => Some(Function::Neg),
+        codes::FUNCTION_PLUS => Some(Function::Plus),
+        codes::FUNCTION_MINUS => Some(Function::Minus),
+        codes::FUNCTION_DIVIDE => Some(Function::Divide),
+        codes::FUNCTION_TIMES => Some(Function::Times),
+        codes::FUNCTION_MAX => Some(Function::Max),
+        codes::FUNCTION_MIN => Some(Function::Min),
+        codes::FUNCTION_MOD => Some(Function::Mod),
+        codes::FUNCTION_LESS => Some(Function::Less),
+        codes::FUNCTION_GREATER => Some(Function::Greater),
+        codes::FUNCTION_EQUAL => Some(Function::Equal),
+        codes::FUNCTION_UNEQUAL => Some(Function::Unequal),
+        codes::FUNCTION_AND => Some(Function::And),
+        codes::FUNCTION_OR => Some(Function::Or),
+        codes::FUNCTION_XOR => Some(Function::Xor),
         _ => None,
     }
 }
@@ -75,14 +75,14 @@ fn token(input: &[u8]) -> Taken<Token>
         return Taken::More;
     };
     let b = *first;
-    if b <= 0x88 {
+    if b <= codes::LAST_NUMBER {
         return match read_number(input) {
             Taken::Got(n, used) => Taken::Got(Token::Number(n), used),
             Taken::More => Taken::More,
             Taken::Bad { offset, reason } => Taken::Bad { offset, reason },
         };
     }
-    if 0xA0 <= b && b <= 0xB9 {
+    if codes::FIRST_FUNCTION <= b && b <= codes::LAST_FUNCTION {
         return match function(b) {
             Some(f) => Taken::Got(Token::Fun(f), 1),
             None => Taken::Bad {

@@ -1,6 +1,7 @@
 -- What the records of a file's parts state, as the parts of a module (IEEE Std 695, section definition, name declaration,
 -- debug information and load commands).
 use Rattle.std.specs.Prelude.{ℕ, ◌==◌, List, [], ◌∷◌, ◌++◌, map, filter_map, slice_get, Option, Some, None, unwrap_or, option_map, if◌then◌else◌}
+use Rattle.mufom_numbers.specs.declared.codes.TheConstants.{LETTER_D, LETTER_P}
 use Rattle.arrayvec.specs.ArrayVec.{ArrayVec}
 use Rattle.mufom_expr.specs.Tree.{Tree, number}
 use Rattle.mufom_expr.specs.Spelled.{Indexes}
@@ -55,7 +56,7 @@ base_for i _ = None
 
 -- the letters of purposes: D0, C4 and D2
 abbrev pub purpose_of : ℕ → Purpose
-purpose_of b = if b == 0xD0 then purpose.Code else (if b == 0xC4 then purpose.Data else purpose.Rom)
+purpose_of b = if b == LETTER_P then purpose.Code else (if b == LETTER_D then purpose.Data else purpose.Rom)
 
 -- the section that a record declares, with what the part's records state of it: size 0 and alignment 1 where none does
 abbrev pub section_by : List SpelledRecord → SpelledRecord → Record → Option Section

@@ -2,6 +2,7 @@
 -- profile).
 use Rattle.std.specs.Prelude.{◌≡◌, ◌⊎◌, ℕ, ◌+◌, ◌≤◌, Bool, true, false, not, ◌&&◌, List, [], ◌∷◌, ◌++◌, length, filter_map, Option, Some, None, option_to_list, MatchBool}
 use Rattle.std.specs.List.{list_all, list_any}
+use Rattle.mufom_numbers.specs.declared.codes.TheConstants.{LETTER_L, LETTER_M, MODULE_END}
 use Rattle.mufom_expr.specs.Spelled.{Indexes}
 use Rattle.mufom_records.specs.declared.record.Mode.{Mode}
 use Rattle.mufom_records.specs.declared.record.Mode.TheVariants as mode
@@ -53,7 +54,7 @@ parts_of f = f.extension ∷ f.environment ∷ bytes_of f.sections ∷ bytes_of 
 
 -- ME
 abbrev pub module_end : List ℕ
-module_end = 0xE1 ∷ []
+module_end = MODULE_END ∷ []
 
 -- the bytes from the trailer part, from the data part, and so on, up to the end of the file
 abbrev pub from_trailer : FileParts → List ℕ
@@ -191,8 +192,8 @@ pub record HasNames (f : FileParts) : Type 0 where
 
 -- the letter of an order of bytes; no letter is the most significant byte first
 abbrev pub IsLetterOf : Order → Option ℕ → Type 0
-IsLetterOf Least letter = letter ≡ Some 0xCC
-IsLetterOf Most letter = (letter ≡ Some 0xCD) ⊎ (letter ≡ None)
+IsLetterOf Least letter = letter ≡ Some LETTER_L
+IsLetterOf Most letter = (letter ≡ Some LETTER_M) ⊎ (letter ≡ None)
 
 -- MB gives the processor and the module's name
 abbrev pub NamesModule : Parts → SpelledRecord → Record → Type 0

@@ -2,6 +2,7 @@
 -- of commands and brackets are those of the public `ieee.h`).
 use Rattle.std.specs.Prelude.{ℕ, ◌+◌, ◌==◌, Bool, true, false, List, [], ◌∷◌, ◌++◌, length, Option, Some, None, if◌then◌else◌}
 use Rattle.std.specs.Int.{w16, w32, w64, to_be_bytes}
+use Rattle.mufom_numbers.specs.declared.codes.TheConstants.{ASSIGNMENT, BLOCK_BEGIN, BLOCK_END, CONSTANT, DEBUG_NAME, DESCRIPTOR, LAST_NUMBER, LETTER_A, LETTER_C, LETTER_D, LETTER_G, LETTER_I, LETTER_L, LETTER_M, LETTER_N, LETTER_P, LETTER_R, LETTER_S, LETTER_W, LETTER_X, LONG_STRING, MODULE_BEGIN, MODULE_END, NOTE, NUMBER_OF_FOUR_BYTES, PUBLIC_NAME, REFERENCE_NAME, RELOCATE, REPEAT, SECTION_ALIGNMENT, SECTION_TYPE, SET_SECTION, WEAK_REFERENCE}
 use Rattle.mufom_numbers.specs.Spelling.{shortest_number, shortest_lead}
 use Rattle.mufom_expr.specs.declared.token.Letter.{Letter}
 use Rattle.mufom_expr.specs.declared.token.Letter.TheVariants.{I, L, P, R, S, X}
@@ -41,7 +42,7 @@ shortest = record { number = shortest_number; lead = shortest_lead }
 
 -- nine bytes for each number, and three for each lead
 abbrev pub widest : Style
-widest = record { number = λ n. 0x88 ∷ to_be_bytes w64 n; lead = λ len. 0xDF ∷ to_be_bytes w16 len }
+widest = record { number = λ n. LAST_NUMBER ∷ to_be_bytes w64 n; lead = λ len. LONG_STRING ∷ to_be_bytes w16 len }
 
 -- the forms of the entries of a list, each by its position, which counts from n
 abbrev pub each_from : {X : Type 0} → ℕ → (ℕ → X → List ℕ) → List X → List ℕ
@@ -81,20 +82,20 @@ index_of X position = reference_index position
 
 -- the letters of a section: A S of an absolute one, and else C
 abbrev pub section_letters : Bool → List ℕ
-section_letters true = 0xC1 ∷ 0xD3 ∷ []
-section_letters false = 0xC3 ∷ []
+section_letters true = LETTER_A ∷ LETTER_S ∷ []
+section_letters false = LETTER_C ∷ []
 
 -- the letter of a purpose, if there is one
 abbrev pub purpose_letter : Option Purpose → List ℕ
 purpose_letter None = []
-purpose_letter (Some purpose.Code) = 0xD0 ∷ []
-purpose_letter (Some purpose.Data) = 0xC4 ∷ []
-purpose_letter (Some purpose.Rom) = 0xD2 ∷ []
+purpose_letter (Some purpose.Code) = LETTER_P ∷ []
+purpose_letter (Some purpose.Data) = LETTER_D ∷ []
+purpose_letter (Some purpose.Rom) = LETTER_R ∷ []
 
 -- the letter of an order of bytes
 abbrev pub order_letter : Order → ℕ
-order_letter Least = 0xCC
-order_letter Most = 0xCD
+order_letter Least = LETTER_L
+order_letter Most = LETTER_M
 
 -- the offsets of parts that begin at a place, and then the place where they end; an empty part is absent
 abbrev pub offsets_from : ℕ → List (List ℕ) → List ℕ
@@ -134,20 +135,20 @@ module _ (style : Style) where
 
   -- the declaration, ST
   abbrev pub section_record : ℕ → Section → List ℕ
-  section_record i s = 0xE6 ∷ (number i ++ (section_letters s.absolute ++ (purpose_letter s.purpose ++ string s.name)))
+  section_record i s = SECTION_TYPE ∷ (number i ++ (section_letters s.absolute ++ (purpose_letter s.purpose ++ string s.name)))
 
   -- SA, but for an alignment of 1
   abbrev pub alignment_record : ℕ → ℕ → List ℕ
-  alignment_record i align = if align == 1 then [] else 0xE7 ∷ (number i ++ number align)
+  alignment_record i align = if align == 1 then [] else SECTION_ALIGNMENT ∷ (number i ++ number align)
 
   -- ASS, but for a size of 0
   abbrev pub size_record : ℕ → ℕ → List ℕ
-  size_record i size = if size == 0 then [] else 0xE2 ∷ 0xD3 ∷ (number i ++ number size)
+  size_record i size = if size == 0 then [] else ASSIGNMENT ∷ LETTER_S ∷ (number i ++ number size)
 
   -- ASL, of a section with a base
   abbrev pub base_record : ℕ → Option ℕ → List ℕ
   base_record i None = []
-  base_record i (Some base) = 0xE2 ∷ 0xCC ∷ (number i ++ number base)
+  base_record i (Some base) = ASSIGNMENT ∷ LETTER_L ∷ (number i ++ number base)
 
   -- all records of a section
   abbrev pub section : ℕ → Section → List ℕ
@@ -158,12 +159,12 @@ module _ (style : Style) where
 
   -- a note on a name of a kind (I of publics, X of references, N of debug names)
   abbrev pub note : ℕ → ℕ → Note → List ℕ
-  note letter i n = 0xF1 ∷ letter ∷ (number i ++ (number n.type_index ++ (number n.attribute ++ numbers n.numbers.items)))
+  note letter i n = NOTE ∷ letter ∷ (number i ++ (number n.type_index ++ (number n.attribute ++ numbers n.numbers.items)))
 
   -- NI, the notes as ATI, and ASI
   abbrev pub public : ℕ → Public → List ℕ
   public position p = let i = public_index position in
-      (0xE8 ∷ (number i ++ string p.name)) ++ (each (λ _. note 0xC9 i) p.notes ++ (0xE2 ∷ 0xC9 ∷ (number i ++ expression p.value)))
+      (PUBLIC_NAME ∷ (number i ++ string p.name)) ++ (each (λ _. note LETTER_I i) p.notes ++ (ASSIGNMENT ∷ LETTER_I ∷ (number i ++ expression p.value)))
 
   -- the default where it is not 0
   abbrev pub default_number : ℕ → List ℕ
@@ -172,12 +173,12 @@ module _ (style : Style) where
   -- WX, of a weak reference alone
   abbrev pub weak : ℕ → Option Weak → List ℕ
   weak i None = []
-  weak i (Some w) = 0xF4 ∷ (number i ++ (number w.size ++ default_number w.default))
+  weak i (Some w) = WEAK_REFERENCE ∷ (number i ++ (number w.size ++ default_number w.default))
 
   -- NX, the notes as ATX, and WX where it is weak
   abbrev pub reference : ℕ → Reference → List ℕ
   reference position r = let i = reference_index position in
-      (0xE9 ∷ (number i ++ string r.name)) ++ (each (λ _. note 0xD8 i) r.notes ++ weak i r.weak)
+      (REFERENCE_NAME ∷ (number i ++ string r.name)) ++ (each (λ _. note LETTER_X i) r.notes ++ weak i r.weak)
 
   -- ---- debug items
 
@@ -196,11 +197,11 @@ module _ (style : Style) where
 
   -- the record of a mark, where n names stand before it; 0 stands for the size of a block
   abbrev pub debug_record : ℕ → DebugMark → List ℕ
-  debug_record n (block_begin head name) = 0xF8 ∷ (number (kind_number head) ++ (number 0 ++ (string name ++ head_fields head)))
-  debug_record n (block_end value) = 0xF9 ∷ end_expression value
-  debug_record n (name_mark name) = 0xF0 ∷ (number (debug_name_index n) ++ string name)
-  debug_record n (note_mark name its) = note 0xCE (debug_name_index name) its
-  debug_record n (value_mark name value) = 0xE2 ∷ 0xCE ∷ (number (debug_name_index name) ++ expression value)
+  debug_record n (block_begin head name) = BLOCK_BEGIN ∷ (number (kind_number head) ++ (number 0 ++ (string name ++ head_fields head)))
+  debug_record n (block_end value) = BLOCK_END ∷ end_expression value
+  debug_record n (name_mark name) = DEBUG_NAME ∷ (number (debug_name_index n) ++ string name)
+  debug_record n (note_mark name its) = note LETTER_N (debug_name_index name) its
+  debug_record n (value_mark name value) = ASSIGNMENT ∷ LETTER_N ∷ (number (debug_name_index name) ++ expression value)
 
   -- the records of marks, where the given number of names stand before them
   abbrev pub debug_records : ℕ → List DebugMark → List ℕ
@@ -220,28 +221,28 @@ module _ (style : Style) where
 
   -- a literal is an LD, a field an LR of its own
   abbrev pub single : Item → List ℕ
-  single (Literal bytes) = 0xED ∷ counted bytes
-  single (Field kind value size) = 0xE4 ∷ field kind value size
+  single (Literal bytes) = CONSTANT ∷ counted bytes
+  single (Field kind value size) = RELOCATE ∷ field kind value size
 
   -- exactly one literal is repeated as an LD, anything else as an LR of its items
   abbrev pub repeated : List Item → List ℕ
-  repeated [] = 0xE4 ∷ []
+  repeated [] = RELOCATE ∷ []
   repeated (first ∷ []) = single first
-  repeated (first ∷ second ∷ more) = 0xE4 ∷ each (λ _. item) (first ∷ second ∷ more)
+  repeated (first ∷ second ∷ more) = RELOCATE ∷ each (λ _. item) (first ∷ second ∷ more)
 
   -- SB, ASP, an item of its own, or RE
   abbrev pub load : Load → List ℕ
-  load (SetSection section) = 0xE5 ∷ number (section_index section)
-  load (SetPc section value) = 0xE2 ∷ 0xD0 ∷ (number (section_index section) ++ expression value)
+  load (SetSection section) = SET_SECTION ∷ number (section_index section)
+  load (SetPc section value) = ASSIGNMENT ∷ LETTER_P ∷ (number (section_index section) ++ expression value)
   load (One x) = single x
-  load (Repeat count items) = 0xF7 ∷ (number count ++ repeated items)
+  load (Repeat count items) = REPEAT ∷ (number count ++ repeated items)
 
   -- ---- parts
 
   -- ASG, with the expression in brackets
   abbrev pub start : Option Tree → List ℕ
   start None = []
-  start (Some value) = 0xE2 ∷ 0xC7 ∷ opening Either ∷ (expression value ++ closing Either ∷ [])
+  start (Some value) = ASSIGNMENT ∷ LETTER_G ∷ opening Either ∷ (expression value ++ closing Either ∷ [])
 
   -- publics, then references
   abbrev pub external : Parts → List ℕ
@@ -254,11 +255,11 @@ module _ (style : Style) where
 
   -- MB and AD
   abbrev pub module_begin : Parts → List ℕ
-  module_begin m = (0xE0 ∷ (string m.processor ++ string m.name)) ++ (0xEC ∷ (number 8 ++ (number m.maus ++ order_letter m.order ∷ [])))
+  module_begin m = (MODULE_BEGIN ∷ (string m.processor ++ string m.name)) ++ (DESCRIPTOR ∷ (number 8 ++ (number m.maus ++ order_letter m.order ∷ [])))
 
   -- the ASW record of a part; its offset always takes four bytes
   abbrev pub offset_record : ℕ → ℕ → List ℕ
-  offset_record k offset = 0xE2 ∷ 0xD7 ∷ (number k ++ 0x84 ∷ to_be_bytes w32 offset)
+  offset_record k offset = ASSIGNMENT ∷ LETTER_W ∷ (number k ++ NUMBER_OF_FOUR_BYTES ∷ to_be_bytes w32 offset)
 
   -- the length of MB, AD and the eight ASW records
   abbrev pub header_length : Parts → ℕ
@@ -270,7 +271,7 @@ module _ (style : Style) where
 
   -- the whole file, with ME at its end
   abbrev pub form : Parts → List ℕ
-  form m = module_begin m ++ (each offset_record (offsets m) ++ (joined (parts m) ++ 0xE1 ∷ []))
+  form m = module_begin m ++ (each offset_record (offsets m) ++ (joined (parts m) ++ MODULE_END ∷ []))
 
 -- the written form
 abbrev pub written : Parts → List ℕ

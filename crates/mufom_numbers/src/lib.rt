@@ -7,6 +7,7 @@
 //! of it, and anything else is refused at its first byte.
 #![tactic(auto)]
 
+pub mod codes;
 mod laws;
 mod list;
 mod memory;

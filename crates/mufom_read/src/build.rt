@@ -21,7 +21,7 @@ use crate::tables::Tables;
 use mufom_expr::Postfix;
 use mufom_module::{Module, Order, Parts, assemble};
 use mufom_names::NameTable;
-use mufom_numbers::{Bytes, List, NoMemory};
+use mufom_numbers::{Bytes, List, NoMemory, codes};
 use mufom_records::Record;
 use std::alloc::Global;
 
@@ -74,7 +74,7 @@ fn order_of(letter: Option<u8>) -> Order
     ensures { (order : module_order.Order) → IsLetterOf order letter → result ≡ order }
 {
     match letter {
-        Some(0xCC) => Order::Least,
+        Some(codes::LETTER_L) => Order::Least,
         _ => Order::Most,
     }
 }

@@ -22,7 +22,7 @@ use crate::rules::rule_broken;
 use crate::tables::Tables;
 use crate::whole::whole_fault;
 use mufom_expr::Postfix;
-use mufom_numbers::{Bytes, List, NoMemory, Reason, Taken};
+use mufom_numbers::{Bytes, List, NoMemory, Reason, Taken, codes};
 use mufom_records::{Mode, Record, next_record};
 use std::alloc::Global;
 
@@ -78,8 +78,11 @@ fn begins_item(rest: &[u8]) -> bool
 {
     match rest {
         [] => false,
-        [0x00..=0x88, ..] => true,
-        [0xBA | 0xBC | 0xBE, ..] => true,
+        [0x00..=codes::LAST_NUMBER, ..] => true,
+        [
+            codes::OPEN_SIGNED | codes::OPEN_UNSIGNED | codes::OPEN_EITHER,
+            ..
+        ] => true,
         _ => false,
     }
 }

@@ -10,7 +10,7 @@ ghost use Rattle.mufom_read.specs.Built.{size_in, alignment_in, base_in, section
 use crate::kept::KeptRecord;
 use crate::positions::stated_at;
 use crate::tables::Tables;
-use mufom_numbers::{List, NoMemory};
+use mufom_numbers::{List, NoMemory, codes};
 use mufom_records::Record;
 use mufom_sections::{Purpose, Section};
 use std::alloc::Global;
@@ -67,8 +67,8 @@ fn purpose_of(letter: u8) -> Purpose
     ensures { result ≡ gathered.purpose_of letter }
 {
     match letter {
-        0xD0 => Purpose::Code,
-        0xC4 => Purpose::Data,
+        codes::LETTER_P => Purpose::Code,
+        codes::LETTER_D => Purpose::Data,
         _ => Purpose::Rom,
     }
 }

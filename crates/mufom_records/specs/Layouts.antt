@@ -1,6 +1,7 @@
 -- The table of records: which fields a record has after its code, in order (IEEE Std 695, MUFOM commands; the codes are
 -- those of the public `ieee.h`, what follows them is this project's profile).
 use Rattle.std.specs.Prelude.{◌≡◌, ℕ, ◌+◌, ◌^◌, Bool, true, false, List, [], ◌∷◌, ◌++◌, length, Option, Some, None, ◌==◌, nat_lt, nat_le, ◌&&◌, if◌then◌else◌}
+use Rattle.mufom_numbers.specs.declared.codes.TheConstants.{ASSIGNMENT, BLOCK_BEGIN, BLOCK_END, COMMA, CONSTANT, DEBUG_NAME, DESCRIPTOR, LETTER_A, LETTER_B, LETTER_C, LETTER_D, LETTER_F, LETTER_G, LETTER_I, LETTER_L, LETTER_M, LETTER_N, LETTER_P, LETTER_R, LETTER_S, LETTER_W, LETTER_X, MODULE_BEGIN, MODULE_END, NOTE, OPEN_EITHER, OPEN_SIGNED, OPEN_UNSIGNED, PUBLIC_NAME, REFERENCE_NAME, RELOCATE, REPEAT, SECTION_ALIGNMENT, SECTION_TYPE, SET_SECTION, TYPE, WEAK_REFERENCE}
 use Rattle.arrayvec.specs.ArrayVec.{ArrayVec}
 use Rattle.mufom_numbers.specs.declared.reason.Reason.{Reason}
 use Rattle.mufom_numbers.specs.declared.reason.Reason.TheVariants.{BadNumber, BadRecord, UnsupportedRecord, LongRun, BadFieldSize, BracketMismatch, BadSectionType, UnsupportedBlock, UnsupportedAttribute, BadHeader}
@@ -83,21 +84,21 @@ offset_number k = number (λ n. n == k) start BadHeader
 
 -- CC, the least significant byte first, or CD, the most significant
 abbrev pub orders : List ℕ
-orders = 0xCC ∷ 0xCD ∷ []
+orders = LETTER_L ∷ LETTER_M ∷ []
 
 -- D0, code; C4, data; D2, ROM data
 abbrev pub purposes : List ℕ
-purposes = 0xD0 ∷ 0xC4 ∷ 0xD2 ∷ []
+purposes = LETTER_P ∷ LETTER_D ∷ LETTER_R ∷ []
 
 -- the comma before the size of a field
 abbrev pub comma : ℕ
-comma = 0x90
+comma = COMMA
 
 -- the bracket that opens a field of a kind
 abbrev pub opening : FieldKind → ℕ
-opening Signed = 0xBA
-opening Unsigned = 0xBC
-opening Either = 0xBE
+opening Signed = OPEN_SIGNED
+opening Unsigned = OPEN_UNSIGNED
+opening Either = OPEN_EITHER
 
 -- of a signed, an unsigned and an either field
 abbrev pub opening_brackets : List ℕ
@@ -144,12 +145,12 @@ named_section i absolute = letter purposes ▹ λ purpose. string ▹ λ name. o
 
 -- ST after its letter A: S
 abbrev pub absolute_section : ℕ → Layout
-absolute_section i = byte ▹ λ s. if s == 0xD3 then named_section i true else refused 2 BadSectionType
+absolute_section i = byte ▹ λ s. if s == LETTER_S then named_section i true else refused 2 BadSectionType
 
 -- ST: C, relocatable, or A S, absolute
 abbrev pub section_type : Layout
-section_type = index ▹ λ i. byte ▹ λ c. if c == 0xC3 then named_section i false
-    else (if c == 0xC1 then absolute_section i else refused 1 BadSectionType)
+section_type = index ▹ λ i. byte ▹ λ c. if c == LETTER_C then named_section i false
+    else (if c == LETTER_A then absolute_section i else refused 1 BadSectionType)
 
 -- SA: the alignment, and a number that may be absent
 abbrev pub alignment : Layout
@@ -215,8 +216,8 @@ constant row = count ▹ λ n. run n ▹ λ bytes. whole (row bytes)
 
 -- RE after its times: LD, or LR whose items follow
 abbrev pub repeated : ℕ → ℕ → Layout
-repeated times b = if b == 0xED then constant (r.RepeatConstant times)
-    else (if b == 0xE4 then whole (r.RepeatRelocate times) else refused 1 BadRecord)
+repeated times b = if b == CONSTANT then constant (r.RepeatConstant times)
+    else (if b == RELOCATE then whole (r.RepeatRelocate times) else refused 1 BadRecord)
 
 -- RE: how many times, and then LD or LR
 abbrev pub repeat : Layout
@@ -249,17 +250,17 @@ item = letter opening_brackets ▹ λ bracket. item_by_bracket bracket
 
 -- second bytes after E2 that this profile knows and leaves out
 abbrev pub left_out_assignments : List ℕ
-left_out_assignments = 0xC1 ∷ 0xC2 ∷ 0xC6 ∷ 0xCD ∷ 0xD2 ∷ []
+left_out_assignments = LETTER_A ∷ LETTER_B ∷ LETTER_F ∷ LETTER_M ∷ LETTER_R ∷ []
 
 -- a second byte after E2
 abbrev pub assignment : ℕ → Layout
-assignment b = if b == 0xD7 then offset
-    else (if b == 0xD3 then index_and_number r.SectionSize
-    else (if b == 0xCC then index_and_number r.SectionBase
-    else (if b == 0xC9 then index_and_expression r.PublicValue
-    else (if b == 0xCE then index_and_expression r.DebugValue
-    else (if b == 0xD0 then index_and_expression r.SetPc
-    else (if b == 0xC7 then start_address
+assignment b = if b == LETTER_W then offset
+    else (if b == LETTER_S then index_and_number r.SectionSize
+    else (if b == LETTER_L then index_and_number r.SectionBase
+    else (if b == LETTER_I then index_and_expression r.PublicValue
+    else (if b == LETTER_N then index_and_expression r.DebugValue
+    else (if b == LETTER_P then index_and_expression r.SetPc
+    else (if b == LETTER_G then start_address
     else (if is_one_of left_out_assignments b then refused 2 UnsupportedRecord else refused 1 BadRecord)))))))
 
 -- a record whose code is E2 and a second byte
@@ -268,9 +269,9 @@ assigned = byte ▹ λ second. assignment second
 
 -- a second byte after F1
 abbrev pub noted : ℕ → Layout
-noted b = if b == 0xC9 then note r.PublicNote
-    else (if b == 0xD8 then note r.ReferenceNote
-    else (if b == 0xCE then debug_note else refused 1 BadRecord))
+noted b = if b == LETTER_I then note r.PublicNote
+    else (if b == LETTER_X then note r.ReferenceNote
+    else (if b == LETTER_N then debug_note else refused 1 BadRecord))
 
 -- a record whose code is F1 and a second byte
 abbrev pub any_note : Layout
@@ -278,24 +279,24 @@ any_note = byte ▹ λ second. noted second
 
 -- a first byte
 abbrev pub coded : ℕ → Layout
-coded b = if b == 0xE0 then module_begin
-    else (if b == 0xE1 then whole r.ModuleEnd
-    else (if b == 0xE2 then assigned
-    else (if b == 0xE4 then whole r.Relocate
-    else (if b == 0xE5 then set_section
-    else (if b == 0xE6 then section_type
-    else (if b == 0xE7 then alignment
-    else (if b == 0xE8 then index_and_string r.PublicName
-    else (if b == 0xE9 then index_and_string r.ReferenceName
-    else (if b == 0xEC then descriptor
-    else (if b == 0xED then constant r.Constant
-    else (if b == 0xF0 then index_and_string r.DebugName
-    else (if b == 0xF1 then any_note
-    else (if b == 0xF2 then refused 1 UnsupportedRecord
-    else (if b == 0xF4 then weak_reference
-    else (if b == 0xF7 then repeat
-    else (if b == 0xF8 then block_begin
-    else (if b == 0xF9 then block_end else refused 1 BadRecord)))))))))))))))))
+coded b = if b == MODULE_BEGIN then module_begin
+    else (if b == MODULE_END then whole r.ModuleEnd
+    else (if b == ASSIGNMENT then assigned
+    else (if b == RELOCATE then whole r.Relocate
+    else (if b == SET_SECTION then set_section
+    else (if b == SECTION_TYPE then section_type
+    else (if b == SECTION_ALIGNMENT then alignment
+    else (if b == PUBLIC_NAME then index_and_string r.PublicName
+    else (if b == REFERENCE_NAME then index_and_string r.ReferenceName
+    else (if b == DESCRIPTOR then descriptor
+    else (if b == CONSTANT then constant r.Constant
+    else (if b == DEBUG_NAME then index_and_string r.DebugName
+    else (if b == NOTE then any_note
+    else (if b == TYPE then refused 1 UnsupportedRecord
+    else (if b == WEAK_REFERENCE then weak_reference
+    else (if b == REPEAT then repeat
+    else (if b == BLOCK_BEGIN then block_begin
+    else (if b == BLOCK_END then block_end else refused 1 BadRecord)))))))))))))))))
 
 -- any record but an item
 abbrev pub body : Layout
@@ -307,9 +308,9 @@ begins_with back code rest = byte ▹ λ b. if b == code then rest else refused 
 
 -- The layout of what is read in each mode.
 abbrev pub layout_of : Mode → Layout
-layout_of mode.Begin = begins_with 1 0xE0 module_begin
-layout_of mode.Descriptor = begins_with 1 0xEC descriptor
-layout_of (mode.Offset k) = begins_with 1 0xE2 (begins_with 2 0xD7 (numbered_offset k))
+layout_of mode.Begin = begins_with 1 MODULE_BEGIN module_begin
+layout_of mode.Descriptor = begins_with 1 DESCRIPTOR descriptor
+layout_of (mode.Offset k) = begins_with 1 ASSIGNMENT (begins_with 2 LETTER_W (numbered_offset k))
 layout_of mode.Body = body
 layout_of mode.Items = item
 

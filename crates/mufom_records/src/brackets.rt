@@ -12,14 +12,14 @@ use crate::record::Record;
 use crate::rows::Read;
 use crate::stop::Stop;
 use mufom_expr::FieldKind;
-use mufom_numbers::{Reason, Span};
+use mufom_numbers::{Reason, Span, codes};
 
 fn kind_of(opening: u8) -> FieldKind
     ensures { result ≡ layouts.kind_of opening }
 {
     match opening {
-        0xBA => FieldKind::Signed,
-        0xBC => FieldKind::Unsigned,
+        codes::OPEN_SIGNED => FieldKind::Signed,
+        codes::OPEN_UNSIGNED => FieldKind::Unsigned,
         _ => FieldKind::Either,
     }
 }
@@ -71,7 +71,7 @@ fn field_item(opening: u8, input: &[u8], at: usize) -> Read
     ensures parts { IfOk result (λ r. HasParts input.now r.0) }
 {
     let (value, at) = expression(input, at)?;
-    let (comma, at) = letter(&[0x90], input, at)?;
+    let (comma, at) = letter(&[codes::COMMA], input, at)?;
     field_by_comma(opening, value, comma, input, at)
 }
 
@@ -102,7 +102,11 @@ pub(crate) fn item(input: &[u8], at: usize) -> Read
     ensures exact { result ≡ read layouts.item input.now at }
     ensures parts { IfOk result (λ r. HasParts input.now r.0) }
 {
-    let (opening, at) = letter(&[0xBA, 0xBC, 0xBE], input, at)?;
+    let (opening, at) = letter(
+        &[codes::OPEN_SIGNED, codes::OPEN_UNSIGNED, codes::OPEN_EITHER],
+        input,
+        at,
+    )?;
     item_by_bracket(opening, input, at)
 }
 
@@ -124,6 +128,10 @@ pub(crate) fn start_address(input: &[u8], at: usize) -> Read
     ensures exact { result ≡ read layouts.start_address input.now at }
     ensures parts { IfOk result (λ r. HasParts input.now r.0) }
 {
-    let (opening, at) = letter(&[0xBA, 0xBC, 0xBE], input, at)?;
+    let (opening, at) = letter(
+        &[codes::OPEN_SIGNED, codes::OPEN_UNSIGNED, codes::OPEN_EITHER],
+        input,
+        at,
+    )?;
     start_by_bracket(opening, input, at)
 }

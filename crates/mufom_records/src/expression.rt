@@ -10,12 +10,14 @@ ghost use Rattle.mufom_records.specs.Reading.{field_at, terms_with, expression_e
 use crate::fields::{bad, byte};
 use crate::stop::Stop;
 use mufom_expr::{Function, Token, read_token};
-use mufom_numbers::{Reason, Span, Taken};
+use mufom_numbers::{Reason, Span, Taken, codes};
 
 fn begins_token(b: u8) -> bool
     ensures { result ≡ token_begins b }
 {
-    b <= 0x88 || (0xA0 <= b && b <= 0xB9) || (0xC1 <= b && b <= 0xDA)
+    b <= codes::LAST_NUMBER
+        || (codes::FIRST_FUNCTION <= b && b <= codes::LAST_FUNCTION)
+        || (codes::LETTER_A <= b && b <= codes::LETTER_Z)
 }
 
 fn operands(token: Token) -> usize

@@ -8,7 +8,7 @@ ghost use Rattle.mufom_records.specs.Reading.{field_at, plain_number_at};
 
 use crate::stop::Stop;
 use arrayvec::ArrayVec;
-use mufom_numbers::{Reason, Span, Taken, read_id, read_number};
+use mufom_numbers::{Reason, Span, Taken, codes, read_id, read_number};
 
 /// A fault at a place.
 pub(crate) fn bad(offset: usize, reason: Reason) -> Stop
@@ -197,7 +197,7 @@ pub(crate) fn optional_number(input: &[u8], at: usize) -> Result<(Option<u64>, u
     ensures within { IfOk result (λ r. r.1 ≤ length input.now) }
 {
     let (b, _) = byte(input, at)?;
-    if b <= 0x88 {
+    if b <= codes::LAST_NUMBER {
         let (value, after) = plain_number(input, at)?;
         Ok((Some(value), after))
     } else {

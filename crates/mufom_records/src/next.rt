@@ -1,6 +1,7 @@
 //! The record that stands next, by its code.
 
 ghost use Rattle.std.specs.Prelude.{◌≡◌, ◌↔◌, ◌≤◌, ℕ, List, ◌++◌, length, take, drop, None, IfOk};
+ghost use Rattle.mufom_numbers.specs.declared.codes.TheConstants.{ASSIGNMENT, DESCRIPTOR, LETTER_W, MODULE_BEGIN};
 ghost use Rattle.mufom_numbers.specs.declared.reason.Reason.{Reason};
 ghost use Rattle.mufom_numbers.specs.Spelling.{IfGot};
 ghost use Rattle.mufom_records.specs.declared.record.Record.{Record};
@@ -21,7 +22,7 @@ use crate::rows::{
     set_section, weak_reference,
 };
 use crate::stop::Stop;
-use mufom_numbers::{Reason, Taken};
+use mufom_numbers::{Reason, Taken, codes};
 
 // What stands after E2 and a second byte.
 fn assignment(second: u8, input: &[u8], at: usize) -> Read
@@ -31,14 +32,15 @@ fn assignment(second: u8, input: &[u8], at: usize) -> Read
     ensures parts { IfOk result (λ r. HasParts input.now r.0) }
 {
     match second {
-        0xD7 => offset(input, at),
-        0xD3 => section_size(input, at),
-        0xCC => section_base(input, at),
-        0xC9 => public_value(input, at),
-        0xCE => debug_value(input, at),
-        0xD0 => set_counter(input, at),
-        0xC7 => start_address(input, at),
-        0xC1 | 0xC2 | 0xC6 | 0xCD | 0xD2 => Err(bad(at - 2, Reason::UnsupportedRecord)),
+        codes::LETTER_W => offset(input, at),
+        codes::LETTER_S => section_size(input, at),
+        codes::LETTER_L => section_base(input, at),
+        codes::LETTER_I => public_value(input, at),
+        codes::LETTER_N => debug_value(input, at),
+        codes::LETTER_P => set_counter(input, at),
+        codes::LETTER_G => start_address(input, at),
+        codes::LETTER_A | codes::LETTER_B | codes::LETTER_F | codes::LETTER_M | codes::LETTER_R =>
+            Err(bad(at - 2, Reason::UnsupportedRecord)),
         _ => Err(bad(at - 1, Reason::BadRecord)),
     }
 }
@@ -51,9 +53,9 @@ fn noted(second: u8, input: &[u8], at: usize) -> Read
     ensures parts { IfOk result (λ r. HasParts input.now r.0) }
 {
     match second {
-        0xC9 => public_note(input, at),
-        0xD8 => reference_note(input, at),
-        0xCE => debug_note(input, at),
+        codes::LETTER_I => public_note(input, at),
+        codes::LETTER_X => reference_note(input, at),
+        codes::LETTER_N => debug_note(input, at),
         _ => Err(bad(at - 1, Reason::BadRecord)),
     }
 }
@@ -85,35 +87,35 @@ fn coded(code: u8, input: &[u8], at: usize) -> Read
     ensures parts { IfOk result (λ r. HasParts input.now r.0) }
 {
     match code {
-        0xE0 => module_begin(input, at),
-        0xE1 => Ok((Record::ModuleEnd, at)),
-        0xE2 => assigned(input, at),
-        0xE4 => Ok((Record::Relocate, at)),
-        0xE5 => set_section(input, at),
-        0xE6 => section_type(input, at),
-        0xE7 => alignment(input, at),
-        0xE8 => public_name(input, at),
-        0xE9 => reference_name(input, at),
-        0xEC => descriptor(input, at),
-        0xED => constant(input, at),
-        0xF0 => debug_name(input, at),
-        0xF1 => note(input, at),
-        0xF2 => Err(bad(at - 1, Reason::UnsupportedRecord)),
-        0xF4 => weak_reference(input, at),
-        0xF7 => repeat(input, at),
-        0xF8 => block_begin(input, at),
-        0xF9 => block_end(input, at),
+        codes::MODULE_BEGIN => module_begin(input, at),
+        codes::MODULE_END => Ok((Record::ModuleEnd, at)),
+        codes::ASSIGNMENT => assigned(input, at),
+        codes::RELOCATE => Ok((Record::Relocate, at)),
+        codes::SET_SECTION => set_section(input, at),
+        codes::SECTION_TYPE => section_type(input, at),
+        codes::SECTION_ALIGNMENT => alignment(input, at),
+        codes::PUBLIC_NAME => public_name(input, at),
+        codes::REFERENCE_NAME => reference_name(input, at),
+        codes::DESCRIPTOR => descriptor(input, at),
+        codes::CONSTANT => constant(input, at),
+        codes::DEBUG_NAME => debug_name(input, at),
+        codes::NOTE => note(input, at),
+        codes::TYPE => Err(bad(at - 1, Reason::UnsupportedRecord)),
+        codes::WEAK_REFERENCE => weak_reference(input, at),
+        codes::REPEAT => repeat(input, at),
+        codes::BLOCK_BEGIN => block_begin(input, at),
+        codes::BLOCK_END => block_end(input, at),
         _ => Err(bad(at - 1, Reason::BadRecord)),
     }
 }
 
 // The module's begin, which alone may stand first.
 fn header_begin(input: &[u8]) -> Read
-    ensures exact { result ≡ read (layouts.begins_with 1 0xE0 layouts.module_begin) input.now 0 }
+    ensures exact { result ≡ read (layouts.begins_with 1 MODULE_BEGIN layouts.module_begin) input.now 0 }
     ensures parts { IfOk result (λ r. HasParts input.now r.0) }
 {
     let (code, at) = byte(input, 0)?;
-    if code == 0xE0 {
+    if code == codes::MODULE_BEGIN {
         module_begin(input, at)
     } else {
         Err(bad(0, Reason::BadHeader))
@@ -122,11 +124,11 @@ fn header_begin(input: &[u8]) -> Read
 
 // The address descriptor, which alone may stand next.
 fn header_descriptor(input: &[u8]) -> Read
-    ensures exact { result ≡ read (layouts.begins_with 1 0xEC layouts.descriptor) input.now 0 }
+    ensures exact { result ≡ read (layouts.begins_with 1 DESCRIPTOR layouts.descriptor) input.now 0 }
     ensures parts { IfOk result (λ r. HasParts input.now r.0) }
 {
     let (code, at) = byte(input, 0)?;
-    if code == 0xEC {
+    if code == codes::DESCRIPTOR {
         descriptor(input, at)
     } else {
         Err(bad(0, Reason::BadHeader))
@@ -136,11 +138,11 @@ fn header_descriptor(input: &[u8]) -> Read
 fn header_letter(part: u8, input: &[u8], at: usize) -> Read
     requires low { 1 ≤ at }
     requires within { at ≤ length input.now }
-    ensures exact { result ≡ read (layouts.begins_with 2 0xD7 (layouts.numbered_offset part)) input.now at }
+    ensures exact { result ≡ read (layouts.begins_with 2 LETTER_W (layouts.numbered_offset part)) input.now at }
     ensures parts { IfOk result (λ r. HasParts input.now r.0) }
 {
     let (second, after) = byte(input, at)?;
-    if second == 0xD7 {
+    if second == codes::LETTER_W {
         numbered_offset(part, input, after)
     } else {
         Err(bad(at - 1, Reason::BadHeader))
@@ -149,11 +151,11 @@ fn header_letter(part: u8, input: &[u8], at: usize) -> Read
 
 // The offset of this number, which alone may stand next.
 fn header_offset(part: u8, input: &[u8]) -> Read
-    ensures exact { result ≡ read (layouts.begins_with 1 0xE2 (layouts.begins_with 2 0xD7 (layouts.numbered_offset part))) input.now 0 }
+    ensures exact { result ≡ read (layouts.begins_with 1 ASSIGNMENT (layouts.begins_with 2 LETTER_W (layouts.numbered_offset part))) input.now 0 }
     ensures parts { IfOk result (λ r. HasParts input.now r.0) }
 {
     let (code, at) = byte(input, 0)?;
-    if code == 0xE2 {
+    if code == codes::ASSIGNMENT {
         header_letter(part, input, at)
     } else {
         Err(bad(0, Reason::BadHeader))

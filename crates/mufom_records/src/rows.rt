@@ -13,7 +13,7 @@ use crate::fields::{
 };
 use crate::record::{BlockTail, Record};
 use crate::stop::Stop;
-use mufom_numbers::{Reason, Span};
+use mufom_numbers::{Reason, Span, codes};
 
 /// A record and the place after it.
 pub(crate) type Read = Result<(Record, usize), Stop>;
@@ -35,7 +35,7 @@ pub(crate) fn descriptor(input: &[u8], at: usize) -> Read
 {
     let (bits, at) = number(input, at)?;
     let (maus, at) = number(input, at)?;
-    let (order, at) = letter(&[0xCC, 0xCD], input, at)?;
+    let (order, at) = letter(&[codes::LETTER_L, codes::LETTER_M], input, at)?;
     Ok((Record::Descriptor(bits, maus, order), at))
 }
 
@@ -64,7 +64,11 @@ fn named_section(i: u32, absolute: bool, input: &[u8], at: usize) -> Read
     ensures exact { result ≡ read (layouts.named_section i absolute) input.now at }
     ensures parts { IfOk result (λ r. HasParts input.now r.0) }
 {
-    let (purpose, at) = letter(&[0xD0, 0xC4, 0xD2], input, at)?;
+    let (purpose, at) = letter(
+        &[codes::LETTER_P, codes::LETTER_D, codes::LETTER_R],
+        input,
+        at,
+    )?;
     let (name, at) = string(input, at)?;
     let (a, at) = optional_number(input, at)?;
     let (b, at) = optional_number(input, at)?;
@@ -79,7 +83,7 @@ fn absolute_section(i: u32, input: &[u8], at: usize) -> Read
     ensures parts { IfOk result (λ r. HasParts input.now r.0) }
 {
     let (second, after) = byte(input, at)?;
-    if second == 0xD3 {
+    if second == codes::LETTER_S {
         named_section(i, true, input, after)
     } else {
         Err(bad(at - 1, Reason::BadSectionType))
@@ -94,8 +98,8 @@ pub(crate) fn section_type(input: &[u8], at: usize) -> Read
     let (i, at) = index(input, at)?;
     let (first, after) = byte(input, at)?;
     match first {
-        0xC3 => named_section(i, false, input, after),
-        0xC1 => absolute_section(i, input, after),
+        codes::LETTER_C => named_section(i, false, input, after),
+        codes::LETTER_A => absolute_section(i, input, after),
         _ => Err(bad(at, Reason::BadSectionType)),
     }
 }
@@ -356,8 +360,8 @@ pub(crate) fn repeat(input: &[u8], at: usize) -> Read
     let (times, at) = number(input, at)?;
     let (code, after) = byte(input, at)?;
     match code {
-        0xED => repeat_constant(times, input, after),
-        0xE4 => Ok((Record::RepeatRelocate(times), after)),
+        codes::CONSTANT => repeat_constant(times, input, after),
+        codes::RELOCATE => Ok((Record::RepeatRelocate(times), after)),
         _ => Err(bad(at, Reason::BadRecord)),
     }
 }

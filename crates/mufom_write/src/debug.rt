@@ -16,7 +16,7 @@ use mufom_debug::{BlockHead, DebugItem};
 use mufom_expr::Postfix;
 use mufom_host::Failed;
 use mufom_names::Note;
-use mufom_numbers::Bytes;
+use mufom_numbers::{Bytes, codes};
 
 // Two numbers, and the expression of a block's begin.
 fn scope<K: Output>(out: &mut K, first: u64, second: u64, offset: &Postfix) -> Result<(), Failed>
@@ -58,7 +58,7 @@ fn block_begin<K: Output>(out: &mut K, head: &BlockHead, name: &Bytes) -> Result
     requires { is_long name.now ≡ false }
     ensures { (n : ℕ) → K.takes out.old out.new (written.debug_record shortest n (block_begin head.now name.now)) result }
 {
-    numbered(out, &[0xF8], head.kind() as u64)?;
+    numbered(out, &[codes::BLOCK_BEGIN], head.kind() as u64)?;
     number(out, 0)?;
     string(out, name)?;
     head_fields(out, head)
@@ -78,7 +78,7 @@ fn end_expression<K: Output>(out: &mut K, end: &Option<Postfix>) -> Result<(), F
 fn block_end<K: Output>(out: &mut K, end: &Option<Postfix>) -> Result<(), Failed>
     ensures { (n : ℕ) → K.takes out.old out.new (written.debug_record shortest n (block_end end.now)) result }
 {
-    out.put(&[0xF9])?;
+    out.put(&[codes::BLOCK_END])?;
     end_expression(out, end)
 }
 
@@ -86,7 +86,11 @@ fn block_end<K: Output>(out: &mut K, end: &Option<Postfix>) -> Result<(), Failed
 fn value_record<K: Output>(out: &mut K, name: u32, value: &Postfix) -> Result<(), Failed>
     ensures { (n : ℕ) → K.takes out.old out.new (written.debug_record shortest n (value_mark name value.now)) result }
 {
-    numbered(out, &[0xE2, 0xCE], name as u64 + FIRST_DEBUG_NAME)?;
+    numbered(
+        out,
+        &[codes::ASSIGNMENT, codes::LETTER_N],
+        name as u64 + FIRST_DEBUG_NAME,
+    )?;
     expression(out, value)
 }
 
@@ -107,11 +111,11 @@ fn debug_item<K: Output>(out: &mut K, item: &DebugItem, names: &mut u64) -> Resu
         DebugItem::Name(name) => {
             let index = *names + FIRST_DEBUG_NAME;
             *names += 1;
-            name_record(out, 0xF0, index, name)
+            name_record(out, codes::DEBUG_NAME, index, name)
         }
         DebugItem::Note { name, note: its } => note(
             out,
-            0xCE,
+            codes::LETTER_N,
             *name as u64 + FIRST_DEBUG_NAME,
             its,
         ),

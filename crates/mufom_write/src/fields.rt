@@ -10,7 +10,7 @@ ghost use Rattle.mufom_module.specs.Defects.{is_long};
 use crate::output::Output;
 use mufom_expr::{FieldKind, Function, Letter, Postfix, Token};
 use mufom_host::Failed;
-use mufom_numbers::{Bytes, id_lead, number_spelling};
+use mufom_numbers::{Bytes, codes, id_lead, number_spelling};
 
 /// The index that the file has for its first section.
 pub(crate) const FIRST_SECTION: u64 = 1;
@@ -72,12 +72,12 @@ fn letter_byte(letter: Letter) -> u8
     ensures { result ≡ letter_byte letter }
 {
     match letter {
-        Letter::I => 0xC9,
-        Letter::L => 0xCC,
-        Letter::P => 0xD0,
-        Letter::R => 0xD2,
-        Letter::S => 0xD3,
-        Letter::X => 0xD8,
+        Letter::I => codes::LETTER_I,
+        Letter::L => codes::LETTER_L,
+        Letter::P => codes::LETTER_P,
+        Letter::R => codes::LETTER_R,
+        Letter::S => codes::LETTER_S,
+        Letter::X => codes::LETTER_X,
     }
 }
 
@@ -85,22 +85,22 @@ fn function_byte(function: Function) -> u8
     ensures { result ≡ function_byte function }
 {
     match function {
-        Function::Abs => 0xA2,
-        Function::Neg => 0xA3,
-        Function::Plus => 0xA5,
-        Function::Minus => 0xA6,
-        Function::Divide => 0xA7,
-        Function::Times => 0xA8,
-        Function::Max => 0xA9,
-        Function::Min => 0xAA,
-        Function::Mod => 0xAB,
-        Function::Less => 0xAC,
-        Function::Greater => 0xAD,
-        Function::Equal => 0xAE,
-        Function::Unequal => 0xAF,
-        Function::And => 0xB0,
-        Function::Or => 0xB1,
-        Function::Xor => 0xB2,
+        Function::Abs => codes::FUNCTION_ABS,
+        Function::Neg => codes::FUNCTION_NEG,
+        Function::Plus => codes::FUNCTION_PLUS,
+        Function::Minus => codes::FUNCTION_MINUS,
+        Function::Divide => codes::FUNCTION_DIVIDE,
+        Function::Times => codes::FUNCTION_TIMES,
+        Function::Max => codes::FUNCTION_MAX,
+        Function::Min => codes::FUNCTION_MIN,
+        Function::Mod => codes::FUNCTION_MOD,
+        Function::Less => codes::FUNCTION_LESS,
+        Function::Greater => codes::FUNCTION_GREATER,
+        Function::Equal => codes::FUNCTION_EQUAL,
+        Function::Unequal => codes::FUNCTION_UNEQUAL,
+        Function::And => codes::FUNCTION_AND,
+        Function::Or => codes::FUNCTION_OR,
+        Function::Xor => codes::FUNCTION_XOR,
     }
 }
 
@@ -146,9 +146,9 @@ pub(crate) fn opening(kind: FieldKind) -> u8
     ensures { result ≡ opening kind }
 {
     match kind {
-        FieldKind::Signed => 0xBA,
-        FieldKind::Unsigned => 0xBC,
-        FieldKind::Either => 0xBE,
+        FieldKind::Signed => codes::OPEN_SIGNED,
+        FieldKind::Unsigned => codes::OPEN_UNSIGNED,
+        FieldKind::Either => codes::OPEN_EITHER,
     }
 }
 
@@ -157,8 +157,8 @@ pub(crate) fn closing(kind: FieldKind) -> u8
     ensures { result ≡ closing kind }
 {
     match kind {
-        FieldKind::Signed => 0xBB,
-        FieldKind::Unsigned => 0xBD,
-        FieldKind::Either => 0xBF,
+        FieldKind::Signed => codes::CLOSE_SIGNED,
+        FieldKind::Unsigned => codes::CLOSE_UNSIGNED,
+        FieldKind::Either => codes::CLOSE_EITHER,
     }
 }

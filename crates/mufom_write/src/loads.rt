@@ -1,6 +1,7 @@
 //! The records of loads, and of the start.
 
 ghost use Rattle.std.specs.Prelude.{◌∷◌, ◌++◌, [], Some};
+ghost use Rattle.mufom_numbers.specs.declared.codes.TheConstants.{ASSIGNMENT, CONSTANT, LETTER_P, RELOCATE, REPEAT};
 ghost use Rattle.mufom_records.specs.Layouts.{comma, closing};
 ghost use Rattle.mufom_module.specs.Written as written;
 ghost use Rattle.mufom_module.specs.Written.{shortest, each};
@@ -10,13 +11,13 @@ use crate::output::Output;
 use mufom_expr::{FieldKind, Postfix};
 use mufom_host::Failed;
 use mufom_loads::{Item, Load};
-use mufom_numbers::Bytes;
+use mufom_numbers::{Bytes, codes};
 
 // What stands after the expression of a field: a comma, the size, and the closing bracket.
 fn field_end<K: Output>(out: &mut K, kind: FieldKind, size: u8) -> Result<(), Failed>
     ensures { K.takes out.old out.new (comma ∷ (written.number shortest size ++ closing kind ∷ [])) result }
 {
-    numbered(out, &[0x90], size as u64)?;
+    numbered(out, &[codes::COMMA], size as u64)?;
     out.put(&[closing(kind)])
 }
 
@@ -49,9 +50,9 @@ fn items<K: Output>(out: &mut K, items: &[Item]) -> Result<(), Failed>
 
 // LD.
 fn literal_record<K: Output>(out: &mut K, bytes: &Bytes) -> Result<(), Failed>
-    ensures { K.takes out.old out.new (0xED ∷ written.counted shortest bytes.now) result }
+    ensures { K.takes out.old out.new (CONSTANT ∷ written.counted shortest bytes.now) result }
 {
-    out.put(&[0xED])?;
+    out.put(&[codes::CONSTANT])?;
     counted(out, bytes)
 }
 
@@ -62,9 +63,9 @@ fn field_record<K: Output>(
     value: &Postfix,
     size: u8,
 ) -> Result<(), Failed>
-    ensures { K.takes out.old out.new (0xE4 ∷ written.field shortest kind value.now size) result }
+    ensures { K.takes out.old out.new (RELOCATE ∷ written.field shortest kind value.now size) result }
 {
-    out.put(&[0xE4])?;
+    out.put(&[codes::RELOCATE])?;
     field(out, kind, value, size)
 }
 
@@ -80,9 +81,9 @@ fn single<K: Output>(out: &mut K, item: &Item) -> Result<(), Failed>
 
 // LR of items.
 fn items_record<K: Output>(out: &mut K, list: &[Item]) -> Result<(), Failed>
-    ensures { K.takes out.old out.new (0xE4 ∷ each (λ _. written.item shortest) list.now) result }
+    ensures { K.takes out.old out.new (RELOCATE ∷ each (λ _. written.item shortest) list.now) result }
 {
-    out.put(&[0xE4])?;
+    out.put(&[codes::RELOCATE])?;
     items(out, list)
 }
 
@@ -99,17 +100,21 @@ fn repeated<K: Output>(out: &mut K, list: &[Item]) -> Result<(), Failed>
 // ASP.
 fn counter_record<K: Output>(out: &mut K, section: u32, value: &Postfix) -> Result<(), Failed>
     ensures { K.takes out.old out.new
-        (0xE2 ∷ 0xD0 ∷ (written.number shortest (written.section_index section) ++ written.expression shortest value.now)) result }
+        (ASSIGNMENT ∷ LETTER_P ∷ (written.number shortest (written.section_index section) ++ written.expression shortest value.now)) result }
 {
-    numbered(out, &[0xE2, 0xD0], section as u64 + FIRST_SECTION)?;
+    numbered(
+        out,
+        &[codes::ASSIGNMENT, codes::LETTER_P],
+        section as u64 + FIRST_SECTION,
+    )?;
     expression(out, value)
 }
 
 // RE, and what is repeated.
 fn repeat<K: Output>(out: &mut K, count: u64, items: &[Item]) -> Result<(), Failed>
-    ensures { K.takes out.old out.new (0xF7 ∷ (written.number shortest count ++ written.repeated shortest items.now)) result }
+    ensures { K.takes out.old out.new (REPEAT ∷ (written.number shortest count ++ written.repeated shortest items.now)) result }
 {
-    numbered(out, &[0xF7], count)?;
+    numbered(out, &[codes::REPEAT], count)?;
     repeated(out, items)
 }
 
@@ -117,7 +122,11 @@ fn load<K: Output>(out: &mut K, load: &Load) -> Result<(), Failed>
     ensures { K.takes out.old out.new (written.load shortest load.now) result }
 {
     match load {
-        Load::SetSection(section) => numbered(out, &[0xE5], *section as u64 + FIRST_SECTION),
+        Load::SetSection(section) => numbered(
+            out,
+            &[codes::SET_SECTION],
+            *section as u64 + FIRST_SECTION,
+        ),
         Load::SetPc { section, value } => counter_record(out, *section, value),
         Load::One(one) => single(out, one),
         Load::Repeat { count, items } => repeat(out, *count, items.as_slice()),
@@ -138,9 +147,9 @@ pub(crate) fn loads<K: Output>(out: &mut K, loads: &[Load]) -> Result<(), Failed
 fn start_record<K: Output>(out: &mut K, value: &Postfix) -> Result<(), Failed>
     ensures { K.takes out.old out.new (written.start shortest (Some value.now)) result }
 {
-    out.put(&[0xE2, 0xC7, 0xBE])?;
+    out.put(&[codes::ASSIGNMENT, codes::LETTER_G, codes::OPEN_EITHER])?;
     expression(out, value)?;
-    out.put(&[0xBF])
+    out.put(&[codes::CLOSE_EITHER])
 }
 
 /// ASG, where there is a start.

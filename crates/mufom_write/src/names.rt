@@ -1,6 +1,7 @@
 //! The records of publics, references and their notes.
 
 ghost use Rattle.std.specs.Prelude.{◌≡◌, ◌∷◌, ◌++◌, ◌<◌, ◌^◌, false, Some};
+ghost use Rattle.mufom_numbers.specs.declared.codes.TheConstants.{ASSIGNMENT, LETTER_I};
 ghost use Rattle.std.specs.List.{list_any};
 ghost use Rattle.mufom_module.specs.Written as written;
 ghost use Rattle.mufom_module.specs.Written.{shortest, each};
@@ -11,7 +12,7 @@ use crate::output::Output;
 use mufom_expr::Postfix;
 use mufom_host::Failed;
 use mufom_names::{Note, Public, Reference, Weak};
-use mufom_numbers::Bytes;
+use mufom_numbers::{Bytes, codes};
 
 /// ATI, ATX or ATN, by the letter of the kind of the name.
 pub(crate) fn note<K: Output>(
@@ -22,7 +23,7 @@ pub(crate) fn note<K: Output>(
 ) -> Result<(), Failed>
     ensures { K.takes out.old out.new (written.note shortest letter index note.now) result }
 {
-    numbered(out, &[0xF1, letter], index)?;
+    numbered(out, &[codes::NOTE, letter], index)?;
     number(out, note.type_index)?;
     number(out, note.attribute)?;
     numbers(out, note.numbers.as_slice())
@@ -55,9 +56,9 @@ pub(crate) fn name_record<K: Output>(
 
 // ASI.
 fn value_record<K: Output>(out: &mut K, index: u64, value: &Postfix) -> Result<(), Failed>
-    ensures { K.takes out.old out.new (0xE2 ∷ 0xC9 ∷ (written.number shortest index ++ written.expression shortest value.now)) result }
+    ensures { K.takes out.old out.new (ASSIGNMENT ∷ LETTER_I ∷ (written.number shortest index ++ written.expression shortest value.now)) result }
 {
-    numbered(out, &[0xE2, 0xC9], index)?;
+    numbered(out, &[codes::ASSIGNMENT, codes::LETTER_I], index)?;
     expression(out, value)
 }
 
@@ -67,8 +68,8 @@ fn public<K: Output>(out: &mut K, position: usize, public: &Public) -> Result<()
     ensures { K.takes out.old out.new (written.public shortest position public.now) result }
 {
     let index = position as u64 + FIRST_PUBLIC;
-    name_record(out, 0xE8, index, &public.name)?;
-    notes(out, 0xC9, index, public.notes.as_slice())?;
+    name_record(out, codes::PUBLIC_NAME, index, &public.name)?;
+    notes(out, codes::LETTER_I, index, public.notes.as_slice())?;
     value_record(out, index, &public.value)
 }
 
@@ -99,7 +100,7 @@ fn default_number<K: Output>(out: &mut K, default: u64) -> Result<(), Failed>
 fn weak_record<K: Output>(out: &mut K, index: u64, weak: Weak) -> Result<(), Failed>
     ensures { K.takes out.old out.new (written.weak shortest index (Some weak)) result }
 {
-    numbered(out, &[0xF4], index)?;
+    numbered(out, &[codes::WEAK_REFERENCE], index)?;
     number(out, weak.size)?;
     default_number(out, weak.default)
 }
@@ -120,8 +121,8 @@ fn reference<K: Output>(out: &mut K, position: usize, reference: &Reference) -> 
     ensures { K.takes out.old out.new (written.reference shortest position reference.now) result }
 {
     let index = position as u64 + FIRST_REFERENCE;
-    name_record(out, 0xE9, index, &reference.name)?;
-    notes(out, 0xD8, index, reference.notes.as_slice())?;
+    name_record(out, codes::REFERENCE_NAME, index, &reference.name)?;
+    notes(out, codes::LETTER_X, index, reference.notes.as_slice())?;
     weak(out, index, reference.weak)
 }
 

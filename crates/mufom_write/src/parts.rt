@@ -1,6 +1,7 @@
 //! The parts of a file and what stands before them.
 
 ghost use Rattle.std.specs.Prelude.{◌≡◌, ◌∷◌, ◌++◌, ◌<◌, ◌^◌, [], All, length, get_or};
+ghost use Rattle.mufom_numbers.specs.declared.codes.TheConstants.{DESCRIPTOR, MODULE_BEGIN};
 ghost use Rattle.mufom_debug.specs.Marks.{joined};
 ghost use Rattle.mufom_module.specs.Written as written;
 ghost use Rattle.mufom_module.specs.Written.{shortest, each};
@@ -14,6 +15,7 @@ use crate::output::Output;
 use crate::sections::sections;
 use mufom_host::Failed;
 use mufom_module::{Order, Parts};
+use mufom_numbers::codes;
 
 // ---- the header
 
@@ -21,17 +23,17 @@ fn order_letter(order: Order) -> u8
     ensures { result ≡ written.order_letter order }
 {
     match order {
-        Order::Least => 0xCC,
-        Order::Most => 0xCD,
+        Order::Least => codes::LETTER_L,
+        Order::Most => codes::LETTER_M,
     }
 }
 
 // MB.
 fn begin_record<K: Output>(out: &mut K, parts: &Parts) -> Result<(), Failed>
     requires { IsValid parts.now }
-    ensures { K.takes out.old out.new (0xE0 ∷ (written.string shortest parts.now.processor ++ written.string shortest parts.now.name)) result }
+    ensures { K.takes out.old out.new (MODULE_BEGIN ∷ (written.string shortest parts.now.processor ++ written.string shortest parts.now.name)) result }
 {
-    out.put(&[0xE0])?;
+    out.put(&[codes::MODULE_BEGIN])?;
     string(out, &parts.processor)?;
     string(out, &parts.name)
 }
@@ -39,9 +41,9 @@ fn begin_record<K: Output>(out: &mut K, parts: &Parts) -> Result<(), Failed>
 // AD.
 fn descriptor_record<K: Output>(out: &mut K, parts: &Parts) -> Result<(), Failed>
     ensures { K.takes out.old out.new
-        (0xEC ∷ (written.number shortest 8 ++ (written.number shortest parts.now.maus ++ written.order_letter parts.now.order ∷ []))) result }
+        (DESCRIPTOR ∷ (written.number shortest 8 ++ (written.number shortest parts.now.maus ++ written.order_letter parts.now.order ∷ []))) result }
 {
-    numbered(out, &[0xEC], 8)?;
+    numbered(out, &[codes::DESCRIPTOR], 8)?;
     number(out, parts.maus as u64)?;
     out.put(&[order_letter(parts.order)])
 }
@@ -60,8 +62,8 @@ fn offset_record<K: Output>(out: &mut K, part: usize, offset: u64) -> Result<(),
     requires { offset < 2 ^ 32 }
     ensures { K.takes out.old out.new (written.offset_record shortest part offset) result }
 {
-    numbered(out, &[0xE2, 0xD7], part as u64)?;
-    out.put(&[0x84])?;
+    numbered(out, &[codes::ASSIGNMENT, codes::LETTER_W], part as u64)?;
+    out.put(&[codes::NUMBER_OF_FOUR_BYTES])?;
     out.put(&(offset as u32).to_be_bytes())
 }
 

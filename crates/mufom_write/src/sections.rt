@@ -9,15 +9,16 @@ ghost use Rattle.mufom_module.specs.Defects.{is_long};
 use crate::fields::{FIRST_SECTION, number, numbered, string};
 use crate::output::Output;
 use mufom_host::Failed;
+use mufom_numbers::codes;
 use mufom_sections::{Purpose, Section};
 
 fn letters<K: Output>(out: &mut K, absolute: bool) -> Result<(), Failed>
     ensures { K.takes out.old out.new (written.section_letters absolute) result }
 {
     if absolute {
-        out.put(&[0xC1, 0xD3])
+        out.put(&[codes::LETTER_A, codes::LETTER_S])
     } else {
-        out.put(&[0xC3])
+        out.put(&[codes::LETTER_C])
     }
 }
 
@@ -26,9 +27,9 @@ fn purpose_letter<K: Output>(out: &mut K, purpose: Option<Purpose>) -> Result<()
 {
     match purpose {
         None => Ok(()),
-        Some(Purpose::Code) => out.put(&[0xD0]),
-        Some(Purpose::Data) => out.put(&[0xC4]),
-        Some(Purpose::Rom) => out.put(&[0xD2]),
+        Some(Purpose::Code) => out.put(&[codes::LETTER_P]),
+        Some(Purpose::Data) => out.put(&[codes::LETTER_D]),
+        Some(Purpose::Rom) => out.put(&[codes::LETTER_R]),
     }
 }
 
@@ -37,7 +38,7 @@ fn section_record<K: Output>(out: &mut K, index: u64, section: &Section) -> Resu
     requires { is_long section.now.name ≡ false }
     ensures { K.takes out.old out.new (written.section_record shortest index section.now) result }
 {
-    numbered(out, &[0xE6], index)?;
+    numbered(out, &[codes::SECTION_TYPE], index)?;
     letters(out, section.absolute)?;
     purpose_letter(out, section.purpose)?;
     string(out, &section.name)
@@ -59,7 +60,7 @@ fn alignment_record<K: Output>(out: &mut K, index: u64, align: u64) -> Result<()
     if align == 1 {
         return Ok(());
     }
-    setting(out, &[0xE7], index, align)
+    setting(out, &[codes::SECTION_ALIGNMENT], index, align)
 }
 
 // ASS, where the size is not 0.
@@ -69,7 +70,7 @@ fn size_record<K: Output>(out: &mut K, index: u64, size: u64) -> Result<(), Fail
     if size == 0 {
         return Ok(());
     }
-    setting(out, &[0xE2, 0xD3], index, size)
+    setting(out, &[codes::ASSIGNMENT, codes::LETTER_S], index, size)
 }
 
 // ASL, where there is a base.
@@ -77,7 +78,7 @@ fn base_record<K: Output>(out: &mut K, index: u64, base: Option<u64>) -> Result<
     ensures { K.takes out.old out.new (written.base_record shortest index base) result }
 {
     match base {
-        Some(base) => setting(out, &[0xE2, 0xCC], index, base),
+        Some(base) => setting(out, &[codes::ASSIGNMENT, codes::LETTER_L], index, base),
         None => Ok(()),
     }
 }

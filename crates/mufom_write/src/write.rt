@@ -9,6 +9,7 @@ use crate::output::Output;
 use crate::parts::{all_parts, module_begin, offset_records};
 use mufom_host::{Failed, Sink};
 use mufom_module::{Module, Parts};
+use mufom_numbers::codes;
 use thiserror::Error;
 
 /// Why a module is not written.
@@ -28,7 +29,7 @@ fn write_form<K: Output>(out: &mut K, parts: &Parts) -> Result<(), Failed>
     module_begin(out, parts)?;
     offset_records(out, &layout.offsets)?;
     all_parts(out, parts)?;
-    out.put(&[0xE1])
+    out.put(&[codes::MODULE_END])
 }
 
 /// Writes the written form of the module to the file being made, record by record, at least one
