@@ -1,11 +1,10 @@
 ghost use Rattle.std.specs.Prelude.{◌≡◌, ◌≢◌, ◌⊎◌, ◌↔◌, ◌<◌, [], ◌∷◌, ◌++◌, length, IfOk, OnOk, OnErr, Err, Some};
-ghost use Rattle.mufom_expr.specs.Codes.{operands_of};
 ghost use Rattle.mufom_expr.specs.Tree.{tokens_of, IsInRange};
 ghost use Rattle.mufom_expr.specs.Terms.{the_term, FindsTooFew, LeavesMoreThanOne};
 
 use crate::fault::ExprFault;
 use crate::postfix::Postfix;
-use crate::token::{Function, Token};
+use crate::token::{Token, operands};
 use std::alloc::Global;
 use std::marker::Model;
 
@@ -31,20 +30,6 @@ impl Model for Builder {
     ghost view = { λ b. b.tokens.items };
 
     ghost invariant = { λ b. (leaves b.tokens.items ≡ Some b.terms) × (b.terms ≤ length b.tokens.items) × (length b.tokens.items ≤ 255) × AllByRecursion IsInRange b.tokens.items };
-}
-
-// How many terms the token takes.
-fn operands(token: Token) -> usize
-    ensures count { result ≡ operands_of token }
-    ensures range { IsInRange token }
-{
-    match token {
-        Token::Number(_) => 0,
-        Token::Var(_, _) => 0,
-        Token::Fun(Function::Abs) => 1,
-        Token::Fun(Function::Neg) => 1,
-        Token::Fun(_) => 2,
-    }
 }
 
 impl Builder {

@@ -31,7 +31,7 @@ pub use laws::{
 pub use mentions::Mentions;
 pub use postfix::Postfix;
 pub use read::read_token;
-pub use token::{FieldKind, Function, Letter, Token};
+pub use token::{FieldKind, Function, Letter, Token, operands};
 
 #[cfg(test)]
 mod tests;

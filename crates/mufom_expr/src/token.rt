@@ -1,3 +1,7 @@
+ghost use Rattle.std.specs.Prelude.{◌≡◌};
+ghost use Rattle.mufom_expr.specs.Codes.{operands_of};
+ghost use Rattle.mufom_expr.specs.Tree.{IsInRange};
+
 /// What a variable stands for, by the letter of the format.
 #[derive(Clone, Copy, Debug, PartialEq, Eq)]
 pub enum Letter {
@@ -51,4 +55,18 @@ pub enum Token {
     Number(u64),
     Var(Letter, u32),
     Fun(Function),
+}
+
+/// How many terms a token takes as its operands.
+pub fn operands(token: Token) -> usize
+    ensures count { result ≡ operands_of token }
+    ensures range { IsInRange token }
+{
+    match token {
+        Token::Number(_) => 0,
+        Token::Var(_, _) => 0,
+        Token::Fun(Function::Abs) => 1,
+        Token::Fun(Function::Neg) => 1,
+        Token::Fun(_) => 2,
+    }
 }

@@ -2,14 +2,13 @@
 
 ghost use Rattle.std.specs.Prelude.{◌≡◌, ◌+◌, ◌<◌, ◌≤◌, length, drop, IfOk};
 ghost use Rattle.mufom_expr.specs.TokenAt.{begins_token as token_begins, token_at};
-ghost use Rattle.mufom_expr.specs.Codes.{operands_of};
 ghost use Rattle.mufom_records.specs.Fields.{expression as an_expression, optional_expression as an_optional_expression};
 ghost use Rattle.mufom_records.specs.Parts.{IsExpressionIn, IsOptionalExpressionIn};
 ghost use Rattle.mufom_records.specs.Reading.{field_at, terms_with, expression_end, tokens_from};
 
 use crate::fields::{bad, byte};
 use crate::stop::Stop;
-use mufom_expr::{Function, Token, read_token};
+use mufom_expr::{operands, read_token};
 use mufom_numbers::{Reason, Span, Taken, codes};
 
 fn begins_token(b: u8) -> bool
@@ -18,18 +17,6 @@ fn begins_token(b: u8) -> bool
     b <= codes::LAST_NUMBER
         || (codes::FIRST_FUNCTION <= b && b <= codes::LAST_FUNCTION)
         || (codes::LETTER_A <= b && b <= codes::LETTER_Z)
-}
-
-fn operands(token: Token) -> usize
-    ensures { result ≡ operands_of token }
-{
-    match token {
-        Token::Number(_) => 0,
-        Token::Var(_, _) => 0,
-        Token::Fun(Function::Abs) => 1,
-        Token::Fun(Function::Neg) => 1,
-        Token::Fun(_) => 2,
-    }
 }
 
 // What the token at a place makes of the terms before it, where the given number of further tokens may stand.
