@@ -113,9 +113,11 @@ fn read_all<S: Source>(
     }
 }
 
-/// The module of the bytes that the source has left, and how many they are: at most `limit`, which is
-/// at most 67,108,864. The source is read in chunks of up to 65,536 bytes, and no further once it is
-/// refused or has given more than `limit`.
+/// Reads the module of the bytes that the source has left, and answers it with their number: at most
+/// `limit`, which is at most 67,108,864.
+///
+/// The source is read in chunks of up to 65,536 bytes. That it is read no further once it is refused,
+/// or has given more than `limit`, is so by the code's form and stands in no clause.
 pub fn read_module<S: Source>(
     alloc: Global,
     source: &mut S,

@@ -32,8 +32,10 @@ fn write_form<K: Output>(out: &mut K, parts: &Parts) -> Result<(), Failed>
     out.put(&[codes::MODULE_END])
 }
 
-/// Writes the written form of the module to the file being made, record by record, at least one
-/// `write` for each. Takes no memory.
+/// Writes the written form of the module to the file being made. Takes no memory.
+///
+/// Each record takes at least one `write`: the tests with a write that fails in turn show it, and no
+/// clause counts writes.
 ///
 /// The written form, where it is no longer than a file may be, is a file of this module. `Fault` comes
 /// only where a write failed and the count of such faults rose; a prefix of the written form may then be
