@@ -1,4 +1,4 @@
--- The status of each outcome, and the line that each but Done complains.
+-- The status of each outcome, and the error line of each but Done.
 use Rattle.std.specs.Prelude.{ℕ, [], ◌++◌, codes}
 use Rattle.std.specs.Fmt.{decimal}
 use Rattle.mufom_numbers.specs.declared.reason.Reason.{Reason}

@@ -123,11 +123,11 @@ pub record IsListing (words : List (List ℕ)) (old new : Meaning) (before now :
 abbrev pub Answers : List (List ℕ) → Meaning → Meaning → Faults → Faults → Outcome → Type 0
 Answers words old new before now result = IsStopped words old new result ⊎ (IsDump words old new before now result ⊎ IsListing words old new before now result)
 
--- the line is added to the complaints, or the prefix of it where a complaint failed in this call
+-- the line is added to the error output, or a prefix of it where printing it failed in this call
 abbrev pub Reveals : Meaning → Meaning → Faults → Faults → List ℕ → Type 0
 Reveals old new before now text = GrowsBy old.err new.err text ⊎ (Rose before.complaints now.complaints × GrowsByPrefix old.err new.err text)
 
--- Each answer but Done complains its line.
+-- Each answer but Done prints its error line.
 abbrev pub Complains : Meaning → Meaning → Faults → Faults → Outcome → Type 0
 Complains old new before now outcome.Done = new.err ≡ old.err
 Complains old new before now result = Reveals old new before now (complaint result)

@@ -52,7 +52,7 @@ fn host(alloc: Global, second: &[u8], reads: &[u64], writes: &[u64]) -> Result<M
     Ok(MemHost::new(alloc, files, reads, writes, ROOM)?)
 }
 
-// The answer to `check a b`, with what must be printed and complained.
+// The answer to `check a b`, with what must be printed to both outputs.
 fn checks(
     rt: &impl Abort,
     alloc: Global,
@@ -141,7 +141,7 @@ fn a_failed_print_of_lines_is_a_write_fault(rt: HostRuntime) -> Result<(), Fail>
     )
 }
 
-// The answer to words, over a host with the files `a` and `b`, and what it complained.
+// The answer to words, over a host with the files `a` and `b`, and what it printed as errors.
 fn answers(
     rt: &impl Abort,
     alloc: Global,

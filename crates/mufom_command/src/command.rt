@@ -222,13 +222,13 @@ fn answer<H: Host>(alloc: Global, words: &[String], host: &mut H) -> Outcome
 /// Runs the command that the words name: `show FILE`, `check FILE ...` or `dump FILE`.
 ///
 /// `words` are the command line's words without the program's name, fewer than 2^32. Every outcome
-/// but `Done` complains one line; a complaint that fails does not change the outcome.
+/// but `Done` prints one error line; where that fails the outcome stays.
 pub fn run<H: Host>(alloc: Global, words: &[String], host: &mut H) -> Outcome
     requires { length words.now < 2 ^ 32 }
     // The answer is that of the words, of the files' bytes, and of the faults in this call.
     ensures answers { Answers (map (λ word. string_bytes word) words.now) (H.meaning host.old) (H.meaning host.new) (H.faults host.old)
         (H.faults host.new) result }
-    // Every answer but Done complains its line.
+    // Every answer but Done prints its error line.
     ensures complains { Complains (H.meaning host.old) (H.meaning host.new) (H.faults host.old) (H.faults host.new) result }
     // No file is made, and the files that may be opened stay.
     ensures makes { MakesNothing (H.meaning host.old) (H.meaning host.new) }

@@ -1,4 +1,4 @@
-//! The line that each outcome but `Done` complains.
+//! The error line of each outcome but `Done`.
 
 ghost use Rattle.std.specs.Prelude.{◌≡◌, IfOk};
 ghost use Rattle.std.specs.String.{string_bytes};

@@ -6,7 +6,7 @@
 //! run of literal bytes fills; its reading and locating are private until layers of their own stand
 //! below. The crate stands on those of words, hosts, modules, reading and texts. Its main
 //! clause is the contract of [`run`]: each answer has its cause in the words, the files or the counts
-//! of faults, and what was printed, complained and opened is stated exactly.
+//! of faults, and what was printed, printed as errors and opened is stated exactly.
 #![tactic(auto)]
 
 mod command;

@@ -25,7 +25,7 @@ fn host(alloc: Global, file: &[u8], writes: &[u64]) -> Result<MemHost, Fail> {
     Ok(MemHost::new(alloc, files, List::new(alloc), writes, ROOM)?)
 }
 
-// The answer to the words, with what must be printed and complained.
+// The answer to the words, with what must be printed to both outputs.
 fn shows(
     rt: &impl Abort,
     alloc: Global,

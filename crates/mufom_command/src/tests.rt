@@ -52,7 +52,7 @@ pub(crate) fn words(alloc: Global, words: &[&str]) -> Result<Vec<String>, Fail>
     Ok(list)
 }
 
-// The answer to `dump a`, with what must be printed and complained.
+// The answer to `dump a`, with what must be printed to both outputs.
 fn dumps(
     rt: &impl Abort,
     alloc: Global,

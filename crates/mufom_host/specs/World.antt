@@ -19,7 +19,7 @@ pub record Meaning : Type 0 where
   pub made : Option (List NamedFile)
   -- what was printed
   pub out : Option (List ℕ)
-  -- what was complained
+  -- what was printed on the error output
   pub err : Option (List ℕ)
   -- the names with which files were opened and created, failed calls among them
   pub opened : Option (List (List ℕ))
@@ -30,7 +30,7 @@ pub record RevealsTogether (meaning : Meaning) : Type 0 where
   pub left : IsSome meaning.files → IsSome meaning.left
   pub making : IsSome meaning.made → IsSome meaning.making
 
--- how often reads, writes and complaints failed
+-- how often reads, writes and prints of errors failed
 pub record Faults : Type 0 where
   pub reads : ℕ
   pub writes : ℕ
@@ -184,7 +184,7 @@ KeepsAllButMade old new = new ≡ record old { making = new.making; made = new.m
 abbrev pub KeepsAllButOut : Meaning → Meaning → Type 0
 KeepsAllButOut old new = new ≡ record old { out = new.out }
 
--- of a complaint
+-- of printing an error line
 abbrev pub KeepsAllButErr : Meaning → Meaning → Type 0
 KeepsAllButErr old new = new ≡ record old { err = new.err }
 

@@ -124,7 +124,7 @@ impl MemHost {
         self.out.as_slice()
     }
 
-    /// What was complained.
+    /// What was printed on the error output.
     pub fn err(&self) -> &[u8]
         ensures { result.now ≡ self.now.err }
     {

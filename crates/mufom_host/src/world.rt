@@ -22,7 +22,7 @@ pub trait World {
 
 /// Where the bytes of the open input come from.
 pub trait Source: World {
-    /// Takes bytes of the open input to the prefix of the buffer, and answers how many: 0 for a
+    /// Takes bytes of the open input to the start of the buffer, and answers how many: 0 for a
     /// buffer that is not empty means that none is left.
     ///
     /// `Failed` leaves what is left; the buffer may have changed.
@@ -36,7 +36,7 @@ pub trait Source: World {
 
 /// Where the bytes of the file being made go.
 pub trait Sink: World {
-    /// Adds the prefix of the chunk to the file being made, and answers how many bytes it took: at
+    /// Adds the first bytes of the chunk to the file being made, and answers how many bytes it took: at
     /// least 1 of a chunk that is not empty. While no file is being made it may take the whole
     /// chunk, and changes nothing.
     ///
@@ -49,7 +49,7 @@ pub trait Sink: World {
         ensures counts { KeepsAllButWrites (Self.faults self.old) (Self.faults self.new) };
 }
 
-/// The whole outside of a program that reads named files, makes named files, prints and complains.
+/// The whole outside of a program that reads named files, makes named files, and prints text and errors.
 pub trait Host: Source + Sink {
     /// Opens the file with this name as the input, in place of the one before.
     ///
@@ -86,7 +86,7 @@ pub trait Host: Source + Sink {
         ensures cause { HasCause (Self.faults self.old).writes (Self.faults self.new).writes result }
         ensures counts { KeepsAllButWrites (Self.faults self.old) (Self.faults self.new) };
 
-    /// Writes the whole text to where the program complains. `Failed` may have written a prefix of
+    /// Writes the whole text to the error output. `Failed` may have written a prefix of
     /// it.
     fn complain(&mut self, text: &[u8]) -> Result<(), Failed>
         ensures bytes { Grows (Self.meaning self.old).err (Self.meaning self.new).err result text.now }

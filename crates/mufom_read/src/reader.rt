@@ -54,7 +54,7 @@ impl Reader {
         })
     }
 
-    /// Reads one more record of the stream. `Refused` comes exactly where the stream so far is refused.
+    /// Reads the next chunk of the stream. `Refused` comes exactly where the stream so far is refused.
     /// After a stop each further call answers the same.
     pub fn feed(&mut self, chunk: &[u8]) -> Result<(), ReadStop>
         // The reader has read the stream so far.

@@ -1,5 +1,5 @@
 -- One record at the start of an input, read field by field from left to right: its value and the place after it,
--- that the input ends too early, or the first fault with its place.
+-- that the input ends too early, or the first fault with its offset.
 use Rattle.std.specs.Prelude.{ℕ, zero, suc, ◌+◌, ◌-◌, Bool, ◌==◌, nat_lt, List, [], ◌∷◌, length, drop, Option, Some, None, Result, Ok, Err, if◌then◌else◌}
 use Rattle.mufom_numbers.specs.declared.reason.Reason.{Reason}
 use Rattle.mufom_numbers.specs.declared.reason.Reason.TheVariants.{Underflow, SurplusTerms, Empty, TooLong}

@@ -17,7 +17,7 @@ pub fn longer_inputs_answer_the_same()
         → record_at mode (input ++ more) ≡ record_at mode input }
 {}
 
-/// Two whole records that begin at one place are one.
+/// Two whole records that begin at one offset are one.
 pub fn whole_records_at_one_place_are_one()
     ensures { (mode : Mode) (r s : Record) (text rest other more : List ℕ) → IsWholeRecord mode r text (first_of rest None)
         → IsWholeRecord mode s other (first_of more None)

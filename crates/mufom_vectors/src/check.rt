@@ -13,7 +13,7 @@ fn refused(file: u32, place: u64, reason: Reason) -> Outcome {
     Outcome::Refused(Refusal::Read(file, ReadRefusal { place, reason }))
 }
 
-// The answer to `check a`, with what must be complained.
+// The answer to `check a`, with the error line that must be printed.
 fn refuses(
     rt: &impl Abort,
     alloc: Global,

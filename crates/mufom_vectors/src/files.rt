@@ -99,7 +99,7 @@ pub(crate) fn host(alloc: Global, files: &[(&str, &[u8])]) -> Result<MemHost, Fa
     Ok(MemHost::new(alloc, list, List::new(alloc), List::new(alloc), ROOM)?)
 }
 
-/// These words over these files are answered so, with what must be printed and complained.
+/// These words over these files are answered so, with what must be printed to both outputs.
 pub(crate) fn answers(
     rt: &impl Abort,
     alloc: Global,

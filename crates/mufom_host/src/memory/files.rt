@@ -70,7 +70,7 @@ impl Files {
         true
     }
 
-    /// Takes the prefix of what is left to the prefix of the buffer, as much as there is room for.
+    /// Takes the first bytes of what is left to the start of the buffer, as much as there is room for.
     pub fn read(&mut self, buffer: &mut [u8]) -> usize
         ensures count { result ≡ min (length buffer.new) (length self.old.left) }
         ensures bytes { take result buffer.new ≡ take result self.old.left }

@@ -40,7 +40,7 @@ impl Disk {
     }
 }
 
-// Takes the prefix of the record, at most the given number of bytes, and answers how many it was.
+// Takes the first bytes of the chunk, at most the given number, and answers how many it was.
 fn take(bytes: &mut ArrayVec<u8, 512>, most: usize, chunk: &[u8]) -> usize
     ensures { result ≤ length chunk.now }
 {
