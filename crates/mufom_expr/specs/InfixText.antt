@@ -40,7 +40,7 @@ middle_text Equal = codes " = "
 middle_text Unequal = codes " <> "
 middle_text _ = codes ", "
 
--- A number in decimal, a variable as its letter and its place, and a function between its operands in brackets or
+-- A number in decimal, a variable as its letter and its position, and a function between its operands in brackets or
 -- before them.
 abbrev pub infix_text : Tree → List ℕ
 infix_text (number n) = decimal n

@@ -65,7 +65,7 @@ tokens_of (variable l p) = Var l p ∷ []
 tokens_of (one f a) = tokens_of a ++ Fun (function_of_one f) ∷ []
 tokens_of (two f a b) = (tokens_of a ++ tokens_of b) ++ Fun (function_of_two f) ∷ []
 
--- a token that the code can hold: a number below 2^64, a variable whose place is below 2^32, or a function
+-- a token that the code can hold: a number below 2^64, a variable whose number is below 2^32, or a function
 abbrev pub IsInRange : Token → Type 0
 IsInRange (Number n) = n < 2 ^ 64
 IsInRange (Var l p) = p < 2 ^ 32

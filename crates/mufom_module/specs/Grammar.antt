@@ -114,7 +114,7 @@ offset_in _ = None
 abbrev pub offsets_in : List SpelledRecord → List ℕ
 offsets_in records = filter_map (λ p. offset_in p.row) records
 
--- each offset is the place where its part begins, or 0 where the part is empty; the last is the place where they end
+-- each offset is that of the first byte of its part, or 0 where the part is empty; the last is where they end
 abbrev pub StandAt : List ℕ → ℕ → List (List ℕ) → Type 0
 StandAt offsets at [] = offsets ≡ at ∷ []
 StandAt [] at (bytes ∷ parts) = ⊥

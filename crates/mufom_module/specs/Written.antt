@@ -97,7 +97,7 @@ abbrev pub order_letter : Order → ℕ
 order_letter Least = LETTER_L
 order_letter Most = LETTER_M
 
--- the offsets of parts that begin at a place, and then the place where they end; an empty part is absent
+-- the offsets of parts that begin at an offset, and then the offset where they end; an empty part is absent
 abbrev pub offsets_from : ℕ → List (List ℕ) → List ℕ
 offsets_from at [] = at ∷ []
 offsets_from at ([] ∷ rest) = 0 ∷ offsets_from at rest

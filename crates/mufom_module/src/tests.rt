@@ -297,7 +297,7 @@ fn public(alloc: Global, other: u32) -> Result<Public, ExprFault> {
     })
 }
 
-// The given number of publics, each with the value of the one at the same place from the other end.
+// The given number of publics, each with the value of the one at the same position from the other end.
 fn publics(alloc: Global, count: u32) -> Result<List<Public>, ExprFault> {
     let mut publics = List::new(alloc);
     for n in 0..count {

@@ -77,7 +77,7 @@ abbrev pub string_after : ℕ → ℕ → List ℕ → Taken Span
 string_after lead len input = if nat_lt (length input) (lead + len) then More
     else Got (record { start = lead; len = len }) (lead + len)
 
--- the place of the bytes of the string at the start, and the bytes it takes with its lead
+-- the span of the bytes of the string at the start, and the bytes it takes with its lead
 abbrev pub string_at : List ℕ → Taken Span
 string_at [] = More
 string_at (lead ∷ bytes) = if nat_lt lead 128 then string_after 1 lead (lead ∷ bytes)
@@ -100,7 +100,7 @@ IfGot (Got x used) P = P x used
 IfGot More P = Unit {0}
 IfGot (Bad offset reason) P = Unit {0}
 
--- a fact of the place of a fault
+-- a fact of the offset of a fault
 abbrev pub IfBad : {X : Type 0} → Taken X → (ℕ → Type 0) → Type 0
 IfBad (Got x used) P = Unit {0}
 IfBad More P = Unit {0}

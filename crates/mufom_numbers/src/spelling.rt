@@ -73,7 +73,7 @@ pub fn read_id(input: &[u8]) -> Taken<Span>
     // What is taken is the prefix of the input: a lead for the given number of bytes, and those bytes.
     ensures got { IfGot result (λ span used. (used ≤ length input.now) × (used ≡ span.start + span.len)
         × IsStringLead span.len (take span.start input.now)) }
-    // An input that begins with a lead and the bytes it counts gives their place.
+    // An input that begins with a lead and the bytes it counts gives their span.
     ensures only { (lead text rest : List ℕ) → IsStringLead (length text) lead → input.now ≡ lead ++ (text ++ rest)
         → result ≡ Taken.Got (record { start = length lead; len = length text }) (length lead + length text) }
     ensures more { (result ≡ Taken.More) ↔ ((text : List ℕ) × IsCutOff (SpellsString text) input.now) }

@@ -1,4 +1,4 @@
--- The faults of records in their places, and of parts as wholes, after a prefix of the stream. Each is a fact of what
+-- The faults of records in their locations, and of parts as wholes, after a prefix of the stream. Each is a fact of what
 -- stands before it: no running state is kept here.
 use Rattle.std.specs.Prelude.{ℕ, ◌+◌, ◌-◌, ◌==◌, ◌&&◌, ◌||◌, nat_lt, nat_le, Bool, true, false, not, List, [], ◌∷◌, ◌++◌, length, filter_map, Option, Some, None, is_some, if◌then◌else◌}
 use Rattle.std.specs.List.{list_all, list_any, find, last_or}
@@ -140,7 +140,7 @@ part_record_fault prefix extent start p = option_or (fault_if (nat_lt extent.to 
     (option_or (fault_if (not (stands_in extent.part p.row)) start why.WrongPart)
     (fault_for start (rule_broken prefix p)))
 
--- the fault of a whole record at its place; where the module must end any record but its end stands in the wrong part
+-- the fault of a whole record in its location; where the module must end any record but its end stands in the wrong part
 abbrev pub record_fault : Bool → List Step → Location → ℕ → SpelledRecord → Option Fault
 record_fault reads_debug prefix (in_header k) start p = header_fault reads_debug (offsets_of prefix) start (start + length p.bytes) p.row
 record_fault reads_debug prefix (in_part extent) start p = part_record_fault prefix extent start p

@@ -96,14 +96,14 @@ IsHeaderRow (r.Descriptor _ _ _) = Unit {0}
 IsHeaderRow (r.Offset _ _) = Unit {0}
 IsHeaderRow _ = ⊥
 
--- a record at its place: one of the header in it, which has an offset after the first two, and none in a debug part, which
+-- a record in its location: one of the header in it, which has an offset after the first two, and none in a debug part, which
 -- is not read yet
 abbrev pub IsPlacedWell : code.Location → Record → Type 0
 IsPlacedWell (offset.Header k) row = IsHeaderRow row × (is_some (offset_in row) ≡ nat_le 2 k)
 IsPlacedWell (offset.Part e) row = as_part e.part ≢ debug_part
 IsPlacedWell offset.End row = Unit {0}
 
--- what must stand at a place, where these bytes stand
+-- what must stand in a location, where these bytes stand
 abbrev pub mode_at : List Step → Location → List ℕ → Mode
 mode_at prefix (in_header k) rest = header_mode k
 mode_at prefix (in_part e) rest = body_mode prefix e rest
@@ -116,19 +116,19 @@ HasTaken reads_debug prefix p new (next.Took n) = (n ≡ length p.bytes) × (rec
 HasTaken reads_debug prefix p new next.More = ⊥
 HasTaken reads_debug prefix p new (next.Refused f) = record_fault reads_debug prefix (location_after prefix) (size_of prefix) p ≡ Some (as_fault f)
 
--- the place is in no debug part, which is not read yet
+-- the location is in no debug part, which is not read yet
 abbrev pub IsNotDebug : code.Location → Type 0
 IsNotDebug (offset.Header k) = Unit {0}
 IsNotDebug (offset.Part e) = as_part e.part ≢ debug_part
 IsNotDebug offset.End = Unit {0}
 
--- what stands at the place is read
+-- what stands in the location is read
 abbrev pub IsRead : Bool → code.Location → Type 0
 IsRead reads_debug (offset.Header k) = Unit {0}
 IsRead reads_debug (offset.Part e) = is_raw reads_debug (as_part e.part) ≡ false
 IsRead reads_debug offset.End = Unit {0}
 
--- the place is in this part, whose bytes are not read
+-- the location is in this part, whose bytes are not read
 abbrev pub IsRawPart : Bool → code.Location → extents.Extent → Type 0
 IsRawPart reads_debug at e = (at ≡ offset.Part e) × (is_raw reads_debug (as_part e.part) ≡ true)
 

@@ -141,7 +141,7 @@ abbrev pub step_in : Bool → List Step → Extent → List ℕ → Taken Step
 step_in reads_debug prefix extent rest = if is_raw reads_debug extent.part then raw_step rest
     else as_step (size_of prefix) rest (record_at (body_mode prefix extent rest) rest)
 
--- the step at a place after a prefix
+-- the step in a location after a prefix
 abbrev pub step_at : Bool → List Step → Location → List ℕ → Taken Step
 step_at reads_debug prefix (in_header k) rest = as_step (size_of prefix) rest (record_at (header_mode k) rest)
 step_at reads_debug prefix (in_part extent) rest = step_in reads_debug prefix extent rest

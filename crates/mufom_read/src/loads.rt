@@ -127,7 +127,7 @@ fn add_loads(
     }
 }
 
-// The records after the one at a place.
+// The records after the one at a position.
 fn after(kept: &[KeptRecord], place: usize) -> &[KeptRecord]
     requires { place < length kept.now }
     ensures { result.now ≡ drop (place + 1) kept.now }

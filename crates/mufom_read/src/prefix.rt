@@ -121,7 +121,7 @@ fn add_offset(offsets: &mut List<u64>, record: &Record) -> Result<(), NoMemory>
     }
 }
 
-// The part in which the place is, where its bytes are not read.
+// The part in which the location is, where its bytes are not read.
 fn raw_part(reads_debug: bool, place: Location) -> Option<Extent>
     ensures { MatchOption result (IsRead reads_debug place) (IsRawPart reads_debug place) }
 {
@@ -250,7 +250,7 @@ impl Prefix {
         self.size != extent.from && self.awaits_items() && begins_item(rest)
     }
 
-    // What must stand at a place, where these bytes stand.
+    // What must stand in a location, where these bytes stand.
     fn mode(&self, place: Location, rest: &[u8]) -> Mode
         ensures { (reads_debug : Bool) (prefix : List prefixes.Step) → IsPrefixOf reads_debug self.now prefix
             → result ≡ mode_at prefix (as_location place) rest.now }
@@ -308,7 +308,7 @@ impl Prefix {
         Ok(self.rule_fault(&next.row, tree.as_ref()))
     }
 
-    // The fault of a whole record at its place.
+    // The fault of a whole record in its location.
     fn record_fault(
         &self,
         alloc: Global,

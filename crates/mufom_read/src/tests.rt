@@ -244,7 +244,7 @@ const REFUSED: [Refused; 55] = [
     ),
 ];
 
-// The bytes of the parts, one after another, with some bytes changed: each by its place.
+// The bytes of the parts, one after another, with some bytes changed: each by its offset.
 fn changed(alloc: Global, parts: &[&[u8]], changes: &[(usize, u8)]) -> Result<Vec<u8>, Fail> {
     let mut all = Vec::new(alloc);
     for part in parts {

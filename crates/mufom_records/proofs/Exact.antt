@@ -61,7 +61,7 @@ first_of-append (x ∷ xs) ys next = refl
 
 -- ---- fields
 
--- The value was found at the place: its bytes stand there, and end before the other place.
+-- The value was found at the offset: its bytes stand there, and end before the other offset.
 pub record Found (f : Field) (input : List ℕ) (at : ℕ) (x : ValueOf f) (after : ℕ) : Type 0 where
   pub prefix : List ℕ
   pub spells : SpellsField f x at prefix (first_of (drop after input) None)

@@ -124,7 +124,7 @@ stable_by mode input more answer (states_bad offset reason has) wanted = record_
 pub record_at-stable : (mode : Mode) (input more : List ℕ) → AreBytes input → (record_at mode input ≡ taken.More → ⊥) → record_at mode (input ++ more) ≡ record_at mode input
 record_at-stable mode input more fits wanted = stable_by mode input more (record_at mode input) (states mode input fits) wanted
 
--- two whole records at one place are one
+-- two whole records at one offset are one
 pub one_record : (mode : Mode) (r s : Record) (text rest other more : List ℕ) → IsWholeRecord mode r text (first_of rest None) → IsWholeRecord mode s other (first_of more None) → text ++ rest ≡ other ++ more → (r ≡ s) × (text ≡ other)
 one_record mode r s text rest other more first second same =
     let one = record_at-only mode (text ++ rest) r text rest first refl in

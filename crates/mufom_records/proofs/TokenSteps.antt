@@ -89,7 +89,7 @@ left_out_first (b ∷ bytes) begins = (b, bytes, refl, function_begins b begins.
 pub begins-byte_at : (input : List ℕ) (at : ℕ) (begins : Begins (drop at input)) → byte_at input at ≡ Ok (begins.0, at + 1)
 begins-byte_at input at begins = rw begins.2 refl
 
--- ---- what is answered at a place
+-- ---- what is answered at an offset
 
 pub tokens-none : (room terms : ℕ) (input : List ℕ) (at : ℕ) → drop at input ≡ [] → tokens_from room terms input at ≡ Err More
 tokens-none zero terms input at e = rw e refl
@@ -161,7 +161,7 @@ end_surplus room terms at some many = let same : at + 0 ≡ at = omega arith in 
 pub end_whole : (room at : ℕ) → (room ≡ 255 → ⊥) → expression_end (room == 255) 1 at ≡ Ok (tt, at)
 end_whole room at some = rw (ne_eqb room 255 some) refl
 
--- each fault of a token is answered at its place
+-- each fault of a token is answered at its offset
 pub tokens-fault : (room terms : ℕ) (input : List ℕ) (at tokens offset : ℕ) (reason : Reason) → tokens + room ≡ 255 → (tokens ≡ 0 → terms ≡ 0) → TokenFault tokens terms (drop at input) offset reason
     → tokens_from room terms input at ≡ Err (Bad (at + offset) reason)
 tokens-fault room terms input at tokens offset UnsupportedFunction count start (none, begins) =

@@ -1,4 +1,4 @@
--- The faults of fields and records: what stands at a place where a field must stand, and is none. Each is known by the
+-- The faults of fields and records: what stands at an offset where a field must stand, and is none. Each is known by the
 -- bytes that show it, whatever follows them.
 use Rattle.std.specs.Prelude.{◌≡◌, ◌⊎◌, ℕ, ◌+◌, ◌-◌, ◌<◌, ◌≤◌, true, false, List, [], ◌++◌, length, Some, None}
 use Rattle.mufom_numbers.specs.declared.reason.Reason.{Reason}
@@ -58,7 +58,7 @@ IsCutOffNumber bytes = (n : ℕ) × IsCutOff (SpellsNumber n) bytes
 abbrev pub BeginsWithNumber : (ℕ → Type 0) → List ℕ → Type 0
 BeginsWithNumber Is bytes = (n : ℕ) × (text : List ℕ) × (rest : List ℕ) × SpellsNumber n text × Is n × (bytes ≡ text ++ rest)
 
--- The bytes, which begin at a place, show that the field does not stand there, for this reason, named at that place.
+-- The bytes, which begin at an offset, show that the field does not stand there, for this reason, named at that offset.
 abbrev pub FieldFault : Field → ℕ → List ℕ → ℕ → Reason → Type 0
 FieldFault byte at bytes fault_offset reason = ⊥
 FieldFault (number fits where_ fault) at bytes fault_offset reason = ((reason ≡ BadNumber) × (fault_offset ≡ at) × BeginsIn 0x89 0xFF bytes)
@@ -99,7 +99,7 @@ EndsEarly (refused back why) at bytes = ⊥
 EndsEarly (field f rest) at bytes = FieldEnds f bytes
     ⊎ ((x : ValueOf f) × (prefix : List ℕ) × (back : List ℕ) × SpellsField f x at prefix (first_of back None) × EndsEarly (rest x) (at + length prefix) back × (bytes ≡ prefix ++ back))
 
--- The input shows this fault of a record that would stand at its start, named at that place.
+-- The input shows this fault of a record that would stand at its start, named at that offset.
 abbrev pub IsFaulty : Mode → List ℕ → ℕ → Reason → Type 0
 IsFaulty mode input fault_offset reason = HasFault (layout_of mode) 0 input fault_offset reason
 

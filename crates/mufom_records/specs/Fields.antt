@@ -11,15 +11,15 @@ use Rattle.mufom_expr.specs.Tree.{Tree}
 use Rattle.mufom_expr.specs.Spelled.{SpellsTree}
 use Rattle.mufom_expr.specs.TokenAt.{begins_number, begins_token}
 
--- what may stand at a place of a record
+-- what may stand at an offset of a record
 pub data Field : Type 0 where
   -- any byte
   byte : Field
-  -- a number that passes the test; one that does not is a fault of this reason, named at this place (of the field's own)
+  -- a number that passes the test; one that does not is a fault of this reason, named at this offset (of the field's own)
   number : (fits : ℕ → Bool) → (offset : ℕ → ℕ) → (fault : Reason) → Field
-  -- a string; its value is the place of its bytes without the lead
+  -- a string; its value is the offset of its bytes without the lead
   string : Field
-  -- the given number of bytes; the value is their place
+  -- the given number of bytes; the value is their offset
   run : ℕ → Field
   -- one of these bytes, or none
   letter : List ℕ → Field
@@ -27,7 +27,7 @@ pub data Field : Type 0 where
   optional_number : Field
   -- at most the given number of numbers
   numbers : ℕ → Field
-  -- an expression; its value is the place of its bytes
+  -- an expression; its value is the offset of its bytes
   expression : Field
   -- an expression, or none
   optional_expression : Field
@@ -49,7 +49,7 @@ abbrev pub Stops : (ℕ → Bool) → Option ℕ → Type 0
 Stops begins None = ⊥
 Stops begins (Some b) = begins b ≡ false
 
--- the part of an input from a place on, of the given number of bytes
+-- the part of an input from an offset on, of the given number of bytes
 abbrev pub span_at : ℕ → ℕ → Span
 span_at start len = record { start = start; len = len }
 
@@ -70,7 +70,7 @@ SpellsNumbers (n ∷ ns) bytes = (prefix : List ℕ) × (back : List ℕ) × Spe
 abbrev pub SpellsExpression : Span → ℕ → List ℕ → Option ℕ → Type 0
 SpellsExpression span at bytes next = ((tree : Tree) × SpellsTree tree bytes) × (span ≡ span_at at (length bytes)) × Stops begins_token next
 
--- The bytes, which begin at a place and are followed by that byte (or end the input), are the field with this value.
+-- The bytes, which begin at an offset and are followed by that byte (or end the input), are the field with this value.
 abbrev pub SpellsField : (f : Field) → ValueOf f → ℕ → List ℕ → Option ℕ → Type 0
 SpellsField byte b at bytes next = bytes ≡ b ∷ []
 SpellsField (number fits offset fault) n at bytes next = SpellsNumber n bytes × (fits n ≡ true)

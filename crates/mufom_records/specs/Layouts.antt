@@ -27,7 +27,7 @@ infixr 20 ◌▹◌
 abbrev pub ◌▹◌ : (f : Field) → (ValueOf f → Layout) → Layout
 f ▹ rest = field f rest
 
--- The bytes, which begin at a place and are followed by that byte (or end the input), are a record of the layout.
+-- The bytes, which begin at an offset and are followed by that byte (or end the input), are a record of the layout.
 abbrev pub SpellsRecord : Layout → Record → ℕ → List ℕ → Option ℕ → Type 0
 SpellsRecord (whole row) record_ at bytes next = (record_ ≡ row) × (bytes ≡ [])
 SpellsRecord (refused back reason) record_ at bytes next = ⊥

@@ -1,4 +1,4 @@
--- One record at the start of an input, read field by field from left to right: its value and the place after it,
+-- One record at the start of an input, read field by field from left to right: its value and the offset after it,
 -- that the input ends too early, or the first fault with its offset.
 use Rattle.std.specs.Prelude.{ℕ, zero, suc, ◌+◌, ◌-◌, Bool, ◌==◌, nat_lt, List, [], ◌∷◌, length, drop, Option, Some, None, Result, Ok, Err, if◌then◌else◌}
 use Rattle.mufom_numbers.specs.declared.reason.Reason.{Reason}
@@ -17,11 +17,11 @@ use Rattle.mufom_records.specs.declared.stop.Stop.TheVariants.{More, Bad}
 use Rattle.mufom_records.specs.Fields.{Field, ValueOf, byte, number, string, run, letter, optional_number, numbers, expression, optional_expression, span_at, is_one_of, items_of}
 use Rattle.mufom_records.specs.Layouts.{Layout, whole, refused, field, layout_of}
 
--- a value and the place after it, or why there is none
+-- a value and the offset after it, or why there is none
 abbrev pub Reading : Type 0 → Type 0
 Reading X = Result (X × ℕ) Stop
 
--- what is read next, from the place after the value
+-- what is read next, from the offset after the value
 infixl 10 ◌>>=◌
 abbrev pub ◌>>=◌ : {X Y : Type 0} → Reading X → (X × ℕ → Reading Y) → Reading Y
 (Ok x) >>= next = next x
@@ -38,37 +38,37 @@ abbrev pub first_byte : List ℕ → ℕ → Reading ℕ
 first_byte [] at = Err More
 first_byte (b ∷ _) at = Ok (b, at + 1)
 
--- the byte at a place
+-- the byte at an offset
 abbrev pub byte_at : List ℕ → ℕ → Reading ℕ
 byte_at input at = first_byte (drop at input) at
 
--- the number at a place, whatever it is
+-- the number at an offset, whatever it is
 abbrev pub plain_number_at : List ℕ → ℕ → Reading ℕ
 plain_number_at input at = moved at (number_at (drop at input))
 
--- the number at a place, which must pass a test
+-- the number at an offset, which must pass a test
 abbrev pub tested_number_at : (ℕ → Bool) → (ℕ → ℕ) → Reason → List ℕ → ℕ → Reading ℕ
 tested_number_at fits fault_offset fault input at = do
   n ← plain_number_at input at
   if fits n.0 then Ok (n.0, n.1) else Err (Bad (fault_offset at) fault)
 
--- the place of the bytes of the string at a place
+-- the offset of the bytes of the string at an offset
 abbrev pub text_at : List ℕ → ℕ → Reading Span
 text_at input at = do
   span ← moved at (string_at (drop at input))
   Ok (span_at (at + span.0.start) span.0.len, span.1)
 
--- the place of the given number of bytes, which must be there
+-- the offset of the given number of bytes, which must be there
 abbrev pub run_at : ℕ → List ℕ → ℕ → Reading Span
 run_at n input at = if nat_lt (length (drop at input)) n then Err More else Ok (span_at at n, at + n)
 
--- one of these bytes at a place, or none before another byte
+-- one of these bytes at an offset, or none before another byte
 abbrev pub letter_at : List ℕ → List ℕ → ℕ → Reading (Option ℕ)
 letter_at known input at = do
   b ← byte_at input at
   if is_one_of known b.0 then Ok (Some b.0, b.1) else Ok (None, at)
 
--- the number at a place, or none before a byte that begins none
+-- the number at an offset, or none before a byte that begins none
 abbrev pub optional_number_at : List ℕ → ℕ → Reading (Option ℕ)
 optional_number_at input at = do
   b ← byte_at input at
@@ -79,7 +79,7 @@ abbrev pub with_first : Option ℕ → ℕ → Reading (List ℕ) → Reading (L
 with_first None at later = Ok ([], at)
 with_first (Some n) at later = later >>= λ ns. Ok (n ∷ ns.0, ns.1)
 
--- at most the given number of numbers at a place
+-- at most the given number of numbers at an offset
 abbrev pub numbers_at : ℕ → List ℕ → ℕ → Reading (List ℕ)
 numbers_at zero input at = Ok ([], at)
 numbers_at (suc k) input at = do
@@ -107,18 +107,18 @@ token_or_end room terms input at next = do
   b ← byte_at input at
   if begins_token b.0 then (terms_with room terms at (token_at (drop at input)) >>= next) else expression_end (room == 255) terms at
 
--- the place after the tokens from a place on, where the given number of them may stand
+-- the offset after the tokens from an offset on, where the given number of them may stand
 abbrev pub tokens_from : ℕ → ℕ → List ℕ → ℕ → Reading (Unit {0})
 tokens_from zero terms input at = token_or_end 0 terms input at (λ after. Err More)
 tokens_from (suc room) terms input at = token_or_end (suc room) terms input at (λ after. tokens_from room after.0 input after.1)
 
--- the place of all bytes of the expression at a place
+-- the offset of all bytes of the expression at an offset
 abbrev pub expression_at : List ℕ → ℕ → Reading Span
 expression_at input at = do
   end ← tokens_from 255 0 input at
   Ok (span_at at (end.1 - at), end.1)
 
--- the place of the bytes of the expression at a place, or none before a byte that begins none
+-- the offset of the bytes of the expression at an offset, or none before a byte that begins none
 abbrev pub optional_expression_at : List ℕ → ℕ → Reading (Option Span)
 optional_expression_at input at = do
   b ← byte_at input at
@@ -126,7 +126,7 @@ optional_expression_at input at = do
 
 -- ---- fields and records
 
--- the field at a place
+-- the field at an offset
 abbrev pub field_at : (f : Field) → List ℕ → ℕ → Reading (ValueOf f)
 field_at byte input at = byte_at input at
 field_at (number fits fault_offset fault) input at = tested_number_at fits fault_offset fault input at
@@ -138,7 +138,7 @@ field_at (numbers most) input at = numbers_at most input at >>= λ ns. Ok (items
 field_at expression input at = expression_at input at
 field_at optional_expression input at = optional_expression_at input at
 
--- the record of a layout that begins at a place
+-- the record of a layout that begins at an offset
 abbrev pub read : Layout → List ℕ → ℕ → Reading Record
 read (whole row) input at = Ok (row, at)
 read (refused back reason) input at = Err (Bad (at - back) reason)

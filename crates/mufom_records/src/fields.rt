@@ -1,4 +1,4 @@
-//! The fields of records, each read at a place of the input: its value and the place after it.
+//! The fields of records, each read at an offset of the input: its value and the offset after it.
 
 ghost use Rattle.std.specs.Prelude.{◌≡◌, ◌<◌, ◌≤◌, length, IfOk};
 ghost use Rattle.mufom_records.specs.Fields.{is_one_of, letter as letters, optional_number as an_optional_number, numbers as some_numbers, string as a_string, run as a_run, byte as a_byte};
@@ -10,7 +10,7 @@ use crate::stop::Stop;
 use arrayvec::ArrayVec;
 use mufom_numbers::{Reason, Span, Taken, codes, read_id, read_number};
 
-/// A fault at a place.
+/// A fault at an offset.
 pub(crate) fn bad(offset: usize, reason: Reason) -> Stop
     ensures { result ≡ Stop.Bad offset reason }
 {

@@ -15,7 +15,7 @@ use crate::record::{BlockTail, Record};
 use crate::stop::Stop;
 use mufom_numbers::{Reason, Span, codes};
 
-/// A record and the place after it.
+/// A record and the offset after it.
 pub(crate) type Read = Result<(Record, usize), Stop>;
 
 pub(crate) fn module_begin(input: &[u8], at: usize) -> Read
