@@ -10,7 +10,7 @@ use Rattle.mufom_records.specs.declared.stop.Stop.TheVariants.{More, Bad}
 use Rattle.mufom_records.specs.Fields.{Field, ValueOf, SpellsField, first_of}
 use Rattle.mufom_records.specs.Layouts.{Layout, whole, refused, field, SpellsRecord}
 use Rattle.mufom_records.specs.Reading.{Reading, ◌>>=◌, field_at, read}
-use Rattle.mufom_records.specs.Faults.{FieldFault, FieldEnds, HasFault, EndsEarly}
+use Rattle.mufom_records.specs.Faults.{FieldFault, IsCutOffField, HasFault, IsCutOffLayout}
 
 -- ---- answers
 
@@ -91,8 +91,8 @@ pub record IsExact (f : Field) : Type 0 where
   pub only : (input : List ℕ) (at : ℕ) (x : ValueOf f) (prefix rest : List ℕ) → SpellsField f x at prefix (first_of rest None) → drop at input ≡ prefix ++ rest → field_at f input at ≡ Ok (x, at + length prefix)
   pub bad : (input : List ℕ) (at : ℕ) → AreBytes input → (offset : ℕ) (reason : Reason) → field_at f input at ≡ Err (Bad offset reason) → FieldFault f at (drop at input) offset reason
   pub fault : (input : List ℕ) (at offset : ℕ) (reason : Reason) → FieldFault f at (drop at input) offset reason → field_at f input at ≡ Err (Bad offset reason)
-  pub more : (input : List ℕ) (at : ℕ) → AreBytes input → field_at f input at ≡ Err More → FieldEnds f (drop at input)
-  pub ends : (input : List ℕ) (at : ℕ) → FieldEnds f (drop at input) → field_at f input at ≡ Err More
+  pub more : (input : List ℕ) (at : ℕ) → AreBytes input → field_at f input at ≡ Err More → IsCutOffField f (drop at input)
+  pub ends : (input : List ℕ) (at : ℕ) → IsCutOffField f (drop at input) → field_at f input at ≡ Err More
   pub later : (x : ValueOf f) (at : ℕ) (prefix : List ℕ) (next : Option ℕ) → SpellsField f x at prefix None → SpellsField f x at prefix next
   pub grows : (at : ℕ) (bytes more : List ℕ) (offset : ℕ) (reason : Reason) → FieldFault f at bytes offset reason → FieldFault f at (bytes ++ more) offset reason
 
@@ -169,27 +169,27 @@ module _ (exact : (f : Field) → IsExact f) where
       rw first (read-fault (rest x) input (at + length prefix) offset reason (subst (λ (l : List ℕ). HasFault (rest x) (at + length prefix) l offset reason) (sym following) has))
 
   -- where more is wanted, the bytes end early
-  pub read-more : (layout : Layout) (input : List ℕ) (at : ℕ) → AreBytes input → read layout input at ≡ Err More → EndsEarly layout at (drop at input)
+  pub read-more : (layout : Layout) (input : List ℕ) (at : ℕ) → AreBytes input → read layout input at ≡ Err More → IsCutOffLayout layout at (drop at input)
   read-more (whole made) input at fits gives = absurd (ok_not_err made at More gives)
   read-more (refused back why) input at fits gives = let same : Bad (at - back) why ≡ More = same_stop {X = Record} (Bad (at - back) why) More gives in absurd cc
   read-more (field f rest) input at fits gives = by_answer (field_at f input at) refl gives (λ x mid. read-more (rest x) input mid fits) where
     by_answer : (answer : Reading (ValueOf f)) → field_at f input at ≡ answer → (answer >>= λ x. read (rest x.0) input x.1) ≡ Err More
-        → ((x : ValueOf f) (mid : ℕ) → read (rest x) input mid ≡ Err More → EndsEarly (rest x) mid (drop mid input)) → EndsEarly (field f rest) at (drop at input)
+        → ((x : ValueOf f) (mid : ℕ) → read (rest x) input mid ≡ Err More → IsCutOffLayout (rest x) mid (drop mid input)) → IsCutOffLayout (field f rest) at (drop at input)
     by_answer (Err stop) is gives recursive = inl ((exact f).more input at fits (is ∙ ap (λ s. stopped s) (same_stop {X = Record} stop More gives)))
     by_answer (Ok (x, mid)) is gives recursive =
         let one = (exact f).got input at fits x mid is in
         let two = recursive x mid gives in
-        inr (x, one.prefix, drop mid input, one.spells, subst (λ (n : ℕ). EndsEarly (rest x) n (drop mid input)) one.count two, one.split)
+        inr (x, one.prefix, drop mid input, one.spells, subst (λ (n : ℕ). IsCutOffLayout (rest x) n (drop mid input)) one.count two, one.split)
 
   -- where the bytes end early, more is wanted
-  pub read-ends : (layout : Layout) (input : List ℕ) (at : ℕ) → EndsEarly layout at (drop at input) → read layout input at ≡ Err More
+  pub read-ends : (layout : Layout) (input : List ℕ) (at : ℕ) → IsCutOffLayout layout at (drop at input) → read layout input at ≡ Err More
   read-ends (whole made) input at ends = absurd ends
   read-ends (refused back why) input at ends = absurd ends
   read-ends (field f rest) input at (inl ends) = rw ((exact f).ends input at ends) refl
   read-ends (field f rest) input at (inr (x, prefix, back, spelled, ends, split)) =
       let following : drop (at + length prefix) input ≡ back = drop-following input at prefix back split in
       let first = (exact f).only input at x prefix back spelled split in
-      rw first (read-ends (rest x) input (at + length prefix) (subst (λ (l : List ℕ). EndsEarly (rest x) (at + length prefix) l) (sym following) ends))
+      rw first (read-ends (rest x) input (at + length prefix) (subst (λ (l : List ℕ). IsCutOffLayout (rest x) (at + length prefix) l) (sym following) ends))
 
   later_in : (f : Field) (x : ValueOf f) (at : ℕ) (prefix back : List ℕ) (next : Option ℕ) → SpellsField f x at prefix (first_of back None) → SpellsField f x at prefix (first_of back next)
   later_in f x at prefix [] next spells = (exact f).later x at prefix next spells

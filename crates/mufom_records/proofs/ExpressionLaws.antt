@@ -20,7 +20,7 @@ use Rattle.mufom_records.specs.declared.stop.Stop.{Stop}
 use Rattle.mufom_records.specs.declared.stop.Stop.TheVariants.{More, Bad}
 use Rattle.mufom_records.specs.Fields.{expression, optional_expression, SpellsField, SpellsExpression, Stops, first_of, span_at}
 use Rattle.mufom_records.specs.Reading.{Reading, ◌>>=◌, tokens_from, expression_at, optional_expression_at}
-use Rattle.mufom_records.specs.Faults.{EndsTokens, TokenFault, BeginsWithToken, ExpressionFault, ExpressionEnds, FieldFault}
+use Rattle.mufom_records.specs.Faults.{EndsTokens, TokenFault, BeginsWithToken, ExpressionFault, IsCutOffExpression, FieldFault}
 use Rattle.mufom_records.proofs.Exact.{ok, stopped, same_place, same_stop, ok_not_err, drop-following, Found, found, found-as, IsExact}
 use Rattle.mufom_records.specs.Parts.{IsExpressionIn}
 use Rattle.mufom_records.proofs.NumberLaws.{BeginsIn-grows}
@@ -226,7 +226,7 @@ faulty_tokens input at fault_offset reason (offset, (tokens, terms, prefix, rest
     ∙ tokens-fault (255 - length tokens) terms input (at + length prefix) (length tokens) offset reason (omega (arith, few)) (stop_at_start tokens terms stand) has_there
     ∙ ap (λ (k : ℕ). stopped (Bad k reason)) (sym same)
 
-cut_tokens : (input : List ℕ) (at : ℕ) → ExpressionEnds (drop at input) → tokens_from 255 0 input at ≡ Err More
+cut_tokens : (input : List ℕ) (at : ℕ) → IsCutOffExpression (drop at input) → tokens_from 255 0 input at ≡ Err More
 cut_tokens input at (tokens, terms, prefix, rest, spells, stand, few, is, split) =
     let following : drop (at + length prefix) input ≡ rest = drop-following input at prefix rest split in
     walked tokens terms input at prefix rest spells stand few split ∙ tokens-cut (255 - length tokens) terms input (at + length prefix) rest following is
@@ -280,7 +280,7 @@ expression_bad input at fits fault_offset reason gives =
     let all = tokens_stopped 255 0 [] input at fits refl refl (Bad fault_offset reason) (expression_stopped input at (Bad fault_offset reason) (tokens_from 255 0 input at) refl gives) in
     (all.is.0, (all.tokens, all.terms, all.prefix, all.rest, all.spells, all.stand, all.few, (all.is.1, all.is.2), all.split))
 
-expression_more : (input : List ℕ) (at : ℕ) → AreBytes input → expression_at input at ≡ Err More → ExpressionEnds (drop at input)
+expression_more : (input : List ℕ) (at : ℕ) → AreBytes input → expression_at input at ≡ Err More → IsCutOffExpression (drop at input)
 expression_more input at fits gives =
     let all = tokens_stopped 255 0 [] input at fits refl refl More (expression_stopped input at More (tokens_from 255 0 input at) refl gives) in
     (all.tokens, all.terms, all.prefix, all.rest, all.spells, all.stand, all.few, all.is, all.split)
@@ -396,24 +396,24 @@ optional_fault : (input : List ℕ) (at fault_offset : ℕ) (reason : Reason) �
 optional_fault input at fault_offset reason (begins, has) =
     optional_yes input at (begins_from (drop at input) begins) ∙ ap (λ (r : Reading Span). r >>= some_span) (expression-exact.fault input at fault_offset reason has)
 
-optional_more : (input : List ℕ) (at : ℕ) → AreBytes input → (bytes : List ℕ) → drop at input ≡ bytes → optional_expression_at input at ≡ Err More → ExpressionEnds (drop at input)
+optional_more : (input : List ℕ) (at : ℕ) → AreBytes input → (bytes : List ℕ) → drop at input ≡ bytes → optional_expression_at input at ≡ Err More → IsCutOffExpression (drop at input)
 optional_more input at fits [] e gives = ([], 0, [], drop at input, refl, refl, omega arith, subst (λ (l : List ℕ). IsCutOffToken l) (sym e) (states [] tt), refl)
 optional_more input at fits (b ∷ rest) e gives = elim (cases_Bool (begins_token b)) [
   | inl h ↦ expression_more input at fits (some_stops input at More (expression_at input at) refl (sym (optional_yes input at (b, rest, e, h)) ∙ gives))
   | inr h ↦ absurd (ok_not_err None at More (sym (optional_no input at b rest e h) ∙ gives))
 ]
 
-cut_begins : (b : ℕ) (rest : List ℕ) → ExpressionEnds (b ∷ rest) → Begins (b ∷ rest)
+cut_begins : (b : ℕ) (rest : List ℕ) → IsCutOffExpression (b ∷ rest) → Begins (b ∷ rest)
 cut_begins b rest ([], terms, prefix, back, spells, stand, few, is, split) =
     let same : b ∷ rest ≡ back = split ∙ ap (λ (l : List ℕ). l ++ back) spells in
     (b, rest, refl, cut_off_first b rest (subst (λ (l : List ℕ). IsCutOffToken l) (sym same) is))
 cut_begins b rest (token ∷ tokens, terms, prefix, back, spells, stand, few, is, split) =
     subst (λ (l : List ℕ). Begins l) (sym split) (tokens_first (token ∷ tokens) prefix back spells (omega arith))
 
-optional_ends : (input : List ℕ) (at : ℕ) (bytes : List ℕ) → drop at input ≡ bytes → ExpressionEnds bytes → optional_expression_at input at ≡ Err More
+optional_ends : (input : List ℕ) (at : ℕ) (bytes : List ℕ) → drop at input ≡ bytes → IsCutOffExpression bytes → optional_expression_at input at ≡ Err More
 optional_ends input at [] e ends = optional_end input at e
 optional_ends input at (b ∷ rest) e ends =
-    optional_yes input at (subst (λ (l : List ℕ). Begins l) (sym e) (cut_begins b rest ends)) ∙ ap (λ (r : Reading Span). r >>= some_span) (expression-exact.ends input at (subst (λ (l : List ℕ). ExpressionEnds l) (sym e) ends))
+    optional_yes input at (subst (λ (l : List ℕ). Begins l) (sym e) (cut_begins b rest ends)) ∙ ap (λ (r : Reading Span). r >>= some_span) (expression-exact.ends input at (subst (λ (l : List ℕ). IsCutOffExpression l) (sym e) ends))
 
 optional_later : (x : Option Span) (at : ℕ) (prefix : List ℕ) (next : Option ℕ) → SpellsField optional_expression x at prefix None → SpellsField optional_expression x at prefix next
 optional_later None at prefix next spells = absurd spells.1

@@ -16,7 +16,7 @@ use Rattle.mufom_records.specs.declared.stop.Stop.{Stop}
 use Rattle.mufom_records.specs.declared.stop.Stop.TheVariants.{More, Bad}
 use Rattle.mufom_records.specs.Fields.{optional_number, numbers, string, run, SpellsField, SpellsNumbers, Stops, first_of, items_of, span_at}
 use Rattle.mufom_records.specs.Reading.{Reading, ◌>>=◌, moved, text_at, run_at, optional_number_at, with_first, numbers_at}
-use Rattle.mufom_records.specs.Faults.{IsCutOffNumber, FieldEnds}
+use Rattle.mufom_records.specs.Faults.{IsCutOffNumber, IsCutOffField}
 use Rattle.mufom_records.proofs.Exact.{ok, stopped, same_stop, ok_not_err, AreBytes-drop, drop-following, Found, found, found-as, IsExact}
 use Rattle.mufom_records.proofs.NumberLaws.{BeginsIn-grows, optional_number-exact}
 
@@ -109,7 +109,7 @@ numbers_bad (suc k) input at fits fault_offset reason gives = elim (first_stops 
   | inr (n, mid, first, later) ↦ numbers_bad k input mid fits fault_offset reason later
 ]
 
-numbers_more : (most : ℕ) (input : List ℕ) (at : ℕ) → AreBytes input → numbers_at most input at ≡ Err More → FieldEnds (numbers most) (drop at input)
+numbers_more : (most : ℕ) (input : List ℕ) (at : ℕ) → AreBytes input → numbers_at most input at ≡ Err More → IsCutOffField (numbers most) (drop at input)
 numbers_more zero input at fits gives = absurd (ok_not_err [] at More gives)
 numbers_more (suc k) input at fits gives = elim (first_stops k input at More (optional_number_at input at) refl gives) [
   | inl first ↦ ([], [], drop at input, refl, omega arith, optional_number-exact.more input at fits first, refl)

@@ -11,7 +11,7 @@ use Rattle.mufom_records.specs.declared.stop.Stop.TheVariants.{More, Bad}
 use Rattle.mufom_records.specs.Fields.{Field, byte, number, string, run, letter, optional_number, numbers, expression, optional_expression, first_of}
 use Rattle.mufom_records.specs.Layouts.{layout_of, IsWholeRecord}
 use Rattle.mufom_records.specs.Reading.{Reading, read, as_taken, record_at}
-use Rattle.mufom_records.specs.Faults.{IsFaulty, IsUnended}
+use Rattle.mufom_records.specs.Faults.{IsFaulty, IsCutOffRecord}
 use Rattle.mufom_records.proofs.Exact.{IsExact, FoundRecord, read-got, read-only, read-bad, read-fault, read-more, read-ends, record-later, fault-grows}
 use Rattle.mufom_records.proofs.NumberLaws.{byte-exact, number-exact, letter-exact, optional_number-exact}
 use Rattle.mufom_records.proofs.ListLaws.{numbers-exact, run-exact, string-exact}
@@ -56,7 +56,7 @@ prefix_of mode input row used all =
 
 pub data States (mode : Mode) (input : List ℕ) : Taken Record → Type 0 where
   states_got : (row : Record) (used : ℕ) → IsPrefix mode input row used → States mode input (taken.Got row used)
-  states_more : IsUnended mode input → States mode input taken.More
+  states_more : IsCutOffRecord mode input → States mode input taken.More
   states_bad : (offset : ℕ) (reason : Reason) → IsFaulty mode input offset reason → States mode input (taken.Bad offset reason)
 
 states_by : (mode : Mode) (input : List ℕ) → AreBytes input → (answer : Reading Record) → read (layout_of mode) input 0 ≡ answer → States mode input (as_taken answer)
@@ -93,15 +93,15 @@ stated_bad mode input offset reason answer (states_bad where_ why has) same =
 pub bad-record_at : (mode : Mode) (input : List ℕ) → AreBytes input → (offset : ℕ) (reason : Reason) → record_at mode input ≡ taken.Bad offset reason → IsFaulty mode input offset reason
 bad-record_at mode input fits offset reason e = stated_bad mode input offset reason (record_at mode input) (states mode input fits) e
 
-pub record_at-more : (mode : Mode) (input : List ℕ) → IsUnended mode input → record_at mode input ≡ taken.More
+pub record_at-more : (mode : Mode) (input : List ℕ) → IsCutOffRecord mode input → record_at mode input ≡ taken.More
 record_at-more mode input ends = ap (λ a. as_taken a) (read-ends exact (layout_of mode) input 0 ends)
 
-stated_more : (mode : Mode) (input : List ℕ) (answer : Taken Record) → States mode input answer → answer ≡ taken.More → IsUnended mode input
+stated_more : (mode : Mode) (input : List ℕ) (answer : Taken Record) → States mode input answer → answer ≡ taken.More → IsCutOffRecord mode input
 stated_more mode input answer (states_got row used is) same = let wrong : got_record row used ≡ more_record = same in absurd cc
 stated_more mode input answer (states_more ends) same = ends
 stated_more mode input answer (states_bad offset reason has) same = let wrong : bad_record offset reason ≡ more_record = same in absurd cc
 
-pub more-record_at : (mode : Mode) (input : List ℕ) → AreBytes input → record_at mode input ≡ taken.More → IsUnended mode input
+pub more-record_at : (mode : Mode) (input : List ℕ) → AreBytes input → record_at mode input ≡ taken.More → IsCutOffRecord mode input
 more-record_at mode input fits e = stated_more mode input (record_at mode input) (states mode input fits) e
 
 -- ---- laws

@@ -10,7 +10,7 @@ use Rattle.mufom_expr.specs.Spelled.{SpellsToken, SpellsTokens, IsCutOffToken}
 use Rattle.mufom_records.specs.declared.record.Mode.{Mode}
 use Rattle.mufom_records.specs.declared.record.Mode.TheVariants as mode
 use Rattle.mufom_records.specs.Fields.{Field, ValueOf, byte, number, string, run, letter, optional_number, numbers, expression, optional_expression, is_one_of, SpellsField, SpellsNumbers, SpellsExpression, first_of}
-use Rattle.mufom_records.specs.Faults.{IsCutOffNumber, ExpressionEnds, FieldEnds, EndsEarly, IsUnended}
+use Rattle.mufom_records.specs.Faults.{IsCutOffNumber, IsCutOffExpression, IsCutOffField, IsCutOffLayout, IsCutOffRecord}
 use Rattle.mufom_records.specs.declared.record.Record.{Record}
 use Rattle.mufom_records.specs.declared.record.Record.TheVariants as r
 use Rattle.mufom_numbers.specs.declared.taken.Span.{Span}
@@ -95,7 +95,7 @@ most optional_expression = 2560
 expression_short : (bytes : List ℕ) (x : ValueOf expression) (at : ℕ) (next : Option ℕ) → SpellsField expression x at bytes next → length bytes ≤ 2560
 expression_short bytes x at next is = let few = is.0.1.0 in let all = tokens_short _ bytes is.0.1.1 in omega (arith, few, all)
 
-ends_short : (bytes : List ℕ) → ExpressionEnds bytes → length bytes < 2560
+ends_short : (bytes : List ℕ) → IsCutOffExpression bytes → length bytes < 2560
 ends_short bytes (tokens, terms, prefix, rest, spells, leave, few, cut, same) =
     let one = tokens_short tokens prefix spells in
     let last = cut_token_short rest cut in
@@ -117,7 +117,7 @@ spelled_short optional_expression None at bytes next is = let all = ap length is
 spelled_short optional_expression (Some x) at bytes next is = expression_short bytes x at next is
 
 -- bytes that end before a field or inside it have fewer than the field at most
-unended_short : (f : Field) (bytes : List ℕ) → FieldEnds f bytes → length bytes < most f
+unended_short : (f : Field) (bytes : List ℕ) → IsCutOffField f bytes → length bytes < most f
 unended_short byte bytes is = let none = ap length is in omega (arith, none)
 unended_short (number fits fault_offset fault) bytes is = cut_number_short bytes is
 unended_short string bytes (text, cut) =
@@ -168,7 +168,7 @@ AtMost (whole row) n = Unit {0}
 AtMost (refused back reason) n = Unit {0}
 AtMost (field f rest) n = (most f ≤ n) × ((x : ValueOf f) → Admits f x → AtMost (rest x) (n - most f))
 
-early_short : (l : Layout) (n at : ℕ) (bytes : List ℕ) → AtMost l n → EndsEarly l at bytes → length bytes < n
+early_short : (l : Layout) (n at : ℕ) (bytes : List ℕ) → AtMost l n → IsCutOffLayout l at bytes → length bytes < n
 early_short (whole row) n at bytes fits early = elim early [ ]
 early_short (refused back reason) n at bytes fits early = elim early [ ]
 early_short (field f rest) n at bytes fits (inl ends) = let few = unended_short f bytes ends in let room = fits.0 in omega (arith, few, room)

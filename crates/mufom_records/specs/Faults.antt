@@ -45,8 +45,8 @@ abbrev pub ExpressionFault : ℕ → List ℕ → ℕ → Reason → Type 0
 ExpressionFault at bytes fault_offset reason = (offset : ℕ) × AfterTokens bytes (λ tokens terms prefix rest. TokenFault tokens terms rest offset reason × (fault_offset ≡ at + length prefix + offset))
 
 -- tokens stand first, and then the bytes end before another one or inside it
-abbrev pub ExpressionEnds : List ℕ → Type 0
-ExpressionEnds bytes = AfterTokens bytes (λ tokens terms prefix rest. IsCutOffToken rest)
+abbrev pub IsCutOffExpression : List ℕ → Type 0
+IsCutOffExpression bytes = AfterTokens bytes (λ tokens terms prefix rest. IsCutOffToken rest)
 
 -- ---- fields
 
@@ -72,16 +72,16 @@ FieldFault expression at bytes fault_offset reason = ExpressionFault at bytes fa
 FieldFault optional_expression at bytes fault_offset reason = BeginsWith (λ b. begins_token b ≡ true) bytes × ExpressionFault at bytes fault_offset reason
 
 -- The bytes end before the field or inside it, or where it could still begin, and show no fault.
-abbrev pub FieldEnds : Field → List ℕ → Type 0
-FieldEnds byte bytes = bytes ≡ []
-FieldEnds (number fits fault_offset fault) bytes = IsCutOffNumber bytes
-FieldEnds string bytes = (text : List ℕ) × IsCutOff (SpellsString text) bytes
-FieldEnds (run n) bytes = length bytes < n
-FieldEnds (letter known) bytes = bytes ≡ []
-FieldEnds optional_number bytes = IsCutOffNumber bytes
-FieldEnds (numbers most) bytes = (ns : List ℕ) × (prefix : List ℕ) × (rest : List ℕ) × SpellsNumbers ns prefix × (length ns < most) × IsCutOffNumber rest × (bytes ≡ prefix ++ rest)
-FieldEnds expression bytes = ExpressionEnds bytes
-FieldEnds optional_expression bytes = ExpressionEnds bytes
+abbrev pub IsCutOffField : Field → List ℕ → Type 0
+IsCutOffField byte bytes = bytes ≡ []
+IsCutOffField (number fits fault_offset fault) bytes = IsCutOffNumber bytes
+IsCutOffField string bytes = (text : List ℕ) × IsCutOff (SpellsString text) bytes
+IsCutOffField (run n) bytes = length bytes < n
+IsCutOffField (letter known) bytes = bytes ≡ []
+IsCutOffField optional_number bytes = IsCutOffNumber bytes
+IsCutOffField (numbers most) bytes = (ns : List ℕ) × (prefix : List ℕ) × (rest : List ℕ) × SpellsNumbers ns prefix × (length ns < most) × IsCutOffNumber rest × (bytes ≡ prefix ++ rest)
+IsCutOffField expression bytes = IsCutOffExpression bytes
+IsCutOffField optional_expression bytes = IsCutOffExpression bytes
 
 -- ---- records
 
@@ -93,11 +93,11 @@ HasFault (field f rest) at bytes fault_offset reason = FieldFault f at bytes fau
     ⊎ ((x : ValueOf f) × (prefix : List ℕ) × (back : List ℕ) × SpellsField f x at prefix (first_of back None) × HasFault (rest x) (at + length prefix) back fault_offset reason × (bytes ≡ prefix ++ back))
 
 -- Fields of the layout stand first, and then the bytes end too early.
-abbrev pub EndsEarly : Layout → ℕ → List ℕ → Type 0
-EndsEarly (whole row) at bytes = ⊥
-EndsEarly (refused back why) at bytes = ⊥
-EndsEarly (field f rest) at bytes = FieldEnds f bytes
-    ⊎ ((x : ValueOf f) × (prefix : List ℕ) × (back : List ℕ) × SpellsField f x at prefix (first_of back None) × EndsEarly (rest x) (at + length prefix) back × (bytes ≡ prefix ++ back))
+abbrev pub IsCutOffLayout : Layout → ℕ → List ℕ → Type 0
+IsCutOffLayout (whole row) at bytes = ⊥
+IsCutOffLayout (refused back why) at bytes = ⊥
+IsCutOffLayout (field f rest) at bytes = IsCutOffField f bytes
+    ⊎ ((x : ValueOf f) × (prefix : List ℕ) × (back : List ℕ) × SpellsField f x at prefix (first_of back None) × IsCutOffLayout (rest x) (at + length prefix) back × (bytes ≡ prefix ++ back))
 
 -- The input shows this fault of a record that would stand at its start, named at that offset.
 abbrev pub IsFaulty : Mode → List ℕ → ℕ → Reason → Type 0
@@ -105,5 +105,5 @@ IsFaulty mode input fault_offset reason = HasFault (layout_of mode) 0 input faul
 
 -- The input is the prefix of a record without a fault, and ends inside a field, before one that must follow, or where an
 -- optional one could begin.
-abbrev pub IsUnended : Mode → List ℕ → Type 0
-IsUnended mode input = EndsEarly (layout_of mode) 0 input
+abbrev pub IsCutOffRecord : Mode → List ℕ → Type 0
+IsCutOffRecord mode input = IsCutOffLayout (layout_of mode) 0 input

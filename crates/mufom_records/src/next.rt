@@ -10,7 +10,7 @@ ghost use Rattle.mufom_records.specs.Layouts.{IsWholeRecord};
 ghost use Rattle.mufom_records.specs.Layouts as layouts;
 ghost use Rattle.mufom_records.specs.Parts.{HasParts};
 ghost use Rattle.mufom_records.specs.Reading.{read, record_at};
-ghost use Rattle.mufom_records.specs.Faults.{IsFaulty, IsUnended};
+ghost use Rattle.mufom_records.specs.Faults.{IsFaulty, IsCutOffRecord};
 
 use crate::brackets::{item, start_address};
 use crate::fields::{bad, byte};
@@ -210,7 +210,7 @@ pub fn next_record(input: &[u8], mode: Mode) -> Taken<Record>
     ensures only { (row : Record) (text rest : List ℕ) → IsWholeRecord mode row text (first_of rest None) → input.now ≡ text ++ rest
         → result ≡ Taken.Got row (length text) }
     ensures bad { (place : ℕ) (reason : Reason) → (result ≡ Taken.Bad place reason) ↔ IsFaulty mode input.now place reason }
-    ensures more { (result ≡ Taken.More) ↔ IsUnended mode input.now }
+    ensures more { (result ≡ Taken.More) ↔ IsCutOffRecord mode input.now }
     // What the record names by its position lies in the input, and its expressions are expressions.
     ensures parts { IfGot result (λ row used. HasParts input.now row) }
     ensures exact { result ≡ record_at mode input.now }
