@@ -250,7 +250,7 @@ def block(fields):
         fields.number()
         index = fields.index()
         variables = fields.expression()
-    return Row("BB", index, variables, kind=kind)
+    return Row("BB", index, variables, block=kind)
 
 
 def repeat(fields):
@@ -356,7 +356,7 @@ class Judge:
         own = DECLARES.get(row.kind)
         names = NAMES.get(row.kind, "section" if row.kind == "BB" and row.index is not None else None)
         counter = {"ASP": row.index, "field": self.current}.get(row.kind)
-        kind = row.more.get("kind")
+        kind = row.more.get("block")
         opened = self.blocks[-1][1] if self.blocks else None
         tests = [
             ("DuplicateIndex", own and row.index in self.declared[own]),
@@ -444,7 +444,7 @@ class Judge:
     def judge(self):
         (_, self.name), start = header_record(self.data, 0, 0xE0)
         (bits, units), place = header_record(self.data, start, 0xEC)
-        if bits != 8 or units not in (2, 3, 4):
+        if bits != 8 or units not in range(1, 9):
             raise Fault(start, "BadDescriptor")
         offsets, place = self.offsets(place)
         for number in range(7):

@@ -147,7 +147,7 @@ class Maker:
 
     def file(self):
         head = b"\xE0" + self.string(b"68000") + self.string(b"m") + b"\xEC\x08"
-        head += self.number(self.random.choice([4] * 12 + [2, 3, 5])) + self.choose(b"", b"\xCC", b"\xCD")
+        head += self.number(self.random.choice([4] * 12 + [1, 2, 3, 5, 8, 9])) + self.choose(b"", b"\xCC", b"\xCD")
         parts, place, offsets = self.parts(), len(head) + 64, []
         for part in parts:
             offsets.append(place if part or self.chance(0.05) else 0)
