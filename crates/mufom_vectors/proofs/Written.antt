@@ -8,7 +8,7 @@ use Rattle.mufom_module.specs.Written as w
 use Rattle.mufom_module.specs.Defects.{IsValid}
 use Rattle.mufom_module.specs.Made.{IsMade}
 use Rattle.mufom_module.specs.Grammar.{file_limit, offsets_in}
-use Rattle.mufom_write.proofs.CutFile.{file_of, cut, offsets_in-chunks}
+use Rattle.mufom_write.proofs.CutFile.{file_of, cut, offsets_in-records}
 use Rattle.mufom_write.proofs.Fitting.{inside_module, loads-placed, module-fits}
 use Rattle.mufom_write.proofs.NamingFile.{has-names}
 use Rattle.mufom_write.proofs.Stated.{states}
@@ -30,5 +30,5 @@ written-is-module m valid made few plain =
     let its = inside_module m valid in
     let none = ap (λ (items : List DebugItem). w.debug_records shortest 0 (marks_of items)) plain in
     let zero_offset = absent (w.header_length shortest m) (w.parts shortest m) 4 (omega arith) none in
-    let now = subst (λ (offsets : List ℕ). AreNow true [] offsets) (sym (offsets_in-chunks 0 (w.offsets shortest m))) (now_when_absent true 4 [] (w.offsets shortest m) refl zero_offset) in
+    let now = subst (λ (offsets : List ℕ). AreNow true [] offsets) (sym (offsets_in-records 0 (w.offsets shortest m))) (now_when_absent true 4 [] (w.offsets shortest m) refl zero_offset) in
     file_is_module (written m) true (file_of m) m (cut m fits few) (has-names m fits its (loads-placed m valid)) (states m fits its) valid now

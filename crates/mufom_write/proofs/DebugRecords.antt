@@ -18,7 +18,7 @@ use Rattle.mufom_module.specs.Defects.{is_long}
 use Rattle.mufom_write.proofs.Rows.{IsSpelledNote, name_at, value_at, text_at, debug_name-whole, debug_note-whole, debug_value-whole}
 use Rattle.mufom_write.proofs.DebugRows.{tail_for, end_for, IsSpelledHead, IsSpelledEnd, block_begin-whole, block_end-whole}
 use Rattle.mufom_write.proofs.Indexed.{IsFittingTree, indexed, expression-spells}
-use Rattle.mufom_write.proofs.Laying.{the_record, IsRecord}
+use Rattle.mufom_write.proofs.Laying.{spelled as the_record, IsRecord}
 
 -- the row of a mark before which n names stand
 abbrev pub mark_row : ℕ → DebugMark → Record

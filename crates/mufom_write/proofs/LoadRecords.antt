@@ -29,7 +29,7 @@ use Rattle.mufom_module.specs.Defects.{is_long}
 use Rattle.mufom_write.proofs.Rows.{IsCode, IsWhole, value_at, spells, set_pc-whole}
 use Rattle.mufom_write.proofs.LoadRows.{run_at, set_section-whole, constant-whole, relocate-whole, repeat_constant-whole, repeat_relocate-whole, constant_item-whole, field-whole, start-whole}
 use Rattle.mufom_write.proofs.Indexed.{IsFittingTree, indexed, expression-spells}
-use Rattle.mufom_write.proofs.Laying.{the_record, IsRecord, bytes_of-append, code-first}
+use Rattle.mufom_write.proofs.Laying.{spelled as the_record, IsRecord, bytes_of-append, code-first}
 
 -- ---- the records
 

@@ -6,7 +6,7 @@ use Rattle.mufom_module.specs.Gathered.{public_by}
 use Rattle.mufom_read.specs.declared.notes.Named.TheVariants as named
 use Rattle.mufom_read.specs.Kept.{record_of_kept}
 use Rattle.mufom_read.specs.Built.{indexes_by, notes_for}
-use Rattle.mufom_read.proofs.LoadLaws.{from-place}
+use Rattle.mufom_read.proofs.LoadLaws.{from-offset}
 use Rattle.mufom_read.proofs.NameLaws.{take-more}
 use Rattle.mufom_read.proofs.names.publics_of.Goals as goal
 
@@ -19,7 +19,7 @@ loop-record-preserved c =
     let notes = λ (i : ℕ). notes_for named.Public i all in
     let more = declared public (map record_of_kept (drop (n + 1) kept)) in
     let within : n < length kept = omega arith in
-    let before = c.loop-record.invariant.groups ∙ ap (λ ps. map notes (declared public ps)) (from-place kept n k within c.record-item.is) in
+    let before = c.loop-record.invariant.groups ∙ ap (λ ps. map notes (declared public ps)) (from-offset kept n k within c.record-item.is) in
     let here = c.in_ok-public.ensures.public all more c.requires.tables c.in_ok-values.ensures before in
     let one_by = λ (p : SpelledRecord). public_by (indexes_by c.args.tables.now) all p p.row in
     record {

@@ -6,7 +6,7 @@ use Rattle.mufom_module.specs.Gathered.{reference_by}
 use Rattle.mufom_read.specs.declared.notes.Named.TheVariants as named
 use Rattle.mufom_read.specs.Kept.{record_of_kept}
 use Rattle.mufom_read.specs.Built.{notes_for}
-use Rattle.mufom_read.proofs.LoadLaws.{from-place}
+use Rattle.mufom_read.proofs.LoadLaws.{from-offset}
 use Rattle.mufom_read.proofs.NameLaws.{take-more}
 use Rattle.mufom_read.proofs.names.references_of.Goals as goal
 
@@ -19,7 +19,7 @@ loop-record-preserved c =
     let notes = λ (i : ℕ). notes_for named.Reference i all in
     let more = declared reference (map record_of_kept (drop (n + 1) kept)) in
     let within : n < length kept = omega arith in
-    let before = c.loop-record.invariant.groups ∙ ap (λ ps. map notes (declared reference ps)) (from-place kept n k within c.record-item.is) in
+    let before = c.loop-record.invariant.groups ∙ ap (λ ps. map notes (declared reference ps)) (from-offset kept n k within c.record-item.is) in
     let here = c.in_ok-reference.ensures.reference all more c.requires.tables c.in_ok-weaknesses.ensures before in
     let one_by = λ (p : SpelledRecord). reference_by all p p.row in
     record {
