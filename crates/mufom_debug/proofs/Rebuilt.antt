@@ -10,17 +10,17 @@ use Rattle.mufom_debug.specs.declared.item.DebugItem.TheViews.{roll-DebugItem, r
 use Rattle.mufom_debug.specs.Marks.{DebugMark, block_begin, block_end, name_mark, note_mark, value_mark, joined, item_step, block_step, marks_of_item, marks_of}
 
 -- a block that is begun and not ended, with the items that stand before it at its level
-record Begun : Type 0 where
-  before : List DebugItem
-  head : BlockHead
-  name : List ℕ
+pub record Begun : Type 0 where
+  pub before : List DebugItem
+  pub head : BlockHead
+  pub name : List ℕ
 
 -- the item of a block
-abbrev block_item : BlockHead → List ℕ → List DebugItem → Option Tree → DebugItem
+abbrev pub block_item : BlockHead → List ℕ → List DebugItem → Option Tree → DebugItem
 block_item head name items end = roll-DebugItem (DebugItem-F.Block (roll-Block (record { head = head; name = name; items = items; end = end })))
 
 -- the items that marks give after those of this level and inside the begun blocks, the innermost first
-abbrev rebuilt : List DebugMark → List DebugItem → List Begun → List DebugItem
+abbrev pub rebuilt : List DebugMark → List DebugItem → List Begun → List DebugItem
 rebuilt [] items outer = items
 rebuilt (block_begin head name ∷ marks) items outer = rebuilt marks [] (record { before = items; head = head; name = name } ∷ outer)
 rebuilt (block_end end ∷ marks) items [] = rebuilt marks items []

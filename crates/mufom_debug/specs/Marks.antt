@@ -1,6 +1,6 @@
 -- Debug items as one flat list of marks, in the order of the file (IEEE Std 695, block begin, block end,
 -- name declarations and assignment commands of the debug information part).
-use Rattle.std.specs.Prelude.{◌≡◌, ℕ, ◌+◌, ◌-◌, max, List, [], ◌∷◌, ◌++◌, Option, Some, None, map, flat_map, option_to_list}
+use Rattle.std.specs.Prelude.{◌≡◌, ℕ, zero, suc, ◌+◌, ◌-◌, max, Bool, true, false, List, [], ◌∷◌, ◌++◌, Option, Some, None, map, flat_map, option_to_list}
 use Rattle.mufom_expr.specs.Tree.{Tree}
 use Rattle.mufom_names.specs.declared.name.Note.{Note}
 use Rattle.mufom_debug.specs.declared.item.BlockHead.{BlockHead}
@@ -69,6 +69,17 @@ depth_from opened (mark ∷ marks) = max opened (depth_from (open_after opened m
 -- the blocks on the longest way in
 abbrev pub depth_of : List DebugMark → ℕ
 depth_of marks = depth_from 0 marks
+
+-- where the given number of blocks are open, the marks end these and each block that they begin, and no other
+abbrev pub closes : ℕ → List DebugMark → Bool
+closes zero [] = true
+closes (suc n) [] = false
+closes n (block_begin head name ∷ marks) = closes (suc n) marks
+closes zero (block_end end ∷ marks) = false
+closes (suc n) (block_end end ∷ marks) = closes n marks
+closes n (name_mark name ∷ marks) = closes n marks
+closes n (note_mark name note ∷ marks) = closes n marks
+closes n (value_mark name value ∷ marks) = closes n marks
 
 -- after these marks as many blocks are open as before them, and they go as deep as by themselves
 pub record IsBalanced (marks : List DebugMark) : Type 0 where

@@ -1,8 +1,8 @@
 //! Laws of the marks, the contracts of functions that do nothing.
 
-ghost use Rattle.std.specs.Prelude.{◌≡◌, List};
+ghost use Rattle.std.specs.Prelude.{◌≡◌, true, List};
 ghost use Rattle.mufom_debug.specs.declared.item.DebugItem.{DebugItem};
-ghost use Rattle.mufom_debug.specs.Marks.{marks_of, IsBalanced};
+ghost use Rattle.mufom_debug.specs.Marks.{DebugMark, closes, marks_of, IsBalanced};
 
 /// Items leave as many blocks open as they found: each block is closed after its items.
 pub fn items_are_balanced()
@@ -13,4 +13,9 @@ pub fn items_are_balanced()
 /// different marks.
 pub fn marks_determine_items()
     ensures { (a b : List DebugItem) → marks_of a ≡ marks_of b → a ≡ b }
+{}
+
+/// Marks that end each block that they begin, and no other, are the marks of items.
+pub fn closed_marks_are_those_of_items()
+    ensures { (marks : List DebugMark) → closes 0 marks ≡ true → (items : List DebugItem) × (marks_of items ≡ marks) }
 {}

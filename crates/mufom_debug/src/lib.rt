@@ -19,4 +19,4 @@ pub use deepest::{depth, is_within_depth};
 pub use gather::addresses;
 pub use item::{Block, BlockHead, DebugItem};
 pub use iterator::Addresses;
-pub use laws::{items_are_balanced, marks_determine_items};
+pub use laws::{closed_marks_are_those_of_items, items_are_balanced, marks_determine_items};

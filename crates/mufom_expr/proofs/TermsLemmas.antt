@@ -1,5 +1,5 @@
 -- The tokens of a postfix expression are those of its tree.
-use Rattle.std.proofs.Common.{ℕ, ◌≡◌, List, [], ◌∷◌, ◌++◌, Option, Some, None, refl, sym, ◌∙◌, ap, append_assoc, append-nil}
+use Rattle.std.proofs.Common.{ℕ, ◌≡◌, List, [], ◌∷◌, ◌++◌, Option, Some, None, refl, sym, ◌∙◌, ap, subst, append_assoc, append-nil}
 use Rattle.std.specs.Prelude.{option_and_then}
 use Rattle.std.specs.List.{AllByRecursion}
 use Rattle.std.proofs.lemmas.List.{map-append}
@@ -90,6 +90,16 @@ LeaveOneTerm-tokens_of t =
     let run : terms_after (tokens_of t) [] ≡ Some (t ∷ [])
     = ap (λ ts. terms_after ts []) (sym (append-nil (tokens_of t))) ∙ terms_after-tokens_of t [] [] in
     run ∙ ap (λ u. Some (u ∷ [])) (sym (the_term-tokens_of t))
+
+-- tokens that leave one term do so with their variables renamed: the term with its variables renamed
+pub tokens_of-renamed : (rename : Letter → ℕ → Letter × ℕ) (ts : List Token) → LeaveOneTerm ts → renamed_tokens rename ts ≡ tokens_of (with_variables rename (the_term ts))
+tokens_of-renamed rename ts leave = ap (renamed_tokens rename) (tokens_of-the_term ts leave) ∙ renamed_tokens-tokens_of rename (the_term ts)
+
+pub LeaveOneTerm-renamed : (rename : Letter → ℕ → Letter × ℕ) (ts : List Token) → LeaveOneTerm ts → LeaveOneTerm (renamed_tokens rename ts)
+LeaveOneTerm-renamed rename ts leave = subst LeaveOneTerm (sym (tokens_of-renamed rename ts leave)) (LeaveOneTerm-tokens_of (with_variables rename (the_term ts)))
+
+pub the_term-renamed : (rename : Letter → ℕ → Letter × ℕ) (ts : List Token) → LeaveOneTerm ts → the_term (renamed_tokens rename ts) ≡ with_variables rename (the_term ts)
+the_term-renamed rename ts leave = ap the_term (tokens_of-renamed rename ts leave) ∙ the_term-tokens_of (with_variables rename (the_term ts))
 
 all_left : (P : Letter × ℕ → Type 0) (xs ys : List (Letter × ℕ)) → AllByRecursion P (xs ++ ys) → AllByRecursion P xs
 all_left P [] ys h = tt

@@ -10,3 +10,4 @@ pub mod ExprTree
 pub mod InfixText
 pub mod Spelled
 pub mod TokenAt
+pub mod Held

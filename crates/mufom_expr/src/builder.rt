@@ -5,6 +5,7 @@ ghost use Rattle.mufom_expr.specs.Terms.{the_term, FindsTooFew, LeavesMoreThanOn
 use crate::fault::ExprFault;
 use crate::postfix::Postfix;
 use crate::token::{Token, operands};
+use mufom_numbers::NoMemory;
 use std::alloc::Global;
 use std::marker::Model;
 
@@ -41,6 +42,14 @@ impl Builder {
             tokens: Vec::new(alloc),
             terms: 0,
         }
+    }
+
+    /// No tokens, with room for `count` of them.
+    pub fn with_capacity(alloc: Global, count: usize) -> Result<Builder, NoMemory>
+        ensures { IfOk result (λ b. b ≡ []) }
+    {
+        let tokens = Vec::with_capacity(alloc, count)?;
+        Ok(Builder { tokens, terms: 0 })
     }
 
     /// Adds a token at the end.

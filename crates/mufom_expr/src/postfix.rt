@@ -1,10 +1,11 @@
-ghost use Rattle.std.specs.Prelude.{◌≡◌, ◌≤◌, ◌<◌, ◌↔◌, ◌^◌, length, IfOk, IfSome, IsTrue, Some};
+ghost use Rattle.std.specs.Prelude.{◌≡◌, ◌≤◌, ◌<◌, ◌↔◌, ◌^◌, [], ◌∷◌, length, IfOk, IfSome, IsTrue, Some};
 ghost use Rattle.mufom_expr.specs.ExprTree.{tree_of_expr, tokens_of_expr, IsExpression};
 ghost use Rattle.std.specs.List.{AllByRecursion};
 ghost use Rattle.mufom_expr.specs.Tree.{number, tokens_of, IsInRange};
 ghost use Rattle.mufom_expr.specs.Terms.{the_term, LeaveOneTerm};
 ghost use Rattle.mufom_expr.specs.Value.{value_at, variables_of, with_variables};
 ghost use Rattle.mufom_expr.specs.Mentions.{variables_in};
+ghost use Rattle.mufom_expr.specs.Held.{tokens_held};
 ghost use Rattle.mufom_expr.specs.Renamed.{renamed_token, renamed_tokens};
 
 use crate::env::{Env, VarMap};
@@ -15,12 +16,38 @@ use crate::value::{Stack, pop_value, step};
 use arrayvec::ArrayVec;
 use mufom_numbers::NoMemory;
 use std::alloc::Global;
+use std::fmt::{Debug, Formatter, Write};
 use std::marker::Model;
+use std::{fmt, slice};
 
 /// An expression: 1 to 255 tokens that leave one term. Contracts see it as its tree.
 #[derive(Debug, Drop)]
 pub struct Postfix {
-    tokens: Vec<Token>,
+    tokens: Tokens,
+}
+
+/// The tokens of an expression. One alone, as most expressions have, is held without memory of its own.
+#[derive(Drop)]
+pub(crate) enum Tokens {
+    One(Token),
+    Many(Vec<Token>),
+}
+
+impl Debug for Tokens {
+    fn fmt<W: Write>(&self, f: &mut Formatter<W>) -> fmt::Result {
+        self.as_slice().fmt(f)
+    }
+}
+
+impl Tokens {
+    fn as_slice(&self) -> &[Token]
+        ensures { result.now ≡ tokens_held self.now }
+    {
+        match self {
+            Tokens::One(token) => slice::from_ref(token),
+            Tokens::Many(all) => all.as_slice(),
+        }
+    }
 }
 
 impl Model for Postfix {
@@ -35,20 +62,41 @@ impl Model for Postfix {
     ghost use Rattle.std.specs.List.{AllByRecursion};
     ghost use Rattle.mufom_expr.specs.Tree.{IsInRange};
     ghost use Rattle.mufom_expr.specs.Terms.{the_term, LeaveOneTerm};
+    ghost use Rattle.mufom_expr.specs.Held.{tokens_held};
 
-    ghost view = { λ p. the_term p.tokens.items };
+    ghost view = { λ p. the_term (tokens_held p.tokens) };
 
-    ghost invariant = { λ p. LeaveOneTerm p.tokens.items × (length p.tokens.items ≤ 255) × AllByRecursion IsInRange p.tokens.items };
+    ghost invariant = { λ p. LeaveOneTerm (tokens_held p.tokens) × (length (tokens_held p.tokens) ≤ 255) × AllByRecursion IsInRange (tokens_held p.tokens) };
 }
 
 impl Postfix {
-    /// The expression that is one number.
-    pub fn constant(alloc: Global, value: u64) -> Result<Postfix, NoMemory>
+    /// The expression that is one number. Takes no memory.
+    pub fn constant(_alloc: Global, value: u64) -> Result<Postfix, NoMemory>
         ensures { IfOk result (λ p. p ≡ number value) }
     {
-        let mut tokens = Vec::new(alloc);
-        tokens.push(Token::Number(value))?;
-        Ok(Postfix { tokens })
+        Ok(Postfix::single(Token::Number(value)))
+    }
+
+    /// The expression that is one token. Takes no memory.
+    pub fn single(token: Token) -> Postfix
+        requires { LeaveOneTerm (token ∷ []) }
+        ensures { result ≡ the_term (token ∷ []) }
+    {
+        Postfix {
+            tokens: Tokens::One(token),
+        }
+    }
+
+    /// The expression itself, with another variable in the place of each: that which the map gives. Takes
+    /// no memory.
+    pub fn renamed<M: VarMap>(self, map: &M) -> Postfix
+        ensures { result ≡ with_variables (M.meaning map.now) self }
+    {
+        let Postfix { tokens } = self;
+        match tokens {
+            Tokens::One(token) => Postfix::single(renamed(map, token)),
+            Tokens::Many(all) => Postfix::of(rename_all(map, all)),
+        }
     }
 
     // The expression of tokens that are one.
@@ -58,7 +106,12 @@ impl Postfix {
         requires range { AllByRecursion IsInRange tokens.items }
         ensures { result ≡ the_term tokens.items }
     {
-        Postfix { tokens }
+        match tokens.as_slice() {
+            [token] => Postfix::single(*token),
+            _ => Postfix {
+                tokens: Tokens::Many(tokens),
+            },
+        }
     }
 
     /// The tokens, operands before functions: 1 to 255. Takes no memory.
@@ -79,7 +132,7 @@ impl Postfix {
         ensures residue { IfSome result (λ v. v < 2 ^ width) }
     {
         let mut stack: Stack = ArrayVec::new();
-        for token in &self.tokens {
+        for token in self.tokens.as_slice() {
             step(&mut stack, *token, env, width);
         }
         pop_value(&mut stack)
@@ -94,13 +147,19 @@ impl Postfix {
         Mentions::of(self.tokens())
     }
 
-    /// The same expression with another variable in the place of each: that which the map gives.
+    /// The same expression with another variable in the place of each: that which the map gives. An
+    /// expression of one token takes no memory.
     pub fn map_vars<M: VarMap>(&self, alloc: Global, map: &M) -> Result<Postfix, NoMemory>
         ensures tree { IfOk result (λ p. p ≡ with_variables (M.meaning map.now) self.now) }
         ensures tokens { IfOk result (λ p. tokens_of p ≡ renamed_tokens (M.meaning map.now) (tokens_of self.now)) }
     {
-        let tokens = renamed_all(alloc, map, self.tokens())?;
-        Ok(Postfix::of(tokens))
+        match &self.tokens {
+            Tokens::One(token) => Ok(Postfix::single(renamed(map, *token))),
+            Tokens::Many(all) => {
+                let tokens = renamed_all(alloc, map, all.as_slice())?;
+                Ok(Postfix::of(tokens))
+            }
+        }
     }
 
     /// The expression as a tree of nodes.
@@ -110,7 +169,7 @@ impl Postfix {
         ensures fits { IfOk result (λ expr. IsExpression expr) }
     {
         let mut stack = Vec::new(alloc);
-        for token in &self.tokens {
+        for token in self.tokens.as_slice() {
             grow(alloc, &mut stack, *token)?;
         }
         Ok(pop_expr(&mut stack))
@@ -120,7 +179,10 @@ impl Postfix {
     pub fn copy(&self, alloc: Global) -> Result<Postfix, NoMemory>
         ensures { IfOk result (λ p. p ≡ self.now) }
     {
-        let tokens = Vec::from_slice(alloc, self.tokens.as_slice())?;
+        let tokens = match &self.tokens {
+            Tokens::One(token) => Tokens::One(*token),
+            Tokens::Many(all) => Tokens::Many(Vec::from_slice(alloc, all.as_slice())?),
+        };
         Ok(Postfix { tokens })
     }
 
@@ -157,4 +219,15 @@ fn renamed_all<M: VarMap>(alloc: Global, map: &M, tokens: &[Token]) -> Result<Ve
         all.push(renamed(map, *token))?;
     }
     Ok(all)
+}
+
+// The tokens with their variables renamed, in their place.
+fn rename_all<M: VarMap>(map: &M, mut tokens: Vec<Token>) -> Vec<Token>
+    ensures value { result.items ≡ renamed_tokens (M.meaning map.now) tokens.items }
+    ensures range { AllByRecursion IsInRange result.items }
+{
+    for token in tokens.iter_mut() {
+        *token = renamed(map, *token);
+    }
+    tokens
 }

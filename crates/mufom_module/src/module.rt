@@ -3,6 +3,7 @@ ghost use Rattle.mufom_module.specs.Written.{weight};
 ghost use Rattle.mufom_module.specs.Defects.{IsValid};
 ghost use Rattle.mufom_module.specs.Made.{IsMade};
 
+use crate::made::attest;
 use crate::weight::module_weight;
 use mufom_debug::DebugItem;
 use mufom_expr::Postfix;
@@ -97,12 +98,13 @@ impl Model for Module {
 }
 
 impl Module {
-    // The module of these parts.
-    pub(crate) fn of(parts: Parts) -> Module
-        requires valid { IsValid parts }
-        requires made { IsMade parts }
-        ensures { result ≡ parts }
+    /// The module of parts that are known to have no defect. Looks for none, and takes no memory.
+    pub fn sound(parts: Parts) -> Module
+        requires { IsValid parts }
+        ensures same { result ≡ parts }
+        ensures made { IsMade result }
     {
+        attest(&parts);
         Module { parts }
     }
 

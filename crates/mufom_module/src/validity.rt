@@ -3,7 +3,6 @@ ghost use Rattle.std.specs.List.{find};
 ghost use Rattle.mufom_module.specs.Defects.{has_defect, first_defect, IsValid};
 ghost use Rattle.mufom_module.specs.Made.{IsMade};
 
-use crate::made::attest;
 use crate::module::{Defect, Module, Parts};
 use crate::rules::{
     has_bad_alignment, has_bad_end, has_bad_position, has_bad_size, has_bad_units,
@@ -78,10 +77,7 @@ pub fn assemble(parts: Parts) -> Result<Module, (Parts, Defect)>
     ensures first { IfErr result (λ e. first_defect parts ≡ Some e.1) }
 {
     match first_defect(&parts) {
-        None => {
-            attest(&parts);
-            Ok(Module::of(parts))
-        }
+        None => Ok(Module::sound(parts)),
         Some(defect) => Err((parts, defect)),
     }
 }

@@ -37,6 +37,13 @@ impl<T> List<T> {
         }
     }
 
+    /// The list of the items of a `Vec`. Takes no memory.
+    pub fn from_vec(items: Vec<T>) -> List<T>
+        ensures { result ≡ items.items }
+    {
+        List { items }
+    }
+
     /// How many items there are.
     pub fn len(&self) -> usize
         ensures { result ≡ length self.now }

@@ -1,6 +1,6 @@
 -- Tokens are taken off the bytes of an expression, one after the other.
-use Rattle.std.proofs.Common.{◌≡◌, ℕ, ◌<◌, ◌≤◌, List, [], ◌∷◌, ◌++◌, length, drop, Some, sym, ap, subst, ◌∙◌, arith, append_assoc}
-use Rattle.std.proofs.lemmas.List.{append-nil, length-append, drop_at}
+use Rattle.std.proofs.Common.{◌≡◌, ℕ, ◌<◌, ◌≤◌, List, [], ◌∷◌, ◌++◌, length, drop, Some, refl, sym, ap, subst, ◌∙◌, arith, append_assoc}
+use Rattle.std.proofs.lemmas.List.{append-nil, length-append, length-drop, drop_at}
 use Rattle.mufom_numbers.specs.declared.taken.Taken.{Taken}
 use Rattle.mufom_numbers.specs.declared.taken.Taken.TheVariants as taken
 use Rattle.mufom_expr.specs.declared.token.Token.{Token}
@@ -66,6 +66,7 @@ left_next input rest built token used is some got = by_tokens is.tokens is.spell
 pub record Whole (input : List ℕ) (built : List Token) : Type 0 where
   pub one : leaves built ≡ Some 1
   pub spells : SpellsTree (the_term built) input
+  pub count : length built ≡ length (tokens_of (the_term built))
 
 pub left_none : (input rest : List ℕ) (built : List Token) → IsLeft input rest built → length rest ≡ 0 → Whole input built
 left_none input rest built is none = by_tokens is.tokens is.spells is.split where
@@ -79,8 +80,22 @@ left_none input rest built is none = by_tokens is.tokens is.spells is.split wher
       let tokens_are : tokens_of is.tree ≡ tokens_of (the_term built) = same ∙ tokens_of-the_term built (leaves-one built one) in
       record {
         one = one;
+        count = ap length (sym same ∙ tokens_are);
         spells = (subst (λ (l : List Token). length l ≤ 255) tokens_are is.whole.0, subst (λ (l : List Token). SpellsTokens l input) tokens_are is.whole.1);
       }
 
 pub left_start : (input : List ℕ) (built : List Token) → (tree : Tree) × SpellsTree tree input → built ≡ [] → IsLeft input input built
 left_start input built spells none = record { tree = spells.0; tokens = tokens_of spells.0; whole = spells.1; spells = spells.1.1; split = ap (λ (l : List Token). l ++ tokens_of spells.0) (sym none) }
+
+-- a tree is spelled by some bytes
+pub some_bytes : (input : List ℕ) → (tree : Tree) × SpellsTree tree input → 0 < length input
+some_bytes (b ∷ bytes) spells = omega arith
+some_bytes [] spells = let whole = left_none [] [] [] (left_start [] [] spells refl) refl in absurd (no_terms whole.one) where
+  no_terms : leaves [] ≡ Some 1 → ⊥
+  no_terms e = cc
+
+-- a token that all bytes of a tree spell is that tree
+pub alone : (input : List ℕ) (token : Token) (used : ℕ) → (tree : Tree) × SpellsTree tree input → token_at input ≡ taken.Got token used → used ≡ length input → Whole input (token ∷ [])
+alone input token used spells got all =
+    let next = left_next input input [] token used (left_start input [] spells refl) (some_bytes input spells) got in
+    left_none input (drop used input) (token ∷ []) next.left (omega (arith, length-drop used input))

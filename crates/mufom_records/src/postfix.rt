@@ -1,7 +1,7 @@
 //! The expression that bytes of a record spell.
 
 ghost use Rattle.std.specs.Prelude.{◌≡◌, ◌<◌, ◌≤◌, [], ◌∷◌, ◌++◌, length, drop, IfOk, OnOk, Some};
-ghost use Rattle.mufom_expr.specs.Tree.{Tree};
+ghost use Rattle.mufom_expr.specs.Tree.{Tree, tokens_of};
 ghost use Rattle.mufom_expr.specs.Terms.{leaves, the_term, FindsTooFew};
 ghost use Rattle.mufom_expr.specs.Spelled.{SpellsTree};
 ghost use Rattle.mufom_expr.specs.TokenAt.{token_at};
@@ -54,13 +54,27 @@ fn finished(builder: Builder) -> Postfix
     }
 }
 
-/// The expression that the bytes spell, which are all bytes of one without a fault, as those are that a
-/// record's expression stands at. Its variables have the indexes of the file.
-pub fn postfix_of(alloc: Global, input: &[u8]) -> Result<Postfix, NoMemory>
+// How many tokens the bytes of an expression spell.
+fn token_count(input: &[u8]) -> usize
+    requires { (tree : Tree) × SpellsTree tree input.now }
+    ensures { (tree : Tree) × SpellsTree tree input.now × (result ≡ length (tokens_of tree)) }
+{
+    let mut count = 0;
+    let mut rest = input;
+    while !rest.is_empty() {
+        let (_, used) = first_token(rest);
+        rest = after(rest, used);
+        count += 1;
+    }
+    count
+}
+
+// The expression of all tokens that the bytes spell.
+fn all_tokens(alloc: Global, input: &[u8]) -> Result<Postfix, NoMemory>
     requires { (tree : Tree) × SpellsTree tree input.now }
     ensures { IfOk result (λ p. SpellsTree p input.now) }
 {
-    let mut builder = Builder::new(alloc);
+    let mut builder = Builder::with_capacity(alloc, token_count(input))?;
     let mut rest = input;
     while !rest.is_empty() {
         let (token, used) = first_token(rest);
@@ -68,4 +82,19 @@ pub fn postfix_of(alloc: Global, input: &[u8]) -> Result<Postfix, NoMemory>
         rest = after(rest, used);
     }
     Ok(finished(builder))
+}
+
+/// The expression that the bytes spell, which are all bytes of one without a fault, as those are that a
+/// record's expression stands at. Its variables have the indexes of the file. An expression of one token
+/// takes no memory.
+pub fn postfix_of(alloc: Global, input: &[u8]) -> Result<Postfix, NoMemory>
+    requires { (tree : Tree) × SpellsTree tree input.now }
+    ensures { IfOk result (λ p. SpellsTree p input.now) }
+{
+    let (token, used) = first_token(input);
+    if used == input.len() {
+        Ok(Postfix::single(token))
+    } else {
+        all_tokens(alloc, input)
+    }
 }

@@ -9,8 +9,8 @@ use Rattle.mufom_expr.proofs.postfix.Postfix.equals.Goals as goal
 pub returns : goal.returns
 returns c =
     let decides = slice_eq-Decides same_token c.as_slice.result.now c.as_slice-2.result.now c.eq.result c.eq.ensures in
-    let left = c.as_slice.ensures.value in
-    let right = c.as_slice-2.ensures.value in (
+    let left = c.as_slice.ensures in
+    let right = c.as_slice-2.ensures in (
       λ e. sym c.self.view_is ∙ ap the_term (sym left ∙ decides.0 e ∙ right) ∙ c.other.view_is,
       λ e. decides.1 (left ∙ tokens_of-the_term _ c.self.invariant.0 ∙ ap tokens_of (c.self.view_is ∙ e ∙ sym c.other.view_is) ∙ sym (tokens_of-the_term _ c.other.invariant.0) ∙ sym right),
     )

@@ -9,7 +9,7 @@ use Rattle.mufom_expr.proofs.postfix.Postfix.value.Goals as goal
 
 pub loop-token-preserved : goal.loop-token-preserved
 loop-token-preserved g c =
-    let items = c.deref-token-items.result.now in
+    let items = c.as_slice-token-items.result.now in
     let values = reverse c.loop-token.stack.items in
     let m = 2 ^ c.args.width in
     let env = g.E.Env.meaning c.args.env.now in

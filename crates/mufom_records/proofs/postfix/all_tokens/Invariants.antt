@@ -1,6 +1,6 @@
 use Rattle.std.proofs.Common.{length}
 use Rattle.mufom_records.proofs.PostfixLaws.{IsLeft}
-use Rattle.mufom_records.proofs.postfix.postfix_of.Given as goal
+use Rattle.mufom_records.proofs.postfix.all_tokens.Given as goal
 
 abbrev pub invariant-loop-rest : goal.invariant-loop-rest
 invariant-loop-rest l = IsLeft l.fn.input l.rest l.builder
