@@ -1,7 +1,9 @@
 -- What stands in a list, by cases on the list.
-use Rattle.std.proofs.Common.{◌≡◌, ℕ, zero, suc, ◌<◌, ◌⊎◌, inl, inr, List, [], ◌∷◌, ◌++◌, map, length, Some, None, Bool, true, false, ◌||◌, refl, sym, ◌∙◌, ap, cond, arith}
+use Rattle.std.proofs.Common.{◌≡◌, ℕ, zero, suc, ◌<◌, ◌⊎◌, inl, inr, List, [], ◌∷◌, ◌++◌, map, length, Some, None, Bool, true, false, not, ◌||◌, refl, sym, ◌∙◌, ap, cond, arith}
 use Rattle.std.specs.Prelude.{slice_get, slice_index_or, filter, flat_map, Contains}
-use Rattle.std.specs.List.{list_any}
+use Rattle.std.specs.List.{All, list_any}
+use Rattle.std.proofs.lemmas.List.Elements.{All-nil, All-cons}
+use Rattle.mufom_meaning.specs.Flat.{distinct}
 use Rattle.mufom_meaning.proofs.Tests.{either_false}
 
 -- the element stands in the list
@@ -97,6 +99,30 @@ In-filter {A} p x passes (y ∷ ys) h = by_case (p y) refl h (In-filter p x pass
   by_case false e (inl same) later = absurd (let clash : p y ≡ true = ap p same ∙ passes in cc)
   by_case false e (inr h) later = later h
 
+-- what is left by a filter stands in the list
+pub filter-In : {A : Type 0} (p : A → Bool) (x : A) (xs : List A) → In x (filter p xs) → In x xs
+filter-In p x [] h = h
+filter-In {A} p x (y ∷ ys) h = by_test (p y) h (filter-In p x ys) where
+  by_test : (b : Bool) → In x (cond b (y ∷ filter p ys) (filter p ys)) → (In x (filter p ys) → In x ys) → In x (y ∷ ys)
+  by_test true (inl e) later = inl e
+  by_test true (inr h) later = inr (later h)
+  by_test false h later = inr (later h)
+
+-- a distinct element of a list stands in it
+pub distinct-In : {A : Type 0} (same : A → A → Bool) (x : A) (xs : List A) → In x (distinct same xs) → In x xs
+distinct-In same x [] h = h
+distinct-In same x (y ∷ ys) (inl e) = inl e
+distinct-In same x (y ∷ ys) (inr h) = inr (distinct-In same x ys (filter-In (λ z. not (same y z)) x (distinct same ys) h))
+
+-- what stands in a list stands among its distinct elements, where the test decides equality
+pub In-distinct : {A : Type 0} (same : A → A → Bool) → ((x y : A) → same x y ≡ true → x ≡ y) → (x : A) (xs : List A) → In x xs → In x (distinct same xs)
+In-distinct same decides x [] h = absurd h
+In-distinct same decides x (y ∷ ys) (inl e) = inl e
+In-distinct {A} same decides x (y ∷ ys) (inr h) = by_case (same y x) refl (In-distinct same decides x ys h) where
+  by_case : (b : Bool) → same y x ≡ b → In x (distinct same ys) → In x (y ∷ filter (λ z. not (same y z)) (distinct same ys))
+  by_case true e k = inl (decides y x e)
+  by_case false e k = inr (In-filter (λ z. not (same y z)) x (ap not e) (distinct same ys) k)
+
 -- a test that passes no element passes nothing of the list
 pub none-In : {A : Type 0} (p : A → Bool) (xs : List A) → ((x : A) → In x xs → p x ≡ false) → list_any p xs ≡ false
 none-In p [] h = refl
@@ -106,3 +132,8 @@ pub get_some : {A : Type 0} (xs : List A) (i : ℕ) → i < length xs → slice_
 get_some [] i less e = omega (arith, less)
 get_some (x ∷ xs) zero less e = cc
 get_some (x ∷ xs) (suc i) less e = get_some xs i (omega (arith, less)) e
+
+-- what holds of all that stands in a list holds of each element
+pub All-In : {A : Type 0} (P : A → Type 0) (xs : List A) → ((x : A) → In x xs → P x) → All P xs
+All-In P [] holds = All-nil P
+All-In P (x ∷ xs) holds = All-cons P x xs (holds x (inl refl)) (All-In P xs (λ y h. holds y (inr h)))

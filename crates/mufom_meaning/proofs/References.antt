@@ -101,7 +101,7 @@ same_weak-decides (Some v) (Some w) = (there, back) where
   back e = let same : v ≡ w = cc in
       and_true _ _ ((numbers_decide v.size w.size).1 (ap (λ x. x.size) same)) ((numbers_decide v.default w.default).1 (ap (λ x. x.default) same))
 
--- the test of two references shows whether they are equal
+-- the test of two references holds where they are equal
 pub same_reference-decides : (r q : Reference) → Decides (same_reference r q) (r ≡ q)
 same_reference-decides r q = (there, back) where
   there : same_reference r q ≡ true → r ≡ q

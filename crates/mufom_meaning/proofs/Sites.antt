@@ -4,7 +4,7 @@ use Rattle.std.proofs.lemmas.List.{length-map}
 use Rattle.mufom_debug.specs.Marks.{DebugMark, block_begin, block_end, name_mark, note_mark, value_mark, marks_of}
 use Rattle.mufom_module.specs.declared.module.Parts.{Parts}
 use Rattle.mufom_meaning.specs.Flat.{Sited, name_count, sited_from, sited_publics, flat_sections}
-use Rattle.mufom_meaning.proofs.Moved.{shifted}
+use Rattle.mufom_meaning.proofs.staging.Moved.{shifted}
 
 -- the flat numbers after some modules
 abbrev pub next_section : ℕ → List Parts → ℕ

@@ -8,16 +8,17 @@ use Rattle.mufom_loads.specs.Lengths.{byte_count}
 use Rattle.mufom_debug.specs.Marks.{marks_of}
 use Rattle.mufom_module.specs.declared.module.Parts.{Parts}
 use Rattle.mufom_plan.specs.declared.plan.Plan.{Plan}
-use Rattle.mufom_place.specs.Bases.{bases}
 use Rattle.mufom_place.specs.Facts.{◌or_else◌, first_some, place_refusal}
-use Rattle.mufom_meaning.specs.Flat.{Sited, sited, public_names, needs, commons, flat_sections, width}
+use Rattle.mufom_meaning.specs.Bases.{Bases}
+use Rattle.mufom_meaning.specs.Flat.{Sited, sited, public_names, flat_sections, width}
 use Rattle.mufom_meaning.specs.Values.{Setting, setting, environment, value_within, value}
+use Rattle.mufom_meaning.specs.Placed.{placed_commons, planned_bases}
 use Rattle.mufom_meaning.specs.Steps.{Step, counter_step, item_step, steps, counter, step_readings}
 use Rattle.mufom_meaning.specs.Readings.{readings, public_reading, mark_reading}
 use Rattle.mufom_meaning.specs.Facts.{undefined, common_unplaced, placement}
 use Rattle.mufom_meaning.specs.Counts.{loaded_total}
 use Rattle.mufom_meaning.specs.Walk.{step_fact, steps_fact, walk_answer}
-use Rattle.mufom_meaning.specs.LocateAnswer.{locate_answer, cycle_at, image_limit_at}
+use Rattle.mufom_meaning.specs.LocateAnswer.{first_undefined, first_unplaced_common, locate_answer, cycle_at, image_limit_at}
 
 -- with no step left a public has no value
 pub value_within-zero : (s : Setting) (site : Sited) (pc : Option ℕ) (t : Tree) → value_within s zero site pc t ≡ value_at s.modulus (environment s (λ site' t'. None) site pc) t
@@ -49,24 +50,24 @@ unfolding counter
 counter-item s earlier site other section item = refl
 
 -- the parts of what a list means
-pub readings-sections : (ms : List Parts) (placed : List ℕ) → (readings ms placed).sections ≡ flat_sections ms
+pub readings-sections : (ms : List Parts) (placed : Bases) → (readings ms placed).sections ≡ flat_sections ms
 unfolding readings
 readings-sections ms placed = refl
 
-pub readings-publics : (ms : List Parts) (placed : List ℕ) → (readings ms placed).publics ≡ map (public_reading (setting ms placed)) (setting ms placed).publics
+pub readings-publics : (ms : List Parts) (placed : Bases) → (readings ms placed).publics ≡ map (public_reading (setting ms placed)) (setting ms placed).publics
 unfolding readings
 readings-publics ms placed = refl
 
-pub readings-steps : (ms : List Parts) (placed : List ℕ) → (readings ms placed).steps ≡ step_readings (setting ms placed) (steps ms)
+pub readings-steps : (ms : List Parts) (placed : Bases) → (readings ms placed).steps ≡ step_readings (setting ms placed) (steps ms)
 unfolding readings
 readings-steps ms placed = refl
 
-pub readings-starts : (ms : List Parts) (placed : List ℕ)
+pub readings-starts : (ms : List Parts) (placed : Bases)
     → (readings ms placed).starts ≡ flat_map (λ site. map (value (setting ms placed) site None) (option_to_list site.parts.start)) (sited ms)
 unfolding readings
 readings-starts ms placed = refl
 
-pub readings-debug : (ms : List Parts) (placed : List ℕ)
+pub readings-debug : (ms : List Parts) (placed : Bases)
     → (readings ms placed).debug ≡ flat_map (λ site. map (mark_reading (setting ms placed) site) (marks_of site.parts.debug)) (sited ms)
 unfolding readings
 readings-debug ms placed = refl
@@ -77,11 +78,11 @@ steps_fact-cons s earlier step more = refl
 
 -- the answers in their order
 pub locate_answer-order : (ms : List Parts) (plan : Plan) → locate_answer ms plan
-    ≡ (option_map placement (place_refusal (width ms) plan (flat_sections ms))
-    or_else (option_map undefined (slice_get (needs ms) 0)
-    or_else (option_map common_unplaced (slice_get (map (λ c. c.0) (commons ms)) 0)
+    ≡ (option_map placement (place_refusal (width ms) plan (flat_sections ms) (placed_commons ms plan))
+    or_else (option_map undefined (first_undefined ms)
+    or_else (option_map common_unplaced (first_unplaced_common ms plan)
     or_else (first_some (cycle_at ms) (public_names ms)
     or_else (image_limit_at (loaded_total ms)
-    or_else walk_answer ms (setting ms (bases plan (flat_sections ms))))))))
+    or_else walk_answer ms (setting ms (planned_bases ms plan)))))))
 unfolding locate_answer
 locate_answer-order ms plan = refl

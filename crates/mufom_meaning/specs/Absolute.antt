@@ -13,7 +13,7 @@ use Rattle.mufom_meaning.specs.declared.located.PublicValue.{PublicValue}
 use Rattle.mufom_meaning.specs.declared.located.Run.{Run}
 use Rattle.mufom_meaning.specs.declared.located.LocatedParts.{LocatedParts}
 
--- a literal has at most the given number of bytes
+-- the greatest number of bytes of a literal
 abbrev pub literal_limit : ℕ
 literal_limit = 65535
 

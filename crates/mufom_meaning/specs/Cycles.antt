@@ -1,5 +1,5 @@
 -- Chains of mentions: one expression mentions publics, whose expressions mention others.
-use Rattle.std.specs.Prelude.{ℕ, zero, suc, ◌+◌, List, [], length, Option, Some, None, slice_get, Bool, false, ◌||◌, IsTrue}
+use Rattle.std.specs.Prelude.{ℕ, zero, suc, ◌+◌, List, length, Option, Some, None, slice_get, Bool, false, ◌||◌, IsTrue}
 use Rattle.std.specs.List.{list_any}
 use Rattle.std.specs.Str.{bytes_eq}
 use Rattle.mufom_expr.specs.declared.token.Letter.{Letter}
@@ -8,6 +8,7 @@ use Rattle.mufom_expr.specs.Tree.{Tree}
 use Rattle.mufom_expr.specs.Value.{variables_of}
 use Rattle.mufom_names.specs.declared.name.Reference.{Reference}
 use Rattle.mufom_module.specs.declared.module.Parts.{Parts}
+use Rattle.mufom_meaning.specs.Bases.{no_bases}
 use Rattle.mufom_meaning.specs.Flat.{Sited, SitedPublic, first_named}
 use Rattle.mufom_meaning.specs.Values.{Setting, setting}
 
@@ -41,8 +42,8 @@ leads_from s k name (Some q) = leads_within s k name q.site q.entry.value
 -- A chain of mentions leads from the public of this name back to it. It comes back by the name: where a name stands twice, which no
 -- list that can be linked has, another public of it counts as well.
 abbrev pub IsOnCycle : List Parts → List ℕ → Type 0
-IsOnCycle ms name = let s = setting ms [] in (k : ℕ) × IsTrue (leads_from s k name (first_named s.publics name))
+IsOnCycle ms name = let s = setting ms no_bases in (k : ℕ) × IsTrue (leads_from s k name (first_named s.publics name))
 
 -- the same as a test: a chain that comes back has a part that is no longer than the list of publics
 abbrev pub is_on_cycle : List Parts → List ℕ → Bool
-is_on_cycle ms name = let s = setting ms [] in leads_from s (length s.publics) name (first_named s.publics name)
+is_on_cycle ms name = let s = setting ms no_bases in leads_from s (length s.publics) name (first_named s.publics name)

@@ -35,7 +35,7 @@ pub record IsLinkable (ms : List Parts) : Type 0 where
   pub names : AreDistinct (public_names ms)
   pub starts : length (flat_starts ms) ≤ 1
 
--- That nothing is answered in place of a link states this, and no more.
+-- That nothing is answered in place of a link means this, and no more.
 abbrev pub NoLinkAnswerIsLinkable : Type 0
 NoLinkAnswerIsLinkable = (ms : List Parts) → (link_answer ms ≡ None) ↔ IsLinkable ms
 

@@ -4,6 +4,7 @@ use Rattle.mufom_expr.specs.declared.token.FieldKind.{FieldKind}
 use Rattle.mufom_module.specs.declared.module.Order.{Order}
 use Rattle.mufom_module.specs.declared.module.Parts.{Parts}
 use Rattle.mufom_place.specs.declared.refusal.PlaceRefusal.{PlaceRefusal}
+use Rattle.mufom_meaning.specs.declared.located.Site.{Site}
 
 -- the descriptor of a module: bytes of an address, and their order
 abbrev pub Descriptor : Type 0
@@ -19,14 +20,6 @@ pub data LinkFact : Type 0 where
   duplicate : (name : List ℕ) → LinkFact
   duplicate_start : LinkFact
 
--- where a division by 0 stands
-pub data Place : Type 0 where
-  in_public : (name : List ℕ) → Place
-  in_counter : (section : ℕ) → Place
-  in_field : (section address : ℕ) → Place
-  in_start : Place
-  in_debug : (n : ℕ) → Place
-
 -- What keeps modules from being located: sections cannot be placed, a name is undefined or asks for room, public names lead in
 -- a circle, too many bytes are loaded, a divisor is 0, or a byte lies outside its section, on another or in too small a field.
 pub data LocateFact : Type 0 where
@@ -35,7 +28,7 @@ pub data LocateFact : Type 0 where
   common_unplaced : (name : List ℕ) → LocateFact
   cycle : (name : List ℕ) → LocateFact
   image_limit : (count : ℕ) → LocateFact
-  zero_divisor : (place : Place) → LocateFact
+  zero_divisor : (site : Site) → LocateFact
   load_outside : (section address : ℕ) → LocateFact
   loaded_twice : (address : ℕ) → LocateFact
   overflow : (section address : ℕ) → (kind : FieldKind) → (size value : ℕ) → LocateFact

@@ -11,13 +11,13 @@ abbrev pub fits_signed : ℕ → ℕ → ℕ → Bool
 fits_signed modulus size v =
     if nat_lt (v + v) modulus then nat_lt (v + v) (256 ^ size) else nat_le ((modulus - v) + (modulus - v)) (256 ^ size)
 
--- a field of the given number of bytes holds the value
+-- a field of `size` bytes holds the value
 abbrev pub fits : ℕ → FieldKind → ℕ → ℕ → Bool
 fits modulus Signed size v = fits_signed modulus size v
 fits modulus Unsigned size v = nat_lt v (256 ^ size)
 fits modulus Either size v = fits_signed modulus size v || nat_lt v (256 ^ size)
 
--- the given number of bytes of a number, the least first
+-- `size` bytes of a number, the least significant first
 abbrev pub number_bytes : ℕ → ℕ → List ℕ
 number_bytes zero v = []
 number_bytes (suc size) v = (v % 256) ∷ number_bytes size (v / 256)

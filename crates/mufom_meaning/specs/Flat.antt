@@ -71,7 +71,7 @@ public_names ms = flat_map (λ m. map (λ entry. entry.name) m.names.publics) ms
 abbrev pub first_named : List SitedPublic → List ℕ → Option SitedPublic
 first_named publics name = find (λ q. bytes_eq q.entry.name name) publics
 
--- each element once, at the place of the first that is the same
+-- each element once, where the first that is the same stands
 abbrev pub distinct : {A : Type 0} → (A → A → Bool) → List A → List A
 distinct same [] = []
 distinct same (x ∷ xs) = x ∷ filter (λ y. not (same x y)) (distinct same xs)
@@ -104,6 +104,10 @@ same_common c d = bytes_eq c.0 d.0 && (c.1 == d.1)
 -- the names and sizes that weak references ask room for and no public has, each pair once
 abbrev pub commons : List Parts → List (List ℕ × ℕ)
 commons ms = distinct same_common (map (λ reference. (reference.name, common_size reference.weak)) (filter is_common (unmet_references ms)))
+
+-- the names of the commons, one for each pair
+abbrev pub common_names : List Parts → List (List ℕ)
+common_names ms = map (λ common. common.0) (commons ms)
 
 -- the width of an address in bits, by the first module of the list
 abbrev pub width : List Parts → ℕ

@@ -40,7 +40,7 @@ same_reference r q = bytes_eq r.name q.name && same_weak r.weak q.weak && pointw
 abbrev pub kept_references : List Parts → List Reference
 kept_references ms = distinct same_reference (unmet_references ms)
 
--- the place of the first element that passes, and the length where none does
+-- the position of the first element that passes, and the length where none does
 abbrev pub position_of : {A : Type 0} → (A → Bool) → List A → ℕ
 position_of test [] = 0
 position_of test (x ∷ xs) = if test x then 0 else suc (position_of test xs)
@@ -88,7 +88,8 @@ joined_head ms site heads.Module = heads.Module
 joined_head ms site (heads.Global stack type_index offset) = heads.Global stack type_index (joined_tree ms site offset)
 joined_head ms site (heads.Local stack type_index offset) = heads.Local stack type_index (joined_tree ms site offset)
 joined_head ms site (heads.Source numbers) = heads.Source numbers
-joined_head ms site (heads.Section section_type section offset) = heads.Section section_type (site.first_section + section) (joined_tree ms site offset)
+joined_head ms site (heads.Section section_type section offset) =
+    heads.Section section_type (site.first_section + section) (joined_tree ms site offset)
 
 -- the same of a debug mark, whose debug name goes by its flat number
 abbrev pub joined_mark : List Parts → Sited → DebugMark → DebugMark

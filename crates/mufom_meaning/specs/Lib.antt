@@ -1,6 +1,8 @@
 pub mod Flat
+pub mod Bases
 pub mod Values
 pub mod Cycles
+pub mod Placed
 pub mod Steps
 pub mod Readings
 pub mod Joined
@@ -20,3 +22,4 @@ pub mod StagingLaws
 pub mod FactLaws
 pub mod LocationLaws
 pub mod Valued
+pub mod CallLaws

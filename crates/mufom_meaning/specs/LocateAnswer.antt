@@ -1,15 +1,25 @@
 -- What locating a list of modules by a plan answers in place of a location.
-use Rattle.std.specs.Prelude.{ℕ, List, map, Option, Some, None, option_map, slice_get, nat_lt, if◌then◌else◌}
+use Rattle.std.specs.Prelude.{ℕ, List, find, Option, Some, None, option_map, slice_get, not, nat_lt, if◌then◌else◌}
 use Rattle.mufom_module.specs.declared.module.Parts.{Parts}
 use Rattle.mufom_plan.specs.declared.plan.Plan.{Plan}
-use Rattle.mufom_place.specs.Bases.{bases}
+use Rattle.mufom_plan.specs.Names.{has_name}
+use Rattle.mufom_plan.specs.Commons.{has_common}
 use Rattle.mufom_place.specs.Facts.{◌or_else◌, first_some, place_refusal}
-use Rattle.mufom_meaning.specs.Flat.{public_names, needs, commons, flat_sections, width}
+use Rattle.mufom_meaning.specs.Flat.{public_names, needs, common_names, flat_sections, width}
 use Rattle.mufom_meaning.specs.Values.{setting}
+use Rattle.mufom_meaning.specs.Placed.{placed_commons, planned_bases}
 use Rattle.mufom_meaning.specs.Facts.{LocateFact, undefined, common_unplaced, cycle, image_limit, placement}
 use Rattle.mufom_meaning.specs.Cycles.{is_on_cycle}
 use Rattle.mufom_meaning.specs.Walk.{walk_answer}
 use Rattle.mufom_meaning.specs.Counts.{loaded_total}
+
+-- the first name that is needed and is neither a public's nor a common's
+abbrev pub first_undefined : List Parts → Option (List ℕ)
+first_undefined ms = find (λ name. not (has_name (common_names ms) name)) (needs ms)
+
+-- the first common, where no region of the plan takes commons
+abbrev pub first_unplaced_common : List Parts → Plan → Option (List ℕ)
+first_unplaced_common ms plan = if has_common plan.regions then None else slice_get (common_names ms) 0
 
 -- a public that its own name leads back to
 abbrev pub cycle_at : List Parts → List ℕ → Option LocateFact
@@ -21,10 +31,10 @@ image_limit_at total = if nat_lt 67108864 total then Some (image_limit total) el
 
 -- what locating the list by the plan answers in place of a location, the first in this order
 unfoldable pub locate_answer : List Parts → Plan → Option LocateFact
-locate_answer ms plan = let s = setting ms (bases plan (flat_sections ms)) in
-    option_map placement (place_refusal (width ms) plan (flat_sections ms))
-    or_else (option_map undefined (slice_get (needs ms) 0)
-    or_else (option_map common_unplaced (slice_get (map (λ c. c.0) (commons ms)) 0)
+locate_answer ms plan = let s = setting ms (planned_bases ms plan) in
+    option_map placement (place_refusal (width ms) plan (flat_sections ms) (placed_commons ms plan))
+    or_else (option_map undefined (first_undefined ms)
+    or_else (option_map common_unplaced (first_unplaced_common ms plan)
     or_else (first_some (cycle_at ms) (public_names ms)
     or_else (image_limit_at (loaded_total ms)
     or_else walk_answer ms s))))

@@ -9,10 +9,10 @@ use Rattle.mufom_debug.specs.Marks.{DebugMark, block_begin, block_end, name_mark
 use Rattle.mufom_module.specs.declared.module.Order.{Order}
 use Rattle.mufom_module.specs.declared.module.Parts.{Parts}
 use Rattle.mufom_plan.specs.declared.plan.Plan.{Plan}
-use Rattle.mufom_place.specs.Bases.{bases}
 use Rattle.mufom_meaning.specs.declared.located.PublicValue.{PublicValue}
 use Rattle.mufom_meaning.specs.declared.located.LocatedParts.{LocatedParts}
-use Rattle.mufom_meaning.specs.Flat.{flat_sections, width}
+use Rattle.mufom_meaning.specs.Flat.{width}
+use Rattle.mufom_meaning.specs.Placed.{extended_sections, base_list, planned_bases}
 use Rattle.mufom_meaning.specs.Readings.{readings, PublicReading, HeadReading, module_head, global_head, local_head, source_head, section_head, MarkReading, begin_reading, end_reading, name_reading, note_reading, value_reading}
 use Rattle.mufom_meaning.specs.LinkAnswer.{link_answer}
 use Rattle.mufom_meaning.specs.LocateAnswer.{locate_answer}
@@ -25,6 +25,10 @@ placed_section placed s = record s.1 { absolute = true; base = slice_get placed 
 -- all sections, each at the base of its position
 abbrev pub placed_sections : List ℕ → List Section → List Section
 placed_sections placed sections = map (placed_section placed) (enumerate_from 0 sections)
+
+-- the sections of a location: those of the modules and after them the commons that the plan places
+abbrev pub located_sections : List Parts → Plan → List Section
+located_sections ms plan = placed_sections (base_list ms plan) (extended_sections ms plan)
 
 -- a located public as a reading
 abbrev pub located_public : PublicValue → PublicReading
@@ -60,14 +64,14 @@ abbrev pub first_header : List Parts → Option Header
 first_header [] = None
 first_header (m ∷ ms) = Some (m.processor, m.name, m.maus, m.order)
 
--- r is the location of the list by the plan: no fact stands, the sections stand at their bases, each public, start and debug
+-- r is the location of the list by the plan: no fact stands, the sections and commons stand at their bases, each public, start and debug
 -- expression is its value there, and the runs are the rows of the loaded bytes.
 pub record IsLocation (ms : List Parts) (plan : Plan) (r : LocatedParts) : Type 0 where
   pub links : link_answer ms ≡ None
   pub locates : locate_answer ms plan ≡ None
   pub first : first_header ms ≡ Some (r.processor, r.name, r.maus, r.order)
-  pub sections : r.sections ≡ placed_sections (bases plan (flat_sections ms)) (flat_sections ms)
-  pub publics : map located_public r.publics ≡ (readings ms (bases plan (flat_sections ms))).publics
-  pub start : map (λ v. Some v) (option_to_list r.start) ≡ (readings ms (bases plan (flat_sections ms))).starts
-  pub debug : map (λ mark. Some mark) (marks_of r.debug) ≡ map located_mark (readings ms (bases plan (flat_sections ms))).debug
-  pub rows : AreRowsOf (address_map r.order (2 ^ width ms) (readings ms (bases plan (flat_sections ms))).steps) r.runs
+  pub sections : r.sections ≡ located_sections ms plan
+  pub publics : map located_public r.publics ≡ (readings ms (planned_bases ms plan)).publics
+  pub start : map (λ v. Some v) (option_to_list r.start) ≡ (readings ms (planned_bases ms plan)).starts
+  pub debug : map (λ mark. Some mark) (marks_of r.debug) ≡ map located_mark (readings ms (planned_bases ms plan)).debug
+  pub rows : AreRowsOf (address_map r.order (2 ^ width ms) (readings ms (planned_bases ms plan)).steps) r.runs

@@ -1,13 +1,15 @@
 -- What holds of locations and of selected members.
-use Rattle.std.specs.Prelude.{◌≡◌, ℕ, List, [], ◌∷◌, ◌≢◌, ◌<◌, Option, Some, None, ◌^◌, Contains}
+use Rattle.std.specs.Prelude.{◌≡◌, ℕ, List, [], ◌∷◌, ◌≢◌, ◌+◌, ◌*◌, ◌<◌, ◌≤◌, length, filter, Option, Some, None, ◌^◌, Contains}
 use Rattle.mufom_debug.specs.Marks.{DebugMark}
 use Rattle.mufom_module.specs.declared.module.Parts.{Parts}
 use Rattle.mufom_module.specs.Defects.{IsValid}
 use Rattle.mufom_module.specs.Written.{weight}
 use Rattle.mufom_plan.specs.declared.plan.Plan.{Plan}
-use Rattle.mufom_place.specs.Bases.{bases}
 use Rattle.mufom_meaning.specs.declared.located.LocatedParts.{LocatedParts}
-use Rattle.mufom_meaning.specs.Flat.{flat_sections}
+use Rattle.mufom_meaning.specs.Flat.{flat_sections, flat_references, is_common}
+use Rattle.mufom_meaning.specs.Counts.{loaded_total}
+use Rattle.mufom_meaning.specs.Placed.{planned_bases}
+use Rattle.mufom_meaning.specs.StagingLaws.{total_weight}
 use Rattle.mufom_meaning.specs.Readings.{readings, PublicReading, MarkReading, Readings}
 use Rattle.mufom_meaning.specs.Location.{IsLocation, located_mark}
 use Rattle.mufom_meaning.specs.Selection.{IsSelected}
@@ -39,7 +41,7 @@ pub record AreValued (r : Readings) : Type 0 where
 abbrev pub AllValued : Type 0
 AllValued =
     (ms : List Parts) (plan : Plan) → AreValid ms → link_answer ms ≡ None → locate_answer ms plan ≡ None
-    → AreValued (readings ms (bases plan (flat_sections ms)))
+    → AreValued (readings ms (planned_bases ms plan))
 
 -- Where no fact stands against a list of modules without a defect, which is not empty, there is a location.
 abbrev pub LocationsExist : Type 0
@@ -59,7 +61,19 @@ AbsoluteIsLocatedAsItself =
 -- The module that a location is written as has no defect, where it is not too heavy.
 abbrev pub AbsoluteIsValid : Type 0
 AbsoluteIsValid =
-    (ms : List Parts) (plan : Plan) (r : LocatedParts) → AreValid ms → IsLocation ms plan r → weight (absolute_of r) < 2 ^ 32 → IsValid (absolute_of r)
+    (ms : List Parts) (plan : Plan) (r : LocatedParts) → AreValid ms → IsLocation ms plan r → weight (absolute_of r) < 2 ^ 32
+    → IsValid (absolute_of r)
+
+-- how many weak references ask for room
+abbrev pub asking_count : List Parts → ℕ
+asking_count ms = length (filter is_common (flat_references ms))
+
+-- That module weighs at most what the list weighs, and 31 more for each section, 31 for each loaded byte and 42 for each weak
+-- reference of a size above 0.
+abbrev pub AbsoluteWeighs : Type 0
+AbsoluteWeighs =
+    (ms : List Parts) (plan : Plan) (r : LocatedParts) → AreValid ms → IsLocation ms plan r
+    → weight (absolute_of r) ≤ total_weight ms + 31 * length (flat_sections ms) + 31 * loaded_total ms + 42 * asking_count ms
 
 -- The members that are selected for a list are determined.
 abbrev pub SelectionIsSingle : Type 0

@@ -7,6 +7,7 @@ use Rattle.mufom_debug.specs.declared.item.BlockHead.{BlockHead}
 use Rattle.mufom_debug.specs.declared.item.BlockHead.TheVariants as heads
 use Rattle.mufom_debug.specs.Marks.{DebugMark, block_begin, block_end, name_mark, note_mark, value_mark, marks_of}
 use Rattle.mufom_module.specs.declared.module.Parts.{Parts}
+use Rattle.mufom_meaning.specs.Bases.{Bases}
 use Rattle.mufom_meaning.specs.Flat.{Sited, SitedPublic, sited, needs, commons}
 use Rattle.mufom_meaning.specs.Values.{Setting, setting, value}
 use Rattle.mufom_meaning.specs.Steps.{StepReading, steps, step_readings}
@@ -70,8 +71,8 @@ pub record Readings : Type 0 where
   pub needs : List (List ℕ)
   pub commons : List (List ℕ × ℕ)
 
--- what the modules mean where the sections stand at the bases
-unfoldable pub readings : List Parts → List ℕ → Readings
+-- what the modules mean where the sections and commons stand at the bases
+unfoldable pub readings : List Parts → Bases → Readings
 readings ms bases = let s = setting ms bases in record {
   sections = s.sections;
   publics = map (public_reading s) s.publics;

@@ -5,6 +5,7 @@ use Rattle.mufom_names.specs.Names.{AreDistinct}
 use Rattle.mufom_module.specs.declared.module.Parts.{Parts}
 use Rattle.mufom_module.specs.Defects.{IsValid}
 use Rattle.mufom_plan.specs.Names.{has_name}
+use Rattle.mufom_meaning.specs.Bases.{Bases}
 use Rattle.mufom_meaning.specs.Flat.{flat_sections, public_names}
 use Rattle.mufom_meaning.specs.Readings.{readings}
 use Rattle.mufom_meaning.specs.Joined.{IsJoined, same_reference}
@@ -25,18 +26,18 @@ HaveDescriptorOf [] others = Unit {0}
 HaveDescriptorOf (m ∷ ms) others = HaveDescriptor m others
 
 -- A context of the list: valid modules before it and after it, of its descriptor, such that no public name stands twice, and a
--- base for each section. It speaks of the list alone and of no link of it.
-pub record IsContext (before ms after : List Parts) (bases : List ℕ) : Type 0 where
+-- base for each section; commons may have any bases. It speaks of the list alone and of no link of it.
+pub record IsContext (before ms after : List Parts) (bases : Bases) : Type 0 where
   pub before_valid : AreValid before
   pub after_valid : AreValid after
   pub descriptor : HaveDescriptorOf ms (before ++ after)
   pub names : AreDistinct (public_names (before ++ (ms ++ after)))
-  pub placed : length bases ≡ length (flat_sections (before ++ (ms ++ after)))
+  pub placed : length bases.sections ≡ length (flat_sections (before ++ (ms ++ after)))
 
--- The module stands for the list: in every context, and wherever the sections stand, it means what the list means.
+-- The module stands for the list: in every context, and wherever sections and commons stand, it means what the list means.
 abbrev pub StandsFor : Parts → List Parts → Type 0
 StandsFor M ms =
-    (before after : List Parts) (bases : List ℕ) → IsContext before ms after bases
+    (before after : List Parts) (bases : Bases) → IsContext before ms after bases
     → readings (before ++ (M ∷ after)) bases ≡ readings (before ++ (ms ++ after)) bases
 
 -- no two references are the same, and none has the name of one of the module's own publics
@@ -44,13 +45,13 @@ pub record HasSettledReferences (M : Parts) : Type 0 where
   pub apart : IsDistinct same_reference M.names.references
   pub unmet : IsTrue (list_all (λ reference. not (has_name (public_names (M ∷ [])) reference.name)) M.names.references)
 
--- what a context of a group has to keep for the outer link to give the same module: a group at the start gives its name
+-- what a context of a group has to keep for the outer link to give the same module: a group at the beginning gives its name
 abbrev pub NameStays : List Parts → Parts → List Parts → Type 0
 NameStays [] M [] = ⊥
 NameStays [] M (m ∷ ms) = M.name ≡ m.name
 NameStays (a ∷ before) M ms = Unit {0}
 
--- The list ms comes from the list leaves by partial links of neighbours, one after another. A link at the start keeps
+-- The list ms comes from the list leaves by partial links of neighbours, one after another. A link at the beginning keeps
 -- the name of its first module.
 pub data IsStaged : List Parts → List Parts → Type 0 where
   unlinked : (ms : List Parts) → IsStaged ms ms

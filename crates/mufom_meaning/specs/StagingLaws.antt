@@ -1,11 +1,12 @@
 -- What holds of stages of linking.
-use Rattle.std.specs.Prelude.{◌≡◌, ℕ, List, [], ◌∷◌, ◌++◌, length, ◌↔◌, ◌+◌, ◌<◌, ◌≤◌, ◌^◌, sum_by}
+use Rattle.std.specs.Prelude.{◌≡◌, ℕ, List, [], ◌∷◌, ◌++◌, flat_map, length, None, Contains, ◌↔◌, ◌+◌, ◌<◌, ◌≤◌, ◌^◌, sum_by}
 use Rattle.mufom_names.specs.Names.{AreDistinct}
 use Rattle.mufom_module.specs.declared.module.Parts.{Parts}
 use Rattle.mufom_module.specs.Defects.{IsValid}
 use Rattle.mufom_module.specs.Written.{weight}
 use Rattle.mufom_plan.specs.declared.plan.Plan.{Plan}
 use Rattle.mufom_meaning.specs.declared.located.LocatedParts.{LocatedParts}
+use Rattle.mufom_meaning.specs.Bases.{Bases}
 use Rattle.mufom_meaning.specs.Flat.{flat_sections, public_names}
 use Rattle.mufom_meaning.specs.Readings.{readings}
 use Rattle.mufom_meaning.specs.Joined.{IsJoined}
@@ -21,8 +22,7 @@ use Rattle.mufom_meaning.specs.Stands.{LinkFactStands, LocateFactStands}
 -- reference is left to one of its own publics.
 abbrev pub JoinedStandsFor : Type 0
 JoinedStandsFor =
-    (M : Parts) (ms : List Parts) (name : List ℕ) → IsJoined M ms name → IsValid M → AreValid ms
-    → AreDistinct (public_names ms)
+    (M : Parts) (ms : List Parts) (name : List ℕ) → IsJoined M ms name → AreValid ms
     → StandsFor M ms × (M.sections ≡ flat_sections ms) × (public_names (M ∷ []) ≡ public_names ms) × HasSettledReferences M
 
 -- Links compose: the outer link of the list with the group linked is that of the flat list.
@@ -49,6 +49,29 @@ LinkFactsAgree =
     → IsJoined M ms name → HaveDescriptorOf ms ms
     → LinkFactStands (before ++ (M ∷ after)) fact ↔ LinkFactStands (before ++ (ms ++ after)) fact
 
+-- A module stands in a list for a group of modules: it is the one module of the group, or the link of a group that can be linked.
+pub data IsLinkOrItself : Parts → List Parts → Type 0 where
+  itself : (m : Parts) → IsLinkOrItself m (m ∷ [])
+  a_link : (M : Parts) (group : List Parts) (name : List ℕ) → IsJoined M group name → link_answer group ≡ None → IsLinkOrItself M group
+
+-- each module stands for its group, one group for each
+abbrev pub StandForGroups : List Parts → List (List Parts) → Type 0
+StandForGroups [] [] = Unit {0}
+StandForGroups (M ∷ Ms) (group ∷ groups) = IsLinkOrItself M group × StandForGroups Ms groups
+StandForGroups [] (group ∷ groups) = ⊥
+StandForGroups (M ∷ Ms) [] = ⊥
+
+-- What is answered in place of the link of a list goes by its groups: a link fact about a group is one about the whole list, and where
+-- each group was linked, or is one module, the list of the links has the answer of the whole list.
+pub record GroupsAnswer (groups : List (List Parts)) : Type 0 where
+  pub facts_stand : (group : List Parts) → Contains groups group → (fact : LinkFact) → LinkFactStands group fact
+      → LinkFactStands (flat_map (λ own. own) groups) fact
+  pub same_answer : (Ms : List Parts) → StandForGroups Ms groups → link_answer Ms ≡ link_answer (flat_map (λ own. own) groups)
+
+-- This holds of all groups.
+abbrev pub AllGroupsAnswer : Type 0
+AllGroupsAnswer = (groups : List (List Parts)) → GroupsAnswer groups
+
 -- The facts about a list with a link are those about the flat list, all of them and the answered one.
 pub record FactsAgreeOn (linked flat : List Parts) (plan : Plan) : Type 0 where
   pub link_facts : (fact : LinkFact) → LinkFactStands linked fact ↔ LinkFactStands flat fact
@@ -74,7 +97,7 @@ SelectionAgrees =
 -- Two lists mean the same: they have the same readings wherever the sections stand, the same link, facts, answers and location
 -- whatever the plan, and the same members.
 pub record MeansTheSame (ms leaves : List Parts) : Type 0 where
-  pub same_readings : (bases : List ℕ) → readings ms bases ≡ readings leaves bases
+  pub same_readings : (bases : Bases) → readings ms bases ≡ readings leaves bases
   pub same_first : first_header ms ≡ first_header leaves
   pub same_joined : (N : Parts) (name : List ℕ) → IsJoined N ms name ↔ IsJoined N leaves name
   pub same_link_facts : (fact : LinkFact) → LinkFactStands ms fact ↔ LinkFactStands leaves fact

@@ -1,5 +1,5 @@
 -- When a fact stands against a list of modules, whether or not it is the one that is answered.
-use Rattle.std.specs.Prelude.{◌≡◌, ◌≢◌, ℕ, ◌+◌, ◌%◌, ◌<◌, ◌≤◌, ◌⊎◌, List, [], ◌∷◌, length, Some, None, slice_get, IsTrue}
+use Rattle.std.specs.Prelude.{◌≡◌, ◌≢◌, ℕ, ◌+◌, ◌%◌, ◌<◌, ◌≤◌, ◌⊎◌, List, [], ◌∷◌, length, Some, None, slice_get, false, IsTrue}
 use Rattle.mufom_expr.specs.declared.token.FieldKind.{FieldKind}
 use Rattle.mufom_expr.specs.Tree.{Tree}
 use Rattle.mufom_names.specs.Names.{RepeatsAt}
@@ -8,12 +8,16 @@ use Rattle.mufom_loads.specs.declared.load.Item.TheVariants.{Field}
 use Rattle.mufom_loads.specs.Lengths.{byte_count}
 use Rattle.mufom_module.specs.declared.module.Parts.{Parts}
 use Rattle.mufom_plan.specs.declared.plan.Plan.{Plan}
-use Rattle.mufom_place.specs.Bases.{bases}
+use Rattle.mufom_plan.specs.Names.{has_name}
+use Rattle.mufom_plan.specs.Commons.{has_common}
 use Rattle.mufom_place.specs.Facts.{Stands}
-use Rattle.mufom_meaning.specs.Flat.{Sited, SitedPublic, public_names, flat_starts, needs, commons, flat_sections, width}
+use Rattle.mufom_meaning.specs.declared.located.Site.{Site}
+use Rattle.mufom_meaning.specs.declared.located.Site.TheVariants as sites
+use Rattle.mufom_meaning.specs.Flat.{Sited, SitedPublic, public_names, flat_starts, needs, commons, common_names, flat_sections, width}
 use Rattle.mufom_meaning.specs.Values.{Setting, setting, value, has_zero_divisor}
+use Rattle.mufom_meaning.specs.Placed.{placed_commons, planned_bases}
 use Rattle.mufom_meaning.specs.Steps.{Step, counter_step, item_step, steps, counter}
-use Rattle.mufom_meaning.specs.Facts.{descriptor, LinkFact, mismatch, duplicate, duplicate_start, Place, in_public, in_counter, in_field, in_start, in_debug, LocateFact, undefined, common_unplaced, cycle, image_limit, zero_divisor, load_outside, loaded_twice, overflow, placement}
+use Rattle.mufom_meaning.specs.Facts.{descriptor, LinkFact, mismatch, duplicate, duplicate_start, LocateFact, undefined, common_unplaced, cycle, image_limit, zero_divisor, load_outside, loaded_twice, overflow, placement}
 use Rattle.mufom_meaning.specs.Cycles.{IsOnCycle}
 use Rattle.mufom_meaning.specs.Walk.{size_at, loaded_addresses, SitedTree, start_trees, debug_trees, base_number}
 use Rattle.mufom_meaning.specs.Counts.{loaded_total}
@@ -43,27 +47,30 @@ abbrev pub IsLoadedAt : List Parts → Setting → List Step → Sited → ℕ �
 IsLoadedAt ms s earlier site section at item =
     IsStepAfter ms earlier (item_step site section item) × (counter s earlier section ≡ Some at)
 
--- the expression at a place has a divisor of value 0
-abbrev pub HasZeroDivisor : List Parts → Setting → Place → Type 0
-HasZeroDivisor ms s (in_public name) = (q : SitedPublic) × StandsIn q s.publics × (q.entry.name ≡ name) × IsTrue (has_zero_divisor s q.site None q.entry.value)
-HasZeroDivisor ms s (in_counter section) =
-    (earlier : List Step) × (site : Sited) × (t : Tree) × IsStepAfter ms earlier (counter_step site section t) × IsTrue (has_zero_divisor s site (counter s earlier section) t)
-HasZeroDivisor ms s (in_field section at) =
-    (earlier : List Step) × (site : Sited) × (kind : FieldKind) × (t : Tree) × (size : ℕ) × IsLoadedAt ms s earlier site section at (Field kind t size)
+-- the expression at a site has a divisor of value 0
+abbrev pub HasZeroDivisor : List Parts → Setting → Site → Type 0
+HasZeroDivisor ms s (sites.Public name) =
+    (q : SitedPublic) × StandsIn q s.publics × (q.entry.name ≡ name) × IsTrue (has_zero_divisor s q.site None q.entry.value)
+HasZeroDivisor ms s (sites.Counter section) =
+    (earlier : List Step) × (site : Sited) × (t : Tree) × IsStepAfter ms earlier (counter_step site section t)
+    × IsTrue (has_zero_divisor s site (counter s earlier section) t)
+HasZeroDivisor ms s (sites.Field section at) =
+    (earlier : List Step) × (site : Sited) × (kind : FieldKind) × (t : Tree) × (size : ℕ)
+    × IsLoadedAt ms s earlier site section at (Field kind t size)
     × IsTrue (has_zero_divisor s site (Some at) t)
-HasZeroDivisor ms s in_start = (e : SitedTree) × StandsIn e (start_trees ms) × IsTrue (has_zero_divisor s e.0 None e.1)
-HasZeroDivisor ms s (in_debug n) = (e : SitedTree) × (slice_get (debug_trees ms) n ≡ Some e) × IsTrue (has_zero_divisor s e.0 None e.1)
+HasZeroDivisor ms s sites.Start = (e : SitedTree) × StandsIn e (start_trees ms) × IsTrue (has_zero_divisor s e.0 None e.1)
+HasZeroDivisor ms s (sites.Debug n) = (e : SitedTree) × (slice_get (debug_trees ms) n ≡ Some e) × IsTrue (has_zero_divisor s e.0 None e.1)
 
 -- the facts that need no walk
 abbrev pub StandsBeforeWalk : List Parts → Plan → Setting → LocateFact → Type 0
-StandsBeforeWalk ms plan s (placement refusal) = Stands (width ms) plan (flat_sections ms) refusal
-StandsBeforeWalk ms plan s (undefined name) = StandsIn name (needs ms)
-StandsBeforeWalk ms plan s (common_unplaced name) = (size : ℕ) × StandsIn (name, size) (commons ms)
+StandsBeforeWalk ms plan s (placement refusal) = Stands (width ms) plan (flat_sections ms) (placed_commons ms plan) refusal
+StandsBeforeWalk ms plan s (undefined name) = StandsIn name (needs ms) × (has_name (common_names ms) name ≡ false)
+StandsBeforeWalk ms plan s (common_unplaced name) = (has_common plan.regions ≡ false) × ((size : ℕ) × StandsIn (name, size) (commons ms))
 StandsBeforeWalk ms plan s (cycle name) = IsOnCycle ms name
 StandsBeforeWalk ms plan s (image_limit count) = (loaded_total ms ≡ count) × (67108864 < count)
 StandsBeforeWalk ms plan s _ = ⊥
 
--- The facts that the walk meets. The byte at place q of an item lies at the counter and q: outside its section where that exact
+-- The facts that the walk meets. The byte at offset q of an item lies at the counter and q: outside its section where that exact
 -- sum is, and at an address that was loaded before, by an earlier step or by the same item.
 abbrev pub StandsInWalk : List Parts → Setting → LocateFact → Type 0
 StandsInWalk ms s (zero_divisor place) = HasZeroDivisor ms s place
@@ -71,14 +78,16 @@ StandsInWalk ms s (load_outside section address) =
     (earlier : List Step) × (site : Sited) × (at : ℕ) × (q : ℕ) × (item : Item) × IsLoadedAt ms s earlier site section at item × (q < byte_count item)
     × ((at + q < base_number s section) ⊎ (base_number s section + size_at s section ≤ at + q)) × (address ≡ (at + q) % s.modulus)
 StandsInWalk ms s (loaded_twice address) =
-    (earlier : List Step) × (site : Sited) × (section : ℕ) × (at : ℕ) × (q : ℕ) × (item : Item) × IsLoadedAt ms s earlier site section at item × (q < byte_count item) × (address ≡ (at + q) % s.modulus)
+    (earlier : List Step) × (site : Sited) × (section : ℕ) × (at : ℕ) × (q : ℕ) × (item : Item)
+    × IsLoadedAt ms s earlier site section at item × (q < byte_count item) × (address ≡ (at + q) % s.modulus)
     × (StandsIn address (loaded_addresses s earlier) ⊎ ((p : ℕ) × (p < q) × (address ≡ (at + p) % s.modulus)))
 StandsInWalk ms s (overflow section at kind size v) =
-    (earlier : List Step) × (site : Sited) × (t : Tree) × IsLoadedAt ms s earlier site section at (Field kind t size) × (value s site (Some at) t ≡ Some v) × ¬ IsTrue (fits s.modulus kind size v)
+    (earlier : List Step) × (site : Sited) × (t : Tree) × IsLoadedAt ms s earlier site section at (Field kind t size)
+    × (value s site (Some at) t ≡ Some v) × ¬ IsTrue (fits s.modulus kind size v)
 StandsInWalk ms s _ = ⊥
 
 -- A fact stands. The facts of the walk stand only where no other fact does, link facts included.
 abbrev pub LocateFactStands : List Parts → Plan → LocateFact → Type 0
-LocateFactStands ms plan fact = let s = setting ms (bases plan (flat_sections ms)) in
+LocateFactStands ms plan fact = let s = setting ms (planned_bases ms plan) in
     StandsBeforeWalk ms plan s fact
     ⊎ (((other : LinkFact) → ¬ LinkFactStands ms other) × ((other : LocateFact) → ¬ StandsBeforeWalk ms plan s other) × StandsInWalk ms s fact)

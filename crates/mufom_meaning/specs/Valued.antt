@@ -1,4 +1,4 @@
--- Where an expression has a value (IEEE Std 695, expressions): its place, what it mentions, and the divisors of value 0 on its way.
+-- Where an expression has a value (IEEE Std 695, expressions): where it stands, what it mentions, and the divisors of value 0 on its way.
 use Rattle.std.specs.Prelude.{◌≡◌, ◌≢◌, ℕ, ◌==◌, ◌⊎◌, ◌↔◌, List, [], ◌∷◌, Option, Some, None, Contains, if◌then◌else◌, IsTrue}
 use Rattle.mufom_expr.specs.declared.token.FieldKind.{FieldKind}
 use Rattle.mufom_expr.specs.declared.token.Letter.{Letter}
@@ -8,12 +8,12 @@ use Rattle.mufom_expr.specs.Value.{variables_of}
 use Rattle.mufom_loads.specs.declared.load.Item.TheVariants.{Field}
 use Rattle.mufom_module.specs.declared.module.Parts.{Parts}
 use Rattle.mufom_plan.specs.declared.plan.Plan.{Plan}
-use Rattle.mufom_place.specs.Bases.{bases}
 use Rattle.mufom_meaning.specs.Facts.{LinkFact, LocateFact}
 use Rattle.mufom_meaning.specs.LinkAnswer.{link_answer}
 use Rattle.mufom_meaning.specs.LocateAnswer.{locate_answer}
 use Rattle.mufom_meaning.specs.Staging.{AreValid}
-use Rattle.mufom_meaning.specs.Flat.{Sited, SitedPublic, flat_publics, flat_sections}
+use Rattle.mufom_meaning.specs.Flat.{Sited, SitedPublic, flat_publics}
+use Rattle.mufom_meaning.specs.Placed.{planned_bases}
 use Rattle.mufom_meaning.specs.Values.{Setting, setting, value, has_zero_divisor}
 use Rattle.mufom_meaning.specs.Steps.{Step, counter_step, item_step, counter}
 use Rattle.mufom_meaning.specs.Stands.{StandsIn, IsStepAfter, LinkFactStands, StandsBeforeWalk}
@@ -25,7 +25,7 @@ use Rattle.mufom_meaning.specs.Walk.{start_trees, debug_trees}
 abbrev pub CounterPlace : Type 0
 CounterPlace = Option (List Step × ℕ)
 
--- the counter at a place, and none where an expression finds none
+-- the counter there, and none where an expression finds none
 abbrev pub counter_there : Setting → CounterPlace → Option ℕ
 counter_there s None = None
 counter_there s (Some c) = counter s c.0 c.1
@@ -33,7 +33,8 @@ counter_there s (Some c) = counter s c.0 c.1
 -- the expression is that of a public, a start or a debug mark, or stands in a step of this section after these steps
 abbrev pub IsExpressionAt : List Parts → CounterPlace → Sited → Tree → Type 0
 IsExpressionAt ms None site t =
-    ((q : SitedPublic) × StandsIn q (flat_publics ms) × (q.site ≡ site) × (q.entry.value ≡ t)) ⊎ (StandsIn (site, t) (start_trees ms) ⊎ StandsIn (site, t) (debug_trees ms))
+    ((q : SitedPublic) × StandsIn q (flat_publics ms) × (q.site ≡ site) × (q.entry.value ≡ t))
+    ⊎ (StandsIn (site, t) (start_trees ms) ⊎ StandsIn (site, t) (debug_trees ms))
 IsExpressionAt ms (Some c) site t =
     IsStepAfter ms c.0 (counter_step site c.1 t) ⊎ ((kind : FieldKind) × (size : ℕ) × IsStepAfter ms c.0 (item_step site c.1 (Field kind t size)))
 
@@ -61,17 +62,17 @@ abbrev pub section_of : Step → ℕ
 section_of (counter_step site section t) = section
 section_of (item_step site section item) = section
 
--- each expression has a value at its place, and each section a counter at the steps that set or load it
+-- each expression has a value where it stands, and each section a counter at the steps that set or load it
 pub record HaveValues (ms : List Parts) (s : Setting) : Type 0 where
   pub expressions : (c : CounterPlace) (site : Sited) (t : Tree) → IsExpressionAt ms c site t → value s site (counter_there s c) t ≢ None
   pub counters : (earlier : List Step) (step : Step) → IsStepAfter ms earlier step → counter s earlier (section_of step) ≢ None
 
--- Where no link fact stands against modules without a defect, and none that needs no walk, an expression at its place has no
+-- Where no link fact stands against modules without a defect, and none that needs no walk, an expression has no
 -- value exactly where it, or a public or a counter that it goes through, divides by 0.
 abbrev pub NoneByDivision : Type 0
 NoneByDivision =
     (ms : List Parts) (plan : Plan) → AreValid ms
-    → let s = setting ms (bases plan (flat_sections ms)) in
+    → let s = setting ms (planned_bases ms plan) in
     ((fact : LinkFact) → ¬ LinkFactStands ms fact) → ((fact : LocateFact) → ¬ StandsBeforeWalk ms plan s fact)
     → (c : CounterPlace) (site : Sited) (t : Tree) → IsExpressionAt ms c site t
     → (value s site (counter_there s c) t ≡ None) ↔ MeetsZeroDivisor s c site t
@@ -80,4 +81,4 @@ NoneByDivision =
 abbrev pub ValuesExist : Type 0
 ValuesExist =
     (ms : List Parts) (plan : Plan) → AreValid ms → link_answer ms ≡ None → locate_answer ms plan ≡ None
-    → HaveValues ms (setting ms (bases plan (flat_sections ms)))
+    → HaveValues ms (setting ms (planned_bases ms plan))

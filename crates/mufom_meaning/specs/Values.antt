@@ -7,19 +7,31 @@ use Rattle.mufom_sections.specs.declared.section.Section.{Section}
 use Rattle.mufom_names.specs.declared.name.Weak.{Weak}
 use Rattle.mufom_names.specs.declared.name.Reference.{Reference}
 use Rattle.mufom_module.specs.declared.module.Parts.{Parts}
-use Rattle.mufom_meaning.specs.Flat.{Sited, SitedPublic, flat_sections, flat_publics, first_named, width}
+use Rattle.mufom_plan.specs.Names.{has_name}
+use Rattle.mufom_meaning.specs.Bases.{Bases}
+use Rattle.mufom_meaning.specs.Flat.{Sited, SitedPublic, flat_sections, flat_publics, first_named, common_names, width}
 
--- what an expression's value depends on beside its own module: the address space, and all sections and publics
+-- what an expression's value depends on beside its own module: the address space, and all sections, publics and commons
 pub record Setting : Type 0 where
   pub modulus : ℕ
   pub sections : List Section
   pub publics : List SitedPublic
   -- the base of each section, by its flat number
   pub bases : List ℕ
+  -- the names of the commons, and the base of each that has one
+  pub commons : List (List ℕ)
+  pub common_base : List ℕ → Option ℕ
 
--- the setting of a list of modules whose sections stand at these bases
-abbrev pub setting : List Parts → List ℕ → Setting
-setting ms bases = record { modulus = 2 ^ width ms; sections = flat_sections ms; publics = flat_publics ms; bases = bases }
+-- the setting of a list of modules whose sections and commons stand at these bases
+abbrev pub setting : List Parts → Bases → Setting
+setting ms bases = record {
+  modulus = 2 ^ width ms;
+  sections = flat_sections ms;
+  publics = flat_publics ms;
+  bases = bases.sections;
+  commons = common_names ms;
+  common_base = bases.commons;
+}
 
 -- what the expression of a public is worth in its module
 abbrev pub Worth : Type 0
@@ -35,15 +47,20 @@ abbrev pub default_of : Option Weak → Option ℕ
 default_of None = None
 default_of (Some weak) = if weak.size == 0 then Some weak.default else None
 
--- a reference has the value of the first public of its name, and its default where there is none
-abbrev pub reference_value : Worth → Option SitedPublic → Option Weak → Option ℕ
-reference_value worth (Some q) weak = worth q.site q.entry.value
-reference_value worth None weak = default_of weak
+-- What a reference is worth whose name no public has: the base of the common of this name, whatever the reference itself asks for,
+-- and where there is no such common its default.
+abbrev pub unmet_value : Setting → Reference → Option ℕ
+unmet_value s reference = if has_name s.commons reference.name then s.common_base reference.name else default_of reference.weak
+
+-- a reference has the value of the first public of its name, and where there is none what it is worth without one
+abbrev pub reference_value : Worth → Option SitedPublic → Option ℕ → Option ℕ
+reference_value worth (Some q) unmet = worth q.site q.entry.value
+reference_value worth None unmet = unmet
 
 -- what a reference is worth, where there is one
 abbrev pub worth_of_reference : Setting → Worth → Option Reference → Option ℕ
 worth_of_reference s worth None = None
-worth_of_reference s worth (Some reference) = reference_value worth (first_named s.publics reference.name) reference.weak
+worth_of_reference s worth (Some reference) = reference_value worth (first_named s.publics reference.name) (unmet_value s reference)
 
 -- What the variables are worth in a module, where the program counter is pc: R and L the base of a section, S its size, P
 -- the counter, I the value of a public, X that of a reference. Sections and publics go by their flat numbers, so a position
@@ -63,7 +80,7 @@ unfoldable pub value_within : Setting → ℕ → Sited → Option ℕ → Tree 
 value_within s zero site pc t = value_at s.modulus (environment s (λ site' t'. None) site pc) t
 value_within s (suc k) site pc t = value_at s.modulus (environment s (λ site' t'. value_within s k site' None t') site pc) t
 
--- The value: as many steps as there are publics are enough, unless the names lead in a circle.
+-- The value: a step for each public is enough, unless the names lead in a circle.
 abbrev pub value : Setting → Sited → Option ℕ → Tree → Option ℕ
 value s site pc t = value_within s (length s.publics) site pc t
 

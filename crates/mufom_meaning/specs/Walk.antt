@@ -9,21 +9,23 @@ use Rattle.mufom_loads.specs.Lengths.{byte_count}
 use Rattle.mufom_debug.specs.Marks.{marks_of, expressions_of}
 use Rattle.mufom_module.specs.declared.module.Parts.{Parts}
 use Rattle.mufom_place.specs.Facts.{◌or_else◌, first_some}
+use Rattle.mufom_meaning.specs.declared.located.Site.{Site}
+use Rattle.mufom_meaning.specs.declared.located.Site.TheVariants as sites
 use Rattle.mufom_meaning.specs.Flat.{Sited, SitedPublic, sited}
 use Rattle.mufom_meaning.specs.Values.{Setting, value, has_zero_divisor}
 use Rattle.mufom_meaning.specs.Steps.{Step, counter_step, item_step, steps, counter}
-use Rattle.mufom_meaning.specs.Facts.{Place, in_public, in_counter, in_field, in_start, in_debug, LocateFact, zero_divisor, load_outside, loaded_twice, overflow}
+use Rattle.mufom_meaning.specs.Facts.{LocateFact, zero_divisor, load_outside, loaded_twice, overflow}
 use Rattle.mufom_meaning.specs.Fields.{fits}
 
--- a division by 0, where the expression at the place has one
-abbrev pub zero_divisor_at : Setting → Sited → Option ℕ → Tree → Place → Option LocateFact
+-- a division by 0, where the expression at the site has one
+abbrev pub zero_divisor_at : Setting → Sited → Option ℕ → Tree → Site → Option LocateFact
 zero_divisor_at s site pc t place = if has_zero_divisor s site pc t then Some (zero_divisor place) else None
 
 -- what is met at a public
 abbrev pub public_fact : Setting → SitedPublic → Option LocateFact
-public_fact s q = zero_divisor_at s q.site None q.entry.value (in_public q.entry.name)
+public_fact s q = zero_divisor_at s q.site None q.entry.value (sites.Public q.entry.name)
 
--- the given number of numbers, from this one on
+-- the given number of numbers, from `start` on
 abbrev pub counted_from : ℕ → ℕ → List ℕ
 counted_from zero start = []
 counted_from (suc n) start = start ∷ counted_from n (suc start)
@@ -32,7 +34,7 @@ counted_from (suc n) start = start ∷ counted_from n (suc start)
 abbrev pub has_number : List ℕ → ℕ → Bool
 has_number numbers n = list_any (λ m. m == n) numbers
 
--- a byte lies outside its section; the number of its place is exact, and its address is taken modulo the address space
+-- a byte lies outside its section; the sum of counter and offset is exact, and its address is taken modulo the address space
 abbrev pub outside_at : ℕ → ℕ → ℕ → ℕ → ℕ → Option LocateFact
 outside_at modulus section base size a =
     if nat_lt a base || nat_le (base + size) a then Some (load_outside section (a % modulus)) else None
@@ -66,7 +68,7 @@ overflow_at modulus section at kind size (Some v) = if fits modulus kind size v 
 abbrev pub field_fact : Setting → Sited → ℕ → ℕ → Item → Option LocateFact
 field_fact s site section at (Literal bytes) = None
 field_fact s site section at (Field kind t size) =
-    zero_divisor_at s site (Some at) t (in_field section at) or_else overflow_at s.modulus section at kind size (value s site (Some at) t)
+    zero_divisor_at s site (Some at) t (sites.Field section at) or_else overflow_at s.modulus section at kind size (value s site (Some at) t)
 
 -- the base of a section, by its flat number
 abbrev pub base_number : Setting → ℕ → ℕ
@@ -87,7 +89,7 @@ item_fact s earlier site section (Some at) item =
 
 -- what is met at a step, after the steps before it, the latest first
 abbrev pub step_fact : Setting → List Step → Step → Option LocateFact
-step_fact s earlier (counter_step site section t) = zero_divisor_at s site (counter s earlier section) t (in_counter section)
+step_fact s earlier (counter_step site section t) = zero_divisor_at s site (counter s earlier section) t (sites.Counter section)
 step_fact s earlier (item_step site section item) = item_fact s earlier site section (counter s earlier section) item
 
 -- the first that is met at steps, after those before them
@@ -109,11 +111,11 @@ debug_trees ms = flat_map (λ site. map (λ t. (site, t)) (expressions_of (marks
 
 -- what is met at a start
 abbrev pub start_fact : Setting → SitedTree → Option LocateFact
-start_fact s e = zero_divisor_at s e.0 None e.1 in_start
+start_fact s e = zero_divisor_at s e.0 None e.1 sites.Start
 
 -- what is met at a debug expression, which goes by its number among all
 abbrev pub debug_fact : Setting → ℕ × SitedTree → Option LocateFact
-debug_fact s e = zero_divisor_at s e.1.0 None e.1.1 (in_debug e.0)
+debug_fact s e = zero_divisor_at s e.1.0 None e.1.1 (sites.Debug e.0)
 
 -- the first that is met in the publics, the steps, the starts and the debug expressions, in this order
 abbrev pub walk_answer : List Parts → Setting → Option LocateFact

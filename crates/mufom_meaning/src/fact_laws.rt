@@ -2,8 +2,8 @@
 
 ghost use Rattle.mufom_meaning.specs.FactLaws.{AllAnswersAreFacts, LinkFactsGrow, NoLinkAnswerIsLinkable, CountsAgree, CyclesAreShort};
 
-/// What is answered in place of a link or a location stands, and where nothing is answered no fact
-/// stands.
+/// What is answered in place of a link stands, and where nothing is answered no link fact stands. The
+/// same holds of what is answered in place of a location, where no link fact stands.
 pub fn answers_are_facts()
     ensures { AllAnswersAreFacts }
 {}
@@ -19,7 +19,8 @@ pub fn no_link_answer_is_linkable()
     ensures { NoLinkAnswerIsLinkable }
 {}
 
-/// The bytes that are counted load by load, a repeat by its product, are those that the steps load.
+/// The bytes that are counted load by load, a repeat by its product, are those that the steps load,
+/// in modules without a defect.
 pub fn counts_agree()
     ensures { CountsAgree }
 {}

@@ -7,20 +7,23 @@
 //! [`staged_means_the_same`]: whatever way a list was linked in stages, it means the same.
 #![tactic(auto)]
 
+mod call_laws;
 mod fact_laws;
 mod located;
 mod location_laws;
 mod staging_laws;
 
+pub use call_laws::{are_valid_is_all, modules_may_be_placed};
 pub use fact_laws::{
     answers_are_facts, counts_agree, cycles_are_short, link_facts_grow, no_link_answer_is_linkable,
 };
-pub use located::{LocatedParts, PublicValue, Run};
+pub use located::{Descriptor, LocatedParts, PublicValue, Run, Site};
 pub use location_laws::{
-    absolute_is_located_as_itself, absolute_is_valid, all_valued, location_is_single,
-    locations_exist, none_by_division, selection_is_single, values_exist,
+    absolute_is_located_as_itself, absolute_is_valid, absolute_weighs, all_valued,
+    location_is_single, locations_exist, none_by_division, selection_is_single, values_exist,
 };
 pub use staging_laws::{
-    facts_agree, joined_composes, joined_is_single, joined_is_valid, joined_stands_for,
-    link_answers_agree, link_facts_agree, selection_agrees, staged_means_the_same,
+    facts_agree, groups_answer, joined_composes, joined_is_single, joined_is_valid,
+    joined_stands_for, link_answers_agree, link_facts_agree, selection_agrees,
+    staged_means_the_same,
 };

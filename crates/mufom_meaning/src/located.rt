@@ -4,6 +4,30 @@ use mufom_names::Note;
 use mufom_numbers::{Bytes, List};
 use mufom_sections::Section;
 
+/// What all modules of a link share: how long an address is, and the order of bytes.
+#[derive(Clone, Copy, Debug, PartialEq, Eq)]
+pub struct Descriptor {
+    /// How many minimum addressable units (of eight bits) an address has.
+    pub maus: u8,
+    /// The order of the bytes of a field.
+    pub order: Order,
+}
+
+/// Where an expression stands among those of a list of modules. Sections go by their flat numbers.
+#[derive(Debug, Drop)]
+pub enum Site {
+    /// The value of the public of this name.
+    Public(Bytes),
+    /// A load that sets the program counter of this section.
+    Counter(u32),
+    /// A field at this address, in addressable units.
+    Field { section: u32, address: u64 },
+    /// The start.
+    Start,
+    /// The debug expression of this number, from 0, in the order of the file.
+    Debug(u32),
+}
+
 /// A public with its value.
 #[derive(Debug, Drop)]
 pub struct PublicValue {
@@ -21,7 +45,7 @@ pub struct Run {
     pub bytes: Bytes,
 }
 
-/// What a list of modules is once its sections have their places: nothing in it waits for a value.
+/// What a list of modules is once its sections are placed: nothing in it waits for a value.
 #[derive(Debug, Drop)]
 pub struct LocatedParts {
     pub processor: Bytes,

@@ -1,7 +1,7 @@
 //! Laws of values, locations and selections, each the contract of a function that does nothing.
 
 ghost use Rattle.mufom_meaning.specs.Valued.{NoneByDivision, ValuesExist};
-ghost use Rattle.mufom_meaning.specs.LocationLaws.{AllValued, LocationsExist, LocationIsSingle, AbsoluteIsLocatedAsItself, AbsoluteIsValid, SelectionIsSingle};
+ghost use Rattle.mufom_meaning.specs.LocationLaws.{AllValued, LocationsExist, LocationIsSingle, AbsoluteIsLocatedAsItself, AbsoluteIsValid, AbsoluteWeighs, SelectionIsSingle};
 
 /// Where no link fact stands, and none that needs no walk, an expression of modules without a
 /// defect has no value exactly where it, or a public or a counter that it goes through, divides by 0.
@@ -31,14 +31,22 @@ pub fn location_is_single()
 {}
 
 /// The module that a location is written as, located alone by a plan without regions, is located as
-/// itself.
+/// itself: a location of modules without a defect. Its commons are sections then.
 pub fn absolute_is_located_as_itself()
     ensures { AbsoluteIsLocatedAsItself }
 {}
 
-/// The module that a location is written as has no defect, where it is not too heavy.
+/// The module that a location of modules without a defect is written as has no defect, where it is
+/// not too heavy.
 pub fn absolute_is_valid()
     ensures { AbsoluteIsValid }
+{}
+
+/// The module that a location of modules without a defect is written as weighs at most what they
+/// weigh, and 31 more for each section, 31 for each loaded byte and 42 for each weak reference of a
+/// size above 0.
+pub fn absolute_weighs()
+    ensures { AbsoluteWeighs }
 {}
 
 /// The members that are selected for a list are determined.

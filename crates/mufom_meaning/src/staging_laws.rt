@@ -1,9 +1,9 @@
 //! Laws of staging, each the contract of a function that does nothing.
 
-ghost use Rattle.mufom_meaning.specs.StagingLaws.{JoinedStandsFor, JoinedComposes, JoinedIsSingle, JoinedIsValid, LinkAnswersAgree, LinkFactsAgree, FactsAgree, SelectionAgrees, StagedMeansTheSame};
+ghost use Rattle.mufom_meaning.specs.StagingLaws.{JoinedStandsFor, JoinedComposes, JoinedIsSingle, JoinedIsValid, LinkAnswersAgree, LinkFactsAgree, AllGroupsAnswer, FactsAgree, SelectionAgrees, StagedMeansTheSame};
 
-/// A partial link of modules without a defect, in which no public name stands twice, stands for its
-/// list, in every context and wherever the sections stand.
+/// A partial link of modules without a defect stands for its list: in every context in which no
+/// public name stands twice, and wherever sections and commons stand, it means what the list means.
 pub fn joined_stands_for()
     ensures { JoinedStandsFor }
 {}
@@ -38,6 +38,13 @@ pub fn link_facts_agree()
     ensures { LinkFactsAgree }
 {}
 
+/// A link fact about a group of a list is one about the list. Where each group was linked without
+/// one, or is one module, what is answered in place of linking the links is what is answered in
+/// place of linking the list.
+pub fn groups_answer()
+    ensures { AllGroupsAnswer }
+{}
+
 /// The facts about a list with a group linked are those about the flat list, all of them and the
 /// answered one: of modules without a defect, with one descriptor and no public name twice.
 pub fn facts_agree()
@@ -50,8 +57,8 @@ pub fn selection_agrees()
 {}
 
 /// A list that was linked in stages means what the list of its leaves means, where these are without
-/// a defect and have one descriptor and no public name twice. A group at the start keeps the name of
-/// its first module.
+/// a defect and have one descriptor and no public name twice. A group at the beginning of a list
+/// keeps the name of its first module.
 pub fn staged_means_the_same()
     ensures { StagedMeansTheSame }
 {}

@@ -1,4 +1,4 @@
-use Rattle.mufom_meaning.proofs.AllAnswers.{answers_are_facts}
+use Rattle.mufom_meaning.proofs.facts.AllAnswers.{answers_are_facts}
 use Rattle.mufom_meaning.proofs.fact_laws.answers_are_facts.Goals as goal
 
 pub returns : goal.returns

@@ -1,4 +1,4 @@
-use Rattle.mufom_meaning.proofs.AbsoluteLocated.{absolute_is_located_as_itself}
+use Rattle.mufom_meaning.proofs.absolute.Located.{absolute_is_located_as_itself}
 use Rattle.mufom_meaning.proofs.location_laws.absolute_is_located_as_itself.Goals as goal
 
 pub returns : goal.returns

@@ -1,4 +1,4 @@
-use Rattle.mufom_meaning.proofs.AbsoluteValid.{absolute_is_valid}
+use Rattle.mufom_meaning.proofs.absolute.Valid.{absolute_is_valid}
 use Rattle.mufom_meaning.proofs.location_laws.absolute_is_valid.Goals as goal
 
 pub returns : goal.returns

@@ -1,4 +1,4 @@
-use Rattle.mufom_meaning.proofs.SingleLocation.{location_is_single}
+use Rattle.mufom_meaning.proofs.locations.Single.{location_is_single}
 use Rattle.mufom_meaning.proofs.location_laws.location_is_single.Goals as goal
 
 pub returns : goal.returns

@@ -1,4 +1,4 @@
-use Rattle.mufom_meaning.proofs.LocationExists.{locations_exist}
+use Rattle.mufom_meaning.proofs.locations.Exists.{locations_exist}
 use Rattle.mufom_meaning.proofs.location_laws.locations_exist.Goals as goal
 
 pub returns : goal.returns

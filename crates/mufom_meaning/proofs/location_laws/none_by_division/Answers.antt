@@ -1,4 +1,4 @@
-use Rattle.mufom_meaning.proofs.ValueLaws.{none_by_division}
+use Rattle.mufom_meaning.proofs.values.ValueLaws.{none_by_division}
 use Rattle.mufom_meaning.proofs.location_laws.none_by_division.Goals as goal
 
 pub returns : goal.returns

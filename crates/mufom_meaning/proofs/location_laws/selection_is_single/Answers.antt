@@ -1,4 +1,4 @@
-use Rattle.mufom_meaning.proofs.SelectionSingle.{selection_is_single}
+use Rattle.mufom_meaning.proofs.locations.SelectionSingle.{selection_is_single}
 use Rattle.mufom_meaning.proofs.location_laws.selection_is_single.Goals as goal
 
 pub returns : goal.returns

@@ -1,4 +1,4 @@
-use Rattle.mufom_meaning.proofs.JoinedValid.{joined_is_valid}
+use Rattle.mufom_meaning.proofs.staging.JoinedValid.{joined_is_valid}
 use Rattle.mufom_meaning.proofs.staging_laws.joined_is_valid.Goals as goal
 
 pub returns : goal.returns

@@ -1,4 +1,4 @@
-use Rattle.mufom_meaning.proofs.Staging.{joined_stands_for}
+use Rattle.mufom_meaning.proofs.staging.Staging.{joined_stands_for}
 use Rattle.mufom_meaning.proofs.staging_laws.joined_stands_for.Goals as goal
 
 pub returns : goal.returns

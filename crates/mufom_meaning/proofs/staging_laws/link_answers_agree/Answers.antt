@@ -1,4 +1,4 @@
-use Rattle.mufom_meaning.proofs.LinkAgreed.{link_answers_agree}
+use Rattle.mufom_meaning.proofs.facts.LinkAgreed.{link_answers_agree}
 use Rattle.mufom_meaning.proofs.staging_laws.link_answers_agree.Goals as goal
 
 pub returns : goal.returns

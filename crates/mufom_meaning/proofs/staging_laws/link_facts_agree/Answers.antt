@@ -1,4 +1,4 @@
-use Rattle.mufom_meaning.proofs.LinkFactsLinked.{link_facts_agree}
+use Rattle.mufom_meaning.proofs.facts.LinkFactsLinked.{link_facts_agree}
 use Rattle.mufom_meaning.proofs.staging_laws.link_facts_agree.Goals as goal
 
 pub returns : goal.returns

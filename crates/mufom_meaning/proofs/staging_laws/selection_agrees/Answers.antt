@@ -1,4 +1,4 @@
-use Rattle.mufom_meaning.proofs.Selected.{selection_agrees}
+use Rattle.mufom_meaning.proofs.staging.Selected.{selection_agrees}
 use Rattle.mufom_meaning.proofs.staging_laws.selection_agrees.Goals as goal
 
 pub returns : goal.returns

@@ -1,4 +1,4 @@
-use Rattle.mufom_meaning.proofs.Stages.{staged_means_the_same}
+use Rattle.mufom_meaning.proofs.staging.Stages.{staged_means_the_same}
 use Rattle.mufom_meaning.proofs.staging_laws.staged_means_the_same.Goals as goal
 
 pub returns : goal.returns

@@ -1,0 +1,129 @@
+-- Where a plan puts the sections and commons of a list: a base for each section and each common, and the same bases for lists that
+-- have the same sections and commons.
+use Rattle.std.proofs.Common.{◌≡◌, ℕ, zero, suc, ◌+◌, ◌<◌, List, [], ◌∷◌, ◌++◌, map, length, take, drop, Some, None, Bool, true, false, not, refl, sym, ◌∙◌, ap, subst, inl, inr, arith, zero-add, length-append}
+use Rattle.std.specs.Prelude.{slice_get, filter, if◌then◌else◌}
+use Rattle.std.specs.List.{enumerate_from}
+use Rattle.std.specs.Str.{bytes_eq}
+use Rattle.std.proofs.lemmas.List.{length-map}
+use Rattle.std.proofs.lemmas.Slice.Eq.{bytes_eq-Decides}
+use Rattle.mufom_sections.specs.declared.section.Section.{Section}
+use Rattle.mufom_names.specs.declared.name.Reference.{Reference}
+use Rattle.mufom_module.specs.declared.module.Parts.{Parts}
+use Rattle.mufom_plan.specs.declared.plan.Plan.{Plan}
+use Rattle.mufom_plan.specs.Commons.{has_common}
+use Rattle.mufom_plan.specs.Names.{has_name}
+use Rattle.mufom_place.specs.Bases.{numbered, bases, site_of}
+use Rattle.mufom_meaning.specs.Flat.{distinct, flat_sections, flat_references, unmet_references, public_names, is_common, common_size, same_common, commons, common_names}
+use Rattle.mufom_meaning.specs.Placed.{common_section, common_sections, placed_commons, extended_sections, base_list, base_named, planned_bases}
+use Rattle.mufom_meaning.specs.Location.{placed_section, located_sections}
+use Rattle.mufom_meaning.specs.Stands.{StandsIn}
+use Rattle.mufom_meaning.proofs.Names.{name_at}
+use Rattle.mufom_meaning.proofs.Members.{In, In-at, In-map, map-In, at-In, In-distinct, distinct-In, filter-In}
+
+pub length-numbered : {A : Type 0} (k : ℕ) (xs : List A) → length (enumerate_from k xs) ≡ length xs
+length-numbered k [] = refl
+length-numbered k (x ∷ xs) = ap suc (length-numbered (k + 1) xs)
+
+-- each section and each common has a base
+pub bases_count : (plan : Plan) (sections asked : List Section) → length (bases plan sections asked) ≡ length (sections ++ asked)
+bases_count plan sections asked = length-map (numbered (sections ++ asked)) (λ s. (site_of plan sections asked s).base) ∙ length-numbered 0 (sections ++ asked)
+
+length-take : {A : Type 0} (n : ℕ) (xs : List A) (more : ℕ) → length xs ≡ n + more → length (take n xs) ≡ n
+length-take zero xs more e = refl
+length-take (suc n) [] more e = absurd (omega (arith, e))
+length-take (suc n) (x ∷ xs) more e = let rest : length xs ≡ n + more = omega (arith, e) in ap suc (length-take n xs more rest)
+
+length-drop : {A : Type 0} (n : ℕ) (xs : List A) (more : ℕ) → length xs ≡ n + more → length (drop n xs) ≡ more
+length-drop zero xs more e = e ∙ zero-add more
+length-drop (suc n) [] more e = absurd (omega (arith, e))
+length-drop (suc n) (x ∷ xs) more e = let rest : length xs ≡ n + more = omega (arith, e) in length-drop n xs more rest
+
+-- the first n elements stand where they stood
+pub get-take : {A : Type 0} (n : ℕ) (xs : List A) (i : ℕ) → i < n → slice_get (take n xs) i ≡ slice_get xs i
+get-take zero xs i less = absurd (omega (arith, less))
+get-take (suc n) [] i less = refl
+get-take (suc n) (x ∷ xs) zero less = refl
+get-take (suc n) (x ∷ xs) (suc i) less = get-take n xs i (omega (arith, less))
+
+module _ (ms : List Parts) (plan : Plan) where
+  counted : length (base_list ms plan) ≡ length (flat_sections ms) + length (placed_commons ms plan)
+  counted = bases_count plan (flat_sections ms) (placed_commons ms plan) ∙ length-append (flat_sections ms) (placed_commons ms plan)
+
+  -- each section of the modules has a base
+  pub planned_count : length (planned_bases ms plan).sections ≡ length (flat_sections ms)
+  planned_count = length-take (length (flat_sections ms)) (base_list ms plan) (length (placed_commons ms plan)) counted
+
+  pub planned_get : (n : ℕ) → n < length (flat_sections ms) → slice_get (planned_bases ms plan).sections n ≡ slice_get (base_list ms plan) n
+  planned_get n less = get-take (length (flat_sections ms)) (base_list ms plan) n less
+
+  -- a location has a section for each section and each common that the plan places
+  pub located_count : length (located_sections ms plan) ≡ length (flat_sections ms) + length (placed_commons ms plan)
+  located_count =
+      length-map (enumerate_from 0 (extended_sections ms plan)) (placed_section (base_list ms plan)) ∙ length-numbered 0 (extended_sections ms plan)
+      ∙ length-append (flat_sections ms) (placed_commons ms plan)
+
+-- a section of this name has a base, where all have one
+named_has_base : (sections : List Section) (placed : List ℕ) (name : List ℕ) → length placed ≡ length sections → (section : Section) → In section sections → section.name ≡ name
+    → base_named sections placed name ≡ None → ⊥
+named_has_base [] placed name count section h named e = h
+named_has_base (x ∷ sections) [] name count section h named e = absurd cc
+named_has_base (x ∷ sections) (base ∷ placed) name count section h named e = by_case (bytes_eq x.name name) refl e h (named_has_base sections placed name (omega (arith, count)) section) where
+  by_case : (b : Bool) → bytes_eq x.name name ≡ b → (if b then Some base else base_named sections placed name) ≡ None → In section (x ∷ sections)
+      → (In section sections → section.name ≡ name → base_named sections placed name ≡ None → ⊥) → ⊥
+  by_case true f e h later = cc
+  by_case false f e (inl same) later =
+      let holds : bytes_eq x.name name ≡ true = (bytes_eq-Decides x.name name).1 (ap (λ (s : Section). s.name) same ∙ named) in cc
+  by_case false f e (inr h) later = later h named e
+
+-- a name of a common is that of one of the pairs
+pub common_there : (ms : List Parts) (name : List ℕ) → has_name (common_names ms) name ≡ true → (size : ℕ) × StandsIn (name, size) (commons ms)
+common_there ms name e =
+    let found = name_at (common_names ms) name e in
+    let own = map-In (λ common. common.0) name (commons ms) (In-at name (common_names ms) found.0 found.1) in
+    let same : own.0.0 ≡ name = own.2 in
+    let there = at-In own.0 (commons ms) own.1 in
+    (own.0.1, (there.0, there.1 ∙ (λ i. Some (same i, own.0.1))))
+
+-- where a region takes commons each common has a base
+pub common_has_base : (ms : List Parts) (plan : Plan) → has_common plan.regions ≡ true → (name : List ℕ) → has_name (common_names ms) name ≡ true → (planned_bases ms plan).commons name ≡ None → ⊥
+common_has_base ms plan common name e none =
+    let found = name_at (common_names ms) name e in
+    let among = In-distinct bytes_eq (λ x y. (bytes_eq-Decides x y).0) name (common_names ms) (In-at name (common_names ms) found.0 found.1) in
+    let there = In-map (common_section (commons ms)) name (distinct bytes_eq (common_names ms)) among in
+    let all : placed_commons ms plan ≡ common_sections ms = ap (λ b. if b then common_sections ms else []) common in
+    let count = length-drop (length (flat_sections ms)) (base_list ms plan) (length (placed_commons ms plan)) (counted ms plan) in
+    named_has_base (placed_commons ms plan) (drop (length (flat_sections ms)) (base_list ms plan)) name count (common_section (commons ms) name)
+    (subst (In (common_section (commons ms) name)) (sym all) there) refl none
+
+-- Lists with the same sections and the same commons are placed alike.
+module _ (ms ns : List Parts) (sections : flat_sections ms ≡ flat_sections ns) (asked : commons ms ≡ commons ns) (plan : Plan) where
+  pub same_placed_commons : placed_commons ms plan ≡ placed_commons ns plan
+  same_placed_commons = ap (λ (pairs : List (List ℕ × ℕ)). if has_common plan.regions then map (common_section pairs) (distinct bytes_eq (map (λ common. common.0) pairs)) else []) asked
+
+  pub same_extended : extended_sections ms plan ≡ extended_sections ns plan
+  same_extended = let own = sections in let more = same_placed_commons in λ i. own i ++ more i
+
+  pub same_base_list : base_list ms plan ≡ base_list ns plan
+  same_base_list = let own = sections in let more = same_placed_commons in λ i. bases plan (own i) (more i)
+
+  pub same_planned : planned_bases ms plan ≡ planned_bases ns plan
+  same_planned = let own = sections in let more = same_placed_commons in let all = same_base_list in
+      λ i. record { sections = take (length (own i)) (all i); commons = base_named (more i) (drop (length (own i)) (all i)) }
+
+-- each placed common has the name of a reference
+pub common_reference : (ms : List Parts) (plan : Plan) (section : Section) → In section (placed_commons ms plan)
+    → (r : Reference) × In r (flat_references ms) × (section ≡ common_section (commons ms) r.name)
+common_reference ms plan section h = by_region (has_common plan.regions) h where
+  by_region : (b : Bool) → In section (if b then common_sections ms else []) → (r : Reference) × In r (flat_references ms) × (section ≡ common_section (commons ms) r.name)
+  by_region false h = absurd h
+  by_region true h =
+      let name = map-In (common_section (commons ms)) section (distinct bytes_eq (common_names ms)) h in
+      let pair = map-In (λ common. common.0) name.0 (commons ms) (distinct-In bytes_eq name.0 (common_names ms) name.1) in
+      let own = map-In (λ reference. (reference.name, common_size reference.weak)) pair.0 (filter is_common (unmet_references ms))
+      (distinct-In same_common pair.0 (map (λ reference. (reference.name, common_size reference.weak)) (filter is_common (unmet_references ms))) pair.1) in
+      let unmet = filter-In is_common own.0 (unmet_references ms) own.1 in
+      let named : name.0 ≡ own.0.name = sym pair.2 ∙ sym (ap (λ (p : List ℕ × ℕ). p.0) own.2) in (
+        own.0,
+        filter-In (λ reference. not (has_name (public_names ms) reference.name)) own.0 (flat_references ms) unmet,
+        sym name.2 ∙ ap (common_section (commons ms)) named,
+      )

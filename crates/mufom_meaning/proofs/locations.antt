@@ -1,0 +1,8 @@
+-- That locations and selections exist and are single.
+pub mod CellHome
+pub mod CellRows
+pub mod ChangedMarks
+pub mod Exists
+pub mod OwnAddresses
+pub mod SelectionSingle
+pub mod Single

@@ -1,0 +1,15 @@
+-- Where the sections and commons of a list of modules stand.
+use Rattle.std.specs.Prelude.{ℕ, List, [], Option, None}
+
+-- A number for each section, by its flat number, and a number for some names besides: those of the commons that have room.
+pub record Bases : Type 0 where
+  pub sections : List ℕ
+  pub commons : List ℕ → Option ℕ
+
+-- no section and no common has a base
+abbrev pub no_bases : Bases
+no_bases = record { sections = []; commons = λ name. None }
+
+-- sections have these bases, and no common has one
+abbrev pub sections_at : List ℕ → Bases
+sections_at placed = record { sections = placed; commons = λ name. None }

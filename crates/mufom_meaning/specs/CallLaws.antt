@@ -1,0 +1,30 @@
+-- What callers need of a module without a defect: that it may be placed, and that a slice of such modules is a list of them.
+use Rattle.std.specs.Prelude.{◌≡◌, ◌<◌, ◌≤◌, ◌^◌, false, ◌↔◌, List, [], ◌∷◌, length, All}
+use Rattle.mufom_module.specs.declared.module.Parts.{Parts}
+use Rattle.mufom_module.specs.Defects.{IsValid}
+use Rattle.mufom_plan.specs.declared.plan.Plan.{Plan}
+use Rattle.mufom_plan.specs.Commons.{has_common}
+use Rattle.mufom_place.specs.Facts.{IsAddressWidth, IsAligned, HasNoBase, sections_before, last_sections}
+use Rattle.mufom_meaning.specs.Flat.{flat_sections, width}
+use Rattle.mufom_meaning.specs.Placed.{placed_commons, extended_sections}
+use Rattle.mufom_meaning.specs.Staging.{AreValid}
+
+-- What placing asks of the sections of a list with the commons after them, which are the last of them by their count, and of the width
+-- of addresses.
+pub record MayBePlaced (ms : List Parts) (plan : Plan) : Type 0 where
+  pub addresses : IsAddressWidth (width ms)
+  pub alignments : All IsAligned (extended_sections ms plan)
+  pub count : length (extended_sections ms plan) < 2 ^ 32
+  pub few : length (placed_commons ms plan) ≤ length (extended_sections ms plan)
+  pub somewhere : has_common plan.regions ≡ false → length (placed_commons ms plan) ≡ 0
+  pub first : sections_before (length (placed_commons ms plan)) (extended_sections ms plan) ≡ flat_sections ms
+  pub last : last_sections (length (placed_commons ms plan)) (extended_sections ms plan) ≡ placed_commons ms plan
+  pub without_base : All HasNoBase (last_sections (length (placed_commons ms plan)) (extended_sections ms plan))
+
+-- A module without a defect may be placed by each plan.
+abbrev pub ModulesMayBePlaced : Type 0
+ModulesMayBePlaced = (m : Parts) (plan : Plan) → IsValid m → MayBePlaced (m ∷ []) plan
+
+-- Each module of a list is without a defect where each element of the list is.
+abbrev pub AreValidIsAll : Type 0
+AreValidIsAll = (ms : List Parts) → All IsValid ms ↔ AreValid ms

@@ -1,0 +1,15 @@
+//! Laws that callers need, each the contract of a function that does nothing.
+
+ghost use Rattle.mufom_meaning.specs.CallLaws.{ModulesMayBePlaced, AreValidIsAll};
+
+/// A module without a defect meets what placing asks, by each plan: its addresses have a width of 8
+/// to 64 bits, its sections and commons are aligned and fewer than 2^32, and no common has a base.
+pub fn modules_may_be_placed()
+    ensures { ModulesMayBePlaced }
+{}
+
+/// All modules of a list are without a defect where each element of the list is: what holds of the
+/// elements of a slice of modules is what the laws ask of a list.
+pub fn are_valid_is_all()
+    ensures { AreValidIsAll }
+{}
