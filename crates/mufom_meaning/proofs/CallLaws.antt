@@ -1,8 +1,9 @@
 -- A module without a defect may be placed, and a slice of such modules is a list of them.
-use Rattle.std.proofs.Common.{◌≡◌, ℕ, ◌+◌, ◌*◌, ◌<◌, ◌≤◌, ◌^◌, ◌⊎◌, inl, inr, List, [], ◌∷◌, ◌++◌, take, drop, length, ◌-◌, None, Bool, true, false, refl, sym, ◌∙◌, ap, subst, arith, rules, sum_by, append-nil, length-append}
+use Rattle.std.proofs.Common.{◌≡◌, ℕ, ◌+◌, ◌*◌, ◌<◌, ◌≤◌, ◌^◌, ◌⊎◌, inl, inr, List, [], ◌∷◌, take, drop, length, ◌-◌, None, Bool, true, false, sym, ◌∙◌, ap, subst, arith, rules, sum_by, append-nil, length-append}
 use Rattle.std.specs.Prelude.{All, ◌==◌, ◌||◌, if◌then◌else◌}
 use Rattle.std.specs.Str.{bytes_eq}
 use Rattle.std.proofs.Math.Nat.{mul-mod_right}
+use Rattle.std.proofs.Math.Seq.{take-append_seam, drop-append_seam}
 use Rattle.std.proofs.lemmas.List.{length-map}
 use Rattle.std.proofs.lemmas.List.Elements.{All-nil, All-cons, All-head, All-tail}
 use Rattle.std.proofs.lemmas.List.Sums.{sum_by-cons}
@@ -10,7 +11,7 @@ use Rattle.mufom_sections.specs.declared.section.Section.{Section}
 use Rattle.mufom_module.specs.declared.module.Parts.{Parts}
 use Rattle.mufom_module.specs.declared.module.Defect.TheVariants as d
 use Rattle.mufom_module.specs.Written.{weight}
-use Rattle.mufom_module.specs.Weights.{section_letters_weight, section_weight, reference_weight}
+use Rattle.mufom_module.specs.Weights.{section_weight, reference_weight}
 use Rattle.mufom_module.specs.Defects.{IsValid, is_unit_count, has_bad_alignment}
 use Rattle.mufom_module.proofs.WeightLaws.{weight-sum}
 use Rattle.mufom_plan.specs.declared.plan.Plan.{Plan}
@@ -24,7 +25,7 @@ use Rattle.mufom_meaning.proofs.Tests.{either, either_false}
 use Rattle.mufom_meaning.proofs.facts.Answers.{not_false}
 use Rattle.mufom_meaning.proofs.Members.{In, In-append, map-In, fails-In, All-In}
 use Rattle.mufom_meaning.proofs.NoDefects.{no_defect}
-use Rattle.mufom_meaning.proofs.absolute.Entries.{asked_weight, asked-lighter, lighter-all}
+use Rattle.mufom_meaning.proofs.absolute.Entries.{lettered, asked_weight, asked-lighter, lighter-all}
 use Rattle.mufom_meaning.proofs.absolute.Weight.{asking, names-lighter}
 
 pub are_valid_is_all : AreValidIsAll
@@ -34,24 +35,12 @@ are_valid_is_all (m ∷ ms) = (
   λ h. All-cons IsValid m ms h.0 ((are_valid_is_all ms).1 h.1),
 )
 
-take-prefix : {X : Type 0} (xs ys : List X) → take (length xs) (xs ++ ys) ≡ xs
-take-prefix [] ys = refl
-take-prefix (x ∷ xs) ys = ap (λ more. x ∷ more) (take-prefix xs ys)
-
-drop-prefix : {X : Type 0} (xs ys : List X) → drop (length xs) (xs ++ ys) ≡ ys
-drop-prefix [] ys = refl
-drop-prefix (x ∷ xs) ys = drop-prefix xs ys
-
 -- a number for each element of a list, added up
 times : {X : Type 0} (n : ℕ) (xs : List X) → sum_by (λ (x : X). n) xs ≡ n * length xs
 times n [] = omega arith
 times {X} n (x ∷ xs) =
     let a = sum_by-cons (λ (x : X). n) x xs in let rest = times n xs in
     let more : n * length (x ∷ xs) ≡ n + n * length xs = omega arith in omega (arith, a, rest, more)
-
-lettered : (b : Bool) → 1 ≤ section_letters_weight b
-lettered true = omega arith
-lettered false = omega arith
 
 units : (n : ℕ) → is_unit_count n ≡ true → (1 ≤ n) × (n ≤ 8)
 units n e = first (either (n == 2) ((n == 3) || (n == 4)) e) where
@@ -146,10 +135,10 @@ module _ (m : Parts) (plan : Plan) (v : IsValid m) where
       before = let all = length-append (flat_sections ms) (placed_commons ms plan) in omega (arith, all)
 
       first_part : sections_before (length (placed_commons ms plan)) (extended_sections ms plan) ≡ flat_sections ms
-      first_part = ap (λ n. take n (extended_sections ms plan)) before ∙ take-prefix (flat_sections ms) (placed_commons ms plan)
+      first_part = ap (λ n. take n (extended_sections ms plan)) before ∙ take-append_seam (flat_sections ms) (placed_commons ms plan)
 
       last_part : last_sections (length (placed_commons ms plan)) (extended_sections ms plan) ≡ placed_commons ms plan
-      last_part = ap (λ n. drop n (extended_sections ms plan)) before ∙ drop-prefix (flat_sections ms) (placed_commons ms plan)
+      last_part = ap (λ n. drop n (extended_sections ms plan)) before ∙ drop-append_seam (flat_sections ms) (placed_commons ms plan)
 
       units_of : IsValid m → is_unit_count m.maus ≡ true
       units_of v = not_false (is_unit_count m.maus) (no_defect m v d.BadMaus)

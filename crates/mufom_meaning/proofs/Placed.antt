@@ -1,10 +1,11 @@
 -- Where a plan puts the sections and commons of a list: a base for each section and each common, and the same bases for lists that
 -- have the same sections and commons.
-use Rattle.std.proofs.Common.{◌≡◌, ℕ, zero, suc, ◌+◌, ◌<◌, List, [], ◌∷◌, ◌++◌, map, length, take, drop, Some, None, Bool, true, false, not, refl, sym, ◌∙◌, ap, subst, inl, inr, arith, zero-add, length-append}
+use Rattle.std.proofs.Common.{◌≡◌, ℕ, zero, suc, ◌+◌, ◌<◌, List, [], ◌∷◌, ◌++◌, map, length, take, drop, Some, None, Bool, true, false, not, refl, sym, ◌∙◌, ap, subst, inl, inr, arith, length-append}
 use Rattle.std.specs.Prelude.{slice_get, filter, if◌then◌else◌}
 use Rattle.std.specs.List.{enumerate_from}
 use Rattle.std.specs.Str.{bytes_eq}
-use Rattle.std.proofs.lemmas.List.{length-map}
+use Rattle.std.proofs.lemmas.List.{length-map, length-take-le, length-drop}
+use Rattle.std.proofs.lemmas.List.FromFn.{length-enumerate_from}
 use Rattle.std.proofs.lemmas.Slice.Eq.{bytes_eq-Decides}
 use Rattle.mufom_sections.specs.declared.section.Section.{Section}
 use Rattle.mufom_names.specs.declared.name.Reference.{Reference}
@@ -20,23 +21,9 @@ use Rattle.mufom_meaning.specs.Stands.{StandsIn}
 use Rattle.mufom_meaning.proofs.Names.{name_at}
 use Rattle.mufom_meaning.proofs.Members.{In, In-at, In-map, map-In, at-In, In-distinct, distinct-In, filter-In}
 
-pub length-numbered : {A : Type 0} (k : ℕ) (xs : List A) → length (enumerate_from k xs) ≡ length xs
-length-numbered k [] = refl
-length-numbered k (x ∷ xs) = ap suc (length-numbered (k + 1) xs)
-
 -- each section and each common has a base
 pub bases_count : (plan : Plan) (sections asked : List Section) → length (bases plan sections asked) ≡ length (sections ++ asked)
-bases_count plan sections asked = length-map (numbered (sections ++ asked)) (λ s. (site_of plan sections asked s).base) ∙ length-numbered 0 (sections ++ asked)
-
-length-take : {A : Type 0} (n : ℕ) (xs : List A) (more : ℕ) → length xs ≡ n + more → length (take n xs) ≡ n
-length-take zero xs more e = refl
-length-take (suc n) [] more e = absurd (omega (arith, e))
-length-take (suc n) (x ∷ xs) more e = let rest : length xs ≡ n + more = omega (arith, e) in ap suc (length-take n xs more rest)
-
-length-drop : {A : Type 0} (n : ℕ) (xs : List A) (more : ℕ) → length xs ≡ n + more → length (drop n xs) ≡ more
-length-drop zero xs more e = e ∙ zero-add more
-length-drop (suc n) [] more e = absurd (omega (arith, e))
-length-drop (suc n) (x ∷ xs) more e = let rest : length xs ≡ n + more = omega (arith, e) in length-drop n xs more rest
+bases_count plan sections asked = length-map (numbered (sections ++ asked)) (λ s. (site_of plan sections asked s).base) ∙ length-enumerate_from 0 (sections ++ asked)
 
 -- the first n elements stand where they stood
 pub get-take : {A : Type 0} (n : ℕ) (xs : List A) (i : ℕ) → i < n → slice_get (take n xs) i ≡ slice_get xs i
@@ -51,7 +38,7 @@ module _ (ms : List Parts) (plan : Plan) where
 
   -- each section of the modules has a base
   pub planned_count : length (planned_bases ms plan).sections ≡ length (flat_sections ms)
-  planned_count = length-take (length (flat_sections ms)) (base_list ms plan) (length (placed_commons ms plan)) counted
+  planned_count = let all = counted in length-take-le (length (flat_sections ms)) (base_list ms plan) (omega (arith, all))
 
   pub planned_get : (n : ℕ) → n < length (flat_sections ms) → slice_get (planned_bases ms plan).sections n ≡ slice_get (base_list ms plan) n
   planned_get n less = get-take (length (flat_sections ms)) (base_list ms plan) n less
@@ -59,7 +46,7 @@ module _ (ms : List Parts) (plan : Plan) where
   -- a location has a section for each section and each common that the plan places
   pub located_count : length (located_sections ms plan) ≡ length (flat_sections ms) + length (placed_commons ms plan)
   located_count =
-      length-map (enumerate_from 0 (extended_sections ms plan)) (placed_section (base_list ms plan)) ∙ length-numbered 0 (extended_sections ms plan)
+      length-map (enumerate_from 0 (extended_sections ms plan)) (placed_section (base_list ms plan)) ∙ length-enumerate_from 0 (extended_sections ms plan)
       ∙ length-append (flat_sections ms) (placed_commons ms plan)
 
 -- a section of this name has a base, where all have one
@@ -91,7 +78,9 @@ common_has_base ms plan common name e none =
     let among = In-distinct bytes_eq (λ x y. (bytes_eq-Decides x y).0) name (common_names ms) (In-at name (common_names ms) found.0 found.1) in
     let there = In-map (common_section (commons ms)) name (distinct bytes_eq (common_names ms)) among in
     let all : placed_commons ms plan ≡ common_sections ms = ap (λ b. if b then common_sections ms else []) common in
-    let count = length-drop (length (flat_sections ms)) (base_list ms plan) (length (placed_commons ms plan)) (counted ms plan) in
+    let whole = counted ms plan in
+    let count : length (drop (length (flat_sections ms)) (base_list ms plan)) ≡ length (placed_commons ms plan)
+    = length-drop (length (flat_sections ms)) (base_list ms plan) ∙ omega (arith, whole) in
     named_has_base (placed_commons ms plan) (drop (length (flat_sections ms)) (base_list ms plan)) name count (common_section (commons ms) name)
     (subst (In (common_section (commons ms) name)) (sym all) there) refl none
 

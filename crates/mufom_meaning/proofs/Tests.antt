@@ -1,6 +1,6 @@
 -- Numbered lists, comparisons and choices.
-use Rattle.std.proofs.Common.{◌≡◌, ℕ, zero, suc, ◌+◌, ◌<◌, ◌≤◌, ◌⊎◌, inl, inr, List, [], ◌∷◌, Some, None, Bool, true, false, ◌||◌, refl, sym, ◌∙◌, ap, arith, rules}
-use Rattle.std.specs.Prelude.{slice_get, nat_lt, nat_le, if◌then◌else◌}
+use Rattle.std.proofs.Common.{◌≡◌, ℕ, zero, suc, ◌+◌, ◌≤◌, ◌⊎◌, inl, inr, List, [], ◌∷◌, Some, None, Bool, true, false, ◌||◌, refl, sym, ◌∙◌, ap, arith, rules}
+use Rattle.std.specs.Prelude.{slice_get, nat_le, if◌then◌else◌}
 use Rattle.std.specs.List.{enumerate_from}
 
 pub enumerate_get : {A : Type 0} (k : ℕ) (xs : List A) (i : ℕ) (p : ℕ × A) → slice_get (enumerate_from k xs) i ≡ Some p → (p.0 ≡ k + i) × (slice_get xs i ≡ Some p.1)
@@ -12,12 +12,6 @@ pub get_enumerate : {A : Type 0} (k : ℕ) (xs : List A) (i : ℕ) (x : A) → s
 get_enumerate k [] i x e = absurd cc
 get_enumerate k (y ∷ ys) zero x e = let same : y ≡ x = cc in let n : k ≡ k + 0 = omega arith in λ j. Some (n j, same j)
 get_enumerate k (y ∷ ys) (suc i) x e = let rest = get_enumerate (k + 1) ys i x e in let n : (k + 1) + i ≡ k + suc i = omega arith in rest ∙ (λ j. Some (n j, x))
-
-pub less_of : (m n : ℕ) → nat_lt m n ≡ true → m < n
-less_of m n e = search rules
-
-pub of_less : (m n : ℕ) → m < n → nat_lt m n ≡ true
-of_less m n h = search rules
 
 pub le_of : (m n : ℕ) → nat_le m n ≡ true → m ≤ n
 le_of m n e = search rules

@@ -1,7 +1,8 @@
 -- What the entries of the module of a location weigh, against those that they come from.
-use Rattle.std.proofs.Common.{◌≡◌, ℕ, zero, suc, ◌+◌, ◌*◌, ◌-◌, ◌≤◌, ◌⊎◌, inl, inr, List, [], ◌∷◌, ◌++◌, map, take, drop, filter, flat_map, length, Option, Some, None, Bool, true, false, not, cond, refl, ap, arith, sum_by, length-append, zero-add}
+use Rattle.std.proofs.Common.{◌≡◌, ℕ, zero, suc, ◌+◌, ◌*◌, ◌-◌, ◌≤◌, ◌⊎◌, inl, inr, List, [], ◌∷◌, ◌++◌, map, take, drop, filter, flat_map, length, Option, Some, None, Bool, true, false, not, cond, refl, sym, ◌∙◌, ap, arith, sum_by, length-append}
 use Rattle.std.specs.Prelude.{option_map, slice_get, nat_lt, ◌==◌, if◌then◌else◌}
 use Rattle.std.specs.List.{enumerate_from}
+use Rattle.std.proofs.lemmas.List.{take-append-drop}
 use Rattle.std.proofs.lemmas.List.Sums.{sum_by-append, sum_by-cons}
 use Rattle.mufom_expr.specs.declared.token.Token.TheVariants.{Fun}
 use Rattle.mufom_expr.specs.Tree.{Tree, number, variable, one, two, tokens_of, function_of_one, function_of_two}
@@ -80,7 +81,7 @@ based : (o : Option ℕ) → base_weight o ≤ 20
 based None = omega arith
 based (Some n) = omega arith
 
-lettered : (b : Bool) → 1 ≤ section_letters_weight b
+pub lettered : (b : Bool) → 1 ≤ section_letters_weight b
 lettered true = omega arith
 lettered false = omega arith
 
@@ -178,11 +179,6 @@ asked-lighter (r ∷ rs) = by_case (is_common r) refl (asked-lighter rs) where
 
 -- ---- loads
 
-take-drop : {A : Type 0} (n : ℕ) (xs : List A) → length (take n xs) + length (drop n xs) ≡ length xs
-take-drop zero xs = zero-add (length xs)
-take-drop (suc n) [] = refl
-take-drop (suc n) (x ∷ xs) = let rest = take-drop n xs in omega (arith, rest)
-
 literals-lighter : (size n : ℕ) (bytes : List ℕ) → sum_by load_weight (map (λ chunk. One (Literal chunk)) (chunks_within n (suc size) bytes)) ≤ 11 * length bytes
 literals-lighter size zero bytes = omega arith
 literals-lighter size (suc n) [] = omega arith
@@ -191,7 +187,7 @@ literals-lighter size (suc n) (byte ∷ bytes) =
     let rest = drop (suc size) (byte ∷ bytes) in
     let a = sum_by-cons load_weight (One (Literal own)) (map (λ chunk. One (Literal chunk)) (chunks_within n (suc size) rest)) in
     let later = literals-lighter size n rest in
-    let all = take-drop size bytes in
+    let all = sym (length-append (take size bytes) (drop size bytes)) ∙ ap length (take-append-drop size bytes) in
     omega (arith, a, later, all)
 
 row-lighter : (n : ℕ) (row : Run) → 1 ≤ length row.bytes → sum_by load_weight (row_loads n row) ≤ 31 * length row.bytes

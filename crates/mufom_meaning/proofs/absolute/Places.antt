@@ -12,12 +12,8 @@ use Rattle.mufom_place.specs.Facts.{IsUnplaced, IsMisfit, EndsPast, Covers, IsOv
 use Rattle.mufom_place.proofs.FactLemmas.{refusal_sound, refusal_complete}
 use Rattle.mufom_meaning.specs.Location.{placed_section, placed_sections}
 use Rattle.mufom_meaning.specs.Absolute.{no_regions}
-use Rattle.mufom_meaning.proofs.Choices.{some_same}
+use Rattle.mufom_meaning.proofs.Choices.{mapped_some}
 use Rattle.mufom_meaning.proofs.Tests.{enumerate_get, get_enumerate}
-
-mapped : {A B : Type 0} (f : A → B) (o : Option A) (b : B) → option_map f o ≡ Some b → (a : A) × (o ≡ Some a) × (f a ≡ b)
-mapped f None b e = absurd cc
-mapped f (Some a) b e = (a, refl, some_same (f a) b e)
 
 module _ (plan : Plan) (sections asked : List Section) where
   -- the base of a section or common
@@ -37,7 +33,7 @@ module _ (plan : Plan) (sections asked : List Section) where
 
   pub placing_there : (n : ℕ) (section : Section) → slice_get placed n ≡ Some section → IsPlacing n section
   placing_there n section e =
-      let there = mapped (placed_section (bases plan sections asked)) (slice_get (numbered (sections ++ asked)) n) section (sym (slice_get-map (placed_section (bases plan sections asked)) (numbered (sections ++ asked)) n) ∙ e) in
+      let there = mapped_some (placed_section (bases plan sections asked)) (slice_get (numbered (sections ++ asked)) n) section (sym (slice_get-map (placed_section (bases plan sections asked)) (numbered (sections ++ asked)) n) ∙ e) in
       let own = enumerate_get 0 (sections ++ asked) n there.0 there.1 in
       let place : there.0.0 ≡ n = own.0 ∙ omega arith in
       let base : slice_get (bases plan sections asked) there.0.0 ≡ Some (site_of plan sections asked (n, there.0.1)).base = ap (slice_get (bases plan sections asked)) place ∙ base_there n there.0.1 own.1 in

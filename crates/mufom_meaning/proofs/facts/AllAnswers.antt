@@ -24,8 +24,8 @@ use Rattle.mufom_meaning.proofs.Names.{names_of, names_of-sited_publics}
 use Rattle.mufom_meaning.proofs.facts.Chains.{cycles_are_short}
 use Rattle.mufom_meaning.proofs.facts.Answers.{or_else_some, or_else_none, first_some_at, first_some_none, find_at, find_none, untrue, not_false, link_sound, link_complete}
 use Rattle.mufom_place.proofs.FactLemmas.{refusal_sound, refusal_complete}
-use Rattle.mufom_meaning.proofs.Choices.{mapped_none}
-use Rattle.mufom_meaning.proofs.Tests.{less_of, of_less, chosen_some, chosen_none}
+use Rattle.mufom_meaning.proofs.Choices.{mapped_none, of_lt, is_lt}
+use Rattle.mufom_meaning.proofs.Tests.{chosen_some, chosen_none}
 use Rattle.mufom_meaning.proofs.facts.WalkAnswers.{walk_sound, walk_complete}
 
 named_get : (qs : List SitedPublic) (i : ℕ) (q : SitedPublic) → slice_get qs i ≡ Some q → slice_get (names_of qs) i ≡ Some q.entry.name
@@ -70,7 +70,7 @@ module _ (ms : List Parts) (plan : Plan) where
         let not_so = chosen_none (is_on_cycle ms name) (cycle name) none in let so : is_on_cycle ms name ≡ true = on in cc
   before_complete a d e f g (image_limit count) h =
       let not_so = chosen_none (nat_lt 67108864 (loaded_total ms)) (image_limit (loaded_total ms)) g in
-      let less : 67108864 < loaded_total ms = omega (arith, h.0, h.1) in let so = of_less 67108864 (loaded_total ms) less in cc
+      let less : 67108864 < loaded_total ms = omega (arith, h.0, h.1) in let so = is_lt 67108864 (loaded_total ms) less in cc
   before_complete a d e f g (zero_divisor place) h = h
   before_complete a d e f g (load_outside section address) h = h
   before_complete a d e f g (loaded_twice address) h = h
@@ -101,7 +101,7 @@ module _ (ms : List Parts) (plan : Plan) where
   limit_sound : (fact : LocateFact) → image_limit_at (loaded_total ms) ≡ Some fact → Stands fact
   limit_sound fact e =
       let test = chosen_some (nat_lt 67108864 (loaded_total ms)) (image_limit (loaded_total ms)) fact e in
-      subst Stands test.1 (λ links. inl (refl, less_of 67108864 (loaded_total ms) test.0))
+      subst Stands test.1 (λ links. inl (refl, of_lt 67108864 (loaded_total ms) test.0))
 
   undefined_sound : (fact : LocateFact) → option_map undefined (first_undefined ms) ≡ Some fact → Stands fact
   undefined_sound fact e =

@@ -13,6 +13,7 @@ use Rattle.mufom_meaning.specs.Flat.{public_names, flat_starts}
 use Rattle.mufom_meaning.specs.Facts.{descriptor, Descriptor, LinkFact, mismatch, duplicate, duplicate_start}
 use Rattle.mufom_meaning.specs.Stands.{StandsIn, LinkFactStands}
 use Rattle.mufom_meaning.specs.LinkAnswer.{same_order, same_descriptor, first_mismatch, first_duplicate, two_starts, link_answer}
+use Rattle.mufom_meaning.proofs.Choices.{mapped_some, mapped_none}
 
 -- a choice that gives something gives the first, or the first is none and it gives the second
 pub or_else_some : {A : Type 0} (o u : Option A) (x : A) → o or_else u ≡ Some x → (o ≡ Some x) ⊎ ((o ≡ None) × (u ≡ Some x))
@@ -74,14 +75,6 @@ find_none p (y ∷ ys) e x i h = by_case (p y) refl e i h (find_none p ys) where
   by_case true f e i h later = absurd cc
   by_case false f e zero h later = let same : y ≡ x = cc in ap p (sym same) ∙ f
   by_case false f e (suc i) h later = later e x i h
-
-mapped_some : {A B : Type 0} (f : A → B) (o : Option A) (b : B) → option_map f o ≡ Some b → (x : A) × (o ≡ Some x) × (f x ≡ b)
-mapped_some f None b e = absurd cc
-mapped_some f (Some x) b e = (x, refl, cc)
-
-mapped_none : {A B : Type 0} (f : A → B) (o : Option A) → option_map f o ≡ None → o ≡ None
-mapped_none f None e = refl
-mapped_none f (Some x) e = absurd cc
 
 pub untrue : (b : Bool) → not b ≡ true → b ≡ false
 untrue true e = absurd cc

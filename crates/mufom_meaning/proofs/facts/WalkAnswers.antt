@@ -18,7 +18,8 @@ use Rattle.mufom_meaning.specs.Stands.{StandsIn, put_back, IsStepAfter, IsLoaded
 use Rattle.mufom_meaning.specs.Walk.{zero_divisor_at, public_fact, counted_from, has_number, outside_at, first_twice, addresses_at, loaded_addresses, overflow_at, field_fact, size_at, item_fact, step_fact, steps_fact, start_trees, debug_trees, start_fact, debug_fact, walk_answer, base_number}
 use Rattle.mufom_meaning.specs.Fields.{fits}
 use Rattle.mufom_meaning.proofs.facts.Answers.{or_else_some, or_else_none, first_some_at, first_some_none, numbers}
-use Rattle.mufom_meaning.proofs.Tests.{enumerate_get, get_enumerate, less_of, of_less, le_of, of_le, chosen_some, chosen_none, either, either_false}
+use Rattle.mufom_meaning.proofs.Choices.{of_lt, is_lt}
+use Rattle.mufom_meaning.proofs.Tests.{enumerate_get, get_enumerate, le_of, of_le, chosen_some, chosen_none, either, either_false}
 
 counted_get : (n start q z : ℕ) → slice_get (counted_from n start) q ≡ Some z → (q < n) × (z ≡ start + q)
 counted_get zero start q z e = absurd cc
@@ -141,7 +142,7 @@ module _ (ms : List Parts) (s : Setting) where
         subst Walk test.1 (earlier, site, a, found.1.0, item, there, at.0, side found.0 found.1.0 at.1 (either (nat_lt found.0 (base_number s section)) (nat_le (base_number s section + size_at s section) found.0) test.0), ap (λ z. z % s.modulus) at.1) where
           side : (z q : ℕ) → z ≡ a + q → (nat_lt z (base_number s section) ≡ true) ⊎ (nat_le (base_number s section + size_at s section) z ≡ true)
               → (a + q < base_number s section) ⊎ (base_number s section + size_at s section ≤ a + q)
-          side z q same (inl h) = inl (less_of _ _ (ap (λ n. nat_lt n (base_number s section)) (sym same) ∙ h))
+          side z q same (inl h) = inl (of_lt _ _ (ap (λ n. nat_lt n (base_number s section)) (sym same) ∙ h))
           side z q same (inr h) = inr (le_of _ _ (ap (nat_le (base_number s section + size_at s section)) (sym same) ∙ h))
 
     twice : first_twice (loaded_addresses s earlier) (addresses_at s.modulus (Some a) item) ≡ Some fact → Walk fact
@@ -258,7 +259,7 @@ module _ (ms : List Parts) (s : Setting) where
       by_side h.7 two.0 two.1 where
         by_side : (h.2 + h.3 < base_number s section) ⊎ (base_number s section + size_at s section ≤ h.2 + h.3)
             → nat_lt (h.2 + h.3) (base_number s section) ≡ false → nat_le (base_number s section + size_at s section) (h.2 + h.3) ≡ false → ⊥
-        by_side (inl x) p q = let t = of_less _ _ x in cc
+        by_side (inl x) p q = let t = is_lt _ _ x in cc
         by_side (inr x) p q = let t = of_le _ _ x in cc
   walk_none a b c d (loaded_twice address) h =
       let none = item_none b h.0 h.1 h.2 h.3 h.5 h.6 in

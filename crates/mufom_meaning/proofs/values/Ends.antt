@@ -42,7 +42,7 @@ or_true true b e = refl
 or_true false b e = e
 
 -- such a chain is one of the test
-leads-within : (s : Setting) (k : ℕ) (site : Sited) (t : Tree) (q : SitedPublic) → Leads s k site t q → leads_within s (suc k) q.entry.name site t ≡ true
+pub leads-within : (s : Setting) (k : ℕ) (site : Sited) (t : Tree) (q : SitedPublic) → Leads s k site t q → leads_within s (suc k) q.entry.name site t ≡ true
 leads-within s zero site t q h =
     passes-In (λ v. is_or_leads (λ x y. leads_within s zero q.entry.name x y) q.entry.name (mentioned s site v.0 v.1)) (variables_of t) h.0
     (Contains-In h.0 (variables_of t) h.1) (ap (is_or_leads (λ x y. leads_within s zero q.entry.name x y) q.entry.name) h.2 ∙ is_it (λ x y. leads_within s zero q.entry.name x y) q)

@@ -20,7 +20,7 @@ use Rattle.mufom_meaning.proofs.values.Causes.{worth_below, within_is}
 use Rattle.mufom_meaning.proofs.values.Named.{single_name, leads_from-bases}
 
 -- a value looks at the variables of its tree alone
-value_at-agrees_on_variables : (m : ℕ) (env other : Environment) (t : Tree) → ((v : Letter × ℕ) → In v (variables_of t) → env v.0 v.1 ≡ other v.0 v.1) → value_at m env t ≡ value_at m other t
+pub value_at-agrees_on_variables : (m : ℕ) (env other : Environment) (t : Tree) → ((v : Letter × ℕ) → In v (variables_of t) → env v.0 v.1 ≡ other v.0 v.1) → value_at m env t ≡ value_at m other t
 value_at-agrees_on_variables m env other (number n) same = refl
 value_at-agrees_on_variables m env other (variable l n) same = ap (option_map (λ v. v % m)) (same (l, n) (inl refl))
 value_at-agrees_on_variables m env other (one f a) same = ap (option_map (one_value m f)) (value_at-agrees_on_variables m env other a same)
