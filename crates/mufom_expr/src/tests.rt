@@ -44,7 +44,7 @@ fn built(alloc: Global, tokens: &[Token]) -> Result<Postfix, ExprFault> {
 }
 
 fn valued(alloc: Global, tokens: &[Token], r0: Option<u64>, width: u32) -> Option<u64> {
-    if !(16..=64).contains(&width) {
+    if !(8..=64).contains(&width) {
         return Some(u64::MAX);
     }
     match built(alloc, tokens) {
@@ -158,6 +158,20 @@ fn each_function_has_its_value_at_each_width(rt: HostRuntime) {
     assert_eq!(rt;
         valued(rt.alloc(), &[R0, Number(1), Fun(Plus)], None, 16),
         None
+    );
+    // The least and the greatest width.
+    assert_eq!(rt;
+        valued(rt.alloc(), &[Number(255), Number(2), Fun(Plus)], None, 8),
+        Some(1)
+    );
+    assert_eq!(rt;
+        valued(
+            rt.alloc(),
+            &[Number(u64::MAX), Number(u64::MAX), Fun(Times)],
+            None,
+            64
+        ),
+        Some(1)
     );
 }
 

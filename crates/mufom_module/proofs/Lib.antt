@@ -2,6 +2,7 @@ pub mod Variables
 pub mod Walks
 pub mod WeightLaws
 pub mod Valid
+pub mod ItemWeights
 pub mod MadeLemmas
 pub mod SpelledLaws
 pub mod OneModule

@@ -47,9 +47,9 @@ has_long_string m = is_long m.processor || (is_long m.name
     || (list_any (λ r. is_long r.name) m.names.references
     || list_any has_long_name (debug_marks m)))))
 
--- an address has 2, 3 or 4 addressable units
+-- an address has 1 to 8 addressable units
 abbrev pub is_unit_count : ℕ → Bool
-is_unit_count n = (n == 2) || ((n == 3) || (n == 4))
+is_unit_count n = nat_le 1 n && nat_le n 8
 
 -- an alignment is 1 to 2^31
 abbrev pub has_bad_alignment : Section → Bool

@@ -1,6 +1,6 @@
-//! Laws of what a file states, each the contract of a function that does nothing.
+//! Laws of modules and of what a file states, each the contract of a function that does nothing.
 
-ghost use Rattle.std.specs.Prelude.{◌≡◌, ℕ, Bool, List, true};
+ghost use Rattle.std.specs.Prelude.{◌≡◌, ◌≤◌, ℕ, Bool, List, true};
 ghost use Rattle.mufom_expr.specs.Tree.{Tree};
 ghost use Rattle.mufom_expr.specs.Terms.{the_term};
 ghost use Rattle.mufom_expr.specs.TokenAt.{tokens_in};
@@ -8,6 +8,9 @@ ghost use Rattle.mufom_expr.specs.Spelled.{SpellsTree, Indexes, IsIndexed};
 ghost use Rattle.mufom_module.specs.declared.module.Parts.{Parts};
 ghost use Rattle.mufom_module.specs.SpelledRecords.{positioned, are_listed};
 ghost use Rattle.mufom_module.specs.Grammar.{SpellsModule};
+ghost use Rattle.mufom_loads.specs.Lengths.{lengths_once};
+ghost use Rattle.mufom_module.specs.Defects.{IsValid};
+ghost use Rattle.mufom_module.specs.Written.{weight};
 
 /// The expression of a record is the tree that its bytes spell.
 pub fn expressions_are_as_spelled()
@@ -22,4 +25,10 @@ pub fn positions_stand_for_indexes()
 /// A file is one module: bytes that are its file are the file of no other.
 pub fn a_file_is_one_module()
     ensures { (m n : Parts) (bytes : List ℕ) (reads_debug : Bool) → SpellsModule m bytes reads_debug → SpellsModule n bytes reads_debug → m ≡ n }
+{}
+
+/// What a module loads, with the items of a repeat counted once, is no longer than the module
+/// weighs. So [`loaded_bytes`](mufom_loads::loaded_bytes) may be called of the loads of any module.
+pub fn items_are_within_the_weight()
+    ensures { (m : Parts) → IsValid m → lengths_once m.loads ≤ weight m }
 {}

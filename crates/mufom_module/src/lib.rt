@@ -22,6 +22,9 @@ mod tests;
 mod validity;
 mod weight;
 
-pub use laws::{a_file_is_one_module, expressions_are_as_spelled, positions_stand_for_indexes};
+pub use laws::{
+    a_file_is_one_module, expressions_are_as_spelled, items_are_within_the_weight,
+    positions_stand_for_indexes,
+};
 pub use module::{Defect, Module, Order, Parts};
 pub use validity::assemble;

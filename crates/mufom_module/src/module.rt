@@ -26,7 +26,7 @@ pub enum Order {
 pub struct Parts {
     pub processor: Bytes,
     pub name: Bytes,
-    /// How many minimum addressable units (of eight bits) an address has: 2, 3 or 4.
+    /// How many minimum addressable units (of eight bits) an address has: 1 to 8.
     pub maus: u8,
     pub order: Order,
     /// The extension part as it stands in the file.
@@ -48,7 +48,7 @@ pub enum Defect {
     Depth,
     /// A string of more than 65,535 bytes.
     LongId,
-    /// Another number of addressable units in an address than 2, 3 or 4.
+    /// An address has no addressable unit, or more than 8.
     BadMaus,
     /// An alignment of 0, or of more than 2^31.
     BadAlign,

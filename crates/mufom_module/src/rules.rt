@@ -181,11 +181,11 @@ pub(crate) fn has_long_string(parts: &Parts) -> bool
         || any_breaks(Rule::Length, parts.debug.as_slice())
 }
 
-/// An address has not 2, 3 or 4 addressable units.
+/// An address has not 1 to 8 addressable units.
 pub(crate) fn has_bad_units(parts: &Parts) -> bool
     ensures { result ≡ has_defect parts.now Defect.BadMaus }
 {
-    !(parts.maus == 2 || parts.maus == 3 || parts.maus == 4)
+    parts.maus < 1 || parts.maus > 8
 }
 
 /// An alignment is 0 or too large.

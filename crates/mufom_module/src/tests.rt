@@ -118,9 +118,9 @@ fn a_name_of_65536_bytes_is_too_long(rt: HostRuntime) {
 }
 
 #[test]
-fn five_units_are_no_address(rt: HostRuntime) {
+fn nine_units_are_no_address(rt: HostRuntime) {
     let mut parts = small(rt.alloc()).expect(&rt, "memory");
-    parts.maus = 5;
+    parts.maus = 9;
     assert_eq!(rt; refusal(parts), Some(Defect::BadMaus));
 }
 

@@ -29,3 +29,10 @@ entries_aligned listed ss h (entry ∷ all) = (all_of IsAlignedWaiting (waiting_
 
 pub waiting-aligned : (listed : List (List ℕ)) (sections : List Section) → All IsAligned sections → (all : List (List ℕ)) → All (All IsAlignedWaiting) (map (waiting_among listed (numbered sections)) all)
 waiting-aligned listed sections h all = all_of (All IsAlignedWaiting) (map (waiting_among listed (numbered sections)) all) (entries_aligned listed (numbered sections) (numbered_aligned 0 sections h) all)
+
+-- commons that wait are aligned where the commons are
+pub commons-aligned : (first : ℕ) (commons : List Section) → All IsAligned commons → All IsAlignedWaiting (map waiting (enumerate_from first commons))
+commons-aligned first commons h = all_of IsAlignedWaiting (map waiting (enumerate_from first commons)) (each first commons (numbered_aligned first commons h)) where
+  each : (n : ℕ) (ss : List Section) → AllByRecursion (λ (s : Numbered). IsAligned s.1) (enumerate_from n ss) → AllByRecursion IsAlignedWaiting (map waiting (enumerate_from n ss))
+  each n [] h = tt
+  each n (section ∷ ss) h = (record { least = h.0.least; most = h.0.most }, each (n + 1) ss h.1)

@@ -1,5 +1,5 @@
 -- What is answered in place of bases is a fact, and facts are answered.
-use Rattle.std.proofs.Common.{◌≡◌, ◌≢◌, ℕ, zero, suc, ◌+◌, ◌<◌, ◌≤◌, ◌^◌, ◌⊎◌, inl, inr, List, [], ◌∷◌, map, Option, Some, None, Bool, true, false, not, ◌&&◌, ◌||◌, refl, sym, ap, ◌∙◌, subst, arith, rules}
+use Rattle.std.proofs.Common.{◌≡◌, ◌≢◌, ℕ, zero, suc, ◌+◌, ◌<◌, ◌≤◌, ◌^◌, ◌⊎◌, inl, inr, List, [], ◌∷◌, ◌++◌, map, Option, Some, None, Bool, true, false, not, ◌&&◌, ◌||◌, refl, sym, ap, ◌∙◌, subst, arith, rules}
 use Rattle.std.specs.Prelude.{slice_get, is_none, nat_lt, nat_le, ◌==◌, if◌then◌else◌}
 use Rattle.std.specs.List.{enumerate_from}
 use Rattle.mufom_sections.specs.declared.section.Section.{Section}
@@ -96,6 +96,7 @@ module _ (plan : Plan) (sections : List Section) where
       let test : is_unplaced (listed_names plan.regions) h.section ≡ true = λ i. base i && not (unlisted i) in
       let not_so = chosen_none (is_unplaced (listed_names plan.regions) h.section) (Unplaced n) none in cc
 
+module _ (plan : Plan) (sections commons : List Section) where
   -- Misfit.
 
   past_region_sound : (r : ℕ) (found : Option Region) (end : ℕ) → slice_get plan.regions r ≡ found → is_past_region found end ≡ true → EndsPast plan.regions r end
@@ -132,23 +133,23 @@ module _ (plan : Plan) (sections : List Section) where
         by_case (inr (inl h)) x y z = let t = of_less modulus (site.base + size) h in cc
         by_case (inr (inr h)) x y z = let t : is_past plan.regions site.region (site.base + size) ≡ true = ap (λ region. is_past plan.regions region (site.base + size)) h.1 ∙ past_back h.0 (site.base + size) h.2 in cc
 
-  pub misfit_sound : (modulus : ℕ) (fact : PlaceRefusal) → first_some (misfit_at modulus plan sections) (numbered sections) ≡ Some fact
-      → (n : ℕ) × (region : Option ℕ) × (fact ≡ Misfit n region) × IsMisfit modulus plan sections n region
+  pub misfit_sound : (modulus : ℕ) (fact : PlaceRefusal) → first_some (misfit_at modulus plan sections commons) (numbered (sections ++ commons)) ≡ Some fact
+      → (n : ℕ) × (region : Option ℕ) × (fact ≡ Misfit n region) × IsMisfit modulus plan sections commons n region
   misfit_sound modulus fact e =
-      let found = first_found (misfit_at modulus plan sections) (numbered sections) fact e in
+      let found = first_found (misfit_at modulus plan sections commons) (numbered (sections ++ commons)) fact e in
       let s = found.0 in
-      let site = site_of plan sections s in
+      let site = site_of plan sections commons s in
       let test = chosen_some (is_misfit modulus plan.regions site s.1.size) (Misfit s.0 site.region) fact found.2 in (
         s.0,
         site.region,
         sym test.1,
-        record { section = s.1; site = site; at = record { found = numbered_get sections s found.1; placed = refl }; in_region = refl; out = out_sound modulus site s.1.size test.0 },
+        record { section = s.1; site = site; at = record { found = numbered_get (sections ++ commons) s found.1; placed = refl }; in_region = refl; out = out_sound modulus site s.1.size test.0 },
       )
 
-  pub misfit_complete : (modulus : ℕ) → first_some (misfit_at modulus plan sections) (numbered sections) ≡ None → (n : ℕ) (region : Option ℕ) → ¬ IsMisfit modulus plan sections n region
+  pub misfit_complete : (modulus : ℕ) → first_some (misfit_at modulus plan sections commons) (numbered (sections ++ commons)) ≡ None → (n : ℕ) (region : Option ℕ) → ¬ IsMisfit modulus plan sections commons n region
   misfit_complete modulus e n region h =
-      let none = none_found (misfit_at modulus plan sections) (numbered sections) e (n, h.section) n (get_numbered sections n h.section h.at.found) in
-      let test = chosen_none (is_misfit modulus plan.regions (site_of plan sections (n, h.section)) h.section.size) (Misfit n (site_of plan sections (n, h.section)).region) none in
+      let none = none_found (misfit_at modulus plan sections commons) (numbered (sections ++ commons)) e (n, h.section) n (get_numbered (sections ++ commons) n h.section h.at.found) in
+      let test = chosen_none (is_misfit modulus plan.regions (site_of plan sections commons (n, h.section)) h.section.size) (Misfit n (site_of plan sections commons (n, h.section)).region) none in
       let here : is_misfit modulus plan.regions h.site h.section.size ≡ false = ap (λ (site : Site). is_misfit modulus plan.regions site h.section.size) h.at.placed ∙ test in
       out_back modulus h.site h.section.size (subst (λ (r : Option ℕ). (modulus ≤ h.site.base) ⊎ ((modulus < h.site.base + h.section.size) ⊎ ((k : ℕ) × (r ≡ Some k) × EndsPast plan.regions k (h.site.base + h.section.size)))) h.in_region h.out) here
 
@@ -253,31 +254,31 @@ get_map f [] i x e = absurd cc
 get_map f (y ∷ ys) zero x e = let same : y ≡ x = cc in ap (λ z. Some (f z)) same
 get_map f (y ∷ ys) (suc i) x e = get_map f ys i x e
 
-module _ (plan : Plan) (sections : List Section) where
+module _ (plan : Plan) (sections commons : List Section) where
   abbrev placed : List ℕ
-  placed = bases plan sections
+  placed = bases plan sections commons
 
   abbrev all : List Extent
-  all = extents (numbered sections) placed
+  all = extents (numbered (sections ++ commons)) placed
 
   ordered : InOrder (in_order all)
-  ordered = in_order-InOrder all (extents-distinct 0 sections placed)
+  ordered = in_order-InOrder all (extents-distinct 0 (sections ++ commons) placed)
 
-  base_there : (n : ℕ) (section : Section) → slice_get sections n ≡ Some section → slice_get placed n ≡ Some (site_of plan sections (n, section)).base
-  base_there n section e = get_map (λ (s : Numbered). (site_of plan sections s).base) (numbered sections) n (n, section) (get_numbered sections n section e)
+  base_there : (n : ℕ) (section : Section) → slice_get (sections ++ commons) n ≡ Some section → slice_get placed n ≡ Some (site_of plan sections commons (n, section)).base
+  base_there n section e = get_map (λ (s : Numbered). (site_of plan sections commons s).base) (numbered (sections ++ commons)) n (n, section) (get_numbered (sections ++ commons) n section e)
 
   -- an address in an extent is in its section
-  covers : (x : Extent) → IsExtentOf 0 sections placed x → (address : ℕ) → x.base ≤ address → address < x.base + x.size → Covers plan sections x.section address
+  covers : (x : Extent) → IsExtentOf 0 (sections ++ commons) placed x → (address : ℕ) → x.base ≤ address → address < x.base + x.size → Covers plan sections commons x.section address
   covers x h address from to =
       let none : 0 + h.n ≡ h.n = omega arith in
       let number : x.section ≡ h.n = h.number ∙ none in
-      let found : slice_get sections x.section ≡ Some h.section = ap (slice_get sections) number ∙ h.found in
+      let found : slice_get (sections ++ commons) x.section ≡ Some h.section = ap (slice_get (sections ++ commons)) number ∙ h.found in
       let there = base_there x.section h.section found in
-      let base : x.base ≡ (site_of plan sections (x.section, h.section)).base = some_same (sym (ap (slice_get placed) number ∙ h.based) ∙ there) in
+      let base : x.base ≡ (site_of plan sections commons (x.section, h.section)).base = some_same (sym (ap (slice_get placed) number ∙ h.based) ∙ there) in
       let size = h.size in
       record {
         section = h.section;
-        site = site_of plan sections (x.section, h.section);
+        site = site_of plan sections commons (x.section, h.section);
         at = record { found = found; placed = refl };
         above = omega (arith, base, from);
         below = omega (arith, base, size, to);
@@ -285,14 +286,14 @@ module _ (plan : Plan) (sections : List Section) where
         some_same : {a b : ℕ} → Some a ≡ Some b → a ≡ b
         some_same e = cc
 
-  pub overlap_sound : (fact : PlaceRefusal) → first_overlap (in_order all) ≡ Some fact → (m : ℕ) × (n : ℕ) × (fact ≡ Overlap m n) × IsOverlap plan sections m n
+  pub overlap_sound : (fact : PlaceRefusal) → first_overlap (in_order all) ≡ Some fact → (m : ℕ) × (n : ℕ) × (fact ≡ Overlap m n) × IsOverlap plan sections commons m n
   overlap_sound fact e =
       let found = overlap_at (in_order all) ordered fact e in
       let x = found.0 in let y = found.1 in
       let x_in = in_order_members all x found.2.0.0 found.2.0.1 in
       let y_in = in_order_members all y found.2.1.0 found.2.1.1 in
-      let x_of = extents_at 0 sections placed x x_in.0 x_in.1 in
-      let y_of = extents_at 0 sections placed y y_in.0 y_in.1 in
+      let x_of = extents_at 0 (sections ++ commons) placed x x_in.0 x_in.1 in
+      let y_of = extents_at 0 (sections ++ commons) placed y y_in.0 y_in.1 in
       let shared = found.2.3 in
       let y_size = y_of.size in let y_positive = y_of.positive in (
         x.section,
@@ -309,17 +310,17 @@ module _ (plan : Plan) (sections : List Section) where
         up x y (inl h) = omega (arith, h)
         up x y (inr h) = omega (arith, h.0)
 
-        level : (x y : Extent) → IsExtentOf 0 sections placed x → IsExtentOf 0 sections placed y → x.section ≡ y.section → x.base ≡ y.base
+        level : (x y : Extent) → IsExtentOf 0 (sections ++ commons) placed x → IsExtentOf 0 (sections ++ commons) placed y → x.section ≡ y.section → x.base ≡ y.base
         level x y a b same =
             let a_number = a.number in let b_number = b.number in
             let n : a.n ≡ b.n = omega (arith, a_number, b_number, same) in
             let both_there : Some x.base ≡ Some y.base = sym a.based ∙ ap (slice_get placed) n ∙ b.based in cc
 
-        differ : (x y : Extent) → IsExtentOf 0 sections placed x → IsExtentOf 0 sections placed y → Comes x y → x.section ≢ y.section
+        differ : (x y : Extent) → IsExtentOf 0 (sections ++ commons) placed x → IsExtentOf 0 (sections ++ commons) placed y → Comes x y → x.section ≢ y.section
         differ x y a b (inl h) same = let at = level x y a b same in omega (arith, h, at)
         differ x y a b (inr h) same = omega (arith, h.1, same)
 
-  pub overlap_complete : first_overlap (in_order all) ≡ None → (m n : ℕ) → ¬ IsOverlap plan sections m n
+  pub overlap_complete : first_overlap (in_order all) ≡ None → (m n : ℕ) → ¬ IsOverlap plan sections commons m n
   overlap_complete e m n h =
       let x = extent_at m h.address h.first in let y = extent_at n h.address h.second in
       let x_in = in_order_keeps all x.0 x.4.0 x.4.1 in let y_in = in_order_keeps all y.0 y.4.0 y.4.1 in
@@ -332,12 +333,12 @@ module _ (plan : Plan) (sections : List Section) where
         some_same : {a b : Extent} → Some a ≡ Some b → a ≡ b
         some_same e = cc
 
-        extent_at : (k address : ℕ) → Covers plan sections k address → (x : Extent) × (x.section ≡ k) × (x.base ≤ address) × (address < x.base + x.size) × StandsIn x all
+        extent_at : (k address : ℕ) → Covers plan sections commons k address → (x : Extent) × (x.section ≡ k) × (x.base ≤ address) × (address < x.base + x.size) × StandsIn x all
         extent_at k address c =
             let above = c.above in let below = c.below in
             let there = base_there k c.section c.at.found in
-            let site : c.site.base ≡ (site_of plan sections (k, c.section)).base = ap (λ (s : Site). s.base) c.at.placed in
-            let x = extents_there 0 sections placed k c.section (site_of plan sections (k, c.section)).base c.at.found there (omega (arith, above, below)) in
+            let site : c.site.base ≡ (site_of plan sections commons (k, c.section)).base = ap (λ (s : Site). s.base) c.at.placed in
+            let x = extents_there 0 (sections ++ commons) placed k c.section (site_of plan sections commons (k, c.section)).base c.at.found there (omega (arith, above, below)) in
             let base = x.1 in let size = x.3 in let none : 0 + k ≡ k = omega arith in
             (x.0, x.2 ∙ none, omega (arith, base, site, above), omega (arith, base, site, size, below), x.4)
 
@@ -357,34 +358,34 @@ module _ (plan : Plan) (sections : List Section) where
         by_order (inr (inr h)) a b c = c h
 
 -- All three, in the order in which they are answered.
-module _ (width : ℕ) (plan : Plan) (sections : List Section) where
+module _ (width : ℕ) (plan : Plan) (sections commons : List Section) where
   abbrev unplaced : Option PlaceRefusal
   unplaced = first_some (unplaced_at (listed_names plan.regions)) (numbered sections)
 
   abbrev misfit : Option PlaceRefusal
-  misfit = first_some (misfit_at (2 ^ width) plan sections) (numbered sections)
+  misfit = first_some (misfit_at (2 ^ width) plan sections commons) (numbered (sections ++ commons))
 
   abbrev overlap : Option PlaceRefusal
-  overlap = first_overlap (in_order (extents (numbered sections) (bases plan sections)))
+  overlap = first_overlap (in_order (extents (numbered (sections ++ commons)) (bases plan sections commons)))
 
-  pub refusal_sound : (fact : PlaceRefusal) → place_refusal width plan sections ≡ Some fact → Stands width plan sections fact
+  pub refusal_sound : (fact : PlaceRefusal) → place_refusal width plan sections commons ≡ Some fact → Stands width plan sections commons fact
   refusal_sound fact e = by_unplaced unplaced refl e where
-    by_overlap : unplaced ≡ None → misfit ≡ None → overlap ≡ Some fact → Stands width plan sections fact
-    by_overlap a b e = let found = overlap_sound plan sections fact e in
-        subst (Stands width plan sections) (sym found.2) (unplaced_complete plan sections a, misfit_complete plan sections (2 ^ width) b, found.3)
+    by_overlap : unplaced ≡ None → misfit ≡ None → overlap ≡ Some fact → Stands width plan sections commons fact
+    by_overlap a b e = let found = overlap_sound plan sections commons fact e in
+        subst (Stands width plan sections commons) (sym found.2) (unplaced_complete plan sections a, misfit_complete plan sections commons (2 ^ width) b, found.3)
 
-    by_misfit : (o : Option PlaceRefusal) → misfit ≡ o → unplaced ≡ None → o or_else overlap ≡ Some fact → Stands width plan sections fact
+    by_misfit : (o : Option PlaceRefusal) → misfit ≡ o → unplaced ≡ None → o or_else overlap ≡ Some fact → Stands width plan sections commons fact
     by_misfit (Some other) is a e =
-        let same : other ≡ fact = cc in let found = misfit_sound plan sections (2 ^ width) other is in
-        subst (Stands width plan sections) (sym found.2 ∙ same) (unplaced_complete plan sections a, found.3)
+        let same : other ≡ fact = cc in let found = misfit_sound plan sections commons (2 ^ width) other is in
+        subst (Stands width plan sections commons) (sym found.2 ∙ same) (unplaced_complete plan sections a, found.3)
     by_misfit None is a e = by_overlap a is e
 
-    by_unplaced : (o : Option PlaceRefusal) → unplaced ≡ o → o or_else (misfit or_else overlap) ≡ Some fact → Stands width plan sections fact
+    by_unplaced : (o : Option PlaceRefusal) → unplaced ≡ o → o or_else (misfit or_else overlap) ≡ Some fact → Stands width plan sections commons fact
     by_unplaced (Some other) is e =
-        let same : other ≡ fact = cc in let found = unplaced_sound plan sections other is in subst (Stands width plan sections) (sym found.1 ∙ same) found.2
+        let same : other ≡ fact = cc in let found = unplaced_sound plan sections other is in subst (Stands width plan sections commons) (sym found.1 ∙ same) found.2
     by_unplaced None is e = by_misfit misfit refl is e
 
-  pub refusal_complete : (fact : PlaceRefusal) → place_refusal width plan sections ≡ None → ¬ Stands width plan sections fact
+  pub refusal_complete : (fact : PlaceRefusal) → place_refusal width plan sections commons ≡ None → ¬ Stands width plan sections commons fact
   refusal_complete fact e = from fact (parts unplaced misfit overlap e) where
     parts : (a b c : Option PlaceRefusal) → a or_else (b or_else c) ≡ None → (a ≡ None) × (b ≡ None) × (c ≡ None)
     parts (Some x) b c e = absurd cc
@@ -392,8 +393,8 @@ module _ (width : ℕ) (plan : Plan) (sections : List Section) where
     parts None None (Some x) e = absurd cc
     parts None None None e = (refl, refl, refl)
 
-    from : (fact : PlaceRefusal) → (unplaced ≡ None) × (misfit ≡ None) × (overlap ≡ None) → ¬ Stands width plan sections fact
+    from : (fact : PlaceRefusal) → (unplaced ≡ None) × (misfit ≡ None) × (overlap ≡ None) → ¬ Stands width plan sections commons fact
     from (Unplaced n) none h = unplaced_complete plan sections none.0 n h
-    from (Misfit n region) none h = misfit_complete plan sections (2 ^ width) none.1 n region h.1
-    from (Overlap m n) none h = overlap_complete plan sections none.2 m n h.2
+    from (Misfit n region) none h = misfit_complete plan sections commons (2 ^ width) none.1 n region h.1
+    from (Overlap m n) none h = overlap_complete plan sections commons none.2 m n h.2
     from NoMemory none h = h

@@ -1,5 +1,9 @@
--- Where a plan puts sections. All numbers are exact: nothing wraps here.
-use Rattle.std.specs.Prelude.{ℕ, ◌+◌, ◌-◌, ◌*◌, ◌/◌, ◌==◌, List, [], ◌∷◌, map, filter, Option, Some, None, is_none, Bool, not, ◌&&◌, ◌||◌, if◌then◌else◌, codes}
+-- Where a plan puts sections and commons. All numbers are exact: nothing wraps here.
+--
+-- There are two lists. The first has the sections of the modules that are placed, which go by their own bases or by the lists of the
+-- plan's regions; the second has the commons, which have no base and go to the region that takes them. The positions of the commons
+-- follow those of the sections.
+use Rattle.std.specs.Prelude.{ℕ, ◌+◌, ◌-◌, ◌*◌, ◌/◌, ◌==◌, List, [], ◌∷◌, ◌++◌, length, map, filter, Option, Some, None, is_none, Bool, not, ◌&&◌, ◌||◌, if◌then◌else◌, codes}
 use Rattle.std.specs.List.{enumerate_from, flat_map, list_any}
 use Rattle.std.specs.Str.{bytes_eq}
 use Rattle.mufom_sections.specs.declared.section.Section.{Section}
@@ -48,14 +52,26 @@ waiting_among listed sections entry = map waiting (filter (goes_to listed entry)
 abbrev pub taken_by : Plan → List Section → Region → List Waiting
 taken_by plan sections region = flat_map (waiting_among (listed_names plan.regions) (numbered sections)) region.sections
 
+-- the commons with their positions, which follow those of the sections
+abbrev pub waiting_commons : List Section → List Section → List Waiting
+waiting_commons sections commons = map waiting (enumerate_from (length sections) commons)
+
+-- the commons, where a region takes them
+abbrev pub commons_in : Region → List Waiting → List Waiting
+commons_in region commons = if region.common then commons else []
+
+-- what is put into a region: the sections that it takes, and after them the commons where it takes those
+abbrev pub put_into : Plan → List Section → List Section → Region → List Waiting
+put_into plan sections commons region = taken_by plan sections region ++ commons_in region (waiting_commons sections commons)
+
 -- sections put one after another from an address on, each aligned
 abbrev pub packed : ℕ → ℕ → List Waiting → List Placing
 packed region address [] = []
 packed region address (w ∷ more) = let base = aligned_up w.align address in record { section = w.section; region = region; base = base } ∷ packed region (base + w.size) more
 
 -- the bases that the regions of the plan give
-abbrev pub placings : Plan → List Section → List Placing
-placings plan sections = flat_map (λ r. packed r.0 r.1.base (taken_by plan sections r.1)) (enumerate_from 0 plan.regions)
+abbrev pub placings : Plan → List Section → List Section → List Placing
+placings plan sections commons = flat_map (λ r. packed r.0 r.1.base (put_into plan sections commons r.1)) (enumerate_from 0 plan.regions)
 
 -- the last of two that there is
 abbrev pub last_of : {A : Type 0} → Option A → Option A → Option A
@@ -73,10 +89,14 @@ site_with (Some base) placing = record { base = base; region = None }
 site_with None (Some placing) = record { base = placing.base; region = Some placing.region }
 site_with None None = record { base = 0; region = None }
 
--- where a section stands
-abbrev pub site_of : Plan → List Section → Numbered → Site
-site_of plan sections s = site_with s.1.base (placing_of (placings plan sections) s.0)
+-- where a section or a common stands, by what regions give
+abbrev pub site_by : List Placing → Numbered → Site
+site_by given s = site_with s.1.base (placing_of given s.0)
 
--- the bases of the sections, one for each
-abbrev pub bases : Plan → List Section → List ℕ
-bases plan sections = map (λ s. (site_of plan sections s).base) (numbered sections)
+-- where it stands by the plan
+abbrev pub site_of : Plan → List Section → List Section → Numbered → Site
+site_of plan sections commons s = site_by (placings plan sections commons) s
+
+-- the bases of the sections and after them those of the commons, one for each
+abbrev pub bases : Plan → List Section → List Section → List ℕ
+bases plan sections commons = map (λ s. (site_of plan sections commons s).base) (numbered (sections ++ commons))

@@ -1,18 +1,20 @@
--- What keeps sections from being placed, and which of it is answered.
-use Rattle.std.specs.Prelude.{◌≡◌, ◌≢◌, ◌≤◌, ◌<◌, ◌⊎◌, ℕ, ◌+◌, ◌%◌, ◌^◌, ◌==◌, List, [], ◌∷◌, Option, Some, None, slice_get, Bool, false, not, ◌&&◌, ◌||◌, nat_lt, nat_le, if◌then◌else◌}
+-- What keeps sections and commons from being placed, and which of it is answered. There are two lists, the sections and the commons;
+-- positions are those of the one list that has the commons after the sections.
+use Rattle.std.specs.Prelude.{◌≡◌, ◌≢◌, ◌≤◌, ◌<◌, ◌⊎◌, ℕ, ◌+◌, ◌-◌, ◌%◌, ◌^◌, ◌==◌, List, [], ◌∷◌, ◌++◌, length, take, drop, Option, Some, None, slice_get, Bool, false, not, ◌&&◌, ◌||◌, nat_lt, nat_le, if◌then◌else◌}
 use Rattle.mufom_sections.specs.declared.section.Section.{Section}
 use Rattle.mufom_plan.specs.declared.plan.Region.{Region}
 use Rattle.mufom_plan.specs.declared.plan.Plan.{Plan}
 use Rattle.mufom_plan.specs.Names.{listed_names}
 use Rattle.mufom_place.specs.declared.refusal.PlaceRefusal.{PlaceRefusal}
 use Rattle.mufom_place.specs.declared.refusal.PlaceRefusal.TheVariants.{Unplaced, Misfit, Overlap, NoMemory}
+use Rattle.mufom_place.specs.declared.site.Placing.{Placing}
 use Rattle.mufom_place.specs.declared.site.Site.{Site}
 use Rattle.mufom_place.specs.declared.site.Extent.{Extent}
-use Rattle.mufom_place.specs.Bases.{Numbered, numbered, has_no_base, is_listed, site_of, bases}
+use Rattle.mufom_place.specs.Bases.{Numbered, numbered, has_no_base, is_listed, placings, site_by, site_of, bases}
 
--- an address has 16, 24 and so on to 64 bits
+-- an address has 8, 16, 24 and so on to 64 bits
 pub record IsAddressWidth (width : ℕ) : Type 0 where
-  pub least : 16 ≤ width
+  pub least : 8 ≤ width
   pub most : width ≤ 64
   pub whole : width % 8 ≡ 0
 
@@ -20,6 +22,17 @@ pub record IsAddressWidth (width : ℕ) : Type 0 where
 pub record IsAligned (section : Section) : Type 0 where
   pub least : 1 ≤ section.align
   pub most : section.align ≤ 2147483648
+
+-- a common has no base of its own
+abbrev pub HasNoBase : Section → Type 0
+HasNoBase section = section.base ≡ None
+
+-- of a list whose last `count` sections are commons: the sections, and the commons
+abbrev pub sections_before : ℕ → List Section → List Section
+sections_before count sections = take (length sections - count) sections
+
+abbrev pub last_sections : ℕ → List Section → List Section
+last_sections count sections = drop (length sections - count) sections
 
 -- the first answer that there is
 infixr 20 ◌or_else◌
@@ -55,8 +68,11 @@ is_misfit modulus regions site size = nat_le modulus site.base || nat_lt modulus
 abbrev pub misfit_with : ℕ → List Region → ℕ → ℕ → Site → Option PlaceRefusal
 misfit_with modulus regions n size site = if is_misfit modulus regions site size then Some (Misfit n site.region) else None
 
-abbrev pub misfit_at : ℕ → Plan → List Section → Numbered → Option PlaceRefusal
-misfit_at modulus plan sections s = misfit_with modulus plan.regions s.0 s.1.size (site_of plan sections s)
+abbrev pub misfit_by : ℕ → List Region → List Placing → Numbered → Option PlaceRefusal
+misfit_by modulus regions given s = misfit_with modulus regions s.0 s.1.size (site_by given s)
+
+abbrev pub misfit_at : ℕ → Plan → List Section → List Section → Numbered → Option PlaceRefusal
+misfit_at modulus plan sections commons s = misfit_by modulus plan.regions (placings plan sections commons) s
 
 -- the sections of positive size with their bases
 abbrev pub extents : List Numbered → List ℕ → List Extent
@@ -84,20 +100,20 @@ first_overlap (x ∷ []) = None
 first_overlap (x ∷ y ∷ more) = if nat_lt y.base (x.base + x.size) then Some (Overlap x.section y.section) else first_overlap (y ∷ more)
 
 -- what is answered in place of the bases
-abbrev pub place_refusal : ℕ → Plan → List Section → Option PlaceRefusal
-place_refusal width plan sections =
+abbrev pub place_refusal : ℕ → Plan → List Section → List Section → Option PlaceRefusal
+place_refusal width plan sections commons =
     first_some (unplaced_at (listed_names plan.regions)) (numbered sections)
-    or_else (first_some (misfit_at (2 ^ width) plan sections) (numbered sections)
-    or_else first_overlap (in_order (extents (numbered sections) (bases plan sections))))
+    or_else (first_some (misfit_at (2 ^ width) plan sections commons) (numbered (sections ++ commons))
+    or_else first_overlap (in_order (extents (numbered (sections ++ commons)) (bases plan sections commons))))
 
 -- The same as relations, which state nothing of an order.
 
--- the section at a position stands at a site
-pub record IsAt (plan : Plan) (sections : List Section) (n : ℕ) (section : Section) (site : Site) : Type 0 where
-  pub found : slice_get sections n ≡ Some section
-  pub placed : site ≡ site_of plan sections (n, section)
+-- the section or common at a position stands at a site
+pub record IsAt (plan : Plan) (sections commons : List Section) (n : ℕ) (section : Section) (site : Site) : Type 0 where
+  pub found : slice_get (sections ++ commons) n ≡ Some section
+  pub placed : site ≡ site_of plan sections commons (n, section)
 
--- the section at a position has no base, and no list of the plan stands for its name
+-- the section at a position has no base, and no list of the plan stands for its name; a common has no need of a list
 pub record IsUnplaced (plan : Plan) (sections : List Section) (n : ℕ) : Type 0 where
   pub section : Section
   pub found : slice_get sections n ≡ Some section
@@ -110,35 +126,36 @@ pub record EndsPast (regions : List Region) (n end : ℕ) : Type 0 where
   pub found : slice_get regions n ≡ Some region
   pub past : region.base + region.size < end
 
--- The section at a position lies or ends past the address space, or ends past the region that it is placed in. The region
+-- The section or common at a position lies or ends past the address space, or ends past the region that it is placed in. The region
 -- is none for a section with a base of its own.
-pub record IsMisfit (modulus : ℕ) (plan : Plan) (sections : List Section) (n : ℕ) (region : Option ℕ) : Type 0 where
+pub record IsMisfit (modulus : ℕ) (plan : Plan) (sections commons : List Section) (n : ℕ) (region : Option ℕ) : Type 0 where
   pub section : Section
   pub site : Site
-  pub at : IsAt plan sections n section site
+  pub at : IsAt plan sections commons n section site
   pub in_region : region ≡ site.region
   pub out : (modulus ≤ site.base) ⊎ ((modulus < site.base + section.size) ⊎ ((r : ℕ) × (region ≡ Some r) × EndsPast plan.regions r (site.base + section.size)))
 
--- an address lies in the section at a position
-pub record Covers (plan : Plan) (sections : List Section) (n address : ℕ) : Type 0 where
+-- an address lies in the section or common at a position
+pub record Covers (plan : Plan) (sections commons : List Section) (n address : ℕ) : Type 0 where
   pub section : Section
   pub site : Site
-  pub at : IsAt plan sections n section site
+  pub at : IsAt plan sections commons n section site
   pub above : site.base ≤ address
   pub below : address < site.base + section.size
 
--- two different sections share an address; none of them is empty then
-pub record IsOverlap (plan : Plan) (sections : List Section) (m n : ℕ) : Type 0 where
+-- two different ones share an address; none of them is empty then
+pub record IsOverlap (plan : Plan) (sections commons : List Section) (m n : ℕ) : Type 0 where
   pub differ : m ≢ n
   pub address : ℕ
-  pub first : Covers plan sections m address
-  pub second : Covers plan sections n address
+  pub first : Covers plan sections commons m address
+  pub second : Covers plan sections commons n address
 
--- What keeps sections from being placed. A misfit stands only where no section is unplaced, and an overlap only where no section
--- is unplaced or a misfit.
-abbrev pub Stands : ℕ → Plan → List Section → PlaceRefusal → Type 0
-Stands width plan sections (Unplaced n) = IsUnplaced plan sections n
-Stands width plan sections (Misfit n region) = ((m : ℕ) → ¬ IsUnplaced plan sections m) × IsMisfit (2 ^ width) plan sections n region
-Stands width plan sections (Overlap m n) =
-    ((k : ℕ) → ¬ IsUnplaced plan sections k) × ((k : ℕ) (region : Option ℕ) → ¬ IsMisfit (2 ^ width) plan sections k region) × IsOverlap plan sections m n
-Stands width plan sections NoMemory = ⊥
+-- What keeps sections and commons from being placed. A misfit stands only where no section is unplaced, and an overlap only where no
+-- section is unplaced and nothing is a misfit.
+abbrev pub Stands : ℕ → Plan → List Section → List Section → PlaceRefusal → Type 0
+Stands width plan sections commons (Unplaced n) = IsUnplaced plan sections n
+Stands width plan sections commons (Misfit n region) = ((m : ℕ) → ¬ IsUnplaced plan sections m) × IsMisfit (2 ^ width) plan sections commons n region
+Stands width plan sections commons (Overlap m n) =
+    ((k : ℕ) → ¬ IsUnplaced plan sections k) × ((k : ℕ) (region : Option ℕ) → ¬ IsMisfit (2 ^ width) plan sections commons k region)
+    × IsOverlap plan sections commons m n
+Stands width plan sections commons NoMemory = ⊥

@@ -4,7 +4,7 @@ use Rattle.std.specs.List.{flat_map}
 use Rattle.mufom_plan.specs.declared.plan.Region.{Region}
 use Rattle.mufom_place.specs.declared.site.Waiting.{Waiting}
 use Rattle.mufom_place.specs.declared.site.Placing.{Placing}
-use Rattle.mufom_place.specs.Bases.{aligned_up, packed}
+use Rattle.mufom_place.specs.Bases.{aligned_up, packed, commons_in}
 
 -- a section that waits has an alignment of at least 1 and at most 2^31
 pub record IsAlignedWaiting (w : Waiting) : Type 0 where
@@ -17,7 +17,8 @@ end_of address [] = address
 end_of address (w ∷ more) = end_of (aligned_up w.align address + w.size) more
 
 -- the bases that regions give, the first at this position, where the sections of each wait at as many entries as its list has names
-abbrev pub placings_from : ℕ → List Region → List (List Waiting) → List Placing
-placings_from n [] entries = []
-placings_from n (region ∷ regions) entries =
-    packed n region.base (flat_map (λ waiting. waiting) (take (length region.sections) entries)) ++ placings_from (n + 1) regions (drop (length region.sections) entries)
+abbrev pub placings_from : ℕ → List Region → List (List Waiting) → List Waiting → List Placing
+placings_from n [] entries commons = []
+placings_from n (region ∷ regions) entries commons =
+    packed n region.base (flat_map (λ waiting. waiting) (take (length region.sections) entries) ++ commons_in region commons)
+    ++ placings_from (n + 1) regions (drop (length region.sections) entries) commons

@@ -2,12 +2,12 @@
 
 ghost use Rattle.std.specs.Prelude.{◌≡◌, ◌≤◌, ◌<◌, ◌+◌, ◌*◌, ◌^◌, ◌++◌, ℕ, None, IfOk, OnOk, length, sum_by, vec_len, All, flat_map, slice_index_or};
 ghost use Rattle.mufom_plan.specs.Names.{listed_names};
-ghost use Rattle.mufom_place.specs.Bases.{aligned_up as least_multiple, packed, placing_of};
+ghost use Rattle.mufom_place.specs.Bases.{aligned_up as least_multiple, commons_in, packed, placing_of};
 ghost use Rattle.mufom_place.specs.Packing.{IsAlignedWaiting, end_of, placings_from};
 
 use crate::site::{Placing, Waiting};
 use mufom_numbers::{List, NoMemory};
-use mufom_plan::Plan;
+use mufom_plan::{Plan, Region};
 use std::alloc::Global;
 
 /// The least multiple of an alignment that is not below an address.
@@ -21,7 +21,7 @@ fn aligned_up(align: u64, address: u128) -> u128
     (address + (align - 1)) / align * align
 }
 
-/// Puts the sections of an entry one after another, and answers the end of the last.
+/// Puts sections one after another, and answers the end of the last.
 fn pack(
     placings: &mut List<Placing>,
     waiting: &[Waiting],
@@ -47,35 +47,65 @@ fn pack(
     Ok(end)
 }
 
-/// Puts the sections at the entries of a region one after another.
+/// Puts the sections at the entries of a region one after another, and answers the end of the last.
+fn pack_entries(
+    placings: &mut List<Placing>,
+    entries: &[List<Waiting>],
+    region: u32,
+    address: u128,
+) -> Result<u128, NoMemory>
+    requires aligned { All (All IsAlignedWaiting) entries.now }
+    requires room { address + sum_by length entries.now * 2 ^ 65 < 2 ^ 100 }
+    ensures placed { OnOk result (placings.new ≡ placings.old ++ packed region address (flat_map (λ waiting. waiting) entries.now)) }
+    ensures end { IfOk result (λ end. end ≡ end_of address (flat_map (λ waiting. waiting) entries.now)) }
+    ensures bound { IfOk result (λ end. end ≤ address + sum_by length entries.now * 2 ^ 65) }
+{
+    let mut end = address;
+    for waiting in entries {
+        end = pack(placings, waiting.as_slice(), region, end)?;
+    }
+    Ok(end)
+}
+
+/// Puts the sections at the entries of a region one after another, and after them these commons.
 fn pack_region(
     placings: &mut List<Placing>,
     entries: &[List<Waiting>],
+    commons: &[Waiting],
     region: u32,
     base: u64,
 ) -> Result<(), NoMemory>
     requires aligned { All (All IsAlignedWaiting) entries.now }
-    requires room { sum_by length entries.now < 2 ^ 32 }
-    ensures { OnOk result (placings.new ≡ placings.old ++ packed region base (flat_map (λ waiting. waiting) entries.now)) }
+    requires aligned_commons { All IsAlignedWaiting commons.now }
+    requires room { sum_by length entries.now + length commons.now < 2 ^ 32 }
+    ensures { OnOk result (placings.new ≡ placings.old ++ packed region base (flat_map (λ waiting. waiting) entries.now ++ commons.now)) }
 {
-    let mut end = base as u128;
-    for waiting in entries {
-        end = pack(placings, waiting.as_slice(), region, end)?;
-    }
+    let end = pack_entries(placings, entries, region, base as u128)?;
+    pack(placings, commons, region, end)?;
     Ok(())
 }
 
-/// The bases that the regions give to the sections at their entries.
+/// The commons, where a region takes them.
+fn commons_of<'a>(region: &Region, commons: &'a [Waiting]) -> &'a [Waiting]
+    ensures commons { result.now ≡ commons_in region.now commons.now }
+    ensures bound { length result.now ≤ length commons.now }
+{
+    if region.common { commons } else { &[] }
+}
+
+/// The bases that the regions give to the sections at their entries, and to the commons.
 pub fn placings(
     alloc: Global,
     plan: &Plan,
     entries: &[List<Waiting>],
+    commons: &[Waiting],
 ) -> Result<List<Placing>, NoMemory>
     requires regions { length plan.now.regions < 2 ^ 32 }
     requires count { length entries.now ≡ length (listed_names plan.now.regions) }
     requires aligned { All (All IsAlignedWaiting) entries.now }
-    requires room { sum_by length entries.now < 2 ^ 32 }
-    ensures { IfOk result (λ placings. placings ≡ placings_from 0 plan.now.regions entries.now) }
+    requires aligned_commons { All IsAlignedWaiting commons.now }
+    requires room { sum_by length entries.now + length commons.now < 2 ^ 32 }
+    ensures { IfOk result (λ placings. placings ≡ placings_from 0 plan.now.regions entries.now commons.now) }
 {
     let mut placings = List::new(alloc);
     let mut start = 0;
@@ -84,6 +114,7 @@ pub fn placings(
         pack_region(
             &mut placings,
             &entries[start..next],
+            commons_of(region, commons),
             place as u32,
             region.base,
         )?;

@@ -1,6 +1,7 @@
 //! The entries of a plan's lists, and the sections that wait at each.
 
-ghost use Rattle.std.specs.Prelude.{◌≡◌, ◌≢◌, ◌≤◌, ◌<◌, ◌++◌, ◌^◌, [], IfOk, IfErr, OnOk, Some, length, map, position, replicate, sum_by, codes};
+ghost use Rattle.std.specs.Prelude.{◌≡◌, ◌≢◌, ◌≤◌, ◌<◌, ◌+◌, ◌++◌, ◌^◌, [], IfOk, IfErr, OnOk, Some, length, map, position, replicate, sum_by, codes};
+ghost use Rattle.std.specs.List.{enumerate_from};
 ghost use Rattle.std.specs.Str.{bytes_eq};
 ghost use Rattle.mufom_plan.specs.Names.{AreDistinctNames, listed_names};
 ghost use Rattle.mufom_place.specs.Bases.{numbered, waiting as waiting_of, waiting_among};
@@ -67,6 +68,22 @@ fn waiting(place: u32, section: &Section) -> Waiting
         align: section.align,
         size: section.size,
     }
+}
+
+/// The commons with their positions, which follow those of `first` sections.
+pub fn waiting_commons(
+    alloc: Global,
+    first: usize,
+    commons: &[Section],
+) -> Result<Vec<Waiting>, NoMemory>
+    requires { first + length commons.now < 2 ^ 32 }
+    ensures { IfOk result (λ waiting. waiting.items ≡ map waiting_of (enumerate_from first commons.now)) }
+{
+    let mut list = Vec::new(alloc);
+    for (place, section) in commons.iter().enumerate() {
+        list.push(waiting((first + place) as u32, section))?;
+    }
+    Ok(list)
 }
 
 /// The sections without a base, at the entries that stand for their names.

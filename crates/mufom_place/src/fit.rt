@@ -1,13 +1,14 @@
 //! The bases of sections, where each lies in the address space and in its region.
 
-ghost use Rattle.std.specs.Prelude.{◌≡◌, ◌≢◌, ◌≤◌, ◌<◌, ◌^◌, ℕ, None, Some, IfOk, IfErr, OnOk, length, slice_index_or};
-ghost use Rattle.mufom_place.specs.Bases.{numbered, placing_of, placings, site_with, bases as bases_of};
-ghost use Rattle.mufom_place.specs.Facts.{first_some, is_past as ends_past, misfit_at, misfit_with};
+ghost use Rattle.std.specs.Prelude.{◌≡◌, ◌≢◌, ◌≤◌, ◌<◌, ◌^◌, None, Some, IfOk, IfErr, OnOk, length, map};
+ghost use Rattle.mufom_place.specs.Bases.{numbered, site_by, site_with};
+ghost use Rattle.mufom_place.specs.Facts.{first_some, is_past as ends_past, misfit_by, misfit_with};
 
 use crate::PlaceRefusal;
+use crate::bases::planned;
 use crate::site::{Placing, Site};
 use mufom_numbers::List;
-use mufom_plan::{Plan, Region};
+use mufom_plan::Region;
 use mufom_sections::Section;
 use std::alloc::Global;
 
@@ -72,32 +73,25 @@ fn fitting_base(
     Ok(site.base as u64)
 }
 
-/// The bases of the sections.
+/// The bases of sections, by their own bases and by what the regions of a plan give.
 pub fn bases(
     alloc: Global,
     sections: &[Section],
-    plan: &Plan,
-    planned: &[Option<Placing>],
+    regions: &[Region],
+    placings: &[Placing],
     width: u32,
 ) -> Result<List<u64>, PlaceRefusal>
     requires width { width ≤ 64 }
     requires count { length sections.now < 2 ^ 32 }
-    requires same { length planned.now ≡ length sections.now }
-    requires planned { (n : ℕ) → n < length sections.now → slice_index_or planned.now n None ≡ placing_of (placings plan.now sections.now) n }
-    ensures bases { IfOk result (λ list. list ≡ bases_of plan.now sections.now) }
-    ensures fit { OnOk result (first_some (misfit_at (2 ^ width) plan.now sections.now) (numbered sections.now) ≡ None) }
-    ensures misfit { IfErr result (λ refusal. refusal ≢ PlaceRefusal.NoMemory → first_some (misfit_at (2 ^ width) plan.now sections.now) (numbered sections.now) ≡ Some refusal) }
+    ensures bases { IfOk result (λ list. list ≡ map (λ s. (site_by placings.now s).base) (numbered sections.now)) }
+    ensures fit { OnOk result (first_some (misfit_by (2 ^ width) regions.now placings.now) (numbered sections.now) ≡ None) }
+    ensures misfit { IfErr result (λ refusal. refusal ≢ PlaceRefusal.NoMemory → first_some (misfit_by (2 ^ width) regions.now placings.now) (numbered sections.now) ≡ Some refusal) }
 {
+    let planned = planned(alloc, placings, sections.len())?;
     let mut bases = List::new(alloc);
     for (place, section) in sections.iter().enumerate() {
         let site = site(section.base, planned[place]);
-        bases.push(fitting_base(
-            place as u32,
-            section.size,
-            site,
-            plan.regions.as_slice(),
-            width,
-        )?)?;
+        bases.push(fitting_base(place as u32, section.size, site, regions, width)?)?;
     }
     Ok(bases)
 }

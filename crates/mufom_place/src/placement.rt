@@ -1,34 +1,62 @@
-ghost use Rattle.std.specs.Prelude.{◌≡◌, ◌≢◌, ◌<◌, ◌^◌, Some, None, IfOk, IfErr, OnOk, All, length};
+ghost use Rattle.std.specs.Prelude.{◌≡◌, ◌≢◌, ◌≤◌, ◌<◌, ◌+◌, ◌^◌, Some, None, IfOk, IfErr, OnOk, All, length, false};
+ghost use Rattle.mufom_plan.specs.Commons.{HasAtMostOneCommon, has_common};
 ghost use Rattle.mufom_plan.specs.Names.{AreDistinctNames, listed_names};
-ghost use Rattle.mufom_place.specs.Bases.{bases as bases_of};
-ghost use Rattle.mufom_place.specs.Facts.{IsAddressWidth, IsAligned, place_refusal};
+ghost use Rattle.mufom_place.specs.Bases.{bases as bases_of, numbered, placings as placings_of};
+ghost use Rattle.mufom_place.specs.Facts.{HasNoBase, IsAddressWidth, IsAligned, first_some, last_sections, place_refusal, sections_before, unplaced_at};
 
 use crate::PlaceRefusal;
-use crate::bases::{placings, planned};
-use crate::entries::{index_of_entries, waiting_sections};
+use crate::bases::placings;
+use crate::entries::{index_of_entries, waiting_commons, waiting_sections};
 use crate::fit::bases;
 use crate::overlap::overlap;
+use crate::site::Placing;
 use mufom_numbers::List;
 use mufom_plan::Plan;
 use mufom_sections::Section;
 use std::alloc::Global;
 
-/// The bases of sections by a plan, in the order of the sections.
+/// The bases that the regions of a plan give to sections and commons.
+fn regional(
+    alloc: Global,
+    sections: &[Section],
+    commons: &[Section],
+    plan: &Plan,
+) -> Result<List<Placing>, PlaceRefusal>
+    requires alignments { All IsAligned sections.now }
+    requires aligned_commons { All IsAligned commons.now }
+    requires count { length sections.now + length commons.now < 2 ^ 32 }
+    requires regions { length plan.now.regions < 2 ^ 32 }
+    requires names { AreDistinctNames (listed_names plan.now.regions) }
+    ensures given { IfOk result (λ list. list ≡ placings_of plan.now sections.now commons.now) }
+    ensures placed { OnOk result (first_some (unplaced_at (listed_names plan.now.regions)) (numbered sections.now) ≡ None) }
+    ensures unplaced { IfErr result (λ refusal. refusal ≢ PlaceRefusal.NoMemory → first_some (unplaced_at (listed_names plan.now.regions)) (numbered sections.now) ≡ Some refusal) }
+{
+    let index = index_of_entries(alloc, plan)?;
+    let entries = waiting_sections(alloc, sections, &index)?;
+    let waiting = waiting_commons(alloc, sections.len(), commons)?;
+    Ok(placings(alloc, plan, &entries, &waiting)?)
+}
+
+/// The bases of sections and commons by a plan, in the order of the list.
 ///
-/// A section with a base stands there. The others go where the lists of the plan's regions put
+/// The last `commons` sections of the list are the commons; they have no base of their own. Any
+/// other section with a base stands there. The rest go where the lists of the plan's regions put
 /// them: by the order of a list, for one name in the order of the sections, each at the least
 /// multiple of its alignment that is not below the end of the one before, the first not below the
-/// region's base. The name `*` stands for itself and for all names that no list has. Bases and
+/// region's base. The name `*` stands for itself and for all names that no list has. In the common
+/// region the commons follow in their order by the same rule, whatever their names. Bases and
 /// sizes are in addressable units.
 ///
-/// `width` is the number of bits of an address, a multiple of 8 from 16 to 64. Alignments are 1 to
-/// 2^31, there are fewer than 2^32 sections and regions, and no section name stands twice in the
-/// plan, as [`read_plan`](mufom_plan::read_plan) gives it. `Unplaced` goes first, then `Misfit`,
-/// each with the first such section, and then `Overlap`, with the first two neighbours by base and
-/// then by position.
+/// `width` is the number of bits of an address, a multiple of 8 from 8 to 64. Alignments are 1 to
+/// 2^31, there are fewer than 2^32 sections and regions, no section name stands twice in the plan,
+/// and at most one region is common, as [`read_plan`](mufom_plan::read_plan) gives it. There are
+/// commons only where a region is common. `Unplaced` goes first, then `Misfit`, each with the
+/// first such section, and then `Overlap`, with the first two neighbours by base and then by
+/// position. Commons are never `Unplaced`.
 pub fn place(
     alloc: Global,
     sections: &[Section],
+    commons: u32,
     plan: &Plan,
     width: u32,
 ) -> Result<List<u64>, PlaceRefusal>
@@ -37,19 +65,27 @@ pub fn place(
     requires sections { length sections.now < 2 ^ 32 }
     requires regions { length plan.now.regions < 2 ^ 32 }
     requires names { AreDistinctNames (listed_names plan.now.regions) }
+    requires common { HasAtMostOneCommon plan.now.regions }
+    requires few { commons ≤ length sections.now }
+    requires somewhere { has_common plan.now.regions ≡ false → commons ≡ 0 }
+    requires without { All HasNoBase (last_sections commons sections.now) }
 
     // The bases are those that the plan gives, and nothing keeps the sections from them.
-    ensures bases { IfOk result (λ bases. bases ≡ bases_of plan.now sections.now) }
-    ensures placed { OnOk result (place_refusal width plan.now sections.now ≡ None) }
+    ensures bases { IfOk result (λ bases. bases ≡ bases_of plan.now (sections_before commons sections.now) (last_sections commons sections.now)) }
+    ensures placed { OnOk result (place_refusal width plan.now (sections_before commons sections.now) (last_sections commons sections.now) ≡ None) }
 
     // A refusal is the first thing that keeps them, or there was no memory.
-    ensures refused { IfErr result (λ refusal. refusal ≢ PlaceRefusal.NoMemory → place_refusal width plan.now sections.now ≡ Some refusal) }
+    ensures refused { IfErr result (λ refusal. refusal ≢ PlaceRefusal.NoMemory → place_refusal width plan.now (sections_before commons sections.now) (last_sections commons sections.now) ≡ Some refusal) }
 {
-    let index = index_of_entries(alloc, plan)?;
-    let entries = waiting_sections(alloc, sections, &index)?;
-    let placings = placings(alloc, plan, &entries)?;
-    let planned = planned(alloc, placings.as_slice(), sections.len())?;
-    let bases = bases(alloc, sections, plan, &planned, width)?;
+    let (plain, last) = sections.split_at(sections.len() - commons as usize);
+    let placings = regional(alloc, plain, last, plan)?;
+    let bases = bases(
+        alloc,
+        sections,
+        plan.regions.as_slice(),
+        placings.as_slice(),
+        width,
+    )?;
     match overlap(alloc, sections, bases.as_slice())? {
         Some(refusal) => Err(refusal),
         None => Ok(bases),

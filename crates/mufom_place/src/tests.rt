@@ -1,9 +1,10 @@
-ghost use Rattle.std.specs.Prelude.{◌↔◌, All, IsTrue};
-ghost use Rattle.mufom_place.specs.Facts.{IsAddressWidth, IsAligned};
+ghost use Rattle.std.specs.Prelude.{◌≡◌, ◌↔◌, All, IsTrue};
+ghost use Rattle.mufom_plan.specs.Commons.{has_common};
+ghost use Rattle.mufom_place.specs.Facts.{HasNoBase, IsAddressWidth, IsAligned};
 
 use crate::{PlaceRefusal, place, place_refusals_are_facts};
 use mufom_numbers::{Bytes, List, NoMemory};
-use mufom_plan::read_plan;
+use mufom_plan::{Region, read_plan};
 use mufom_sections::Section;
 use std::alloc::Global;
 use std::test::Fail;
@@ -39,7 +40,42 @@ fn are_aligned(sections: &[Section]) -> bool
     sections.iter().all(|section| section.align >= 1 && section.align <= 2_147_483_648)
 }
 
+fn have_no_base(commons: &[Section]) -> bool
+    ensures { IsTrue result ↔ All HasNoBase commons.now }
+{
+    commons.iter().all(|section| section.base.is_none())
+}
+
+fn takes_commons(regions: &[Region]) -> bool
+    ensures { result ≡ has_common regions.now }
+{
+    regions.iter().any(|region| region.common)
+}
+
 /// What placing answers, and `None` where the case itself is not well formed.
+fn answer_with_commons(
+    alloc: Global,
+    width: u32,
+    plan: &str,
+    rows: &[Row<'_>],
+    commons: u32,
+) -> Option<Result<List<u64>, PlaceRefusal>>
+    requires { IsAddressWidth width }
+{
+    let plan = read_plan(alloc, plan.as_bytes()).ok()?;
+    let sections = sections_of(alloc, rows).ok()?;
+    if !are_aligned(&sections) || sections.len() > 100 || commons as usize > sections.len() {
+        return None;
+    }
+    if !have_no_base(&sections[sections.len() - commons as usize..]) {
+        return None;
+    }
+    if commons > 0 && !takes_commons(plan.regions.as_slice()) {
+        return None;
+    }
+    Some(place(alloc, &sections, commons, &plan, width))
+}
+
 fn answer(
     alloc: Global,
     width: u32,
@@ -48,12 +84,7 @@ fn answer(
 ) -> Option<Result<List<u64>, PlaceRefusal>>
     requires { IsAddressWidth width }
 {
-    let plan = read_plan(alloc, plan.as_bytes()).ok()?;
-    let sections = sections_of(alloc, rows).ok()?;
-    if !are_aligned(&sections) || sections.len() > 100 {
-        return None;
-    }
-    Some(place(alloc, &sections, &plan, width))
+    answer_with_commons(alloc, width, plan, rows, 0)
 }
 
 fn has_bases(alloc: Global, plan: &str, rows: &[Row<'_>], want: &[u64]) -> bool {
@@ -205,13 +236,81 @@ fn fits_to_the_last_address(rt: HostRuntime) {
             }))
         )
     );
+    for (width, base) in [(8, 256), (16, 65_536), (40, 1_099_511_627_776)] {
+        assert!(rt;
+            matches!(
+                answer(alloc, width, "", &[("a", 0, 1, Some(base))]),
+                Some(Err(PlaceRefusal::Misfit {
+                    section: 0,
+                    region: None
+                }))
+            ),
+            "{width}"
+        );
+    }
+    assert!(rt; matches!(answer(alloc, 8, "", &[("a", 4, 1, Some(252))]), Some(Ok(_))));
+}
+
+fn has_bases_with_commons(
+    alloc: Global,
+    plan: &str,
+    rows: &[Row<'_>],
+    commons: u32,
+    want: &[u64],
+) -> bool {
+    match answer_with_commons(alloc, 32, plan, rows, commons) {
+        Some(Ok(bases)) => bases.as_slice() == want,
+        _ => false,
+    }
+}
+
+// Two sections and a common, in a region that it fits into and in one that it does not.
+#[test]
+fn places_commons_after_the_sections(rt: HostRuntime) {
+    let alloc = rt.alloc();
+    let rows = [("t", 4, 1, None), ("t", 4, 1, None), ("c", 6, 8, None)];
+    let wide =
+        "region = [{ name = 'ram', base = 256, size = 64, sections = ['t'], common = true }]";
+    assert!(rt; has_bases_with_commons(alloc, wide, &rows, 1, &[256, 260, 264]));
+    let small =
+        "region = [{ name = 'ram', base = 256, size = 13, sections = ['t'], common = true }]";
     assert!(rt;
         matches!(
-            answer(alloc, 16, "", &[("a", 0, 1, Some(65_536))]),
+            answer_with_commons(alloc, 32, small, &rows, 1),
             Some(Err(PlaceRefusal::Misfit {
-                section: 0,
-                region: None
+                section: 2,
+                region: Some(0)
             }))
+        )
+    );
+    // The same three sections without commons: no list has the last one's name.
+    assert_eq!(rt;
+        refusal(alloc, wide, &rows),
+        Some(PlaceRefusal::Unplaced(2))
+    );
+}
+
+#[test]
+fn places_commons_in_the_common_region(rt: HostRuntime) {
+    let alloc = rt.alloc();
+    let plan = "region = [
+    { name = 'rom', base = 0, size = 64, sections = ['c', '*'], common = false },
+    { name = 'ram', base = 0x1001, size = 64, sections = ['d'], common = true },
+]";
+    // The names of commons stand in no list that is looked at: they keep their order.
+    let rows = [
+        ("d", 3, 1, None),
+        ("c", 4, 1, None),
+        ("d", 2, 8, None),
+        ("c", 1, 8, None),
+    ];
+    assert!(rt; has_bases_with_commons(alloc, plan, &rows, 2, &[0x1001, 0, 0x1008, 0x1010]));
+    // A common overlaps what stands at its own base.
+    let rows = [("a", 1, 1, Some(0x100A)), ("c", 4, 8, None)];
+    assert!(rt;
+        matches!(
+            answer_with_commons(alloc, 32, plan, &rows, 1),
+            Some(Err(PlaceRefusal::Overlap(1, 0)))
         )
     );
 }

@@ -1,7 +1,7 @@
 -- The document that bytes are, as `toml` defines it, and what stands in it.
-use Rattle.std.specs.Prelude.{ℕ, ◌==◌, ℤ, pos, negsuc, List, [], ◌∷◌, length, Option, Some, None, option_map, option_and_then, Bool, true, ◌&&◌, if◌then◌else◌}
+use Rattle.std.specs.Prelude.{ℕ, ◌==◌, ℤ, pos, negsuc, List, [], ◌∷◌, length, Option, Some, None, option_map, option_and_then, Bool, true, false, ◌&&◌, if◌then◌else◌}
 use Rattle.std.specs.Str.Lossy.{utf8_valid_len}
-use Rattle.toml.specs.Data.{Data, as_str, as_integer, as_array, Items, no_items, item, Members, no_members, member}
+use Rattle.toml.specs.Data.{Data, as_bool, as_str, as_integer, as_array, Items, no_items, item, Members, no_members, member}
 use Rattle.toml.specs.Parse.{parse_document}
 use Rattle.mufom_plan.specs.Names.{has_name}
 
@@ -35,3 +35,8 @@ number_at value = option_and_then natural (option_and_then as_integer value)
 -- the bytes of a value that is a text
 abbrev pub text_at : Option Data → Option (List ℕ)
 text_at value = option_and_then as_str value
+
+-- the truth value that stands at a key; a key that is absent has false
+abbrev pub truth_at : Option Data → Option Bool
+truth_at None = Some false
+truth_at (Some value) = as_bool value

@@ -1,3 +1,4 @@
 pub mod Names
+pub mod Commons
 pub mod Document
 pub mod PlanText

@@ -1,5 +1,5 @@
 -- The plan that bytes state, or the first thing that is wrong with them.
-use Rattle.std.specs.Prelude.{ℕ, ◌+◌, ◌==◌, List, [], ◌∷◌, ◌++◌, length, Option, Some, None, option_map, option_and_then, Result, Ok, Err, Bool, true, false, ◌||◌, not, nat_lt, is_some, if◌then◌else◌, codes}
+use Rattle.std.specs.Prelude.{ℕ, ◌+◌, ◌==◌, List, [], ◌∷◌, ◌++◌, length, Option, Some, None, option_map, option_and_then, Result, Ok, Err, Bool, true, false, ◌&&◌, ◌||◌, not, nat_lt, is_some, if◌then◌else◌, codes}
 use Rattle.std.specs.List.{list_all}
 use Rattle.toml.specs.Data.{Data, as_str, as_table, Members, get_member}
 use Rattle.mufom_plan.specs.declared.plan.Region.{Region}
@@ -8,7 +8,8 @@ use Rattle.mufom_plan.specs.declared.refusal.PlanField.TheVariants as field
 use Rattle.mufom_plan.specs.declared.refusal.PlanRefusal.{PlanRefusal}
 use Rattle.mufom_plan.specs.declared.refusal.PlanRefusal.TheVariants.{Syntax, Shape, Beyond, TooLong}
 use Rattle.mufom_plan.specs.Names.{has_name, region_names, listed_names}
-use Rattle.mufom_plan.specs.Document.{document_of, has_only_keys, items_at, number_at, text_at}
+use Rattle.mufom_plan.specs.Commons.{has_common}
+use Rattle.mufom_plan.specs.Document.{document_of, has_only_keys, items_at, number_at, text_at, truth_at}
 
 -- the value, or the refusal in its place
 infixl 10 ◌>>=◌
@@ -31,7 +32,7 @@ abbrev pub plan_keys : List (List ℕ)
 plan_keys = codes "region" ∷ []
 
 abbrev pub region_keys : List (List ℕ)
-region_keys = codes "name" ∷ codes "base" ∷ codes "size" ∷ codes "sections" ∷ []
+region_keys = codes "name" ∷ codes "base" ∷ codes "size" ∷ codes "sections" ∷ codes "common" ∷ []
 
 -- the name, where it is not empty and is none of those before
 abbrev pub new_name : List (List ℕ) → List ℕ → Option (List ℕ)
@@ -46,26 +47,34 @@ abbrev pub new_names : List (List ℕ) → List Data → Option (List (List ℕ)
 new_names earlier [] = Some []
 new_names earlier (value ∷ more) = option_and_then (λ name. before_names earlier name (new_names (earlier ++ name ∷ []) more)) (as_str value)
 
--- The region at a position of the plan, by what stands in its table: whether the table has the keys of a region alone, the
--- name, the base, the size and the section names, each where it has the shape that it must have.
-abbrev pub region_with : ℕ → Bool → Option (List ℕ) → Option ℕ → Option ℕ → Option (List (List ℕ)) → Result Region PlanRefusal
-region_with place false name base size sections = Err (Shape (Some place) field.Extra)
-region_with place true None base size sections = Err (Shape (Some place) field.Name)
-region_with place true (Some name) None size sections = Err (Shape (Some place) field.Base)
-region_with place true (Some name) (Some base) None sections = Err (Shape (Some place) field.Size)
-region_with place true (Some name) (Some base) (Some size) None = Err (Shape (Some place) field.Sections)
-region_with place true (Some name) (Some base) (Some size) (Some sections) =
-    if nat_lt 9223372036854775807 (base + size) then Err (Beyond place) else Ok (record { name = name; base = base; size = size; sections = sections })
+-- whether a region takes the commons, where none before does
+abbrev pub new_common : Bool → Bool → Option Bool
+new_common earlier common = if earlier && common then None else Some common
 
--- the region of a table, at a position of the plan after regions with these names and these section names
-abbrev pub region_of : ℕ → List (List ℕ) → List (List ℕ) → Members → Result Region PlanRefusal
-region_of place names listed table =
+-- The region at a position of the plan, by what stands in its table: whether the table has the keys of a region alone, the
+-- name, the base, the size, the section names and whether it takes the commons, each where it has the shape that it must have.
+abbrev pub region_with : ℕ → Bool → Option (List ℕ) → Option ℕ → Option ℕ → Option (List (List ℕ)) → Option Bool → Result Region PlanRefusal
+region_with place false name base size sections common = Err (Shape (Some place) field.Extra)
+region_with place true None base size sections common = Err (Shape (Some place) field.Name)
+region_with place true (Some name) None size sections common = Err (Shape (Some place) field.Base)
+region_with place true (Some name) (Some base) None sections common = Err (Shape (Some place) field.Size)
+region_with place true (Some name) (Some base) (Some size) None common = Err (Shape (Some place) field.Sections)
+region_with place true (Some name) (Some base) (Some size) (Some sections) None = Err (Shape (Some place) field.Common)
+region_with place true (Some name) (Some base) (Some size) (Some sections) (Some common) =
+    if nat_lt 9223372036854775807 (base + size) then Err (Beyond place)
+    else Ok (record { name = name; base = base; size = size; sections = sections; common = common })
+
+-- the region of a table, at a position of the plan after regions with these names and these section names, of which one takes the
+-- commons or none does
+abbrev pub region_of : ℕ → List (List ℕ) → List (List ℕ) → Bool → Members → Result Region PlanRefusal
+region_of place names listed earlier table =
     region_with place
     (has_only_keys region_keys table)
     (option_and_then (new_name names) (text_at (get_member (codes "name") table)))
     (number_at (get_member (codes "base") table))
     (number_at (get_member (codes "size") table))
     (option_and_then (new_names listed) (items_at (get_member (codes "sections") table)))
+    (option_and_then (new_common earlier) (truth_at (get_member (codes "common") table)))
 
 -- regions before more regions
 abbrev pub in_prefix : List Region → Result (List Region) PlanRefusal → Result (List Region) PlanRefusal
@@ -76,7 +85,7 @@ abbrev pub regions_of : List Region → List Data → Result (List Region) PlanR
 regions_of before [] = Ok []
 regions_of before (value ∷ more) =
     or_refuse (Shape None field.Region) (as_table value) >>= λ table.
-    region_of (length before) (region_names before) (listed_names before) table >>= λ region.
+    region_of (length before) (region_names before) (listed_names before) (has_common before) table >>= λ region.
     in_prefix (region ∷ []) (regions_of (before ++ region ∷ []) more)
 
 -- each value is a table

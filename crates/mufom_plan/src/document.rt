@@ -5,7 +5,7 @@ ghost use Rattle.std.specs.BTreeMap.{keys};
 ghost use Rattle.std.specs.List.{list_all};
 ghost use Rattle.toml.specs.Data.{as_table};
 ghost use Rattle.toml.specs.View.{table_view, view};
-ghost use Rattle.mufom_plan.specs.Document.{document_of, number_at, text_at, items_at, has_only_keys};
+ghost use Rattle.mufom_plan.specs.Document.{document_of, number_at, text_at, items_at, truth_at, has_only_keys};
 ghost use Rattle.mufom_plan.specs.Names.{has_name};
 ghost use Rattle.mufom_plan.specs.PlanText.{are_tables as every_table, plan_keys, region_keys};
 
@@ -37,6 +37,16 @@ pub fn number_of(value: Option<&Value>) -> Option<u64>
     match value?.as_integer() {
         Some(number) if number >= 0 => Some(number as u64),
         _ => None,
+    }
+}
+
+/// The truth value at a key, which is false where the key is absent.
+pub fn truth_of(value: Option<&Value>) -> Option<bool>
+    ensures { result ≡ truth_at (option_map (λ v. view v.now) value.entry) }
+{
+    match value {
+        Some(value) => value.as_bool(),
+        None => Some(false),
     }
 }
 
@@ -76,7 +86,7 @@ fn is_plan_key(key: &str) -> bool
 fn is_region_key(key: &str) -> bool
     ensures { result ≡ has_name region_keys key.now }
 {
-    key == "name" || key == "base" || key == "size" || key == "sections"
+    key == "name" || key == "base" || key == "size" || key == "sections" || key == "common"
 }
 
 fn are_plan_keys(document: &Table) -> bool

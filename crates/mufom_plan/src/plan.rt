@@ -14,6 +14,9 @@ pub struct Region {
     /// The names of the sections that go here, in the order in which they are put. The name `*`
     /// stands for itself and for each name that no list of the plan has.
     pub sections: List<Bytes>,
+    /// Whether the commons go here, after those sections. In a plan that was read, at most one
+    /// region has it true.
+    pub common: bool,
 }
 
 /// Where the sections without a base of their own are put.

@@ -3,6 +3,7 @@
 ghost use Rattle.std.specs.Prelude.{◌≡◌, ◌≢◌, ◌^◌, ◌<◌, [], Some, None, Ok, Err, IfOk, IfErr, length, map, option_map};
 ghost use Rattle.toml.specs.View.{table_view, view};
 ghost use Rattle.mufom_plan.specs.Names.{AreDistinctNames, listed_names};
+ghost use Rattle.mufom_plan.specs.Commons.{HasAtMostOneCommon};
 ghost use Rattle.mufom_plan.specs.PlanText.{plan_of_document, plan_of_text, regions_at, regions_of};
 
 use crate::document::{all_tables, document, has_plan_keys, items_of};
@@ -30,12 +31,15 @@ fn regions(alloc: Global, values: &[Value]) -> Result<List<Region>, PlanRefusal>
 {
     let mut names = NameList::new(alloc);
     let mut listed = NameList::new(alloc);
+    let mut common = false;
     let mut regions = List::new(alloc);
     for (place, value) in values.iter().enumerate() {
         let Some(table) = value.as_table() else {
             return Err(NO_REGIONS);
         };
-        regions.push(region(alloc, place as u32, table, &mut names, &mut listed)?)?;
+        let region = region(alloc, place as u32, table, &mut names, &mut listed, common)?;
+        common |= region.common;
+        regions.push(region)?;
     }
     Ok(regions)
 }
@@ -81,10 +85,10 @@ fn plan(alloc: Global, document: &Table) -> Result<Plan, PlanRefusal>
 /// The plan that the bytes of a file state.
 ///
 /// The plan is a TOML document whose only key is `region`, an array of tables, each with exactly
-/// the keys `name`, `base`, `size` and `sections`. No bytes are the plan without regions. What is
-/// wrong is answered in this order: too many bytes, no document, another key, no array of tables,
-/// and then region by region another key, the name, the base, the size, the section names, and an
-/// end above 2^63 - 1.
+/// the keys `name`, `base`, `size` and `sections`, and where wanted `common`. No bytes are the plan
+/// without regions. What is wrong is answered in this order: too many bytes, no document, another
+/// key, no array of tables, and then region by region another key, the name, the base, the size,
+/// the section names, the truth value `common`, and an end above 2^63 - 1.
 pub fn read_plan(alloc: Global, text: &[u8]) -> Result<Plan, PlanRefusal>
     // The plan is the one that the document states.
     ensures ok { IfOk result (λ plan. plan_of_text text.now ≡ Ok plan) }
@@ -92,6 +96,8 @@ pub fn read_plan(alloc: Global, text: &[u8]) -> Result<Plan, PlanRefusal>
     ensures refused { IfErr result (λ refusal. refusal ≢ PlanRefusal.NoMemory → plan_of_text text.now ≡ Err refusal) }
     // No section name stands twice in the plan.
     ensures distinct { IfOk result (λ plan. AreDistinctNames (listed_names plan.regions)) }
+    // At most one region takes the commons.
+    ensures common { IfOk result (λ plan. HasAtMostOneCommon plan.regions) }
     ensures count { IfOk result (λ plan. length plan.regions < 2 ^ 32) }
 {
     if text.len() > MAX_PLAN_BYTES {

@@ -16,6 +16,8 @@ pub enum PlanField {
     Size,
     /// The key `sections`: an array of texts, none of which stands earlier in the plan.
     Sections,
+    /// The key `common`: a truth value, true in at most one region.
+    Common,
 }
 
 /// Why bytes are no plan.

@@ -3,10 +3,10 @@
 ghost use Rattle.std.specs.Prelude.{◌≡◌, ◌≢◌, ◌+◌, ◌∷◌, ◌++◌, [], Some, None, Ok, Err, IfOk, IfErr, IfSome, option_map, option_and_then, map};
 ghost use Rattle.toml.specs.Data.{get_member};
 ghost use Rattle.toml.specs.View.{table_view, view};
-ghost use Rattle.mufom_plan.specs.Document.{text_at, items_at};
-ghost use Rattle.mufom_plan.specs.PlanText.{new_name as fresh_name, new_names as fresh_names, region_of};
+ghost use Rattle.mufom_plan.specs.Document.{text_at, items_at, truth_at};
+ghost use Rattle.mufom_plan.specs.PlanText.{new_common as fresh_common, new_name as fresh_name, new_names as fresh_names, region_of};
 
-use crate::document::{has_region_keys, items_of, number_of, text_of};
+use crate::document::{has_region_keys, items_of, number_of, text_of, truth_of};
 use crate::{NameList, PlanField, PlanRefusal, Region};
 use mufom_numbers::{Bytes, List, NoMemory};
 use std::alloc::Global;
@@ -78,6 +78,17 @@ fn section_names(
     texts(alloc, values, earlier)
 }
 
+/// Whether a region takes the commons, which none does after one that takes them.
+fn new_common(value: Option<&Value>, earlier: bool) -> Option<bool>
+    ensures { result ≡ option_and_then (fresh_common earlier) (truth_at (option_map (λ v. view v.now) value.entry)) }
+{
+    let common = truth_of(value)?;
+    if earlier && common {
+        return None;
+    }
+    Some(common)
+}
+
 fn shape(place: u32, field: PlanField) -> PlanRefusal
     ensures { result ≡ PlanRefusal.Shape (Some place) field }
 {
@@ -87,16 +98,18 @@ fn shape(place: u32, field: PlanField) -> PlanRefusal
     }
 }
 
-/// The region of a table, whose names are added to those of the regions before.
+/// The region of a table, whose names are added to those of the regions before. `common` is
+/// whether one of those takes the commons.
 pub fn region(
     alloc: Global,
     place: u32,
     table: &Table,
     names: &mut NameList,
     listed: &mut NameList,
+    common: bool,
 ) -> Result<Region, PlanRefusal>
-    ensures ok { IfOk result (λ region. region_of place names.old listed.old (table_view table.now) ≡ Ok region) }
-    ensures refused { IfErr result (λ refusal. refusal ≢ PlanRefusal.NoMemory → region_of place names.old listed.old (table_view table.now) ≡ Err refusal) }
+    ensures ok { IfOk result (λ region. region_of place names.old listed.old common (table_view table.now) ≡ Ok region) }
+    ensures refused { IfErr result (λ refusal. refusal ≢ PlanRefusal.NoMemory → region_of place names.old listed.old common (table_view table.now) ≡ Err refusal) }
     ensures named { IfOk result (λ region. names.new ≡ names.old ++ region.name ∷ []) }
     ensures listed { IfOk result (λ region. listed.new ≡ listed.old ++ region.sections) }
 {
@@ -115,6 +128,9 @@ pub fn region(
     let Some(sections) = section_names(alloc, value_at(table, "sections"), listed)? else {
         return Err(shape(place, PlanField::Sections));
     };
+    let Some(common) = new_common(value_at(table, "common"), common) else {
+        return Err(shape(place, PlanField::Common));
+    };
     if base + size > HIGHEST_END {
         return Err(PlanRefusal::Beyond(place));
     }
@@ -123,5 +139,6 @@ pub fn region(
         base,
         size,
         sections,
+        common,
     })
 }

@@ -172,6 +172,57 @@ fn refuses_names_of_earlier_regions(rt: HostRuntime) {
     }
 }
 
+// Which region takes the commons: a truth value, which is true in one region at most.
+#[test]
+fn reads_the_common_region(rt: HostRuntime) -> Result<(), Fail> {
+    let alloc = rt.alloc();
+    let plan = read_plan(
+        alloc,
+        b"region = [
+    { name = 'a', base = 0, size = 1, sections = [], common = false },
+    { name = 'b', base = 0, size = 1, sections = [], common = true },
+    { name = 'c', base = 0, size = 1, sections = [] },
+]",
+    )?;
+    assert_eq!(rt; plan.regions.len(), 3);
+    for (place, want) in [(0, false), (1, true), (2, false)] {
+        assert_eq!(rt;
+            plan.regions.get(place).ok_or("no region")?.common,
+            want,
+            "{place}"
+        );
+    }
+    Ok(())
+}
+
+#[test]
+fn refuses_a_second_common_region(rt: HostRuntime) {
+    for (text, want) in [
+        (
+            "region = [{ name = 'a', base = 0, size = 0, sections = [], common = 1 }]",
+            shape(0, PlanField::Common),
+        ),
+        (
+            "region = [{ name = 'a', base = 0, size = 0, sections = 1, common = 1 }]",
+            shape(0, PlanField::Sections),
+        ),
+        (
+            "region = [{ name = 'a', base = 9223372036854775807, size = 1, sections = [], common = 'no' }]",
+            shape(0, PlanField::Common),
+        ),
+        (
+            "region = [
+    { name = 'a', base = 0, size = 0, sections = [], common = true },
+    { name = 'b', base = 0, size = 0, sections = [], common = false },
+    { name = 'c', base = 0, size = 0, sections = [], common = true },
+]",
+            shape(2, PlanField::Common),
+        ),
+    ] {
+        assert_eq!(rt; refusal(rt.alloc(), text), want, "{text}");
+    }
+}
+
 #[test]
 fn bounds_ends_and_bytes(rt: HostRuntime) -> Result<(), Fail> {
     let alloc = rt.alloc();

@@ -31,7 +31,7 @@ fault_for fault_offset (Some reason) = Some (fault_offset, reason)
 
 -- ---- whole records of the header
 
--- the bits of an addressable unit are not 8, or the units of an address not 2, 3 or 4
+-- the bits of an addressable unit are not 8, or the units of an address not 1 to 8
 abbrev pub is_bad_descriptor : Record → Bool
 is_bad_descriptor (r.Descriptor bits maus letter) = not ((bits == 8) && is_unit_count maus)
 is_bad_descriptor _ = false

@@ -78,12 +78,12 @@ fn offset_fault(
     None
 }
 
-// Whether the bits of an addressable unit are not 8, or the units of an address not 2, 3 or 4.
+// Whether the bits of an addressable unit are not 8, or the units of an address not 1 to 8.
 fn is_bad_descriptor(record: &Record) -> bool
     ensures { result ≡ faults.is_bad_descriptor «record».now }
 {
     match record {
-        Record::Descriptor(bits, maus, _) => *bits != 8 || *maus != 2 && *maus != 3 && *maus != 4,
+        Record::Descriptor(bits, maus, _) => *bits != 8 || *maus < 1 || *maus > 8,
         _ => false,
     }
 }

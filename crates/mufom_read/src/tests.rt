@@ -82,7 +82,7 @@ const REFUSED: [Refused; 55] = [
     (Row::Byte(14, 0xD3), 13, Reason::BadHeader),
     (Row::Byte(10, 0x89), 10, Reason::BadNumber),
     (Row::Byte(10, 0x10), 9, Reason::BadDescriptor),
-    (Row::Byte(11, 0x05), 9, Reason::BadDescriptor),
+    (Row::Byte(11, 0x09), 9, Reason::BadDescriptor),
     (Row::Byte(76, 0x00), 69, Reason::OffsetOrder),
     (Row::Byte(60, 0x40), 53, Reason::OffsetOrder),
     (Row::Byte(36, 0x4E), 77, Reason::PartGap),

@@ -1,32 +1,16 @@
-use Rattle.std.proofs.Common.{◌+◌, ◌∷◌, ◌++◌, drop, length, sym, ap, ◌∙◌, append_assoc, arith}
+use Rattle.std.proofs.Common.{List, ◌++◌, sym, ap, ◌∙◌, append_assoc}
 use Rattle.std.specs.List.{flat_map}
-use Rattle.std.proofs.lemmas.List.{drop_more}
-use Rattle.std.proofs.lemmas.List.Sums.{sum_by-drop_more}
+use Rattle.mufom_place.specs.declared.site.Waiting.{Waiting}
 use Rattle.mufom_place.specs.Bases.{packed}
 use Rattle.mufom_place.specs.Packing.{end_of}
 use Rattle.mufom_place.proofs.PackingLemmas.{packed-append}
 use Rattle.mufom_place.proofs.bases.pack_region.Goals as goal
 
-pub loop-waiting-preserved : goal.loop-waiting-preserved
-loop-waiting-preserved c =
-    let entries = c.args.entries.now in
-    let i = c.loop-waiting.waiting-index in
-    let before = c.loop-waiting.placings in
-    let end = c.loop-waiting.end in
-    let item = c.waiting-item.result in
-    let more = flat_map (λ waiting. waiting) (drop (i + 1) entries) in
-    let next = drop_more entries i item c.loop-waiting-test.true ∙ ap (λ w. w ∷ drop (i + 1) entries) (sym c.waiting-item.is) in
-    let packs = ap (packed c.args.region end) c.as_slice.ensures in
-    let after = c.in_ok-end.ensures.end ∙ ap (end_of end) c.as_slice.ensures in
-    let total = sum_by-drop_more length entries i item c.loop-waiting-test.true in
-    let long = ap length c.as_slice.ensures in
-    let long_item = ap length c.waiting-item.is in
-    record {
-      placed = c.loop-waiting.invariant.placed
-          ∙ ap (λ rest. before ++ packed c.args.region end (flat_map (λ waiting. waiting) rest)) next
-          ∙ ap (λ rest. before ++ rest) (packed-append c.args.region end item more)
-          ∙ sym (append_assoc before (packed c.args.region end item) (packed c.args.region (end_of end item) more))
-          ∙ (λ j. (before ++ sym packs j) ++ packed c.args.region (sym after j) more)
-          ∙ ap (λ all. all ++ packed c.args.region c.in_ok-end.end more) (sym c.in_ok-end.ensures.placed);
-      bound = let bound = c.in_ok-end.ensures.bound in let before_bound = c.loop-waiting.invariant.bound in omega (arith, total, long, long_item, bound, before_bound);
-    }
+pub returns : goal.returns
+returns c =
+    let all = flat_map (λ (waiting : List Waiting). waiting) c.args.entries.now in
+    let region = c.args.region in
+    c.in_ok-pack.ensures.placed
+    ∙ (λ i. c.in_ok-end.ensures.placed i ++ packed region (c.in_ok-end.ensures.end i) c.args.commons.now)
+    ∙ append_assoc c.args.placings.now (packed region c.args.base all) (packed region (end_of c.args.base all) c.args.commons.now)
+    ∙ ap (λ more. c.args.placings.now ++ more) (sym (packed-append region c.args.base all c.args.commons.now))
