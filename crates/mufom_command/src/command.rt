@@ -2,7 +2,7 @@
 
 ghost use Rattle.std.specs.Prelude.{◌≡◌, ◌⊎◌, ◌<◌, ◌≤◌, ◌^◌, ◌∷◌, [], ℕ, List, true, Ok, length, map, flat_map, IfErr, IfOk, OnSome};
 ghost use Rattle.std.specs.String.{string_bytes};
-ghost use Rattle.mufom_host.specs.World.{GrowsBy, KeepsAllButComplaints, KeepsAllButErr, KeepsAllButOut, KeepsAllButWrites};
+ghost use Rattle.mufom_host.specs.World.{GrowsBy, OnlyPrints, OnlyPrintsErrors};
 ghost use Rattle.mufom_command.specs.Complaint.{complaint};
 ghost use Rattle.mufom_command.specs.Plain.{IsPlainModule, Refuses, Image as PlainImage};
 ghost use Rattle.mufom_command.specs.Run.{Answers, Complains, Dumps, IsPrinted, IsPrintedAs, Lists, MakesNothing, NoneFalls, OpensPrefix, ReadsAndPrints, Reveals, stop_answer};
@@ -66,9 +66,7 @@ fn dump<H: Host>(alloc: Global, name: &str, host: &mut H) -> Outcome
 fn print_lines<H: Host>(alloc: Global, modules: &[Module], host: &mut H) -> Outcome
     ensures answer { IsPrinted (check_text modules.now) (H.meaning host.old).out (H.meaning host.new).out (H.faults host.old).writes
         (H.faults host.new).writes result }
-    ensures stays { KeepsAllButOut (H.meaning host.old) (H.meaning host.new) }
-    ensures counts { KeepsAllButWrites (H.faults host.old) (H.faults host.new) }
-    ensures later { (H.faults host.old).writes ≤ (H.faults host.new).writes }
+    ensures only { OnlyPrints (H.meaning host.old) (H.meaning host.new) (H.faults host.old) (H.faults host.new) }
 {
     let Ok(lines) = module_lines(alloc, modules) else {
         return Outcome::NoMemory;
@@ -84,9 +82,7 @@ fn print_text<H: Host>(alloc: Global, modules: &[Module], host: &mut H) -> Outco
     requires { length modules.now ≡ 1 }
     ensures answer { IsPrinted (flat_map module_text modules.now) (H.meaning host.old).out (H.meaning host.new).out
         (H.faults host.old).writes (H.faults host.new).writes result }
-    ensures stays { KeepsAllButOut (H.meaning host.old) (H.meaning host.new) }
-    ensures counts { KeepsAllButWrites (H.faults host.old) (H.faults host.new) }
-    ensures later { (H.faults host.old).writes ≤ (H.faults host.new).writes }
+    ensures only { OnlyPrints (H.meaning host.old) (H.meaning host.new) (H.faults host.old) (H.faults host.new) }
 {
     match print_module(alloc, host, &modules[0]) {
         Ok(()) => Outcome::Done,
@@ -127,9 +123,7 @@ fn show<H: Host>(alloc: Global, names: &[Text], reads_debug: bool, host: &mut H)
 // Complains a line; where that fails the line, or its end, is lost.
 fn print_error<H: Host>(line: &[u8], host: &mut H)
     ensures reveals { Reveals (H.meaning host.old) (H.meaning host.new) (H.faults host.old) (H.faults host.new) line.now }
-    ensures stays { KeepsAllButErr (H.meaning host.old) (H.meaning host.new) }
-    ensures counts { KeepsAllButComplaints (H.faults host.old) (H.faults host.new) }
-    ensures later { (H.faults host.old).complaints ≤ (H.faults host.new).complaints }
+    ensures only { OnlyPrintsErrors (H.meaning host.old) (H.meaning host.new) (H.faults host.old) (H.faults host.new) }
 {
     match host.complain(line) {
         Ok(()) => {}
@@ -141,9 +135,7 @@ fn print_error<H: Host>(line: &[u8], host: &mut H)
 fn out_of_memory<H: Host>(host: &mut H) -> Outcome
     ensures same { result ≡ Outcome.NoMemory }
     ensures reveals { Reveals (H.meaning host.old) (H.meaning host.new) (H.faults host.old) (H.faults host.new) (complaint Outcome.NoMemory) }
-    ensures stays { KeepsAllButErr (H.meaning host.old) (H.meaning host.new) }
-    ensures counts { KeepsAllButComplaints (H.faults host.old) (H.faults host.new) }
-    ensures later { (H.faults host.old).complaints ≤ (H.faults host.new).complaints }
+    ensures only { OnlyPrintsErrors (H.meaning host.old) (H.meaning host.new) (H.faults host.old) (H.faults host.new) }
 {
     print_error(b"out of memory\n", host);
     Outcome::NoMemory
@@ -154,9 +146,7 @@ fn out_of_memory<H: Host>(host: &mut H) -> Outcome
 fn complain<H: Host>(alloc: Global, outcome: Outcome, host: &mut H) -> Outcome
     ensures same { IsPrintedAs outcome result }
     ensures complains { Complains (H.meaning host.old) (H.meaning host.new) (H.faults host.old) (H.faults host.new) result }
-    ensures stays { KeepsAllButErr (H.meaning host.old) (H.meaning host.new) }
-    ensures counts { KeepsAllButComplaints (H.faults host.old) (H.faults host.new) }
-    ensures later { (H.faults host.old).complaints ≤ (H.faults host.new).complaints }
+    ensures only { OnlyPrintsErrors (H.meaning host.old) (H.meaning host.new) (H.faults host.old) (H.faults host.new) }
 {
     match outcome {
         Outcome::Done => {}

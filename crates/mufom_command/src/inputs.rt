@@ -2,7 +2,7 @@
 
 ghost use Rattle.std.specs.Prelude.{◌≡◌, ◌<◌, ◌≤◌, ◌^◌, ◌∷◌, [], ℕ, List, length, IfErr, IfOk, IfSome, OnSome};
 ghost use Rattle.mufom_module.specs.declared.module.Parts.{Parts as module_parts};
-ghost use Rattle.mufom_host.specs.World.{GrowsBy, KeepsAllButOpened, KeepsAllButReads};
+ghost use Rattle.mufom_host.specs.World.{GrowsBy, OnlyOpens};
 ghost use Rattle.mufom_command.specs.FilesRead.{FileStops, HasModule, outcome_of_source_stop};
 ghost use Rattle.mufom_command.specs.Inputs.{ComeTo, accepted, most_input_bytes};
 ghost use Rattle.mufom_command.specs.Run.{Lists, FileHas, OpensPrefix};
@@ -44,9 +44,7 @@ fn read_file<H: Host>(
         (λ stop. FileStops reads_debug name.now file limit (H.meaning host.old).files (H.faults host.old) (H.faults host.new) stop) }
     ensures opened { OnSome (H.meaning host.new).opened (GrowsBy (H.meaning host.old).opened (H.meaning host.new).opened (name.now ∷ [])) }
     ensures opens { IfOk result (λ read. GrowsBy (H.meaning host.old).opened (H.meaning host.new).opened (name.now ∷ [])) }
-    ensures stays { KeepsAllButOpened (H.meaning host.old) (H.meaning host.new) }
-    ensures counts { KeepsAllButReads (H.faults host.old) (H.faults host.new) }
-    ensures later { (H.faults host.old).reads ≤ (H.faults host.new).reads }
+    ensures only { OnlyOpens (H.meaning host.old) (H.meaning host.new) (H.faults host.old) (H.faults host.new) }
 {
     let Ok(()) = host.open(name) else {
         return Err(Outcome::ReadFault(Input::File(file)));
@@ -71,9 +69,7 @@ pub(crate) fn read_files<H: Host>(
     ensures stops { IfErr result (λ stop. (text : List module_parts → List ℕ)
         → Lists reads_debug text names.now (H.meaning host.old) (H.meaning host.new) (H.faults host.old) (H.faults host.new) stop) }
     ensures opened { IfErr result (λ stop. OpensPrefix names.now (H.meaning host.old) (H.meaning host.new) stop) }
-    ensures stays { KeepsAllButOpened (H.meaning host.old) (H.meaning host.new) }
-    ensures counts { KeepsAllButReads (H.faults host.old) (H.faults host.new) }
-    ensures later { (H.faults host.old).reads ≤ (H.faults host.new).reads }
+    ensures only { OnlyOpens (H.meaning host.old) (H.meaning host.new) (H.faults host.old) (H.faults host.new) }
 {
     let mut modules = List::new(alloc);
     let mut room = MOST_INPUT_BYTES;

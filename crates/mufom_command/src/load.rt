@@ -1,7 +1,7 @@
 //! Reading a file's bytes.
 
 ghost use Rattle.std.specs.Prelude.{◌≡◌, ◌⊎◌, ◌<◌, ◌≤◌, ◌∷◌, ◌++◌, [], length, take, IfErr, IfOk, IfSome, OnOk, OnSome};
-ghost use Rattle.mufom_host.specs.World.{GrowsBy, KeepsAllButLeft, KeepsAllButOpened, KeepsAllButReads, Reads, Rose};
+ghost use Rattle.mufom_host.specs.World.{GrowsBy, OnlyOpens, OnlyReads, Reads, Rose};
 ghost use Rattle.mufom_command.specs.Run.{FileHas, IsEnoughOf};
 
 use crate::judging::MOST_BYTES;
@@ -38,9 +38,7 @@ fn read_chunk<S: Source>(
     ensures added { IfOk result (λ n. bytes.new.items ≡ bytes.old.items ++ take n buffer.new) }
     ensures reads { IfOk result (λ n. Reads (S.meaning source.old).left (S.meaning source.new).left (Ok n) buffer.new) }
     ensures cause { result ≡ Err Halt.Fault → Rose (S.faults source.old).reads (S.faults source.new).reads }
-    ensures stays { KeepsAllButLeft (S.meaning source.old) (S.meaning source.new) }
-    ensures counts { KeepsAllButReads (S.faults source.old) (S.faults source.new) }
-    ensures later { (S.faults source.old).reads ≤ (S.faults source.new).reads }
+    ensures only { OnlyReads (S.meaning source.old) (S.meaning source.new) (S.faults source.old) (S.faults source.new) }
 {
     match source.read(buffer) {
         Ok(count) => {
@@ -57,9 +55,7 @@ fn read_bytes<S: Source>(source: &mut S, buffer: &mut [u8], bytes: &mut Vec<u8>)
     requires none_before { bytes.old.items ≡ [] }
     ensures bytes { OnOk result (IfSome (S.meaning source.old).left (λ left. IsEnoughOf left bytes.new.items)) }
     ensures cause { result ≡ Err Halt.Fault → Rose (S.faults source.old).reads (S.faults source.new).reads }
-    ensures stays { KeepsAllButLeft (S.meaning source.old) (S.meaning source.new) }
-    ensures counts { KeepsAllButReads (S.faults source.old) (S.faults source.new) }
-    ensures later { (S.faults source.old).reads ≤ (S.faults source.new).reads }
+    ensures only { OnlyReads (S.meaning source.old) (S.meaning source.new) (S.faults source.old) (S.faults source.new) }
 {
     while bytes.len() <= MOST_BYTES {
         match read_chunk(source, buffer, bytes) {
@@ -77,9 +73,7 @@ pub(crate) fn load<H: Host>(alloc: Global, name: &str, host: &mut H) -> Result<V
     ensures stops { IfErr result (λ stop. ((stop ≡ Outcome.ReadFault (Input.File 0))
         × Rose (H.faults host.old).reads (H.faults host.new).reads) ⊎ (stop ≡ Outcome.NoMemory)) }
     ensures opened { OnSome (H.meaning host.new).opened (GrowsBy (H.meaning host.old).opened (H.meaning host.new).opened (name.now ∷ [])) }
-    ensures stays { KeepsAllButOpened (H.meaning host.old) (H.meaning host.new) }
-    ensures counts { KeepsAllButReads (H.faults host.old) (H.faults host.new) }
-    ensures later { (H.faults host.old).reads ≤ (H.faults host.new).reads }
+    ensures only { OnlyOpens (H.meaning host.old) (H.meaning host.new) (H.faults host.old) (H.faults host.new) }
 {
     let fault = Outcome::ReadFault(Input::File(0));
     let Ok(()) = host.open(name) else {

@@ -191,3 +191,25 @@ KeepsAllButErr old new = new ≡ record old { err = new.err }
 -- of the calls that make a file: its create, its writes and its finish
 abbrev pub KeepsAllButFile : Meaning → Meaning → Type 0
 KeepsAllButFile old new = new ≡ record old { making = new.making; made = new.made; created = new.created }
+
+-- ---- calls of one kind alone: all else outside stays, and the count of such faults does not fall
+
+-- nothing but the open input is read
+abbrev pub OnlyReads : Meaning → Meaning → Faults → Faults → Type 0
+OnlyReads old new before after = KeepsAllButLeft old new × KeepsAllButReads before after × (before.reads ≤ after.reads)
+
+-- files are opened and read
+abbrev pub OnlyOpens : Meaning → Meaning → Faults → Faults → Type 0
+OnlyOpens old new before after = KeepsAllButOpened old new × KeepsAllButReads before after × (before.reads ≤ after.reads)
+
+-- the file being made is written
+abbrev pub OnlyWrites : Meaning → Meaning → Faults → Faults → Type 0
+OnlyWrites old new before after = KeepsAllButMaking old new × KeepsAllButWrites before after × (before.writes ≤ after.writes)
+
+-- text is printed
+abbrev pub OnlyPrints : Meaning → Meaning → Faults → Faults → Type 0
+OnlyPrints old new before after = KeepsAllButOut old new × KeepsAllButWrites before after × (before.writes ≤ after.writes)
+
+-- an error line is printed
+abbrev pub OnlyPrintsErrors : Meaning → Meaning → Faults → Faults → Type 0
+OnlyPrintsErrors old new before after = KeepsAllButErr old new × KeepsAllButComplaints before after × (before.complaints ≤ after.complaints)

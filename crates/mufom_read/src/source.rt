@@ -2,7 +2,7 @@
 
 ghost use Rattle.std.specs.Prelude.{◌≡◌, ◌≢◌, ◌↔◌, ◌<◌, ◌≤◌, ◌*◌, ℕ, List, [], length, take, Some, Err, IfOk, IfSome};
 ghost use Rattle.mufom_numbers.specs.declared.reason.Reason.{Reason};
-ghost use Rattle.mufom_host.specs.World.{KeepsAllButLeft, KeepsAllButReads, Rose};
+ghost use Rattle.mufom_host.specs.World.{OnlyReads, Rose};
 ghost use Rattle.mufom_module.specs.Grammar.{file_limit};
 ghost use Rattle.mufom_module.specs.Written.{weight};
 ghost use Rattle.mufom_read.specs.Judging.{IsModule};
@@ -74,9 +74,7 @@ fn read_chunk<S: Source>(
         → HasReadChunk room (S.meaning source.old).left (S.meaning source.new).left stream reader.new result }
     ensures reads_debug { reads_debug_of reader.new ≡ reads_debug_of reader.old }
     ensures fault { result ≡ Err SourceStop.Fault → Rose (S.faults source.old).reads (S.faults source.new).reads }
-    ensures stays { KeepsAllButLeft (S.meaning source.old) (S.meaning source.new) }
-    ensures counts { KeepsAllButReads (S.faults source.old) (S.faults source.new) }
-    ensures later { (S.faults source.old).reads ≤ (S.faults source.new).reads }
+    ensures only { OnlyReads (S.meaning source.old) (S.meaning source.new) (S.faults source.old) (S.faults source.new) }
 {
     match source.read(buffer) {
         Err(Failed) => Err(SourceStop::Fault),
@@ -99,9 +97,7 @@ fn read_all<S: Source>(
     ensures read { HasReadAll limit (S.meaning source.old).left (S.meaning source.new).left reader.new result }
     ensures reads_debug { reads_debug_of reader.new ≡ reads_debug_of reader.old }
     ensures fault { result ≡ Err SourceStop.Fault → Rose (S.faults source.old).reads (S.faults source.new).reads }
-    ensures stays { KeepsAllButLeft (S.meaning source.old) (S.meaning source.new) }
-    ensures counts { KeepsAllButReads (S.faults source.old) (S.faults source.new) }
-    ensures later { (S.faults source.old).reads ≤ (S.faults source.new).reads }
+    ensures only { OnlyReads (S.meaning source.old) (S.meaning source.new) (S.faults source.old) (S.faults source.new) }
 {
     let mut length = 0;
     loop {
@@ -138,9 +134,7 @@ pub fn read_module<S: Source>(
     ensures limit { IfSome (S.meaning source.old).left (λ left. result ≢ Err SourceStop.NoMemory → result ≢ Err SourceStop.Fault
         → (result ≡ Err SourceStop.Limit) ↔ IsPastLimit reads_debug limit left) }
     ensures fault { result ≡ Err SourceStop.Fault → Rose (S.faults source.old).reads (S.faults source.new).reads }
-    ensures stays { KeepsAllButLeft (S.meaning source.old) (S.meaning source.new) }
-    ensures counts { KeepsAllButReads (S.faults source.old) (S.faults source.new) }
-    ensures later { (S.faults source.old).reads ≤ (S.faults source.new).reads }
+    ensures only { OnlyReads (S.meaning source.old) (S.meaning source.new) (S.faults source.old) (S.faults source.new) }
 {
     let Ok(mut buffer) = vec![in alloc; 0u8; BUFFER] else {
         return Err(SourceStop::NoMemory);

@@ -1,5 +1,5 @@
 ghost use Rattle.std.specs.Prelude.{◌≡◌, ◌≤◌, Err, OnOk, take};
-ghost use Rattle.mufom_host.specs.World.{Grows, GrowsBy, GrowsByPrefix, HasCause, KeepsAllButOut, KeepsAllButWrites, Rose};
+ghost use Rattle.mufom_host.specs.World.{Grows, GrowsBy, GrowsByPrefix, HasCause, KeepsAllButOut, KeepsAllButWrites, OnlyPrints, Rose};
 ghost use Rattle.mufom_module.specs.Defects.{IsValid};
 ghost use Rattle.mufom_text.specs.Printing.{Puts};
 ghost use Rattle.mufom_text.specs.Show.{module_text};
@@ -79,9 +79,7 @@ pub fn print_module<H: Host>(alloc: Global, host: &mut H, object: &Module) -> Re
         → GrowsByPrefix (H.meaning host.old).out (H.meaning host.new).out (module_text object.now)
         × Rose (H.faults host.old).writes (H.faults host.new).writes }
     ensures unmade { result ≡ Err PrintStop.NoMemory → (H.meaning host.new).out ≡ (H.meaning host.old).out }
-    ensures stays { KeepsAllButOut (H.meaning host.old) (H.meaning host.new) }
-    ensures counts { KeepsAllButWrites (H.faults host.old) (H.faults host.new) }
-    ensures later { (H.faults host.old).writes ≤ (H.faults host.new).writes }
+    ensures only { OnlyPrints (H.meaning host.old) (H.meaning host.new) (H.faults host.old) (H.faults host.new) }
 {
     let Ok(room) = room(alloc) else {
         return Err(PrintStop::NoMemory);

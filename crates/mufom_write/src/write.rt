@@ -1,5 +1,5 @@
 ghost use Rattle.std.specs.Prelude.{◌≡◌, ◌≤◌, true, length, OnOk, OnErr};
-ghost use Rattle.mufom_host.specs.World.{MakingGrowsBy, MakingGrowsByPrefix, KeepsAllButMaking, KeepsAllButWrites, Rose};
+ghost use Rattle.mufom_host.specs.World.{MakingGrowsBy, MakingGrowsByPrefix, OnlyWrites, Rose};
 ghost use Rattle.mufom_module.specs.Written.{written};
 ghost use Rattle.mufom_module.specs.Defects.{IsValid};
 ghost use Rattle.mufom_module.specs.Grammar.{file_limit, SpellsModule};
@@ -44,10 +44,8 @@ pub fn write_module<K: Sink>(module: &Module, sink: &mut K) -> Result<(), WriteS
     ensures whole { OnOk result (MakingGrowsBy (K.meaning sink.old).making (K.meaning sink.new).making (written «module».now)) }
     ensures prefix { OnErr result (MakingGrowsByPrefix (K.meaning sink.old).making (K.meaning sink.new).making (written «module».now)) }
     ensures spells { length (written «module».now) ≤ file_limit → SpellsModule «module».now (written «module».now) true }
-    ensures stays { KeepsAllButMaking (K.meaning sink.old) (K.meaning sink.new) }
-    ensures later { (K.faults sink.old).writes ≤ (K.faults sink.new).writes }
+    ensures only { OnlyWrites (K.meaning sink.old) (K.meaning sink.new) (K.faults sink.old) (K.faults sink.new) }
     ensures cause { OnErr result (Rose (K.faults sink.old).writes (K.faults sink.new).writes) }
-    ensures counts { KeepsAllButWrites (K.faults sink.old) (K.faults sink.new) }
 {
     match write_form(sink, module.parts()) {
         Ok(()) => Ok(()),

@@ -8,7 +8,7 @@ returns-in-Ok-clause-opened g c =
     let read = c.in-Ok.ensures in let printed = c.print_lines.ensures in
     listed_opens c.args.reads_debug check_text c.args.names.now c.in-Ok.modules (g.H.World.meaning c.args.host.now) (g.H.World.meaning c.read_files.new.host) (g.H.World.meaning c.print_lines.new.host)
     (g.H.World.faults c.args.host.now) (g.H.World.faults c.read_files.new.host) (g.H.World.faults c.print_lines.new.host)
-    read.read read.all c.read_files.ensures.stays c.read_files.ensures.counts c.read_files.ensures.later printed.stays printed.counts printed.later c.print_lines.result (rw c.as_slice.ensures at printed.answer)
+    read.read read.all c.read_files.ensures.only.0 c.read_files.ensures.only.1 c.read_files.ensures.only.2 printed.only.0 printed.only.1 printed.only.2 c.print_lines.result (rw c.as_slice.ensures at printed.answer)
 
 pub returns-in-Err-clause-answer : goal.returns-in-Err-clause-answer
 returns-in-Err-clause-answer g c = c.in-Err.ensures.stops check_text

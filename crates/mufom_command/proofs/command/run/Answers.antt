@@ -5,4 +5,4 @@ pub returns-clause-answers : goal.returns-clause-answers
 returns-clause-answers g c =
     answers_then_known _ (g.H.World.meaning c.args.host.now) (g.H.World.meaning c.answer-outcome.new.host) (g.H.World.meaning c.complain.new.host)
     (g.H.World.faults c.args.host.now) (g.H.World.faults c.answer-outcome.new.host) (g.H.World.faults c.complain.new.host)
-    c.answer-outcome.result c.complain.result c.complain.ensures.stays c.complain.ensures.counts c.complain.ensures.same c.answer-outcome.ensures.answers
+    c.answer-outcome.result c.complain.result c.complain.ensures.only.0 c.complain.ensures.only.1 c.complain.ensures.same c.answer-outcome.ensures.answers

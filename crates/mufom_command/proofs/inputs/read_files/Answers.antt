@@ -10,7 +10,7 @@ returns-in-Err-clause-stops g c =
     let is : name ≡ get_or names i name = c.as_str-name.ensures ∙ c.index-names-number.is ∙ ap (get_or names i) (sym c.as_str-name.ensures) in
     λ text. stop_answers c.args.reads_debug names i name _ c.loop-number.room (g.H.World.meaning c.args.host.now) (g.H.World.meaning c.loop-number.host) (g.H.World.meaning c.read_file.new.host)
     (g.H.World.faults c.args.host.now) (g.H.World.faults c.loop-number.host) (g.H.World.faults c.read_file.new.host) c.loop-number.invariant
-    (names_more names i name inside is) c.read_file.ensures.stays c.read_file.ensures.counts c.read_file.ensures.later
+    (names_more names i name inside is) c.read_file.ensures.only.0 c.read_file.ensures.only.1 c.read_file.ensures.only.2
     text c.in-Err.stop (names_split names i name inside is) (names_before names i name inside is) c.in-Err.ensures.stops
 
 pub returns-in-Err-clause-opened : goal.returns-in-Err-clause-opened
@@ -20,7 +20,7 @@ returns-in-Err-clause-opened g c =
     let is : name ≡ get_or names i name = c.as_str-name.ensures ∙ c.index-names-number.is ∙ ap (get_or names i) (sym c.as_str-name.ensures) in
     stop_opens c.args.reads_debug names i name _ c.loop-number.room (g.H.World.meaning c.args.host.now) (g.H.World.meaning c.loop-number.host) (g.H.World.meaning c.read_file.new.host)
     (g.H.World.faults c.args.host.now) (g.H.World.faults c.loop-number.host) (g.H.World.faults c.read_file.new.host) c.loop-number.invariant
-    (names_more names i name inside is) c.read_file.ensures.stays c.read_file.ensures.counts c.read_file.ensures.later
+    (names_more names i name inside is) c.read_file.ensures.only.0 c.read_file.ensures.only.1 c.read_file.ensures.only.2
     c.in-Err.stop inside c.in-Err.ensures.stops c.read_file.ensures.opened
 
 pub returns-in-Err-push-clause-opened : goal.returns-in-Err-push-clause-opened
@@ -30,7 +30,7 @@ returns-in-Err-push-clause-opened g c =
     let is : name ≡ get_or names i name = c.as_str-name.ensures ∙ c.index-names-number.is ∙ ap (get_or names i) (sym c.as_str-name.ensures) in
     stop_opens c.args.reads_debug names i name _ c.loop-number.room (g.H.World.meaning c.args.host.now) (g.H.World.meaning c.loop-number.host) (g.H.World.meaning c.read_file.new.host)
     (g.H.World.faults c.args.host.now) (g.H.World.faults c.loop-number.host) (g.H.World.faults c.read_file.new.host) c.loop-number.invariant
-    (names_more names i name inside is) c.read_file.ensures.stays c.read_file.ensures.counts c.read_file.ensures.later
+    (names_more names i name inside is) c.read_file.ensures.only.0 c.read_file.ensures.only.1 c.read_file.ensures.only.2
     outcome.NoMemory inside tt c.read_file.ensures.opened
 
 pub loop-number-preserved : goal.loop-number-preserved
@@ -41,5 +41,5 @@ loop-number-preserved g c =
     rw (c.in-Ok-push.ensures.ok, c.saturating_sub-room.ensures)
     (have_read_more c.args.reads_debug names i name c.loop-number.modules c.loop-number.room (g.H.World.meaning c.args.host.now) (g.H.World.meaning c.loop-number.host) (g.H.World.meaning c.read_file.new.host)
     (g.H.World.faults c.args.host.now) (g.H.World.faults c.loop-number.host) (g.H.World.faults c.read_file.new.host) c.loop-number.invariant
-    (names_more names i name inside is) c.read_file.ensures.stays c.read_file.ensures.counts c.read_file.ensures.later
+    (names_more names i name inside is) c.read_file.ensures.only.0 c.read_file.ensures.only.1 c.read_file.ensures.only.2
     c.in-Ok.read.0 c.in-Ok.read.1 c.in-Ok.ensures.read c.in-Ok.ensures.opens)

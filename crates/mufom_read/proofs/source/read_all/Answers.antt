@@ -30,4 +30,4 @@ loop-count-preserved g c =
     come-on c.args.limit c.loop-count.length (reads_debug_of c.args.reader.now) c.loop-count.reader c.read_chunk.new.reader
     (g.S.World.meaning c.args.source.now) (g.S.World.meaning c.loop-count.source) (g.S.World.meaning c.read_chunk.new.source)
     (g.S.World.faults c.args.source.now) (g.S.World.faults c.loop-count.source) (g.S.World.faults c.read_chunk.new.source)
-    c.in_ok-count.count come (c.in_ok-count.ensures.read come.bytes come.read) c.read_chunk.ensures.reads_debug c.read_chunk.ensures.stays c.read_chunk.ensures.counts c.read_chunk.ensures.later
+    c.in_ok-count.count come (c.in_ok-count.ensures.read come.bytes come.read) c.read_chunk.ensures.reads_debug c.read_chunk.ensures.only.0 c.read_chunk.ensures.only.1 c.read_chunk.ensures.only.2
