@@ -1,6 +1,6 @@
 -- A module without a defect may be placed, and a slice of such modules is a list of them.
 use Rattle.std.proofs.Common.{◌≡◌, ℕ, ◌+◌, ◌*◌, ◌<◌, ◌≤◌, ◌^◌, ◌⊎◌, inl, inr, List, [], ◌∷◌, take, drop, length, ◌-◌, None, Bool, true, false, sym, ◌∙◌, ap, subst, arith, rules, sum_by, append-nil, length-append}
-use Rattle.std.specs.Prelude.{All, ◌==◌, ◌||◌, if◌then◌else◌}
+use Rattle.std.specs.Prelude.{nat_le, All, ◌==◌, if◌then◌else◌}
 use Rattle.std.specs.Str.{bytes_eq}
 use Rattle.std.proofs.Math.Nat.{mul-mod_right}
 use Rattle.std.proofs.Math.Seq.{take-append_seam, drop-append_seam}
@@ -20,9 +20,9 @@ use Rattle.mufom_place.specs.Facts.{IsAddressWidth, IsAligned, HasNoBase, sectio
 use Rattle.mufom_meaning.specs.Flat.{distinct, flat_sections, flat_references, commons, common_names}
 use Rattle.mufom_meaning.specs.Placed.{common_section, common_sections, placed_commons, extended_sections}
 use Rattle.mufom_meaning.specs.CallLaws.{MayBePlaced, ModulesMayBePlaced, AreValidIsAll}
-use Rattle.mufom_meaning.proofs.Choices.{equal_numbers, of_not_lt, of_not_le}
-use Rattle.mufom_meaning.proofs.Tests.{either, either_false}
-use Rattle.mufom_meaning.proofs.facts.Answers.{not_false}
+use Rattle.mufom_meaning.proofs.Choices.{of_not_lt, of_not_le}
+use Rattle.mufom_meaning.proofs.Tests.{le_of, either_false}
+use Rattle.mufom_meaning.proofs.facts.Answers.{both, not_false}
 use Rattle.mufom_meaning.proofs.Members.{In, In-append, map-In, fails-In, All-In}
 use Rattle.mufom_meaning.proofs.NoDefects.{no_defect}
 use Rattle.mufom_meaning.proofs.absolute.Entries.{lettered, asked_weight, asked-lighter, lighter-all}
@@ -43,17 +43,7 @@ times {X} n (x ∷ xs) =
     let more : n * length (x ∷ xs) ≡ n + n * length xs = omega arith in omega (arith, a, rest, more)
 
 units : (n : ℕ) → is_unit_count n ≡ true → (1 ≤ n) × (n ≤ 8)
-units n e = first (either (n == 2) ((n == 3) || (n == 4)) e) where
-  is : (k : ℕ) → (n == k) ≡ true → 1 ≤ k → k ≤ 8 → (1 ≤ n) × (n ≤ 8)
-  is k e low high = let same = equal_numbers n k e in (omega (arith, same, low), omega (arith, same, high))
-
-  second : ((n == 3) ≡ true) ⊎ ((n == 4) ≡ true) → (1 ≤ n) × (n ≤ 8)
-  second (inl e) = is 3 e (omega arith) (omega arith)
-  second (inr e) = is 4 e (omega arith) (omega arith)
-
-  first : ((n == 2) ≡ true) ⊎ (((n == 3) || (n == 4)) ≡ true) → (1 ≤ n) × (n ≤ 8)
-  first (inl e) = is 2 e (omega arith) (omega arith)
-  first (inr e) = second (either (n == 3) (n == 4) e)
+units n e = let two = both (nat_le 1 n) (nat_le n 8) e in (le_of 1 n two.0, le_of n 8 two.1)
 
 eight_bits : (n : ℕ) → is_unit_count n ≡ true → IsAddressWidth (8 * n)
 eight_bits n e = let two = units n e in

@@ -1,8 +1,8 @@
 -- Worked examples of placement, loads, facts and selection: the definitions compute the expected answers.
 use Rattle.std.proofs.Common.{◌≡◌, ℕ, List, [], ◌∷◌, ◌++◌, map, Some, None, true, false, refl}
 use Rattle.std.specs.Prelude.{codes}
-use Rattle.mufom_expr.specs.declared.token.FieldKind.TheVariants.{Signed, Either}
-use Rattle.mufom_expr.specs.declared.token.Letter.TheVariants.{P}
+use Rattle.mufom_expr.specs.declared.token.FieldKind.TheVariants.{Signed, Unsigned, Either}
+use Rattle.mufom_expr.specs.declared.token.Letter.TheVariants.{P, R}
 use Rattle.mufom_expr.specs.Tree.{number, variable, two, divided}
 use Rattle.mufom_sections.specs.declared.section.Section.{Section}
 use Rattle.mufom_loads.specs.declared.load.Item.TheVariants.{Literal, Field}
@@ -91,6 +91,35 @@ overflows_128 = refl
 overflows_minus_129 : locate_answer (signed_byte 4294967167) (plan_of []) ≡ Some (overflow 0 0 Signed 1 4294967167)
 unfolding locate_answer counter value_within
 overflows_minus_129 = refl
+
+-- Addresses of one unit and of eight.
+abbrev one_unit : List Parts
+one_unit = record (a_module (absolute_at 252 4 ∷ []) [] [] (SetSection 0 ∷ Repeat 4 (Field Unsigned (variable P 0) 1 ∷ []) ∷ [])) { maus = 1 } ∷ []
+
+one_unit_image : image_of one_unit (plan_of []) ≡ (252, 252) ∷ (253, 253) ∷ (254, 254) ∷ (255, 255) ∷ []
+unfolding readings counter value_within
+one_unit_image = refl
+
+one_unit_fits : locate_answer one_unit (plan_of []) ≡ None
+unfolding locate_answer counter value_within
+one_unit_fits = refl
+
+abbrev eight_units : ℕ → List Parts
+eight_units size =
+    record (a_module (absolute_at 18446744073709551612 size ∷ []) [] [] (SetSection 0 ∷ One (Field Signed (variable R 0) 4) ∷ [])) { maus = 8 } ∷ []
+
+eight_units_image : image_of (eight_units 4) (plan_of [])
+    ≡ (18446744073709551612, 255) ∷ (18446744073709551613, 255) ∷ (18446744073709551614, 255) ∷ (18446744073709551615, 252) ∷ []
+unfolding readings counter value_within
+eight_units_image = refl
+
+eight_units_fit : locate_answer (eight_units 4) (plan_of []) ≡ None
+unfolding locate_answer counter value_within
+eight_units_fit = refl
+
+eight_units_misfit : locate_answer (eight_units 5) (plan_of []) ≡ Some (placement (Misfit 0 None))
+unfolding locate_answer
+eight_units_misfit = refl
 
 -- A repeated field is worth what the counter is at each copy.
 abbrev repeated_counter : List Parts
