@@ -1,5 +1,6 @@
 -- What a whole prefix states, as the code keeps it.
-use Rattle.std.proofs.Common.{◌≡◌, ℕ, ◌<◌, ◌==◌, ◌||◌, ◌≤◌, Bool, true, false, List, [], ◌∷◌, map, refl, sym, ap, subst, ◌∙◌, arith, eqb-true, slice_get, Option, Some, None, option_to_list, is_some, drop, get_or, ◌+◌, length}
+use Rattle.std.proofs.Common.{◌≡◌, ℕ, ◌<◌, ◌==◌, ◌||◌, ◌≤◌, Bool, true, false, List, [], ◌∷◌, map, refl, sym, ap, subst, ◌∙◌, arith, eqb-true, slice_get, Option, Some, None, option_to_list, is_some, drop, get_or, ◌+◌, length, nat_le}
+use Rattle.std.proofs.lemmas.Bool.{and_parts, leb-true}
 use Rattle.std.specs.List.{cons_option}
 use Rattle.mufom_expr.specs.Spelled.{Indexes}
 use Rattle.mufom_expr.specs.Tree.{Tree}
@@ -39,18 +40,7 @@ pub kept-records : (reads_debug : Bool) (f : Prefix) (prefix : List Step) → Is
 kept-records reads_debug f prefix is = sym (records_placed prefix ∙ ap (map (λ (p : OffsetRecord). p.1)) (sym is.kept) ∙ same_records f.kept)
 
 few_units : (n : ℕ) → is_unit_count n ≡ true → n < 256
-few_units n h = by_two (n == 2) refl h where
-  by_four : (b : Bool) → (n == 4) ≡ b → b ≡ true → n < 256
-  by_four true e h = let is : n ≡ 4 = eqb-true n 4 e in omega arith
-  by_four false e h = cc
-
-  by_three : (b : Bool) → (n == 3) ≡ b → (b || (n == 4)) ≡ true → n < 256
-  by_three true e h = let is : n ≡ 3 = eqb-true n 3 e in omega arith
-  by_three false e h = by_four (n == 4) refl h
-
-  by_two : (b : Bool) → (n == 2) ≡ b → (b || ((n == 3) || (n == 4))) ≡ true → n < 256
-  by_two true e h = let is : n ≡ 2 = eqb-true n 2 e in omega arith
-  by_two false e h = by_three (n == 3) refl h
+few_units n h = let most = leb-true n 8 (and_parts (nat_le 1 n) (nat_le n 8) h).1 in omega (arith, most)
 
 -- the index lists of the tables are those of the records
 tables_ix : (reads_debug : Bool) (prefix : List Step) (s : Sliced reads_debug prefix) → indexes_in (records_of prefix) ≡ indexes_by (tables_of (records_of prefix))

@@ -1,7 +1,7 @@
 -- The loads and the start that an ended prefix states have no defect.
 use Rattle.std.proofs.Common.{◌≡◌, ◌⊎◌, ℕ, ◌<◌, ◌≤◌, Bool, true, false, not, ◌==◌, ◌&&◌, ◌||◌, nat_lt, nat_le, List, [], ◌∷◌, ◌++◌, length, map, slice_get, Option, Some, None, IfSome, is_none, unwrap_or, refl, sym, ap, subst, ◌∙◌, inl, inr, arith, filter_map, eqb-true}
 use Rattle.std.specs.List.{list_any, last_or, cons_option, AllByRecursion}
-use Rattle.std.proofs.lemmas.Bool.{or_from, or_cases, not-false}
+use Rattle.std.proofs.lemmas.Bool.{and_parts, leb-true, or_from, or_cases, not-false}
 use Rattle.std.proofs.lemmas.List.Elements.{filter_map-append}
 use Rattle.mufom_numbers.specs.declared.taken.Span.{Span}
 use Rattle.mufom_expr.specs.Tree.{Tree}
@@ -121,18 +121,13 @@ repeated m current count items there h = record {
 literal_good : (m : Parts) (current : Option ℕ) (p : SpelledRecord) (run : Span) → run.len < 65536 → IsGoodItem m current (Literal (text_in p run))
 literal_good m current p run h = record { inside = refl; counter = refl; short = text_short p run h; size = refl }
 
+within_size : (n : ℕ) → 1 ≤ n → n ≤ 8 → ((n == 0) || nat_lt 8 n) ≡ false
+within_size n a b = grind arith
+
 -- a field without a size has that of an address
 sized : (maus : ℕ) (o : Option ℕ) → d.is_unit_count maus ≡ true → IsFieldSize o → ((unwrap_or o maus == 0) || nat_lt 8 (unwrap_or o maus)) ≡ false
-sized maus (Some n) units h = within n h.0 h.1 where
-  within : (n : ℕ) → 1 ≤ n → n ≤ 8 → ((n == 0) || nat_lt 8 n) ≡ false
-  within n a b = grind arith
-sized maus None units h = elim (or_cases (maus == 2) ((maus == 3) || (maus == 4)) units) [
-  | inl two_ ↦ ap (λ n. (n == 0) || nat_lt 8 n) (eqb-true maus 2 two_)
-  | inr more ↦ elim (or_cases (maus == 3) (maus == 4) more) [
-    | inl three ↦ ap (λ n. (n == 0) || nat_lt 8 n) (eqb-true maus 3 three)
-    | inr four ↦ ap (λ n. (n == 0) || nat_lt 8 n) (eqb-true maus 4 four)
-  ]
-]
+sized maus (Some n) units h = within_size n h.0 h.1
+sized maus None units h = let both = and_parts (nat_le 1 maus) (nat_le maus 8) units in within_size maus (leb-true 1 maus both.0) (leb-true maus 8 both.1)
 
 below_test : (n position : ℕ) → position < n → nat_le n position ≡ false
 below_test n position h = grind arith
