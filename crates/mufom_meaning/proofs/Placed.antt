@@ -1,8 +1,10 @@
 -- Where a plan puts the sections and commons of a list: a base for each section and each common, and the same bases for lists that
 -- have the same sections and commons.
-use Rattle.std.proofs.Common.{◌≡◌, ℕ, zero, suc, ◌+◌, ◌<◌, List, [], ◌∷◌, ◌++◌, map, length, take, drop, Some, None, Bool, true, false, not, refl, sym, ◌∙◌, ap, subst, inl, inr, arith, length-append}
+use Rattle.std.proofs.Common.{◌≡◌, ℕ, zero, suc, ◌+◌, ◌<◌, List, [], ◌∷◌, ◌++◌, map, length, take, drop, Some, None, Bool, true, false, not, refl, sym, ◌∙◌, ap, subst, inl, inr, arith, length-append, zero-add}
 use Rattle.std.specs.Prelude.{slice_get, filter, if◌then◌else◌}
-use Rattle.std.specs.List.{enumerate_from}
+use Rattle.std.specs.List.{enumerate_from, AllByRecursion, IsDistinct}
+use Rattle.std.proofs.lemmas.Option.{slice_get_past}
+use Rattle.std.proofs.lemmas.Map.Keys.{IsDistinct-head, IsDistinct-tail}
 use Rattle.std.specs.Str.{bytes_eq}
 use Rattle.std.proofs.lemmas.List.{length-map, length-take-le, length-drop}
 use Rattle.std.proofs.lemmas.List.FromFn.{length-enumerate_from}
@@ -18,6 +20,9 @@ use Rattle.mufom_meaning.specs.Flat.{distinct, flat_sections, flat_references, u
 use Rattle.mufom_meaning.specs.Placed.{common_section, common_sections, placed_commons, extended_sections, base_list, base_named, planned_bases}
 use Rattle.mufom_meaning.specs.Location.{placed_section, located_sections}
 use Rattle.mufom_meaning.specs.Stands.{StandsIn}
+use Rattle.mufom_meaning.specs.CallLaws.{BasesByPosition}
+use Rattle.mufom_meaning.proofs.Choices.{some_same}
+use Rattle.mufom_meaning.proofs.Distinct.{IsDistinct-distinct}
 use Rattle.mufom_meaning.proofs.Names.{name_at}
 use Rattle.mufom_meaning.proofs.Members.{In, In-at, In-map, map-In, at-In, In-distinct, distinct-In, filter-In}
 
@@ -31,6 +36,17 @@ get-take zero xs i less = absurd (omega (arith, less))
 get-take (suc n) [] i less = refl
 get-take (suc n) (x ∷ xs) zero less = refl
 get-take (suc n) (x ∷ xs) (suc i) less = get-take n xs i (omega (arith, less))
+
+get-drop : {A : Type 0} (n : ℕ) (xs : List A) (i : ℕ) → slice_get (drop n xs) i ≡ slice_get xs (n + i)
+get-drop zero xs i = ap (slice_get xs) (sym (zero-add i))
+get-drop (suc n) [] i = slice_get_past [] i (omega arith) ∙ sym (slice_get_past [] (suc n + i) (omega arith))
+get-drop (suc n) (x ∷ xs) i = get-drop n xs i ∙ (let next : suc (n + i) ≡ suc n + i = omega arith in ap (slice_get (x ∷ xs)) next)
+
+-- an element at a position has what all elements have
+kept_at : {A : Type 0} (P : A → Type 0) (xs : List A) → AllByRecursion P xs → (n : ℕ) (x : A) → slice_get xs n ≡ Some x → P x
+kept_at P [] all n x e = absurd cc
+kept_at P (y ∷ ys) all zero x e = subst P (some_same y x e) all.0
+kept_at P (y ∷ ys) all (suc n) x e = kept_at P ys all.1 n x e
 
 module _ (ms : List Parts) (plan : Plan) where
   counted : length (base_list ms plan) ≡ length (flat_sections ms) + length (placed_commons ms plan)
@@ -83,6 +99,28 @@ common_has_base ms plan common name e none =
     = length-drop (length (flat_sections ms)) (base_list ms plan) ∙ omega (arith, whole) in
     named_has_base (placed_commons ms plan) (drop (length (flat_sections ms)) (base_list ms plan)) name count (common_section (commons ms) name)
     (subst (In (common_section (commons ms) name)) (sym all) there) refl none
+
+-- the base of a common is the one at its position
+named_at_position : (pairs : List (List ℕ × ℕ)) (names : List (List ℕ)) (placed : List ℕ) (n : ℕ) (name : List ℕ) → IsDistinct bytes_eq names → slice_get names n ≡ Some name
+    → base_named (map (common_section pairs) names) placed name ≡ slice_get placed n
+named_at_position pairs [] placed n name d e = absurd cc
+named_at_position pairs (x ∷ names) [] n name d e = sym (slice_get_past [] n (omega arith))
+named_at_position pairs (x ∷ names) (base ∷ placed) zero name d e =
+    ap (λ b. if b then Some base else base_named (map (common_section pairs) names) placed name) ((bytes_eq-Decides x name).1 (some_same x name e))
+named_at_position pairs (x ∷ names) (base ∷ placed) (suc n) name d e =
+    ap (λ b. if b then Some base else base_named (map (common_section pairs) names) placed name)
+    (kept_at (λ y. bytes_eq x y ≡ false) names (IsDistinct-head bytes_eq x names d) n name e)
+    ∙ named_at_position pairs names placed n name (IsDistinct-tail bytes_eq x names d) e
+
+pub bases_by_position : BasesByPosition
+bases_by_position ms plan = record {
+  of_sections = planned_get ms plan;
+  of_commons = λ common n name e.
+      ap (λ b. base_named (if b then common_sections ms else []) (drop (length (flat_sections ms)) (base_list ms plan)) name) common
+      ∙ named_at_position (commons ms) (distinct bytes_eq (common_names ms)) (drop (length (flat_sections ms)) (base_list ms plan)) n name (IsDistinct-distinct bytes_eq (common_names ms)) e
+      ∙ get-drop (length (flat_sections ms)) (base_list ms plan) n;
+  of_no_common = λ none name. ap (λ b. base_named (if b then common_sections ms else []) (drop (length (flat_sections ms)) (base_list ms plan)) name) none;
+}
 
 -- Lists with the same sections and the same commons are placed alike.
 module _ (ms ns : List Parts) (sections : flat_sections ms ≡ flat_sections ns) (asked : commons ms ≡ commons ns) (plan : Plan) where

@@ -9,7 +9,3 @@ pub record Bases : Type 0 where
 -- no section and no common has a base
 abbrev pub no_bases : Bases
 no_bases = record { sections = []; commons = λ name. None }
-
--- sections have these bases, and no common has one
-abbrev pub sections_at : List ℕ → Bases
-sections_at placed = record { sections = placed; commons = λ name. None }

@@ -1,12 +1,13 @@
--- What callers need of a module without a defect: that it may be placed, and that a slice of such modules is a list of them.
-use Rattle.std.specs.Prelude.{◌≡◌, ◌<◌, ◌≤◌, ◌^◌, false, ◌↔◌, List, [], ◌∷◌, length, All}
+-- What callers need: that a module without a defect may be placed, where the bases stand, and that a slice of such modules is a list of them.
+use Rattle.std.specs.Prelude.{◌≡◌, ◌<◌, ◌≤◌, ◌^◌, false, ◌↔◌, List, [], ◌∷◌, length, All, ℕ, ◌+◌, Some, None, slice_get, true}
+use Rattle.std.specs.Str.{bytes_eq}
 use Rattle.mufom_module.specs.declared.module.Parts.{Parts}
 use Rattle.mufom_module.specs.Defects.{IsValid}
 use Rattle.mufom_plan.specs.declared.plan.Plan.{Plan}
 use Rattle.mufom_plan.specs.Commons.{has_common}
 use Rattle.mufom_place.specs.Facts.{IsAddressWidth, IsAligned, HasNoBase, sections_before, last_sections}
-use Rattle.mufom_meaning.specs.Flat.{flat_sections, width}
-use Rattle.mufom_meaning.specs.Placed.{placed_commons, extended_sections}
+use Rattle.mufom_meaning.specs.Flat.{distinct, flat_sections, common_names, width}
+use Rattle.mufom_meaning.specs.Placed.{placed_commons, extended_sections, base_list, planned_bases}
 use Rattle.mufom_meaning.specs.Staging.{AreValid}
 
 -- What placing asks of the sections of a list with the commons after them, which are the last of them by their count, and of the width
@@ -24,6 +25,18 @@ pub record MayBePlaced (ms : List Parts) (plan : Plan) : Type 0 where
 -- A module without a defect may be placed by each plan.
 abbrev pub ModulesMayBePlaced : Type 0
 ModulesMayBePlaced = (m : Parts) (plan : Plan) → IsValid m → MayBePlaced (m ∷ []) plan
+
+-- The bases by a plan are those of the one list of sections and commons: of a section by its flat number, and of a common by its
+-- position after them. Where no region takes commons, none has a base.
+pub record AreByPosition (ms : List Parts) (plan : Plan) : Type 0 where
+  pub of_sections : (n : ℕ) → n < length (flat_sections ms) → slice_get (planned_bases ms plan).sections n ≡ slice_get (base_list ms plan) n
+  pub of_commons : has_common plan.regions ≡ true → (n : ℕ) (name : List ℕ) → slice_get (distinct bytes_eq (common_names ms)) n ≡ Some name
+      → (planned_bases ms plan).commons name ≡ slice_get (base_list ms plan) (length (flat_sections ms) + n)
+  pub of_no_common : has_common plan.regions ≡ false → (name : List ℕ) → (planned_bases ms plan).commons name ≡ None
+
+-- This holds of all lists and plans.
+abbrev pub BasesByPosition : Type 0
+BasesByPosition = (ms : List Parts) (plan : Plan) → AreByPosition ms plan
 
 -- Each module of a list is without a defect where each element of the list is.
 abbrev pub AreValidIsAll : Type 0

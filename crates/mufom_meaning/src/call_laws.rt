@@ -1,11 +1,17 @@
 //! Laws that callers need, each the contract of a function that does nothing.
 
-ghost use Rattle.mufom_meaning.specs.CallLaws.{ModulesMayBePlaced, AreValidIsAll};
+ghost use Rattle.mufom_meaning.specs.CallLaws.{ModulesMayBePlaced, BasesByPosition, AreValidIsAll};
 
 /// A module without a defect meets what placing asks, by each plan: its addresses have a width of 8
 /// to 64 bits, its sections and commons are aligned and fewer than 2^32, and no common has a base.
 pub fn modules_may_be_placed()
     ensures { ModulesMayBePlaced }
+{}
+
+/// The bases by a plan are those that placing answers: of a section by its flat number, and of a
+/// common by its position after the sections. Where no region takes commons, none has a base.
+pub fn bases_by_position()
+    ensures { BasesByPosition }
 {}
 
 /// All modules of a list are without a defect where each element of the list is: what holds of the

@@ -1,10 +1,11 @@
 //! What a list of modules means: the value of each expression, the bytes that are loaded and where,
 //! and what keeps the list from being linked or located.
 //!
-//! The crate has definitions and laws, and the parts of a location as types. It stands on the crates
-//! of a module's values and on `mufom_plan` and `mufom_place`. Linking, selecting and locating share
-//! its definitions; each law is the contract of a function that does nothing. The main one is
-//! [`staged_means_the_same`]: whatever way a list was linked in stages, it means the same.
+//! The crate has definitions and laws, and the types that callers share: the parts of a location,
+//! descriptors, and the sites of expressions. It stands on the crates of a module's values and on
+//! `mufom_plan` and `mufom_place`. Linking, selecting and locating share its definitions; each law
+//! is the contract of a function that does nothing. The main one is [`staged_means_the_same`]:
+//! whatever way a list was linked in stages, it means the same.
 #![tactic(auto)]
 
 mod call_laws;
@@ -13,7 +14,7 @@ mod located;
 mod location_laws;
 mod staging_laws;
 
-pub use call_laws::{are_valid_is_all, modules_may_be_placed};
+pub use call_laws::{are_valid_is_all, bases_by_position, modules_may_be_placed};
 pub use fact_laws::{
     answers_are_facts, counts_agree, cycles_are_short, link_facts_grow, no_link_answer_is_linkable,
 };

@@ -10,6 +10,7 @@ use Rattle.mufom_module.specs.declared.module.Order.TheVariants.{Most}
 use Rattle.mufom_module.specs.declared.module.Parts.{Parts}
 use Rattle.mufom_plan.specs.declared.plan.Region.{Region}
 use Rattle.mufom_plan.specs.declared.plan.Plan.{Plan}
+use Rattle.mufom_meaning.specs.Bases.{Bases}
 use Rattle.mufom_meaning.specs.Placed.{planned_bases}
 use Rattle.mufom_meaning.specs.Flat.{width}
 use Rattle.mufom_meaning.specs.Readings.{readings}
@@ -62,3 +63,7 @@ plan_of regions = record { regions = regions }
 -- the cells of an image
 abbrev pub image_of : List Parts → Plan → List Cell
 image_of ms plan = address_map Most (2 ^ width ms) (readings ms (planned_bases ms plan)).steps
+
+-- sections have these bases, and no common has one
+abbrev pub sections_at : List ℕ → Bases
+sections_at placed = record { sections = placed; commons = λ name. None }

@@ -14,7 +14,7 @@ use Rattle.mufom_debug.specs.declared.item.BlockHead.{BlockHead}
 use Rattle.mufom_debug.specs.declared.item.DebugItem.{DebugItem, Block as block_case, the_lemmas}
 use Rattle.mufom_debug.specs.Marks.{DebugMark, block_begin, block_end, name_mark, note_mark, value_mark, marks_of}
 use Rattle.mufom_module.specs.declared.module.Parts.{Parts}
-use Rattle.mufom_meaning.specs.Bases.{Bases, no_bases, sections_at}
+use Rattle.mufom_meaning.specs.Bases.{Bases, no_bases}
 use Rattle.mufom_meaning.specs.Flat.{Sited, flat_sections, public_names, name_count}
 use Rattle.mufom_meaning.specs.LinkAnswer.{first_duplicate}
 use Rattle.mufom_meaning.specs.Steps.{counter, StepReading, counter_reading, literal_reading, field_reading}
@@ -23,7 +23,7 @@ use Rattle.mufom_meaning.specs.Joined.{joined_mark, IsJoined, joined_mark}
 use Rattle.mufom_meaning.specs.Staging.{IsContext, StandsFor}
 use Rattle.mufom_meaning.specs.Values.{setting, value_within}
 use Rattle.mufom_meaning.proofs.facts.Answers.{distinct_places}
-use Rattle.mufom_meaning.proofs.rows.Built.{a_module, relocatable, public_of, strong, weak}
+use Rattle.mufom_meaning.proofs.rows.Built.{a_module, relocatable, public_of, strong, weak, sections_at}
 use Rattle.mufom_meaning.proofs.rows.Names.{crossed_a, crossed_b, crossed_link, with_default}
 
 -- where no name is found twice, the names are distinct

@@ -10,10 +10,9 @@ use Rattle.mufom_debug.specs.Marks.{DebugMark, block_begin, block_end, name_mark
 use Rattle.mufom_module.specs.declared.module.Parts.{Parts}
 use Rattle.mufom_meaning.specs.Flat.{Sited}
 use Rattle.mufom_meaning.specs.Values.{setting, value_within}
-use Rattle.mufom_meaning.specs.Bases.{sections_at}
 use Rattle.mufom_meaning.specs.Readings.{readings, MarkReading, mark_reading, module_head, global_head, begin_reading, end_reading, name_reading, note_reading, value_reading}
 use Rattle.mufom_meaning.specs.Location.{located_mark}
-use Rattle.mufom_meaning.proofs.rows.Built.{a_module, relocatable}
+use Rattle.mufom_meaning.proofs.rows.Built.{a_module, relocatable, sections_at}
 
 abbrev note : Note
 note = record { type_index = 0; attribute = 7; numbers = record { items = 12 ∷ 0 ∷ [] } }

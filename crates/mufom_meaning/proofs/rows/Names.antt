@@ -12,13 +12,12 @@ use Rattle.mufom_place.specs.Bases.{bases}
 use Rattle.mufom_meaning.specs.Values.{value_within}
 use Rattle.mufom_meaning.specs.Steps.{counter}
 use Rattle.mufom_meaning.specs.Flat.{sited, flat_sections}
-use Rattle.mufom_meaning.specs.Bases.{sections_at}
 use Rattle.mufom_meaning.specs.Readings.{readings}
 use Rattle.mufom_meaning.specs.Joined.{IsJoined, joined_public, joined_load, kept_references}
 use Rattle.mufom_meaning.specs.Facts.{cycle}
 use Rattle.mufom_meaning.specs.LinkAnswer.{link_answer}
 use Rattle.mufom_meaning.specs.LocateAnswer.{locate_answer}
-use Rattle.mufom_meaning.proofs.rows.Built.{a_module, relocatable, public_of, strong, weak, region_at, plan_of, image_of}
+use Rattle.mufom_meaning.proofs.rows.Built.{a_module, relocatable, public_of, strong, weak, region_at, plan_of, image_of, sections_at}
 
 -- Two modules that need each other.
 abbrev pub crossed_a : Parts
