@@ -111,7 +111,7 @@ none_has m current test f (item ∷ items) h = or_from (test item) _ (f item h.0
 
 repeated : (m : Parts) (current : Option ℕ) (count : ℕ) (items : List Item) → is_none current ≡ false → AllByRecursion (IsGoodItem m current) items → IsGoodLoad m current (Repeat count items)
 repeated m current count items there h = record {
-  offset = none_has m current (item_any (d.names_outside (d.counts_of m))) (λ item is. is.inside) items h;
+  place = none_has m current (item_any (d.names_outside (d.counts_of m))) (λ item is. is.inside) items h;
   counter = none_has m current (item_any (d.has_other_counter current)) (λ item is. is.counter) items h;
   somewhere = nowhere_there current true there;
   short = none_has m current d.is_long_literal (λ item is. is.short) items h;

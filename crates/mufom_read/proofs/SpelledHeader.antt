@@ -59,7 +59,7 @@ pub record IsLeft (reads_debug : Bool) (earlier offsets : List ℕ) (before : Li
   pub sound : IsSoundFrom reads_debug before own rest
   pub unended : is_ended (before ++ own) ≡ false
   pub place : ℕ
-  pub fault : fault_after reads_debug (before ++ own) later ≡ Some (offset, why.NotBuilt)
+  pub fault : fault_after reads_debug (before ++ own) later ≡ Some (place, why.NotBuilt)
 
 -- the records are sound, and none is left for later
 pub record IsOn (reads_debug : Bool) (before : List Step) (records : List SpelledRecord) (after earlier offsets : List ℕ) : Type 0 where
@@ -91,7 +91,7 @@ left_after reads_debug early earlier some offsets before step after now is left 
       split = ap (λ l. step_bytes step ++ l) left.split ∙ sym (append_assoc (step_bytes step) (prefix_bytes left.own) left.later);
       sound = sound_step reads_debug before step left.own after is left.sound;
       unended = ap (λ l. is_ended l) (sym same) ∙ left.unended;
-      offset = left.place;
+      place = left.place;
       fault = ap (λ (l : List Step). fault_after reads_debug l left.later) (sym same) ∙ left.fault;
     }
 
@@ -151,7 +151,7 @@ left_here reads_debug k w end earlier offsets before p after count few here open
       split = refl;
       sound = tt;
       unended = ap (λ l. is_ended l) (append-nil before) ∙ open_;
-      offset = start;
+      place = start;
       fault = ap (λ (l : List Step). fault_after reads_debug l (p.bytes ++ after)) (append-nil before) ∙ (λ i. option_or (whole i) (step_fault reads_debug before (next i))) ∙ fault;
     }
 

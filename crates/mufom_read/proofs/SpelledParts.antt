@@ -326,7 +326,7 @@ walk_contents reads_debug all [] offsets before [] [] after offsets_named stand 
     record {
       sound = tt;
       joint = subst (λ (l : List Step). Joint all l) (sym same) at;
-      offset = ap location_after same ∙ after_header before at.many ∙ ap (λ ws. location_by (part_among parts_in_order ws (size_of before))) at.offsets ∙ ap location_by (offsets_named (size_of before) (omega arith));
+      place = ap location_after same ∙ after_header before at.many ∙ ap (λ ws. location_by (part_among parts_in_order ws (size_of before))) at.offsets ∙ ap location_by (offsets_named (size_of before) (omega arith));
       bytes = refl;
     }
 walk_contents reads_debug all [] offsets before [] (bytes ∷ texts) after offsets_named stand some fill at = absurd fill
@@ -349,6 +349,6 @@ walk_contents reads_debug all (part ∷ parts) (w ∷ offsets) before (own ∷ c
       sound = subst (λ (l : List ℕ). IsSoundFrom reads_debug before (own ++ joined contents) l) (ap (λ l. l ++ rest) c.its_bytes ∙ sym (append_assoc bytes (joined texts) after))
           (sound-append reads_debug before own (joined contents) rest (subst (λ (l : List ℕ). IsSoundFrom reads_debug before own (l ++ rest)) (sym c.its_bytes) (c.goes_on all within at)) later.sound);
       joint = subst (λ (l : List Step). Joint all l) same later.joint;
-      offset = ap location_after (sym same) ∙ later.place;
+      place = ap location_after (sym same) ∙ later.place;
       bytes = bytes-append own (joined contents) ∙ (λ i. c.its_bytes i ++ later.bytes i);
     }
