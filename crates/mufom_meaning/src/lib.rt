@@ -15,7 +15,7 @@ mod staging_laws;
 pub use fact_laws::{
     answers_are_facts, counts_agree, cycles_are_short, link_facts_grow, no_link_answer_is_linkable,
 };
-pub use located::{LocatedParts, PublicValue, Run};
+pub use located::{Descriptor, LocatedParts, PublicValue, Run};
 pub use location_laws::{
     absolute_is_located_as_itself, absolute_is_valid, all_valued, location_is_single,
     locations_exist, none_by_division, selection_is_single, values_exist,

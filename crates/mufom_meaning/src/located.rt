@@ -4,6 +4,15 @@ use mufom_names::Note;
 use mufom_numbers::{Bytes, List};
 use mufom_sections::Section;
 
+/// The format of the addresses of a module.
+#[derive(Clone, Copy, Debug, PartialEq, Eq)]
+pub struct Descriptor {
+    /// How many minimum addressable units (of eight bits) an address has.
+    pub maus: u8,
+    /// The order of the bytes of a field and of an address.
+    pub order: Order,
+}
+
 /// A public with its value.
 #[derive(Debug, Drop)]
 pub struct PublicValue {
