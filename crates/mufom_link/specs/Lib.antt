@@ -1,0 +1,5 @@
+pub mod Publics
+pub mod References
+pub mod Renaming
+pub mod Joining
+pub mod Refusals

@@ -1,0 +1,26 @@
+-- The public names of a list, each with its position, in an index.
+use Rattle.std.specs.Prelude.{◌≡◌, ℕ, suc, List, [], ◌∷◌, is_some, Result, Ok, Err, if◌then◌else◌}
+use Rattle.mufom_names.specs.Index.{Entry, position_of, with_entry}
+use Rattle.mufom_link.specs.declared.refusal.LinkRefusal.{LinkRefusal}
+use Rattle.mufom_link.specs.declared.refusal.LinkRefusal.TheVariants.{Mismatch, Duplicate, DuplicateStart, NoMemory}
+
+-- keys with their positions, the first of them with this one
+abbrev pub numbered_from : ℕ → List (List ℕ) → List Entry
+numbered_from n [] = []
+numbered_from n (key ∷ keys) = (key, n) ∷ numbered_from (suc n) keys
+
+-- the index after names were added, the first of them with this position, or the first name that it had already
+abbrev pub indexed : List Entry → ℕ → List (List ℕ) → Result (List Entry) (List ℕ)
+indexed entries n [] = Ok entries
+indexed entries n (name ∷ names) = if is_some (position_of entries name) then Err name else indexed (with_entry entries name n) (suc n) names
+
+-- all names are new, and this is the index with them
+abbrev pub IsIndexed : List Entry → ℕ → List (List ℕ) → List Entry → Type 0
+IsIndexed entries n names after = indexed entries n names ≡ Ok after
+
+-- the refusal is out of memory, or Duplicate with the first name that is not new
+abbrev pub IsRefusedName : List Entry → ℕ → List (List ℕ) → LinkRefusal → Type 0
+IsRefusedName entries n names NoMemory = Unit {0}
+IsRefusedName entries n names (Duplicate name) = indexed entries n names ≡ Err name
+IsRefusedName entries n names (Mismatch first other) = ⊥
+IsRefusedName entries n names DuplicateStart = ⊥

@@ -1,0 +1,24 @@
+//! Partial links: one module in the place of a list of modules.
+//!
+//! [`link`] joins the sections, public symbols, loads and debug items of all modules in their order,
+//! turns each reference that a public symbol of the list meets into that symbol, and keeps of the
+//! other references each one once. No expression is evaluated. Names are found by hashing, so the
+//! time grows with the sizes of the modules and not with their square.
+//!
+//! The crate stands on the crates of a module's values and on `mufom_meaning`, whose definitions the
+//! contract of `link` cites.
+#![tactic(auto)]
+
+mod copies;
+mod debug_copies;
+mod facts;
+mod joined;
+mod linking;
+mod references;
+mod refusal;
+mod site;
+#[cfg(test)]
+mod tests;
+
+pub use linking::link;
+pub use refusal::LinkRefusal;

@@ -1,0 +1,109 @@
+//! The references of a link: which publics meet them, and which are kept.
+
+ghost use Rattle.std.specs.Prelude.{◌≡◌, [], ◌+◌, ◌<◌, ◌^◌, length, IfOk, OnOk};
+ghost use Rattle.std.specs.List.{AllByRecursion};
+ghost use Rattle.mufom_names.specs.Index.{keys_of};
+ghost use Rattle.mufom_names.specs.Keys.{IsShortReference};
+ghost use Rattle.mufom_meaning.specs.Joined.{place_of, same_reference};
+ghost use Rattle.mufom_link.specs.Publics.{numbered_from};
+ghost use Rattle.mufom_link.specs.References.{merged_with, kept_with, kept_after, target_in, targets_after, keyed};
+
+use crate::copies::copy_reference;
+use mufom_expr::Letter;
+use mufom_names::{NameIndex, Reference, reference_key};
+use mufom_numbers::{List, NoMemory};
+use std::alloc::Global;
+
+/// The references that a link keeps so far: of equal ones the first.
+#[derive(Drop)]
+pub(crate) struct References {
+    // The keys of the kept references, each with its position among them.
+    keys: NameIndex,
+    kept: List<Reference>,
+}
+
+impl References {
+    pub(crate) fn new(alloc: Global) -> Result<References, NoMemory>
+        ensures kept { IfOk result (λ all. all.kept ≡ []) }
+        ensures keys { IfOk result (λ all. all.keys ≡ []) }
+    {
+        Ok(References {
+            keys: NameIndex::new(alloc)?,
+            kept: List::new(alloc),
+        })
+    }
+
+    // The kept references.
+    pub(crate) fn into_kept(self) -> List<Reference>
+        ensures { result ≡ self.kept }
+    {
+        let References { kept, .. } = self;
+        kept
+    }
+
+    // Keeps the reference where no equal one is kept. Answers the position of the equal one that is
+    // kept now.
+    fn merge(&mut self, alloc: Global, reference: &Reference) -> Result<u32, NoMemory>
+        requires keyed { self.old.keys ≡ keyed self.old.kept }
+        requires short { IsShortReference reference.now }
+        requires kept_short { AllByRecursion IsShortReference self.old.kept }
+        requires room { length self.old.kept < 2 ^ 32 }
+        ensures position { IfOk result (λ position. position ≡ place_of (same_reference reference.now) self.old.kept) }
+        ensures kept { OnOk result (self.new.kept ≡ merged_with self.old.kept reference.now) }
+        ensures keys { OnOk result (self.new.keys ≡ keyed self.new.kept) }
+    {
+        let key = reference_key(alloc, reference)?;
+        let next = self.kept.len() as u32;
+        if let Some(position) = self.keys.add(key.as_slice(), next)? {
+            return Ok(position);
+        }
+        self.kept.push(copy_reference(alloc, reference)?)?;
+        Ok(next)
+    }
+
+    // The variable that stands for the reference in the link. Where no public has its name, the
+    // reference is kept.
+    fn target(
+        &mut self,
+        alloc: Global,
+        publics: &NameIndex,
+        reference: &Reference,
+    ) -> Result<(Letter, u32), NoMemory>
+        requires publics { publics.now ≡ numbered_from 0 (keys_of publics.now) }
+        requires keyed { self.old.keys ≡ keyed self.old.kept }
+        requires short { IsShortReference reference.now }
+        requires kept_short { AllByRecursion IsShortReference self.old.kept }
+        requires room { length self.old.kept < 2 ^ 32 }
+        ensures target { IfOk result (λ target. target ≡ target_in (keys_of publics.now) self.old.kept reference.now) }
+        ensures kept { OnOk result (self.new.kept ≡ kept_with (keys_of publics.now) self.old.kept reference.now) }
+        ensures keys { OnOk result (self.new.keys ≡ keyed self.new.kept) }
+    {
+        match publics.find(reference.name.as_slice()) {
+            Some(position) => Ok((Letter::I, position)),
+            None => Ok((Letter::X, self.merge(alloc, reference)?)),
+        }
+    }
+
+    // The variables that stand for the references in the link, in order.
+    pub(crate) fn targets(
+        &mut self,
+        alloc: Global,
+        publics: &NameIndex,
+        references: &[Reference],
+    ) -> Result<List<(Letter, u32)>, NoMemory>
+        requires publics { publics.now ≡ numbered_from 0 (keys_of publics.now) }
+        requires keyed { self.old.keys ≡ keyed self.old.kept }
+        requires short { AllByRecursion IsShortReference references.now }
+        requires kept_short { AllByRecursion IsShortReference self.old.kept }
+        requires room { length self.old.kept + length references.now < 2 ^ 32 }
+        ensures targets { IfOk result (λ targets. targets ≡ targets_after (keys_of publics.now) self.old.kept references.now) }
+        ensures kept { OnOk result (self.new.kept ≡ kept_after (keys_of publics.now) self.old.kept references.now) }
+        ensures keys { OnOk result (self.new.keys ≡ keyed self.new.kept) }
+    {
+        let mut targets = List::new(alloc);
+        for reference in references {
+            targets.push(self.target(alloc, publics, reference)?)?;
+        }
+        Ok(targets)
+    }
+}

@@ -1,0 +1,26 @@
+use mufom_meaning::Descriptor;
+use mufom_numbers::{Bytes, NoMemory};
+
+/// Why a list of modules isn't linked.
+#[derive(Debug, Drop)]
+pub enum LinkRefusal {
+    /// The descriptor of the first module, and the first one that differs from it.
+    Mismatch(Descriptor, Descriptor),
+    /// The name of the first public symbol that has the name of an earlier one.
+    Duplicate(Bytes),
+    /// More than one module has a start.
+    DuplicateStart,
+    /// Out of memory.
+    NoMemory,
+}
+
+impl From<NoMemory> for LinkRefusal {
+    ghost use Rattle.std.specs.Prelude.{◌≡◌};
+    ghost use Rattle.mufom_link.specs.declared.refusal.LinkRefusal.TheVariants.{NoMemory};
+
+    ghost from_gives = { λ _ refusal. refusal ≡ NoMemory };
+
+    fn from(_: NoMemory) -> Self {
+        LinkRefusal::NoMemory
+    }
+}

@@ -1,0 +1,574 @@
+use crate::*;
+use arrayvec::ArrayVec;
+use mufom_debug::{Block, BlockHead, DebugItem};
+use mufom_expr::{Builder, FieldKind, Function, Letter, Postfix, Token};
+use mufom_loads::{Item, Load};
+use mufom_module::{Module, Order, Parts, assemble};
+use mufom_names::{NameTable, Note, Public, Reference, Weak};
+use mufom_numbers::{Bytes, List, NoMemory};
+use mufom_sections::{Purpose, Section};
+use std::alloc::Global;
+
+const PLUS: Token = Token::Fun(Function::Plus);
+
+// The expression of these tokens.
+fn expression(alloc: Global, tokens: &[Token]) -> Result<Postfix, NoMemory> {
+    let mut builder = Builder::new(alloc);
+    for token in tokens {
+        if builder.push(*token).is_err() {
+            return Err(NoMemory);
+        }
+    }
+    match builder.finish() {
+        Ok(value) => Ok(value),
+        Err(_) => Err(NoMemory),
+    }
+}
+
+fn variable(alloc: Global, letter: Letter, place: u32) -> Result<Postfix, NoMemory> {
+    expression(alloc, &[Token::Var(letter, place)])
+}
+
+// The variable and a number, added.
+fn sum(alloc: Global, letter: Letter, place: u32, number: u64) -> Result<Postfix, NoMemory> {
+    expression(
+        alloc,
+        &[Token::Var(letter, place), Token::Number(number), PLUS],
+    )
+}
+
+// Parts with nothing in them.
+fn empty(alloc: Global) -> Result<Parts, NoMemory> {
+    Ok(Parts {
+        processor: Bytes::from_slice(alloc, b"68000")?,
+        name: Bytes::new(alloc),
+        maus: 4,
+        order: Order::Most,
+        ext: Bytes::new(alloc),
+        env: Bytes::new(alloc),
+        sections: List::new(alloc),
+        names: NameTable {
+            publics: List::new(alloc),
+            references: List::new(alloc),
+        },
+        debug: List::new(alloc),
+        loads: List::new(alloc),
+        start: None,
+    })
+}
+
+fn section(alloc: Global, name: &[u8], size: u64) -> Result<Section, NoMemory> {
+    Ok(Section {
+        name: Bytes::from_slice(alloc, name)?,
+        absolute: false,
+        purpose: None,
+        size,
+        align: 1,
+        base: None,
+    })
+}
+
+fn public(alloc: Global, name: &[u8], value: Postfix) -> Result<Public, NoMemory> {
+    Ok(Public {
+        name: Bytes::from_slice(alloc, name)?,
+        value,
+        notes: List::new(alloc),
+    })
+}
+
+fn reference(alloc: Global, name: &[u8], weak: Option<Weak>) -> Result<Reference, NoMemory> {
+    Ok(Reference {
+        name: Bytes::from_slice(alloc, name)?,
+        weak,
+        notes: List::new(alloc),
+    })
+}
+
+fn note(attribute: u64, number: u64) -> Note {
+    let mut numbers: ArrayVec<u64, 4> = ArrayVec::new();
+    numbers.push(number);
+    Note {
+        type_index: 0,
+        attribute,
+        numbers,
+    }
+}
+
+// A load of a field of this size.
+fn field(kind: FieldKind, size: u8, value: Postfix) -> Load {
+    Load::One(Item::Field { kind, value, size })
+}
+
+fn module(parts: Parts) -> Result<Module, NoMemory> {
+    match assemble(parts) {
+        Ok(module) => Ok(module),
+        Err(_) => Err(NoMemory),
+    }
+}
+
+// A section, a public, a strong reference and a field of that reference.
+fn half(
+    alloc: Global,
+    public_name: &[u8],
+    value: Postfix,
+    reference_name: &[u8],
+    field_value: Postfix,
+) -> Result<Module, NoMemory> {
+    let mut parts = empty(alloc)?;
+    parts.sections.push(section(alloc, b"t", 4)?)?;
+    parts
+        .names
+        .publics
+        .push(public(alloc, public_name, value)?)?;
+    parts
+        .names
+        .references
+        .push(reference(alloc, reference_name, None)?)?;
+    parts.loads.push(Load::SetSection(0))?;
+    parts.loads.push(field(FieldKind::Either, 4, field_value))?;
+    module(parts)
+}
+
+// Two modules, each with a reference to the public of the other.
+fn halves(alloc: Global) -> Result<Vec<Module>, NoMemory> {
+    let mut list = Vec::new(alloc);
+    let value = variable(alloc, Letter::R, 0)?;
+    let used = variable(alloc, Letter::X, 0)?;
+    list.push(half(alloc, b"f", value, b"g", used)?)?;
+    let value = sum(alloc, Letter::R, 0, 1)?;
+    let used = sum(alloc, Letter::X, 0, 2)?;
+    list.push(half(alloc, b"g", value, b"f", used)?)?;
+    Ok(list)
+}
+
+// Whether the expression has these tokens.
+fn is_tokens(value: &Postfix, tokens: &[Token]) -> bool {
+    value.tokens() == tokens
+}
+
+// Whether the load is a field of this expression.
+fn is_field(load: &Load, tokens: &[Token]) -> bool {
+    match load {
+        Load::One(Item::Field { value, .. }) => is_tokens(value, tokens),
+        _ => false,
+    }
+}
+
+// Whether the load sets this section.
+fn sets_section(load: &Load, wanted: u32) -> bool {
+    match load {
+        Load::SetSection(section) => *section == wanted,
+        _ => false,
+    }
+}
+
+#[test]
+fn references_become_the_publics_that_meet_them(rt: HostRuntime) {
+    let alloc = rt.alloc();
+    let list = halves(alloc).expect(&rt, "memory");
+    let linked = link(alloc, &list, b"c").expect(&rt, "linked");
+    let parts = linked.parts();
+    assert_eq!(rt; parts.name.as_slice(), &b"c"[..]);
+    assert_eq!(rt; parts.sections.len(), 2);
+    assert_eq!(rt; parts.names.publics.len(), 2);
+    assert_eq!(rt; parts.names.references.len(), 0);
+    let publics = parts.names.publics.as_slice();
+    assert!(rt; is_tokens(&publics[0].value, &[Token::Var(Letter::R, 0)]));
+    assert!(rt;
+        is_tokens(
+            &publics[1].value,
+            &[Token::Var(Letter::R, 1), Token::Number(1), PLUS]
+        )
+    );
+    let loads = parts.loads.as_slice();
+    assert_eq!(rt; loads.len(), 4);
+    assert!(rt; sets_section(&loads[0], 0));
+    assert!(rt; is_field(&loads[1], &[Token::Var(Letter::I, 1)]));
+    assert!(rt; sets_section(&loads[2], 1));
+    assert!(rt;
+        is_field(
+            &loads[3],
+            &[Token::Var(Letter::I, 0), Token::Number(2), PLUS]
+        )
+    );
+    assert_eq!(rt; list.len(), 2);
+}
+
+// A module with a public `main`.
+fn main_module(alloc: Global) -> Result<Module, NoMemory> {
+    let mut parts = empty(alloc)?;
+    let value = Postfix::constant(alloc, 0)?;
+    parts.names.publics.push(public(alloc, b"main", value)?)?;
+    module(parts)
+}
+
+// A module with this many units in an address, and with a start where one is wanted.
+fn other_module(alloc: Global, maus: u8, has_start: bool) -> Result<Module, NoMemory> {
+    let mut parts = empty(alloc)?;
+    parts.maus = maus;
+    if has_start {
+        parts.start = Some(Postfix::constant(alloc, 4096)?);
+    }
+    module(parts)
+}
+
+fn pair(alloc: Global, first: Module, second: Module) -> Result<Vec<Module>, NoMemory> {
+    let mut list = Vec::new(alloc);
+    list.push(first)?;
+    list.push(second)?;
+    Ok(list)
+}
+
+// The name of the answer.
+fn refusal(alloc: Global, list: &[Module]) -> &'static str {
+    match link(alloc, list, b"") {
+        Ok(_) => "linked",
+        Err(LinkRefusal::Mismatch(first, other)) => {
+            if first.maus == 4 && other.maus == 2 {
+                "Mismatch 4 2"
+            } else {
+                "Mismatch"
+            }
+        }
+        Err(LinkRefusal::Duplicate(name)) => {
+            if name.as_slice() == b"main".as_slice() {
+                "Duplicate main"
+            } else {
+                "Duplicate"
+            }
+        }
+        Err(LinkRefusal::DuplicateStart) => "DuplicateStart",
+        Err(LinkRefusal::NoMemory) => "NoMemory",
+    }
+}
+
+#[test]
+fn lists_are_refused_in_order(rt: HostRuntime) {
+    let alloc = rt.alloc();
+    let first = main_module(alloc).expect(&rt, "memory");
+    let second = main_module(alloc).expect(&rt, "memory");
+    let list = pair(alloc, first, second).expect(&rt, "memory");
+    assert_eq!(rt; refusal(alloc, &list), "Duplicate main");
+    let first = other_module(alloc, 4, true).expect(&rt, "memory");
+    let second = other_module(alloc, 2, true).expect(&rt, "memory");
+    let list = pair(alloc, first, second).expect(&rt, "memory");
+    assert_eq!(rt; refusal(alloc, &list), "Mismatch 4 2");
+    let first = other_module(alloc, 4, true).expect(&rt, "memory");
+    let second = other_module(alloc, 4, true).expect(&rt, "memory");
+    let list = pair(alloc, first, second).expect(&rt, "memory");
+    assert_eq!(rt; refusal(alloc, &list), "DuplicateStart");
+}
+
+// A module with a reference q, noted where that is wanted, and a field of it.
+fn asking(alloc: Global, weak: Option<Weak>, noted: bool) -> Result<Module, NoMemory> {
+    let mut parts = empty(alloc)?;
+    parts.sections.push(section(alloc, b"t", 1)?)?;
+    let mut q = reference(alloc, b"q", weak)?;
+    if noted {
+        q.notes.push(note(7, 1))?;
+    }
+    parts.names.references.push(q)?;
+    parts.loads.push(Load::SetSection(0))?;
+    let value = variable(alloc, Letter::X, 0)?;
+    parts.loads.push(field(FieldKind::Unsigned, 1, value))?;
+    module(parts)
+}
+
+// A module with the public q, which is 7.
+fn answering(alloc: Global) -> Result<Module, NoMemory> {
+    let mut parts = empty(alloc)?;
+    let value = Postfix::constant(alloc, 7)?;
+    parts.names.publics.push(public(alloc, b"q", value)?)?;
+    module(parts)
+}
+
+#[test]
+fn equal_references_become_one(rt: HostRuntime) {
+    let alloc = rt.alloc();
+    let first = asking(alloc, None, false).expect(&rt, "memory");
+    let second = asking(alloc, None, false).expect(&rt, "memory");
+    let list = pair(alloc, first, second).expect(&rt, "memory");
+    let linked = link(alloc, &list, b"").expect(&rt, "linked");
+    let loads = linked.parts().loads.as_slice();
+    assert_eq!(rt; linked.parts().names.references.len(), 1);
+    assert!(rt; is_field(&loads[1], &[Token::Var(Letter::X, 0)]));
+    assert!(rt; is_field(&loads[3], &[Token::Var(Letter::X, 0)]));
+}
+
+#[test]
+fn a_note_keeps_references_apart(rt: HostRuntime) {
+    let alloc = rt.alloc();
+    let first = asking(alloc, None, false).expect(&rt, "memory");
+    let second = asking(alloc, None, true).expect(&rt, "memory");
+    let list = pair(alloc, first, second).expect(&rt, "memory");
+    let linked = link(alloc, &list, b"").expect(&rt, "linked");
+    let references = linked.parts().names.references.as_slice();
+    assert_eq!(rt; references.len(), 2);
+    assert_eq!(rt; references[0].notes.len(), 0);
+    assert_eq!(rt; references[1].notes.len(), 1);
+    assert!(rt;
+        is_field(
+            &linked.parts().loads.as_slice()[3],
+            &[Token::Var(Letter::X, 1)]
+        )
+    );
+}
+
+#[test]
+fn weak_references_stay_apart_and_a_public_meets_both(rt: HostRuntime) {
+    let alloc = rt.alloc();
+    let one = Weak {
+        size: 0,
+        default: 1,
+    };
+    let two = Weak {
+        size: 0,
+        default: 2,
+    };
+    let first = asking(alloc, Some(one), false).expect(&rt, "memory");
+    let second = asking(alloc, Some(two), false).expect(&rt, "memory");
+    let mut list = pair(alloc, first, second).expect(&rt, "memory");
+    let linked = link(alloc, &list, b"").expect(&rt, "linked");
+    assert_eq!(rt; linked.parts().names.references.len(), 2);
+    assert!(rt;
+        is_field(
+            &linked.parts().loads.as_slice()[3],
+            &[Token::Var(Letter::X, 1)]
+        )
+    );
+    list.push(answering(alloc).expect(&rt, "memory"))
+        .expect(&rt, "memory");
+    let linked = link(alloc, &list, b"").expect(&rt, "linked");
+    assert_eq!(rt; linked.parts().names.references.len(), 0);
+    assert!(rt;
+        is_field(
+            &linked.parts().loads.as_slice()[1],
+            &[Token::Var(Letter::I, 0)]
+        )
+    );
+    assert!(rt;
+        is_field(
+            &linked.parts().loads.as_slice()[3],
+            &[Token::Var(Letter::I, 0)]
+        )
+    );
+}
+
+fn name(alloc: Global, text: &[u8]) -> Result<DebugItem, NoMemory> {
+    Ok(DebugItem::Name(Bytes::from_slice(alloc, text)?))
+}
+
+// A block with the items, of the section 0 from its begin.
+fn block(
+    alloc: Global,
+    head: BlockHead,
+    items: List<DebugItem>,
+    end: Option<Postfix>,
+) -> Result<DebugItem, NoMemory> {
+    Ok(DebugItem::Block(Block {
+        head,
+        name: Bytes::from_slice(alloc, b"b")?,
+        items,
+        end,
+    }))
+}
+
+// Blocks of all kinds, each in the one before it, with two names, a note and a value.
+fn debug_items(alloc: Global) -> Result<List<DebugItem>, NoMemory> {
+    let mut inner = List::new(alloc);
+    inner.push(name(alloc, b"v")?)?;
+    inner.push(DebugItem::Note {
+        name: 1,
+        note: note(7, 12),
+    })?;
+    inner.push(DebugItem::Value {
+        name: 0,
+        value: sum(alloc, Letter::X, 0, 3)?,
+    })?;
+    let head = BlockHead::Section {
+        section_type: 1,
+        section: 0,
+        offset: variable(alloc, Letter::R, 0)?,
+    };
+    let part = block(alloc, head, inner, Some(sum(alloc, Letter::R, 0, 2)?))?;
+    let mut local = List::new(alloc);
+    local.push(part)?;
+    let head = BlockHead::Local {
+        stack: 5,
+        type_index: 6,
+        offset: variable(alloc, Letter::I, 0)?,
+    };
+    let local = block(alloc, head, local, None)?;
+    let mut global = List::new(alloc);
+    global.push(local)?;
+    let head = BlockHead::Global {
+        stack: 7,
+        type_index: 8,
+        offset: variable(alloc, Letter::R, 0)?,
+    };
+    let global = block(alloc, head, global, Some(variable(alloc, Letter::S, 0)?))?;
+    let mut numbers: ArrayVec<u64, 6> = ArrayVec::new();
+    numbers.push(9);
+    let mut source = List::new(alloc);
+    source.push(global)?;
+    let source = block(alloc, BlockHead::Source { numbers }, source, None)?;
+    let mut whole = List::new(alloc);
+    whole.push(name(alloc, b"u")?)?;
+    whole.push(source)?;
+    let whole = block(alloc, BlockHead::Module, whole, None)?;
+    let mut items = List::new(alloc);
+    items.push(whole)?;
+    Ok(items)
+}
+
+// A module with something of every kind, whose public has this name.
+fn full(alloc: Global, its: &[u8]) -> Result<Module, NoMemory> {
+    let mut parts = empty(alloc)?;
+    parts.name = Bytes::from_slice(alloc, its)?;
+    parts.ext = Bytes::from_slice(alloc, its)?;
+    let mut placed = section(alloc, b"p", 8)?;
+    placed.absolute = true;
+    placed.base = Some(256);
+    placed.purpose = Some(Purpose::Rom);
+    parts.sections.push(placed)?;
+    parts.sections.push(section(alloc, b"t", 40)?)?;
+    let value = sum(alloc, Letter::L, 1, 4)?;
+    let mut its = public(alloc, its, value)?;
+    its.notes.push(note(7, 3))?;
+    parts.names.publics.push(its)?;
+    let weak = Weak {
+        size: 2,
+        default: 9,
+    };
+    let mut wanted = reference(alloc, b"w", Some(weak))?;
+    wanted.notes.push(note(8, 4))?;
+    parts.names.references.push(wanted)?;
+    parts.names.references.push(reference(alloc, b"b", None)?)?;
+    parts.debug = debug_items(alloc)?;
+    parts.loads.push(Load::SetSection(1))?;
+    let value = sum(alloc, Letter::R, 1, 2)?;
+    parts.loads.push(Load::SetPc { section: 1, value })?;
+    let literal = Bytes::from_slice(alloc, &[1, 2, 3])?;
+    parts.loads.push(Load::One(Item::Literal(literal)))?;
+    let mut items = List::new(alloc);
+    items.push(Item::Literal(Bytes::from_slice(alloc, &[4])?))?;
+    items.push(Item::Field {
+        kind: FieldKind::Signed,
+        value: variable(alloc, Letter::P, 1)?,
+        size: 2,
+    })?;
+    parts.loads.push(Load::Repeat { count: 3, items })?;
+    let value = variable(alloc, Letter::X, 1)?;
+    parts.loads.push(field(FieldKind::Unsigned, 4, value))?;
+    module(parts)
+}
+
+// Three of them, with the publics a, b and c.
+fn three(alloc: Global) -> Result<Vec<Module>, NoMemory> {
+    let mut list = Vec::new(alloc);
+    list.push(full(alloc, b"a")?)?;
+    list.push(full(alloc, b"b")?)?;
+    list.push(full(alloc, b"c")?)?;
+    Ok(list)
+}
+
+// The blocks of the module, each by its only or its second item, down to the block of a section.
+fn section_block(item: &DebugItem) -> Option<&Block> {
+    let DebugItem::Block(whole) = item else {
+        return None;
+    };
+    let Some(DebugItem::Block(source)) = whole.items.get(1) else {
+        return None;
+    };
+    let Some(DebugItem::Block(global)) = source.items.get(0) else {
+        return None;
+    };
+    let Some(DebugItem::Block(local)) = global.items.get(0) else {
+        return None;
+    };
+    match local.items.get(0) {
+        Some(DebugItem::Block(part)) => Some(part),
+        _ => None,
+    }
+}
+
+#[test]
+fn every_entry_is_moved(rt: HostRuntime) {
+    let alloc = rt.alloc();
+    let list = three(alloc).expect(&rt, "memory");
+    let linked = link(alloc, &list, b"whole").expect(&rt, "linked");
+    let parts = linked.parts();
+    assert_eq!(rt; parts.ext.as_slice(), &b"a"[..]);
+    assert_eq!(rt; parts.sections.len(), 6);
+    assert_eq!(rt; parts.sections.as_slice()[4].base, Some(256));
+    let publics = parts.names.publics.as_slice();
+    assert_eq!(rt; publics[2].name.as_slice(), &b"c"[..]);
+    assert_eq!(rt; publics[2].notes.len(), 1);
+    assert!(rt;
+        is_tokens(
+            &publics[2].value,
+            &[Token::Var(Letter::L, 5), Token::Number(4), PLUS]
+        )
+    );
+    // the weak reference is one in all three, and the public b meets the other
+    let references = parts.names.references.as_slice();
+    assert_eq!(rt; references.len(), 1);
+    assert_eq!(rt;
+        references[0].weak,
+        Some(Weak {
+            size: 2,
+            default: 9
+        })
+    );
+    assert_eq!(rt; references[0].notes.len(), 1);
+    let loads = parts.loads.as_slice();
+    assert_eq!(rt; loads.len(), 15);
+    assert!(rt; sets_section(&loads[10], 5));
+    assert!(rt; is_field(&loads[4], &[Token::Var(Letter::I, 1)]));
+    assert!(rt; is_field(&loads[14], &[Token::Var(Letter::I, 1)]));
+    let Load::SetPc { section, value } = &loads[11] else {
+        panic!(rt; "no SetPc");
+    };
+    assert_eq!(rt; *section, 5);
+    assert!(rt; is_tokens(value, &[Token::Var(Letter::R, 5), Token::Number(2), PLUS]));
+    let Load::Repeat { count, items } = &loads[13] else {
+        panic!(rt; "no Repeat");
+    };
+    assert_eq!(rt; *count, 3);
+    assert!(rt;
+        matches!(&items.as_slice()[1], Item::Field { value, .. } if is_tokens(value, &[Token::Var(Letter::P, 5)]))
+    );
+}
+
+#[test]
+fn debug_items_are_moved(rt: HostRuntime) {
+    let alloc = rt.alloc();
+    let list = three(alloc).expect(&rt, "memory");
+    let linked = link(alloc, &list, b"whole").expect(&rt, "linked");
+    let debug = linked.parts().debug.as_slice();
+    assert_eq!(rt; debug.len(), 3);
+    let Some(part) = section_block(&debug[2]) else {
+        panic!(rt; "no block");
+    };
+    let BlockHead::Section {
+        section,
+        offset,
+        ..
+    } = &part.head
+    else {
+        panic!(rt; "no section");
+    };
+    assert_eq!(rt; *section, 4);
+    assert!(rt; is_tokens(offset, &[Token::Var(Letter::R, 4)]));
+    let items = part.items.as_slice();
+    assert!(rt; matches!(&items[1], DebugItem::Note { name, .. } if *name == 5));
+    let DebugItem::Value { name, value } = &items[2] else {
+        panic!(rt; "no value");
+    };
+    assert_eq!(rt; *name, 4);
+    assert!(rt; is_tokens(value, &[Token::Var(Letter::X, 0), Token::Number(3), PLUS]));
+    let Some(end) = &part.end else {
+        panic!(rt; "no end");
+    };
+    assert!(rt; is_tokens(end, &[Token::Var(Letter::R, 4), Token::Number(2), PLUS]));
+}

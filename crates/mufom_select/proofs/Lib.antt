@@ -1,0 +1,4 @@
+pub mod ChoiceLaws
+pub mod Chosen
+pub mod IndexLaws
+pub mod Least

@@ -1,0 +1,130 @@
+ghost use Rattle.std.specs.Prelude.{◌≡◌, ◌<◌, ◌^◌, [], ◌∷◌, length, option_to_list, IfSome, IfOk, OnOk};
+ghost use Rattle.mufom_meaning.specs.Selection.{IsSelected};
+ghost use Rattle.mufom_select.specs.Choice.{needed_in, all_needed_in, choice, with_member, with_members, positions_from, with_publics, with_providers, IsWithin};
+ghost use Rattle.mufom_select.specs.Underway.{IsStart, IsUnderway};
+
+use crate::providers::{defined, providers};
+use mufom_module::Module;
+use mufom_names::{NameIndex, Reference};
+use mufom_numbers::{List, NoMemory};
+use std::alloc::Global;
+
+// The member that the reference needs: it is strong, and the roots do not define its name.
+fn needed(defined: &NameIndex, providers: &NameIndex, reference: &Reference) -> Option<u32>
+    ensures { result ≡ needed_in defined.now providers.now reference.now }
+{
+    if reference.weak.is_some() {
+        return None;
+    }
+    let name = reference.name.as_slice();
+    if defined.find(name).is_some() {
+        return None;
+    }
+    providers.find(name)
+}
+
+// Marks a member and appends it to the order, unless it is marked already.
+fn mark(member: u32, marks: &mut [bool], order: &mut List<u32>) -> Result<(), NoMemory>
+    requires { member < length marks.old }
+    ensures { OnOk result (choice marks.new order.new ≡ with_member (choice marks.old order.old) member) }
+{
+    if !marks[member as usize] {
+        order.push(member)?;
+        marks[member as usize] = true;
+    }
+    Ok(())
+}
+
+// Marks the member that the reference needs, where it needs one.
+fn mark_needed(
+    needed: Option<u32>,
+    marks: &mut [bool],
+    order: &mut List<u32>,
+) -> Result<(), NoMemory>
+    requires { IfSome needed (λ member. member < length marks.old) }
+    ensures { OnOk result (choice marks.new order.new ≡ with_members (choice marks.old order.old) (option_to_list needed)) }
+{
+    match needed {
+        Some(member) => mark(member, marks, order),
+        None => Ok(()),
+    }
+}
+
+// Marks the members that the references need, and appends each new one to the order.
+fn choose(
+    defined: &NameIndex,
+    providers: &NameIndex,
+    references: &[Reference],
+    marks: &mut [bool],
+    order: &mut List<u32>,
+) -> Result<(), NoMemory>
+    requires { IsWithin providers.now (length marks.old) }
+    ensures { let all = all_needed_in defined.now providers.now references.now in OnOk result (choice marks.new order.new ≡ with_members (choice marks.old order.old) all) }
+{
+    for reference in references {
+        mark_needed(needed(defined, providers, reference), marks, order)?;
+    }
+    Ok(())
+}
+
+// The positions of the marks, in order.
+fn positions(alloc: Global, marks: &[bool]) -> Result<List<u32>, NoMemory>
+    requires { length marks.now < 2 ^ 32 }
+    ensures { IfOk result (λ positions. positions ≡ positions_from 0 marks.now) }
+{
+    let mut positions = List::new(alloc);
+    for position in 0..marks.len() {
+        if marks[position] {
+            positions.push(position as u32)?;
+        }
+    }
+    Ok(positions)
+}
+
+// Marks what the roots need, and then what each member of the order needs. The order grows while the
+// loop goes over it.
+fn choose_all(
+    defined: &NameIndex,
+    providers: &NameIndex,
+    roots: &Module,
+    members: &[Module],
+    marks: &mut [bool],
+    order: &mut List<u32>,
+) -> Result<(), NoMemory>
+    requires defined { defined.now ≡ with_publics [] 0 roots.now.names.publics }
+    requires providers { providers.now ≡ with_providers [] 0 members.now }
+    requires start { IsStart (length members.now) (choice marks.old order.old) }
+    ensures { OnOk result (IsUnderway (roots.now ∷ []) members.now (length order.new) (choice marks.new order.new)) }
+{
+    let references = roots.parts().names.references.as_slice();
+    choose(defined, providers, references, marks, order)?;
+    for turn in 0..members.len() {
+        let Some(member) = order.get(turn) else {
+            break;
+        };
+        let references = members[*member as usize]
+            .parts()
+            .names
+            .references
+            .as_slice();
+        choose(defined, providers, references, marks, order)?;
+    }
+    Ok(())
+}
+
+/// The positions, in increasing order, of the members that are selected for the roots.
+///
+/// A member is selected where it is the first that defines a name which a strong reference of the
+/// roots or of a selected member has and which the roots do not define. The time is proportional to
+/// the number of all names, expected. There must be fewer than 2^32 members.
+pub fn select(alloc: Global, roots: &Module, members: &[Module]) -> Result<List<u32>, NoMemory>
+    requires { length members.now < 2 ^ 32 }
+    ensures { IfOk result (λ chosen. IsSelected (roots.now ∷ []) members.now chosen) }
+{
+    let defined = defined(alloc, roots)?;
+    let providers = providers(alloc, members)?;
+    let mut marks = vec![in alloc; false; members.len()]?;
+    let mut order = List::new(alloc);
+    choose_all(&defined, &providers, roots, members, &mut marks, &mut order)?;
+    positions(alloc, &marks)
+}
