@@ -6,7 +6,7 @@ use Rattle.std.proofs.lemmas.Slice.Eq.{bytes_eq-Decides}
 use Rattle.mufom_names.specs.Index.{Entry, position_of, with_entry, keys_of}
 use Rattle.mufom_plan.specs.Names.{has_name}
 use Rattle.mufom_meaning.specs.LinkAnswer.{first_duplicate}
-use Rattle.mufom_meaning.specs.Joined.{place_of}
+use Rattle.mufom_meaning.specs.Joined.{position_of as place_of}
 use Rattle.mufom_link.specs.declared.refusal.LinkRefusal.{LinkRefusal}
 use Rattle.mufom_link.specs.declared.refusal.LinkRefusal.TheVariants.{Mismatch, Duplicate, DuplicateStart, NoMemory}
 use Rattle.mufom_link.specs.Publics.{numbered_from, indexed, IsRefusedName}

@@ -13,7 +13,7 @@ use Rattle.mufom_names.specs.Keys.{reference_key, AreSameNotes, IsSameReference,
 use Rattle.mufom_names.proofs.KeyLaws.{keys-tell}
 use Rattle.mufom_plan.specs.Names.{has_name}
 use Rattle.mufom_meaning.specs.Flat.{distinct}
-use Rattle.mufom_meaning.specs.Joined.{place_of, same_reference}
+use Rattle.mufom_meaning.specs.Joined.{position_of as place_of, same_reference}
 use Rattle.mufom_meaning.proofs.Distinct.{filter-weaker, differs}
 use Rattle.mufom_meaning.proofs.References.{same_reference-decides}
 use Rattle.mufom_link.specs.Publics.{numbered_from}

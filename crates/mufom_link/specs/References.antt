@@ -8,7 +8,7 @@ use Rattle.mufom_names.specs.declared.name.Reference.{Reference}
 use Rattle.mufom_names.specs.Index.{Entry}
 use Rattle.mufom_names.specs.Keys.{reference_key}
 use Rattle.mufom_plan.specs.Names.{has_name}
-use Rattle.mufom_meaning.specs.Joined.{place_of, same_reference}
+use Rattle.mufom_meaning.specs.Joined.{position_of as place_of, same_reference}
 use Rattle.mufom_link.specs.Publics.{numbered_from}
 
 -- an equal reference is kept

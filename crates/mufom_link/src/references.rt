@@ -4,7 +4,7 @@ ghost use Rattle.std.specs.Prelude.{◌≡◌, [], ◌+◌, ◌<◌, ◌^◌, le
 ghost use Rattle.std.specs.List.{AllByRecursion};
 ghost use Rattle.mufom_names.specs.Index.{keys_of};
 ghost use Rattle.mufom_names.specs.Keys.{IsShortReference};
-ghost use Rattle.mufom_meaning.specs.Joined.{place_of, same_reference};
+ghost use Rattle.mufom_meaning.specs.Joined.{position_of as place_of, same_reference};
 ghost use Rattle.mufom_link.specs.Publics.{numbered_from};
 ghost use Rattle.mufom_link.specs.References.{merged_with, kept_with, kept_after, target_in, targets_after, keyed};
 
