@@ -185,6 +185,7 @@ module _ (reads_debug : Bool) where
       out_same,
     )
     stop_answers text (outcome.Refused (refusal.TooManyFiles count)) split place why = absurd why
+    stop_answers text (outcome.Refused (refusal.TooDeep depth)) split place why = absurd why
     stop_answers text (outcome.Usage f) split place why = absurd why
     stop_answers text (outcome.ReadFault (input.File i)) split place why = (rose_since before.reads between.reads now.reads so_far.later why.1, accepted_before i old.files why.0 so_far.files, out_same)
     stop_answers text outcome.WriteFault split place why = absurd why
@@ -198,6 +199,7 @@ module _ (reads_debug : Bool) where
     opened_count (outcome.Refused (refusal.Read i r)) why = let is = why.0 in omega (arith, is)
     opened_count (outcome.Refused (refusal.InputLimit i)) why = let is = why.0 in omega (arith, is)
     opened_count (outcome.Refused (refusal.TooManyFiles count)) why = absurd why
+    opened_count (outcome.Refused (refusal.TooDeep depth)) why = absurd why
     opened_count (outcome.Usage f) why = absurd why
     opened_count (outcome.ReadFault (input.File i)) why = let is = why.0 in omega (arith, is)
     opened_count outcome.WriteFault why = absurd why

@@ -29,6 +29,7 @@ module _ (name : List ℕ) (old mid new : Meaning) (before between now : Faults)
   dumps_then_known (outcome.Refused (refusal.Read i r)) d = (d.0, d.1, sym out_same ∙ d.2)
   dumps_then_known (outcome.Refused (refusal.InputLimit i)) d = absurd d
   dumps_then_known (outcome.Refused (refusal.TooManyFiles count)) d = absurd d
+  dumps_then_known (outcome.Refused (refusal.TooDeep depth)) d = absurd d
   dumps_then_known (outcome.Usage f) d = absurd d
   dumps_then_known (outcome.ReadFault (input.File i)) d = (d.0, subst (λ (n : ℕ). Rose before.reads n) reads_same d.1, sym out_same ∙ d.2)
   dumps_then_known outcome.WriteFault d =
@@ -41,6 +42,7 @@ module _ (name : List ℕ) (old mid new : Meaning) (before between now : Faults)
   dumps_without_memory (outcome.Refused (refusal.Read i r)) may d = sym out_same ∙ d.2
   dumps_without_memory (outcome.Refused (refusal.InputLimit i)) may d = absurd d
   dumps_without_memory (outcome.Refused (refusal.TooManyFiles count)) may d = absurd d
+  dumps_without_memory (outcome.Refused (refusal.TooDeep depth)) may d = absurd d
   dumps_without_memory (outcome.Usage f) may d = absurd may
   dumps_without_memory (outcome.ReadFault (input.File i)) may d = sym out_same ∙ d.2
   dumps_without_memory outcome.WriteFault may d = absurd may
@@ -59,6 +61,7 @@ module _ (reads_debug : Bool) (text : List Parts → List ℕ) (names : List (Li
   lists_then_known (outcome.Refused (refusal.Read i r)) d = (d.0, sym lists_out_same ∙ d.1)
   lists_then_known (outcome.Refused (refusal.InputLimit i)) d = (d.0, sym lists_out_same ∙ d.1)
   lists_then_known (outcome.Refused (refusal.TooManyFiles count)) d = absurd d
+  lists_then_known (outcome.Refused (refusal.TooDeep depth)) d = absurd d
   lists_then_known (outcome.Usage f) d = absurd d
   lists_then_known (outcome.ReadFault (input.File i)) d = (subst (λ (n : ℕ). Rose before.reads n) (sym (ap (λ (f : Faults). f.reads) counts)) d.0, d.1, sym lists_out_same ∙ d.2)
   lists_then_known outcome.WriteFault d = (
@@ -72,6 +75,7 @@ module _ (reads_debug : Bool) (text : List Parts → List ℕ) (names : List (Li
   lists_without_memory (outcome.Refused (refusal.Read i r)) may d = sym lists_out_same ∙ d.1
   lists_without_memory (outcome.Refused (refusal.InputLimit i)) may d = sym lists_out_same ∙ d.1
   lists_without_memory (outcome.Refused (refusal.TooManyFiles count)) may d = absurd d
+  lists_without_memory (outcome.Refused (refusal.TooDeep depth)) may d = absurd d
   lists_without_memory (outcome.Usage f) may d = absurd may
   lists_without_memory (outcome.ReadFault (input.File i)) may d = sym lists_out_same ∙ d.2
   lists_without_memory outcome.WriteFault may d = absurd may

@@ -63,14 +63,19 @@ abbrev pub usage_text : UsageFault → Text
 usage_text usage.NoCommand = codes "no command"
 usage_text usage.BadWords = codes "bad words"
 usage_text usage.NoFile = codes "no file"
+usage_text usage.EmptyGroup = codes "empty group"
+usage_text usage.OpenGroup = codes "open group"
 usage_text usage.StrayBracket = codes "stray bracket"
 usage_text usage.BadMembers = codes "bad members"
 usage_text usage.FileCount = codes "file count"
+usage_text usage.BadCount = codes "bad count"
+usage_text usage.LongName = codes "long name"
 
 abbrev pub refusal_text : Refusal → Text
 refusal_text (refusal.Read n r) = codes "file " ++ decimal n ++ codes " at " ++ decimal r.place ++ codes ": " ++ reason_text r.reason
 refusal_text (refusal.InputLimit n) = codes "file " ++ decimal n ++ codes ": InputLimit"
 refusal_text (refusal.TooManyFiles n) = codes "TooManyFiles " ++ decimal n
+refusal_text (refusal.TooDeep n) = codes "TooDeep " ++ decimal n
 
 abbrev pub input_text : Input → Text
 input_text (input.File n) = codes "file " ++ decimal n

@@ -29,6 +29,7 @@ FileStops reads_debug name number limit files before now outcome.Done = ⊥
 FileStops reads_debug name number limit files before now (outcome.Refused (refusal.Read i r)) = (i ≡ number) × FileHas name files (λ bytes. IsRefusedWithin reads_debug limit bytes r.place r.reason)
 FileStops reads_debug name number limit files before now (outcome.Refused (refusal.InputLimit i)) = (i ≡ number) × FileHas name files (λ bytes. IsPastLimit reads_debug limit bytes)
 FileStops reads_debug name number limit files before now (outcome.Refused (refusal.TooManyFiles count)) = ⊥
+FileStops reads_debug name number limit files before now (outcome.Refused (refusal.TooDeep depth)) = ⊥
 FileStops reads_debug name number limit files before now (outcome.Usage f) = ⊥
 FileStops reads_debug name number limit files before now (outcome.ReadFault (input.File i)) = (i ≡ number) × Rose before.reads now.reads
 FileStops reads_debug name number limit files before now outcome.WriteFault = ⊥

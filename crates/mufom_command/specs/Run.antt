@@ -32,6 +32,7 @@ Dumps name old new before now outcome.Done = FileHas name old.files (λ bytes. (
 Dumps name old new before now (outcome.Refused (refusal.Read i r)) = (i ≡ 0) × FileHas name old.files (λ bytes. Refuses bytes r) × (new.out ≡ old.out)
 Dumps name old new before now (outcome.Refused (refusal.InputLimit i)) = ⊥
 Dumps name old new before now (outcome.Refused (refusal.TooManyFiles count)) = ⊥
+Dumps name old new before now (outcome.Refused (refusal.TooDeep depth)) = ⊥
 Dumps name old new before now (outcome.Usage f) = ⊥
 Dumps name old new before now (outcome.ReadFault (input.File i)) = (i ≡ 0) × Rose before.reads now.reads × (new.out ≡ old.out)
 Dumps name old new before now outcome.WriteFault = Rose before.writes now.writes × FileHas name old.files (λ bytes. (image : Image) × IsPlainModule image bytes × GrowsByPrefix old.out new.out (dump_text image))
@@ -44,6 +45,7 @@ Lists reads_debug text names old new before now outcome.Done = IfSome old.files 
 Lists reads_debug text names old new before now (outcome.Refused (refusal.Read i r)) = IfSome old.files (λ files. ComeTo reads_debug files names (refused i r)) × (new.out ≡ old.out)
 Lists reads_debug text names old new before now (outcome.Refused (refusal.InputLimit i)) = IfSome old.files (λ files. ComeTo reads_debug files names (past_limit i)) × (new.out ≡ old.out)
 Lists reads_debug text names old new before now (outcome.Refused (refusal.TooManyFiles count)) = ⊥
+Lists reads_debug text names old new before now (outcome.Refused (refusal.TooDeep depth)) = ⊥
 Lists reads_debug text names old new before now (outcome.Usage f) = ⊥
 Lists reads_debug text names old new before now (outcome.ReadFault (input.File i)) =
     Rose before.reads now.reads × IfSome old.files (λ files. (ms : List Parts) × ComeTo reads_debug files (take i names) (accepted ms)) × (new.out ≡ old.out)
@@ -88,6 +90,7 @@ IsPrintedAs answer result = (result ≡ answer) ⊎ ((result ≡ outcome.NoMemor
 abbrev pub stop_answer : WordsStop → Outcome
 stop_answer (stop.Usage f) = outcome.Usage f
 stop_answer (stop.TooManyFiles count) = outcome.Refused (refusal.TooManyFiles count)
+stop_answer (stop.TooDeep depth) = outcome.Refused (refusal.TooDeep depth)
 stop_answer stop.NoMemory = outcome.NoMemory
 
 -- the words are no command, or no memory was found for them; nothing was touched
@@ -109,7 +112,7 @@ pub record IsDump (words : List (List ℕ)) (old new : Meaning) (before now : Fa
 abbrev pub text_by : Verb → List Parts → List ℕ
 text_by verbs.Show ms = flat_map module_text ms
 text_by verbs.Check ms = check_text ms
-text_by verbs.Dump ms = []
+text_by _ ms = []
 
 -- the words name files to show or to check, and no other was opened
 pub record IsListing (words : List (List ℕ)) (old new : Meaning) (before now : Faults) (result : Outcome) : Type 0 where

@@ -9,7 +9,7 @@ ghost use Rattle.mufom_command.specs.Run.{Answers, Complains, Dumps, IsPrinted, 
 ghost use Rattle.mufom_command.specs.Text.{check_text, dump_text};
 ghost use Rattle.mufom_text.specs.Show.{module_text};
 ghost use Rattle.mufom_words.specs.Answer.{answer_of};
-ghost use Rattle.mufom_words.specs.Options.{takes_one_file};
+ghost use Rattle.mufom_words.specs.Options.{is_obeyed, takes_one_file};
 
 use crate::complaint::{fault_line, refusal_line, usage_line};
 use crate::inputs::read_files;
@@ -23,7 +23,7 @@ use mufom_module::Module;
 use mufom_numbers::{NoMemory, Text};
 use mufom_read::ReadRefusal;
 use mufom_text::{PrintStop, print_module};
-use mufom_words::{Command, Verb, WordsStop, read_words};
+use mufom_words::{Command, UsageFault, Verb, WordsStop, read_words};
 use std::alloc::Global;
 
 // The text of a plain module's image, or why there is none.
@@ -172,6 +172,7 @@ fn outcome_of_stop(stop: WordsStop) -> Outcome
     match stop {
         WordsStop::Usage(fault) => Outcome::Usage(fault),
         WordsStop::TooManyFiles(count) => Outcome::Refused(Refusal::TooManyFiles(count)),
+        WordsStop::TooDeep(depth) => Outcome::Refused(Refusal::TooDeep(depth)),
         WordsStop::NoMemory => Outcome::NoMemory,
     }
 }
@@ -180,6 +181,7 @@ fn outcome_of_stop(stop: WordsStop) -> Outcome
 fn run_command<H: Host>(alloc: Global, command: &Command, host: &mut H) -> Outcome
     requires some { 1 ≤ length command.now.files }
     requires few { length command.now.files < 2 ^ 32 }
+    requires obeyed { is_obeyed command.now.verb ≡ true }
     requires one { takes_one_file command.now.verb ≡ true → length command.now.files ≡ 1 }
     ensures answers { (words : List (List ℕ)) → answer_of words ≡ Ok command.now
         → Answers words (H.meaning host.old) (H.meaning host.new) (H.faults host.old) (H.faults host.new) result }
@@ -192,6 +194,8 @@ fn run_command<H: Host>(alloc: Global, command: &Command, host: &mut H) -> Outco
         Verb::Show => show(alloc, names, reads_debug, host),
         Verb::Check => check(alloc, names, reads_debug, host),
         Verb::Dump => dump(alloc, names[0].as_str(), host),
+        // No words give these yet.
+        Verb::Link | Verb::Locate | Verb::Make => Outcome::Usage(UsageFault::NoCommand),
     }
 }
 

@@ -61,9 +61,13 @@ pub(crate) fn usage_line(fault: UsageFault) -> &'static str
         UsageFault::NoCommand => "usage: no command\n",
         UsageFault::BadWords => "usage: bad words\n",
         UsageFault::NoFile => "usage: no file\n",
+        UsageFault::EmptyGroup => "usage: empty group\n",
+        UsageFault::OpenGroup => "usage: open group\n",
         UsageFault::StrayBracket => "usage: stray bracket\n",
         UsageFault::BadMembers => "usage: bad members\n",
         UsageFault::FileCount => "usage: file count\n",
+        UsageFault::BadCount => "usage: bad count\n",
+        UsageFault::LongName => "usage: long name\n",
     }
 }
 
@@ -90,6 +94,13 @@ fn count_line(alloc: Global, count: u32) -> Result<String, NoMemory>
     Ok(format!(in alloc; "refused: TooManyFiles {count}\n")?)
 }
 
+// The line of words with too many groups that are open at once.
+fn depth_line(alloc: Global, depth: u32) -> Result<String, NoMemory>
+    ensures { IfOk result (λ text. string_bytes text ≡ complaint (Outcome.Refused (Refusal.TooDeep depth))) }
+{
+    Ok(format!(in alloc; "refused: TooDeep {depth}\n")?)
+}
+
 /// The line of a refusal.
 pub(crate) fn refusal_line(alloc: Global, refusal: Refusal) -> Result<String, NoMemory>
     ensures { IfOk result (λ text. string_bytes text ≡ complaint (Outcome.Refused refusal)) }
@@ -98,6 +109,7 @@ pub(crate) fn refusal_line(alloc: Global, refusal: Refusal) -> Result<String, No
         Refusal::Read(file, refusal) => read_line(alloc, file, refusal),
         Refusal::InputLimit(file) => limit_line(alloc, file),
         Refusal::TooManyFiles(count) => count_line(alloc, count),
+        Refusal::TooDeep(depth) => depth_line(alloc, depth),
     }
 }
 

@@ -20,6 +20,8 @@ pub enum Refusal {
     InputLimit(u32),
     /// The words name this many files, which are too many.
     TooManyFiles(u32),
+    /// This number of groups is open at once, more than a run may have.
+    TooDeep(u32),
 }
 
 /// How a run ended.

@@ -9,8 +9,8 @@ use Rattle.clap.specs.Lexer.{long_of, short_of}
 use Rattle.clap.specs.Simple.{argument_words, built, names_of}
 use Rattle.clap.specs.Walk.{Held, Names, Outcome, Row, Rule, Step, Text, Waiting, Walk, action_of, after_flag, after_step, all_of, arg_by_id, arg_by_index, arg_by_long, arg_by_short, at_row, attached_value, count_of, bundle, bundle_met, bundle_step, counted, default_rows, done, flag_met, has_row, is_pending, long_met, long_or_other, more_values, new_count, next, nothing_held, option, option_met, option_word, plain, plain_word, positional_held, pushed, reacted, reading_by, refused, rows_after, settled, settled_rows, short_met, short_or_plain, subcommand, subcommand_met, subcommand_or_other, takes_several, takes_values, to_positional, trailing, used, used_as, used_by_id, value, values_or_missing, waits, walk, walk_from, walked, walked_from, with_count, with_default, with_values, without, word_met}
 use Rattle.clap.specs.Walk.{idle, positional}
-use Rattle.mufom_words.specs.declared.command.Verb.{Verb}
-use Rattle.mufom_words.specs.declared.command.Verb.TheVariants.{Show, Check, Dump}
+use Rattle.mufom_words.specs.declared.form.Form.{Form}
+use Rattle.mufom_words.specs.declared.form.Form.TheVariants as form
 use Rattle.mufom_words.specs.Options.{app_for}
 use Rattle.mufom_words.specs.Answer.{given}
 use Rattle.clap.specs.declared.builder.action.ArgAction.{ArgAction}
@@ -399,19 +399,27 @@ count-rows_after c names words mild =
 
 -- ---- the commands
 
-app_for-mild : (v : Verb) → AreMild (built (app_for v)).top.rules
-app_for-mild Show = (inl refl, (inr (refl, refl, refl, refl), tt))
-app_for-mild Check = (inl refl, (inr (refl, refl, refl, refl), tt))
-app_for-mild Dump = (inr (refl, refl, refl, refl), tt)
+app_for-mild : (f : Form) → AreMild (built (app_for f)).top.rules
+app_for-mild form.Show = (inl refl, (inr (refl, refl, refl, refl), tt))
+app_for-mild form.Check = (inl refl, (inr (refl, refl, refl, refl), tt))
+app_for-mild form.Link = (inl refl, (inl refl, (inl refl, (inr (refl, refl, refl, refl), tt))))
+app_for-mild form.Locate = (inl refl, (inl refl, (inl refl, (inr (refl, refl, refl, refl), tt))))
+app_for-mild form.Dump = (inl refl, (inl refl, (inr (refl, refl, refl, refl), tt)))
+app_for-mild form.PlainDump = (inr (refl, refl, refl, refl), tt)
+app_for-mild form.Make = (inr (refl, refl, refl, refl), tt)
 
-app_for-words : (v : Verb) (words : List Text) → argument_words (app_for v) words ≡ drop 1 words
-app_for-words Show words = refl
-app_for-words Check words = refl
-app_for-words Dump words = refl
+app_for-words : (f : Form) (words : List Text) → argument_words (app_for f) words ≡ drop 1 words
+app_for-words form.Show words = refl
+app_for-words form.Check words = refl
+app_for-words form.Link words = refl
+app_for-words form.Locate words = refl
+app_for-words form.Dump words = refl
+app_for-words form.PlainDump words = refl
+app_for-words form.Make words = refl
 
-pub files-within : (v : Verb) (words : List Text) → length (given v words).files ≤ length words
-files-within v words =
-    let after = count-rows_after (built (app_for v)).top.rules (names_of (built (app_for v))) (argument_words (app_for v) words) (app_for-mild v) in
-    let fewer : length (argument_words (app_for v) words) ≡ length (drop 1 words) = ap length (app_for-words v words) in
+pub operands-within : (f : Form) (words : List Text) → length (given f words).operands ≤ length words
+operands-within f words =
+    let after = count-rows_after (built (app_for f)).top.rules (names_of (built (app_for f))) (argument_words (app_for f) words) (app_for-mild f) in
+    let fewer : length (argument_words (app_for f) words) ≡ length (drop 1 words) = ap length (app_for-words f words) in
     let drops = length-drop 1 words in
     omega arith

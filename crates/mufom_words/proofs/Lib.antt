@@ -1,5 +1,9 @@
-pub mod Accepted
 pub mod Apps
 pub mod Counts
 pub mod Refusals
+pub mod TreeLaws
+pub mod TreeOfWords
+pub mod Sound
+pub mod CountLaws
 mod Worked
+mod WorkedGroups

@@ -1,20 +1,31 @@
 -- The answers for words that are written out.
 use Rattle.std.proofs.Common.{◌≡◌, ◌==◌, ℕ, Bool, zero, suc, true, false, length, List, [], ◌∷◌, Some, None, Result, Ok, Err, codes, refl}
-use Rattle.clap.specs.Faults.{fault_of, is_simple_and_free}
-use Rattle.clap.specs.Simple.{App, matches_of}
+use Rattle.clap.specs.Faults.{fault_of}
 use Rattle.clap.specs.declared.error.kind.ErrorKind.TheVariants as kind
 use Rattle.clap.proofs.OnLiterals.{clap_on_literals}
 use Rattle.mufom_words.specs.declared.command.Command.{Command}
+use Rattle.mufom_words.specs.declared.command.Mark.{Mark}
+use Rattle.mufom_words.specs.declared.command.Mark.TheVariants.{File}
+use Rattle.mufom_words.specs.declared.command.Verb.{Verb}
 use Rattle.mufom_words.specs.declared.command.Verb.TheVariants as verb
-use Rattle.mufom_words.specs.declared.options.Setting.TheVariants as setting
+use Rattle.mufom_words.specs.declared.form.Form.TheVariants as form
 use Rattle.mufom_words.specs.declared.stop.UsageFault.TheVariants as fault
 use Rattle.mufom_words.specs.declared.stop.WordsStop.{WordsStop}
 use Rattle.mufom_words.specs.declared.stop.WordsStop.TheVariants as stop
-use Rattle.mufom_words.specs.Answer.{answer_of}
-use Rattle.mufom_words.specs.Options.{Given, Text, app_with, given_by}
+use Rattle.mufom_words.specs.Answer.{answer_of, given}
+use Rattle.mufom_words.specs.Options.{Text, app_for}
 
 abbrev Answer : Type 0
 Answer = Result Command WordsStop
+
+-- the marks of files in no group, numbered from `n` on
+abbrev marks : ℕ → List Text → List Mark
+marks n [] = []
+marks n (_ ∷ files) = File n ∷ marks (suc n) files
+
+-- a command of files in no group
+abbrev of_files : Verb → Bool → List Text → Command
+of_files v no_debug files = record { verb = v; no_debug = no_debug; name = None; out = None; plan = None; marks = marks 0 files; files = files; count = 0 }
 
 -- ---- no command
 
@@ -29,35 +40,35 @@ help_is_no_command = refl
 
 -- ---- options
 
-flag : answer_of (codes "show" ∷ codes "--no-debug" ∷ codes "a" ∷ []) ≡ Ok (record { verb = verb.Show; no_debug = true; files = codes "a" ∷ [] })
+flag : answer_of (codes "show" ∷ codes "--no-debug" ∷ codes "a" ∷ []) ≡ Ok (of_files verb.Show true (codes "a" ∷ []))
 unfolding clap_on_literals
 flag = refl
 
-flag_after_files : answer_of (codes "check" ∷ codes "a" ∷ codes "b" ∷ codes "--no-debug" ∷ []) ≡ Ok (record { verb = verb.Check; no_debug = true; files = codes "a" ∷ codes "b" ∷ [] })
+flag_behind_files : answer_of (codes "check" ∷ codes "a" ∷ codes "b" ∷ codes "--no-debug" ∷ []) ≡ Ok (of_files verb.Check true (codes "a" ∷ codes "b" ∷ []))
 unfolding clap_on_literals
-flag_after_files = refl
+flag_behind_files = refl
 
-flag_between_files : answer_of (codes "check" ∷ codes "a" ∷ codes "--no-debug" ∷ codes "b" ∷ []) ≡ Ok (record { verb = verb.Check; no_debug = true; files = codes "a" ∷ codes "b" ∷ [] })
+flag_between_files : answer_of (codes "check" ∷ codes "a" ∷ codes "--no-debug" ∷ codes "b" ∷ []) ≡ Ok (of_files verb.Check true (codes "a" ∷ codes "b" ∷ []))
 unfolding clap_on_literals
 flag_between_files = refl
 
-no_flag : answer_of (codes "dump" ∷ codes "a" ∷ []) ≡ Ok (record { verb = verb.Dump; no_debug = false; files = codes "a" ∷ [] })
+no_flag : answer_of (codes "dump" ∷ codes "a" ∷ []) ≡ Ok (of_files verb.Dump false (codes "a" ∷ []))
 unfolding clap_on_literals
 no_flag = refl
 
-options_end : answer_of (codes "check" ∷ codes "--" ∷ codes "-x" ∷ codes "--no-debug" ∷ []) ≡ Ok (record { verb = verb.Check; no_debug = false; files = codes "-x" ∷ codes "--no-debug" ∷ [] })
+options_end : answer_of (codes "check" ∷ codes "--" ∷ codes "-x" ∷ codes "--no-debug" ∷ []) ≡ Ok (of_files verb.Check false (codes "-x" ∷ codes "--no-debug" ∷ []))
 unfolding clap_on_literals
 options_end = refl
 
-options_end_once : answer_of (codes "check" ∷ codes "--" ∷ codes "--" ∷ []) ≡ Ok (record { verb = verb.Check; no_debug = false; files = codes "--" ∷ [] })
+options_end_once : answer_of (codes "check" ∷ codes "--" ∷ codes "--" ∷ []) ≡ Ok (of_files verb.Check false (codes "--" ∷ []))
 unfolding clap_on_literals
 options_end_once = refl
 
-dash : answer_of (codes "show" ∷ codes "-" ∷ []) ≡ Ok (record { verb = verb.Show; no_debug = false; files = codes "-" ∷ [] })
+dash : answer_of (codes "show" ∷ codes "-" ∷ []) ≡ Ok (of_files verb.Show false (codes "-" ∷ []))
 unfolding clap_on_literals
 dash = refl
 
-help_is_a_file : answer_of (codes "show" ∷ codes "help" ∷ []) ≡ Ok (record { verb = verb.Show; no_debug = false; files = codes "help" ∷ [] })
+help_is_a_file : answer_of (codes "show" ∷ codes "help" ∷ []) ≡ Ok (of_files verb.Show false (codes "help" ∷ []))
 unfolding clap_on_literals
 help_is_a_file = refl
 
@@ -69,9 +80,9 @@ no_help : answer_of (codes "show" ∷ codes "--help" ∷ codes "a" ∷ []) ≡ E
 unfolding clap_on_literals
 no_help = refl
 
-prefix_of_an_option : answer_of (codes "show" ∷ codes "--no-deb" ∷ codes "a" ∷ []) ≡ Err (stop.Usage fault.BadWords)
+front_of_an_option : answer_of (codes "show" ∷ codes "--no-deb" ∷ codes "a" ∷ []) ≡ Err (stop.Usage fault.BadWords)
 unfolding clap_on_literals
-prefix_of_an_option = refl
+front_of_an_option = refl
 
 flag_with_a_value : answer_of (codes "show" ∷ codes "--no-debug=true" ∷ codes "a" ∷ []) ≡ Err (stop.Usage fault.BadWords)
 unfolding clap_on_literals
@@ -119,7 +130,7 @@ plus : answer_of (codes "check" ∷ codes "+" ∷ []) ≡ Err (stop.Usage fault.
 unfolding clap_on_literals
 plus = refl
 
-empty_name : answer_of (codes "show" ∷ [] ∷ []) ≡ Ok (record { verb = verb.Show; no_debug = false; files = [] ∷ [] })
+empty_name : answer_of (codes "show" ∷ [] ∷ []) ≡ Ok (of_files verb.Show false ([] ∷ []))
 unfolding clap_on_literals
 empty_name = refl
 
@@ -141,9 +152,9 @@ bracket_before_count : answer_of (codes "show" ∷ codes "a" ∷ codes "b" ∷ c
 unfolding clap_on_literals
 bracket_before_count = refl
 
-bracket_after_options_end : answer_of (codes "check" ∷ codes "--" ∷ codes "[" ∷ []) ≡ Err (stop.Usage fault.StrayBracket)
+bracket_behind_options_end : answer_of (codes "check" ∷ codes "--" ∷ codes "[" ∷ []) ≡ Err (stop.Usage fault.StrayBracket)
 unfolding clap_on_literals
-bracket_after_options_end = refl
+bracket_behind_options_end = refl
 
 -- ---- the limit
 
@@ -168,55 +179,40 @@ count_before_limit : answer_of (codes "show" ∷ repeated 1025 (codes "a")) ≡ 
 unfolding clap_on_literals
 count_before_limit = refl
 
--- ---- options that the commands above have not
+-- ---- options of the other commands
 
-abbrev linking : App
-linking = app_with (codes "link") (setting.NoDebug ∷ setting.Name ∷ setting.Out ∷ [])
-
-abbrev locating : App
-locating = app_with (codes "locate") (setting.NoDebug ∷ setting.Plan ∷ setting.Out ∷ [])
-
-linking_is_simple : is_simple_and_free linking ≡ true
-linking_is_simple = refl
-
-locating_is_simple : is_simple_and_free locating ≡ true
-locating_is_simple = refl
-
-abbrev given_to : App → List Text → Given
-given_to app words = given_by (matches_of app words)
-
-linked : given_to linking (codes "link" ∷ codes "-oc" ∷ codes "a" ∷ codes "[" ∷ codes "b" ∷ codes "--no-debug" ∷ codes "]" ∷ codes "--" ∷ codes "+" ∷ codes "-m" ∷ [])
-    ≡ record { no_debug = true; name = None; plan = None; out = Some (codes "c"); files = codes "a" ∷ codes "[" ∷ codes "b" ∷ codes "]" ∷ codes "+" ∷ codes "-m" ∷ [] }
+linked : given form.Link (codes "link" ∷ codes "-oc" ∷ codes "a" ∷ codes "[" ∷ codes "b" ∷ codes "--no-debug" ∷ codes "]" ∷ codes "--" ∷ codes "+" ∷ codes "-m" ∷ [])
+    ≡ record { no_debug = true; name = None; plan = None; out = Some (codes "c"); operands = codes "a" ∷ codes "[" ∷ codes "b" ∷ codes "]" ∷ codes "+" ∷ codes "-m" ∷ [] }
 unfolding clap_on_literals
 linked = refl
 
-named : given_to linking (codes "link" ∷ codes "a" ∷ codes "--name=n" ∷ codes "-o" ∷ codes "-" ∷ [])
-    ≡ record { no_debug = false; name = Some (codes "n"); plan = None; out = Some (codes "-"); files = codes "a" ∷ [] }
+named : given form.Link (codes "link" ∷ codes "a" ∷ codes "--name=n" ∷ codes "-o" ∷ codes "-" ∷ [])
+    ≡ record { no_debug = false; name = Some (codes "n"); plan = None; out = Some (codes "-"); operands = codes "a" ∷ [] }
 unfolding clap_on_literals
 named = refl
 
-planned : given_to locating (codes "locate" ∷ codes "--plan" ∷ codes "p" ∷ codes "-o=c" ∷ codes "a" ∷ [])
-    ≡ record { no_debug = false; name = None; plan = Some (codes "p"); out = Some (codes "c"); files = codes "a" ∷ [] }
+planned : given form.Locate (codes "locate" ∷ codes "--plan" ∷ codes "p" ∷ codes "-o=c" ∷ codes "a" ∷ [])
+    ≡ record { no_debug = false; name = None; plan = Some (codes "p"); out = Some (codes "c"); operands = codes "a" ∷ [] }
 unfolding clap_on_literals
 planned = refl
 
-empty_values : given_to locating (codes "locate" ∷ codes "--plan=" ∷ codes "-o" ∷ [] ∷ codes "a" ∷ [])
-    ≡ record { no_debug = false; name = None; plan = Some []; out = Some []; files = codes "a" ∷ [] }
+empty_values : given form.Locate (codes "locate" ∷ codes "--plan=" ∷ codes "-o" ∷ [] ∷ codes "a" ∷ [])
+    ≡ record { no_debug = false; name = None; plan = Some []; out = Some []; operands = codes "a" ∷ [] }
 unfolding clap_on_literals
 empty_values = refl
 
-empty_values_pass : fault_of locating (codes "locate" ∷ codes "--plan=" ∷ codes "-o" ∷ [] ∷ codes "a" ∷ []) ≡ []
+empty_values_pass : fault_of (app_for form.Locate) (codes "locate" ∷ codes "--plan=" ∷ codes "-o" ∷ [] ∷ codes "a" ∷ []) ≡ []
 unfolding clap_on_literals
 empty_values_pass = refl
 
-no_out : fault_of locating (codes "locate" ∷ codes "a" ∷ []) ≡ kind.MissingRequiredArgument ∷ []
+no_out : fault_of (app_for form.Locate) (codes "locate" ∷ codes "a" ∷ []) ≡ kind.MissingRequiredArgument ∷ []
 unfolding clap_on_literals
 no_out = refl
 
-plan_twice : fault_of locating (codes "locate" ∷ codes "--plan" ∷ codes "p" ∷ codes "--plan=q" ∷ codes "-oc" ∷ codes "a" ∷ []) ≡ kind.ArgumentConflict ∷ []
+plan_twice : fault_of (app_for form.Locate) (codes "locate" ∷ codes "--plan" ∷ codes "p" ∷ codes "--plan=q" ∷ codes "-oc" ∷ codes "a" ∷ []) ≡ kind.ArgumentConflict ∷ []
 unfolding clap_on_literals
 plan_twice = refl
 
-no_value : fault_of locating (codes "locate" ∷ codes "a" ∷ codes "-o" ∷ []) ≡ kind.InvalidValue ∷ []
+no_value : fault_of (app_for form.Locate) (codes "locate" ∷ codes "a" ∷ codes "-o" ∷ []) ≡ kind.InvalidValue ∷ []
 unfolding clap_on_literals
 no_value = refl

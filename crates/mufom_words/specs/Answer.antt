@@ -1,7 +1,7 @@
--- The command of the words, or the first thing that is wrong with them, in a fixed order: the
--- command's name; the options; the words that name files, from left to right; their number; and
--- after all these the limit of a run.
-use Rattle.std.specs.Prelude.{Bool, true, false, if◌then◌else◌, List, [], ◌∷◌, Option, Some, None, option_map, Result, Ok, Err}
+-- The command of the words, or the first thing that is wrong with them, in a fixed order: the command's name; the options; the words
+-- that are no option, from left to right, and then their end; their number; the name; the count; and after all these the limits of
+-- a run.
+use Rattle.std.specs.Prelude.{ℕ, Bool, true, false, ◌&&◌, nat_lt, if◌then◌else◌, List, [], ◌∷◌, length, Option, Some, None, option_map, is_none, Result, Ok, Err}
 use Rattle.std.specs.Option.{option_or}
 use Rattle.clap.specs.Faults.{fault_of}
 use Rattle.clap.specs.Kinds.{Kinds}
@@ -9,28 +9,40 @@ use Rattle.clap.specs.Simple.{matches_of}
 use Rattle.clap.specs.declared.error.kind.ErrorKind.{ErrorKind}
 use Rattle.clap.specs.declared.error.kind.ErrorKind.TheVariants as kind
 use Rattle.mufom_words.specs.declared.command.Command.{Command}
-use Rattle.mufom_words.specs.declared.command.Verb.{Verb}
+use Rattle.mufom_words.specs.declared.form.Form.{Form}
+use Rattle.mufom_words.specs.declared.form.Operands.{Operands}
+use Rattle.mufom_words.specs.declared.options.Setting.TheVariants as setting
 use Rattle.mufom_words.specs.declared.stop.UsageFault.{UsageFault}
 use Rattle.mufom_words.specs.declared.stop.UsageFault.TheVariants as fault
 use Rattle.mufom_words.specs.declared.stop.WordsStop.{WordsStop}
 use Rattle.mufom_words.specs.declared.stop.WordsStop.TheVariants as stop
-use Rattle.mufom_words.specs.Options.{Text, Given, app_for, given_by, verb_of}
-use Rattle.mufom_words.specs.Files.{count_fault, files_fault, limit_stop}
+use Rattle.mufom_words.specs.Options.{Text, Usage, Given, usage_of, app_for, form_of, takes, given_by}
+use Rattle.mufom_words.specs.Operands.{operands_fault, number_fault, count_fault, files_of, marks_of, depth_of, number_of}
+
+-- the first that there is
+infixr 20 ◌or_else◌
+abbrev pub ◌or_else◌ : {A : Type 0} → Option A → Option A → Option A
+first or_else second = option_or first second
+
+-- ---- limits
+
+-- how many files a run has at most
+abbrev pub most_files : ℕ
+most_files = 1024
+
+-- how many groups are open at once at most
+abbrev pub most_open : ℕ
+most_open = 64
+
+-- how many bytes the name of a module has at most
+abbrev pub longest_name : ℕ
+longest_name = 65535
+
+-- ---- faults
 
 -- what the words of a command give, the first of which names it
-abbrev pub given : Verb → List Text → Given
-given v words = given_by (matches_of (app_for v) words)
-
--- the kinds of error with which `clap` refuses the words; none where it takes them
-abbrev pub refusals : Verb → List Text → Kinds
-refusals v words = fault_of (app_for v) words
-
-abbrev pub usage : Option UsageFault → Option WordsStop
-usage found = option_map (λ f. stop.Usage f) found
-
-abbrev pub refused_stop : Kinds → Option WordsStop
-refused_stop [] = None
-refused_stop (_ ∷ _) = Some (stop.Usage fault.BadWords)
+abbrev pub given : Form → List Text → Given
+given f words = given_by f (matches_of (app_for f) words)
 
 -- `clap` had no memory, or it refuses the words
 abbrev pub is_memory : ErrorKind → Bool
@@ -40,25 +52,69 @@ is_memory _ = false
 abbrev pub stop_by : ErrorKind → WordsStop
 stop_by k = if is_memory k then stop.NoMemory else stop.Usage fault.BadWords
 
--- what is wrong with the words that are no option
-abbrev pub files_stop : Verb → List Text → Option WordsStop
-files_stop v files = option_or (usage (files_fault files)) (option_or (usage (count_fault v files)) (limit_stop files))
+-- by the kinds of error with which `clap` refuses the words; none where it takes them
+abbrev pub options_fault : Kinds → Option UsageFault
+options_fault [] = None
+options_fault (_ ∷ _) = Some fault.BadWords
 
-abbrev pub words_stop : Verb → List Text → Option WordsStop
-words_stop v words = option_or (refused_stop (refusals v words)) (files_stop v (given v words).files)
+abbrev pub name_fault : Option Text → Option UsageFault
+name_fault None = None
+name_fault (Some name) = if nat_lt longest_name (length name) then Some fault.LongName else None
 
-abbrev pub command_by : Verb → Given → Command
-command_by v g = record { verb = v; no_debug = g.no_debug; files = g.files }
+-- `-o` does not stand where it must; `clap` refuses such words too
+abbrev pub out_fault : Usage → Option Text → Option UsageFault
+out_fault u out = if takes u.settings setting.Out && is_none out then Some fault.BadWords else None
+
+-- what is wrong with words that `clap` takes, the first in this order
+abbrev pub usage_fault : Usage → Option Text → Option Text → List Text → Option UsageFault
+usage_fault u out name words = out_fault u out
+    or_else operands_fault u.operands words
+    or_else number_fault u.operands words
+    or_else name_fault name
+    or_else count_fault u.operands words
+
+-- too many files, and then too many groups that are open at once
+abbrev pub limit_stop_by : ℕ → ℕ → Option WordsStop
+limit_stop_by files depth = (if nat_lt most_files files then Some (stop.TooManyFiles files) else None)
+    or_else (if nat_lt most_open depth then Some (stop.TooDeep depth) else None)
+
+abbrev pub limit_stop : Operands → List Text → Option WordsStop
+limit_stop operands words = limit_stop_by (length (files_of operands words)) (depth_of operands words)
+
+abbrev pub usage : Option UsageFault → Option WordsStop
+usage found = option_map (λ f. stop.Usage f) found
+
+-- the first thing that is wrong with what words give
+abbrev pub given_stop : Usage → Given → Option WordsStop
+given_stop u g = usage (usage_fault u g.out g.name g.operands) or_else limit_stop u.operands g.operands
+
+-- the first thing that is wrong with the words, by what `clap` makes of them
+abbrev pub words_stop : Usage → Kinds → Given → Option WordsStop
+words_stop u refused g = usage (options_fault refused) or_else given_stop u g
+
+-- ---- the answer
+
+abbrev pub command_by : Usage → Given → Command
+command_by u g = record {
+  verb = u.verb;
+  no_debug = g.no_debug;
+  name = g.name;
+  out = g.out;
+  plan = g.plan;
+  marks = marks_of u.operands g.operands;
+  files = files_of u.operands g.operands;
+  count = number_of u.operands g.operands;
+}
 
 abbrev pub unless_stopped : Option WordsStop → Command → Result Command WordsStop
 unless_stopped None command = Ok command
 unless_stopped (Some s) command = Err s
 
-abbrev pub answer_for : Option Verb → List Text → Result Command WordsStop
+abbrev pub answer_for : Option Form → List Text → Result Command WordsStop
 answer_for None words = Err (stop.Usage fault.NoCommand)
-answer_for (Some v) words = unless_stopped (words_stop v words) (command_by v (given v words))
+answer_for (Some f) words = unless_stopped (words_stop (usage_of f) (fault_of (app_for f) words) (given f words)) (command_by (usage_of f) (given f words))
 
 -- The command of the words, or the first thing that is wrong with them.
 abbrev pub answer_of : List Text → Result Command WordsStop
 answer_of [] = Err (stop.Usage fault.NoCommand)
-answer_of (word ∷ words) = answer_for (verb_of word) (word ∷ words)
+answer_of (word ∷ words) = answer_for (form_of word) (word ∷ words)

@@ -1,3 +1,6 @@
 pub mod Options
-pub mod Files
+pub mod Operands
+pub mod Tree
 pub mod Answer
+pub mod Sound
+pub mod Alike

@@ -1,11 +1,16 @@
--- The options of each command, as simple commands of `clap`. There is no help option.
-use Rattle.std.specs.Prelude.{ℕ, Bool, true, false, List, [], ◌∷◌, Option, Some, None, codes, fold, if◌then◌else◌, unwrap_or}
+-- The table of commands and the table of options, and what `clap` makes of the words by them. There is no help option.
+use Rattle.std.specs.Prelude.{ℕ, Bool, true, false, List, [], ◌∷◌, Option, Some, None, codes, fold, unwrap_or, if◌then◌else◌}
+use Rattle.std.specs.List.{find, list_any}
 use Rattle.std.specs.Str.{bytes_eq}
 use Rattle.clap.specs.Walk.{Rule, Row, all_of, first_of}
 use Rattle.clap.specs.Simple.{App, new_app, new_rule, with_rule, on_top}
 use Rattle.clap.specs.declared.builder.action.ArgAction.TheVariants.{SetTrue, Append}
 use Rattle.mufom_words.specs.declared.command.Verb.{Verb}
 use Rattle.mufom_words.specs.declared.command.Verb.TheVariants as verb
+use Rattle.mufom_words.specs.declared.form.Form.{Form}
+use Rattle.mufom_words.specs.declared.form.Form.TheVariants as form
+use Rattle.mufom_words.specs.declared.form.Operands.{Operands}
+use Rattle.mufom_words.specs.declared.form.Operands.TheVariants as operands
 use Rattle.mufom_words.specs.declared.options.Setting.{Setting}
 use Rattle.mufom_words.specs.declared.options.Setting.TheVariants as setting
 
@@ -14,41 +19,85 @@ Text = List ℕ
 
 -- ---- the table of commands
 
--- the word that names a command
-abbrev pub name_of : Verb → Text
-name_of verb.Show = codes "show"
-name_of verb.Check = codes "check"
-name_of verb.Dump = codes "dump"
+-- what the words of a command are: the first, which names it, its options, and the other words
+pub record Usage : Type 0 where
+  pub verb : Verb
+  pub name : Text
+  pub settings : List Setting
+  pub operands : Operands
 
--- the command that a word names
-abbrev pub verb_of : Text → Option Verb
-verb_of word = if bytes_eq word (codes "show") then Some verb.Show else (if bytes_eq word (codes "check") then Some verb.Check
-    else (if bytes_eq word (codes "dump") then Some verb.Dump else None))
+abbrev pub usage_of : Form → Usage
+usage_of form.Show = record { verb = verb.Show; name = codes "show"; settings = setting.NoDebug ∷ []; operands = operands.OneFile }
+usage_of form.Check = record { verb = verb.Check; name = codes "check"; settings = setting.NoDebug ∷ []; operands = operands.SomeFiles }
+usage_of form.Link =
+    record { verb = verb.Link; name = codes "link"; settings = setting.NoDebug ∷ setting.Name ∷ setting.Out ∷ []; operands = operands.GroupedFiles }
+usage_of form.Locate =
+    record { verb = verb.Locate; name = codes "locate"; settings = setting.NoDebug ∷ setting.Plan ∷ setting.Out ∷ []; operands = operands.GroupedFiles }
+usage_of form.Dump = record { verb = verb.Dump; name = codes "dump"; settings = setting.NoDebug ∷ setting.Plan ∷ []; operands = operands.GroupedFiles }
+usage_of form.PlainDump = record { verb = verb.Dump; name = codes "dump"; settings = []; operands = operands.OneFile }
+usage_of form.Make = record { verb = verb.Make; name = codes "make"; settings = []; operands = operands.OneCount }
 
--- the options of a command
-abbrev pub settings_of : Verb → List Setting
-settings_of verb.Show = setting.NoDebug ∷ []
-settings_of verb.Check = setting.NoDebug ∷ []
-settings_of verb.Dump = []
+-- the commands that the program obeys so far
+abbrev pub obeyed : List Form
+obeyed = form.Show ∷ form.Check ∷ form.PlainDump ∷ []
 
--- the command is for one file alone
+-- the one that a word names
+abbrev pub form_of : Text → Option Form
+form_of word = find (λ f. bytes_eq word (usage_of f).name) obeyed
+
+-- a command that the program obeys so far
+abbrev pub is_obeyed : Verb → Bool
+is_obeyed verb.Show = true
+is_obeyed verb.Check = true
+is_obeyed verb.Link = false
+is_obeyed verb.Locate = false
+is_obeyed verb.Dump = true
+is_obeyed verb.Make = false
+
+-- the command makes a file, which `-o` names
+abbrev pub makes_file : Verb → Bool
+makes_file verb.Link = true
+makes_file verb.Locate = true
+makes_file _ = false
+
+-- the command reads a plan, where `--plan` names one
+abbrev pub reads_plan : Verb → Bool
+reads_plan verb.Locate = true
+reads_plan verb.Dump = true
+reads_plan _ = false
+
+-- the command generates modules in place of files
+abbrev pub makes_modules : Verb → Bool
+makes_modules verb.Make = true
+makes_modules _ = false
+
+-- of the obeyed commands, this one is for one file alone
 abbrev pub takes_one_file : Verb → Bool
 takes_one_file verb.Show = true
-takes_one_file verb.Check = false
 takes_one_file verb.Dump = true
+takes_one_file _ = false
 
--- ---- the options
+-- ---- the table of options
+
+-- the name by which `clap` knows the option
+abbrev pub id_of : Setting → Text
+id_of setting.NoDebug = codes "no_debug"
+id_of setting.Name = codes "name"
+id_of setting.Plan = codes "plan"
+id_of setting.Out = codes "out"
 
 -- `--no-debug`, `--name NAME`, `--plan PLAN`, and `-o OUT`, which must stand
 abbrev pub rule_for : Setting → Rule
-rule_for setting.NoDebug = record (new_rule (codes "no_debug")) { long = Some (codes "no-debug"); action = Some SetTrue }
-rule_for setting.Name = record (new_rule (codes "name")) { long = Some (codes "name") }
-rule_for setting.Plan = record (new_rule (codes "plan")) { long = Some (codes "plan") }
-rule_for setting.Out = record (new_rule (codes "out")) { short = Some 111; required = true }
+rule_for setting.NoDebug = record (new_rule (id_of setting.NoDebug)) { long = Some (codes "no-debug"); action = Some SetTrue }
+rule_for setting.Name = record (new_rule (id_of setting.Name)) { long = Some (codes "name") }
+rule_for setting.Plan = record (new_rule (id_of setting.Plan)) { long = Some (codes "plan") }
+rule_for setting.Out = record (new_rule (id_of setting.Out)) { short = Some 111; required = true }
 
--- all other words
-abbrev pub files_rule : Rule
-files_rule = record (new_rule (codes "files")) { action = Some Append }
+-- ---- what `clap` makes of the words
+
+-- all words that are no option
+abbrev pub operands_rule : Rule
+operands_rule = record (new_rule (codes "files")) { action = Some Append }
 
 abbrev pub without_help : App → App
 without_help app = on_top (λ shape. record shape { disable_help_flag = true }) app
@@ -58,30 +107,41 @@ with_setting app s = with_rule app (rule_for s)
 
 -- a command with this name and these options, and then words that are no option
 abbrev pub app_with : Text → List Setting → App
-app_with name settings = with_rule (fold with_setting (without_help (new_app name)) settings) files_rule
+app_with name settings = with_rule (fold with_setting (without_help (new_app name)) settings) operands_rule
 
-abbrev pub app_for : Verb → App
-app_for v = app_with (name_of v) (settings_of v)
+abbrev pub app_for : Form → App
+app_for f = app_with (usage_of f).name (usage_of f).settings
 
--- ---- what the words give
+-- the option is one of these
+abbrev pub takes : List Setting → Setting → Bool
+takes settings s = list_any (λ own. bytes_eq (id_of own) (id_of s)) settings
 
-pub record Given : Type 0 where
-  pub no_debug : Bool
-  pub name : Option Text
-  pub plan : Option Text
-  pub out : Option Text
-  pub files : List Text
+-- the value of an option, in the rows that `clap` makes of the words; none where the command does not have the option
+abbrev pub value_in : List Setting → List Row → Setting → Option Text
+value_in settings rows s = if takes settings s then first_of (id_of s) rows else None
 
 abbrev pub is_true : Option Text → Bool
 is_true None = false
 is_true (Some text) = bytes_eq text (codes "true")
 
--- what stands in the rows that `clap` makes of the words
-abbrev pub given_by : List Row → Given
-given_by rows = record {
-  no_debug = is_true (first_of (codes "no_debug") rows);
-  name = first_of (codes "name") rows;
-  plan = first_of (codes "plan") rows;
-  out = first_of (codes "out") rows;
-  files = unwrap_or (all_of (codes "files") rows) [];
+-- the words that are no option
+abbrev pub operands_of : List Row → List Text
+operands_of rows = unwrap_or (all_of (codes "files") rows) []
+
+-- what the words give
+pub record Given : Type 0 where
+  pub no_debug : Bool
+  pub name : Option Text
+  pub plan : Option Text
+  pub out : Option Text
+  -- the words that are no option
+  pub operands : List Text
+
+abbrev pub given_by : Form → List Row → Given
+given_by f rows = record {
+  no_debug = is_true (value_in (usage_of f).settings rows setting.NoDebug);
+  name = value_in (usage_of f).settings rows setting.Name;
+  plan = value_in (usage_of f).settings rows setting.Plan;
+  out = value_in (usage_of f).settings rows setting.Out;
+  operands = operands_of rows;
 }

@@ -1,8 +1,4 @@
-ghost use Rattle.std.specs.Prelude.{◌≡◌, option_map, slice_get};
-ghost use Rattle.mufom_words.specs.Options.{name_of, settings_of, takes_one_file, verb_of};
-
-use crate::options::Setting;
-use mufom_numbers::{List, Text};
+use mufom_numbers::{Bytes, List, Text};
 
 /// What a command does.
 #[derive(Clone, Copy, Debug, PartialEq, Eq)]
@@ -11,8 +7,25 @@ pub enum Verb {
     Show,
     /// Reads modules and prints a line for each.
     Check,
-    /// Prints the image of a located module.
+    /// Writes the module that files are linked into.
+    Link,
+    /// Writes the absolute module that files are located as.
+    Locate,
+    /// Prints the image that files are located as.
     Dump,
+    /// Generates modules, links and locates them, and prints a summary.
+    Make,
+}
+
+/// A word of the spelling of a tree of files.
+#[derive(Clone, Copy, Debug, PartialEq, Eq)]
+pub enum Mark {
+    /// A group begins.
+    Open,
+    /// The innermost open group ends.
+    Close,
+    /// The file with this number, from 0 in the order of the words.
+    File(u32),
 }
 
 /// A command, with what its words give.
@@ -21,51 +34,16 @@ pub struct Command {
     pub verb: Verb,
     /// The debug parts are passed over.
     pub no_debug: bool,
-    /// The names of the files, in the order of their words.
+    /// The name of the linked module, where one is given.
+    pub name: Option<Bytes>,
+    /// The name of the file to be made. It is there exactly where the command makes one.
+    pub out: Option<Text>,
+    /// The name of the plan's file, where one is given.
+    pub plan: Option<Text>,
+    /// The tree of the files that are no members: groups in brackets, files by their numbers.
+    pub marks: List<Mark>,
+    /// The names of the files in the order of their words. The members follow those of the tree.
     pub files: List<Text>,
-}
-
-impl Verb {
-    /// The command that a word names.
-    pub(crate) fn from_name(word: &str) -> Option<Verb>
-        ensures { result ≡ verb_of word.now }
-    {
-        match word {
-            "show" => Some(Verb::Show),
-            "check" => Some(Verb::Check),
-            "dump" => Some(Verb::Dump),
-            _ => None,
-        }
-    }
-
-    /// The word that names the command.
-    pub(crate) fn name(self) -> &'static str
-        ensures { result.now ≡ name_of self }
-    {
-        match self {
-            Verb::Show => "show",
-            Verb::Check => "check",
-            Verb::Dump => "dump",
-        }
-    }
-
-    /// The options of the command.
-    pub(crate) fn settings(self) -> &'static [Setting]
-        ensures { result.now ≡ settings_of self }
-    {
-        match self {
-            Verb::Show | Verb::Check => &[Setting::NoDebug],
-            Verb::Dump => &[],
-        }
-    }
-
-    /// Whether the command is for one file alone.
-    pub(crate) fn takes_one_file(self) -> bool
-        ensures { result ≡ takes_one_file self }
-    {
-        match self {
-            Verb::Show | Verb::Dump => true,
-            Verb::Check => false,
-        }
-    }
+    /// How many modules are generated; 0 where the command generates none.
+    pub count: u32,
 }

@@ -1,46 +1,60 @@
 //! What `clap` finds in the words.
 
-ghost use Rattle.std.specs.Prelude.{◌≡◌, [], IfOk, IfSome, IsNone, map};
+ghost use Rattle.std.specs.Prelude.{◌≡◌, [], IfOk, IfSome, IsNone, map, option_map};
 ghost use Rattle.std.specs.String.{string_bytes};
 ghost use Rattle.clap.specs.Faults.{fault_of};
 ghost use Rattle.clap.specs.Kinds.{FailsBy};
 ghost use Rattle.clap.specs.Matches.{found_of};
 ghost use Rattle.clap.specs.Simple.{matches_of};
 ghost use Rattle.clap.specs.Walk.{rows_of};
-ghost use Rattle.mufom_words.specs.Options.{app_for, given_by};
+ghost use Rattle.mufom_words.specs.Options.{app_for, given_by, operands_of, usage_of, value_in as valued};
 
-use crate::command::Verb;
-use crate::options::command_of;
+use crate::form::Form;
+use crate::options::{Setting, command_of};
 use clap::{ArgMatches, Error};
 use std::alloc::Global;
 
-/// What `clap` finds in the words of a verb, the first of which names it.
+/// What `clap` finds in the words of a command, the first of which names it.
 pub(crate) fn matches_in<'a>(
     alloc: Global,
-    verb: Verb,
+    form: Form,
     words: &'a [String],
 ) -> Result<ArgMatches<'a>, Error>
-    ensures found { IfOk result (λ m. rows_of (found_of m) ≡ matches_of (app_for verb) (map (λ word. string_bytes word) words.now)) }
-    ensures kinds { FailsBy (fault_of (app_for verb) (map (λ word. string_bytes word) words.now)) result }
+    ensures found { IfOk result (λ m. rows_of (found_of m) ≡ matches_of (app_for form) (map (λ word. string_bytes word) words.now)) }
+    ensures kinds { FailsBy (fault_of (app_for form) (map (λ word. string_bytes word) words.now)) result }
 {
-    let command = command_of(alloc, verb)?;
+    let command = command_of(alloc, form)?;
     command.try_get_matches_from(words)
 }
 
-/// Whether `--no-debug` stands among the words.
-pub(crate) fn has_no_debug(matches: &ArgMatches<'_>) -> bool
-    ensures { result ≡ (given_by (rows_of (found_of matches.now))).no_debug }
+/// The value of an option, where the command has the option and the words give it.
+pub(crate) fn value_in<'b, 'a: 'b>(
+    matches: &'b ArgMatches<'a>,
+    form: Form,
+    setting: Setting,
+) -> Option<&'b str>
+    ensures { option_map (λ text. text.now) result ≡ valued (usage_of form).settings (rows_of (found_of matches.now)) setting }
 {
-    match matches.get_str("no_debug") {
+    if !form.takes(setting) {
+        return None;
+    }
+    matches.get_str(setting.id())
+}
+
+/// Whether `--no-debug` stands among the words.
+pub(crate) fn has_no_debug(matches: &ArgMatches<'_>, form: Form) -> bool
+    ensures { result ≡ (given_by form (rows_of (found_of matches.now))).no_debug }
+{
+    match value_in(matches, form, Setting::NoDebug) {
         Some(text) => text == "true",
         None => false,
     }
 }
 
 /// The words that are no option.
-pub(crate) fn files_in<'b, 'a: 'b>(matches: &'b ArgMatches<'a>) -> Option<&'b [&'a str]>
-    ensures some { IfSome result (λ files. map (λ word. word.now) files.now ≡ (given_by (rows_of (found_of matches.now))).files) }
-    ensures none { IsNone result → (given_by (rows_of (found_of matches.now))).files ≡ [] }
+pub(crate) fn operands_in<'b, 'a: 'b>(matches: &'b ArgMatches<'a>) -> Option<&'b [&'a str]>
+    ensures some { IfSome result (λ words. map (λ word. word.now) words.now ≡ operands_of (rows_of (found_of matches.now))) }
+    ensures none { IsNone result → operands_of (rows_of (found_of matches.now)) ≡ [] }
 {
     matches.get_strs("files")
 }

@@ -1,19 +1,23 @@
 //! The command that the words of a command line give.
 //!
 //! The first word names the command, and `clap` reads the others, as one simple command for each
-//! name. Its main clause is that of [`read_words`]: the command that it answers is the one that the
-//! words give, and a stop other than out of memory is the first thing that is wrong with them, in
+//! name: options, and files in groups and after them members. Its main clause is that of [`read_words`]: the command that it answers is the one that the
+//! words give, and a stop other than want of memory is the first thing that is wrong with them, in
 //! a fixed order.
 #![tactic(auto)]
 
 mod command;
-mod files;
+mod count;
+mod form;
 mod found;
+mod laws;
+mod operands;
 mod options;
 mod read;
 mod stop;
 
-pub use command::{Command, Verb};
+pub use command::{Command, Mark, Verb};
+pub use laws::{commands_are_sound, trees_are_spelled};
 pub use read::read_words;
 pub use stop::{UsageFault, WordsStop};
 

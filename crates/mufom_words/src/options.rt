@@ -3,9 +3,9 @@
 ghost use Rattle.std.specs.Prelude.{◌≡◌, IfOk, false};
 ghost use Rattle.clap.specs.Simple.{app_of};
 ghost use Rattle.clap.specs.Walk.{rule_of};
-ghost use Rattle.mufom_words.specs.Options.{app_for, files_rule, rule_for};
+ghost use Rattle.mufom_words.specs.Options.{app_for, id_of, operands_rule, rule_for};
 
-use crate::command::Verb;
+use crate::form::Form;
 use clap::{Arg, ArgAction};
 use std::alloc::{AllocError, Global};
 
@@ -20,6 +20,20 @@ pub(crate) enum Setting {
     Plan,
     /// `-o OUT`, which must stand.
     Out,
+}
+
+impl Setting {
+    /// The name by which `clap` knows the option.
+    pub(crate) fn id(self) -> &'static str
+        ensures { result.now ≡ id_of self }
+    {
+        match self {
+            Setting::NoDebug => "no_debug",
+            Setting::Name => "name",
+            Setting::Plan => "plan",
+            Setting::Out => "out",
+        }
+    }
 }
 
 // The option that sets this.
@@ -38,21 +52,21 @@ fn option_of<'a>(alloc: Global, setting: Setting) -> Arg<'a>
 }
 
 // All words that are no option.
-fn files<'a>(alloc: Global) -> Arg<'a>
-    ensures rule { rule_of result ≡ files_rule }
+fn operands<'a>(alloc: Global) -> Arg<'a>
+    ensures rule { rule_of result ≡ operands_rule }
     ensures local { result.global ≡ false }
 {
     Arg::new(alloc, "files").action(ArgAction::Append)
 }
 
-/// The command of `clap` that reads the words of a verb. It has no help option.
-pub(crate) fn command_of<'a>(alloc: Global, verb: Verb) -> Result<clap::Command<'a>, AllocError>
-    ensures { IfOk result (λ command. app_of command ≡ app_for verb) }
+/// The command of `clap` that reads the words of a command. It has no help option.
+pub(crate) fn command_of<'a>(alloc: Global, form: Form) -> Result<clap::Command<'a>, AllocError>
+    ensures { IfOk result (λ command. app_of command ≡ app_for form) }
 {
-    let name: &'a str = verb.name();
+    let name: &'a str = form.name();
     let mut command = clap::Command::new(alloc, name).disable_help_flag(true);
-    for setting in verb.settings() {
+    for setting in form.settings() {
         command = command.arg(option_of(alloc, *setting))?;
     }
-    command.arg(files(alloc))
+    command.arg(operands(alloc))
 }

@@ -1,33 +1,85 @@
 //! The command of the words.
 
-ghost use Rattle.std.specs.Prelude.{◌≡◌, ◌≢◌, ◌<◌, ◌≤◌, ◌^◌, true, IfOk, IfErr, length, map};
+ghost use Rattle.std.specs.Prelude.{◌≡◌, ◌≢◌, ◌<◌, ◌^◌, Some, Ok, Err, IfOk, IfErr, length, map, option_map};
 ghost use Rattle.std.specs.String.{string_bytes};
+ghost use Rattle.clap.specs.Matches.{found_of};
 ghost use Rattle.clap.specs.Values.{kind_of};
-ghost use Rattle.mufom_words.specs.Answer.{answer_for, answer_of, files_stop, stop_by};
-ghost use Rattle.mufom_words.specs.Files.{most_files};
-ghost use Rattle.mufom_words.specs.Options.{takes_one_file};
+ghost use Rattle.clap.specs.Walk.{rows_of};
+ghost use Rattle.mufom_words.specs.Answer.{answer_for, answer_of, command_by, given_stop, limit_stop as limited, name_fault as name_wrong, stop_by, unless_stopped, usage_fault as first_fault};
+ghost use Rattle.mufom_words.specs.Options.{given_by, operands_of, usage_of};
+ghost use Rattle.mufom_words.specs.Sound.{IsObeyed, IsSound};
 
-use crate::command::{Command, Verb};
-use crate::files::{count_fault, files_fault, limit_stop, names_of};
-use crate::found::{files_in, has_no_debug, matches_in};
+use crate::command::Command;
+use crate::form::{Form, Operands};
+use crate::found::{has_no_debug, matches_in, operands_in, value_in};
+use crate::operands::{
+    count_fault, depth_of, file_count, files_of, marks_of, number_fault, number_of, operands_fault,
+};
+use crate::options::Setting;
 use crate::stop::{UsageFault, WordsStop};
-use clap::Error;
 use clap::error::ErrorKind;
-use mufom_numbers::NoMemory;
+use clap::{ArgMatches, Error};
+use mufom_numbers::{Bytes, NoMemory, Text};
 use std::alloc::Global;
 
-// What is wrong with the words that are no option.
-fn files_stop(verb: Verb, words: &[&str]) -> Option<WordsStop>
-    requires { length words.now < 2 ^ 32 }
-    ensures { result ≡ files_stop verb (map (λ word. word.now) words.now) }
+/// How many files a run has at most.
+const MOST_FILES: u32 = 1024;
+
+/// How many groups are open at once at most.
+const MOST_OPEN: u32 = 64;
+
+/// How many bytes the name of a module has at most.
+const LONGEST_NAME: usize = 65_535;
+
+fn name_fault(name: Option<&str>) -> Option<UsageFault>
+    ensures { result ≡ name_wrong (option_map (λ text. text.now) name.entry) }
 {
-    if let Some(fault) = files_fault(words) {
-        return Some(WordsStop::Usage(fault));
+    match name {
+        Some(name) if name.len() > LONGEST_NAME => Some(UsageFault::LongName),
+        _ => None,
     }
-    if let Some(fault) = count_fault(verb, words) {
-        return Some(WordsStop::Usage(fault));
+}
+
+// The first thing that is wrong with words that `clap` takes.
+fn usage_fault(
+    form: Form,
+    out: Option<&str>,
+    name: Option<&str>,
+    words: &[&str],
+) -> Option<UsageFault>
+    requires { length words.now < 2 ^ 32 }
+    ensures { result ≡ first_fault (usage_of form) (option_map (λ text. text.now) out.entry) (option_map (λ text. text.now) name.entry) (map (λ word. word.now) words.now) }
+{
+    if form.takes(Setting::Out) && out.is_none() {
+        return Some(UsageFault::BadWords);
     }
-    limit_stop(words)
+    let operands = form.operands();
+    if let Some(fault) = operands_fault(operands, words) {
+        return Some(fault);
+    }
+    if let Some(fault) = number_fault(operands, words) {
+        return Some(fault);
+    }
+    if let Some(fault) = name_fault(name) {
+        return Some(fault);
+    }
+    count_fault(operands, words)
+}
+
+// Too many files, or else too many groups that are open at once.
+fn limit_stop(operands: Operands, words: &[&str]) -> Option<WordsStop>
+    requires { length words.now < 2 ^ 32 }
+    ensures { result ≡ limited operands (map (λ word. word.now) words.now) }
+{
+    let files = file_count(operands, words);
+    if files > MOST_FILES {
+        return Some(WordsStop::TooManyFiles(files));
+    }
+    let depth = depth_of(operands, words);
+    if depth > MOST_OPEN {
+        return Some(WordsStop::TooDeep(depth));
+    }
+    None
 }
 
 // What an error of `clap` states of the words.
@@ -40,49 +92,116 @@ fn refusal(error: &Error) -> WordsStop
     }
 }
 
-// The command of the words after a verb's name, which stands first among them.
-fn command_for(alloc: Global, verb: Verb, words: &[String]) -> Result<Command, WordsStop>
-    requires { length words.now < 2 ^ 32 }
-    ensures ok { IfOk result (λ command. answer_for (Some verb) (map (λ word. string_bytes word) words.now) ≡ Ok command) }
-    ensures refused { IfErr result (λ stop. stop ≢ WordsStop.NoMemory → answer_for (Some verb) (map (λ word. string_bytes word) words.now) ≡ Err stop) }
+fn kept_text(alloc: Global, text: Option<&str>) -> Result<Option<Text>, NoMemory>
+    ensures { IfOk result (λ kept. kept ≡ option_map (λ text. text.now) text.entry) }
 {
-    let matches = match matches_in(alloc, verb, words) {
+    match text {
+        Some(text) => Ok(Some(Text::from_str(alloc, text)?)),
+        None => Ok(None),
+    }
+}
+
+fn kept_bytes(alloc: Global, text: Option<&str>) -> Result<Option<Bytes>, NoMemory>
+    ensures { IfOk result (λ kept. kept ≡ option_map (λ text. text.now) text.entry) }
+{
+    match text {
+        Some(text) => Ok(Some(Bytes::from_slice(alloc, text.as_bytes())?)),
+        None => Ok(None),
+    }
+}
+
+// The command of words with which nothing is wrong.
+fn command_from(
+    alloc: Global,
+    form: Form,
+    matches: &ArgMatches<'_>,
+    words: &[&str],
+) -> Result<Command, NoMemory>
+    requires few { length words.now < 2 ^ 32 }
+    requires own { map (λ word. word.now) words.now ≡ operands_of (rows_of (found_of matches.now)) }
+    ensures { IfOk result (λ command. command ≡ command_by (usage_of form) (given_by form (rows_of (found_of matches.now)))) }
+{
+    let operands = form.operands();
+    let name = kept_bytes(alloc, value_in(matches, form, Setting::Name))?;
+    let out = kept_text(alloc, value_in(matches, form, Setting::Out))?;
+    let plan = kept_text(alloc, value_in(matches, form, Setting::Plan))?;
+    let marks = marks_of(alloc, operands, words)?;
+    let files = files_of(alloc, operands, words)?;
+    Ok(Command {
+        verb: form.verb(),
+        no_debug: has_no_debug(matches, form),
+        name,
+        out,
+        plan,
+        marks,
+        files,
+        count: number_of(operands, words),
+    })
+}
+
+// The command of words that `clap` takes.
+fn command_of_taken(
+    alloc: Global,
+    form: Form,
+    matches: &ArgMatches<'_>,
+    words: &[&str],
+) -> Result<Command, WordsStop>
+    requires few { length words.now < 2 ^ 32 }
+    requires own { map (λ word. word.now) words.now ≡ operands_of (rows_of (found_of matches.now)) }
+    ensures ok { IfOk result (λ command. unless_stopped (given_stop (usage_of form) (given_by form (rows_of (found_of matches.now)))) (command_by (usage_of form) (given_by form (rows_of (found_of matches.now)))) ≡ Ok command) }
+    ensures refused { IfErr result (λ stop. stop ≢ WordsStop.NoMemory → given_stop (usage_of form) (given_by form (rows_of (found_of matches.now))) ≡ Some stop) }
+{
+    let out = value_in(matches, form, Setting::Out);
+    let name = value_in(matches, form, Setting::Name);
+    if let Some(fault) = usage_fault(form, out, name, words) {
+        return Err(WordsStop::Usage(fault));
+    }
+    if let Some(stop) = limit_stop(form.operands(), words) {
+        return Err(stop);
+    }
+    match command_from(alloc, form, matches, words) {
+        Ok(command) => Ok(command),
+        Err(NoMemory) => Err(WordsStop::NoMemory),
+    }
+}
+
+/// The command of the words by a row of the table. The first of the words names the command.
+pub(crate) fn command_for(alloc: Global, form: Form, words: &[String]) -> Result<Command, WordsStop>
+    requires { length words.now < 2 ^ 32 }
+    ensures ok { IfOk result (λ command. answer_for (Some form) (map (λ word. string_bytes word) words.now) ≡ Ok command) }
+    ensures refused { IfErr result (λ stop. stop ≢ WordsStop.NoMemory → answer_for (Some form) (map (λ word. string_bytes word) words.now) ≡ Err stop) }
+{
+    let matches = match matches_in(alloc, form, words) {
         Ok(matches) => matches,
         Err(error) => return Err(refusal(&error)),
     };
-    let Some(files) = files_in(&matches) else {
-        return Err(WordsStop::Usage(UsageFault::NoFile));
-    };
-    if let Some(stop) = files_stop(verb, files) {
-        return Err(stop);
-    }
-    match names_of(alloc, files) {
-        Ok(names) => Ok(Command {
-            verb,
-            no_debug: has_no_debug(&matches),
-            files: names,
-        }),
-        Err(NoMemory) => Err(WordsStop::NoMemory),
+    match operands_in(&matches) {
+        Some(operands) => command_of_taken(alloc, form, &matches, operands),
+        None => command_of_taken(alloc, form, &matches, &[]),
     }
 }
 
 /// The command that the words give, or the first thing that is wrong with them.
 ///
-/// `words` are the command line's words without the program's name, fewer than 2^32.
+/// `words` are the command line's words without the program's name, fewer than 2^32. The first
+/// names the command, and `clap` reads the others. What is wrong is answered in this order: no
+/// command; the options; brackets and `+` from left to right, then those that the end leaves open,
+/// then that there is no file; the number of files; the name; the count; and after all these more
+/// than 1,024 files, and more than 64 groups that are open at once.
 pub fn read_words(alloc: Global, words: &[String]) -> Result<Command, WordsStop>
     requires { length words.now < 2 ^ 32 }
     ensures ok { IfOk result (λ command. answer_of (map (λ word. string_bytes word) words.now) ≡ Ok command) }
     ensures refused { IfErr result (λ stop. stop ≢ WordsStop.NoMemory → answer_of (map (λ word. string_bytes word) words.now) ≡ Err stop) }
-    // There is a file, there are no more than a run may have, and one alone where the command is for one.
-    ensures some { IfOk result (λ command. 1 ≤ length command.files) }
-    ensures few { IfOk result (λ command. length command.files ≤ most_files) }
-    ensures one { IfOk result (λ command. takes_one_file command.verb ≡ true → length command.files ≡ 1) }
+    // Its marks are those of a tree over the first files, its options are those of its verb, and the limits hold.
+    ensures sound { IfOk result IsSound }
+    // It is a command that the program obeys so far.
+    ensures obeyed { IfOk result IsObeyed }
 {
     let Some(first) = words.first() else {
         return Err(WordsStop::Usage(UsageFault::NoCommand));
     };
-    match Verb::from_name(first.as_str()) {
-        Some(verb) => command_for(alloc, verb, words),
+    match Form::from_name(first.as_str()) {
+        Some(form) => command_for(alloc, form, words),
         None => Err(WordsStop::Usage(UsageFault::NoCommand)),
     }
 }

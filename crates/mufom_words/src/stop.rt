@@ -8,12 +8,21 @@ pub enum UsageFault {
     BadWords,
     /// No file.
     NoFile,
-    /// A bracket, where no group of files is asked for.
+    /// A group without a file.
+    EmptyGroup,
+    /// A group that is not closed.
+    OpenGroup,
+    /// A bracket that closes no group, or where the command is for no groups.
     StrayBracket,
-    /// A `+`, where no member files are asked for.
+    /// A `+` where no members may follow, a bracket that opens a group after it, or no member
+    /// after it.
     BadMembers,
-    /// Another number of files than the command is for.
+    /// Another number of files, or of counts, than the command is for.
     FileCount,
+    /// A count that is no decimal number from 1 to 65,536.
+    BadCount,
+    /// A name of a module that has more than 65,535 bytes.
+    LongName,
 }
 
 /// Why words are no command of a run.
@@ -21,8 +30,10 @@ pub enum UsageFault {
 pub enum WordsStop {
     /// The words are no command.
     Usage(UsageFault),
-    /// The words name this many files, which are too many.
+    /// The words name this number of files, more than 1,024.
     TooManyFiles(u32),
+    /// This number of groups is open at once, more than 64.
+    TooDeep(u32),
     /// There was no memory.
     NoMemory,
 }

@@ -1,6 +1,10 @@
 ghost use Rattle.std.specs.Prelude.{◌<◌, ◌^◌, IfOk, length, vec_len};
 
-use crate::{Command, UsageFault, Verb, WordsStop, read_words};
+use crate::form::Form;
+use crate::read::command_for;
+use crate::{
+    Command, Mark, UsageFault, Verb, WordsStop, commands_are_sound, read_words, trees_are_spelled,
+};
 use std::alloc::Global;
 use std::process::Abort;
 use std::test::Fail;
@@ -77,7 +81,7 @@ fn commands_have_their_files_in_order(rt: HostRuntime) -> Result<(), Fail> {
 }
 
 #[test]
-fn an_option_stands_before_between_and_after_files(rt: HostRuntime) -> Result<(), Fail> {
+fn an_option_stands_before_between_and_behind_files(rt: HostRuntime) -> Result<(), Fail> {
     let alloc = rt.alloc();
     gives(
         &rt,
@@ -199,4 +203,146 @@ fn files_are_at_most_1024(rt: HostRuntime) -> Result<(), Fail> {
     assert_eq!(rt; stop(alloc, &line)?, Some(WordsStop::TooManyFiles(1025)));
     line[0] = "show";
     fails(&rt, alloc, &line, UsageFault::FileCount)
+}
+
+// ---- by a row of the table, whether the program obeys it so far or not
+
+fn parsed(alloc: Global, form: Form, line: &[&str]) -> Result<Command, Fail>
+    requires { length line.now < 2 ^ 32 }
+{
+    let words = words(alloc, line)?;
+    command_for(alloc, form, words.as_slice()).map_err(|_| Fail::from("the words are a command"))
+}
+
+fn stop_by(alloc: Global, form: Form, line: &[&str]) -> Result<Option<WordsStop>, Fail>
+    requires { length line.now < 2 ^ 32 }
+{
+    let words = words(alloc, line)?;
+    match command_for(alloc, form, words.as_slice()) {
+        Ok(_) => Ok(None),
+        Err(stop) => Ok(Some(stop)),
+    }
+}
+
+fn fails_by(
+    rt: &impl Abort,
+    alloc: Global,
+    form: Form,
+    line: &[&str],
+    fault: UsageFault,
+) -> Result<(), Fail>
+    requires { length line.now < 2 ^ 32 }
+{
+    assert_eq!(rt; stop_by(alloc, form, line)?, Some(WordsStop::Usage(fault)));
+    Ok(())
+}
+
+#[test]
+fn groups_and_members_have_marks_and_files(rt: HostRuntime) -> Result<(), Fail> {
+    let alloc = rt.alloc();
+    let line = [
+        "dump", "[", "[", "a", "]", "b", "]", "c", "+", "--plan", "p", "d",
+    ];
+    let dump = parsed(alloc, Form::Dump, &line)?;
+    let marks = [
+        Mark::Open,
+        Mark::Open,
+        Mark::File(0),
+        Mark::Close,
+        Mark::File(1),
+        Mark::Close,
+        Mark::File(2),
+    ];
+    assert!(rt; dump.marks.as_slice() == marks.as_slice());
+    assert_eq!(rt; dump.files.len(), 4);
+    assert_eq!(rt; dump.files.get(3).ok_or("no member")?.as_str(), "d");
+    assert_eq!(rt; dump.plan.ok_or("no plan")?.as_str(), "p");
+    assert_eq!(rt; dump.count, 0);
+    trees_are_spelled();
+    commands_are_sound();
+    Ok(())
+}
+
+#[test]
+fn options_of_the_other_commands(rt: HostRuntime) -> Result<(), Fail> {
+    let alloc = rt.alloc();
+    let line = ["link", "--name=n", "-oc", "a", "--no-debug"];
+    let link = parsed(alloc, Form::Link, &line)?;
+    assert_eq!(rt; link.verb, Verb::Link);
+    assert!(rt; link.no_debug);
+    assert!(rt; link.name.ok_or("no name")?.as_slice() == "n".as_bytes());
+    assert_eq!(rt; link.out.ok_or("no output")?.as_str(), "c");
+    let locate = parsed(alloc, Form::Locate, &["locate", "-o=c", "--plan", "", "a"])?;
+    assert_eq!(rt; locate.plan.ok_or("no plan")?.as_str(), "");
+    assert_eq!(rt; locate.out.ok_or("no output")?.as_str(), "c");
+    let make = parsed(alloc, Form::Make, &["make", "0065536"])?;
+    assert_eq!(rt; (make.count, make.files.len()), (65_536, 0));
+    Ok(())
+}
+
+#[test]
+fn faults_of_groups_and_members(rt: HostRuntime) -> Result<(), Fail> {
+    let alloc = rt.alloc();
+    for (line, fault) in [
+        (["dump", "[", "]", "]", "]"], UsageFault::EmptyGroup),
+        (["dump", "]", "[", "]", "+"], UsageFault::StrayBracket),
+        (["dump", "a", "[", "b", "c"], UsageFault::OpenGroup),
+        (["dump", "[", "a", "+", "]"], UsageFault::BadMembers),
+        (["dump", "a", "+", "b", "+"], UsageFault::BadMembers),
+        (["dump", "a", "b", "c", "+"], UsageFault::BadMembers),
+        (["dump", "a", "+", "[", "b"], UsageFault::BadMembers),
+        (["dump", "a", "+", "]", "b"], UsageFault::StrayBracket),
+        (["dump", "+", "a", "]", "b"], UsageFault::BadMembers),
+        (["dump", "a", "]", "+", "+"], UsageFault::StrayBracket),
+        (["dump", "--", "[", "]", "-o"], UsageFault::EmptyGroup),
+        (["dump", "[", "]", "-x", "a"], UsageFault::BadWords),
+    ] {
+        fails_by(&rt, alloc, Form::Dump, &line, fault)?;
+    }
+    fails_by(&rt, alloc, Form::Dump, &["dump"], UsageFault::NoFile)?;
+    fails_by(
+        &rt,
+        alloc,
+        Form::Locate,
+        &["locate", "[", "a"],
+        UsageFault::BadWords,
+    )?;
+    fails_by(&rt, alloc, Form::Make, &["make"], UsageFault::FileCount)?;
+    fails_by(
+        &rt,
+        alloc,
+        Form::Make,
+        &["make", "0", "]"],
+        UsageFault::FileCount,
+    )?;
+    for count in ["0", "65537", "+1", "1a", "", "99999999999999999999"] {
+        fails_by(
+            &rt,
+            alloc,
+            Form::Make,
+            &["make", count],
+            UsageFault::BadCount,
+        )?;
+    }
+    Ok(())
+}
+
+#[test]
+fn groups_are_at_most_64_deep(rt: HostRuntime) -> Result<(), Fail> {
+    let alloc = rt.alloc();
+    let mut line = ["["; 132];
+    line[0] = "dump";
+    line[66] = "a";
+    for place in 67..132 {
+        line[place] = "]";
+    }
+    assert_eq!(rt;
+        stop_by(alloc, Form::Dump, &line)?,
+        Some(WordsStop::TooDeep(65))
+    );
+    // A group less, and one that stays open.
+    fails_by(&rt, alloc, Form::Dump, &line[..131], UsageFault::OpenGroup)?;
+    line[1] = "b";
+    assert_eq!(rt; stop_by(alloc, Form::Dump, &line[..131])?, None);
+    Ok(())
 }

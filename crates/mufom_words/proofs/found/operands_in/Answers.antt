@@ -3,7 +3,7 @@ use Rattle.std.specs.Option.{IfSome, IsNone, unwrap_or}
 use Rattle.clap.specs.Matches.{found_of}
 use Rattle.clap.specs.Walk.{Text}
 use Rattle.clap.proofs.WalkLemmas.{raw_values-rows}
-use Rattle.mufom_words.proofs.found.files_in.Goals as goal
+use Rattle.mufom_words.proofs.found.operands_in.Goals as goal
 
 some_given : {X : Type 0} (f : X → List Text) (o : Option X) (all : Option (List Text)) → option_map f o ≡ all → IfSome o (λ x. f x ≡ unwrap_or all [])
 some_given f None all e = tt

@@ -1,0 +1,260 @@
+-- Each command that words give is sound, and those of the program are among the obeyed ones.
+use Rattle.std.proofs.Common.{◌≡◌, ◌≢◌, ◌≤◌, ℕ, Bool, cond, true, false, nat_lt, refl, ap, sym, ◌∙◌, arith, length, List, [], ◌∷◌, Option, Some, None, Ok, subst, Result}
+use Rattle.std.specs.Prelude.{IfSome, IsSome, is_none, unwrap_or, not, nat_le, ◌==◌, ◌&&◌, codes}
+use Rattle.std.specs.List.{list_all}
+use Rattle.std.specs.Str.{bytes_eq}
+use Rattle.std.specs.Result.{result_unwrap_or}
+use Rattle.std.proofs.lemmas.Bool.{ltb-false, leb-true}
+use Rattle.std.proofs.lemmas.List.Sums.{count_by-le-length, length-filter}
+use Rattle.clap.specs.Faults.{fault_of}
+use Rattle.clap.specs.Kinds.{Kinds}
+use Rattle.clap.specs.Simple.{matches_of}
+use Rattle.clap.specs.Walk.{Row, first_of}
+use Rattle.mufom_words.specs.declared.command.Command.{Command}
+use Rattle.mufom_words.specs.declared.command.Mark.{Mark}
+use Rattle.mufom_words.specs.declared.form.Form.{Form}
+use Rattle.mufom_words.specs.declared.form.Form.TheVariants as form
+use Rattle.mufom_words.specs.declared.form.Operands.{Operands}
+use Rattle.mufom_words.specs.declared.form.Operands.TheVariants.{OneFile, SomeFiles, GroupedFiles, OneCount}
+use Rattle.mufom_words.specs.declared.operands.FileWord.{FileWord}
+use Rattle.mufom_words.specs.declared.operands.FileWord.TheVariants.{Opening, Closing, Plus, Name}
+use Rattle.mufom_words.specs.declared.options.Setting.TheVariants as setting
+use Rattle.mufom_words.specs.declared.stop.UsageFault.{UsageFault}
+use Rattle.mufom_words.specs.declared.stop.UsageFault.TheVariants as fault
+use Rattle.mufom_words.specs.declared.stop.WordsStop.{WordsStop}
+use Rattle.mufom_words.specs.Options.{Text, Usage, Given, usage_of, app_for, form_of, takes, id_of, given_by, makes_file, makes_modules, reads_plan, is_obeyed, takes_one_file}
+use Rattle.mufom_words.specs.Operands.{word_of, file_words, is_name, names_in, operands_fault, number_fault, count_fault, count_of, is_digit, decimal_number, most_modules, number_of, files_of, marks_of, depth_of}
+use Rattle.mufom_words.specs.Tree.{tree_of, leaves}
+use Rattle.mufom_words.specs.Answer.{◌or_else◌, most_files, longest_name, options_fault, name_fault, out_fault, usage_fault, limit_stop, limit_stop_by, usage, words_stop, command_by, unless_stopped, answer_for, given}
+use Rattle.mufom_words.specs.Sound.{numbers_from, IsSound, IsObeyed, CommandsAreSound}
+use Rattle.mufom_words.proofs.TreeOfWords.{tree_count, count-some, count-some-plain, length-numbers_from, IsTreeOf, tree-of-words, tree-of-plain}
+
+-- ---- that nothing is wrong
+
+or_else-none : {A : Type 0} (a b : Option A) → a or_else b ≡ None → (a ≡ None) × (b ≡ None)
+or_else-none None b none = (refl, none)
+or_else-none (Some x) b none = absurd cc
+
+usage-none : (found : Option UsageFault) → usage found ≡ None → found ≡ None
+usage-none None none = refl
+usage-none (Some f) none = absurd cc
+
+test_failed : {X : Type 0} (n m : ℕ) (x : X) → cond (nat_lt n m) (Some x) None ≡ None → m ≤ n
+test_failed n m x e = go (nat_lt n m) refl e where
+  go : (b : Bool) → nat_lt n m ≡ b → cond b (Some x) None ≡ None → m ≤ n
+  go true lt e = absurd cc
+  go false lt e = ltb-false n m lt
+
+-- the command of words that have no stop
+accepted : (s : Option WordsStop) (c d : Command) → unless_stopped s c ≡ Ok d → (s ≡ None) × (c ≡ d)
+accepted None c d e = (refl, ap (λ (r : Result Command WordsStop). result_unwrap_or r c) e)
+accepted (Some s) c d e = absurd cc
+
+-- nothing is wrong with words, by each test
+record IsAccepted (u : Usage) (g : Given) : Type 0 where
+  out : out_fault u g.out ≡ None
+  operand : operands_fault u.operands g.operands ≡ None
+  number : number_fault u.operands g.operands ≡ None
+  name : name_fault g.name ≡ None
+  count : count_fault u.operands g.operands ≡ None
+  few : length (files_of u.operands g.operands) ≤ most_files
+
+accepted_by : (u : Usage) (refused : Kinds) (g : Given) → words_stop u refused g ≡ None → IsAccepted u g
+accepted_by u refused g none =
+    let rest = (or_else-none (usage (options_fault refused)) (usage (usage_fault u g.out g.name g.operands) or_else limit_stop u.operands g.operands) none).1 in
+    let parts = or_else-none (usage (usage_fault u g.out g.name g.operands)) (limit_stop u.operands g.operands) rest in
+    let first = or_else-none (out_fault u g.out) (operands_fault u.operands g.operands or_else number_fault u.operands g.operands or_else name_fault g.name or_else count_fault u.operands g.operands)
+    (usage-none (usage_fault u g.out g.name g.operands) parts.0) in
+    let second = or_else-none (operands_fault u.operands g.operands) (number_fault u.operands g.operands or_else name_fault g.name or_else count_fault u.operands g.operands) first.1 in
+    let third = or_else-none (number_fault u.operands g.operands) (name_fault g.name or_else count_fault u.operands g.operands) second.1 in
+    let fourth = or_else-none (name_fault g.name) (count_fault u.operands g.operands) third.1 in
+    record {
+      out = first.0;
+      operand = second.0;
+      number = third.0;
+      name = fourth.0;
+      count = fourth.1;
+      few = few_files (length (files_of u.operands g.operands)) (depth_of u.operands g.operands) parts.1;
+    }
+  where
+    few_files : (files depth : ℕ) → limit_stop_by files depth ≡ None → files ≤ most_files
+    few_files files depth none = test_failed most_files files _ (or_else-none (cond (nat_lt most_files files) _ None) _ none).0
+
+-- ---- by the operands
+
+names-within : (words : List Text) → length (names_in words) ≤ length words
+names-within words =
+    let count = length-filter (λ word. is_name (word_of word)) words in
+    let most = count_by-le-length (λ word. is_name (word_of word)) words in
+    omega (arith, count, most)
+
+count-within : (words : List Text) → tree_count (file_words words) ≤ length (names_in words)
+count-within [] = omega arith
+count-within (word ∷ words) = by_word (word_of word) (count-within words) where
+  by_word : (w : FileWord) → tree_count (file_words words) ≤ length (names_in words)
+      → tree_count (w ∷ file_words words) ≤ length (cond (is_name w) (word ∷ names_in words) (names_in words))
+  by_word Opening more = more
+  by_word Closing more = more
+  by_word Plus more = omega arith
+  by_word Name more = omega (arith, more)
+
+-- what holds of marks and files
+record IsFitting (o : Operands) (marks : List Mark) (files : List Text) : Type 0 where
+  count : ℕ
+  tree : IsTreeOf marks count
+  within : count ≤ length files
+  some : o ≢ OneCount → 1 ≤ count
+
+fitting : (o : Operands) (words : List Text) → operands_fault o words ≡ None → IsFitting o (marks_of o words) (files_of o words)
+fitting OneFile words none =
+    record { count = tree_count (file_words words); tree = tree-of-plain (file_words words) none; within = count-within words; some = λ other. count-some-plain (file_words words) none }
+fitting SomeFiles words none =
+    record { count = tree_count (file_words words); tree = tree-of-plain (file_words words) none; within = count-within words; some = λ other. count-some-plain (file_words words) none }
+fitting GroupedFiles words none =
+    record { count = tree_count (file_words words); tree = tree-of-words (file_words words) none; within = count-within words; some = λ other. count-some (file_words words) 0 false none }
+fitting OneCount words none = record { count = 0; tree = record { spelled = refl; numbered = refl }; within = omega arith; some = λ other. absurd (other refl) }
+
+-- one word and one file at least are one file
+one-file : (o : Operands) (words : List Text) → o ≡ OneFile → operands_fault o words ≡ None → number_fault o words ≡ None → length (files_of o words) ≡ 1
+one-file OneFile words same none right =
+    let least = count-some-plain (file_words words) none in
+    let within = count-within words in
+    let most = names-within words in
+    let at_most : length words ≤ 1 = test_failed 1 (length words) _ right in
+    omega (arith, least, within, most, at_most)
+one-file SomeFiles words same none right = absurd cc
+one-file GroupedFiles words same none right = absurd cc
+one-file OneCount words same none right = absurd cc
+
+name-short : (name : Option Text) → name_fault name ≡ None → IfSome name (λ text. length text ≤ longest_name)
+name-short None none = tt
+name-short (Some text) none = test_failed longest_name (length text) _ none
+
+out-given : (t : Bool) (out : Option Text) → cond (t && is_none out) (Some fault.BadWords) None ≡ None → t ≡ true → IsSome out
+out-given false out none same = absurd cc
+out-given true None none same = absurd cc
+out-given true (Some text) none same = refl
+
+-- an option that is not taken has no value
+not-taken : (t : Bool) (value : Option Text) → t ≡ false → cond t value None ≡ None
+not-taken false value same = refl
+not-taken true value same = absurd cc
+
+-- a count that words state lies within its bounds
+count-good : (word : Text) → is_none (count_of word) ≡ false → (1 ≤ unwrap_or (count_of word) 0) × (unwrap_or (count_of word) 0 ≤ most_modules)
+count-good word stated = bounds (not (length word == 0)) (list_all is_digit word) (nat_le 1 n) (nat_le n most_modules) refl refl stated where
+  n : ℕ
+  n = decimal_number word
+
+  bounds : (a b c d : Bool) → nat_le 1 n ≡ c → nat_le n most_modules ≡ d → is_none (cond (a && (b && (c && d))) (Some n) None) ≡ false
+      → (1 ≤ unwrap_or (cond (a && (b && (c && d))) (Some n) None) 0) × (unwrap_or (cond (a && (b && (c && d))) (Some n) None) 0 ≤ most_modules)
+  bounds true true true true least most stated = (leb-true 1 n least, leb-true n most_modules most)
+  bounds false b c d least most stated = absurd cc
+  bounds true false c d least most stated = absurd cc
+  bounds true true false d least most stated = absurd cc
+  bounds true true true false least most stated = absurd cc
+
+count-bounds : (o : Operands) (words : List Text) → count_fault o words ≡ None → o ≡ OneCount → (1 ≤ number_of o words) × (number_of o words ≤ most_modules)
+count-bounds OneFile words none same = absurd cc
+count-bounds SomeFiles words none same = absurd cc
+count-bounds GroupedFiles words none same = absurd cc
+count-bounds OneCount [] none same = absurd cc
+count-bounds OneCount (word ∷ words) none same = count-good word (stated (is_none (count_of word)) refl none) where
+  stated : (b : Bool) → is_none (count_of word) ≡ b → cond b (Some fault.BadCount) None ≡ None → is_none (count_of word) ≡ false
+  stated true is none = absurd cc
+  stated false is none = is
+
+-- ---- by the form
+
+takes-out : (f : Form) → takes (usage_of f).settings setting.Out ≡ makes_file (usage_of f).verb
+takes-out form.Show = refl
+takes-out form.Check = refl
+takes-out form.Link = refl
+takes-out form.Locate = refl
+takes-out form.Dump = refl
+takes-out form.PlainDump = refl
+takes-out form.Make = refl
+
+takes-no-plan : (f : Form) → reads_plan (usage_of f).verb ≡ false → takes (usage_of f).settings setting.Plan ≡ false
+takes-no-plan form.Show e = refl
+takes-no-plan form.Check e = refl
+takes-no-plan form.Link e = refl
+takes-no-plan form.Locate e = absurd cc
+takes-no-plan form.Dump e = absurd cc
+takes-no-plan form.PlainDump e = absurd cc
+takes-no-plan form.Make e = refl
+
+takes-files : (f : Form) → makes_modules (usage_of f).verb ≡ false → (usage_of f).operands ≢ OneCount
+takes-files form.Show e = λ same. cc
+takes-files form.Check e = λ same. cc
+takes-files form.Link e = λ same. cc
+takes-files form.Locate e = λ same. cc
+takes-files form.Dump e = λ same. cc
+takes-files form.PlainDump e = λ same. cc
+takes-files form.Make e = absurd cc
+
+takes-count : (f : Form) → makes_modules (usage_of f).verb ≡ true → (usage_of f).operands ≡ OneCount
+takes-count form.Show e = absurd cc
+takes-count form.Check e = absurd cc
+takes-count form.Link e = absurd cc
+takes-count form.Locate e = absurd cc
+takes-count form.Dump e = absurd cc
+takes-count form.PlainDump e = absurd cc
+takes-count form.Make e = refl
+
+-- ---- the command
+
+sound_by : (f : Form) (rows : List Row) → IsAccepted (usage_of f) (given_by f rows) → IsSound (command_by (usage_of f) (given_by f rows))
+sound_by f rows is =
+    let o : Operands = (usage_of f).operands in
+    let words : List Text = (given_by f rows).operands in
+    let fits : IsFitting o (marks_of o words) (files_of o words) = fitting o words is.operand in
+    let long : length (leaves (tree_of (marks_of o words))) ≡ fits.count = ap (λ (l : List ℕ). length l) fits.tree.numbered ∙ length-numbers_from 0 fits.count in
+    record {
+      tree = record {
+        spelled = fits.tree.spelled;
+        numbered = fits.tree.numbered ∙ ap (λ (n : ℕ). numbers_from 0 n) (sym long);
+        within = subst (λ (n : ℕ). n ≤ length (files_of o words)) (sym long) fits.within;
+      };
+      files = record { some = λ files. subst (λ (n : ℕ). 1 ≤ n) (sym long) (fits.some (takes-files f files)); few = is.few };
+      options = record {
+        out = λ makes. out-given (takes (usage_of f).settings setting.Out) (given_by f rows).out is.out (takes-out f ∙ makes);
+        no_out = λ makes. not-taken (takes (usage_of f).settings setting.Out) (first_of (id_of setting.Out) rows) (takes-out f ∙ makes);
+        no_plan = λ reads. not-taken (takes (usage_of f).settings setting.Plan) (first_of (id_of setting.Plan) rows) (takes-no-plan f reads);
+        short = name-short (given_by f rows).name is.name;
+        count = λ makes. count-bounds o words is.count (takes-count f makes);
+      };
+    }
+
+-- each command that words give is sound
+pub commands-sound : CommandsAreSound
+commands-sound f words c e =
+    let fine = accepted (words_stop (usage_of f) (fault_of (app_for f) words) (given f words)) (command_by (usage_of f) (given f words)) c e in
+    subst IsSound fine.1 (sound_by f (matches_of (app_for f) words) (accepted_by (usage_of f) (fault_of (app_for f) words) (given f words) fine.0))
+
+-- ---- the obeyed ones
+
+record IsObeyedForm (f : Form) : Type 0 where
+  verb : is_obeyed (usage_of f).verb ≡ true
+  files : (usage_of f).operands ≢ OneCount
+  one : takes_one_file (usage_of f).verb ≡ true → (usage_of f).operands ≡ OneFile
+
+form_of-obeyed : (word : Text) (f : Form) → Some f ≡ form_of word → IsObeyedForm f
+form_of-obeyed word f is = by_name (bytes_eq word (codes "show")) (bytes_eq word (codes "check")) (bytes_eq word (codes "dump")) is where
+  by_name : (a b c : Bool) → Some f ≡ cond a (Some form.Show) (cond b (Some form.Check) (cond c (Some form.PlainDump) None)) → IsObeyedForm f
+  by_name true b c e = let same : form.Show ≡ f = cc in subst IsObeyedForm same (record { verb = refl; files = λ bad. cc; one = λ _. refl })
+  by_name false true c e = let same : form.Check ≡ f = cc in subst IsObeyedForm same (record { verb = refl; files = λ bad. cc; one = λ bad. absurd cc })
+  by_name false false true e = let same : form.PlainDump ≡ f = cc in subst IsObeyedForm same (record { verb = refl; files = λ bad. cc; one = λ _. refl })
+  by_name false false false e = absurd cc
+
+command-obeyed : (f : Form) (words : List Text) (c : Command) → IsObeyedForm f → answer_for (Some f) words ≡ Ok c → IsObeyed c
+command-obeyed f words c o e =
+    let fine = accepted (words_stop (usage_of f) (fault_of (app_for f) words) (given f words)) (command_by (usage_of f) (given f words)) c e in
+    let is = accepted_by (usage_of f) (fault_of (app_for f) words) (given f words) fine.0 in
+    let fits = fitting (usage_of f).operands (given f words).operands is.operand in
+    let least = fits.some o.files in let within = fits.within in
+    subst IsObeyed fine.1 (record { verb = o.verb; some = omega (arith, least, within); one = λ one. one-file (usage_of f).operands (given f words).operands (o.one one) is.operand is.number })
+
+-- a command that a word names is obeyed
+pub commands-obeyed : (word : Text) (f : Form) (words : List Text) (c : Command) → Some f ≡ form_of word → answer_for (Some f) words ≡ Ok c → IsObeyed c
+commands-obeyed word f words c named e = command-obeyed f words c (form_of-obeyed word f named) e

@@ -1,0 +1,48 @@
+-- What holds of each command that words give.
+use Rattle.std.specs.Prelude.{◌≡◌, ℕ, zero, suc, ◌≤◌, List, [], ◌∷◌, length, true, false, Some, None, Ok, IfSome, IsSome}
+use Rattle.mufom_words.specs.declared.command.Command.{Command}
+use Rattle.mufom_words.specs.declared.form.Form.{Form}
+use Rattle.mufom_words.specs.Options.{Text, is_obeyed, makes_file, makes_modules, reads_plan, takes_one_file}
+use Rattle.mufom_words.specs.Operands.{most_modules}
+use Rattle.mufom_words.specs.Tree.{spelling, tree_of, leaves}
+use Rattle.mufom_words.specs.Answer.{answer_for, most_files, longest_name}
+
+-- this many numbers in a row, from `n` on
+abbrev pub numbers_from : ℕ → ℕ → List ℕ
+numbers_from n zero = []
+numbers_from n (suc count) = n ∷ numbers_from (suc n) count
+
+-- The marks are those of a tree of files, which has the first of the files in their order.
+pub record HasTree (c : Command) : Type 0 where
+  pub spelled : spelling (tree_of c.marks) ≡ c.marks
+  pub numbered : leaves (tree_of c.marks) ≡ numbers_from 0 (length (leaves (tree_of c.marks)))
+  pub within : length (leaves (tree_of c.marks)) ≤ length c.files
+
+-- There is a file in the tree, but where modules are generated, and there are no more files than a run may have.
+pub record HasFiles (c : Command) : Type 0 where
+  pub some : makes_modules c.verb ≡ false → 1 ≤ length (leaves (tree_of c.marks))
+  pub few : length c.files ≤ most_files
+
+-- The output has a name exactly where the command makes a file; only a command that reads a plan has the name of one; the name of a
+-- module is no longer than it may be, and a count lies within its bounds.
+pub record HasOptions (c : Command) : Type 0 where
+  pub out : makes_file c.verb ≡ true → IsSome c.out
+  pub no_out : makes_file c.verb ≡ false → c.out ≡ None
+  pub no_plan : reads_plan c.verb ≡ false → c.plan ≡ None
+  pub count : makes_modules c.verb ≡ true → (1 ≤ c.count) × (c.count ≤ most_modules)
+  pub short : IfSome c.name (λ name. length name ≤ longest_name)
+
+pub record IsSound (c : Command) : Type 0 where
+  pub tree : HasTree c
+  pub files : HasFiles c
+  pub options : HasOptions c
+
+-- The command is one that the program obeys so far. It has a file.
+pub record IsObeyed (c : Command) : Type 0 where
+  pub verb : is_obeyed c.verb ≡ true
+  pub some : 1 ≤ length c.files
+  pub one : takes_one_file c.verb ≡ true → length c.files ≡ 1
+
+-- Each command that words give is sound, whichever row of the table they are read by.
+abbrev pub CommandsAreSound : Type 0
+CommandsAreSound = (f : Form) (words : List Text) (c : Command) → answer_for (Some f) words ≡ Ok c → IsSound c

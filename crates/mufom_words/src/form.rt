@@ -1,0 +1,107 @@
+//! The table of commands: which options each takes, and what its other words are.
+
+ghost use Rattle.std.specs.Prelude.{◌≡◌};
+ghost use Rattle.mufom_words.specs.Options.{form_of, takes, usage_of};
+
+use crate::command::Verb;
+use crate::options::Setting;
+
+/// What the words of a command are that are no option.
+#[derive(Clone, Copy, Debug, PartialEq, Eq)]
+pub(crate) enum Operands {
+    /// The name of one file.
+    OneFile,
+    /// The names of files.
+    SomeFiles,
+    /// The names of files in groups, and of members.
+    GroupedFiles,
+    /// A count.
+    OneCount,
+}
+
+/// A row of the table of commands.
+#[derive(Clone, Copy, Debug, PartialEq, Eq)]
+pub(crate) enum Form {
+    Show,
+    Check,
+    Link,
+    Locate,
+    Dump,
+    /// `dump` as the program obeys it so far: of one file in no group, without options.
+    PlainDump,
+    Make,
+}
+
+impl Form {
+    /// The row that a word names, among those that the program obeys so far.
+    pub(crate) fn from_name(word: &str) -> Option<Form>
+        ensures { result ≡ form_of word.now }
+    {
+        match word {
+            "show" => Some(Form::Show),
+            "check" => Some(Form::Check),
+            "dump" => Some(Form::PlainDump),
+            _ => None,
+        }
+    }
+
+    /// What the command does.
+    pub(crate) fn verb(self) -> Verb
+        ensures { result ≡ (usage_of self).verb }
+    {
+        match self {
+            Form::Show => Verb::Show,
+            Form::Check => Verb::Check,
+            Form::Link => Verb::Link,
+            Form::Locate => Verb::Locate,
+            Form::Dump | Form::PlainDump => Verb::Dump,
+            Form::Make => Verb::Make,
+        }
+    }
+
+    /// The word that names the command.
+    pub(crate) fn name(self) -> &'static str
+        ensures { result.now ≡ (usage_of self).name }
+    {
+        match self {
+            Form::Show => "show",
+            Form::Check => "check",
+            Form::Link => "link",
+            Form::Locate => "locate",
+            Form::Dump | Form::PlainDump => "dump",
+            Form::Make => "make",
+        }
+    }
+
+    /// The options of the command.
+    pub(crate) fn settings(self) -> &'static [Setting]
+        ensures { result.now ≡ (usage_of self).settings }
+    {
+        match self {
+            Form::Show | Form::Check => &[Setting::NoDebug],
+            Form::Link => &[Setting::NoDebug, Setting::Name, Setting::Out],
+            Form::Locate => &[Setting::NoDebug, Setting::Plan, Setting::Out],
+            Form::Dump => &[Setting::NoDebug, Setting::Plan],
+            Form::PlainDump | Form::Make => &[],
+        }
+    }
+
+    /// What its other words are.
+    pub(crate) fn operands(self) -> Operands
+        ensures { result ≡ (usage_of self).operands }
+    {
+        match self {
+            Form::Show | Form::PlainDump => Operands::OneFile,
+            Form::Check => Operands::SomeFiles,
+            Form::Link | Form::Locate | Form::Dump => Operands::GroupedFiles,
+            Form::Make => Operands::OneCount,
+        }
+    }
+
+    /// Whether the command has this option.
+    pub(crate) fn takes(self, setting: Setting) -> bool
+        ensures { result ≡ takes (usage_of self).settings setting }
+    {
+        self.settings().iter().any(|own| own.id() == setting.id())
+    }
+}
