@@ -1,5 +1,6 @@
+pub mod Conditions
+pub mod Joining
 pub mod Publics
 pub mod References
-pub mod Renaming
-pub mod Joining
 pub mod Refusals
+pub mod Renaming

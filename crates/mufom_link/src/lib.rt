@@ -9,6 +9,7 @@
 //! contract of `link` cites.
 #![tactic(auto)]
 
+mod conditions;
 mod copies;
 mod debug_copies;
 mod facts;
@@ -20,5 +21,6 @@ mod site;
 #[cfg(test)]
 mod tests;
 
+pub use conditions::may_be_linked;
 pub use linking::link;
 pub use refusal::LinkRefusal;

@@ -6,6 +6,7 @@ ghost use Rattle.mufom_meaning.specs.LinkAnswer.{link_answer};
 ghost use Rattle.mufom_meaning.specs.Staging.{AreValid, StandsFor, HasSettledReferences};
 ghost use Rattle.mufom_meaning.specs.StagingLaws.{JoinedStandsFor, JoinedIsValid, total_weight, first_name_length};
 ghost use Rattle.mufom_meaning.specs.FactLaws.{NoLinkAnswerIsLinkable};
+ghost use Rattle.mufom_link.specs.Conditions.{MayBeLinked};
 ghost use Rattle.mufom_link.specs.Publics.{numbered_from};
 ghost use Rattle.mufom_link.specs.Joining.{HasLists};
 ghost use Rattle.mufom_link.specs.Refusals.{IsRefusalOf};
@@ -96,11 +97,10 @@ fn join(alloc: Global, list: &[Module], name: &[u8], publics: &NameIndex) -> Res
 /// `Mismatch`, then `Duplicate`, then `DuplicateStart`.
 ///
 /// The list must not be empty, the name must have at most 65,535 bytes, and the weights of the
-/// modules and the length of the name must add up to less than 2^32.
+/// modules and the length of the name must add up to less than 2^32:
+/// [`may_be_linked`](crate::may_be_linked) tests this.
 pub fn link(alloc: Global, list: &[Module], name: &[u8]) -> Result<Module, LinkRefusal>
-    requires some { 0 < length list.now }
-    requires short { length name.now < 2 ^ 16 }
-    requires light { total_weight list.now + length name.now < 2 ^ 32 }
+    requires { MayBeLinked list.now name.now }
     ensures joined { IfOk result (λ M. IsJoined M list.now name.now) }
     ensures linkable { IfOk result (λ _. link_answer list.now ≡ None) }
     ensures refused { IfErr result (λ e. IsRefusalOf list.now e) }

