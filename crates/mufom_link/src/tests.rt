@@ -414,83 +414,113 @@ fn block(
     }))
 }
 
-// Blocks of all kinds, each in the one before it, with two names, a note and a value.
-fn debug_items(alloc: Global) -> Result<List<DebugItem>, NoMemory> {
-    let mut inner = List::new(alloc);
-    inner.push(name(alloc, b"v")?)?;
-    inner.push(DebugItem::Note {
+// A list of this item alone.
+fn only(alloc: Global, item: DebugItem) -> Result<List<DebugItem>, NoMemory> {
+    let mut items = List::new(alloc);
+    items.push(item)?;
+    Ok(items)
+}
+
+// A name, a note of it, and a value of the name before it.
+fn named_items(alloc: Global) -> Result<List<DebugItem>, NoMemory> {
+    let mut items = only(alloc, name(alloc, b"v")?)?;
+    items.push(DebugItem::Note {
         name: 1,
         note: note(7, 12),
     })?;
-    inner.push(DebugItem::Value {
+    items.push(DebugItem::Value {
         name: 0,
         value: sum(alloc, Letter::X, 0, 3)?,
     })?;
+    Ok(items)
+}
+
+// The block of a section with these items.
+fn section_part(alloc: Global) -> Result<DebugItem, NoMemory> {
     let head = BlockHead::Section {
         section_type: 1,
         section: 0,
         offset: variable(alloc, Letter::R, 0)?,
     };
-    let part = block(alloc, head, inner, Some(sum(alloc, Letter::R, 0, 2)?))?;
-    let mut local = List::new(alloc);
-    local.push(part)?;
+    let items = named_items(alloc)?;
+    block(alloc, head, items, Some(sum(alloc, Letter::R, 0, 2)?))
+}
+
+// That block in one of a local function.
+fn local_part(alloc: Global) -> Result<DebugItem, NoMemory> {
     let head = BlockHead::Local {
         stack: 5,
         type_index: 6,
         offset: variable(alloc, Letter::I, 0)?,
     };
-    let local = block(alloc, head, local, None)?;
-    let mut global = List::new(alloc);
-    global.push(local)?;
+    let items = only(alloc, section_part(alloc)?)?;
+    block(alloc, head, items, None)
+}
+
+// That block in one of a global function.
+fn global_part(alloc: Global) -> Result<DebugItem, NoMemory> {
     let head = BlockHead::Global {
         stack: 7,
         type_index: 8,
         offset: variable(alloc, Letter::R, 0)?,
     };
-    let global = block(alloc, head, global, Some(variable(alloc, Letter::S, 0)?))?;
-    let mut numbers: ArrayVec<u64, 6> = ArrayVec::new();
-    numbers.push(9);
-    let mut source = List::new(alloc);
-    source.push(global)?;
-    let source = block(alloc, BlockHead::Source { numbers }, source, None)?;
-    let mut whole = List::new(alloc);
-    whole.push(name(alloc, b"u")?)?;
-    whole.push(source)?;
-    let whole = block(alloc, BlockHead::Module, whole, None)?;
-    let mut items = List::new(alloc);
-    items.push(whole)?;
-    Ok(items)
+    let items = only(alloc, local_part(alloc)?)?;
+    block(alloc, head, items, Some(variable(alloc, Letter::S, 0)?))
 }
 
-// A module with something of every kind, whose public has this name.
-fn full(alloc: Global, its: &[u8]) -> Result<Module, NoMemory> {
-    let mut parts = empty(alloc)?;
-    parts.name = Bytes::from_slice(alloc, its)?;
-    parts.ext = Bytes::from_slice(alloc, its)?;
+// That block in one of a source file.
+fn source_part(alloc: Global) -> Result<DebugItem, NoMemory> {
+    let mut numbers: ArrayVec<u64, 6> = ArrayVec::new();
+    numbers.push(9);
+    let items = only(alloc, global_part(alloc)?)?;
+    block(alloc, BlockHead::Source { numbers }, items, None)
+}
+
+// Blocks of all kinds, each in the one before it, with two names, a note and a value.
+fn debug_items(alloc: Global) -> Result<List<DebugItem>, NoMemory> {
+    let mut items = only(alloc, name(alloc, b"u")?)?;
+    items.push(source_part(alloc)?)?;
+    only(alloc, block(alloc, BlockHead::Module, items, None)?)
+}
+
+// A placed section of read-only memory, and one that is not placed.
+fn two_sections(alloc: Global) -> Result<List<Section>, NoMemory> {
+    let mut sections = List::new(alloc);
     let mut placed = section(alloc, b"p", 8)?;
     placed.absolute = true;
     placed.base = Some(256);
     placed.purpose = Some(Purpose::Rom);
-    parts.sections.push(placed)?;
-    parts.sections.push(section(alloc, b"t", 40)?)?;
+    sections.push(placed)?;
+    sections.push(section(alloc, b"t", 40)?)?;
+    Ok(sections)
+}
+
+// A public of this name, with a note.
+fn noted_public(alloc: Global, its: &[u8]) -> Result<List<Public>, NoMemory> {
+    let mut publics = List::new(alloc);
     let value = sum(alloc, Letter::L, 1, 4)?;
     let mut its = public(alloc, its, value)?;
     its.notes.push(note(7, 3))?;
-    parts.names.publics.push(its)?;
+    publics.push(its)?;
+    Ok(publics)
+}
+
+// A weak reference with a note, and a strong one to b.
+fn two_references(alloc: Global) -> Result<List<Reference>, NoMemory> {
+    let mut references = List::new(alloc);
     let weak = Weak {
         size: 2,
         default: 9,
     };
     let mut wanted = reference(alloc, b"w", Some(weak))?;
     wanted.notes.push(note(8, 4))?;
-    parts.names.references.push(wanted)?;
-    parts.names.references.push(reference(alloc, b"b", None)?)?;
-    parts.debug = debug_items(alloc)?;
-    parts.loads.push(Load::SetSection(1))?;
-    let value = sum(alloc, Letter::R, 1, 2)?;
-    parts.loads.push(Load::SetPc { section: 1, value })?;
-    let literal = Bytes::from_slice(alloc, &[1, 2, 3])?;
-    parts.loads.push(Load::One(Item::Literal(literal)))?;
+    references.push(wanted)?;
+    references.push(reference(alloc, b"b", None)?)?;
+    Ok(references)
+}
+
+// A literal, and a field of the program counter.
+fn two_items(alloc: Global) -> Result<List<Item>, NoMemory> {
     let mut items = List::new(alloc);
     items.push(Item::Literal(Bytes::from_slice(alloc, &[4])?))?;
     items.push(Item::Field {
@@ -498,9 +528,33 @@ fn full(alloc: Global, its: &[u8]) -> Result<Module, NoMemory> {
         value: variable(alloc, Letter::P, 1)?,
         size: 2,
     })?;
-    parts.loads.push(Load::Repeat { count: 3, items })?;
+    Ok(items)
+}
+
+// A load of each kind, and a field of the second reference.
+fn all_loads(alloc: Global) -> Result<List<Load>, NoMemory> {
+    let mut loads = List::new(alloc);
+    loads.push(Load::SetSection(1))?;
+    let value = sum(alloc, Letter::R, 1, 2)?;
+    loads.push(Load::SetPc { section: 1, value })?;
+    let literal = Bytes::from_slice(alloc, &[1, 2, 3])?;
+    loads.push(Load::One(Item::Literal(literal)))?;
+    let items = two_items(alloc)?;
+    loads.push(Load::Repeat { count: 3, items })?;
     let value = variable(alloc, Letter::X, 1)?;
-    parts.loads.push(field(FieldKind::Unsigned, 4, value))?;
+    loads.push(field(FieldKind::Unsigned, 4, value))?;
+    Ok(loads)
+}
+
+// A module with something of every kind, whose public has this name.
+fn full(alloc: Global, its: &[u8]) -> Result<Module, NoMemory> {
+    let mut parts = empty(alloc)?;
+    parts.ext = Bytes::from_slice(alloc, its)?;
+    parts.sections = two_sections(alloc)?;
+    parts.names.publics = noted_public(alloc, its)?;
+    parts.names.references = two_references(alloc)?;
+    parts.debug = debug_items(alloc)?;
+    parts.loads = all_loads(alloc)?;
     module(parts)
 }
 

@@ -5,35 +5,9 @@ use mufom_names::{NameTable, Public, Reference, Weak};
 use mufom_numbers::{Bytes, List, NoMemory};
 use std::alloc::Global;
 
-// A module that defines names, each a byte, and needs others, some of them weakly.
-fn module(alloc: Global, defines: &[u8], needs: &[u8], wants: &[u8]) -> Result<Module, NoMemory> {
-    let mut publics = List::new(alloc);
-    for name in defines {
-        publics.push(Public {
-            name: Bytes::from_slice(alloc, &[*name])?,
-            value: Postfix::constant(alloc, 0)?,
-            notes: List::new(alloc),
-        })?;
-    }
-    let mut references = List::new(alloc);
-    for name in needs {
-        references.push(Reference {
-            name: Bytes::from_slice(alloc, &[*name])?,
-            weak: None,
-            notes: List::new(alloc),
-        })?;
-    }
-    for name in wants {
-        references.push(Reference {
-            name: Bytes::from_slice(alloc, &[*name])?,
-            weak: Some(Weak {
-                size: 0,
-                default: 0,
-            }),
-            notes: List::new(alloc),
-        })?;
-    }
-    let parts = Parts {
+// Parts without entries.
+fn empty(alloc: Global) -> Result<Parts, NoMemory> {
+    Ok(Parts {
         processor: Bytes::from_slice(alloc, b"68000")?,
         name: Bytes::new(alloc),
         maus: 4,
@@ -42,13 +16,57 @@ fn module(alloc: Global, defines: &[u8], needs: &[u8], wants: &[u8]) -> Result<M
         env: Bytes::new(alloc),
         sections: List::new(alloc),
         names: NameTable {
-            publics,
-            references,
+            publics: List::new(alloc),
+            references: List::new(alloc),
         },
         debug: List::new(alloc),
         loads: List::new(alloc),
         start: None,
+    })
+}
+
+// Publics of these names, each a byte.
+fn publics(alloc: Global, names: &[u8]) -> Result<List<Public>, NoMemory> {
+    let mut publics = List::new(alloc);
+    for name in names {
+        publics.push(Public {
+            name: Bytes::from_slice(alloc, &[*name])?,
+            value: Postfix::constant(alloc, 0)?,
+            notes: List::new(alloc),
+        })?;
+    }
+    Ok(publics)
+}
+
+// Adds references of these names, each a byte.
+fn add_references(
+    alloc: Global,
+    names: &[u8],
+    weak: Option<Weak>,
+    references: &mut List<Reference>,
+) -> Result<(), NoMemory> {
+    for name in names {
+        references.push(Reference {
+            name: Bytes::from_slice(alloc, &[*name])?,
+            weak,
+            notes: List::new(alloc),
+        })?;
+    }
+    Ok(())
+}
+
+// A module that defines names, each a byte, and needs others, some of them weakly.
+fn module(alloc: Global, defines: &[u8], needs: &[u8], wants: &[u8]) -> Result<Module, NoMemory> {
+    let weak = Weak {
+        size: 0,
+        default: 0,
     };
+    let mut references = List::new(alloc);
+    add_references(alloc, needs, None, &mut references)?;
+    add_references(alloc, wants, Some(weak), &mut references)?;
+    let mut parts = empty(alloc)?;
+    parts.names.publics = publics(alloc, defines)?;
+    parts.names.references = references;
     match assemble(parts) {
         Ok(module) => Ok(module),
         Err(_) => Err(NoMemory),
