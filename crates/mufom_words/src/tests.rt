@@ -280,6 +280,15 @@ fn options_of_the_other_commands(rt: HostRuntime) -> Result<(), Fail> {
     Ok(())
 }
 
+fn line_fails_by(
+    rt: &impl Abort,
+    alloc: Global,
+    line: &[&str; 5],
+    fault: UsageFault,
+) -> Result<(), Fail> {
+    fails_by(rt, alloc, Form::Dump, line, fault)
+}
+
 #[test]
 fn faults_of_groups_and_members(rt: HostRuntime) -> Result<(), Fail> {
     let alloc = rt.alloc();
@@ -297,8 +306,14 @@ fn faults_of_groups_and_members(rt: HostRuntime) -> Result<(), Fail> {
         (["dump", "--", "[", "]", "-o"], UsageFault::EmptyGroup),
         (["dump", "[", "]", "-x", "a"], UsageFault::BadWords),
     ] {
-        fails_by(&rt, alloc, Form::Dump, &line, fault)?;
+        line_fails_by(&rt, alloc, &line, fault)?;
     }
+    Ok(())
+}
+
+#[test]
+fn faults_of_single_lines(rt: HostRuntime) -> Result<(), Fail> {
+    let alloc = rt.alloc();
     fails_by(&rt, alloc, Form::Dump, &["dump"], UsageFault::NoFile)?;
     fails_by(
         &rt,
@@ -328,21 +343,30 @@ fn faults_of_groups_and_members(rt: HostRuntime) -> Result<(), Fail> {
 }
 
 #[test]
-fn groups_are_at_most_64_deep(rt: HostRuntime) -> Result<(), Fail> {
+fn groups_65_deep_are_too_deep(rt: HostRuntime) -> Result<(), Fail> {
     let alloc = rt.alloc();
     let mut line = ["["; 132];
     line[0] = "dump";
     line[66] = "a";
-    for place in 67..132 {
-        line[place] = "]";
+    for at in 67..132 {
+        line[at] = "]";
     }
     assert_eq!(rt;
         stop_by(alloc, Form::Dump, &line)?,
         Some(WordsStop::TooDeep(65))
     );
-    // A group less, and one that stays open.
-    fails_by(&rt, alloc, Form::Dump, &line[..131], UsageFault::OpenGroup)?;
-    line[1] = "b";
-    assert_eq!(rt; stop_by(alloc, Form::Dump, &line[..131])?, None);
+    Ok(())
+}
+
+#[test]
+fn groups_64_deep_are_taken(rt: HostRuntime) -> Result<(), Fail> {
+    let alloc = rt.alloc();
+    let mut line = ["["; 130];
+    line[0] = "dump";
+    line[65] = "a";
+    for at in 66..130 {
+        line[at] = "]";
+    }
+    assert_eq!(rt; stop_by(alloc, Form::Dump, &line)?, None);
     Ok(())
 }
