@@ -10,12 +10,13 @@ ghost use Rattle.mufom_command.specs.Run.{Lists, FileHas, OpensPrefix};
 use crate::outcome::{Input, Outcome, Refusal};
 use mufom_host::{Failed, Host};
 use mufom_module::Module;
+use mufom_numbers::limits::MOST_FILE_BYTES;
 use mufom_numbers::{List, NoMemory, Text};
 use mufom_read::{SourceStop, read_module};
 use std::alloc::Global;
 
 // How many bytes the module files of a run have at most, all together.
-const MOST_INPUT_BYTES: u64 = 67_108_864;
+const MOST_INPUT_BYTES: u64 = MOST_FILE_BYTES as u64;
 
 // The answer where the file with this number was not read.
 fn outcome_of_source_stop(file: u32, stop: SourceStop) -> Outcome

@@ -48,7 +48,7 @@ open_after opened (name_mark name) = opened
 open_after opened (note_mark name note) = opened
 open_after opened (value_mark name value) = opened
 
--- how many debug names are declared after a mark, where the given number are before it
+-- how many debug names are declared after a mark, where `n` are before it
 abbrev pub names_after : ℕ → DebugMark → ℕ
 names_after n (block_begin head name) = n
 names_after n (block_end end) = n
@@ -61,7 +61,7 @@ abbrev pub names_after_all : ℕ → List DebugMark → ℕ
 names_after_all n [] = n
 names_after_all n (mark ∷ marks) = names_after_all (names_after n mark) marks
 
--- how many blocks are open at once at most, where the given number are open before the marks
+-- how many blocks are open at once at most, where `opened` are open before the marks
 abbrev pub depth_from : ℕ → List DebugMark → ℕ
 depth_from opened [] = opened
 depth_from opened (mark ∷ marks) = max opened (depth_from (open_after opened mark) marks)
@@ -70,7 +70,7 @@ depth_from opened (mark ∷ marks) = max opened (depth_from (open_after opened m
 abbrev pub depth_of : List DebugMark → ℕ
 depth_of marks = depth_from 0 marks
 
--- where the given number of blocks are open, the marks end these and each block that they begin, and no other
+-- where `n` blocks are open, the marks end these and each block that they begin, and no other
 abbrev pub closes : ℕ → List DebugMark → Bool
 closes zero [] = true
 closes (suc n) [] = false

@@ -19,7 +19,7 @@ pub terms_after-append : (xs ys : List Token) (s : List Tree) → terms_after (x
 terms_after-append [] ys s = refl
 terms_after-append (x ∷ xs) ys s = through xs ys (after_token x s) (terms_after-append xs ys)
 
--- the given number of terms stand in what one more token leaves
+-- what one more token leaves: its operands go, and one term comes
 abbrev LeavesAfter : Token → List Tree → Type 0
 LeavesAfter token s = option_map length (terms_after (token ∷ []) s) ≡ Some (length s - operands_of token + 1)
 

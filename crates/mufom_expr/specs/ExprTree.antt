@@ -62,7 +62,7 @@ IsExpression expr = IsSomeAnd (tree_of_expr expr) (λ t. length (tokens_of t) �
 
 -- ---- the trees that stand while the tokens of an expression are gone through, the last first
 
--- the trees that stand after a function of the given number of operands
+-- the trees that stand after a function of one or two operands
 abbrev pub trees_applied : ℕ → Function → List (Option Tree) → List (Option Tree)
 trees_applied (suc zero) f (a ∷ trees) = over_one (one_operand f) a ∷ trees
 trees_applied (suc (suc zero)) f (b ∷ a ∷ trees) = over_two (two_operands f) a b ∷ trees

@@ -32,7 +32,7 @@ binary_value m functions.Or a b = two_value m or_bits a b
 binary_value m functions.Xor a b = two_value m xor_bits a b
 binary_value m _ a b = None
 
--- the values that stand after a function of the given number of operands, where they stand before it
+-- the values that stand after a function of one or two operands, where these stand before it
 abbrev pub values_applied : ℕ → ℕ → Function → List (Option ℕ) → List (Option ℕ)
 values_applied m (suc zero) f (a ∷ values) = option_map (unary_value m f) a ∷ values
 values_applied m (suc (suc zero)) f (b ∷ a ∷ values) = both (binary_value m f) a b ∷ values

@@ -69,7 +69,7 @@ abbrev pub has_any : List NamedFile → Bool
 has_any [] = false
 has_any (file ∷ files) = true
 
--- the file being made has no room for the given number of further bytes; while none is being made there is room for any
+-- the file being made has no room for `count` further bytes; while none is being made there is room for any
 abbrev pub passes_file : Option NamedFile → ℕ → ℕ → Bool
 passes_file None room count = false
 passes_file (Some file) room count = nat_lt room (length file.1 + count)

@@ -5,7 +5,7 @@ use Rattle.mufom_host.specs.World.{NamedFile}
 use Rattle.mufom_host.specs.Kept.{has_file}
 use Rattle.mufom_host.specs.Memory.{Memory, after_read, after_open, after_write, after_create, after_finish, after_print, after_complain}
 
--- a call: a read into a buffer of the given number of bytes, and the others with their name or bytes
+-- a call: a read into a buffer of `count` bytes, and the others with their name or bytes
 pub data Call : Type 0 where
   reads : ℕ → Call
   opens : List ℕ → Call

@@ -114,7 +114,7 @@ abbrev pub Grows : Option (List ℕ) → Option (List ℕ) → Result (Unit {0})
 Grows before after (Ok done) text = GrowsBy before after text
 Grows before after (Err e) text = GrowsByPrefix before after text
 
--- the given number of bytes of the chunk are added as the answer states, some where there are any; on a failure the prefix of the chunk may be
+-- the first `n` bytes of the chunk are added where the answer is `n`, some where there are any; on a failure the prefix of the chunk may be
 abbrev pub Writes : Option (Option NamedFile) → Option (Option NamedFile) → Result ℕ Failed → List ℕ → Type 0
 Writes before after (Ok n) chunk = MakingGrowsBy before after (take n chunk) × (0 < length chunk → 0 < n)
 Writes before after (Err e) chunk = MakingGrowsByPrefix before after chunk

@@ -79,7 +79,8 @@ fn add_publics(
     publics: &[Public],
 ) -> Result<(), LinkRefusal>
     requires { first + length publics.now < 2 ^ 32 }
-    ensures { let names = names_of publics.now in MatchResult result (λ _. IsIndexed index.old first names index.new) (λ e. IsRefusedName index.old first names e) }
+    ensures { let names = names_of publics.now in
+        MatchResult result (λ _. IsIndexed index.old first names index.new) (λ e. IsRefusedName index.old first names e) }
 {
     for position in 0..publics.len() {
         let name = publics[position].name.as_slice();

@@ -7,6 +7,7 @@ use Rattle.std.proofs.Math.Seq.{take-append_seam, drop-append_seam}
 use Rattle.std.proofs.lemmas.List.{length-map}
 use Rattle.std.proofs.lemmas.List.Elements.{All-nil, All-cons, All-head, All-tail}
 use Rattle.std.proofs.lemmas.List.Sums.{sum_by-cons}
+use Rattle.mufom_numbers.specs.declared.limits.TheConstants.{MOST_ALIGNMENT}
 use Rattle.mufom_sections.specs.declared.section.Section.{Section}
 use Rattle.mufom_module.specs.declared.module.Parts.{Parts}
 use Rattle.mufom_module.specs.declared.module.Defect.TheVariants as d
@@ -59,7 +60,7 @@ module _ (m : Parts) (plan : Plan) (v : IsValid m) where
     own k =
         let good = fails-In has_bad_alignment m.sections (no_defect m v d.BadAlign) section (subst (In section) (append-nil m.sections) k) in
         let two = either_false (section.align == 0) _ good in
-        let most = of_not_lt 2147483648 section.align two.1 in
+        let most = of_not_lt MOST_ALIGNMENT section.align two.1 in
         record { least = some section.align two.0; most = most } where
           some : (n : ℕ) → (n == 0) ≡ false → 1 ≤ n
           some n e = search rules

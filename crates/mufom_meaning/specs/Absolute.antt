@@ -17,7 +17,7 @@ use Rattle.mufom_meaning.specs.declared.located.LocatedParts.{LocatedParts}
 abbrev pub literal_limit : ℕ
 literal_limit = 65535
 
--- a list in chunks of a length, the last one shorter where needed, where there are at most the given number of chunks
+-- a list in chunks of a length, the last one shorter where needed, where there are at most `n` chunks
 abbrev pub chunks_within : {X : Type 0} → ℕ → ℕ → List X → List (List X)
 chunks_within zero size xs = []
 chunks_within (suc n) size [] = []

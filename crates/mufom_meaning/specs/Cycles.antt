@@ -28,7 +28,7 @@ abbrev pub is_or_leads : (Sited → Tree → Bool) → List ℕ → Option Sited
 is_or_leads leads name None = false
 is_or_leads leads name (Some q) = bytes_eq q.entry.name name || leads q.site q.entry.value
 
--- from the expression a chain of mentions, of at least one and at most the given number, leads to a public of this name
+-- from the expression a chain of mentions, of at least one and at most `k`, leads to a public of this name
 abbrev pub leads_within : Setting → ℕ → List ℕ → Sited → Tree → Bool
 leads_within s zero name site t = false
 leads_within s (suc k) name site t =

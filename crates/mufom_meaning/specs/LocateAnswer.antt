@@ -1,5 +1,6 @@
 -- What locating a list of modules by a plan answers in place of a location.
 use Rattle.std.specs.Prelude.{ℕ, List, find, Option, Some, None, option_map, slice_get, not, nat_lt, if◌then◌else◌}
+use Rattle.mufom_numbers.specs.declared.limits.TheConstants.{MOST_IMAGE_BYTES}
 use Rattle.mufom_module.specs.declared.module.Parts.{Parts}
 use Rattle.mufom_plan.specs.declared.plan.Plan.{Plan}
 use Rattle.mufom_plan.specs.Names.{has_name}
@@ -27,7 +28,7 @@ cycle_at ms name = if is_on_cycle ms name then Some (cycle name) else None
 
 -- an image has at most 2 ^ 26 bytes
 abbrev pub image_limit_at : ℕ → Option LocateFact
-image_limit_at total = if nat_lt 67108864 total then Some (image_limit total) else None
+image_limit_at total = if nat_lt MOST_IMAGE_BYTES total then Some (image_limit total) else None
 
 -- what locating the list by the plan answers in place of a location, the first in this order
 unfoldable pub locate_answer : List Parts → Plan → Option LocateFact

@@ -1,5 +1,6 @@
 -- When a fact stands against a list of modules, whether or not it is the one that is answered.
 use Rattle.std.specs.Prelude.{◌≡◌, ◌≢◌, ℕ, ◌+◌, ◌%◌, ◌<◌, ◌≤◌, ◌⊎◌, List, [], ◌∷◌, length, Some, None, slice_get, false, IsTrue}
+use Rattle.mufom_numbers.specs.declared.limits.TheConstants.{MOST_IMAGE_BYTES}
 use Rattle.mufom_expr.specs.declared.token.FieldKind.{FieldKind}
 use Rattle.mufom_expr.specs.Tree.{Tree}
 use Rattle.mufom_names.specs.Names.{RepeatsAt}
@@ -67,7 +68,7 @@ StandsBeforeWalk ms plan s (placement refusal) = Stands (width ms) plan (flat_se
 StandsBeforeWalk ms plan s (undefined name) = StandsIn name (needs ms) × (has_name (common_names ms) name ≡ false)
 StandsBeforeWalk ms plan s (common_unplaced name) = (has_common plan.regions ≡ false) × ((size : ℕ) × StandsIn (name, size) (commons ms))
 StandsBeforeWalk ms plan s (cycle name) = IsOnCycle ms name
-StandsBeforeWalk ms plan s (image_limit count) = (loaded_total ms ≡ count) × (67108864 < count)
+StandsBeforeWalk ms plan s (image_limit count) = (loaded_total ms ≡ count) × (MOST_IMAGE_BYTES < count)
 StandsBeforeWalk ms plan s _ = ⊥
 
 -- The facts that the walk meets. The byte at offset q of an item lies at the counter and q: outside its section where that exact

@@ -74,7 +74,7 @@ environment s worth site pc letters.P n = pc
 environment s worth site pc letters.I n = worth_of worth (slice_get s.publics (site.first_public + n))
 environment s worth site pc letters.X n = worth_of_reference s worth (slice_get site.parts.names.references n)
 
--- The value of an expression in a module, going through at most the given number of names on any way down. With no
+-- The value of an expression in a module, going through at most `k` names on any way down. With no
 -- step left a public has no value.
 unfoldable pub value_within : Setting → ℕ → Sited → Option ℕ → Tree → Option ℕ
 value_within s zero site pc t = value_at s.modulus (environment s (λ site' t'. None) site pc) t

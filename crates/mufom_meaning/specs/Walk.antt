@@ -25,7 +25,7 @@ zero_divisor_at s site pc t place = if has_zero_divisor s site pc t then Some (z
 abbrev pub public_fact : Setting → SitedPublic → Option LocateFact
 public_fact s q = zero_divisor_at s q.site None q.entry.value (sites.Public q.entry.name)
 
--- the given number of numbers, from `start` on
+-- `n` numbers, from `start` on
 abbrev pub counted_from : ℕ → ℕ → List ℕ
 counted_from zero start = []
 counted_from (suc n) start = start ∷ counted_from n (suc start)

@@ -43,7 +43,7 @@ cut_by bytes (Got row used) rest = cond (nat_lt 0 used && nat_le used (length by
 cut_by bytes More rest = None
 cut_by bytes (Bad offset reason) rest = None
 
--- the records and items of these bytes, at most the given number, with other bytes after them
+-- the records and items of these bytes, at most `n`, with other bytes after them
 abbrev pub cut : ℕ → Bool → List ℕ → List ℕ → Option (List SpelledRecord)
 cut zero items bytes after = None
 cut (suc n) items [] after = Some []

@@ -1,6 +1,7 @@
 -- What keeps the parts of a module from being a valid module: thirteen tests, in the order in which they are tried.
 use Rattle.std.specs.Prelude.{◌≡◌, ℕ, ◌+◌, ◌^◌, ◌==◌, ◌&&◌, ◌||◌, nat_lt, nat_le, Bool, true, false, not, List, [], ◌∷◌, length, Option, Some, None, is_some, is_none, if◌then◌else◌, option_and_then}
 use Rattle.std.specs.List.{list_any, find}
+use Rattle.mufom_numbers.specs.declared.limits.TheConstants.{MOST_ALIGNMENT}
 use Rattle.mufom_expr.specs.declared.token.Letter.{Letter}
 use Rattle.mufom_expr.specs.declared.token.Letter.TheVariants.{I, L, P, R, S, X}
 use Rattle.mufom_expr.specs.Tree.{Tree}
@@ -53,7 +54,7 @@ is_unit_count n = nat_le 1 n && nat_le n 8
 
 -- an alignment is 1 to 2^31
 abbrev pub has_bad_alignment : Section → Bool
-has_bad_alignment s = (s.align == 0) || nat_lt 2147483648 s.align
+has_bad_alignment s = (s.align == 0) || nat_lt MOST_ALIGNMENT s.align
 
 -- a section with the letters of an absolute one has a base
 abbrev pub lacks_base : Section → Bool

@@ -2,6 +2,7 @@
 -- profile).
 use Rattle.std.specs.Prelude.{◌≡◌, ◌⊎◌, ℕ, ◌+◌, ◌≤◌, Bool, true, false, not, ◌&&◌, List, [], ◌∷◌, ◌++◌, length, filter_map, Option, Some, None, option_to_list, MatchBool}
 use Rattle.std.specs.List.{list_all, list_any}
+use Rattle.mufom_numbers.specs.declared.limits.TheConstants.{MOST_FILE_BYTES}
 use Rattle.mufom_numbers.specs.declared.codes.TheConstants.{LETTER_L, LETTER_M, MODULE_END}
 use Rattle.mufom_expr.specs.Spelled.{Indexes}
 use Rattle.mufom_records.specs.declared.record.Mode.{Mode}
@@ -122,7 +123,7 @@ StandAt (w ∷ offsets) at (bytes ∷ parts) = ((w ≡ at) ⊎ ((w ≡ 0) × (by
 
 -- the most bytes of a file
 abbrev pub file_limit : ℕ
-file_limit = 67108864
+file_limit = MOST_FILE_BYTES
 
 -- The file is these parts. The debug part is read, or its bytes are passed over.
 pub record IsCutInto (bytes : List ℕ) (reads_debug : Bool) (f : FileParts) : Type 0 where

@@ -203,7 +203,7 @@ module _ (style : Style) where
   debug_record n (note_mark name its) = note LETTER_N (debug_name_index name) its
   debug_record n (value_mark name value) = ASSIGNMENT ∷ LETTER_N ∷ (number (debug_name_index name) ++ expression value)
 
-  -- the records of marks, where the given number of names stand before them
+  -- the records of marks, where `n` names stand before them
   abbrev pub debug_records : ℕ → List DebugMark → List ℕ
   debug_records n [] = []
   debug_records n (mark ∷ marks) = debug_record n mark ++ debug_records (names_after n mark) marks

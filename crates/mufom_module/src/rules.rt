@@ -13,6 +13,7 @@ use mufom_debug::is_within_depth;
 use mufom_expr::{Letter, Postfix, Token};
 use mufom_loads::{Item, Load};
 use mufom_names::{Public, Reference};
+use mufom_numbers::limits::MOST_ALIGNMENT;
 use mufom_sections::Section;
 
 /// How many entries the lists of a module have.
@@ -196,7 +197,7 @@ pub(crate) fn has_bad_alignment(parts: &Parts) -> bool
         .sections
         .as_slice()
         .iter()
-        .any(|s| s.align == 0 || s.align > 2_147_483_648)
+        .any(|s| s.align == 0 || s.align > MOST_ALIGNMENT)
 }
 
 /// A section with the letters of an absolute one has no base.

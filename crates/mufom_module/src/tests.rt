@@ -223,7 +223,7 @@ fn base_and_number(alloc: Global) -> Result<Postfix, ExprFault> {
     builder.finish()
 }
 
-// A field of the given number of bytes in section 0.
+// A field of `size` bytes in section 0.
 fn field(alloc: Global, size: u8) -> Result<List<Load>, ExprFault> {
     let mut loads = list(alloc, Load::SetSection(0)).map_err(|_| ExprFault::NoMemory)?;
     let item = Item::Field {
@@ -249,7 +249,7 @@ fn section_at_four(alloc: Global) -> Result<Section, NoMemory> {
     })
 }
 
-// A module of this section and a field of the given number of bytes in it.
+// A module of this section and a field of `size` bytes in it.
 fn with_field(alloc: Global, size: u8) -> Result<Parts, ExprFault> {
     let mut parts = small(alloc).map_err(|_| ExprFault::NoMemory)?;
     let section = section_at_four(alloc).map_err(|_| ExprFault::NoMemory)?;

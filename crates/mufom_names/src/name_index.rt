@@ -22,7 +22,8 @@ impl Model for NameIndex {
 
     ghost view = { λ index. zip (map (λ key. key.items) index.keys.keys) index.positions.items };
 
-    ghost invariant = { λ index. (length index.keys.keys ≡ length index.positions.items) × IsDistinct (λ key other. bytes_eq key.items other.items) index.keys.keys };
+    ghost invariant = { λ index. (length index.keys.keys ≡ length index.positions.items)
+        × IsDistinct (λ key other. bytes_eq key.items other.items) index.keys.keys };
 }
 
 impl NameIndex {

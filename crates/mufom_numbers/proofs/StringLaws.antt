@@ -101,7 +101,7 @@ string_at-cut_off text input (rest, more, (lead, is, fits, split)) = cut lead te
       rw (same, high, low, ← is.3) (short_after 3 (length text) (223 ∷ b ∷ c ∷ input) (omega (arith, shorter)))
   cut (a ∷ b ∷ c ∷ d ∷ lead) text (i ∷ input) rest is split more = absurd is
 
--- the given number of bytes that a lead counts, of which some are not there yet
+-- `len` bytes that a lead counts, of which some are not there yet
 completed : (len : ℕ) (lead bytes : List ℕ) → IsStringLead len lead → AreBytes bytes → length bytes < len → (text : List ℕ) × IsCutOff (SpellsString text) (lead ++ bytes)
 completed len lead bytes is fits short =
     let k = len - length bytes in

@@ -9,7 +9,7 @@ low_step v b p w h = omega arith
 high_step : (v b p w : ℕ) → b < 256 → w < (256 * v + b + 1) * p → w < (v + 1) * (256 * p)
 high_step v b p w byte h = omega (arith, mul-le-mul_right p byte)
 
--- bytes after v: at least v before the given number of zeros, and below v + 1 before them
+-- bytes after v: at least v with a zero in place of each of the bytes, and below v + 1 so
 pub value_after-low : (v : ℕ) (bytes : List ℕ) → v * 256 ^ length bytes ≤ value_after v bytes
 value_after-low v [] = omega arith
 value_after-low v (b ∷ bytes) = rw (pow-succ' 256 (length bytes)) (low_step v b (256 ^ length bytes) _ (value_after-low (256 * v + b) bytes))

@@ -9,6 +9,7 @@
 
 pub mod codes;
 mod laws;
+pub mod limits;
 mod list;
 mod memory;
 mod reason;

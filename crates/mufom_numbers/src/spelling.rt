@@ -70,7 +70,7 @@ fn span_after(lead: usize, len: usize, input: &[u8]) -> Taken<Span>
 /// `Bad` is at offset 0 with [`Reason::BadId`], where the first byte begins no string. Takes no
 /// memory.
 pub fn read_id(input: &[u8]) -> Taken<Span>
-    // What is taken is the prefix of the input: a lead for the given number of bytes, and those bytes.
+    // What is taken is the prefix of the input: a lead, and the bytes that it counts.
     ensures got { IfGot result (λ span used. (used ≤ length input.now) × (used ≡ span.start + span.len)
         × IsStringLead span.len (take span.start input.now)) }
     // An input that begins with a lead and the bytes it counts gives their span.

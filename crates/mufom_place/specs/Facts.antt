@@ -1,6 +1,7 @@
 -- What keeps sections and commons from being placed, and which of it is answered. There are two lists, the sections and the commons;
 -- positions are those of the one list that has the commons after the sections.
 use Rattle.std.specs.Prelude.{◌≡◌, ◌≢◌, ◌≤◌, ◌<◌, ◌⊎◌, ℕ, ◌+◌, ◌-◌, ◌%◌, ◌^◌, ◌==◌, List, [], ◌∷◌, ◌++◌, length, take, drop, Option, Some, None, slice_get, Bool, false, not, ◌&&◌, ◌||◌, nat_lt, nat_le, if◌then◌else◌}
+use Rattle.mufom_numbers.specs.declared.limits.TheConstants.{MOST_ALIGNMENT}
 use Rattle.mufom_sections.specs.declared.section.Section.{Section}
 use Rattle.mufom_plan.specs.declared.plan.Region.{Region}
 use Rattle.mufom_plan.specs.declared.plan.Plan.{Plan}
@@ -21,7 +22,7 @@ pub record IsAddressWidth (width : ℕ) : Type 0 where
 -- an alignment is at least 1 and at most 2^31
 pub record IsAligned (section : Section) : Type 0 where
   pub least : 1 ≤ section.align
-  pub most : section.align ≤ 2147483648
+  pub most : section.align ≤ MOST_ALIGNMENT
 
 -- a common has no base of its own
 abbrev pub HasNoBase : Section → Type 0
@@ -33,6 +34,10 @@ sections_before count sections = take (length sections - count) sections
 
 abbrev pub last_sections : ℕ → List Section → List Section
 last_sections count sections = drop (length sections - count) sections
+
+-- a refusal is what is answered, but for out of memory
+abbrev pub IsAnswer : Option PlaceRefusal → PlaceRefusal → Type 0
+IsAnswer answer refusal = refusal ≢ NoMemory → answer ≡ Some refusal
 
 -- the first answer that there is
 infixr 20 ◌or_else◌

@@ -1,6 +1,7 @@
 -- Sections that are put one after another, entry by entry.
 use Rattle.std.specs.Prelude.{ℕ, ◌+◌, ◌≤◌, List, [], ◌∷◌, ◌++◌, length, take, drop}
 use Rattle.std.specs.List.{flat_map}
+use Rattle.mufom_numbers.specs.declared.limits.TheConstants.{MOST_ALIGNMENT}
 use Rattle.mufom_plan.specs.declared.plan.Region.{Region}
 use Rattle.mufom_place.specs.declared.site.Waiting.{Waiting}
 use Rattle.mufom_place.specs.declared.site.Placing.{Placing}
@@ -9,7 +10,7 @@ use Rattle.mufom_place.specs.Bases.{aligned_up, packed, commons_in}
 -- a section that waits has an alignment of at least 1 and at most 2^31
 pub record IsAlignedWaiting (w : Waiting) : Type 0 where
   pub least : 1 ≤ w.align
-  pub most : w.align ≤ 2147483648
+  pub most : w.align ≤ MOST_ALIGNMENT
 
 -- the end of the last of the sections that are put from an address on
 abbrev pub end_of : ℕ → List Waiting → ℕ

@@ -123,7 +123,7 @@ pub fn placings(
     Ok(placings)
 }
 
-/// The base that regions give to each of the given number of sections.
+/// The base that regions give to each of `count` sections.
 pub fn planned(
     alloc: Global,
     placings: &[Placing],

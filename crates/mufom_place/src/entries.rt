@@ -1,11 +1,11 @@
 //! The entries of a plan's lists, and the sections that wait at each.
 
-ghost use Rattle.std.specs.Prelude.{◌≡◌, ◌≢◌, ◌≤◌, ◌<◌, ◌+◌, ◌++◌, ◌^◌, [], IfOk, IfErr, OnOk, Some, length, map, position, replicate, sum_by, codes};
+ghost use Rattle.std.specs.Prelude.{◌≡◌, ◌≤◌, ◌<◌, ◌+◌, ◌++◌, ◌^◌, [], IfOk, IfErr, OnOk, Some, length, map, position, replicate, sum_by, codes};
 ghost use Rattle.std.specs.List.{enumerate_from};
 ghost use Rattle.std.specs.Str.{bytes_eq};
 ghost use Rattle.mufom_plan.specs.Names.{AreDistinctNames, listed_names};
 ghost use Rattle.mufom_place.specs.Bases.{numbered, waiting as waiting_of, waiting_among};
-ghost use Rattle.mufom_place.specs.Facts.{first_some, unplaced_at};
+ghost use Rattle.mufom_place.specs.Facts.{IsAnswer, first_some, unplaced_at};
 ghost use Rattle.mufom_place.specs.Entries.{entry_for};
 
 use crate::PlaceRefusal;
@@ -97,7 +97,7 @@ pub fn waiting_sections(
     ensures waiting { IfOk result (λ entries. entries.items ≡ map (waiting_among index.now (numbered sections.now)) index.now) }
     ensures total { IfOk result (λ entries. sum_by length entries.items ≤ length sections.now) }
     ensures placed { OnOk result (first_some (unplaced_at index.now) (numbered sections.now) ≡ None) }
-    ensures unplaced { IfErr result (λ refusal. refusal ≢ PlaceRefusal.NoMemory → first_some (unplaced_at index.now) (numbered sections.now) ≡ Some refusal) }
+    ensures unplaced { IfErr result (IsAnswer (first_some (unplaced_at index.now) (numbered sections.now))) }
 {
     let star = index.position(b"*");
     let mut entries = empty_entries(alloc, index.len())?;

@@ -1,8 +1,8 @@
 //! The bases of sections, where each lies in the address space and in its region.
 
-ghost use Rattle.std.specs.Prelude.{◌≡◌, ◌≢◌, ◌≤◌, ◌<◌, ◌^◌, None, Some, IfOk, IfErr, OnOk, length, map};
+ghost use Rattle.std.specs.Prelude.{◌≡◌, ◌≤◌, ◌<◌, ◌^◌, None, Some, IfOk, IfErr, OnOk, length, map};
 ghost use Rattle.mufom_place.specs.Bases.{numbered, site_by, site_with};
-ghost use Rattle.mufom_place.specs.Facts.{first_some, is_past as ends_past, misfit_by, misfit_with};
+ghost use Rattle.mufom_place.specs.Facts.{IsAnswer, first_some, is_past as ends_past, misfit_by, misfit_with};
 
 use crate::PlaceRefusal;
 use crate::bases::planned;
@@ -85,7 +85,7 @@ pub fn bases(
     requires count { length sections.now < 2 ^ 32 }
     ensures bases { IfOk result (λ list. list ≡ map (λ s. (site_by placings.now s).base) (numbered sections.now)) }
     ensures fit { OnOk result (first_some (misfit_by (2 ^ width) regions.now placings.now) (numbered sections.now) ≡ None) }
-    ensures misfit { IfErr result (λ refusal. refusal ≢ PlaceRefusal.NoMemory → first_some (misfit_by (2 ^ width) regions.now placings.now) (numbered sections.now) ≡ Some refusal) }
+    ensures misfit { IfErr result (IsAnswer (first_some (misfit_by (2 ^ width) regions.now placings.now) (numbered sections.now))) }
 {
     let planned = planned(alloc, placings, sections.len())?;
     let mut bases = List::new(alloc);

@@ -9,6 +9,8 @@ ghost use Rattle.mufom_place.specs.Facts.{Stands, place_refusal};
 /// What is answered in place of bases is a fact that stands, and where nothing is answered no fact
 /// stands. So there is an answer exactly where there is a fact.
 pub fn place_refusals_are_facts()
-    ensures sound { (width : ℕ) (plan : Plan) (sections commons : List Section) (fact : PlaceRefusal) → place_refusal width plan sections commons ≡ Some fact → Stands width plan sections commons fact }
-    ensures complete { (width : ℕ) (plan : Plan) (sections commons : List Section) (fact : PlaceRefusal) → place_refusal width plan sections commons ≡ None → ¬ Stands width plan sections commons fact }
+    ensures sound { (width : ℕ) (plan : Plan) (sections commons : List Section) (fact : PlaceRefusal)
+        → place_refusal width plan sections commons ≡ Some fact → Stands width plan sections commons fact }
+    ensures complete { (width : ℕ) (plan : Plan) (sections commons : List Section) (fact : PlaceRefusal)
+        → place_refusal width plan sections commons ≡ None → ¬ Stands width plan sections commons fact }
 {}

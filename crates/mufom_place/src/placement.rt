@@ -1,8 +1,8 @@
-ghost use Rattle.std.specs.Prelude.{◌≡◌, ◌≢◌, ◌≤◌, ◌<◌, ◌+◌, ◌^◌, Some, None, IfOk, IfErr, OnOk, All, length, false};
+ghost use Rattle.std.specs.Prelude.{◌≡◌, ◌≤◌, ◌<◌, ◌+◌, ◌^◌, Some, None, IfOk, IfErr, OnOk, All, length, false};
 ghost use Rattle.mufom_plan.specs.Commons.{HasAtMostOneCommon, has_common};
 ghost use Rattle.mufom_plan.specs.Names.{AreDistinctNames, listed_names};
 ghost use Rattle.mufom_place.specs.Bases.{bases as bases_of, numbered, placings as placings_of};
-ghost use Rattle.mufom_place.specs.Facts.{HasNoBase, IsAddressWidth, IsAligned, first_some, last_sections, place_refusal, sections_before, unplaced_at};
+ghost use Rattle.mufom_place.specs.Facts.{HasNoBase, IsAddressWidth, IsAligned, IsAnswer, first_some, last_sections, place_refusal, sections_before, unplaced_at};
 
 use crate::PlaceRefusal;
 use crate::bases::placings;
@@ -29,7 +29,7 @@ fn regional(
     requires names { AreDistinctNames (listed_names plan.now.regions) }
     ensures given { IfOk result (λ list. list ≡ placings_of plan.now sections.now commons.now) }
     ensures placed { OnOk result (first_some (unplaced_at (listed_names plan.now.regions)) (numbered sections.now) ≡ None) }
-    ensures unplaced { IfErr result (λ refusal. refusal ≢ PlaceRefusal.NoMemory → first_some (unplaced_at (listed_names plan.now.regions)) (numbered sections.now) ≡ Some refusal) }
+    ensures unplaced { IfErr result (IsAnswer (first_some (unplaced_at (listed_names plan.now.regions)) (numbered sections.now))) }
 {
     let index = index_of_entries(alloc, plan)?;
     let entries = waiting_sections(alloc, sections, &index)?;
@@ -75,7 +75,7 @@ pub fn place(
     ensures placed { OnOk result (place_refusal width plan.now (sections_before commons sections.now) (last_sections commons sections.now) ≡ None) }
 
     // A refusal is the first thing that keeps them, or there was no memory.
-    ensures refused { IfErr result (λ refusal. refusal ≢ PlaceRefusal.NoMemory → place_refusal width plan.now (sections_before commons sections.now) (last_sections commons sections.now) ≡ Some refusal) }
+    ensures refused { IfErr result (IsAnswer (place_refusal width plan.now (sections_before commons sections.now) (last_sections commons sections.now))) }
 {
     let (plain, last) = sections.split_at(sections.len() - commons as usize);
     let placings = regional(alloc, plain, last, plan)?;

@@ -3,6 +3,7 @@ ghost use Rattle.mufom_plan.specs.Commons.{has_common};
 ghost use Rattle.mufom_place.specs.Facts.{HasNoBase, IsAddressWidth, IsAligned};
 
 use crate::{PlaceRefusal, place, place_refusals_are_facts};
+use mufom_numbers::limits::MOST_ALIGNMENT;
 use mufom_numbers::{Bytes, List, NoMemory};
 use mufom_plan::{Region, read_plan};
 use mufom_sections::Section;
@@ -37,7 +38,7 @@ fn sections_of(alloc: Global, rows: &[Row<'_>]) -> Result<Vec<Section>, NoMemory
 fn are_aligned(sections: &[Section]) -> bool
     ensures { IsTrue result ↔ All IsAligned sections.now }
 {
-    sections.iter().all(|section| section.align >= 1 && section.align <= 2_147_483_648)
+    sections.iter().all(|section| section.align >= 1 && section.align <= MOST_ALIGNMENT)
 }
 
 fn have_no_base(commons: &[Section]) -> bool

@@ -59,7 +59,7 @@ fn regions_of_value(alloc: Global, value: Option<&Value>) -> Result<List<Region>
     if !all_tables(values) {
         return Err(NO_REGIONS);
     }
-    // No 65,536 bytes state the given number of regions.
+    // No 65,536 bytes state 2^32 regions.
     if values.len() > u32::MAX as usize {
         return Err(PlanRefusal::NoMemory);
     }

@@ -109,7 +109,8 @@ pub fn region(
     common: bool,
 ) -> Result<Region, PlanRefusal>
     ensures ok { IfOk result (λ region. region_of place names.old listed.old common (table_view table.now) ≡ Ok region) }
-    ensures refused { IfErr result (λ refusal. refusal ≢ PlanRefusal.NoMemory → region_of place names.old listed.old common (table_view table.now) ≡ Err refusal) }
+    ensures refused { IfErr result (λ refusal. refusal ≢ PlanRefusal.NoMemory
+        → region_of place names.old listed.old common (table_view table.now) ≡ Err refusal) }
     ensures named { IfOk result (λ region. names.new ≡ names.old ++ region.name ∷ []) }
     ensures listed { IfOk result (λ region. listed.new ≡ listed.old ++ region.sections) }
 {

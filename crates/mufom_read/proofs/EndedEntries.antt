@@ -2,6 +2,7 @@
 use Rattle.std.proofs.Common.{◌≡◌, ℕ, suc, Bool, true, false, cond, not, ◌==◌, ◌&&◌, ◌||◌, nat_lt, List, [], ◌∷◌, ◌++◌, length, slice_get, Option, Some, None, IfSome, is_none, unwrap_or, refl, sym, ap, subst, ◌∙◌, filter_map}
 use Rattle.std.specs.List.{list_all, list_any, cons_option, AllByRecursion}
 use Rattle.std.proofs.lemmas.Bool.{not-false}
+use Rattle.mufom_numbers.specs.declared.limits.TheConstants.{MOST_ALIGNMENT}
 use Rattle.mufom_numbers.specs.declared.taken.Span.{Span}
 use Rattle.mufom_expr.specs.Tree.{number}
 use Rattle.mufom_expr.specs.Spelled.{Indexes}
@@ -69,7 +70,7 @@ sections_short part h = none_passes (λ (s : Section). d.is_long s.name) (λ p. 
 
 -- an alignment that may stand
 abbrev IsAligned : ℕ → Type 0
-IsAligned n = ((n == 0) || nat_lt 2147483648 n) ≡ false
+IsAligned n = ((n == 0) || nat_lt MOST_ALIGNMENT n) ≡ false
 
 answer_aligned : (i : ℕ) (row : Record) → has_bad_alignment row ≡ false → IfSome (alignment_for i row) IsAligned
 answer_aligned i (r.Alignment j n other) h = for_index_has IsAligned i j n h

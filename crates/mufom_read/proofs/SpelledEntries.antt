@@ -4,6 +4,7 @@ use Rattle.std.specs.List.{list_all, list_any, cons_option, AllByRecursion}
 use Rattle.std.proofs.lemmas.Bool.{and_parts, or_parts, or_from, and_from, not-false, not_from_true}
 use Rattle.std.proofs.lemmas.List.Elements.{filter_map-append}
 use Rattle.std.proofs.lemmas.List.Folds.{list_any-append}
+use Rattle.mufom_numbers.specs.declared.limits.TheConstants.{MOST_ALIGNMENT}
 use Rattle.mufom_numbers.specs.declared.taken.Span.{Span}
 use Rattle.mufom_expr.specs.declared.token.Letter.{Letter}
 use Rattle.mufom_expr.specs.declared.token.Letter.TheVariants.{I, L, P, R, S, X}
@@ -118,7 +119,7 @@ none_tree_back ix tree h = sym (ap (list_any (d.is_other_counter None)) (renamed
 
 -- neither 0 nor above 2^31
 abbrev is_bad : ℕ → Bool
-is_bad n = (n == 0) || nat_lt 2147483648 n
+is_bad n = (n == 0) || nat_lt MOST_ALIGNMENT n
 
 entry_aligned : (part : List SpelledRecord) (p : SpelledRecord) (row : Record) → any_of d.has_bad_alignment (section_by part p row) ≡ false → (j : ℕ) → of_kind section (declared_by row) ≡ Some j → is_bad (unwrap_or (first_answer (alignment_for j) part) 1) ≡ false
 entry_aligned part p (r.SectionType i absolute letter name a b c) h j e = let same : i ≡ j = cc in subst (λ (k : ℕ). is_bad (unwrap_or (first_answer (alignment_for k) part) 1) ≡ false) same h

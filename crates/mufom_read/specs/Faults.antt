@@ -3,6 +3,7 @@
 use Rattle.std.specs.Prelude.{ℕ, ◌+◌, ◌-◌, ◌==◌, ◌&&◌, ◌||◌, nat_lt, nat_le, Bool, true, false, not, List, [], ◌∷◌, ◌++◌, length, filter_map, Option, Some, None, is_some, if◌then◌else◌}
 use Rattle.std.specs.List.{list_all, list_any, find, last_or}
 use Rattle.std.specs.Option.{option_or}
+use Rattle.mufom_numbers.specs.declared.limits.TheConstants.{MOST_ALIGNMENT}
 use Rattle.mufom_numbers.specs.declared.reason.Reason.{Reason}
 use Rattle.mufom_numbers.specs.declared.reason.Reason.TheVariants as why
 use Rattle.mufom_numbers.specs.declared.taken.Taken.{Taken}
@@ -62,7 +63,7 @@ header_fault reads_debug earlier start end row = fault_if (is_bad_descriptor row
 
 -- an alignment that is not 1 to 2^31
 abbrev pub has_bad_alignment : Record → Bool
-has_bad_alignment (r.Alignment i n other) = (n == 0) || nat_lt 2147483648 n
+has_bad_alignment (r.Alignment i n other) = (n == 0) || nat_lt MOST_ALIGNMENT n
 has_bad_alignment _ = false
 
 -- the section that a record makes the current one

@@ -15,6 +15,7 @@ ghost use Rattle.mufom_read.specs.Kept.{tables_of, declares_again_in, states_aga
 use crate::tables::{Tables, has};
 use mufom_expr::{Letter, Postfix, Token};
 use mufom_numbers::Reason;
+use mufom_numbers::limits::MOST_ALIGNMENT;
 use mufom_records::Record;
 use mufom_sections::IndexTable;
 
@@ -138,7 +139,7 @@ fn has_bad_alignment(record: &Record) -> bool
     ensures { result ≡ faults.has_bad_alignment «record».now }
 {
     match record {
-        Record::Alignment(_, n, _) => *n == 0 || *n > 2_147_483_648,
+        Record::Alignment(_, n, _) => *n == 0 || *n > MOST_ALIGNMENT,
         _ => false,
     }
 }

@@ -10,6 +10,7 @@ ghost use Rattle.mufom_read.specs.Reader.{HasTakenAll, HasEndedChunk, HasJudgedR
 
 use crate::prefix::{Next, Prefix};
 use crate::refusal::{ReadRefusal, ReadStop};
+use mufom_numbers::limits::MOST_FILE_BYTES;
 use mufom_numbers::{NoMemory, Reason};
 use std::alloc::Global;
 
@@ -132,7 +133,7 @@ impl State {
         if self.prefix.is_ended() {
             self.stop_after_end(is_longer)
         } else if is_longer {
-            Some(refused(FILE_LIMIT, Reason::FileLimit))
+            Some(refused(MOST_FILE_BYTES, Reason::FileLimit))
         } else {
             None
         }
@@ -162,7 +163,7 @@ impl State {
         ensures longer { IfOk result
             (λ longer. longer ≡ nat_lt (file_limit - (self.old.prefix.size + length self.old.rest.items)) (length chunk.now)) }
     {
-        let room = FILE_LIMIT - self.len();
+        let room = MOST_FILE_BYTES - self.len();
         self.rest.extend_from_slice(at_most(chunk, room))?;
         Ok(room < chunk.len())
     }

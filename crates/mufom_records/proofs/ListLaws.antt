@@ -20,7 +20,7 @@ use Rattle.mufom_records.specs.Faults.{IsCutOffNumber, IsCutOffField}
 use Rattle.mufom_records.proofs.Exact.{ok, stopped, same_stop, ok_not_err, AreBytes-drop, drop-following, Found, found, found-as, IsExact}
 use Rattle.mufom_records.proofs.NumberLaws.{BeginsIn-grows, optional_number-exact}
 
--- ---- at most the given number of numbers
+-- ---- at most `most` numbers
 
 pub record FoundNumbers (most : ℕ) (input : List ℕ) (at : ℕ) (ns : List ℕ) (after : ℕ) : Type 0 where
   pub prefix : List ℕ
@@ -159,7 +159,7 @@ module _ (most : ℕ) where
     grows = λ at bytes more fault_offset reason has. has;
   }
 
--- ---- the given number of bytes
+-- ---- a span of `n` bytes
 
 module _ (n : ℕ) where
   run_got : (input : List ℕ) (at : ℕ) → AreBytes input → (x : Span) (after : ℕ) → run_at n input at ≡ Ok (x, after) → Found (run n) input at x after

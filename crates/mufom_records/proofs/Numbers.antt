@@ -12,7 +12,7 @@ joined : (xs : List ℕ) (n : ℕ) (r : Reading (List ℕ)) → following xs (r 
 joined xs n (Ok ns) = let e : xs ++ n ∷ ns.0 ≡ (xs ++ n ∷ []) ++ ns.0 = sym (append_assoc xs (n ∷ []) ns.0) in rw e refl
 joined xs n (Err stop) = refl
 
--- where at most the given number of further numbers are read: one more stands, or there is none, or the reading stops
+-- where at most `most` numbers are read, those of `xs` so far: one more stands, or there is none, or the reading stops
 pub numbers-next : (xs : List ℕ) (most n : ℕ) (input : List ℕ) (at after : ℕ) → length xs < most → optional_number_at input at ≡ Ok (Some n, after)
     → following xs (numbers_at (most - length xs) input at) ≡ following (xs ++ n ∷ []) (numbers_at (most - (length xs + 1)) input after)
 numbers-next xs most n input at after room e =

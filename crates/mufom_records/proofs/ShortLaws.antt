@@ -162,7 +162,7 @@ admitted (numbers count) x at bytes next is = tt
 admitted expression x at bytes next is = tt
 admitted optional_expression x at bytes next is = tt
 
--- the fields of the layout have at most the given number of bytes
+-- the fields of the layout have at most `n` bytes
 abbrev AtMost : Layout → ℕ → Type 0
 AtMost (whole row) n = Unit {0}
 AtMost (refused back reason) n = Unit {0}

@@ -23,7 +23,7 @@ EndsTokens bytes = BeginsWith (λ b. begins_token b ≡ false) bytes
 abbrev pub BeginsWithToken : (Token → Type 0) → List ℕ → Type 0
 BeginsWithToken Is bytes = (token : Token) × (text : List ℕ) × (rest : List ℕ) × SpellsToken token text × Is token × (bytes ≡ text ++ rest)
 
--- What is wrong at the start of these bytes, where the given number of tokens stand before them that leave the given number of terms, and how
+-- What is wrong at the start of these bytes, where `tokens` tokens stand before them that leave `terms` terms, and how
 -- far after the prefix it is named.
 abbrev pub TokenFault : ℕ → ℕ → List ℕ → ℕ → Reason → Type 0
 TokenFault tokens terms bytes offset UnsupportedFunction = (offset ≡ 0) × BeginsWith IsLeftOutFunction bytes

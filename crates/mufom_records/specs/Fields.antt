@@ -19,13 +19,13 @@ pub data Field : Type 0 where
   number : (fits : ℕ → Bool) → (offset : ℕ → ℕ) → (fault : Reason) → Field
   -- a string; its value is the offset of its bytes without the lead
   string : Field
-  -- the given number of bytes; the value is their offset
+  -- a span of this length; the value is where it stands
   run : ℕ → Field
   -- one of these bytes, or none
   letter : List ℕ → Field
   -- a number, or none
   optional_number : Field
-  -- at most the given number of numbers
+  -- this number of numbers at most
   numbers : ℕ → Field
   -- an expression; its value is the offset of its bytes
   expression : Field
@@ -49,7 +49,7 @@ abbrev pub Stops : (ℕ → Bool) → Option ℕ → Type 0
 Stops begins None = ⊥
 Stops begins (Some b) = begins b ≡ false
 
--- the part of an input from an offset on, of the given number of bytes
+-- the part of an input from an offset on, of `len` bytes
 abbrev pub span_at : ℕ → ℕ → Span
 span_at start len = record { start = start; len = len }
 

@@ -15,8 +15,8 @@ use Rattle.mufom_records.specs.declared.record.Record.{Record}
 use Rattle.mufom_records.specs.declared.record.Record.TheVariants as r
 use Rattle.mufom_records.specs.Fields.{Field, ValueOf, byte, number, string, run, letter, optional_number, numbers, expression, optional_expression, is_one_of, SpellsField, first_of}
 
--- a field and what may follow each value of it; no further field, and the record; or that the last bytes, the given number of
--- them, may not stand there
+-- a field and what may follow each value of it; no further field, and the record; or that the last `back` bytes may not
+-- stand there
 pub data Layout : Type 0 where
   whole : Record → Layout
   refused : (back : ℕ) → (reason : Reason) → Layout
@@ -210,7 +210,7 @@ block_end = optional_expression ▹ λ value. whole (r.BlockEnd value)
 abbrev pub set_section : Layout
 set_section = index ▹ λ i. whole (r.SetSection i)
 
--- LD, and an item of literal bytes: a count and the given number of bytes
+-- LD, and an item of literal bytes: a count and the bytes that it counts
 abbrev pub constant : (Span → Record) → Layout
 constant row = count ▹ λ n. run n ▹ λ bytes. whole (row bytes)
 

@@ -58,7 +58,7 @@ text_at input at = do
   span ← moved at (string_at (drop at input))
   Ok (span_at (at + span.0.start) span.0.len, span.1)
 
--- the offset of the given number of bytes, which must be there
+-- the offset of `n` bytes, which must be there
 abbrev pub run_at : ℕ → List ℕ → ℕ → Reading Span
 run_at n input at = if nat_lt (length (drop at input)) n then Err More else Ok (span_at at n, at + n)
 
@@ -79,7 +79,7 @@ abbrev pub with_first : Option ℕ → ℕ → Reading (List ℕ) → Reading (L
 with_first None at later = Ok ([], at)
 with_first (Some n) at later = later >>= λ ns. Ok (n ∷ ns.0, ns.1)
 
--- at most the given number of numbers at an offset
+-- the numbers at an offset, of which as many are read as the first argument allows
 abbrev pub numbers_at : ℕ → List ℕ → ℕ → Reading (List ℕ)
 numbers_at zero input at = Ok ([], at)
 numbers_at (suc k) input at = do
@@ -88,7 +88,7 @@ numbers_at (suc k) input at = do
 
 -- ---- expressions
 
--- What a token makes of the terms before it, where the given number of further tokens may stand. Of two faults at one byte the one of
+-- What a token makes of the terms before it, where `room` further tokens may stand. Of two faults at one byte the one of
 -- the least number is named, so Underflow goes before TooLong, and a fault of a variable's index, a byte later, after.
 abbrev pub terms_with : ℕ → ℕ → ℕ → Taken Token → Reading ℕ
 terms_with room terms at taken.More = Err More
@@ -107,7 +107,7 @@ token_or_end room terms input at next = do
   b ← byte_at input at
   if begins_token b.0 then (terms_with room terms at (token_at (drop at input)) >>= next) else expression_end (room == 255) terms at
 
--- the offset after the tokens from an offset on, where the given number of them may stand
+-- the offset after the tokens from an offset on, where the first argument counts those that may still stand
 abbrev pub tokens_from : ℕ → ℕ → List ℕ → ℕ → Reading (Unit {0})
 tokens_from zero terms input at = token_or_end 0 terms input at (λ after. Err More)
 tokens_from (suc room) terms input at = token_or_end (suc room) terms input at (λ after. tokens_from room after.0 input after.1)

@@ -19,7 +19,7 @@ fn begins_token(b: u8) -> bool
         || (codes::LETTER_A <= b && b <= codes::LETTER_Z)
 }
 
-// What the token at an offset makes of the terms before it, where the given number of further tokens may stand.
+// What the token at an offset makes of the terms before it, where `room` further tokens may stand.
 fn terms_at(room: usize, terms: usize, input: &[u8], at: usize) -> Result<(usize, usize), Stop>
     requires at { at ≤ length input.now }
     requires terms { terms ≤ 255 }
@@ -48,7 +48,7 @@ fn terms_at(room: usize, terms: usize, input: &[u8], at: usize) -> Result<(usize
     }
 }
 
-// The end of an expression, which leaves the given number of terms.
+// The end of an expression, which leaves `terms` terms.
 fn end_of(is_empty: bool, terms: usize, at: usize) -> Result<((), usize), Stop>
     ensures exact { result ≡ expression_end is_empty terms at }
     ensures within { IfOk result (λ r. r.1 ≡ at) }
@@ -62,7 +62,7 @@ fn end_of(is_empty: bool, terms: usize, at: usize) -> Result<((), usize), Stop>
     }
 }
 
-// The offset after the tokens from an offset on, where the given number of them may stand: at most 255.
+// The offset after the tokens from an offset on, where `room` of them may stand: at most 255.
 fn tokens(room: usize, terms: usize, input: &[u8], at: usize) -> Result<((), usize), Stop>
     requires at { at ≤ length input.now }
     requires few { room + terms ≤ 255 }

@@ -153,7 +153,7 @@ pub(crate) fn string(input: &[u8], at: usize) -> Result<(Span, usize), Stop>
     }
 }
 
-/// Where the given number of bytes stand. They are not looked at.
+/// Where `count` bytes stand. They are not looked at.
 pub(crate) fn run(count: usize, input: &[u8], at: usize) -> Result<(Span, usize), Stop>
     requires { at ≤ length input.now }
     ensures exact { result ≡ field_at (a_run count) input.now at }
@@ -205,7 +205,7 @@ pub(crate) fn optional_number(input: &[u8], at: usize) -> Result<(Option<u64>, u
     }
 }
 
-/// At most the given number of numbers.
+/// At most `N` numbers.
 pub(crate) fn numbers<const N: usize>(
     input: &[u8],
     start: usize,

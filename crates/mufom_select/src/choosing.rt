@@ -59,7 +59,8 @@ fn choose(
     order: &mut List<u32>,
 ) -> Result<(), NoMemory>
     requires { IsWithin providers.now (length marks.old) }
-    ensures { let all = all_needed_in defined.now providers.now references.now in OnOk result (choice marks.new order.new ≡ with_members (choice marks.old order.old) all) }
+    ensures { let all = all_needed_in defined.now providers.now references.now in
+        OnOk result (choice marks.new order.new ≡ with_members (choice marks.old order.old) all) }
 {
     for reference in references {
         mark_needed(needed(defined, providers, reference), marks, order)?;

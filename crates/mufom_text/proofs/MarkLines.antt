@@ -28,7 +28,7 @@ depth_from-append depth [] ys = let least = le-depth_from depth ys in omega (ari
   le-depth_from opened (mark ∷ marks) = omega arith
 depth_from-append depth (x ∷ xs) ys = let rest = depth_from-append (open_after depth x) xs ys in omega (arith, rest)
 
--- the given number of blocks begin
+-- the marks that begin `n` blocks
 begins : ℕ → List DebugMark
 begins zero = []
 begins (suc n) = block_begin heads.Module [] ∷ begins n

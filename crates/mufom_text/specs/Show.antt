@@ -106,7 +106,7 @@ abbrev pub end_text : Option Tree → Text
 end_text None = codes "end"
 end_text (Some value) = end_value value
 
--- the line of a mark, in the given number of open blocks, after the given number of debug names
+-- the line of a mark, in `depth` open blocks, after `n` debug names
 abbrev pub mark_line : ℕ → ℕ → DebugMark → Text
 mark_line depth n (block_begin head name) = line (indent depth ++ codes "block " ++ decimal (kind_number head) ++ codes " " ++ quoted name ++ head_text head)
 mark_line depth n (block_end end) = line (indent (depth - 1) ++ end_text end)
@@ -119,7 +119,7 @@ abbrev pub depth_after_all : ℕ → List DebugMark → ℕ
 depth_after_all depth [] = depth
 depth_after_all depth (mark ∷ marks) = depth_after_all (open_after depth mark) marks
 
--- the lines of marks, in the given number of open blocks, after the given number of debug names
+-- the lines of marks, in `depth` open blocks, after `n` debug names
 abbrev pub mark_lines : ℕ → ℕ → List DebugMark → Text
 mark_lines depth n [] = []
 mark_lines depth n (mark ∷ marks) = mark_line depth n mark ++ mark_lines (open_after depth mark) (names_after n mark) marks

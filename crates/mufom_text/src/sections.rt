@@ -34,7 +34,7 @@ pub(crate) fn module_line<K: Output>(out: &mut K, parts: &Parts)
     out.put(b"\n");
 }
 
-// The line of a part of the given number of bytes.
+// The line of a part of `count` bytes.
 fn counted<K: Output>(out: &mut K, name: &[u8], count: usize)
     ensures { K.takes out.old out.new (line (((name.now ++ codes " ") ++ decimal count) ++ codes " bytes")) }
 {

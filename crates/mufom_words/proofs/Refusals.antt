@@ -11,7 +11,7 @@ use Rattle.mufom_words.specs.Answer.{answer_for, command_by, given, is_memory, s
 use Rattle.mufom_words.specs.declared.stop.UsageFault.TheVariants as fault
 use Rattle.std.proofs.Common.{Some, cond}
 
--- an error of a kind that the words give, or of want of memory
+-- an error of a kind that the words give, or of out of memory
 pub refusal_answers : (f : Form) (words : List Text) (k : ErrorKind) → (k ≡ kind.OutOfMemory) ⊎ IsAmong k (fault_of (app_for f) words) → stop_by k ≢ stop.NoMemory
     → answer_for (Some f) words ≡ Err (stop_by k)
 refusal_answers f words k found other = elim found [

@@ -48,7 +48,8 @@ fn usage_fault(
     words: &[&str],
 ) -> Option<UsageFault>
     requires { length words.now < 2 ^ 32 }
-    ensures { result ≡ first_fault (usage_of form) (option_map (λ text. text.now) out.entry) (option_map (λ text. text.now) name.entry) (map (λ word. word.now) words.now) }
+    ensures { let given = option_map (λ text. text.now) in
+        result ≡ first_fault (usage_of form) (given out.entry) (given name.entry) (map (λ word. word.now) words.now) }
 {
     if form.takes(Setting::Out) && out.is_none() {
         return Some(UsageFault::BadWords);
@@ -148,8 +149,10 @@ fn command_of_taken(
 ) -> Result<Command, WordsStop>
     requires few { length words.now < 2 ^ 32 }
     requires own { map (λ word. word.now) words.now ≡ operands_of (rows_of (found_of matches.now)) }
-    ensures ok { IfOk result (λ command. unless_stopped (given_stop (usage_of form) (given_by form (rows_of (found_of matches.now)))) (command_by (usage_of form) (given_by form (rows_of (found_of matches.now)))) ≡ Ok command) }
-    ensures refused { IfErr result (λ stop. stop ≢ WordsStop.NoMemory → given_stop (usage_of form) (given_by form (rows_of (found_of matches.now))) ≡ Some stop) }
+    ensures ok { let given = given_by form (rows_of (found_of matches.now)) in
+        IfOk result (λ command. unless_stopped (given_stop (usage_of form) given) (command_by (usage_of form) given) ≡ Ok command) }
+    ensures refused { let given = given_by form (rows_of (found_of matches.now)) in
+        IfErr result (λ stop. stop ≢ WordsStop.NoMemory → given_stop (usage_of form) given ≡ Some stop) }
 {
     let out = value_in(matches, form, Setting::Out);
     let name = value_in(matches, form, Setting::Name);
@@ -169,7 +172,8 @@ fn command_of_taken(
 pub(crate) fn command_for(alloc: Global, form: Form, words: &[String]) -> Result<Command, WordsStop>
     requires { length words.now < 2 ^ 32 }
     ensures ok { IfOk result (λ command. answer_for (Some form) (map (λ word. string_bytes word) words.now) ≡ Ok command) }
-    ensures refused { IfErr result (λ stop. stop ≢ WordsStop.NoMemory → answer_for (Some form) (map (λ word. string_bytes word) words.now) ≡ Err stop) }
+    ensures refused { IfErr result (λ stop. stop ≢ WordsStop.NoMemory
+        → answer_for (Some form) (map (λ word. string_bytes word) words.now) ≡ Err stop) }
 {
     let matches = match matches_in(alloc, form, words) {
         Ok(matches) => matches,

@@ -102,12 +102,12 @@ fitting m tree few short range inside = (short, tree-fits m tree few range insid
 
 -- ---- positions
 
--- the given number of indexes from the first on
+-- indexes from the first on, as many as the second argument
 abbrev pub counting : ℕ → ℕ → List ℕ
 counting first zero = []
 counting first (suc n) = first ∷ counting (first + 1) n
 
--- the index lists of the written form, with the given number of debug names
+-- the index lists of the written form, with `debug_names` debug names
 abbrev pub written_indexes : Parts → ℕ → Indexes
 written_indexes m debug_names = record {
   sections = counting 1 (length m.sections);

@@ -31,7 +31,7 @@ fn order_letter(order: Order) -> u8
 // MB.
 fn begin_record<K: Output>(out: &mut K, parts: &Parts) -> Result<(), Failed>
     requires { IsValid parts.now }
-    ensures { K.takes out.old out.new (MODULE_BEGIN ∷ (written.string shortest parts.now.processor ++ written.string shortest parts.now.name)) result }
+    ensures { K.takes out.old out.new (MODULE_BEGIN ∷ written.string shortest parts.now.processor ++ written.string shortest parts.now.name) result }
 {
     out.put(&[codes::MODULE_BEGIN])?;
     string(out, &parts.processor)?;

@@ -13,7 +13,7 @@ use std::alloc::Global;
 use std::process::Abort;
 use std::test::Fail;
 
-// The module is written as these bytes, where the given number are taken at a call.
+// The module is written as these bytes, where `most` are taken at a call.
 fn writes_by(rt: &impl Abort, module: &Module, most: usize, bytes: &[u8]) {
     let mut disk = Disk::new(most, 1000);
     assert_eq!(rt; write_module(module, &mut disk), Ok(()));

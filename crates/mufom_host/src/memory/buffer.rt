@@ -37,7 +37,7 @@ impl Buffer {
         self.bytes.as_slice()
     }
 
-    /// Whether the given number of further bytes have room.
+    /// Whether `count` further bytes have room.
     pub fn has_room_for(&self, count: usize) -> bool
         ensures { IsTrue result ↔ (length self.now.bytes + count ≤ self.now.room) }
     {

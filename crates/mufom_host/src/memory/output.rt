@@ -94,7 +94,7 @@ impl Output {
         self.stage = Stage::Making;
     }
 
-    /// Whether the file being made has room for the given number of further bytes. While none is being made
+    /// Whether the file being made has room for `count` further bytes. While none is being made
     /// there is room for any.
     pub fn has_room_for(&self, count: usize) -> bool
         ensures { not result ≡ passes_file self.now.making self.now.room count }

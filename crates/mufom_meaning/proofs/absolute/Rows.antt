@@ -2,6 +2,7 @@
 use Rattle.std.proofs.Common.{◌≡◌, ◌≢◌, ◌++◌, Bool, false, ℕ, ◌+◌, ◌*◌, ◌^◌, ◌<◌, ◌≤◌, ◌↔◌, inr, List, [], ◌∷◌, length, Some, None, true, refl, sym, ◌∙◌, ap, subst, arith, append-nil, zero-add}
 use Rattle.std.specs.Prelude.{slice_get, option_map, unwrap_or, nat_lt, Contains}
 use Rattle.std.specs.List.{enumerate_from}
+use Rattle.mufom_numbers.specs.declared.limits.TheConstants.{MOST_IMAGE_BYTES}
 use Rattle.mufom_sections.specs.declared.section.Section.{Section}
 use Rattle.mufom_module.specs.declared.module.Parts.{Parts}
 use Rattle.mufom_plan.specs.declared.plan.Plan.{Plan}
@@ -207,11 +208,11 @@ module _ (m : Parts) (more : List Parts) (plan : Plan) (r : LocatedParts) (v : A
       let all = counts_agree ms v in
       omega (arith, few, count, all)
 
-  pub fewer_bytes : loaded_total alone ≤ 67108864
+  pub fewer_bytes : loaded_total alone ≤ MOST_IMAGE_BYTES
   fewer_bytes =
       let total : loaded_total alone ≡ length cells = zero-add _ ∙ absolute_length r.runs numbered_sections in
       let few = fewer_cells in
-      let bounded : ¬ (67108864 < loaded_total ms) = λ past. no_fact_before ms plan h.locates (image_limit (loaded_total ms)) (refl, past) in
+      let bounded : ¬ (MOST_IMAGE_BYTES < loaded_total ms) = λ past. no_fact_before ms plan h.locates (image_limit (loaded_total ms)) (refl, past) in
       omega (arith, total, few, bounded)
 
   -- a section with a loaded byte is one of the modules': a common has none

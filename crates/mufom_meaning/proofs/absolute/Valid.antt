@@ -2,6 +2,7 @@
 use Rattle.std.proofs.Common.{◌≡◌, ◌≢◌, ◌⊎◌, inl, inr, ℕ, ◌^◌, ◌<◌, List, [], ◌∷◌, map, length, Option, Some, None, Bool, true, false, not, ◌||◌, ◌&&◌, refl, sym, ◌∙◌, ap, subst, cond}
 use Rattle.std.specs.Prelude.{slice_get, nat_lt, ◌==◌, option_map, is_none}
 use Rattle.std.specs.List.{list_any, find, enumerate_from}
+use Rattle.mufom_numbers.specs.declared.limits.TheConstants.{MOST_ALIGNMENT}
 use Rattle.mufom_expr.specs.Tree.{Tree, number}
 use Rattle.mufom_sections.specs.declared.section.Section.{Section}
 use Rattle.mufom_names.specs.declared.name.Public.{Public}
@@ -143,13 +144,13 @@ module _ (m : Parts) (more : List Parts) (plan : Plan) (r : LocatedParts) (v : A
   units : has_defect alone d.BadMaus ≡ false
   units = ap (λ (x : Header). not (is_unit_count x.2)) (sym header) ∙ no_defect m v.0 d.BadMaus
 
-  aligned_source : (first : Section) → IsSource first → ((first.align == 0) || nat_lt 2147483648 first.align) ≡ false
+  aligned_source : (first : Section) → IsSource first → ((first.align == 0) || nat_lt MOST_ALIGNMENT first.align) ≡ false
   aligned_source first (inl there) = fails-In has_bad_alignment there.0.sections (no_defect there.0 (valid_parts there.0 there.1) d.BadAlign) first there.2
-  aligned_source first (inr k) = let common = common_reference ms plan first k in ap (λ (x : Section). (x.align == 0) || nat_lt 2147483648 x.align) common.2
+  aligned_source first (inr k) = let common = common_reference ms plan first k in ap (λ (x : Section). (x.align == 0) || nat_lt MOST_ALIGNMENT x.align) common.2
 
   aligned : has_defect alone d.BadAlign ≡ false
   aligned = none-In has_bad_alignment r.sections (λ section k.
-      let there = of_section section k in ap (λ (x : Section). (x.align == 0) || nat_lt 2147483648 x.align) there.2 ∙ aligned_source there.0 there.4)
+      let there = of_section section k in ap (λ (x : Section). (x.align == 0) || nat_lt MOST_ALIGNMENT x.align) there.2 ∙ aligned_source there.0 there.4)
 
   based : has_defect alone d.MissingBase ≡ false
   based = none-In lacks_base r.sections (λ section k. let there = of_section section k in ap (λ (x : Section). x.absolute && is_none x.base) there.2 ∙ some there.1 there.3) where

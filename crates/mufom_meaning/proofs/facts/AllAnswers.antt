@@ -3,6 +3,7 @@ use Rattle.std.proofs.Common.{◌≡◌, ℕ, zero, suc, ◌<◌, ◌⊎◌, inl
 use Rattle.std.specs.Prelude.{slice_get, option_map, nat_lt, if◌then◌else◌, IsTrue}
 use Rattle.std.specs.Str.{bytes_eq}
 use Rattle.std.proofs.lemmas.Slice.Eq.{bytes_eq-Decides}
+use Rattle.mufom_numbers.specs.declared.limits.TheConstants.{MOST_IMAGE_BYTES}
 use Rattle.mufom_module.specs.declared.module.Parts.{Parts}
 use Rattle.mufom_plan.specs.declared.plan.Plan.{Plan}
 use Rattle.mufom_plan.specs.Names.{has_name}
@@ -69,8 +70,8 @@ module _ (ms : List Parts) (plan : Plan) where
         let none = first_some_none (cycle_at ms) (public_names ms) f name found.0.0 at in
         let not_so = chosen_none (is_on_cycle ms name) (cycle name) none in let so : is_on_cycle ms name ≡ true = on in cc
   before_complete a d e f g (image_limit count) h =
-      let not_so = chosen_none (nat_lt 67108864 (loaded_total ms)) (image_limit (loaded_total ms)) g in
-      let less : 67108864 < loaded_total ms = omega (arith, h.0, h.1) in let so = is_lt 67108864 (loaded_total ms) less in cc
+      let not_so = chosen_none (nat_lt MOST_IMAGE_BYTES (loaded_total ms)) (image_limit (loaded_total ms)) g in
+      let less : MOST_IMAGE_BYTES < loaded_total ms = omega (arith, h.0, h.1) in let so = is_lt MOST_IMAGE_BYTES (loaded_total ms) less in cc
   before_complete a d e f g (zero_divisor place) h = h
   before_complete a d e f g (load_outside section address) h = h
   before_complete a d e f g (loaded_twice address) h = h
@@ -100,8 +101,8 @@ module _ (ms : List Parts) (plan : Plan) where
 
   limit_sound : (fact : LocateFact) → image_limit_at (loaded_total ms) ≡ Some fact → Stands fact
   limit_sound fact e =
-      let test = chosen_some (nat_lt 67108864 (loaded_total ms)) (image_limit (loaded_total ms)) fact e in
-      subst Stands test.1 (λ links. inl (refl, of_lt 67108864 (loaded_total ms) test.0))
+      let test = chosen_some (nat_lt MOST_IMAGE_BYTES (loaded_total ms)) (image_limit (loaded_total ms)) fact e in
+      subst Stands test.1 (λ links. inl (refl, of_lt MOST_IMAGE_BYTES (loaded_total ms) test.0))
 
   undefined_sound : (fact : LocateFact) → option_map undefined (first_undefined ms) ≡ Some fact → Stands fact
   undefined_sound fact e =

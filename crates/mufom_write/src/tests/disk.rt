@@ -4,7 +4,7 @@ ghost use Rattle.mufom_host.specs.World.{HasCause, Rose};
 use arrayvec::ArrayVec;
 use mufom_host::{Failed, Sink, World};
 
-/// A file of at most 512 bytes, which takes the given number at a call. The call with one number fails.
+/// A file of at most 512 bytes, which takes `most` of them at a call. The call with one number fails.
 #[derive(Drop)]
 pub(super) struct Disk {
     bytes: ArrayVec<u8, 512>,
@@ -40,7 +40,7 @@ impl Disk {
     }
 }
 
-// Takes the first bytes of the chunk, at most the given number, and answers how many it was.
+// Takes the first bytes of the chunk, at most `most`, and answers how many it was.
 fn take(bytes: &mut ArrayVec<u8, 512>, most: usize, chunk: &[u8]) -> usize
     ensures { result ≤ length chunk.now }
 {
