@@ -8,3 +8,4 @@ pub mod ExprLemmas
 pub mod TokenLaws
 pub mod TokensBack
 pub mod ValueLaws
+pub mod Divisors

@@ -11,3 +11,4 @@ pub mod InfixText
 pub mod Spelled
 pub mod TokenAt
 pub mod Held
+pub mod Kept

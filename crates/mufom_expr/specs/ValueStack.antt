@@ -1,5 +1,5 @@
 -- The values that stand while the tokens of an expression are gone through, the last first.
-use Rattle.std.specs.Prelude.{ℕ, zero, suc, ◌%◌, ◌<◌, List, [], ◌∷◌, Option, Some, None, option_map, IfSome}
+use Rattle.std.specs.Prelude.{ℕ, zero, suc, ◌%◌, ◌<◌, List, [], ◌∷◌, Option, Some, None, option_map, slice_get, IfSome, Bool, false}
 use Rattle.std.specs.List.{AllByRecursion}
 use Rattle.mufom_expr.specs.declared.token.Function.{Function}
 use Rattle.mufom_expr.specs.declared.token.Function.TheVariants as functions
@@ -7,7 +7,7 @@ use Rattle.mufom_expr.specs.declared.token.Token.{Token}
 use Rattle.mufom_expr.specs.declared.token.Token.TheVariants.{Number, Var, Fun}
 use Rattle.mufom_expr.specs.Codes.{operands}
 use Rattle.mufom_expr.specs.Tree.{absolute, negated, plus, minus, divided, times, larger, smaller, modulo, is_less, is_greater, is_equal, is_unequal, and_bits, or_bits, xor_bits}
-use Rattle.mufom_expr.specs.Value.{Environment, one_value, two_value, both}
+use Rattle.mufom_expr.specs.Value.{Environment, one_value, two_value, both, is_zero}
 
 -- a function of one residue modulo m
 abbrev pub unary_value : ℕ → Function → ℕ → ℕ
@@ -52,3 +52,14 @@ values_after m env values (token ∷ tokens) = values_after m env (values_with m
 -- each value is a residue modulo m
 abbrev pub AreResidues : ℕ → List (Option ℕ) → Type 0
 AreResidues m values = AllByRecursion (λ v. IfSome v (λ n. n < m)) values
+
+-- a value stands there, and it is 0
+abbrev pub zero_there : Option (Option ℕ) → Bool
+zero_there None = false
+zero_there (Some value) = is_zero value
+
+-- the token divides by the last of these values, and that is 0
+abbrev pub token_divides_by_zero : List (Option ℕ) → Token → Bool
+token_divides_by_zero values (Fun functions.Divide) = zero_there (slice_get values 0)
+token_divides_by_zero values (Fun functions.Mod) = zero_there (slice_get values 0)
+token_divides_by_zero values _ = false

@@ -1,4 +1,5 @@
-ghost use Rattle.std.specs.Prelude.{◌≡◌, ◌≢◌, ◌⊎◌, ◌↔◌, ◌<◌, [], ◌∷◌, ◌++◌, length, IfOk, OnOk, OnErr, Err, Some};
+ghost use Rattle.std.specs.Prelude.{◌≡◌, ◌≢◌, ◌⊎◌, ◌↔◌, ◌<◌};
+ghost use Rattle.std.specs.Prelude.{[], ◌∷◌, ◌++◌, length, IfOk, OnOk, OnErr, Err, Some};
 ghost use Rattle.mufom_expr.specs.Tree.{tokens_of, IsInRange};
 ghost use Rattle.mufom_expr.specs.Terms.{the_term, FindsTooFew, LeavesMoreThanOne};
 
@@ -20,17 +21,15 @@ pub struct Builder {
 }
 
 impl Model for Builder {
-    ghost use Rattle.std.specs.Prelude.{◌≡◌, ◌≤◌, List, length, Some};
+    ghost use Rattle.std.specs.Prelude.{List};
     ghost use Rattle.mufom_expr.specs.declared.token.Token.{Token};
-    ghost use Rattle.std.specs.List.{AllByRecursion};
-    ghost use Rattle.mufom_expr.specs.Tree.{IsInRange};
-    ghost use Rattle.mufom_expr.specs.Terms.{leaves};
+    ghost use Rattle.mufom_expr.specs.Kept.{AreBuilt};
 
     ghost Value = { List Token };
 
     ghost view = { λ b. b.tokens.items };
 
-    ghost invariant = { λ b. (leaves b.tokens.items ≡ Some b.terms) × (b.terms ≤ length b.tokens.items) × (length b.tokens.items ≤ 255) × AllByRecursion IsInRange b.tokens.items };
+    ghost invariant = { λ b. AreBuilt b.tokens.items b.terms };
 }
 
 impl Builder {

@@ -39,7 +39,8 @@ fn push_expr(stack: &mut Vec<Expr>, expr: Expr) -> Result<(), NoMemory>
 
 fn join_one(alloc: Global, stack: &mut Vec<Expr>, function: Function) -> Result<(), NoMemory>
     requires { 1 ≤ length stack.old.items }
-    ensures trees { OnOk result (map tree_of_expr (reverse stack.new.items) ≡ trees_applied 1 function (map tree_of_expr (reverse stack.old.items))) }
+    ensures trees { OnOk result (map tree_of_expr (reverse stack.new.items)
+        ≡ trees_applied 1 function (map tree_of_expr (reverse stack.old.items))) }
     ensures length { OnOk result (length stack.new.items ≡ length stack.old.items) }
 {
     let a = pop_expr(stack);
@@ -48,7 +49,8 @@ fn join_one(alloc: Global, stack: &mut Vec<Expr>, function: Function) -> Result<
 
 fn join_two(alloc: Global, stack: &mut Vec<Expr>, function: Function) -> Result<(), NoMemory>
     requires { 2 ≤ length stack.old.items }
-    ensures trees { OnOk result (map tree_of_expr (reverse stack.new.items) ≡ trees_applied 2 function (map tree_of_expr (reverse stack.old.items))) }
+    ensures trees { OnOk result (map tree_of_expr (reverse stack.new.items)
+        ≡ trees_applied 2 function (map tree_of_expr (reverse stack.old.items))) }
     ensures length { OnOk result (length stack.new.items + 1 ≡ length stack.old.items) }
 {
     let b = pop_expr(stack);

@@ -1,6 +1,7 @@
 //! Laws of trees, tokens and values, each the contract of a function that does nothing.
 
-ghost use Rattle.std.specs.Prelude.{◌≡◌, ◌↔◌, ◌⊎◌, ◌<◌, ◌≤◌, ◌^◌, ℕ, List, [], ◌∷◌, ◌++◌, Some, None, IfSome, IsTrue};
+ghost use Rattle.std.specs.Prelude.{◌≡◌, ◌↔◌, ◌⊎◌, ◌<◌, ◌≤◌, ◌^◌};
+ghost use Rattle.std.specs.Prelude.{ℕ, List, [], ◌∷◌, ◌++◌, Some, None, IfSome, IsTrue};
 ghost use Rattle.mufom_expr.specs.declared.token.Letter.{Letter};
 ghost use Rattle.mufom_expr.specs.declared.token.Token.{Token};
 ghost use Rattle.mufom_expr.specs.Tree.{Tree, tokens_of};
@@ -13,7 +14,8 @@ pub fn tokens_give_the_tree_back()
     ensures back { (t : Tree) → the_term (tokens_of t) ≡ t }
     ensures one { (t : Tree) → leaves (tokens_of t) ≡ Some 1 }
     // Each token finds its operands in those before it.
-    ensures enough { (t : Tree) (prefix back : List Token) (token : Token) → tokens_of t ≡ prefix ++ token ∷ back → FindsTooFew prefix token → ⊥ }
+    ensures enough { (t : Tree) (prefix rest : List Token) (token : Token)
+        → tokens_of t ≡ prefix ++ token ∷ rest → FindsTooFew prefix token → ⊥ }
     // Tokens that leave one term are those of a tree.
     ensures tree { (tokens : List Token) → leaves tokens ≡ Some 1 → tokens_of (the_term tokens) ≡ tokens }
 {}
@@ -34,5 +36,6 @@ pub fn renaming_composes_with_value()
 /// A value is a residue. There is none exactly where a variable of the tree has none or a divisor is 0.
 pub fn values_are_residues()
     ensures residue { (w : ℕ) (env : Environment) (t : Tree) → 1 ≤ w → IfSome (value_at (2 ^ w) env t) (λ v. v < 2 ^ w) }
-    ensures none { (m : ℕ) (env : Environment) (t : Tree) → (value_at m env t ≡ None) ↔ (LacksAValue env t ⊎ IsTrue (divides_by_zero (value_at m env) t)) }
+    ensures none { (m : ℕ) (env : Environment) (t : Tree)
+        → (value_at m env t ≡ None) ↔ (LacksAValue env t ⊎ IsTrue (divides_by_zero (value_at m env) t)) }
 {}

@@ -3,7 +3,7 @@ ghost use Rattle.mufom_expr.specs.ExprTree.{tree_of_expr, tokens_of_expr, IsExpr
 ghost use Rattle.std.specs.List.{AllByRecursion};
 ghost use Rattle.mufom_expr.specs.Tree.{number, tokens_of, IsInRange};
 ghost use Rattle.mufom_expr.specs.Terms.{the_term, LeaveOneTerm};
-ghost use Rattle.mufom_expr.specs.Value.{value_at, variables_of, with_variables};
+ghost use Rattle.mufom_expr.specs.Value.{value_at, variables_of, with_variables, divides_by_zero};
 ghost use Rattle.mufom_expr.specs.Mentions.{variables_in};
 ghost use Rattle.mufom_expr.specs.Held.{tokens_held};
 ghost use Rattle.mufom_expr.specs.Renamed.{renamed_token, renamed_tokens};
@@ -12,7 +12,7 @@ use crate::env::{Env, VarMap};
 use crate::expr::{Expr, grow, pop_expr};
 use crate::mentions::Mentions;
 use crate::token::Token;
-use crate::value::{Stack, pop_value, step};
+use crate::value::{Stack, finds_zero_divisor, pop_value, single_value, step};
 use arrayvec::ArrayVec;
 use mufom_numbers::NoMemory;
 use std::alloc::Global;
@@ -58,15 +58,13 @@ impl Model for Postfix {
 
     ghost coded = { tree_code };
 
-    ghost use Rattle.std.specs.Prelude.{length, ◌≤◌};
-    ghost use Rattle.std.specs.List.{AllByRecursion};
-    ghost use Rattle.mufom_expr.specs.Tree.{IsInRange};
-    ghost use Rattle.mufom_expr.specs.Terms.{the_term, LeaveOneTerm};
+    ghost use Rattle.mufom_expr.specs.Terms.{the_term};
     ghost use Rattle.mufom_expr.specs.Held.{tokens_held};
+    ghost use Rattle.mufom_expr.specs.Kept.{AreOneExpression};
 
     ghost view = { λ p. the_term (tokens_held p.tokens) };
 
-    ghost invariant = { λ p. LeaveOneTerm (tokens_held p.tokens) × (length (tokens_held p.tokens) ≤ 255) × AllByRecursion IsInRange (tokens_held p.tokens) };
+    ghost invariant = { λ p. AreOneExpression (tokens_held p.tokens) };
 }
 
 impl Postfix {
@@ -131,11 +129,20 @@ impl Postfix {
         ensures value { result ≡ value_at (2 ^ width) (E.meaning env.now) self.now }
         ensures residue { IfSome result (λ v. v < 2 ^ width) }
     {
-        let mut stack: Stack = ArrayVec::new();
-        for token in self.tokens.as_slice() {
-            step(&mut stack, *token, env, width);
+        match &self.tokens {
+            Tokens::One(token) => single_value(*token, env, width),
+            Tokens::Many(all) => stack_value(all.as_slice(), env, width),
         }
-        pop_value(&mut stack)
+    }
+
+    /// Whether a divisor somewhere in the expression has the value 0 modulo 2 to the width, which is 8
+    /// to 64. A divisor without a value does not count. Takes no memory.
+    pub fn divides_by_zero<E: Env>(&self, env: &E, width: u32) -> bool
+        requires low { 8 ≤ width }
+        requires high { width ≤ 64 }
+        ensures { result ≡ divides_by_zero (value_at (2 ^ width) (E.meaning env.now)) self.now }
+    {
+        has_zero_divisor(self.tokens.as_slice(), env, width)
     }
 
     /// The variables of the expression, one for each mention, in the order of its tokens. Takes no
@@ -192,6 +199,39 @@ impl Postfix {
     {
         self.tokens.as_slice() == other.tokens.as_slice()
     }
+}
+
+// The value of tokens that are an expression.
+fn stack_value<E: Env>(tokens: &[Token], env: &E, width: u32) -> Option<u64>
+    requires one { LeaveOneTerm tokens.now }
+    requires few { length tokens.now ≤ 255 }
+    requires low { 8 ≤ width }
+    requires high { width ≤ 64 }
+    ensures value { result ≡ value_at (2 ^ width) (E.meaning env.now) (the_term tokens.now) }
+    ensures residue { IfSome result (λ v. v < 2 ^ width) }
+{
+    let mut stack: Stack = ArrayVec::new();
+    for token in tokens {
+        step(&mut stack, *token, env, width);
+    }
+    pop_value(&mut stack)
+}
+
+// Whether a divisor in the expression that these tokens are has the value 0.
+fn has_zero_divisor<E: Env>(tokens: &[Token], env: &E, width: u32) -> bool
+    requires one { LeaveOneTerm tokens.now }
+    requires few { length tokens.now ≤ 255 }
+    requires low { 8 ≤ width }
+    requires high { width ≤ 64 }
+    ensures { result ≡ divides_by_zero (value_at (2 ^ width) (E.meaning env.now)) (the_term tokens.now) }
+{
+    let mut stack: Stack = ArrayVec::new();
+    let mut found = false;
+    for token in tokens {
+        found = finds_zero_divisor(found, &stack, *token);
+        step(&mut stack, *token, env, width);
+    }
+    found
 }
 
 // The token with its variable renamed.

@@ -367,3 +367,17 @@ fn expressions_are_copied_and_renamed(rt: HostRuntime) {
     let five = Postfix::constant(alloc, 5).expect(&rt, "memory");
     assert_eq!(rt; five.tokens(), [Number(5)].as_slice());
 }
+
+#[test]
+fn a_divisor_of_value_0_is_found(rt: HostRuntime) {
+    let alloc = rt.alloc();
+    let by_zero = built(alloc, &[Number(5), R0, Fun(Mod)]).expect(&rt, "an expression");
+    assert!(rt; by_zero.divides_by_zero(&All(Some(256)), 8));
+    assert!(rt; !by_zero.divides_by_zero(&All(Some(257)), 8));
+    assert!(rt; !by_zero.divides_by_zero(&All(None), 8));
+    let two = [Number(5), Number(0), Fun(Divide), Number(1), Fun(Plus)];
+    let inside = built(alloc, &two).expect(&rt, "an expression");
+    assert!(rt; inside.divides_by_zero(&All(None), 16));
+    let zero = built(alloc, &[Number(0)]).expect(&rt, "an expression");
+    assert!(rt; !zero.divides_by_zero(&All(None), 16));
+}

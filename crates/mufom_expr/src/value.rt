@@ -1,9 +1,11 @@
 //! Values on a stack of residues.
 
-ghost use Rattle.std.specs.Prelude.{◌≡◌, ◌+◌, ◌^◌, ◌<◌, ◌≤◌, ◌%◌, Some, length, reverse, option_map, ◌∷◌, IfSome};
+ghost use Rattle.std.specs.Prelude.{◌≡◌, ◌+◌, ◌^◌, ◌<◌, ◌≤◌, ◌%◌, ◌||◌};
+ghost use Rattle.std.specs.Prelude.{Some, length, reverse, option_map, slice_get, [], ◌∷◌, IfSome};
 ghost use Rattle.mufom_expr.specs.Codes.{operands, operands_of};
-ghost use Rattle.mufom_expr.specs.Value.{both};
-ghost use Rattle.mufom_expr.specs.ValueStack.{unary_value, binary_value, values_with, values_applied, AreResidues};
+ghost use Rattle.mufom_expr.specs.Value.{both, value_at};
+ghost use Rattle.mufom_expr.specs.Terms.{the_term};
+ghost use Rattle.mufom_expr.specs.ValueStack.{unary_value, binary_value, values_with, values_applied, AreResidues, zero_there, token_divides_by_zero};
 
 use crate::env::Env;
 use crate::token::{Function, Token};
@@ -173,4 +175,54 @@ pub(crate) fn step<E: Env>(stack: &mut Stack, token: Token, env: &E, width: u32)
         Token::Fun(Function::Neg) => apply_unary(stack, Function::Neg, width),
         Token::Fun(function) => apply_binary(stack, function, width),
     }
+}
+
+/// The value of an expression that is one token. Needs no stack.
+pub(crate) fn single_value<E: Env>(token: Token, env: &E, width: u32) -> Option<u64>
+    requires high { width ≤ 64 }
+    requires operand { operands_of token ≡ 0 }
+    ensures value { result ≡ value_at (2 ^ width) (E.meaning env.now) (the_term (token ∷ [])) }
+    ensures residue { IfSome result (λ v. v < 2 ^ width) }
+{
+    match token {
+        Token::Number(n) => Some(reduced(n, width)),
+        Token::Var(letter, index) => match env.lookup(letter, index) {
+            Some(v) => Some(reduced(v, width)),
+            None => None,
+        },
+        Token::Fun(_) => unreachable!(),
+    }
+}
+
+fn is_zero(value: Option<Option<u64>>) -> bool
+    ensures { result ≡ zero_there value }
+{
+    match value {
+        Some(Some(value)) => value == 0,
+        _ => false,
+    }
+}
+
+fn has_zero_on_top(stack: &Stack) -> bool
+    ensures { result ≡ zero_there (slice_get (reverse stack.now.items) 0) }
+{
+    is_zero(stack.as_slice().last().copied())
+}
+
+fn token_divides_by_zero(stack: &Stack, token: Token) -> bool
+    ensures { result ≡ token_divides_by_zero (reverse stack.now.items) token }
+{
+    match token {
+        Token::Fun(Function::Divide) => has_zero_on_top(stack),
+        Token::Fun(Function::Mod) => has_zero_on_top(stack),
+        _ => false,
+    }
+}
+
+/// Whether this was found already, or the token is a quotient or a remainder by the last value that
+/// stands, and that is 0.
+pub(crate) fn finds_zero_divisor(found: bool, stack: &Stack, token: Token) -> bool
+    ensures { result ≡ (found || token_divides_by_zero (reverse stack.now.items) token) }
+{
+    found || token_divides_by_zero(stack, token)
 }

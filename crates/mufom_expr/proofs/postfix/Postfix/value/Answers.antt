@@ -1,22 +1,21 @@
-use Rattle.std.proofs.Common.{◌^◌, ◌+◌, sym, subst, List, reverse, arith}
-use Rattle.std.specs.Prelude.{ℕ, Option}
-use Rattle.std.proofs.lemmas.List.{drop_more}
-use Rattle.mufom_expr.specs.Terms.{the_term}
+use Rattle.std.proofs.Common.{◌∙◌, ◌^◌, List, ap, sym, subst}
+use Rattle.mufom_expr.specs.declared.token.Token.{Token}
+use Rattle.mufom_expr.specs.Held.{tokens_held}
+use Rattle.mufom_expr.specs.Terms.{the_term, LeaveOneTerm}
 use Rattle.mufom_expr.specs.Value.{value_at}
-use Rattle.mufom_expr.specs.ValueStack.{values_with}
-use Rattle.mufom_expr.proofs.Running.{IsRunning, goes_on, values_fit}
+use Rattle.mufom_expr.proofs.Divisors.{single_operands}
 use Rattle.mufom_expr.proofs.postfix.Postfix.value.Goals as goal
 
-pub loop-token-preserved : goal.loop-token-preserved
-loop-token-preserved g c =
-    let items = c.as_slice-token-items.result.now in
-    let values = reverse c.loop-token.stack.items in
-    let m = 2 ^ c.args.width in
-    let env = g.E.Env.meaning c.args.env.now in
-    let i = c.loop-token.token-index in
-    let here = drop_more items i _ c.loop-token-test.true in
-    let Runs : List (Option ℕ) → Type 0 = λ vs. IsRunning (value_at m env) items (the_term items) (i + 1) vs in (
-      subst Runs (sym c.step.ensures.value) (goes_on (value_at m env) (values_with m env) (values_fit m env) items (the_term items) i values c.loop-token.invariant.0 _ here),
-      omega (arith, c.step.ensures.length, c.loop-token.invariant.1),
-      c.step.ensures.residues,
-    )
+pub single_value-requires-clause-operand : goal.single_value-requires-clause-operand
+single_value-requires-clause-operand g c =
+    single_operands c.in-One.token (subst (λ (ts : List Token). LeaveOneTerm ts) (ap tokens_held c.in-One.is) c.self.invariant.0)
+
+pub stack_value-requires-clause-one : goal.stack_value-requires-clause-one
+stack_value-requires-clause-one g c =
+    subst (λ (ts : List Token). LeaveOneTerm ts) (ap tokens_held c.in-Many.is ∙ sym c.as_slice.ensures.value) c.self.invariant.0
+
+pub returns-in-Many-clause-value : goal.returns-in-Many-clause-value
+returns-in-Many-clause-value g c =
+    c.stack_value.ensures.value
+    ∙ ap (value_at (2 ^ c.args.width) (g.E.Env.meaning c.args.env.now))
+    (ap the_term c.as_slice.ensures.value ∙ sym (ap (λ held. the_term (tokens_held held)) c.in-Many.is) ∙ c.self.view_is)
