@@ -11,8 +11,7 @@ loop-token-preserved g c =
     let m = 2 ^ c.args.width in
     let env = g.E.Env.meaning c.args.env.now in
     let i = c.loop-token.token-index in
-    let here = drop_more items i _ c.loop-token-test.true in
-    (
+    let here = drop_more items i _ c.loop-token-test.true in (
       steps_dividing m env items (the_term items) i values c.loop-token.found c.loop-token.invariant.0 _ here _ _
           c.step.ensures.value c.finds_zero_divisor-found.ensures,
       omega (arith, c.step.ensures.length, c.loop-token.invariant.1),
