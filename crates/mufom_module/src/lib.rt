@@ -28,3 +28,4 @@ pub use laws::{
 };
 pub use module::{Defect, Module, Order, Parts};
 pub use validity::assemble;
+pub use weight::{debug_items_weight, notes_weight, sections_weight};

@@ -55,7 +55,8 @@ fn section_weight(section: &Section) -> u64
     fixed.saturating_add(section.name.len() as u64)
 }
 
-fn sections_weight(sections: &[Section]) -> u64
+/// What sections weigh together, in bytes; or the greatest number of 64 bits if that is less.
+pub fn sections_weight(sections: &[Section]) -> u64
     ensures { result ≡ capped (sum_by section_weight sections.now) }
 {
     let mut total: u64 = 0;
@@ -73,7 +74,8 @@ fn note_weight(note: &Note) -> u64
     29 + 9 * note.numbers.len() as u64
 }
 
-fn notes_weight(notes: &[Note]) -> u64
+/// What the notes of a name weigh together, in bytes; or the greatest number of 64 bits if that is less.
+pub fn notes_weight(notes: &[Note]) -> u64
     ensures { result ≡ capped (notes_weight notes.now) }
 {
     let mut total: u64 = 0;
@@ -177,8 +179,10 @@ fn debug_item_weight(item: &DebugItem) -> u64
     }
 }
 
+/// What debug items weigh together, with all that stands in blocks, in bytes; or the greatest number
+/// of 64 bits if that is less.
 #[cycle(weighing)]
-fn debug_items_weight(items: &[DebugItem]) -> u64
+pub fn debug_items_weight(items: &[DebugItem]) -> u64
     ensures { result ≡ capped (marks_weight (marks_of items.now)) }
 {
     let mut total: u64 = 0;
