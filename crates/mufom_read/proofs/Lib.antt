@@ -31,6 +31,10 @@ pub mod EndedGood
 pub mod EndedEntries
 pub mod EndedLoads
 pub mod LoadLaws
+pub mod Stable
+pub mod LoadsFold
+pub mod LoadsWhole
+pub mod KeptRecords
 pub mod SpelledWalk
 pub mod SpelledHeader
 pub mod SpelledParts

@@ -8,14 +8,15 @@ use Rattle.std.specs.Prelude.{All}
 use Rattle.mufom_module.specs.RecordParts.{Part}
 use Rattle.mufom_module.specs.SpelledRecords.{SpelledRecord}
 use Rattle.mufom_module.specs.Grammar.{offsets_in}
-use Rattle.mufom_read.specs.Kept.{placed, tables_of, HasOwnParts}
+use Rattle.mufom_read.specs.Kept.{placed, kept_of, tables_of, HasOwnParts}
+use Rattle.mufom_read.specs.LoadsSoFar.{units_in, loads_so_far}
 use Rattle.mufom_read.specs.declared.prefix.Prefix.{Prefix}
 use Rattle.mufom_read.specs.declared.prefix.Location as code
 use Rattle.mufom_read.specs.declared.prefix.Location.TheVariants as offset
 use Rattle.mufom_read.specs.declared.prefix.Next.{Next}
 use Rattle.mufom_read.specs.declared.prefix.Next.TheVariants as next
 use Rattle.mufom_read.specs.declared.part.Extent as extents
-use Rattle.mufom_read.specs.Prefixes.{Step, raw, size_of, record_of, records_of, offset_record, offset_records_of, offsets_of, Extent, in_header, in_part, first_present, part_among, parts_in_order, part_at, location_by, location_after, is_raw, raw_step, as_step, step_at, body_mode, next_step, ends_with, is_ended}
+use Rattle.mufom_read.specs.Prefixes.{Step, raw, size_of, record_of, records_of, offset_record, offset_records_of, offsets_of, Extent, in_header, in_part, first_present, part_among, parts_in_order, part_at, location_by, location_after, is_raw, raw_step, as_step, step_at, body_mode, next_step, awaits_items, ends_with, is_ended}
 use Rattle.mufom_read.specs.Faults.{open_blocks, whole_fault, step_fault, ended_fault, ended_part_fault}
 use Rattle.mufom_read.specs.Judging.{IsSoundFrom}
 use Rattle.mufom_read.specs.PartsOfCode.{as_part, as_extent}
@@ -63,7 +64,11 @@ raw-prefix reads_debug old new prefix e bytes is header found within more =
     let size : size_of (prefix ++ map raw bytes) ≡ size_of prefix + length bytes = size-append prefix (map raw bytes) ∙ ap (λ n. size_of prefix + n) (raw_size bytes) in
     let steps : length (prefix ++ map raw bytes) ≡ length prefix + length bytes = length-append prefix (map raw bytes) ∙ ap (λ n. length prefix + n) (raw_steps bytes) in
     record {
-      kept = ap (map placed) more.kept ∙ is.kept ∙ sym (places_same prefix bytes);
+      kept = ap (map placed) more.kept ∙ is.kept ∙ ap kept_of (sym (places_same prefix bytes));
+      loads = more.loads ∙ is.loads ∙ ap loads_so_far (sym records);
+      maus = more.maus ∙ is.maus ∙ ap units_in (sym records);
+      awaits = more.awaits ∙ is.awaits ∙ ap (λ (ps : List SpelledRecord). awaits_items (last_or None ps)) (sym records);
+      ended = more.ended ∙ is.ended ∙ ap (λ (ps : List SpelledRecord). ends_with (last_or None ps)) (sym records);
       own = subst (All HasOwnParts) (sym more.kept) is.own;
       tables = more.tables ∙ is.tables ∙ ap tables_of (sym records);
       offsets = more.offsets ∙ is.offsets ∙ ap offsets_in (sym records);

@@ -19,7 +19,6 @@ use Rattle.mufom_read.specs.Faults.{step_fault, ended_part_fault, fault_after}
 use Rattle.mufom_read.specs.PartsOfCode.{as_part, as_extent}
 use Rattle.mufom_read.specs.Kept.{record_of_kept, as_fault}
 use Rattle.mufom_read.specs.PrefixOfCode.{IsPrefixOf, IsNotDebug, IsRead, as_location, mode_at, HasJudged, IsStepTaken, HasAdvanced}
-use Rattle.mufom_read.proofs.PrefixLaws.{ended-prefix}
 use Rattle.mufom_read.proofs.PlaceLaws.{part-found}
 
 nothing : {A : Type 0} {x : A} → Some x ≡ None → ⊥
@@ -135,9 +134,9 @@ part-within prefix at e here same = among-within parts_in_order (offsets_of pref
 -- ---- the part that ends after a step
 
 -- a step after which the module has ended
-pub stepped-end : (reads_debug : Bool) (prefix : List Step) (rest : List ℕ) (new : Prefix) (n : ℕ) → IsStepTaken reads_debug prefix rest new (next.Took n) → true ≡ ends_with (option_map record_of_kept (last_or None new.kept)) → HasAdvanced reads_debug prefix rest new (next.Took n)
+pub stepped-end : (reads_debug : Bool) (prefix : List Step) (rest : List ℕ) (new : Prefix) (n : ℕ) → IsStepTaken reads_debug prefix rest new (next.Took n) → true ≡ new.ended → HasAdvanced reads_debug prefix rest new (next.Took n)
 stepped-end reads_debug prefix rest new n (steps, is, sound, size, some, within) end =
-    (steps, is, sound, size, some, within, λ unended. absurd (true≢false (ended-prefix reads_debug new (prefix ++ steps) true is end ∙ unended)))
+    (steps, is, sound, size, some, within, λ unended. absurd (true≢false (end ∙ is.ended ∙ unended)))
 
 -- one after which no part ends with a fault
 pub stepped-whole : (reads_debug : Bool) (prefix : List Step) (rest : List ℕ) (new : Prefix) (n : ℕ) → IsStepTaken reads_debug prefix rest new (next.Took n)
@@ -145,12 +144,12 @@ pub stepped-whole : (reads_debug : Bool) (prefix : List Step) (rest : List ℕ) 
 stepped-whole reads_debug prefix rest new n (steps, is, sound, size, some, within) whole = (steps, is, sound, size, some, within, λ unended. sym (whole (prefix ++ steps) is))
 
 -- one after which a part ends with a fault
-pub stepped-fault : (reads_debug : Bool) (prefix : List Step) (rest : List ℕ) (new : Prefix) (n : ℕ) (f : ReadRefusal) → IsStepTaken reads_debug prefix rest new (next.Took n) → false ≡ ends_with (option_map record_of_kept (last_or None new.kept))
+pub stepped-fault : (reads_debug : Bool) (prefix : List Step) (rest : List ℕ) (new : Prefix) (n : ℕ) (f : ReadRefusal) → IsStepTaken reads_debug prefix rest new (next.Took n) → false ≡ new.ended
     → ((steps : List Step) → IsPrefixOf reads_debug new steps → Some (as_fault f) ≡ ended_part_fault steps) → HasAdvanced reads_debug prefix rest new (next.Refused f)
 stepped-fault reads_debug prefix rest new n f (steps, is, sound, size, some, within) unended fault = (
   steps,
   sound,
-  sym (ended-prefix reads_debug new (prefix ++ steps) false is unended),
+  sym (unended ∙ is.ended),
   ap (λ o. option_or o (step_fault reads_debug (prefix ++ steps) (next_step reads_debug (prefix ++ steps) (drop (size_of steps) rest)))) (sym (fault (prefix ++ steps) is)),
 )
 

@@ -19,14 +19,10 @@ use Rattle.mufom_read.specs.declared.notes.Named.{Named}
 use Rattle.mufom_read.specs.declared.notes.Named.TheVariants as named
 use Rattle.mufom_read.specs.Prefixes.{Step, size_of, is_ended}
 use Rattle.mufom_read.specs.Judging.{IsSoundPrefix}
-use Rattle.mufom_read.specs.Kept.{record_of_kept}
+use Rattle.mufom_read.specs.Kept.{record_of_kept, indexes_by}
 use Rattle.mufom_read.specs.PrefixOfCode.{IsPrefixOf}
 
 -- ---- by the tables
-
--- the index lists of the tables
-abbrev pub indexes_by : Tables → Indexes
-indexes_by t = record { sections = t.sections; publics = t.publics; references = t.references; debug_names = [] }
 
 -- what is stated for an index, of what is stated for these indexes, in their order
 abbrev pub stated_at : {X : Type 0} → List ℕ → List X → ℕ → Option X
@@ -120,7 +116,7 @@ pub record IsStatedByKept (f : Prefix) (m : Parts) : Type 0 where
   pub publics : m.names.publics ≡ publics_of (indexes_by f.tables) (map record_of_kept f.kept)
   pub references : m.names.references ≡ references_of (map record_of_kept f.kept)
   pub debug : m.debug ≡ []
-  pub loads : m.loads ≡ loads_of (indexes_by f.tables) m.maus (map record_of_kept f.kept)
+  pub loads : m.loads ≡ f.loads.loads
   pub start : option_to_list m.start ≡ starts_of (indexes_by f.tables) (map record_of_kept f.kept)
 
 -- The code keeps this prefix; it is sound, ends with the stream of these bytes, and is the whole of it.

@@ -1,16 +1,17 @@
 -- What the code keeps of the records of a prefix: which indexes they declare, and which they give a value.
 use Rattle.std.specs.Prelude.{ℕ, zero, suc, ◌<◌, ◌-◌, ◌^◌, ◌==◌, ◌||◌, ◌&&◌, Bool, true, false, not, List, [], ◌∷◌, ◌++◌, length, filter_map, Option, Some, None, is_none, option_to_list, if◌then◌else◌}
-use Rattle.std.specs.List.{list_any, list_all}
+use Rattle.std.specs.List.{list_any, list_all, filter}
 use Rattle.mufom_numbers.specs.declared.reason.Reason.{Reason}
 use Rattle.mufom_numbers.specs.declared.reason.Reason.TheVariants as why
 use Rattle.mufom_expr.specs.declared.token.Letter.{Letter}
 use Rattle.mufom_expr.specs.Tree.{Tree}
 use Rattle.mufom_expr.specs.Value.{variables_of}
+use Rattle.mufom_expr.specs.Spelled.{Indexes}
 use Rattle.mufom_records.specs.declared.record.Record.{Record}
 use Rattle.mufom_records.specs.declared.record.Record.TheVariants as r
 use Rattle.mufom_module.specs.Contents.{any_of}
 use Rattle.mufom_module.specs.Defects.{has_other_counter}
-use Rattle.mufom_module.specs.RecordParts.{is_loading}
+use Rattle.mufom_module.specs.RecordParts.{data_part, stands_in, is_loading}
 use Rattle.mufom_module.specs.SpelledRecords.{SpelledRecord, Kind, FileIndex, section, public, reference, debug_name, declared, named_by, is_public_value, tree_of_record, index_of_variable, Once, value_of_public, weakness, alignment, section_size, section_base, start_address, assigned_by, is_assigned}
 use Rattle.mufom_read.specs.declared.tables.Tables.{Tables}
 use Rattle.std.specs.Option.{option_or}
@@ -63,6 +64,14 @@ tables_of records = record {
   current = current_section records;
   has_start = is_assigned records start_address;
 }
+
+-- the index lists of the tables
+abbrev pub indexes_by : Tables → Indexes
+indexes_by t = record { sections = t.sections; publics = t.publics; references = t.references; debug_names = [] }
+
+-- the tables with no section set
+abbrev pub without_section : Tables → Tables
+without_section t = record t { current = None }
 
 -- the tables with what one more record declares or states
 abbrev pub with_row : Tables → Record → Tables
@@ -178,6 +187,21 @@ kept_record start row bytes = record { start = start; row = row; bytes = bytes }
 -- and its offset
 abbrev pub placed : KeptRecord → OffsetRecord
 placed k = (k.start, record_of_kept k)
+
+-- Records of the data part become loads at once; the code keeps the others.
+abbrev pub is_kept : Record → Bool
+is_kept row = not (stands_in data_part row)
+
+-- of records with their offsets, those that are kept
+abbrev pub kept_of : List OffsetRecord → List OffsetRecord
+kept_of all = filter (λ p. is_kept p.1.row) all
+
+abbrev pub kept_records : List SpelledRecord → List SpelledRecord
+kept_records all = filter (λ p. is_kept p.row) all
+
+-- the record, where it is kept
+abbrev pub kept_alone : KeptRecord → List KeptRecord
+kept_alone k = if is_kept k.row then k ∷ [] else []
 
 -- the strings, the runs and the expressions of the record stand in its bytes
 abbrev pub HasOwnParts : KeptRecord → Type 0

@@ -2,13 +2,15 @@
 //! the reader that answers so.
 //!
 //! A stream is judged record by record, by what stands before each. A [`Reader`] takes it in chunks: it
-//! keeps the records without a fault with which the stream begins, what they declare and state once, and
-//! the bytes after them. The crate stands on `mufom_module` for the file of a module and on
-//! `mufom_records`. Its main clause is that of [`Reader::feed`]: a refusal is answered exactly where the
-//! stream so far is refused, however it was cut; its main law is [`has_one_judgment`].
+//! makes loads of the records of the data part as they come, and keeps the other records without a fault
+//! with which the stream begins, what all of them declare and state once, and the bytes after them. The
+//! crate stands on `mufom_module` for the file of a module and on `mufom_records`. Its main clause is
+//! that of [`Reader::feed`]: a refusal is answered exactly where the stream so far is refused, however it
+//! was cut; its main law is [`has_one_judgment`].
 #![tactic(auto)]
 
 mod build;
+mod prefix;
 mod header;
 mod kept;
 mod laws;
@@ -17,7 +19,6 @@ mod names;
 mod notes;
 mod part;
 mod positions;
-mod prefix;
 mod reader;
 mod refusal;
 mod rules;
@@ -31,8 +32,8 @@ mod weight_laws;
 mod whole;
 
 pub use laws::{
-    ended_prefix_is_module, has_judgment, has_one_judgment, judgments_exclude_each_other,
-    module_is_ended_prefix, prefixes_are_one, prefixes_of_modules_are_cut_off, prefixes_stay,
+    ended_prefix_is_module, prefixes_are_one, prefixes_of_modules_are_cut_off, prefixes_stay,
+    has_judgment, has_one_judgment, judgments_exclude_each_other, module_is_ended_prefix,
     refusal_is_single, refusal_stays,
 };
 pub use reader::Reader;

@@ -4,8 +4,8 @@ ghost use Rattle.std.specs.Prelude.{◌≡◌, IfOk, option_map};
 ghost use Rattle.mufom_expr.specs.Spelled.{list_of};
 ghost use Rattle.mufom_records.specs.Parts.{IsExpressionIn};
 ghost use Rattle.mufom_module.specs.SpelledRecords as records;
-ghost use Rattle.mufom_read.specs.Kept.{record_of_kept};
-ghost use Rattle.mufom_read.specs.Built.{indexes_by, stated_at};
+ghost use Rattle.mufom_read.specs.Kept.{record_of_kept, indexes_by};
+ghost use Rattle.mufom_read.specs.Built.{stated_at};
 
 use crate::kept::KeptRecord;
 use crate::tables::Tables;

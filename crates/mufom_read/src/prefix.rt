@@ -1,13 +1,14 @@
 //! The records and unread bytes with which a stream begins, and the step after them.
 
 ghost use Rattle.std.specs.Prelude.{◌≡◌, ◌≢◌, ◌+◌, ◌-◌, ◌≤◌, ◌<◌, [], ◌++◌, ℕ, Bool, true, false, ◌==◌, ◌&&◌, not, if◌then◌else◌, Some, OnOk, List, length, take, None, option_map, IfOk, All, MatchOption};
-ghost use Rattle.std.specs.List.{last_or, cons_option};
+ghost use Rattle.std.specs.List.{cons_option};
 ghost use Rattle.mufom_module.specs.SpelledRecords as records;
 ghost use Rattle.mufom_module.specs.RecordParts as parts;
 ghost use Rattle.mufom_read.specs.Prefixes as prefixes;
 ghost use Rattle.mufom_read.specs.Faults as faults;
 ghost use Rattle.mufom_read.specs.PartsOfCode.{as_part, as_extent};
-ghost use Rattle.mufom_read.specs.Kept.{record_of_kept, kept_record, HasOwnParts, HasRoom, is_new, as_fault};
+ghost use Rattle.mufom_read.specs.Kept.{record_of_kept, kept_record, kept_alone, HasOwnParts, HasRoom, is_new, as_fault};
+ghost use Rattle.mufom_read.specs.LoadsSoFar.{units_after};
 ghost use Rattle.mufom_read.specs.PrefixOfCode.{IsPrefixOf, IsRead, IsRawPart, IsNotDebug, HasJudged, HasRaw, HasSkipped, IsPlacedWell, with_record, as_location, mode_at, HasTaken, IsStepTaken, HasAdvanced};
 ghost use Rattle.mufom_read.specs.declared.prefix.Next.TheVariants as nexts;
 ghost use Rattle.mufom_records.specs.Reading.{record_at};
@@ -16,6 +17,7 @@ ghost use Rattle.mufom_module.specs.Grammar.{offset_in, file_limit};
 
 use crate::header::header_fault;
 use crate::kept::KeptRecord;
+use crate::loads::Loads;
 use crate::part::{Extent, Part, is_raw, part_at, stands_in};
 use crate::refusal::ReadRefusal;
 use crate::rules::rule_broken;
@@ -29,11 +31,23 @@ use std::alloc::Global;
 /// How many records the header has.
 pub(crate) const HEADER_COUNT: u64 = 10;
 
+// The most units that an address has.
+const MOST_UNITS: u64 = 8;
+
 /// What was judged of a stream so far, and has no fault.
 #[derive(Debug, Drop)]
 pub(crate) struct Prefix {
+    /// The records but those of the data part.
     pub kept: List<KeptRecord>,
     pub tables: Tables,
+    /// What the records of the data part give.
+    pub loads: Loads,
+    /// The units of an address, once the descriptor was read.
+    pub maus: Option<u8>,
+    /// Whether items may stand after the last record.
+    pub awaits_items: bool,
+    /// Whether the end of the module was read.
+    pub ended: bool,
     /// The offsets of the header, as far as they stand.
     pub offsets: List<u64>,
     pub extension: Bytes,
@@ -165,6 +179,34 @@ fn append(bytes: &mut Bytes, more: &[u8]) -> Result<(), NoMemory>
     Ok(())
 }
 
+// The units of an address: those of the first descriptor.
+fn units_after(maus: Option<u8>, record: &Record) -> Option<u8>
+    ensures { result ≡ units_after maus «record».now }
+{
+    match (maus, record) {
+        (Some(maus), _) => Some(maus),
+        (None, Record::Descriptor(_, maus, _)) => Some((*maus).min(MOST_UNITS) as u8),
+        (None, _) => None,
+    }
+}
+
+fn is_module_end(record: &Record) -> bool
+    ensures { result ≡ prefixes.is_module_end «record».now }
+{
+    matches!(record, Record::ModuleEnd)
+}
+
+// Keeps the record, unless it is one of the data part, whose loads are kept.
+fn keep_last(kept: &mut List<KeptRecord>, next: KeptRecord) -> Result<(), NoMemory>
+    ensures { OnOk result (kept.new ≡ kept.old ++ kept_alone next) }
+{
+    if stands_in(Part::Data, &next.row) {
+        Ok(())
+    } else {
+        kept.push(next)
+    }
+}
+
 // A record with a copy of its bytes.
 fn keep(alloc: Global, start: u64, row: Record, bytes: &[u8]) -> Result<KeptRecord, NoMemory>
     ensures { IfOk result (λ kept. kept ≡ kept_record start row bytes.now) }
@@ -181,6 +223,10 @@ impl Prefix {
         Prefix {
             kept: List::new(alloc),
             tables: Tables::new(alloc),
+            loads: Loads::new(alloc),
+            maus: None,
+            awaits_items: false,
+            ended: false,
             offsets: List::new(alloc),
             extension: Bytes::new(alloc),
             environment: Bytes::new(alloc),
@@ -203,51 +249,20 @@ impl Prefix {
         }
     }
 
-    // The last record.
-    fn last(&self) -> Option<&KeptRecord>
-        ensures { option_map (λ k. k.now) result ≡ last_or None self.now.kept }
-    {
-        match self.kept.as_slice() {
-            [] => None,
-            [.., last] => Some(last),
-        }
-    }
-
-    // Whether items may stand after the last record.
-    fn awaits_items(&self) -> bool
-        ensures { result ≡ prefixes.awaits_items (option_map record_of_kept (last_or None self.now.kept)) }
-    {
-        match self.last() {
-            None => false,
-            Some(last) => opens_items(&last.row),
-        }
-    }
-
     /// Whether the end of the module was read.
     pub(crate) fn is_ended(&self) -> bool
-        ensures kept { result ≡ prefixes.ends_with (option_map record_of_kept (last_or None self.now.kept)) }
+        ensures kept { result ≡ self.now.ended }
         ensures prefix { (reads_debug : Bool) (prefix : List prefixes.Step) → IsPrefixOf reads_debug self.now prefix
             → result ≡ prefixes.is_ended prefix }
     {
-        self.has_end()
-    }
-
-    // Whether the last record is the end of the module.
-    fn has_end(&self) -> bool
-        ensures { result ≡ prefixes.ends_with (option_map record_of_kept (last_or None self.now.kept)) }
-    {
-        match self.last() {
-            None => false,
-            Some(last) => matches!(last.row, Record::ModuleEnd),
-        }
+        self.ended
     }
 
     // Whether an item may stand after the prefix in this part, and one does.
     fn may_go_on(&self, extent: Extent, rest: &[u8]) -> bool
-        ensures { result ≡ (not (self.now.size == extent.from) &&
-            (prefixes.awaits_items (option_map record_of_kept (last_or None self.now.kept)) && parts.begins_item rest.now)) }
+        ensures { result ≡ (not (self.now.size == extent.from) && (self.now.awaits_items && parts.begins_item rest.now)) }
     {
-        self.size != extent.from && self.awaits_items() && begins_item(rest)
+        self.size != extent.from && self.awaits_items && begins_item(rest)
     }
 
     // What must stand in a location, where these bytes stand.
@@ -340,18 +355,24 @@ impl Prefix {
     }
 
     // Adds a record without a fault.
-    fn add(&mut self, next: KeptRecord) -> Result<(), NoMemory>
+    fn add(&mut self, alloc: Global, next: KeptRecord) -> Result<(), NoMemory>
         requires room { HasRoom self.old.tables }
         requires new { is_new self.old.tables next.row ≡ true }
+        requires own { HasOwnParts next }
         requires few { self.old.steps ≤ file_limit }
         requires fits { self.old.size + length next.bytes ≤ file_limit }
         ensures { OnOk result (self.new ≡ with_record self.old next) }
     {
+        let maus = self.maus.unwrap_or(2);
+        self.loads.take(alloc, &self.tables, maus, &next)?;
+        self.maus = units_after(self.maus, &next.row);
         self.tables.add(&next.row)?;
         add_offset(&mut self.offsets, &next.row)?;
+        self.awaits_items = opens_items(&next.row);
+        self.ended = is_module_end(&next.row);
         self.steps += 1;
         self.size += next.bytes.len() as u64;
-        self.kept.push(next)
+        keep_last(&mut self.kept, next)
     }
 
     // Judges the record that begins after the prefix, and adds it.
@@ -377,7 +398,7 @@ impl Prefix {
         match self.record_fault(alloc, reads_debug, place, &next)? {
             Some(refusal) => Ok(Next::Refused(refusal)),
             None => {
-                self.add(next)?;
+                self.add(alloc, next)?;
                 Ok(Next::Took(used))
             }
         }

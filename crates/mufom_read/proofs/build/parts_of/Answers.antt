@@ -1,7 +1,6 @@
 use Rattle.std.proofs.Common.{◌≡◌, ◌∷◌, map, slice_get, refl, ap, ◌∙◌}
-use Rattle.mufom_read.specs.Kept.{record_of_kept}
-use Rattle.mufom_module.specs.Gathered.{sections_of, publics_of, references_of, loads_of, starts_of}
-use Rattle.mufom_read.specs.Built.{indexes_by}
+use Rattle.mufom_read.specs.Kept.{record_of_kept, indexes_by}
+use Rattle.mufom_module.specs.Gathered.{sections_of, publics_of, references_of, starts_of}
 use Rattle.mufom_read.proofs.BuildLaws.{begins-here, describes-here, the-parts}
 use Rattle.mufom_read.proofs.build.parts_of.Goals as goal
 
@@ -35,5 +34,5 @@ returns c = λ m stated.
     (c.in_ok-names.ensures.publics ∙ ap (publics_of ix) ps)
     (c.in_ok-names.ensures.references ∙ ap references_of ps)
     c.new.ensures
-    (c.in_ok-loads.ensures ∙ ap (loads_of ix c.layout_of-maus.result.0) ps)
+    refl
     (c.in_ok-start.ensures ∙ ap (λ l. slice_get (starts_of ix l) 0) ps)

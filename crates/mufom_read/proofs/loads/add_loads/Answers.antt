@@ -1,8 +1,7 @@
-use Rattle.std.proofs.Common.{◌∷◌, [], map, sym, ap, ◌∙◌}
+use Rattle.std.proofs.Common.{◌∷◌, [], sym, ap, ◌∙◌}
 use Rattle.mufom_loads.specs.declared.load.Load.TheVariants.{SetPc}
-use Rattle.mufom_module.specs.Gathered.{loads_by, items_at_prefix}
-use Rattle.mufom_read.specs.Kept.{record_of_kept}
-use Rattle.mufom_read.specs.Built.{indexes_by}
+use Rattle.mufom_read.specs.Kept.{record_of_kept, indexes_by}
+use Rattle.mufom_read.specs.LoadsSoFar.{loads_at_once}
 use Rattle.mufom_read.proofs.LoadLaws.{pushed}
 use Rattle.mufom_read.proofs.loads.add_loads.Goals as goal
 
@@ -11,5 +10,5 @@ returns-in_ok-value-in-SetPc c =
     let ix = indexes_by c.args.tables.now in
     pushed c.push-in-SetPc.result c.push-in-SetPc.new.self c.args.loads.now _ _
     ((λ k. SetPc (c.position_in-section.ensures k) (c.in_ok-value-in-SetPc.ensures k) ∷ [])
-    ∙ ap (λ row. loads_by ix (record_of_kept c.args.record.now) (items_at_prefix ix c.args.maus (map record_of_kept c.args.after.now)) row) (sym c.in-SetPc.is))
+    ∙ ap (λ row. loads_at_once ix (record_of_kept c.args.record.now) row) (sym c.in-SetPc.is))
     c.push-in-SetPc.ensures.ok

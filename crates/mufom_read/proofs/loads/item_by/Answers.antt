@@ -1,8 +1,7 @@
 use Rattle.std.proofs.Common.{Some, sym, ap, ◌∙◌}
 use Rattle.mufom_loads.specs.declared.load.Item.TheVariants.{Field}
 use Rattle.mufom_module.specs.Gathered.{item_by}
-use Rattle.mufom_read.specs.Kept.{record_of_kept}
-use Rattle.mufom_read.specs.Built.{indexes_by}
+use Rattle.mufom_read.specs.Kept.{record_of_kept, indexes_by}
 use Rattle.mufom_read.proofs.loads.item_by.Goals as goal
 
 pub returns-in_ok-value-in-FieldItem : goal.returns-in_ok-value-in-FieldItem

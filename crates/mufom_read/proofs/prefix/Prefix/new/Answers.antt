@@ -6,11 +6,15 @@ use Rattle.mufom_read.proofs.prefix.Prefix.new.Goals as goal
 pub returns : goal.returns
 returns c = λ reads_debug. record {
   kept = ap (map placed) c.new.ensures;
+  loads = c.new-3.ensures;
+  maus = refl;
+  awaits = refl;
+  ended = refl;
   own = none-own _ c.new.ensures;
   tables = c.new-2.ensures;
-  offsets = c.new-3.ensures;
-  extension = c.new-4.ensures;
-  environment = c.new-5.ensures;
+  offsets = c.new-4.ensures;
+  extension = c.new-5.ensures;
+  environment = c.new-6.ensures;
   steps = refl;
   size = refl;
   few = omega arith;
