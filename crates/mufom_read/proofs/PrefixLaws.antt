@@ -206,8 +206,8 @@ prefix-add reads_debug f prefix k is own some start fits keeps =
     ap (λ ps. filter_map (λ q. offset_in q.row) ps) records ∙ filter_map-append (λ q. offset_in q.row) (records_of prefix) (p ∷ []) in
     record {
       kept = map-append placed f.kept (kept_alone k) ∙ ap (λ ps. ps ++ map placed (kept_alone k)) is.kept
-      ∙ ap (λ ps. kept_of (offset_records_of prefix) ++ ps) (kept-alone k ∙ ap (λ n. kept_of ((n, p) ∷ [])) (start ∙ is.size))
-      ∙ sym (ap kept_of offsets_named ∙ filter-append (λ (q : OffsetRecord). is_kept q.1.row) (offset_records_of prefix) ((size_of prefix, p) ∷ []));
+          ∙ ap (λ ps. kept_of (offset_records_of prefix) ++ ps) (kept-alone k ∙ ap (λ n. kept_of ((n, p) ∷ [])) (start ∙ is.size))
+          ∙ sym (ap kept_of offsets_named ∙ filter-append (λ (q : OffsetRecord). is_kept q.1.row) (offset_records_of prefix) ((size_of prefix, p) ∷ []));
       loads = (λ j. with_load (indexes_by (is.tables j)) (units_or (is.maus j)) (is.loads j) p) ∙ sym (ap loads_so_far records ∙ loads-more (records_of prefix) p);
       maus = ap (λ o. units_after o k.row) is.maus ∙ sym (ap units_in records ∙ units-more (records_of prefix) p);
       awaits = sym (ap awaits_items last);

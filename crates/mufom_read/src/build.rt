@@ -10,11 +10,11 @@ ghost use Rattle.mufom_read.specs.Prefixes.{Step};
 ghost use Rattle.mufom_read.specs.Kept.{record_of_kept, tables_of, without_section, HasOwnParts, indexes_by};
 ghost use Rattle.mufom_read.specs.Built.{IsStatedByKept, IsWhole};
 
-use crate::prefix::Prefix;
 use crate::kept::KeptRecord;
 use crate::loads::Loads;
 use crate::names::{publics_of, references_of};
 use crate::positions::value_in;
+use crate::prefix::Prefix;
 use crate::sections::sections_of;
 use crate::tables::Tables;
 use mufom_expr::Postfix;

@@ -10,7 +10,6 @@
 #![tactic(auto)]
 
 mod build;
-mod prefix;
 mod header;
 mod kept;
 mod laws;
@@ -19,6 +18,7 @@ mod names;
 mod notes;
 mod part;
 mod positions;
+mod prefix;
 mod reader;
 mod refusal;
 mod rules;
@@ -32,8 +32,8 @@ mod weight_laws;
 mod whole;
 
 pub use laws::{
-    ended_prefix_is_module, prefixes_are_one, prefixes_of_modules_are_cut_off, prefixes_stay,
-    has_judgment, has_one_judgment, judgments_exclude_each_other, module_is_ended_prefix,
+    ended_prefix_is_module, has_judgment, has_one_judgment, judgments_exclude_each_other,
+    module_is_ended_prefix, prefixes_are_one, prefixes_of_modules_are_cut_off, prefixes_stay,
     refusal_is_single, refusal_stays,
 };
 pub use reader::Reader;

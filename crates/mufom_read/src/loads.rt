@@ -22,10 +22,7 @@ pub(crate) enum OpenLoad {
     /// LR: each item is a load.
     Relocate,
     /// RE with LR, and its items so far.
-    Repeat {
-        count: u64,
-        items: List<Item>,
-    },
+    Repeat { count: u64, items: List<Item> },
 }
 
 /// The loads so far, and what awaits items.

@@ -8,7 +8,7 @@ ghost use Rattle.mufom_read.specs.Faults.{ended_part_fault};
 ghost use Rattle.mufom_read.specs.PrefixOfCode.{IsPrefixOf};
 ghost use Rattle.mufom_read.specs.Reader.{HasTakenAll, HasEndedChunk, HasJudgedRest, IsReading, Knows, answer_of};
 
-use crate::prefix::{Prefix, Next};
+use crate::prefix::{Next, Prefix};
 use crate::refusal::{ReadRefusal, ReadStop};
 use mufom_numbers::{NoMemory, Reason};
 use std::alloc::Global;
