@@ -1,5 +1,5 @@
 -- What a whole prefix states, as the code keeps it.
-use Rattle.std.proofs.Common.{◌≡◌, ℕ, ◌<◌, ◌==◌, ◌||◌, ◌≤◌, nat_le, Bool, true, false, min, List, [], ◌∷◌, ◌++◌, map, refl, sym, ap, subst, ◌∙◌, arith, slice_get, Option, Some, None, option_to_list, is_some, drop, get_or, ◌+◌, length}
+use Rattle.std.proofs.Common.{◌≡◌, ℕ, ◌<◌, ◌≤◌, nat_le, Bool, true, false, min, List, [], ◌∷◌, ◌++◌, map, refl, sym, ap, subst, ◌∙◌, arith, slice_get, Option, Some, None, option_to_list, is_some, drop, get_or, ◌+◌, length}
 use Rattle.std.proofs.lemmas.Bool.{and_parts, leb-true}
 use Rattle.std.specs.List.{cons_option}
 use Rattle.mufom_expr.specs.Spelled.{Indexes}
@@ -153,7 +153,7 @@ describes-here f m stated k e = subst (λ (p : SpelledRecord). Describes m p.row
 -- ---- all parts
 
 -- parts that are as the records and the bytes state are those of the module
-pub the-parts : (f : Prefix) (m p : Parts) → IsStatedByKept f m → (p.processor ≡ m.processor) × (p.name ≡ m.name) → (p.maus ≡ m.maus) × (p.order ≡ m.order) → p.ext ≡ f.extension → p.env ≡ f.environment
+pub the-parts : (f : Prefix) (m p : Parts) → IsStatedByKept f m → (p.processor ≡ m.processor) × (p.name ≡ m.name) → (p.maus ≡ m.maus) × (p.order ≡ m.order) → p.ext ≡ f.extension.items → p.env ≡ f.environment.items
     → p.sections ≡ sections_of (map record_of_kept f.kept) → p.names.publics ≡ publics_of (indexes_by f.tables) (map record_of_kept f.kept) → p.names.references ≡ references_of (map record_of_kept f.kept)
     → p.debug ≡ [] → p.loads ≡ f.loads.loads → p.start ≡ slice_get (starts_of (indexes_by f.tables) (map record_of_kept f.kept)) 0 → p ≡ m
 the-parts f m p stated names layout ext env sections publics references debug loads start =

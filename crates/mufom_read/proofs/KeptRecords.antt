@@ -1,6 +1,6 @@
 -- The records that are kept, of all those of a prefix.
-use Rattle.std.proofs.Common.{◌≡◌, ℕ, ◌==◌, Bool, true, false, cond, true≢false, not, List, [], ◌∷◌, ◌++◌, map, filter_map, Option, None, refl, sym, ap, ◌∙◌}
-use Rattle.std.specs.List.{list_any, list_all, last_or, cons_option, AllByRecursion}
+use Rattle.std.proofs.Common.{◌≡◌, Bool, true, false, cond, true≢false, not, List, [], ◌∷◌, ◌++◌, map, filter_map, Option, None, refl, sym, ap, ◌∙◌}
+use Rattle.std.specs.List.{list_any, list_all, last_or, cons_option}
 use Rattle.std.proofs.lemmas.Bool.{and_parts}
 use Rattle.std.proofs.lemmas.List.Elements.{filter-append}
 use Rattle.mufom_records.specs.declared.record.Record.{Record}

@@ -12,6 +12,7 @@ pub mod NearFaults
 pub mod RecordFacts
 pub mod StepLaws
 pub mod PlaceLaws
+pub mod LocationMoves
 pub mod PartBytes
 pub mod RawLaws
 pub mod TakeLaws

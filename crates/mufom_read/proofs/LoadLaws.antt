@@ -1,12 +1,20 @@
 -- The loads so far, record by record.
-use Rattle.std.proofs.Common.{◌≡◌, ℕ, suc, ◌+◌, ◌<◌, List, [], ◌∷◌, ◌++◌, length, map, drop, get_or, refl, sym, ap, ◌∙◌, arith, append-nil, append_assoc, Result, Ok, Err, OnOk, Option}
+use Rattle.std.proofs.Common.{◌≡◌, ℕ, suc, ◌+◌, ◌<◌, false, true≢false, List, [], ◌∷◌, ◌++◌, length, map, drop, get_or, refl, sym, ap, ◌∙◌, arith, append-nil, append_assoc, Result, Ok, Err, OnOk, Option, Some, None, option_map}
 use Rattle.std.proofs.Math.Seq.{drop-cons}
-use Rattle.mufom_loads.specs.declared.load.Load.{Load}
-use Rattle.mufom_module.specs.SpelledRecords.{SpelledRecord}
+use Rattle.std.specs.Prelude.{unwrap_or}
+use Rattle.mufom_numbers.specs.declared.taken.Span.{Span}
+use Rattle.mufom_expr.specs.declared.token.FieldKind.{FieldKind}
+use Rattle.mufom_expr.specs.Tree.{Tree}
+use Rattle.mufom_expr.specs.Spelled.{Indexes}
+use Rattle.mufom_records.specs.declared.record.Record.{Record}
+use Rattle.mufom_records.specs.declared.record.Record.TheVariants as r
+use Rattle.mufom_loads.specs.declared.load.Item.TheVariants.{Field}
+use Rattle.mufom_module.specs.SpelledRecords.{SpelledRecord, expression_of, tree_in, tree_of_record, positioned}
+use Rattle.mufom_module.specs.Gathered.{item_by}
 use Rattle.mufom_read.specs.declared.kept.KeptRecord.{KeptRecord}
 use Rattle.mufom_read.specs.declared.loads.Loads.{Loads}
 use Rattle.mufom_read.specs.Kept.{tables_of, indexes_by, record_of_kept}
-use Rattle.mufom_read.specs.LoadsSoFar.{no_loads, with_load, units_after, units_from, units_in, units_or, loads_from, loads_so_far}
+use Rattle.mufom_read.specs.LoadsSoFar.{no_loads, is_item, with_made, with_load, units_after, units_from, units_in, units_or, loads_from, loads_so_far}
 
 -- what was pushed, where that went well
 pub pushed : {X A E : Type 0} (r : Result A E) (new old few more : List X) → few ≡ more → OnOk r (new ≡ old ++ few) → OnOk r (new ≡ old ++ more)
@@ -41,3 +49,32 @@ loads_more before s (q ∷ ps) p =
 -- the loads with one more record
 pub loads-more : (ps : List SpelledRecord) (p : SpelledRecord) → loads_so_far (ps ++ p ∷ []) ≡ with_load (indexes_by (tables_of ps)) (units_or (units_in ps)) (loads_so_far ps) p
 loads-more ps p = loads_more [] no_loads ps p
+
+-- ---- a record with its expression
+
+module _ (ix : Indexes) (p : SpelledRecord) where
+  -- the expression of a record, with positions, where one stands there
+  value_there : (row : Record) (span : Span) → p.row ≡ row → expression_of row ≡ Some span → option_map (positioned ix) (tree_of_record p) ≡ Some (positioned ix (tree_in p span))
+  value_there row span is there = ap (λ (x : Record). option_map (positioned ix) (option_map (tree_in p) (expression_of x))) is ∙ ap (λ (o : Option Span). option_map (positioned ix) (option_map (tree_in p) o)) there
+
+  pub pc-valued : (i : ℕ) (span : Span) → p.row ≡ r.SetPc i span → option_map (positioned ix) (tree_of_record p) ≡ Some (positioned ix (tree_in p span))
+  pc-valued i span is = value_there (r.SetPc i span) span is refl
+
+  pub field-valued : (kind : FieldKind) (span : Span) (size : Option ℕ) → p.row ≡ r.FieldItem kind span size → option_map (positioned ix) (tree_of_record p) ≡ Some (positioned ix (tree_in p span))
+  field-valued kind span size is = value_there (r.FieldItem kind span size) span is refl
+
+  -- a field has its expression as its value
+  pub field-made : (maus : ℕ) (kind : FieldKind) (span : Span) (size : Option ℕ) (v : Tree) (n : ℕ) → p.row ≡ r.FieldItem kind span size → Some v ≡ option_map (positioned ix) (tree_of_record p) → n ≡ unwrap_or size maus
+      → item_by ix maus p p.row ≡ Some (Field kind v n)
+  field-made maus kind span size v n is value count =
+      let same : v ≡ positioned ix (tree_in p span) = ap (λ (o : Option Tree). unwrap_or o v) (value ∙ field-valued kind span size is) in
+      ap (item_by ix maus p) is ∙ (λ k. Some (Field kind (sym same k) (sym count k)))
+
+no_item : (ix : Indexes) (maus : ℕ) (p : SpelledRecord) (row : Record) → is_item row ≡ false → item_by ix maus p row ≡ None
+no_item ix maus p (r.ConstantItem run) h = absurd (true≢false h)
+no_item ix maus p (r.FieldItem kind value size) h = absurd (true≢false h)
+no_item ix maus p row h = refl
+
+-- the loads with a record that is no item
+pub with-other : (ix : Indexes) (maus : ℕ) (s : Loads) (p : SpelledRecord) → is_item p.row ≡ false → with_load ix maus s p ≡ with_made ix s p None
+with-other ix maus s p h = ap (with_made ix s p) (no_item ix maus p p.row h)

@@ -1,13 +1,12 @@
 -- The loads of a whole prefix: those that the records of its data part give by the indexes of the file.
-use Rattle.std.proofs.Common.{◌≡◌, ℕ, ◌==◌, Bool, true, false, true≢false, not, List, [], ◌∷◌, ◌++◌, map, Option, Some, is_none, unwrap_or, refl, sym, ap, subst, ◌∙◌, append-nil, append_assoc}
+use Rattle.std.proofs.Common.{◌≡◌, ℕ, ◌==◌, true, false, true≢false, not, List, [], ◌∷◌, ◌++◌, map, Option, Some, is_none, unwrap_or, refl, sym, ap, ◌∙◌, append-nil, append_assoc}
 use Rattle.std.specs.List.{list_all, AllByRecursion}
 use Rattle.std.proofs.lemmas.Bool.{and_parts}
 use Rattle.std.proofs.lemmas.List.Elements.{filter_map-append}
-use Rattle.mufom_numbers.specs.declared.taken.Span.{Span}
 use Rattle.mufom_expr.specs.declared.token.Letter.{Letter}
 use Rattle.mufom_expr.specs.declared.token.Letter.TheVariants.{I, L, P, R, S, X}
 use Rattle.mufom_expr.specs.Tree.{Tree}
-use Rattle.mufom_expr.specs.Value.{variables_of, with_variables}
+use Rattle.mufom_expr.specs.Value.{variables_of}
 use Rattle.mufom_expr.specs.Spelled.{Indexes}
 use Rattle.mufom_expr.proofs.TermsLemmas.{with_variables-agrees_on}
 use Rattle.mufom_records.specs.declared.record.Record.{Record}
@@ -24,7 +23,7 @@ use Rattle.mufom_read.specs.declared.loads.OpenLoad.TheVariants as open_load
 use Rattle.mufom_read.specs.Stated.{indexes_in}
 use Rattle.mufom_read.specs.Kept.{tables_of, indexes_by, is_kept, as_record}
 use Rattle.mufom_read.specs.LoadsSoFar.{loads_and, no_loads, closed, with_item, with_load, units_after, units_in, units_or, loads_from, loads_so_far}
-use Rattle.mufom_read.proofs.EndedParts.{IsKept, KeptFrom}
+use Rattle.mufom_read.proofs.EndedParts.{KeptFrom}
 use Rattle.mufom_read.proofs.EndedNames.{IsSilent}
 use Rattle.mufom_read.proofs.EndedGathered.{other_part, unplaced}
 use Rattle.mufom_read.proofs.EndedTrees.{IsKnown, named_known, tree_known}

@@ -1,5 +1,5 @@
 -- A prefix with one more record, as the code keeps it.
-use Rattle.std.proofs.Common.{◌≡◌, ℕ, zero, suc, ◌+◌, ◌-◌, ◌<◌, ◌≤◌, ◌==◌, ◌&&◌, ◌||◌, Bool, true, false, not, true≢false, List, [], ◌∷◌, ◌++◌, length, map, filter_map, Option, Some, None, cond, get_or, refl, sym, ap, subst, ◌∙◌, arith, append-nil, append_assoc, length-append}
+use Rattle.std.proofs.Common.{◌≡◌, ℕ, zero, suc, ◌+◌, ◌<◌, ◌≤◌, ◌==◌, ◌&&◌, ◌||◌, Bool, true, false, not, true≢false, List, [], ◌∷◌, ◌++◌, length, map, filter_map, Option, Some, None, cond, get_or, refl, sym, ap, subst, ◌∙◌, arith, append-nil, append_assoc, length-append}
 use Rattle.std.specs.List.{list_any, last_or, cons_option}
 use Rattle.std.specs.Prelude.{All}
 use Rattle.std.proofs.lemmas.List.Elements.{All-append}
@@ -13,11 +13,13 @@ use Rattle.mufom_module.specs.Grammar.{offset_in}
 use Rattle.mufom_read.specs.declared.prefix.Prefix.{Prefix}
 use Rattle.mufom_read.specs.declared.kept.KeptRecord.{KeptRecord}
 use Rattle.mufom_read.specs.declared.tables.Tables.{Tables}
-use Rattle.mufom_read.specs.Prefixes.{Step, raw, read, step_bytes, prefix_bytes, size_of, record_of, records_of, offset_record, offset_records_of, offsets_of, first_present, OffsetRecord, awaits_items, ends_with, is_ended}
+use Rattle.mufom_read.specs.Prefixes.{Step, read, step_bytes, prefix_bytes, size_of, record_of, records_of, offset_record, offset_records_of, offsets_of, first_present, OffsetRecord, awaits_items, ends_with}
 use Rattle.mufom_read.specs.Faults.{set_by, OpenBlock, opened_after, open_from, open_blocks}
 use Rattle.mufom_read.specs.Kept.{tables_of, with_row, statements, alignment_stated, size_stated, base_stated, value_stated, weakness_stated, indexes_by, record_of_kept, placed, is_kept, kept_of, kept_alone, HasOwnParts}
 use Rattle.mufom_read.specs.LoadsSoFar.{with_load, units_after, units_in, units_or, loads_so_far}
-use Rattle.mufom_read.specs.PrefixOfCode.{AreOrdered, offset_count, IsPrefixOf, with_record, IsAddable}
+use Rattle.mufom_read.specs.PrefixOfCode.{AreOrdered, offset_count, IsPrefixOf, with_record, as_location, next_location, IsAddable}
+use Rattle.mufom_read.specs.declared.prefix.Location as code
+use Rattle.mufom_read.proofs.LocationMoves.{offsets-stay, location-moves}
 use Rattle.mufom_read.proofs.PartBytes.{KeepsBytes}
 use Rattle.mufom_read.proofs.LoadLaws.{units-more, loads-more}
 
@@ -193,9 +195,10 @@ kept-alone k = by_case (is_kept k.row) where
   by_case false = refl
 
 -- a record is added after a prefix
-pub prefix-add : (reads_debug : Bool) (f : Prefix) (prefix : List Step) (k : KeptRecord) → IsPrefixOf reads_debug f prefix → HasOwnParts k → 0 < length k.bytes → k.start ≡ f.size
-    → IsAddable reads_debug prefix k.row → KeepsBytes prefix (record_of_kept k) → IsPrefixOf reads_debug (with_record f k) (prefix ++ read (size_of prefix) (record_of_kept k) ∷ [])
-prefix-add reads_debug f prefix k is own some start fits keeps =
+pub prefix-add : (reads_debug : Bool) (f : Prefix) (prefix : List Step) (k : KeptRecord) (location : code.Location) → IsPrefixOf reads_debug f prefix → HasOwnParts k → 0 < length k.bytes → k.start ≡ f.size
+    → as_location location ≡ next_location (as_location f.location) (f.offsets ++ cons_option (offset_in k.row) []) (f.size + length k.bytes)
+    → IsAddable reads_debug prefix k.row → KeepsBytes prefix (record_of_kept k) → IsPrefixOf reads_debug (with_record f k location) (prefix ++ read (size_of prefix) (record_of_kept k) ∷ [])
+prefix-add reads_debug f prefix k location is own some start moved fits keeps =
     let p = record_of_kept k in
     let more : List Step = read (size_of prefix) p ∷ [] in
     let records : records_of (prefix ++ more) ≡ records_of prefix ++ p ∷ [] = filter_map-append record_of prefix more in
@@ -204,6 +207,10 @@ prefix-add reads_debug f prefix k is own some start fits keeps =
     let size : size_of (prefix ++ more) ≡ size_of prefix + length k.bytes = size-append prefix more ∙ ap (λ n. size_of prefix + n) (ap length (append-nil k.bytes)) in
     let offsets : offsets_of (prefix ++ more) ≡ offsets_of prefix ++ cons_option (offset_in k.row) [] =
     ap (λ ps. filter_map (λ q. offset_in q.row) ps) records ∙ filter_map-append (λ q. offset_in q.row) (records_of prefix) (p ∷ []) in
+    let new_offsets : f.offsets ++ cons_option (offset_in k.row) [] ≡ offsets_of (prefix ++ more) = ap (λ os. os ++ cons_option (offset_in k.row) []) is.offsets ∙ sym offsets in
+    let new_size : f.size + length k.bytes ≡ size_of (prefix ++ more) = ap (λ n. n + length k.bytes) is.size ∙ sym size in
+    let stay = λ (many : 10 ≤ length prefix). offsets ∙ offsets-stay (offsets_of prefix) (offset_in k.row) (omega (arith, many, keeps.count, is.count)) in
+    let moves = location-moves prefix more (λ few. refl) stay is.ordered (omega (arith, size)) in
     record {
       kept = map-append placed f.kept (kept_alone k) ∙ ap (λ ps. ps ++ map placed (kept_alone k)) is.kept
           ∙ ap (λ ps. kept_of (offset_records_of prefix) ++ ps) (kept-alone k ∙ ap (λ n. kept_of ((n, p) ∷ [])) (start ∙ is.size))
@@ -214,11 +221,11 @@ prefix-add reads_debug f prefix k is own some start fits keeps =
       ended = sym (ap ends_with last);
       own = All-append HasOwnParts f.kept (kept_alone k) is.own (alone-own k own);
       tables = ap (λ t. with_row t k.row) is.tables ∙ with-grown (tables_of (records_of prefix)) k.row ∙ sym (tables-append (records_of prefix) p) ∙ ap tables_of (sym records);
-      offsets = ap (λ os. os ++ cons_option (offset_in k.row) []) is.offsets ∙ sym offsets;
+      offsets = new_offsets;
       extension = is.extension ∙ sym keeps.extension;
       environment = is.environment ∙ sym keeps.environment;
-      steps = ap (λ n. n + 1) is.steps ∙ sym (length-append prefix more);
-      size = ap (λ n. n + length k.bytes) is.size ∙ sym size;
+      size = new_size;
+      location = moved ∙ (λ j. next_location (is.location j) (new_offsets j) (new_size j)) ∙ sym moves;
       few = omega (arith, is.few, some, size, length-append prefix more);
       blocks = ap open_blocks offsets_named ∙ open-append [] (offset_records_of prefix) ((size_of prefix, p) ∷ []) ∙ ap (λ bs. opened_after bs (size_of prefix) k.row) is.blocks ∙ none-opened (size_of prefix) k.row fits.plain;
       later = λ reads. subst (λ os. get_or os 4 0 ≡ 0) (sym offsets) (fits.later reads);

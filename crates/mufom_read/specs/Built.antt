@@ -3,7 +3,6 @@ use Rattle.std.specs.Prelude.{◌≡◌, ℕ, ◌<◌, ◌≤◌, ◌==◌, Bool
 use Rattle.std.specs.List.{cons_option}
 use Rattle.mufom_numbers.specs.Spelling.{AreBytes}
 use Rattle.mufom_expr.specs.Tree.{Tree}
-use Rattle.mufom_expr.specs.Spelled.{Indexes}
 use Rattle.mufom_records.specs.declared.record.Record.{Record}
 use Rattle.mufom_records.specs.declared.record.Record.TheVariants as r
 use Rattle.mufom_names.specs.declared.name.Note.{Note}
@@ -11,8 +10,7 @@ use Rattle.mufom_names.specs.declared.name.Weak.{Weak}
 use Rattle.mufom_module.specs.declared.module.Parts.{Parts}
 use Rattle.mufom_module.specs.Grammar.{NamesModule, Describes, file_limit}
 use Rattle.mufom_module.specs.SpelledRecords.{SpelledRecord, tree_in, Kind, public, reference}
-use Rattle.mufom_module.specs.Gathered.{answers, note_of, public_note_for, reference_note_for, sections_of, publics_of, references_of, loads_of, starts_of}
-use Rattle.mufom_read.specs.declared.tables.Tables.{Tables}
+use Rattle.mufom_module.specs.Gathered.{answers, note_of, public_note_for, reference_note_for, sections_of, publics_of, references_of, starts_of}
 use Rattle.mufom_read.specs.declared.prefix.Prefix.{Prefix}
 use Rattle.mufom_read.specs.declared.sections.SectionFacts.{SectionFacts}
 use Rattle.mufom_read.specs.declared.notes.Named.{Named}
@@ -110,8 +108,8 @@ pub record IsStatedByKept (f : Prefix) (m : Parts) : Type 0 where
   pub begins : NamesModule m begin begin.row
   pub describes : Describes m descriptor.row
   pub small : m.maus < 256
-  pub extension : m.ext ≡ f.extension
-  pub environment : m.env ≡ f.environment
+  pub extension : m.ext ≡ f.extension.items
+  pub environment : m.env ≡ f.environment.items
   pub sections : m.sections ≡ sections_of (map record_of_kept f.kept)
   pub publics : m.names.publics ≡ publics_of (indexes_by f.tables) (map record_of_kept f.kept)
   pub references : m.names.references ≡ references_of (map record_of_kept f.kept)

@@ -17,6 +17,7 @@ use Rattle.mufom_read.specs.declared.tables.Tables.{Tables}
 use Rattle.std.specs.Option.{option_or}
 use Rattle.mufom_records.specs.Parts.{HasParts}
 use Rattle.mufom_read.specs.declared.kept.KeptRecord.{KeptRecord}
+use Rattle.mufom_read.specs.declared.kept.SeenRecord.{SeenRecord}
 use Rattle.mufom_read.specs.declared.refusal.ReadRefusal.{ReadRefusal}
 use Rattle.mufom_read.specs.Prefixes.{OffsetRecord}
 use Rattle.mufom_read.specs.Faults.{Fault, fault_if, current_section, has_bad_alignment, absolute_declared, public_declared}
@@ -183,6 +184,10 @@ as_record row bytes = record { row = row; bytes = bytes }
 
 abbrev pub kept_record : ℕ → Record → List ℕ → KeptRecord
 kept_record start row bytes = record { start = start; row = row; bytes = bytes }
+
+-- the record that is judged, with a copy of its bytes
+abbrev pub kept_of_seen : SeenRecord → KeptRecord
+kept_of_seen s = kept_record s.start s.row s.bytes.now
 
 -- and its offset
 abbrev pub placed : KeptRecord → OffsetRecord

@@ -1,5 +1,5 @@
 -- The loads that the records read so far give, and what still awaits items.
-use Rattle.std.specs.Prelude.{ℕ, min, List, [], ◌∷◌, ◌++◌, Option, Some, None, unwrap_or}
+use Rattle.std.specs.Prelude.{ℕ, min, Bool, true, false, List, [], ◌∷◌, ◌++◌, Option, Some, None, unwrap_or}
 use Rattle.mufom_expr.specs.Spelled.{Indexes}
 use Rattle.mufom_records.specs.declared.record.Record.{Record}
 use Rattle.mufom_records.specs.declared.record.Record.TheVariants as r
@@ -35,6 +35,12 @@ abbrev pub with_item : List Load → OpenLoad → Item → Loads
 with_item loads open_load.Nothing item = loads_and loads open_load.Nothing
 with_item loads open_load.Relocate item = loads_and (loads ++ One item ∷ []) open_load.Relocate
 with_item loads (open_load.Repeat count items) item = loads_and loads (open_load.Repeat count (items ++ item ∷ []))
+
+-- the record is an item
+abbrev pub is_item : Record → Bool
+is_item (r.ConstantItem run) = true
+is_item (r.FieldItem kind value size) = true
+is_item _ = false
 
 -- what awaits items after a record that is no item
 abbrev pub opened_by : Record → OpenLoad

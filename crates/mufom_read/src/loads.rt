@@ -1,14 +1,18 @@
 //! The loads so far, and what awaits items.
 
-ghost use Rattle.std.specs.Prelude.{◌≡◌, [], ◌∷◌, ◌++◌, IfOk, OnOk};
+ghost use Rattle.std.specs.Prelude.{◌≡◌, [], ◌∷◌, ◌++◌, IfOk, OnOk, option_map, Some, true};
+ghost use Rattle.mufom_expr.specs.Tree.{Tree};
+ghost use Rattle.mufom_expr.specs.Spelled.{Indexes};
+ghost use Rattle.mufom_module.specs.SpelledRecords as records;
 ghost use Rattle.mufom_module.specs.Gathered as gathered;
-ghost use Rattle.mufom_read.specs.Kept.{indexes_by, record_of_kept, HasOwnParts};
-ghost use Rattle.mufom_read.specs.LoadsSoFar.{loads_and, no_loads, closed, with_item, opened_by, loads_at_once, with_load};
+ghost use Rattle.mufom_read.specs.Kept.{indexes_by, record_of_kept, kept_of_seen, HasOwnParts};
+ghost use Rattle.mufom_read.specs.LoadsSoFar.{loads_and, no_loads, closed, with_item, opened_by, is_item, loads_at_once, with_load};
 ghost use Rattle.mufom_read.specs.declared.loads.OpenLoad.TheVariants as open_load;
 
-use crate::kept::KeptRecord;
-use crate::positions::{position_in, value_in};
+use crate::kept::SeenRecord;
+use crate::positions::{position_in, renamed};
 use crate::tables::Tables;
+use mufom_expr::Postfix;
 use mufom_loads::{Item, Load};
 use mufom_numbers::{List, NoMemory};
 use mufom_records::Record;
@@ -32,30 +36,45 @@ pub(crate) struct Loads {
     pub awaiting: OpenLoad,
 }
 
-// The item that the record is, if it is one. A field without a size has the size of an address.
-fn item_by(
+// Whether the record is an item.
+fn is_item(record: &Record) -> bool
+    ensures { result ≡ is_item «record».now }
+{
+    match record {
+        Record::ConstantItem(_) => true,
+        Record::FieldItem(..) => true,
+        _ => false,
+    }
+}
+
+// The item that the record is, with this value. A field without a size has the size of an address.
+fn item_of(
     alloc: Global,
-    tables: &Tables,
     maus: u8,
-    record: &KeptRecord,
-) -> Result<Option<Item>, NoMemory>
-    requires { HasOwnParts «record».now }
-    ensures { IfOk result (λ item. item ≡ gathered.item_by (indexes_by tables.now) maus (record_of_kept «record».now) «record».now.row) }
+    record: &SeenRecord,
+    value: Option<Postfix>,
+) -> Result<Item, NoMemory>
+    requires own { HasOwnParts (kept_of_seen «record».now) }
+    requires item { is_item «record».now.row ≡ true }
+    requires value { (ix : Indexes) × (value ≡ option_map (records.positioned ix) (records.tree_of_record (record_of_kept (kept_of_seen «record».now)))) }
+    ensures { IfOk result (λ item. (ix : Indexes)
+        → value ≡ option_map (records.positioned ix) (records.tree_of_record (record_of_kept (kept_of_seen «record».now)))
+        → gathered.item_by ix maus (record_of_kept (kept_of_seen «record».now)) «record».now.row ≡ Some item) }
 {
     match &record.row {
         Record::ConstantItem(run) => {
             let bytes = record.copy_text(alloc, *run)?;
-            Ok(Some(Item::Literal(bytes)))
+            Ok(Item::Literal(bytes))
         }
-        Record::FieldItem(kind, span, size) => {
-            let value = value_in(alloc, tables, record, *span)?;
-            Ok(Some(Item::Field {
+        Record::FieldItem(kind, _, size) => match value {
+            Some(value) => Ok(Item::Field {
                 kind: *kind,
                 value,
                 size: size.unwrap_or(maus),
-            }))
-        }
-        _ => Ok(None),
+            }),
+            None => unreachable!(),
+        },
+        _ => unreachable!(),
     }
 }
 
@@ -82,25 +101,37 @@ fn one_item(alloc: Global, item: Item) -> Result<List<Item>, NoMemory>
     Ok(items)
 }
 
-// Adds the loads of a record that is no item, but for those that await items.
+// The load that sets the program counter of the section to this value.
+fn set_pc(tables: &Tables, index: u32, value: Option<Postfix>) -> Load
+    requires { (tree : Tree) × (value ≡ Some tree) }
+    ensures { (tree : Tree) → value ≡ Some tree → result ≡ Load.SetPc (records.position_in tables.now.sections index) tree }
+{
+    let section = position_in(&tables.sections, index);
+    match value {
+        Some(value) => Load::SetPc { section, value },
+        None => unreachable!(),
+    }
+}
+
+// Adds the loads of a record that is no item, with this value, but for those that await items.
 fn add_loads(
     alloc: Global,
     tables: &Tables,
     loads: &mut List<Load>,
-    record: &KeptRecord,
+    record: &SeenRecord,
+    value: Option<Postfix>,
 ) -> Result<(), NoMemory>
-    requires { HasOwnParts «record».now }
-    ensures { OnOk result (loads.new ≡ loads.old ++ loads_at_once (indexes_by tables.now) (record_of_kept «record».now) «record».now.row) }
+    requires own { HasOwnParts (kept_of_seen «record».now) }
+    requires value { value
+        ≡ option_map (records.positioned (indexes_by tables.now)) (records.tree_of_record (record_of_kept (kept_of_seen «record».now))) }
+    ensures { OnOk result (loads.new ≡ loads.old
+        ++ loads_at_once (indexes_by tables.now) (record_of_kept (kept_of_seen «record».now)) «record».now.row) }
 {
     match &record.row {
         Record::SetSection(index) => {
             loads.push(Load::SetSection(position_in(&tables.sections, *index)))
         }
-        Record::SetPc(index, span) => {
-            let section = position_in(&tables.sections, *index);
-            let value = value_in(alloc, tables, record, *span)?;
-            loads.push(Load::SetPc { section, value })
-        }
+        Record::SetPc(index, _) => loads.push(set_pc(tables, *index, value)),
         Record::Constant(run) => {
             let bytes = record.copy_text(alloc, *run)?;
             loads.push(Load::One(Item::Literal(bytes)))
@@ -150,37 +181,46 @@ impl Loads {
         }
     }
 
-    // Takes a record that is no item.
+    // Takes a record that is no item, with this value.
     fn take_other(
         &mut self,
         alloc: Global,
         tables: &Tables,
-        record: &KeptRecord,
+        record: &SeenRecord,
+        value: Option<Postfix>,
     ) -> Result<(), NoMemory>
-        requires { HasOwnParts «record».now }
+        requires own { HasOwnParts (kept_of_seen «record».now) }
+        requires value { value
+            ≡ option_map (records.positioned (indexes_by tables.now)) (records.tree_of_record (record_of_kept (kept_of_seen «record».now))) }
         ensures { OnOk result (self.new ≡ loads_and
-            (closed self.old ++ loads_at_once (indexes_by tables.now) (record_of_kept «record».now) «record».now.row)
+            (closed self.old ++ loads_at_once (indexes_by tables.now) (record_of_kept (kept_of_seen «record».now)) «record».now.row)
             (opened_by «record».now.row)) }
     {
         self.close()?;
         self.awaiting = opened_by(alloc, &record.row);
-        add_loads(alloc, tables, &mut self.loads, record)
+        add_loads(alloc, tables, &mut self.loads, record, value)
     }
 
-    /// Takes the next record, by the indexes that those before it declare and with these units in an address.
+    /// Takes the next record, with its expression over the indexes of the file, by the indexes that those before it declare
+    /// and with these units in an address.
     pub(crate) fn take(
         &mut self,
         alloc: Global,
         tables: &Tables,
         maus: u8,
-        record: &KeptRecord,
+        record: &SeenRecord,
+        tree: Option<Postfix>,
     ) -> Result<(), NoMemory>
-        requires { HasOwnParts «record».now }
-        ensures { OnOk result (self.new ≡ with_load (indexes_by tables.now) maus self.old (record_of_kept «record».now)) }
+        requires own { HasOwnParts (kept_of_seen «record».now) }
+        requires tree { tree ≡ records.tree_of_record (record_of_kept (kept_of_seen «record».now)) }
+        ensures { OnOk result (self.new ≡ with_load (indexes_by tables.now) maus self.old (record_of_kept (kept_of_seen «record».now))) }
     {
-        match item_by(alloc, tables, maus, record)? {
-            Some(item) => self.add_item(item),
-            None => self.take_other(alloc, tables, record),
+        let value = renamed(tables, tree);
+        if is_item(&record.row) {
+            let item = item_of(alloc, maus, record, value)?;
+            self.add_item(item)
+        } else {
+            self.take_other(alloc, tables, record, value)
         }
     }
 }

@@ -70,6 +70,16 @@ pub(crate) fn positioned(
     tree.map_vars(alloc, &Positions { tables })
 }
 
+/// The expression itself with positions in place of the indexes of the file, where there is one. Takes no memory.
+pub(crate) fn renamed(tables: &Tables, tree: Option<Postfix>) -> Option<Postfix>
+    ensures { result ≡ option_map (records.positioned (indexes_by tables.now)) tree }
+{
+    match tree {
+        None => None,
+        Some(tree) => Some(tree.renamed(&Positions { tables })),
+    }
+}
+
 /// The expression at a part of the record, with positions in place of indexes.
 pub(crate) fn value_in(
     alloc: Global,

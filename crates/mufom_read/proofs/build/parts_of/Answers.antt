@@ -29,7 +29,7 @@ returns c = λ m stated.
     let layout = c.layout_of-maus.ensures m (describes-here c.args.prefix m stated c.descriptor_of.result.now (c.descriptor_of.ensures stated.begin stated.descriptor stated.after all)) in
     let ps = ap (map record_of_kept) c.as_slice-records.ensures in
     let ix = indexes_by c.args.prefix.tables in
-    the-parts c.args.prefix m _ stated names layout refl refl
+    the-parts c.args.prefix m _ stated names layout c.from_vec.ensures c.from_vec-2.ensures
     (c.in_ok-sections.ensures ∙ ap sections_of ps)
     (c.in_ok-names.ensures.publics ∙ ap (publics_of ix) ps)
     (c.in_ok-names.ensures.references ∙ ap references_of ps)
