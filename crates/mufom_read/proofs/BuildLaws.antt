@@ -1,5 +1,5 @@
 -- What a whole prefix states, as the code keeps it.
-use Rattle.std.proofs.Common.{◌≡◌, ℕ, ◌<◌, ◌==◌, ◌||◌, ◌≤◌, Bool, true, false, List, [], ◌∷◌, map, refl, sym, ap, subst, ◌∙◌, arith, eqb-true, slice_get, Option, Some, None, option_to_list, is_some, drop, get_or, ◌+◌, length, nat_le}
+use Rattle.std.proofs.Common.{◌≡◌, ℕ, ◌<◌, ◌≤◌, nat_le, Bool, true, false, min, List, [], ◌∷◌, ◌++◌, map, refl, sym, ap, subst, ◌∙◌, arith, slice_get, Option, Some, None, option_to_list, is_some, drop, get_or, ◌+◌, length}
 use Rattle.std.proofs.lemmas.Bool.{and_parts, leb-true}
 use Rattle.std.specs.List.{cons_option}
 use Rattle.mufom_expr.specs.Spelled.{Indexes}
@@ -9,44 +9,52 @@ use Rattle.mufom_module.specs.declared.module.Parts.{Parts}
 use Rattle.mufom_module.specs.Defects.{is_unit_count}
 use Rattle.mufom_module.specs.SpelledRecords.{SpelledRecord, bytes_of, declared, section, public, reference, debug_name}
 use Rattle.mufom_module.specs.Gathered.{sections_of, publics_of, references_of, loads_of, start_by, starts_of}
-use Rattle.mufom_module.specs.RecordParts.{extension_part, environment_part}
-use Rattle.mufom_module.specs.Grammar.{SpellsModule, NamesModule, Describes, header_of, parts_of, offsets_in, StandAt}
+use Rattle.mufom_module.specs.RecordParts.{extension_part, environment_part, section_part, external_part, trailer_part, end_part}
+use Rattle.mufom_module.specs.Grammar.{SpellsModule, NamesModule, Describes, header_of, indexes_of, parts_of, offsets_in, StandAt}
 use Rattle.mufom_read.specs.declared.prefix.Prefix.{Prefix}
 use Rattle.mufom_read.specs.declared.kept.KeptRecord.{KeptRecord}
-use Rattle.mufom_read.specs.Prefixes.{Step, raw, read, records_of, offsets_of, OffsetRecord, offset_records_of}
+use Rattle.mufom_read.specs.Prefixes.{Step, records_of, offsets_of}
 use Rattle.mufom_read.specs.Faults.{is_bad_descriptor}
-use Rattle.mufom_read.specs.Kept.{record_of_kept, placed, tables_of}
+use Rattle.mufom_read.specs.Kept.{record_of_kept, tables_of, kept_records, indexes_by}
+use Rattle.mufom_read.specs.LoadsSoFar.{units_after, units_from, units_in, loads_so_far}
+use Rattle.mufom_read.specs.declared.loads.Loads.{Loads}
 use Rattle.mufom_read.specs.PrefixOfCode.{IsPrefixOf}
 use Rattle.mufom_read.specs.Stated.{indexes_in}
-use Rattle.mufom_read.specs.Built.{indexes_by, IsStatedByKept, IsWhole}
+use Rattle.mufom_read.specs.Built.{IsStatedByKept, IsWhole}
 use Rattle.mufom_read.proofs.EndedSliced.{Sliced}
-use Rattle.mufom_read.proofs.EndedStated.{stated_by, units_of, stand_parts, same_ix, is_stated}
+use Rattle.mufom_read.proofs.EndedStated.{stated_by, states, units_of, stand_parts, sorted, same_ix, is_stated}
+use Rattle.mufom_read.proofs.EndedRows.{IsBegin, IsDescriptor}
+use Rattle.mufom_read.proofs.EndedGathered.{AreSorted, all_records, end_alone, same_sections, same_publics, same_references, same_starts}
+use Rattle.mufom_read.proofs.KeptRecords.{kept-records, kept-file}
+use Rattle.mufom_read.proofs.LoadsWhole.{others-kept, silent-kept, kept-append, loads-whole}
 use Rattle.mufom_read.proofs.PartBytes.{so-far}
 use Rattle.mufom_read.proofs.EndedPrefix.{ended_sliced}
 use Rattle.mufom_read.proofs.LoadLaws.{from-offset}
 use Rattle.mufom_read.proofs.WeighFiles.{files_weigh}
 
-records_placed : (prefix : List Step) → records_of prefix ≡ map (λ (p : OffsetRecord). p.1) (offset_records_of prefix)
-records_placed [] = refl
-records_placed (raw b ∷ prefix) = records_placed prefix
-records_placed (read start p ∷ prefix) = ap (λ ps. p ∷ ps) (records_placed prefix)
-
-same_records : (ks : List KeptRecord) → map (λ (p : OffsetRecord). p.1) (map placed ks) ≡ map record_of_kept ks
-same_records [] = refl
-same_records (k ∷ ks) = ap (λ ps. record_of_kept k ∷ ps) (same_records ks)
-
--- the records that the code keeps are those of the prefix
-pub kept-records : (reads_debug : Bool) (f : Prefix) (prefix : List Step) → IsPrefixOf reads_debug f prefix → map record_of_kept f.kept ≡ records_of prefix
-kept-records reads_debug f prefix is = sym (records_placed prefix ∙ ap (map (λ (p : OffsetRecord). p.1)) (sym is.kept) ∙ same_records f.kept)
-
-few_units : (n : ℕ) → is_unit_count n ≡ true → n < 256
-few_units n h = let most = leb-true n 8 (and_parts (nat_le 1 n) (nat_le n 8) h).1 in omega (arith, most)
+few_units : (n : ℕ) → is_unit_count n ≡ true → n ≤ 8
+few_units n h = leb-true n 8 (and_parts (nat_le 1 n) (nat_le n 8) h).1
 
 -- the index lists of the tables are those of the records
 tables_ix : (reads_debug : Bool) (prefix : List Step) (s : Sliced reads_debug prefix) → indexes_in (records_of prefix) ≡ indexes_by (tables_of (records_of prefix))
 tables_ix reads_debug prefix s =
     let none = ap (λ (ix : Indexes). ix.debug_names) (same_ix reads_debug prefix s) ∙ ap (declared debug_name) s.no_debug in
     (λ k. record { sections = declared section (records_of prefix); publics = declared public (records_of prefix); references = declared reference (records_of prefix); debug_names = none k })
+
+-- ---- the units of an address
+
+units_stay : (n : ℕ) (ps : List SpelledRecord) → units_from (Some n) ps ≡ Some n
+units_stay n [] = refl
+units_stay n (p ∷ ps) = units_stay n ps
+
+least_units : (n : ℕ) → n ≤ 8 → min n 8 ≡ n
+least_units n h = omega arith
+
+-- the units that the first two records give
+first-units : (begin descriptor : SpelledRecord) (ps : List SpelledRecord) (maus : ℕ) → (b : IsBegin begin.row) → (d : IsDescriptor descriptor.row) → d.1 ≡ maus → is_unit_count maus ≡ true → units_in (begin ∷ descriptor ∷ ps) ≡ Some maus
+first-units begin descriptor ps maus b d same counted =
+    (λ k. units_from (units_after (units_after None (b.2 k)) (d.3 k)) ps)
+    ∙ units_stay (min d.1 8) ps ∙ ap (λ (n : ℕ). Some (min n 8)) same ∙ ap (λ (n : ℕ). Some n) (least_units maus (few_units maus counted))
 
 -- an ended prefix has its header
 stand_count : (offsets : List ℕ) (at : ℕ) (parts : List (List ℕ)) → StandAt offsets at parts → length offsets ≡ length parts + 1
@@ -61,28 +69,44 @@ has_header reads_debug f prefix is s =
 
 stated_of : (reads_debug : Bool) (f : Prefix) (prefix : List Step) (bytes : List ℕ) → IsWhole reads_debug f prefix bytes → (s : Sliced reads_debug prefix) → IsStatedByKept f (stated_by reads_debug prefix s)
 stated_of reads_debug f prefix bytes is s =
-    let m = stated_by reads_debug prefix s in
     let stated = is_stated reads_debug prefix s in
-    let ps = sym (kept-records reads_debug f prefix is.kept) in
-    let ix : indexes_in (records_of prefix) ≡ indexes_by f.tables = tables_ix reads_debug prefix s ∙ ap indexes_by (sym is.kept.tables) in
+    let its = states reads_debug prefix s in
+    let maus = s.describes.1 in
+    let ordered = sorted reads_debug prefix s in
+    let quiet = silent-kept (header_of s.f) s.silent in
+    let sections = others-kept section_part refl s.f.sections ordered.sections in
+    let externals = others-kept external_part refl s.f.externals ordered.externals in
+    let trailer = others-kept trailer_part refl s.f.trailer ordered.trailer in
+    let end = (others-kept end_part refl (s.end ∷ []) (end_alone s.end s.ends)).0 in
+    let rest : AreSorted (header_of s.f) s.f.sections s.f.externals [] s.f.trailer s.end =
+    record { header = ordered.header; sections = ordered.sections; externals = ordered.externals; loads = refl; trailer = ordered.trailer; end_ = ordered.end_ } in
+    let kept : map record_of_kept f.kept ≡ all_records (header_of s.f) s.f.sections s.f.externals [] s.f.trailer s.end =
+    kept-records reads_debug f prefix is.kept ∙ ap kept_records s.records ∙ kept-file (header_of s.f) s.f.sections s.f.externals s.f.loads s.f.trailer s.end quiet sections externals ordered.loads trailer end in
+    let ix : indexes_of s.f ≡ indexes_by f.tables = sym (same_ix reads_debug prefix s) ∙ tables_ix reads_debug prefix s ∙ ap indexes_by (sym is.kept.tables) in
     let many = has_header reads_debug f prefix is.kept s in
-    let units = units_of s.describes.0 s.describes.1 s.describes.2 (subst (λ (row : Record). is_bad_descriptor row ≡ false) s.describes.3 s.no_bad) in
+    let counted = units_of s.describes.0 s.describes.1 s.describes.2 (subst (λ (row : Record). is_bad_descriptor row ≡ false) s.describes.3 s.no_bad) in
+    let before = (header_of s.f ++ s.f.sections) ++ s.f.externals in
+    let given : units_in before ≡ Some maus = first-units s.f.begin s.f.descriptor ((s.f.offsets ++ s.f.sections) ++ s.f.externals) maus s.begins s.describes refl counted.1 in
+    let loads : (loads_so_far (records_of prefix)).loads ≡ loads_of (indexes_of s.f) maus s.f.loads =
+    ap (λ (ps : List SpelledRecord). (loads_so_far ps).loads) s.records
+    ∙ loads-whole maus (indexes_of s.f) before s.f.loads s.f.trailer s.end (kept-append (header_of s.f ++ s.f.sections) s.f.externals (kept-append (header_of s.f) s.f.sections quiet sections) externals) trailer end
+    (ap indexes_in (sym s.records) ∙ same_ix reads_debug prefix s) given s.keep_loads in
     record {
-      begin = stated.begin;
-      descriptor = stated.descriptor;
-      after = stated.after;
-      records = sym ps ∙ stated.records;
-      begins = stated.begins;
-      describes = stated.describes;
-      small = few_units s.describes.1 units.1;
+      begin = s.f.begin;
+      descriptor = s.f.descriptor;
+      after = (((s.f.offsets ++ s.f.sections) ++ s.f.externals) ++ []) ++ s.f.trailer ++ s.end ∷ [];
+      records = kept;
+      begins = its.begin;
+      describes = its.descriptor;
+      small = (let few = few_units maus counted.1 in omega (arith, few));
       extension = stated.extension ∙ sym (is.kept.extension ∙ so-far extension_part prefix many);
       environment = stated.environment ∙ sym (is.kept.environment ∙ so-far environment_part prefix many);
-      sections = stated.sections ∙ ap sections_of ps;
-      publics = stated.publics ∙ (λ k. publics_of (ix k) (ps k));
-      references = stated.references ∙ ap references_of ps;
+      sections = its.sections ∙ sym (ap sections_of kept ∙ same_sections (header_of s.f) s.f.sections s.f.externals [] s.f.trailer s.end rest);
+      publics = its.publics ∙ sym (same_publics (indexes_of s.f) (header_of s.f) s.f.sections s.f.externals [] s.f.trailer s.end rest) ∙ (λ k. publics_of (ix k) (sym kept k));
+      references = its.references ∙ sym (ap references_of kept ∙ same_references (header_of s.f) s.f.sections s.f.externals [] s.f.trailer s.end rest);
       debug = refl;
-      loads = stated.loads ∙ (λ k. loads_of (ix k) m.maus (ps k));
-      start = stated.start ∙ (λ k. starts_of (ix k) (ps k));
+      loads = its.loads ∙ sym (ap (λ (l : Loads). l.loads) is.kept.loads ∙ loads);
+      start = its.start ∙ sym (same_starts (indexes_of s.f) (header_of s.f) s.f.sections s.f.externals [] s.f.trailer s.end rest) ∙ (λ k. starts_of (ix k) (sym kept k));
     }
 
 sliced-stated : (reads_debug : Bool) (f : Prefix) (prefix : List Step) (bytes : List ℕ) → IsWhole reads_debug f prefix bytes → (s : Sliced reads_debug prefix) → SpellsModule (stated_by reads_debug prefix s) bytes reads_debug
@@ -129,9 +153,9 @@ describes-here f m stated k e = subst (λ (p : SpelledRecord). Describes m p.row
 -- ---- all parts
 
 -- parts that are as the records and the bytes state are those of the module
-pub the-parts : (f : Prefix) (m p : Parts) → IsStatedByKept f m → (p.processor ≡ m.processor) × (p.name ≡ m.name) → (p.maus ≡ m.maus) × (p.order ≡ m.order) → p.ext ≡ f.extension → p.env ≡ f.environment
+pub the-parts : (f : Prefix) (m p : Parts) → IsStatedByKept f m → (p.processor ≡ m.processor) × (p.name ≡ m.name) → (p.maus ≡ m.maus) × (p.order ≡ m.order) → p.ext ≡ f.extension.items → p.env ≡ f.environment.items
     → p.sections ≡ sections_of (map record_of_kept f.kept) → p.names.publics ≡ publics_of (indexes_by f.tables) (map record_of_kept f.kept) → p.names.references ≡ references_of (map record_of_kept f.kept)
-    → p.debug ≡ [] → p.loads ≡ loads_of (indexes_by f.tables) p.maus (map record_of_kept f.kept) → p.start ≡ slice_get (starts_of (indexes_by f.tables) (map record_of_kept f.kept)) 0 → p ≡ m
+    → p.debug ≡ [] → p.loads ≡ f.loads.loads → p.start ≡ slice_get (starts_of (indexes_by f.tables) (map record_of_kept f.kept)) 0 → p ≡ m
 the-parts f m p stated names layout ext env sections publics references debug loads start =
     let processor = names.0 in
     let name = names.1 in
@@ -143,7 +167,7 @@ the-parts f m p stated names layout ext env sections publics references debug lo
     let same_publics = publics ∙ sym stated.publics in
     let same_references = references ∙ sym stated.references in
     let same_debug = debug ∙ sym stated.debug in
-    let same_loads = loads ∙ ap (λ n. loads_of (indexes_by f.tables) n (map record_of_kept f.kept)) maus ∙ sym stated.loads in
+    let same_loads = loads ∙ sym stated.loads in
     let same_start = start ∙ first-start m.start (starts_of (indexes_by f.tables) (map record_of_kept f.kept)) stated.start in
     (λ i. record {
       processor = processor i;

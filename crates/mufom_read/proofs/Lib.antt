@@ -12,6 +12,7 @@ pub mod NearFaults
 pub mod RecordFacts
 pub mod StepLaws
 pub mod PlaceLaws
+pub mod LocationMoves
 pub mod PartBytes
 pub mod RawLaws
 pub mod TakeLaws
@@ -31,6 +32,10 @@ pub mod EndedGood
 pub mod EndedEntries
 pub mod EndedLoads
 pub mod LoadLaws
+pub mod Stable
+pub mod LoadsFold
+pub mod LoadsWhole
+pub mod KeptRecords
 pub mod SpelledWalk
 pub mod SpelledHeader
 pub mod SpelledParts

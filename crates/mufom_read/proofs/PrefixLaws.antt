@@ -1,9 +1,9 @@
 -- A prefix with one more record, as the code keeps it.
-use Rattle.std.proofs.Common.{◌≡◌, ℕ, zero, suc, ◌+◌, ◌-◌, ◌<◌, ◌≤◌, ◌==◌, ◌&&◌, ◌||◌, Bool, true, false, not, true≢false, List, [], ◌∷◌, ◌++◌, length, map, filter_map, Option, Some, None, option_map, get_or, refl, sym, ap, subst, ◌∙◌, arith, append-nil, append_assoc, length-append}
+use Rattle.std.proofs.Common.{◌≡◌, ℕ, zero, suc, ◌+◌, ◌<◌, ◌≤◌, ◌==◌, ◌&&◌, ◌||◌, Bool, true, false, not, true≢false, List, [], ◌∷◌, ◌++◌, length, map, filter_map, Option, Some, None, cond, get_or, refl, sym, ap, subst, ◌∙◌, arith, append-nil, append_assoc, length-append}
 use Rattle.std.specs.List.{list_any, last_or, cons_option}
 use Rattle.std.specs.Prelude.{All}
 use Rattle.std.proofs.lemmas.List.Elements.{All-append}
-use Rattle.std.proofs.lemmas.List.Elements.{filter_map-append}
+use Rattle.std.proofs.lemmas.List.Elements.{filter-append, filter_map-append}
 use Rattle.std.proofs.lemmas.List.Folds.{list_any-append}
 use Rattle.mufom_records.specs.declared.record.Record.{Record}
 use Rattle.mufom_records.specs.declared.record.Record.TheVariants as r
@@ -13,11 +13,15 @@ use Rattle.mufom_module.specs.Grammar.{offset_in}
 use Rattle.mufom_read.specs.declared.prefix.Prefix.{Prefix}
 use Rattle.mufom_read.specs.declared.kept.KeptRecord.{KeptRecord}
 use Rattle.mufom_read.specs.declared.tables.Tables.{Tables}
-use Rattle.mufom_read.specs.Prefixes.{Step, raw, read, step_bytes, prefix_bytes, size_of, record_of, records_of, offset_record, offset_records_of, offsets_of, first_present, OffsetRecord, awaits_items, ends_with, is_ended}
+use Rattle.mufom_read.specs.Prefixes.{Step, read, step_bytes, prefix_bytes, size_of, record_of, records_of, offset_record, offset_records_of, offsets_of, first_present, OffsetRecord, awaits_items, ends_with}
 use Rattle.mufom_read.specs.Faults.{set_by, OpenBlock, opened_after, open_from, open_blocks}
-use Rattle.mufom_read.specs.Kept.{tables_of, with_row, statements, alignment_stated, size_stated, base_stated, value_stated, weakness_stated, record_of_kept, placed, HasOwnParts}
-use Rattle.mufom_read.specs.PrefixOfCode.{AreOrdered, offset_count, IsPrefixOf, with_record, IsAddable}
+use Rattle.mufom_read.specs.Kept.{tables_of, with_row, statements, alignment_stated, size_stated, base_stated, value_stated, weakness_stated, indexes_by, record_of_kept, placed, is_kept, kept_of, kept_alone, HasOwnParts}
+use Rattle.mufom_read.specs.LoadsSoFar.{with_load, units_after, units_in, units_or, loads_so_far}
+use Rattle.mufom_read.specs.PrefixOfCode.{AreOrdered, offset_count, IsPrefixOf, with_record, as_location, next_location, IsAddable}
+use Rattle.mufom_read.specs.declared.prefix.Location as code
+use Rattle.mufom_read.proofs.LocationMoves.{offsets-stay, location-moves}
 use Rattle.mufom_read.proofs.PartBytes.{KeepsBytes}
+use Rattle.mufom_read.proofs.LoadLaws.{units-more, loads-more}
 
 -- ---- lists with one more
 
@@ -56,7 +60,7 @@ grown t row = record {
   has_start = t.has_start || list_any (is_same_statement start_address) (cons_option (assigned_by row) []);
 }
 
-same_tables : (t u : Tables) → t.sections ≡ u.sections → t.publics ≡ u.publics → t.references ≡ u.references → t.alignments ≡ u.alignments → t.sizes ≡ u.sizes → t.bases ≡ u.bases
+pub same_tables : (t u : Tables) → t.sections ≡ u.sections → t.publics ≡ u.publics → t.references ≡ u.references → t.alignments ≡ u.alignments → t.sizes ≡ u.sizes → t.bases ≡ u.bases
     → t.values ≡ u.values → t.weaknesses ≡ u.weaknesses → t.current ≡ u.current → t.has_start ≡ u.has_start → t ≡ u
 unfolding made
 same_tables t u a b c d e f g h i j =
@@ -168,32 +172,60 @@ none-opened start (r.Start a) plain = refl
 
 -- ---- the prefix
 
-all_snoc : {A : Type 0} (P : A → Type 0) (xs : List A) (x : A) → All P xs → P x → All P (xs ++ x ∷ [])
-all_snoc P xs x all one_ = All-append P xs (x ∷ []) all (λ k d below. subst P (sym (first k d below)) one_) where
+all_one : {A : Type 0} (P : A → Type 0) (x : A) → P x → All P (x ∷ [])
+all_one P x one_ k d below = subst P (sym (first k d below)) one_ where
   first : (k : ℕ) (d : _) → k < 1 → get_or (x ∷ []) k d ≡ x
   first zero d below = refl
   first (suc k) d below = absurd (omega (arith, below))
 
+-- none is kept
+pub none-own : (kept : List KeptRecord) → kept ≡ [] → All HasOwnParts kept
+none-own kept none = subst (All HasOwnParts) (sym none) (λ k d below. absurd (omega (arith, below)))
+
+alone-own : (k : KeptRecord) → HasOwnParts k → All HasOwnParts (kept_alone k)
+alone-own k own = by_case (is_kept k.row) where
+  by_case : (b : Bool) → All HasOwnParts (cond b (k ∷ []) [])
+  by_case true = all_one HasOwnParts k own
+  by_case false = none-own [] refl
+
+kept-alone : (k : KeptRecord) → map placed (kept_alone k) ≡ kept_of (placed k ∷ [])
+kept-alone k = by_case (is_kept k.row) where
+  by_case : (b : Bool) → map placed (cond b (k ∷ []) []) ≡ cond b (placed k ∷ []) []
+  by_case true = refl
+  by_case false = refl
+
 -- a record is added after a prefix
-pub prefix-add : (reads_debug : Bool) (f : Prefix) (prefix : List Step) (k : KeptRecord) → IsPrefixOf reads_debug f prefix → HasOwnParts k → 0 < length k.bytes → k.start ≡ f.size
-    → IsAddable reads_debug prefix k.row → KeepsBytes prefix (record_of_kept k) → IsPrefixOf reads_debug (with_record f k) (prefix ++ read (size_of prefix) (record_of_kept k) ∷ [])
-prefix-add reads_debug f prefix k is own some start fits keeps =
+pub prefix-add : (reads_debug : Bool) (f : Prefix) (prefix : List Step) (k : KeptRecord) (location : code.Location) → IsPrefixOf reads_debug f prefix → HasOwnParts k → 0 < length k.bytes → k.start ≡ f.size
+    → as_location location ≡ next_location (as_location f.location) (f.offsets ++ cons_option (offset_in k.row) []) (f.size + length k.bytes)
+    → IsAddable reads_debug prefix k.row → KeepsBytes prefix (record_of_kept k) → IsPrefixOf reads_debug (with_record f k location) (prefix ++ read (size_of prefix) (record_of_kept k) ∷ [])
+prefix-add reads_debug f prefix k location is own some start moved fits keeps =
     let p = record_of_kept k in
     let more : List Step = read (size_of prefix) p ∷ [] in
     let records : records_of (prefix ++ more) ≡ records_of prefix ++ p ∷ [] = filter_map-append record_of prefix more in
     let offsets_named : offset_records_of (prefix ++ more) ≡ offset_records_of prefix ++ (size_of prefix, p) ∷ [] = filter_map-append offset_record prefix more in
+    let last : last_or None (records_of (prefix ++ more)) ≡ Some p = ap (last_or None) records ∙ last-append None (records_of prefix) (p ∷ []) in
     let size : size_of (prefix ++ more) ≡ size_of prefix + length k.bytes = size-append prefix more ∙ ap (λ n. size_of prefix + n) (ap length (append-nil k.bytes)) in
     let offsets : offsets_of (prefix ++ more) ≡ offsets_of prefix ++ cons_option (offset_in k.row) [] =
     ap (λ ps. filter_map (λ q. offset_in q.row) ps) records ∙ filter_map-append (λ q. offset_in q.row) (records_of prefix) (p ∷ []) in
+    let new_offsets : f.offsets ++ cons_option (offset_in k.row) [] ≡ offsets_of (prefix ++ more) = ap (λ os. os ++ cons_option (offset_in k.row) []) is.offsets ∙ sym offsets in
+    let new_size : f.size + length k.bytes ≡ size_of (prefix ++ more) = ap (λ n. n + length k.bytes) is.size ∙ sym size in
+    let stay = λ (many : 10 ≤ length prefix). offsets ∙ offsets-stay (offsets_of prefix) (offset_in k.row) (omega (arith, many, keeps.count, is.count)) in
+    let moves = location-moves prefix more (λ few. refl) stay is.ordered (omega (arith, size)) in
     record {
-      kept = map-append placed f.kept (k ∷ []) ∙ ap (λ ps. ps ++ placed k ∷ []) is.kept ∙ ap (λ n. offset_records_of prefix ++ (n, p) ∷ []) (start ∙ is.size) ∙ sym offsets_named;
-      own = all_snoc HasOwnParts f.kept k is.own own;
+      kept = map-append placed f.kept (kept_alone k) ∙ ap (λ ps. ps ++ map placed (kept_alone k)) is.kept
+          ∙ ap (λ ps. kept_of (offset_records_of prefix) ++ ps) (kept-alone k ∙ ap (λ n. kept_of ((n, p) ∷ [])) (start ∙ is.size))
+          ∙ sym (ap kept_of offsets_named ∙ filter-append (λ (q : OffsetRecord). is_kept q.1.row) (offset_records_of prefix) ((size_of prefix, p) ∷ []));
+      loads = (λ j. with_load (indexes_by (is.tables j)) (units_or (is.maus j)) (is.loads j) p) ∙ sym (ap loads_so_far records ∙ loads-more (records_of prefix) p);
+      maus = ap (λ o. units_after o k.row) is.maus ∙ sym (ap units_in records ∙ units-more (records_of prefix) p);
+      awaits = sym (ap awaits_items last);
+      ended = sym (ap ends_with last);
+      own = All-append HasOwnParts f.kept (kept_alone k) is.own (alone-own k own);
       tables = ap (λ t. with_row t k.row) is.tables ∙ with-grown (tables_of (records_of prefix)) k.row ∙ sym (tables-append (records_of prefix) p) ∙ ap tables_of (sym records);
-      offsets = ap (λ os. os ++ cons_option (offset_in k.row) []) is.offsets ∙ sym offsets;
+      offsets = new_offsets;
       extension = is.extension ∙ sym keeps.extension;
       environment = is.environment ∙ sym keeps.environment;
-      steps = ap (λ n. n + 1) is.steps ∙ sym (length-append prefix more);
-      size = ap (λ n. n + length k.bytes) is.size ∙ sym size;
+      size = new_size;
+      location = moved ∙ (λ j. next_location (is.location j) (new_offsets j) (new_size j)) ∙ sym moves;
       few = omega (arith, is.few, some, size, length-append prefix more);
       blocks = ap open_blocks offsets_named ∙ open-append [] (offset_records_of prefix) ((size_of prefix, p) ∷ []) ∙ ap (λ bs. opened_after bs (size_of prefix) k.row) is.blocks ∙ none-opened (size_of prefix) k.row fits.plain;
       later = λ reads. subst (λ os. get_or os 4 0 ≡ 0) (sym offsets) (fits.later reads);
@@ -204,46 +236,9 @@ prefix-add reads_debug f prefix k is own some start fits keeps =
 
 -- ---- the last record
 
-records-placed : (prefix : List Step) → records_of prefix ≡ map (λ (p : OffsetRecord). p.1) (offset_records_of prefix)
-records-placed [] = refl
-records-placed (raw b ∷ prefix) = records-placed prefix
-records-placed (read start p ∷ prefix) = ap (λ ps. p ∷ ps) (records-placed prefix)
-
-last-map : {A B : Type 0} (f : A → B) (o : Option A) (xs : List A) → last_or (option_map f o) (map f xs) ≡ option_map f (last_or o xs)
-last-map f o [] = refl
-last-map f o (x ∷ xs) = last-map f (Some x) xs
-
-map-map : (ks : List KeptRecord) → map (λ (p : OffsetRecord). p.1) (map placed ks) ≡ map record_of_kept ks
-map-map [] = refl
-map-map (k ∷ ks) = ap (λ ps. record_of_kept k ∷ ps) (map-map ks)
-
--- the last record of the prefix is the last that is kept
-pub last-spelled : (reads_debug : Bool) (f : Prefix) (prefix : List Step) → IsPrefixOf reads_debug f prefix → last_or None (records_of prefix) ≡ option_map record_of_kept (last_or None f.kept)
-last-spelled reads_debug f prefix is =
-    ap (last_or None) (records-placed prefix ∙ ap (map (λ (p : OffsetRecord). p.1)) (sym is.kept) ∙ map-map f.kept) ∙ last-map record_of_kept None f.kept
-
-last-at : {A : Type 0} (x : A) (xs : List A) (d : A) → last_or (Some x) xs ≡ Some (get_or (x ∷ xs) (length xs) d)
-last-at x [] d = refl
-last-at x (y ∷ ys) d = last-at y ys d
-
--- the item at the last place is the last
-pub last-is : {A : Type 0} (xs : List A) (x : A) → 1 ≤ length xs → x ≡ get_or xs (length xs - 1) x → Some x ≡ last_or None xs
-last-is [] x some is = absurd (omega (arith, some))
-last-is (y ∷ ys) x some is =
-    let offset : length (y ∷ ys) - 1 ≡ length ys = omega arith in
-    ap Some (is ∙ ap (λ i. get_or (y ∷ ys) i x) offset) ∙ sym (last-at y ys x)
-
 -- whether items may stand
 pub items-prefix : (reads_debug : Bool) (f : Prefix) (prefix : List Step) (from : ℕ) (rest : List ℕ) → IsPrefixOf reads_debug f prefix
-    → (not (f.size == from) && (awaits_items (option_map record_of_kept (last_or None f.kept)) && begins_item rest)) ≡ (not (size_of prefix == from) && (awaits_items (last_or None (records_of prefix)) && begins_item rest))
+    → (not (f.size == from) && (f.awaits_items && begins_item rest)) ≡ (not (size_of prefix == from) && (awaits_items (last_or None (records_of prefix)) && begins_item rest))
 items-prefix reads_debug f prefix from rest is =
-    ap (λ n. not (n == from) && (awaits_items (option_map record_of_kept (last_or None f.kept)) && begins_item rest)) is.size
-    ∙ ap (λ o. not (size_of prefix == from) && (awaits_items o && begins_item rest)) (sym (last-spelled reads_debug f prefix is))
-
--- whether the module has ended
-pub ended-prefix : (reads_debug : Bool) (f : Prefix) (prefix : List Step) (b : Bool) → IsPrefixOf reads_debug f prefix → b ≡ ends_with (option_map record_of_kept (last_or None f.kept)) → b ≡ is_ended prefix
-ended-prefix reads_debug f prefix b is same = same ∙ ap ends_with (sym (last-spelled reads_debug f prefix is))
-
--- none is kept
-pub none-own : (kept : List KeptRecord) → kept ≡ [] → All HasOwnParts kept
-none-own kept none = subst (All HasOwnParts) (sym none) (λ k d below. absurd (omega (arith, below)))
+    ap (λ n. not (n == from) && (f.awaits_items && begins_item rest)) is.size
+    ∙ ap (λ b. not (size_of prefix == from) && (b && begins_item rest)) is.awaits

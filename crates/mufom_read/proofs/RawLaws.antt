@@ -1,28 +1,28 @@
 -- Bytes of a part that are not read, as the code takes them.
-use Rattle.std.proofs.Common.{◌≡◌, ℕ, suc, ◌+◌, ◌-◌, ◌<◌, ◌≤◌, ◌==◌, ◌&&◌, Bool, true, false, not, true≢false, nat_lt, nat_le, List, [], ◌∷◌, ◌++◌, length, take, drop, map, Option, Some, None, is_some, cond, get_or, refl, sym, ap, subst, ◌∙◌, arith, append-nil, length-append, ltb-true, leb-true, ◌⊎◌, inl, inr, le-leb, lt-ltb, le-ltb, ltb-false, ne_eqb}
+use Rattle.std.proofs.Common.{◌≡◌, ℕ, suc, ◌+◌, ◌-◌, ◌<◌, ◌≤◌, Bool, true, false, true≢false, nat_lt, List, [], ◌∷◌, ◌++◌, length, take, drop, map, Some, None, is_some, cond, get_or, refl, sym, ap, subst, ◌∙◌, arith, append-nil, length-append, le-ltb, ltb-false, ne_eqb}
 use Rattle.std.specs.Option.{option_or}
 use Rattle.std.specs.List.{last_or}
-use Rattle.std.proofs.lemmas.Bool.{and_parts}
 use Rattle.std.proofs.lemmas.List.Elements.{filter_map-append}
 use Rattle.std.specs.Prelude.{All}
-use Rattle.mufom_module.specs.RecordParts.{Part}
 use Rattle.mufom_module.specs.SpelledRecords.{SpelledRecord}
 use Rattle.mufom_module.specs.Grammar.{offsets_in}
-use Rattle.mufom_read.specs.Kept.{placed, tables_of, HasOwnParts}
+use Rattle.mufom_read.specs.Kept.{placed, kept_of, tables_of, HasOwnParts}
+use Rattle.mufom_read.specs.LoadsSoFar.{units_in, loads_so_far}
 use Rattle.mufom_read.specs.declared.prefix.Prefix.{Prefix}
 use Rattle.mufom_read.specs.declared.prefix.Location as code
 use Rattle.mufom_read.specs.declared.prefix.Location.TheVariants as offset
 use Rattle.mufom_read.specs.declared.prefix.Next.{Next}
 use Rattle.mufom_read.specs.declared.prefix.Next.TheVariants as next
 use Rattle.mufom_read.specs.declared.part.Extent as extents
-use Rattle.mufom_read.specs.Prefixes.{Step, raw, size_of, record_of, records_of, offset_record, offset_records_of, offsets_of, Extent, in_header, in_part, first_present, part_among, parts_in_order, part_at, location_by, location_after, is_raw, raw_step, as_step, step_at, body_mode, next_step, ends_with, is_ended}
+use Rattle.mufom_read.specs.Prefixes.{Step, raw, size_of, record_of, records_of, offset_record, offset_records_of, offsets_of, Extent, in_header, in_part, first_present, part_among, parts_in_order, part_at, location_by, location_after, is_raw, raw_step, as_step, step_at, body_mode, next_step, awaits_items, ends_with, is_ended}
 use Rattle.mufom_read.specs.Faults.{open_blocks, whole_fault, step_fault, ended_fault, ended_part_fault}
 use Rattle.mufom_read.specs.Judging.{IsSoundFrom}
 use Rattle.mufom_read.specs.PartsOfCode.{as_part, as_extent}
-use Rattle.mufom_read.specs.PrefixOfCode.{AreFrom, AreOrdered, IsPrefixOf, as_location, extension_in, environment_in, HasRaw, HasSkipped, IsStepTaken}
+use Rattle.mufom_read.specs.PrefixOfCode.{AreOrdered, IsPrefixOf, as_location, extension_in, environment_in, next_location, HasRaw, HasSkipped, IsStepTaken}
 use Rattle.mufom_read.proofs.PrefixLaws.{size-append}
 use Rattle.mufom_read.proofs.PartBytes.{raw-bytes}
 use Rattle.mufom_read.proofs.PlaceLaws.{part-found}
+use Rattle.mufom_read.proofs.LocationMoves.{among-stays, location-moves}
 use Rattle.mufom_read.proofs.StepLaws.{part-within}
 use Rattle.mufom_read.proofs.JudgeLaws.{taken_length}
 use Rattle.mufom_records.specs.Reading.{record_at}
@@ -62,15 +62,23 @@ raw-prefix reads_debug old new prefix e bytes is header found within more =
     let kept = raw-bytes prefix e bytes header is.count begun (ap offsets_in records) found within in
     let size : size_of (prefix ++ map raw bytes) ≡ size_of prefix + length bytes = size-append prefix (map raw bytes) ∙ ap (λ n. size_of prefix + n) (raw_size bytes) in
     let steps : length (prefix ++ map raw bytes) ≡ length prefix + length bytes = length-append prefix (map raw bytes) ∙ ap (λ n. length prefix + n) (raw_steps bytes) in
+    let many = ltb-false (length prefix) 10 header in
+    let old_offsets : old.offsets ≡ offsets_of (prefix ++ map raw bytes) = is.offsets ∙ ap offsets_in (sym records) in
+    let old_size : old.size + length bytes ≡ size_of (prefix ++ map raw bytes) = ap (λ n. n + length bytes) is.size ∙ sym size in
+    let moves = location-moves prefix (map raw bytes) (λ few. absurd (omega (arith, few, many))) (λ later. ap offsets_in records) is.ordered (omega (arith, size)) in
     record {
-      kept = ap (map placed) more.kept ∙ is.kept ∙ sym (places_same prefix bytes);
+      kept = ap (map placed) more.kept ∙ is.kept ∙ ap kept_of (sym (places_same prefix bytes));
+      loads = more.loads ∙ is.loads ∙ ap loads_so_far (sym records);
+      maus = more.maus ∙ is.maus ∙ ap units_in (sym records);
+      awaits = more.awaits ∙ is.awaits ∙ ap (λ (ps : List SpelledRecord). awaits_items (last_or None ps)) (sym records);
+      ended = more.ended ∙ is.ended ∙ ap (λ (ps : List SpelledRecord). ends_with (last_or None ps)) (sym records);
       own = subst (All HasOwnParts) (sym more.kept) is.own;
       tables = more.tables ∙ is.tables ∙ ap tables_of (sym records);
       offsets = more.offsets ∙ is.offsets ∙ ap offsets_in (sym records);
       extension = more.extension ∙ ap (λ l. l ++ extension_in e.part bytes) is.extension ∙ sym kept.0;
       environment = more.environment ∙ ap (λ l. l ++ environment_in e.part bytes) is.environment ∙ sym kept.1;
-      steps = more.steps ∙ ap (λ n. n + length bytes) is.steps ∙ sym steps;
       size = more.size ∙ ap (λ n. n + length bytes) is.size ∙ sym size;
+      location = more.location ∙ (λ j. next_location (is.location j) (old_offsets j) (old_size j)) ∙ sym moves;
       few = omega (arith, is.few, size, steps);
       blocks = ap open_blocks (places_same prefix bytes) ∙ is.blocks;
       later = λ reads. subst (λ (ps : List SpelledRecord). get_or (offsets_in ps) 4 0 ≡ 0) (sym records) (is.later reads);
@@ -80,52 +88,6 @@ raw-prefix reads_debug old new prefix e bytes is header found within more =
     }
 
 -- ---- the steps
-
-among_from : (parts : List Part) (os : List ℕ) (w at : ℕ) (e : Extent) → AreFrom w os → part_among parts os at ≡ Some e → w ≤ at
-among_from [] os w at e is found = absurd (nothing (sym found))
-among_from (part ∷ parts) [] w at e is found = absurd (nothing (sym found))
-among_from (part ∷ parts) (v ∷ os) w at e is found = by_case _ refl found (λ more. among_from parts os w at e is.1 more) where
-  here : Extent
-  here = record { part = part; from = v; to = first_present os }
-
-  by_first : ((v ≡ 0) ⊎ (w ≤ v)) → not (v == 0) ≡ true → v ≤ at → w ≤ at
-  by_first (inl none) some low = absurd (true≢false (sym some ∙ ap (λ n. not (n == 0)) none))
-  by_first (inr from) some low = omega (arith, from, low)
-
-  by_case : (test : Bool) → test ≡ (not (v == 0) && (nat_le v at && nat_lt at (first_present os))) → cond test (Some here) (part_among parts os at) ≡ Some e → (part_among parts os at ≡ Some e → w ≤ at) → w ≤ at
-  by_case false same more after = after more
-  by_case true same more after = let both = and_parts _ _ (sym same) in by_first is.0 both.0 (leb-true v at (and_parts _ _ both.1).0)
-
-stands : (w at end : ℕ) → not (w == 0) ≡ true → w ≤ at → at < end → true ≡ (not (w == 0) && (nat_le w at && nat_lt at end))
-stands w at end some low high = sym (ap (λ b. b && (nat_le w at && nat_lt at end)) some ∙ ap (λ b. b && nat_lt at end) (le-leb w at low) ∙ lt-ltb at end high)
-
--- a byte after another one of a part, before the part's end, stands in it
-among_stays : (parts : List Part) (os : List ℕ) (at more : ℕ) (e : Extent) → AreOrdered os → part_among parts os at ≡ Some e → at ≤ more → more < e.to → part_among parts os more ≡ Some e
-among_stays [] os at more e is found low high = found
-among_stays (part ∷ parts) [] at more e is found low high = found
-among_stays (part ∷ parts) (w ∷ os) at more e is found low high =
-    by_case _ _ refl refl found (λ f. among_stays parts os at more e is.1 f low high) (λ f. among_from parts os w at e is.0 f) where
-      here : Extent
-      here = record { part = part; from = w; to = first_present os }
-
-      the_end : Option Extent → ℕ
-      the_end None = 0
-      the_end (Some x) = x.to
-
-      by_case : (t u : Bool) → t ≡ (not (w == 0) && (nat_le w at && nat_lt at (first_present os))) → u ≡ (not (w == 0) && (nat_le w more && nat_lt more (first_present os)))
-          → cond t (Some here) (part_among parts os at) ≡ Some e → (part_among parts os at ≡ Some e → part_among parts os more ≡ Some e) → (part_among parts os at ≡ Some e → w ≤ at)
-          → cond u (Some here) (part_among parts os more) ≡ Some e
-      by_case true true s t f after from = f
-      by_case true false s t f after from =
-          let both = and_parts _ _ (sym s) in
-          let within : w ≤ at = leb-true w at (and_parts _ _ both.1).0 in
-          let end : first_present os ≡ e.to = ap the_end f in
-          absurd (true≢false (stands w more (first_present os) both.0 (omega (arith, within, low)) (omega (arith, high, end)) ∙ sym t))
-      by_case false false s t f after from = after f
-      by_case false true s t f after from =
-          let both = and_parts _ _ (sym t) in
-          let under : more < first_present os = ltb-true more (first_present os) (and_parts _ _ both.1).1 in
-          absurd (true≢false (stands w at (first_present os) both.0 (from f) (omega (arith, under, low)) ∙ sym s))
 
 placed_in : (prefix : List Step) (e : Extent) → nat_lt (length prefix) 10 ≡ false → part_at prefix (size_of prefix) ≡ Some e → location_after prefix ≡ in_part e
 placed_in prefix e header found = ap (λ b. cond b (in_header (length prefix)) (location_by (part_at prefix (size_of prefix)))) header ∙ ap location_by found
@@ -155,7 +117,7 @@ stays_in reads_debug prefix e b is within =
       unended = ap (λ (ps : List SpelledRecord). ends_with (last_or None ps)) records ∙ is.unended;
       whole = ap (ended_fault (prefix ++ raw b ∷ [])) last ∙ ap (λ t. cond t (whole_fault e.part (prefix ++ raw b ∷ [])) None) (ne_eqb e.to _ (λ end. omega (arith, end, size, within)));
       header = le-ltb _ _ (omega (arith, steps, ltb-false _ _ is.header));
-      found = ap (part_at (prefix ++ raw b ∷ [])) size ∙ same (size_of prefix + 1) ∙ among_stays parts_in_order (offsets_of prefix) (size_of prefix) (size_of prefix + 1) e is.ordered is.found (omega arith) within;
+      found = ap (part_at (prefix ++ raw b ∷ [])) size ∙ same (size_of prefix + 1) ∙ among-stays parts_in_order (offsets_of prefix) (size_of prefix) (size_of prefix + 1) e is.ordered is.found (omega arith) within;
       ordered = subst (λ (ps : List SpelledRecord). AreOrdered (offsets_in ps)) (sym records) is.ordered;
     }
 

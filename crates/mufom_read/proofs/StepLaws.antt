@@ -1,8 +1,6 @@
 -- Steps after a prefix, as the code takes them.
-use Rattle.std.proofs.Common.{◌≡◌, ◌≢◌, ℕ, ◌<◌, ◌==◌, ◌&&◌, Bool, true, false, not, true≢false, nat_lt, nat_le, List, [], ◌∷◌, ◌++◌, length, drop, Option, Some, None, is_some, option_map, cond, get_or, refl, sym, ap, subst, ◌∙◌, append-nil, ltb-true, ◌⊎◌, inl, inr}
+use Rattle.std.proofs.Common.{◌≡◌, ◌≢◌, ℕ, ◌<◌, ◌==◌, ◌&&◌, Bool, true, false, not, true≢false, nat_lt, nat_le, List, [], ◌∷◌, ◌++◌, length, drop, Option, Some, None, is_some, cond, get_or, refl, sym, ap, subst, ◌∙◌, append-nil, ◌⊎◌, inl, inr}
 use Rattle.std.specs.Option.{option_or}
-use Rattle.std.proofs.lemmas.Bool.{and_parts}
-use Rattle.std.specs.List.{last_or}
 use Rattle.mufom_numbers.specs.declared.taken.Taken.{Taken}
 use Rattle.mufom_numbers.specs.declared.taken.Taken.TheVariants.{Got}
 use Rattle.mufom_records.specs.Reading.{record_at}
@@ -14,34 +12,16 @@ use Rattle.mufom_read.specs.declared.prefix.Next.{Next}
 use Rattle.mufom_read.specs.declared.prefix.Next.TheVariants as next
 use Rattle.mufom_read.specs.declared.part.Extent as extents
 use Rattle.mufom_read.specs.declared.refusal.ReadRefusal.{ReadRefusal}
-use Rattle.mufom_read.specs.Prefixes.{Step, step_bytes, size_of, offsets_of, Extent, in_part, first_present, part_among, parts_in_order, location_after, is_raw, raw_step, as_step, step_at, next_step, ends_with, is_ended}
+use Rattle.mufom_read.specs.Prefixes.{Step, step_bytes, size_of, offsets_of, Extent, in_part, first_present, part_among, parts_in_order, location_after, is_raw, raw_step, as_step, step_at, next_step, is_ended}
 use Rattle.mufom_read.specs.Faults.{step_fault, ended_part_fault, fault_after}
 use Rattle.mufom_read.specs.PartsOfCode.{as_part, as_extent}
-use Rattle.mufom_read.specs.Kept.{record_of_kept, as_fault}
+use Rattle.mufom_read.specs.Kept.{as_fault}
 use Rattle.mufom_read.specs.PrefixOfCode.{IsPrefixOf, IsNotDebug, IsRead, as_location, mode_at, HasJudged, IsStepTaken, HasAdvanced}
-use Rattle.mufom_read.proofs.PrefixLaws.{ended-prefix}
 use Rattle.mufom_read.proofs.PlaceLaws.{part-found}
+use Rattle.mufom_read.proofs.LocationMoves.{among-within}
 
 nothing : {A : Type 0} {x : A} → Some x ≡ None → ⊥
 nothing e = true≢false (ap is_some e)
-
--- ---- where a byte stands
-
--- it stands before its part's end
-among-within : (parts : List Part) (os : List ℕ) (at : ℕ) (e : Extent) → part_among parts os at ≡ Some e → at < e.to
-among-within [] os at e found = absurd (nothing (sym found))
-among-within (part ∷ parts) [] at e found = absurd (nothing (sym found))
-among-within (part ∷ parts) (w ∷ os) at e found = by_case _ refl found (among-within parts os at e) where
-  here : Extent
-  here = record { part = part; from = w; to = first_present os }
-
-  the_end : Option Extent → ℕ
-  the_end None = 0
-  the_end (Some x) = x.to
-
-  by_case : (test : Bool) → test ≡ (not (w == 0) && (nat_le w at && nat_lt at (first_present os))) → cond test (Some here) (part_among parts os at) ≡ Some e → (part_among parts os at ≡ Some e → at < e.to) → at < e.to
-  by_case false is found after = after found
-  by_case true is found after = subst (λ n. at < n) (ap the_end found) (ltb-true at (first_present os) (and_parts _ _ (and_parts _ _ (sym is)).1).1)
 
 -- ---- a debug part that would be read
 
@@ -135,9 +115,9 @@ part-within prefix at e here same = among-within parts_in_order (offsets_of pref
 -- ---- the part that ends after a step
 
 -- a step after which the module has ended
-pub stepped-end : (reads_debug : Bool) (prefix : List Step) (rest : List ℕ) (new : Prefix) (n : ℕ) → IsStepTaken reads_debug prefix rest new (next.Took n) → true ≡ ends_with (option_map record_of_kept (last_or None new.kept)) → HasAdvanced reads_debug prefix rest new (next.Took n)
+pub stepped-end : (reads_debug : Bool) (prefix : List Step) (rest : List ℕ) (new : Prefix) (n : ℕ) → IsStepTaken reads_debug prefix rest new (next.Took n) → true ≡ new.ended → HasAdvanced reads_debug prefix rest new (next.Took n)
 stepped-end reads_debug prefix rest new n (steps, is, sound, size, some, within) end =
-    (steps, is, sound, size, some, within, λ unended. absurd (true≢false (ended-prefix reads_debug new (prefix ++ steps) true is end ∙ unended)))
+    (steps, is, sound, size, some, within, λ unended. absurd (true≢false (end ∙ is.ended ∙ unended)))
 
 -- one after which no part ends with a fault
 pub stepped-whole : (reads_debug : Bool) (prefix : List Step) (rest : List ℕ) (new : Prefix) (n : ℕ) → IsStepTaken reads_debug prefix rest new (next.Took n)
@@ -145,12 +125,12 @@ pub stepped-whole : (reads_debug : Bool) (prefix : List Step) (rest : List ℕ) 
 stepped-whole reads_debug prefix rest new n (steps, is, sound, size, some, within) whole = (steps, is, sound, size, some, within, λ unended. sym (whole (prefix ++ steps) is))
 
 -- one after which a part ends with a fault
-pub stepped-fault : (reads_debug : Bool) (prefix : List Step) (rest : List ℕ) (new : Prefix) (n : ℕ) (f : ReadRefusal) → IsStepTaken reads_debug prefix rest new (next.Took n) → false ≡ ends_with (option_map record_of_kept (last_or None new.kept))
+pub stepped-fault : (reads_debug : Bool) (prefix : List Step) (rest : List ℕ) (new : Prefix) (n : ℕ) (f : ReadRefusal) → IsStepTaken reads_debug prefix rest new (next.Took n) → false ≡ new.ended
     → ((steps : List Step) → IsPrefixOf reads_debug new steps → Some (as_fault f) ≡ ended_part_fault steps) → HasAdvanced reads_debug prefix rest new (next.Refused f)
 stepped-fault reads_debug prefix rest new n f (steps, is, sound, size, some, within) unended fault = (
   steps,
   sound,
-  sym (ended-prefix reads_debug new (prefix ++ steps) false is unended),
+  sym (unended ∙ is.ended),
   ap (λ o. option_or o (step_fault reads_debug (prefix ++ steps) (next_step reads_debug (prefix ++ steps) (drop (size_of steps) rest)))) (sym (fault (prefix ++ steps) is)),
 )
 

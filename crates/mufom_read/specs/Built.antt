@@ -3,7 +3,6 @@ use Rattle.std.specs.Prelude.{◌≡◌, ℕ, ◌<◌, ◌≤◌, ◌==◌, Bool
 use Rattle.std.specs.List.{cons_option}
 use Rattle.mufom_numbers.specs.Spelling.{AreBytes}
 use Rattle.mufom_expr.specs.Tree.{Tree}
-use Rattle.mufom_expr.specs.Spelled.{Indexes}
 use Rattle.mufom_records.specs.declared.record.Record.{Record}
 use Rattle.mufom_records.specs.declared.record.Record.TheVariants as r
 use Rattle.mufom_names.specs.declared.name.Note.{Note}
@@ -11,22 +10,17 @@ use Rattle.mufom_names.specs.declared.name.Weak.{Weak}
 use Rattle.mufom_module.specs.declared.module.Parts.{Parts}
 use Rattle.mufom_module.specs.Grammar.{NamesModule, Describes, file_limit}
 use Rattle.mufom_module.specs.SpelledRecords.{SpelledRecord, tree_in, Kind, public, reference}
-use Rattle.mufom_module.specs.Gathered.{answers, note_of, public_note_for, reference_note_for, sections_of, publics_of, references_of, loads_of, starts_of}
-use Rattle.mufom_read.specs.declared.tables.Tables.{Tables}
+use Rattle.mufom_module.specs.Gathered.{answers, note_of, public_note_for, reference_note_for, sections_of, publics_of, references_of, starts_of}
 use Rattle.mufom_read.specs.declared.prefix.Prefix.{Prefix}
 use Rattle.mufom_read.specs.declared.sections.SectionFacts.{SectionFacts}
 use Rattle.mufom_read.specs.declared.notes.Named.{Named}
 use Rattle.mufom_read.specs.declared.notes.Named.TheVariants as named
 use Rattle.mufom_read.specs.Prefixes.{Step, size_of, is_ended}
 use Rattle.mufom_read.specs.Judging.{IsSoundPrefix}
-use Rattle.mufom_read.specs.Kept.{record_of_kept}
+use Rattle.mufom_read.specs.Kept.{record_of_kept, indexes_by}
 use Rattle.mufom_read.specs.PrefixOfCode.{IsPrefixOf}
 
 -- ---- by the tables
-
--- the index lists of the tables
-abbrev pub indexes_by : Tables → Indexes
-indexes_by t = record { sections = t.sections; publics = t.publics; references = t.references; debug_names = [] }
 
 -- what is stated for an index, of what is stated for these indexes, in their order
 abbrev pub stated_at : {X : Type 0} → List ℕ → List X → ℕ → Option X
@@ -114,13 +108,13 @@ pub record IsStatedByKept (f : Prefix) (m : Parts) : Type 0 where
   pub begins : NamesModule m begin begin.row
   pub describes : Describes m descriptor.row
   pub small : m.maus < 256
-  pub extension : m.ext ≡ f.extension
-  pub environment : m.env ≡ f.environment
+  pub extension : m.ext ≡ f.extension.items
+  pub environment : m.env ≡ f.environment.items
   pub sections : m.sections ≡ sections_of (map record_of_kept f.kept)
   pub publics : m.names.publics ≡ publics_of (indexes_by f.tables) (map record_of_kept f.kept)
   pub references : m.names.references ≡ references_of (map record_of_kept f.kept)
   pub debug : m.debug ≡ []
-  pub loads : m.loads ≡ loads_of (indexes_by f.tables) m.maus (map record_of_kept f.kept)
+  pub loads : m.loads ≡ f.loads.loads
   pub start : option_to_list m.start ≡ starts_of (indexes_by f.tables) (map record_of_kept f.kept)
 
 -- The code keeps this prefix; it is sound, ends with the stream of these bytes, and is the whole of it.

@@ -1,21 +1,23 @@
 -- What the code keeps of the records of a prefix: which indexes they declare, and which they give a value.
 use Rattle.std.specs.Prelude.{ℕ, zero, suc, ◌<◌, ◌-◌, ◌^◌, ◌==◌, ◌||◌, ◌&&◌, Bool, true, false, not, List, [], ◌∷◌, ◌++◌, length, filter_map, Option, Some, None, is_none, option_to_list, if◌then◌else◌}
-use Rattle.std.specs.List.{list_any, list_all}
+use Rattle.std.specs.List.{list_any, list_all, filter}
 use Rattle.mufom_numbers.specs.declared.reason.Reason.{Reason}
 use Rattle.mufom_numbers.specs.declared.reason.Reason.TheVariants as why
 use Rattle.mufom_expr.specs.declared.token.Letter.{Letter}
 use Rattle.mufom_expr.specs.Tree.{Tree}
 use Rattle.mufom_expr.specs.Value.{variables_of}
+use Rattle.mufom_expr.specs.Spelled.{Indexes}
 use Rattle.mufom_records.specs.declared.record.Record.{Record}
 use Rattle.mufom_records.specs.declared.record.Record.TheVariants as r
 use Rattle.mufom_module.specs.Contents.{any_of}
 use Rattle.mufom_module.specs.Defects.{has_other_counter}
-use Rattle.mufom_module.specs.RecordParts.{is_loading}
+use Rattle.mufom_module.specs.RecordParts.{data_part, stands_in, is_loading}
 use Rattle.mufom_module.specs.SpelledRecords.{SpelledRecord, Kind, FileIndex, section, public, reference, debug_name, declared, named_by, is_public_value, tree_of_record, index_of_variable, Once, value_of_public, weakness, alignment, section_size, section_base, start_address, assigned_by, is_assigned}
 use Rattle.mufom_read.specs.declared.tables.Tables.{Tables}
 use Rattle.std.specs.Option.{option_or}
 use Rattle.mufom_records.specs.Parts.{HasParts}
 use Rattle.mufom_read.specs.declared.kept.KeptRecord.{KeptRecord}
+use Rattle.mufom_read.specs.declared.kept.SeenRecord.{SeenRecord}
 use Rattle.mufom_read.specs.declared.refusal.ReadRefusal.{ReadRefusal}
 use Rattle.mufom_read.specs.Prefixes.{OffsetRecord}
 use Rattle.mufom_read.specs.Faults.{Fault, fault_if, current_section, has_bad_alignment, absolute_declared, public_declared}
@@ -63,6 +65,14 @@ tables_of records = record {
   current = current_section records;
   has_start = is_assigned records start_address;
 }
+
+-- the index lists of the tables
+abbrev pub indexes_by : Tables → Indexes
+indexes_by t = record { sections = t.sections; publics = t.publics; references = t.references; debug_names = [] }
+
+-- the tables with no section set
+abbrev pub without_section : Tables → Tables
+without_section t = record t { current = None }
 
 -- the tables with what one more record declares or states
 abbrev pub with_row : Tables → Record → Tables
@@ -175,9 +185,28 @@ as_record row bytes = record { row = row; bytes = bytes }
 abbrev pub kept_record : ℕ → Record → List ℕ → KeptRecord
 kept_record start row bytes = record { start = start; row = row; bytes = bytes }
 
+-- the record that is judged, with a copy of its bytes
+abbrev pub kept_of_seen : SeenRecord → KeptRecord
+kept_of_seen s = kept_record s.start s.row s.bytes.now
+
 -- and its offset
 abbrev pub placed : KeptRecord → OffsetRecord
 placed k = (k.start, record_of_kept k)
+
+-- Records of the data part become loads at once; the code keeps the others.
+abbrev pub is_kept : Record → Bool
+is_kept row = not (stands_in data_part row)
+
+-- of records with their offsets, those that are kept
+abbrev pub kept_of : List OffsetRecord → List OffsetRecord
+kept_of all = filter (λ p. is_kept p.1.row) all
+
+abbrev pub kept_records : List SpelledRecord → List SpelledRecord
+kept_records all = filter (λ p. is_kept p.row) all
+
+-- the record, where it is kept
+abbrev pub kept_alone : KeptRecord → List KeptRecord
+kept_alone k = if is_kept k.row then k ∷ [] else []
 
 -- the strings, the runs and the expressions of the record stand in its bytes
 abbrev pub HasOwnParts : KeptRecord → Type 0

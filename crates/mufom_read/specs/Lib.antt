@@ -9,3 +9,4 @@ pub mod PrefixOfCode
 pub mod Reader
 pub mod Built
 pub mod Source
+pub mod LoadsSoFar

@@ -1,6 +1,6 @@
 -- What the code keeps of a prefix, and which prefix that is.
 use Rattle.std.specs.Prelude.{◌≡◌, ◌≢◌, ◌⊎◌, ℕ, ◌+◌, ◌-◌, ◌<◌, ◌≤◌, nat_lt, nat_le, min, Bool, true, false, List, [], ◌∷◌, ◌++◌, length, map, take, drop, All, None, Some, is_some, if◌then◌else◌}
-use Rattle.std.specs.List.{cons_option}
+use Rattle.std.specs.List.{last_or, cons_option}
 use Rattle.std.specs.Prelude.{slice_index_or as get_or}
 use Rattle.mufom_records.specs.declared.record.Mode.{Mode}
 use Rattle.mufom_records.specs.declared.record.Mode.TheVariants as mode
@@ -9,7 +9,7 @@ use Rattle.mufom_records.specs.declared.record.Record.TheVariants as r
 use Rattle.mufom_module.specs.SpelledRecords.{SpelledRecord}
 use Rattle.mufom_numbers.specs.declared.taken.Taken.{Taken}
 use Rattle.mufom_numbers.specs.declared.taken.Taken.TheVariants.{Got, More}
-use Rattle.mufom_module.specs.RecordParts.{Part, extension_part, environment_part, debug_part, stands_in}
+use Rattle.mufom_module.specs.RecordParts.{Part, extension_part, environment_part, debug_part, stands_in, opens_items}
 use Rattle.mufom_module.specs.Grammar.{offset_in}
 use Rattle.mufom_read.specs.declared.kept.KeptRecord.{KeptRecord}
 use Rattle.mufom_read.specs.declared.prefix.Prefix.{Prefix}
@@ -20,18 +20,32 @@ use Rattle.mufom_read.specs.declared.part.Part.TheVariants as part_of_code
 use Rattle.mufom_read.specs.declared.part.Extent as extents
 use Rattle.mufom_read.specs.declared.prefix.Next.{Next}
 use Rattle.mufom_read.specs.declared.prefix.Next.TheVariants as next
-use Rattle.mufom_read.specs.Prefixes.{Step, step_bytes, read, header_mode, body_mode, is_raw, location_after, size_of, records_of, offset_records_of, offsets_of, first_present, header_count, Location, in_header, in_part, at_end, next_step, is_ended}
+use Rattle.mufom_read.specs.Prefixes.{Step, step_bytes, read, header_mode, body_mode, is_raw, part_among, parts_in_order, location_by, location_after, size_of, records_of, offset_records_of, offsets_of, first_present, header_count, Location, in_header, in_part, at_end, next_step, awaits_items, is_module_end, is_ended}
 use Rattle.mufom_read.specs.Faults.{open_blocks, record_fault, step_fault, ended_part_fault, fault_after}
 use Rattle.mufom_read.specs.Judging.{IsSoundFrom}
 use Rattle.mufom_read.specs.Stated.{part_bytes}
 use Rattle.mufom_read.specs.PartsOfCode.{as_part, as_extent}
-use Rattle.mufom_read.specs.Kept.{tables_of, with_row, is_new, placed, HasOwnParts, as_fault}
+use Rattle.mufom_read.specs.Kept.{tables_of, with_row, indexes_by, is_new, placed, record_of_kept, kept_of, kept_alone, HasOwnParts, as_fault}
+use Rattle.mufom_read.specs.LoadsSoFar.{with_load, units_after, units_in, units_or, loads_so_far}
 
 -- where the next byte stands
 abbrev pub as_location : code.Location → Location
 as_location (offset.Header k) = in_header k
 as_location (offset.Part e) = in_part (as_extent e)
 as_location offset.End = at_end
+
+-- Where the next byte stands after a step that stood in this location, by the offsets and how many bytes there are then: a
+-- part goes on up to its end.
+abbrev pub next_location : Location → List ℕ → ℕ → Location
+next_location (in_header k) offsets size = if nat_lt k 9 then in_header (k + 1) else location_by (part_among parts_in_order offsets size)
+next_location (in_part e) offsets size = if nat_lt size e.to then in_part e else location_by (part_among parts_in_order offsets size)
+next_location at_end offsets size = location_by (part_among parts_in_order offsets size)
+
+-- the byte before this many is in the part in which the next one stands
+abbrev pub is_inside : Location → ℕ → Bool
+is_inside (in_header k) size = false
+is_inside (in_part e) size = nat_lt e.from size
+is_inside at_end size = false
 
 -- each of the offsets that is not 0 is at least this
 abbrev pub AreFrom : ℕ → List ℕ → Type 0
@@ -51,18 +65,23 @@ offset_count n = min (n - 2) 8
 abbrev pub bytes_so_far : Part → List Step → List ℕ
 bytes_so_far part prefix = if nat_lt (length prefix) header_count then [] else part_bytes part prefix
 
--- The code keeps this prefix: its records, what they declare and state once, the offsets of the header, the bytes of the
--- extension and of the environment, and how many steps and bytes there are. No debug block is open, and a debug part that
--- would be read is absent. After the header the first part has begun.
+-- The code keeps this prefix: its records but those of the data part, and the loads that these give; what the records declare
+-- and state once, the units of an address, the offsets of the header, the bytes of the extension and of the environment, how
+-- many bytes there are, and where the next one stands. No debug block is open, and a debug part that would be read is absent. After the header
+-- the first part has begun.
 pub record IsPrefixOf (reads_debug : Bool) (f : Prefix) (prefix : List Step) : Type 0 where
-  pub kept : map placed f.kept ≡ offset_records_of prefix
+  pub kept : map placed f.kept ≡ kept_of (offset_records_of prefix)
+  pub loads : f.loads ≡ loads_so_far (records_of prefix)
+  pub maus : f.maus ≡ units_in (records_of prefix)
+  pub awaits : f.awaits_items ≡ awaits_items (last_or None (records_of prefix))
+  pub ended : f.ended ≡ is_ended prefix
   pub own : All HasOwnParts f.kept
   pub tables : f.tables ≡ tables_of (records_of prefix)
   pub offsets : f.offsets ≡ offsets_of prefix
-  pub extension : f.extension ≡ bytes_so_far extension_part prefix
-  pub environment : f.environment ≡ bytes_so_far environment_part prefix
-  pub steps : f.steps ≡ length prefix
+  pub extension : f.extension.items ≡ bytes_so_far extension_part prefix
+  pub environment : f.environment.items ≡ bytes_so_far environment_part prefix
   pub size : f.size ≡ size_of prefix
+  pub location : as_location f.location ≡ location_after prefix
   pub few : length prefix ≤ size_of prefix
   pub blocks : open_blocks (offset_records_of prefix) ≡ []
   pub later : reads_debug ≡ true → get_or (offsets_of prefix) 4 0 ≡ 0
@@ -70,16 +89,20 @@ pub record IsPrefixOf (reads_debug : Bool) (f : Prefix) (prefix : List Step) : T
   pub count : length (offsets_of prefix) ≡ offset_count (length prefix)
   pub begun : 10 ≤ length prefix → first_present (offsets_of prefix) ≤ size_of prefix
 
--- the prefix with one more record
-abbrev pub with_record : Prefix → KeptRecord → Prefix
-with_record f k = record {
-  kept = f.kept ++ k ∷ [];
+-- the prefix with one more record, after which the next byte stands in this location
+abbrev pub with_record : Prefix → KeptRecord → code.Location → Prefix
+with_record f k location = record {
+  kept = f.kept ++ kept_alone k;
   tables = with_row f.tables k.row;
+  loads = with_load (indexes_by f.tables) (units_or f.maus) f.loads (record_of_kept k);
+  maus = units_after f.maus k.row;
+  awaits_items = opens_items k.row;
+  ended = is_module_end k.row;
   offsets = f.offsets ++ cons_option (offset_in k.row) [];
   extension = f.extension;
   environment = f.environment;
-  steps = f.steps + 1;
   size = f.size + length k.bytes;
+  location = location;
 }
 
 -- what the record must be to be added after a prefix
@@ -153,11 +176,15 @@ environment_in _ bytes = []
 pub record HasRaw (old : Prefix) (part : codes.Part) (bytes : List ℕ) (new : Prefix) : Type 0 where
   pub kept : new.kept ≡ old.kept
   pub tables : new.tables ≡ old.tables
+  pub loads : new.loads ≡ old.loads
+  pub maus : new.maus ≡ old.maus
+  pub awaits : new.awaits_items ≡ old.awaits_items
+  pub ended : new.ended ≡ old.ended
   pub offsets : new.offsets ≡ old.offsets
-  pub extension : new.extension ≡ old.extension ++ extension_in part bytes
-  pub environment : new.environment ≡ old.environment ++ environment_in part bytes
-  pub steps : new.steps ≡ old.steps + length bytes
+  pub extension : new.extension.items ≡ old.extension.items ++ extension_in part bytes
+  pub environment : new.environment.items ≡ old.environment.items ++ environment_in part bytes
   pub size : new.size ≡ old.size + length bytes
+  pub location : as_location new.location ≡ next_location (as_location old.location) old.offsets (old.size + length bytes)
 
 -- bytes that are not read were taken of a part, as many as there are of those up to the part's end
 abbrev pub HasSkipped : Prefix → codes.Part → ℕ → List ℕ → Prefix → Next → Type 0

@@ -5,21 +5,20 @@ ghost use Rattle.mufom_module.specs.declared.module.Order as module_order;
 ghost use Rattle.mufom_module.specs.declared.module.Parts as module_parts;
 ghost use Rattle.mufom_module.specs.SpelledRecords as spelled_records;
 ghost use Rattle.mufom_module.specs.Gathered as gathered;
-ghost use Rattle.mufom_module.specs.Defects.{IsValid};
 ghost use Rattle.mufom_module.specs.Grammar.{NamesModule, Describes, IsLetterOf, SpellsModule};
 ghost use Rattle.mufom_read.specs.Prefixes.{Step};
-ghost use Rattle.mufom_read.specs.Kept.{record_of_kept, tables_of, HasOwnParts};
-ghost use Rattle.mufom_read.specs.Built.{indexes_by, IsStatedByKept, IsWhole};
+ghost use Rattle.mufom_read.specs.Kept.{record_of_kept, tables_of, without_section, HasOwnParts, indexes_by};
+ghost use Rattle.mufom_read.specs.Built.{IsStatedByKept, IsWhole};
 
 use crate::kept::KeptRecord;
-use crate::loads::loads_of;
+use crate::loads::Loads;
 use crate::names::{publics_of, references_of};
 use crate::positions::value_in;
 use crate::prefix::Prefix;
 use crate::sections::sections_of;
 use crate::tables::Tables;
 use mufom_expr::Postfix;
-use mufom_module::{Module, Order, Parts, assemble};
+use mufom_module::{Module, Order, Parts};
 use mufom_names::NameTable;
 use mufom_numbers::{Bytes, List, NoMemory, codes};
 use mufom_records::Record;
@@ -144,48 +143,40 @@ fn name_table(alloc: Global, tables: &Tables, kept: &[KeptRecord]) -> Result<Nam
 // The parts of the module that the prefix states.
 fn parts_of(alloc: Global, prefix: Prefix) -> Result<Parts, NoMemory>
     requires own { All HasOwnParts prefix.kept }
-    requires tables { prefix.tables ≡ tables_of (map record_of_kept prefix.kept) }
+    requires tables { without_section prefix.tables ≡ tables_of (map record_of_kept prefix.kept) }
     requires stated { (m : module_parts.Parts) × IsStatedByKept prefix m }
     ensures { IfOk result (λ parts. (m : module_parts.Parts) → IsStatedByKept prefix m → parts ≡ m) }
 {
     let Prefix {
         kept,
-        tables,
+        mut tables,
+        loads,
         extension,
         environment,
         ..
     } = prefix;
+    let Loads { loads, .. } = loads;
+    // None of the records that are kept sets a section.
+    tables.current = None;
     let records = kept.as_slice();
     let (processor, name) = names_of(alloc, begin_of(records))?;
     let (maus, order) = layout_of(&descriptor_of(records).row);
     let sections = sections_of(alloc, &tables, records)?;
     let names = name_table(alloc, &tables, records)?;
-    let loads = loads_of(alloc, &tables, maus, records)?;
     let start = start_of(alloc, &tables, records)?;
     Ok(Parts {
         processor,
         name,
         maus,
         order,
-        ext: extension,
-        env: environment,
+        ext: List::from_vec(extension),
+        env: List::from_vec(environment),
         sections,
         names,
         debug: List::new(alloc),
         loads,
         start,
     })
-}
-
-// The module of parts that have no defect.
-fn assembled(parts: Parts) -> Module
-    requires { IsValid parts }
-    ensures { result ≡ parts }
-{
-    match assemble(parts) {
-        Ok(module) => module,
-        Err(_) => unreachable!(),
-    }
 }
 
 /// The module that a prefix states, which is sound, has ended, and is the whole stream.
@@ -195,5 +186,5 @@ pub(crate) fn module_of(alloc: Global, prefix: Prefix) -> Result<Module, NoMemor
         → SpellsModule m bytes reads_debug) }
 {
     let parts = parts_of(alloc, prefix)?;
-    Ok(assembled(parts))
+    Ok(Module::sound(parts))
 }

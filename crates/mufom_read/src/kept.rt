@@ -1,16 +1,24 @@
-//! The records of a prefix, with their bytes.
+//! The records of a prefix, with their bytes: the one that is judged, and those that are kept.
 
 ghost use Rattle.std.specs.Prelude.{◌≡◌, ◌+◌, ◌≤◌, length, slice_range, IfOk, IfSome};
 ghost use Rattle.mufom_records.specs.Parts.{LiesIn, IsExpressionIn, HasParts};
 ghost use Rattle.mufom_module.specs.SpelledRecords as records;
-ghost use Rattle.mufom_read.specs.Kept.{record_of_kept};
+ghost use Rattle.mufom_read.specs.Kept.{record_of_kept, kept_of_seen};
 
 use mufom_expr::Postfix;
 use mufom_numbers::{Bytes, NoMemory, Span};
 use mufom_records::{BlockTail, Record, postfix_of};
 use std::alloc::Global;
 
-/// A record of the stream, its bytes, and the offset of the first of them.
+/// A record that is judged: the offset of its first byte, the record, and its bytes.
+#[derive(Debug, Drop)]
+pub(crate) struct SeenRecord<'a> {
+    pub start: u64,
+    pub row: Record,
+    pub bytes: &'a [u8],
+}
+
+/// A record that is kept, with a copy of its bytes, and the offset of the first of them.
 #[derive(Debug, Drop)]
 pub(crate) struct KeptRecord {
     pub start: u64,
@@ -52,6 +60,50 @@ fn part_of(bytes: &[u8], span: Span) -> &[u8]
     ensures { result.now ≡ slice_range bytes.now span.start (span.start + span.len) }
 {
     &bytes[span.start..span.start + span.len]
+}
+
+impl SeenRecord<'_> {
+    /// A copy of the bytes of a part of the record.
+    pub(crate) fn copy_text(&self, alloc: Global, span: Span) -> Result<Bytes, NoMemory>
+        requires { LiesIn self.now.bytes.now span }
+        ensures { IfOk result (λ bytes. bytes ≡ records.text_in (record_of_kept (kept_of_seen self.now)) span) }
+    {
+        Bytes::from_slice(alloc, part_of(self.bytes, span))
+    }
+
+    // The expression at a part of the record, over the indexes of the file.
+    fn tree(&self, alloc: Global, span: Span) -> Result<Postfix, NoMemory>
+        requires { IsExpressionIn self.now.bytes.now span }
+        ensures { IfOk result (λ tree. tree ≡ records.tree_in (record_of_kept (kept_of_seen self.now)) span) }
+    {
+        postfix_of(alloc, part_of(self.bytes, span))
+    }
+
+    /// The record's expression; none has more than one.
+    pub(crate) fn expression(&self, alloc: Global) -> Result<Option<Postfix>, NoMemory>
+        requires { HasParts self.now.bytes.now self.now.row }
+        ensures { IfOk result (λ tree. tree ≡ records.tree_of_record (record_of_kept (kept_of_seen self.now))) }
+    {
+        match expression_of(&self.row) {
+            None => Ok(None),
+            Some(span) => {
+                let tree = self.tree(alloc, span)?;
+                Ok(Some(tree))
+            }
+        }
+    }
+
+    /// The record with a copy of its bytes.
+    pub(crate) fn into_kept(self, alloc: Global) -> Result<KeptRecord, NoMemory>
+        ensures { IfOk result (λ kept. kept ≡ kept_of_seen self.entry) }
+    {
+        let bytes = Bytes::from_slice(alloc, self.bytes)?;
+        Ok(KeptRecord {
+            start: self.start,
+            row: self.row,
+            bytes,
+        })
+    }
 }
 
 impl KeptRecord {

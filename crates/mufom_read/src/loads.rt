@@ -1,77 +1,98 @@
-//! The loads of a module, from the records that state them.
+//! The loads so far, and what awaits items.
 
-ghost use Rattle.std.specs.Prelude.{◌≡◌, ◌+◌, ◌<◌, [], ◌∷◌, ◌++◌, length, drop, IfOk, OnOk, List, All, map};
-ghost use Rattle.mufom_loads.specs.declared.load.Load.TheVariants.{One as one};
+ghost use Rattle.std.specs.Prelude.{◌≡◌, [], ◌∷◌, ◌++◌, IfOk, OnOk, option_map, Some, true};
+ghost use Rattle.mufom_expr.specs.Tree.{Tree};
+ghost use Rattle.mufom_expr.specs.Spelled.{Indexes};
+ghost use Rattle.mufom_module.specs.SpelledRecords as records;
 ghost use Rattle.mufom_module.specs.Gathered as gathered;
-ghost use Rattle.mufom_read.specs.Kept.{record_of_kept, HasOwnParts};
-ghost use Rattle.mufom_read.specs.Built.{indexes_by};
+ghost use Rattle.mufom_read.specs.Kept.{indexes_by, record_of_kept, kept_of_seen, HasOwnParts};
+ghost use Rattle.mufom_read.specs.LoadsSoFar.{loads_and, no_loads, closed, with_item, opened_by, is_item, loads_at_once, with_load};
+ghost use Rattle.mufom_read.specs.declared.loads.OpenLoad.TheVariants as open_load;
 
-use crate::kept::KeptRecord;
-use crate::positions::{position_in, value_in};
+use crate::kept::SeenRecord;
+use crate::positions::{position_in, renamed};
 use crate::tables::Tables;
+use mufom_expr::Postfix;
 use mufom_loads::{Item, Load};
 use mufom_numbers::{List, NoMemory};
 use mufom_records::Record;
 use std::alloc::Global;
+use std::mem;
 
-// The item that the record is, if it is one. A field without a size has the size of an address.
-fn item_by(
+/// The record after which items may stand.
+#[derive(Debug, Drop)]
+pub(crate) enum OpenLoad {
+    Nothing,
+    /// LR: each item is a load.
+    Relocate,
+    /// RE with LR, and its items so far.
+    Repeat { count: u64, items: List<Item> },
+}
+
+/// The loads so far, and what awaits items.
+#[derive(Debug, Drop)]
+pub(crate) struct Loads {
+    pub loads: List<Load>,
+    pub awaiting: OpenLoad,
+}
+
+// Whether the record is an item.
+fn is_item(record: &Record) -> bool
+    ensures { result ≡ is_item «record».now }
+{
+    match record {
+        Record::ConstantItem(_) => true,
+        Record::FieldItem(..) => true,
+        _ => false,
+    }
+}
+
+// The item that the record is, with this value. A field without a size has the size of an address.
+fn item_of(
     alloc: Global,
-    tables: &Tables,
     maus: u8,
-    record: &KeptRecord,
-) -> Result<Option<Item>, NoMemory>
-    requires { HasOwnParts «record».now }
-    ensures { IfOk result (λ item. item ≡ gathered.item_by (indexes_by tables.now) maus (record_of_kept «record».now) «record».now.row) }
+    record: &SeenRecord,
+    value: Option<Postfix>,
+) -> Result<Item, NoMemory>
+    requires own { HasOwnParts (kept_of_seen «record».now) }
+    requires item { is_item «record».now.row ≡ true }
+    requires value { (ix : Indexes) × (value ≡ option_map (records.positioned ix) (records.tree_of_record (record_of_kept (kept_of_seen «record».now)))) }
+    ensures { IfOk result (λ item. (ix : Indexes)
+        → value ≡ option_map (records.positioned ix) (records.tree_of_record (record_of_kept (kept_of_seen «record».now)))
+        → gathered.item_by ix maus (record_of_kept (kept_of_seen «record».now)) «record».now.row ≡ Some item) }
 {
     match &record.row {
         Record::ConstantItem(run) => {
             let bytes = record.copy_text(alloc, *run)?;
-            Ok(Some(Item::Literal(bytes)))
+            Ok(Item::Literal(bytes))
         }
-        Record::FieldItem(kind, span, size) => {
-            let value = value_in(alloc, tables, record, *span)?;
-            Ok(Some(Item::Field {
+        Record::FieldItem(kind, _, size) => match value {
+            Some(value) => Ok(Item::Field {
                 kind: *kind,
                 value,
                 size: size.unwrap_or(maus),
-            }))
-        }
-        _ => Ok(None),
+            }),
+            None => unreachable!(),
+        },
+        _ => unreachable!(),
     }
 }
 
-// The items at the start of the records, up to the first record that is none.
-fn items_at_prefix(
-    alloc: Global,
-    tables: &Tables,
-    maus: u8,
-    kept: &[KeptRecord],
-) -> Result<List<Item>, NoMemory>
-    requires { All HasOwnParts kept.now }
-    ensures { IfOk result (λ items. items ≡ gathered.items_at_prefix (indexes_by tables.now) maus (map record_of_kept kept.now)) }
+// What awaits items after a record that is no item.
+fn opened_by(alloc: Global, record: &Record) -> OpenLoad
+    ensures { result ≡ opened_by «record».now }
 {
-    let mut items = List::new(alloc);
-    for record in kept {
-        match item_by(alloc, tables, maus, record)? {
-            None => return Ok(items),
-            Some(item) => items.push(item)?,
-        }
+    match record {
+        Record::Relocate => OpenLoad::Relocate,
+        Record::RepeatRelocate(count) => OpenLoad::Repeat {
+            count: *count,
+            items: List::new(alloc),
+        },
+        _ => OpenLoad::Nothing,
     }
-    Ok(items)
 }
 
-// Adds each item as a load.
-fn add_each(loads: &mut List<Load>, items: List<Item>) -> Result<(), NoMemory>
-    ensures { OnOk result (loads.new ≡ loads.old ++ map one items) }
-{
-    for item in items.into_vec() {
-        loads.push(Load::One(item))?;
-    }
-    Ok(())
-}
-
-// The items that are one.
+// The list of one item.
 fn one_item(alloc: Global, item: Item) -> Result<List<Item>, NoMemory>
     ensures { IfOk result (λ items. items ≡ item ∷ []) }
 {
@@ -80,44 +101,44 @@ fn one_item(alloc: Global, item: Item) -> Result<List<Item>, NoMemory>
     Ok(items)
 }
 
-// Adds the loads that the record states, after which these stand.
+// The load that sets the program counter of the section to this value.
+fn set_pc(tables: &Tables, index: u32, value: Option<Postfix>) -> Load
+    requires { (tree : Tree) × (value ≡ Some tree) }
+    ensures { (tree : Tree) → value ≡ Some tree → result ≡ Load.SetPc (records.position_in tables.now.sections index) tree }
+{
+    let section = position_in(&tables.sections, index);
+    match value {
+        Some(value) => Load::SetPc { section, value },
+        None => unreachable!(),
+    }
+}
+
+// Adds the loads of a record that is no item, with this value, but for those that await items.
 fn add_loads(
     alloc: Global,
     tables: &Tables,
-    maus: u8,
     loads: &mut List<Load>,
-    record: &KeptRecord,
-    after: &[KeptRecord],
+    record: &SeenRecord,
+    value: Option<Postfix>,
 ) -> Result<(), NoMemory>
-    requires own { HasOwnParts «record».now }
-    requires after { All HasOwnParts after.now }
-    ensures { OnOk result (loads.new ≡ loads.old ++ gathered.loads_by (indexes_by tables.now) (record_of_kept «record».now)
-        (gathered.items_at_prefix (indexes_by tables.now) maus (map record_of_kept after.now)) «record».now.row) }
+    requires own { HasOwnParts (kept_of_seen «record».now) }
+    requires value { value
+        ≡ option_map (records.positioned (indexes_by tables.now)) (records.tree_of_record (record_of_kept (kept_of_seen «record».now))) }
+    ensures { OnOk result (loads.new ≡ loads.old
+        ++ loads_at_once (indexes_by tables.now) (record_of_kept (kept_of_seen «record».now)) «record».now.row) }
 {
     match &record.row {
         Record::SetSection(index) => {
             loads.push(Load::SetSection(position_in(&tables.sections, *index)))
         }
-        Record::SetPc(index, span) => {
-            let section = position_in(&tables.sections, *index);
-            let value = value_in(alloc, tables, record, *span)?;
-            loads.push(Load::SetPc { section, value })
-        }
+        Record::SetPc(index, _) => loads.push(set_pc(tables, *index, value)),
         Record::Constant(run) => {
             let bytes = record.copy_text(alloc, *run)?;
             loads.push(Load::One(Item::Literal(bytes)))
         }
-        Record::Relocate => add_each(loads, items_at_prefix(alloc, tables, maus, after)?),
         Record::RepeatConstant(count, run) => {
             let bytes = record.copy_text(alloc, *run)?;
             let items = one_item(alloc, Item::Literal(bytes))?;
-            loads.push(Load::Repeat {
-                count: *count,
-                items,
-            })
-        }
-        Record::RepeatRelocate(count) => {
-            let items = items_at_prefix(alloc, tables, maus, after)?;
             loads.push(Load::Repeat {
                 count: *count,
                 items,
@@ -127,27 +148,79 @@ fn add_loads(
     }
 }
 
-// The records after the one at a position.
-fn after(kept: &[KeptRecord], place: usize) -> &[KeptRecord]
-    requires { place < length kept.now }
-    ensures { result.now ≡ drop (place + 1) kept.now }
-{
-    &kept[place + 1..]
-}
-
-/// The loads that the records state, with the given number of addressable units in an address.
-pub(crate) fn loads_of(
-    alloc: Global,
-    tables: &Tables,
-    maus: u8,
-    kept: &[KeptRecord],
-) -> Result<List<Load>, NoMemory>
-    requires { All HasOwnParts kept.now }
-    ensures { IfOk result (λ loads. loads ≡ gathered.loads_of (indexes_by tables.now) maus (map record_of_kept kept.now)) }
-{
-    let mut loads = List::new(alloc);
-    for (place, record) in kept.iter().enumerate() {
-        add_loads(alloc, tables, maus, &mut loads, record, after(kept, place))?;
+impl Loads {
+    /// No loads. Takes no memory.
+    pub(crate) fn new(alloc: Global) -> Loads
+        ensures { result ≡ no_loads }
+    {
+        Loads {
+            loads: List::new(alloc),
+            awaiting: OpenLoad::Nothing,
+        }
     }
-    Ok(loads)
+
+    // Ends what awaits items: no further one comes.
+    fn close(&mut self) -> Result<(), NoMemory>
+        ensures { OnOk result (self.new ≡ loads_and (closed self.old) open_load.Nothing) }
+    {
+        match mem::replace(&mut self.awaiting, OpenLoad::Nothing) {
+            OpenLoad::Repeat { count, items } => self.loads.push(Load::Repeat { count, items }),
+            OpenLoad::Relocate => Ok(()),
+            OpenLoad::Nothing => Ok(()),
+        }
+    }
+
+    // Adds an item to what awaits it.
+    fn add_item(&mut self, item: Item) -> Result<(), NoMemory>
+        ensures { OnOk result (self.new ≡ with_item self.old.loads self.old.awaiting item) }
+    {
+        match &mut self.awaiting {
+            OpenLoad::Repeat { items, .. } => items.push(item),
+            OpenLoad::Relocate => self.loads.push(Load::One(item)),
+            OpenLoad::Nothing => Ok(()),
+        }
+    }
+
+    // Takes a record that is no item, with this value.
+    fn take_other(
+        &mut self,
+        alloc: Global,
+        tables: &Tables,
+        record: &SeenRecord,
+        value: Option<Postfix>,
+    ) -> Result<(), NoMemory>
+        requires own { HasOwnParts (kept_of_seen «record».now) }
+        requires value { value
+            ≡ option_map (records.positioned (indexes_by tables.now)) (records.tree_of_record (record_of_kept (kept_of_seen «record».now))) }
+        ensures { OnOk result (self.new ≡ loads_and
+            (closed self.old ++ loads_at_once (indexes_by tables.now) (record_of_kept (kept_of_seen «record».now)) «record».now.row)
+            (opened_by «record».now.row)) }
+    {
+        self.close()?;
+        self.awaiting = opened_by(alloc, &record.row);
+        add_loads(alloc, tables, &mut self.loads, record, value)
+    }
+
+    /// Takes the next record, with its expression over the indexes of the file, by the indexes that those before it declare
+    /// and with these units in an address.
+    pub(crate) fn take(
+        &mut self,
+        alloc: Global,
+        tables: &Tables,
+        maus: u8,
+        record: &SeenRecord,
+        tree: Option<Postfix>,
+    ) -> Result<(), NoMemory>
+        requires own { HasOwnParts (kept_of_seen «record».now) }
+        requires tree { tree ≡ records.tree_of_record (record_of_kept (kept_of_seen «record».now)) }
+        ensures { OnOk result (self.new ≡ with_load (indexes_by tables.now) maus self.old (record_of_kept (kept_of_seen «record».now))) }
+    {
+        let value = renamed(tables, tree);
+        if is_item(&record.row) {
+            let item = item_of(alloc, maus, record, value)?;
+            self.add_item(item)
+        } else {
+            self.take_other(alloc, tables, record, value)
+        }
+    }
 }

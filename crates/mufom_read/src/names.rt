@@ -6,8 +6,8 @@ ghost use Rattle.std.specs.Vec.Iter.{into_iter_items};
 ghost use Rattle.mufom_names.specs.declared.name.Note as name_note;
 ghost use Rattle.mufom_module.specs.SpelledRecords as records;
 ghost use Rattle.mufom_module.specs.Gathered as gathered;
-ghost use Rattle.mufom_read.specs.Kept.{record_of_kept, tables_of, HasOwnParts};
-ghost use Rattle.mufom_read.specs.Built.{indexes_by, value_in, values_in, weak_in, notes_for};
+ghost use Rattle.mufom_read.specs.Kept.{record_of_kept, tables_of, HasOwnParts, indexes_by};
+ghost use Rattle.mufom_read.specs.Built.{value_in, values_in, weak_in, notes_for};
 ghost use Rattle.mufom_read.specs.declared.notes.Named.TheVariants as named;
 
 use crate::kept::KeptRecord;

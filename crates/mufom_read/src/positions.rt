@@ -4,8 +4,8 @@ ghost use Rattle.std.specs.Prelude.{◌≡◌, IfOk, option_map};
 ghost use Rattle.mufom_expr.specs.Spelled.{list_of};
 ghost use Rattle.mufom_records.specs.Parts.{IsExpressionIn};
 ghost use Rattle.mufom_module.specs.SpelledRecords as records;
-ghost use Rattle.mufom_read.specs.Kept.{record_of_kept};
-ghost use Rattle.mufom_read.specs.Built.{indexes_by, stated_at};
+ghost use Rattle.mufom_read.specs.Kept.{record_of_kept, indexes_by};
+ghost use Rattle.mufom_read.specs.Built.{stated_at};
 
 use crate::kept::KeptRecord;
 use crate::tables::Tables;
@@ -68,6 +68,16 @@ pub(crate) fn positioned(
     ensures { IfOk result (λ p. p ≡ records.positioned (indexes_by tables.now) tree.now) }
 {
     tree.map_vars(alloc, &Positions { tables })
+}
+
+/// The expression itself with positions in place of the indexes of the file, where there is one. Takes no memory.
+pub(crate) fn renamed(tables: &Tables, tree: Option<Postfix>) -> Option<Postfix>
+    ensures { result ≡ option_map (records.positioned (indexes_by tables.now)) tree }
+{
+    match tree {
+        None => None,
+        Some(tree) => Some(tree.renamed(&Positions { tables })),
+    }
 }
 
 /// The expression at a part of the record, with positions in place of indexes.

@@ -1,47 +1,61 @@
 //! The records and unread bytes with which a stream begins, and the step after them.
 
 ghost use Rattle.std.specs.Prelude.{◌≡◌, ◌≢◌, ◌+◌, ◌-◌, ◌≤◌, ◌<◌, [], ◌++◌, ℕ, Bool, true, false, ◌==◌, ◌&&◌, not, if◌then◌else◌, Some, OnOk, List, length, take, None, option_map, IfOk, All, MatchOption};
-ghost use Rattle.std.specs.List.{last_or, cons_option};
+ghost use Rattle.std.specs.List.{cons_option};
 ghost use Rattle.mufom_module.specs.SpelledRecords as records;
 ghost use Rattle.mufom_module.specs.RecordParts as parts;
 ghost use Rattle.mufom_read.specs.Prefixes as prefixes;
 ghost use Rattle.mufom_read.specs.Faults as faults;
 ghost use Rattle.mufom_read.specs.PartsOfCode.{as_part, as_extent};
-ghost use Rattle.mufom_read.specs.Kept.{record_of_kept, kept_record, HasOwnParts, HasRoom, is_new, as_fault};
-ghost use Rattle.mufom_read.specs.PrefixOfCode.{IsPrefixOf, IsRead, IsRawPart, IsNotDebug, HasJudged, HasRaw, HasSkipped, IsPlacedWell, with_record, as_location, mode_at, HasTaken, IsStepTaken, HasAdvanced};
+ghost use Rattle.mufom_read.specs.Kept.{record_of_kept, kept_of_seen, kept_alone, HasOwnParts, HasRoom, is_new, as_fault};
+ghost use Rattle.mufom_read.specs.LoadsSoFar.{units_after};
+ghost use Rattle.mufom_read.specs.PrefixOfCode.{IsPrefixOf, IsRead, IsRawPart, IsNotDebug, HasJudged, HasRaw, HasSkipped, IsPlacedWell, with_record, as_location, next_location, is_inside, mode_at, HasTaken, IsStepTaken, HasAdvanced};
 ghost use Rattle.mufom_read.specs.declared.prefix.Next.TheVariants as nexts;
 ghost use Rattle.mufom_records.specs.Reading.{record_at};
 ghost use Rattle.mufom_records.specs.declared.record.Mode.TheVariants as modes;
 ghost use Rattle.mufom_module.specs.Grammar.{offset_in, file_limit};
 
 use crate::header::header_fault;
-use crate::kept::KeptRecord;
+use crate::kept::{KeptRecord, SeenRecord};
+use crate::loads::Loads;
 use crate::part::{Extent, Part, is_raw, part_at, stands_in};
 use crate::refusal::ReadRefusal;
 use crate::rules::rule_broken;
 use crate::tables::Tables;
 use crate::whole::whole_fault;
 use mufom_expr::Postfix;
-use mufom_numbers::{Bytes, List, NoMemory, Reason, Taken, codes};
+use mufom_numbers::{List, NoMemory, Reason, Taken, codes};
 use mufom_records::{Mode, Record, next_record};
 use std::alloc::Global;
 
-/// How many records the header has.
-pub(crate) const HEADER_COUNT: u64 = 10;
+// The record of the header after which no further one comes.
+const LAST_OF_HEADER: u8 = 9;
+
+// The most units that an address has.
+const MOST_UNITS: u64 = 8;
 
 /// What was judged of a stream so far, and has no fault.
 #[derive(Debug, Drop)]
 pub(crate) struct Prefix {
+    /// The records but those of the data part.
     pub kept: List<KeptRecord>,
     pub tables: Tables,
+    /// What the records of the data part give.
+    pub loads: Loads,
+    /// The units of an address, once the descriptor was read.
+    pub maus: Option<u8>,
+    /// Whether items may stand after the last record.
+    pub awaits_items: bool,
+    /// Whether the end of the module was read.
+    pub ended: bool,
     /// The offsets of the header, as far as they stand.
     pub offsets: List<u64>,
-    pub extension: Bytes,
-    pub environment: Bytes,
-    /// How many records and unread bytes there are.
-    pub steps: u64,
+    pub extension: Vec<u8>,
+    pub environment: Vec<u8>,
     /// How many bytes there are.
     pub size: u64,
+    /// Where the next byte stands.
+    pub location: Location,
 }
 
 /// Where the next byte stands.
@@ -155,22 +169,33 @@ fn at_most(bytes: &[u8], count: u64) -> &[u8]
     }
 }
 
-// Adds bytes at the end of others.
-fn append(bytes: &mut Bytes, more: &[u8]) -> Result<(), NoMemory>
-    ensures { OnOk result (bytes.new ≡ bytes.old ++ more.now) }
+// The units of an address: those of the first descriptor.
+fn units_after(maus: Option<u8>, record: &Record) -> Option<u8>
+    ensures { result ≡ units_after maus «record».now }
 {
-    for byte in more {
-        bytes.push(*byte)?;
+    match (maus, record) {
+        (Some(maus), _) => Some(maus),
+        (None, Record::Descriptor(_, maus, _)) => Some((*maus).min(MOST_UNITS) as u8),
+        (None, _) => None,
     }
-    Ok(())
 }
 
-// A record with a copy of its bytes.
-fn keep(alloc: Global, start: u64, row: Record, bytes: &[u8]) -> Result<KeptRecord, NoMemory>
-    ensures { IfOk result (λ kept. kept ≡ kept_record start row bytes.now) }
+fn is_module_end(record: &Record) -> bool
+    ensures { result ≡ prefixes.is_module_end «record».now }
 {
-    let bytes = Bytes::from_slice(alloc, bytes)?;
-    Ok(KeptRecord { start, row, bytes })
+    matches!(record, Record::ModuleEnd)
+}
+
+// Keeps the record, unless it is one of the data part, whose loads are kept.
+fn keep_last(alloc: Global, kept: &mut List<KeptRecord>, next: SeenRecord) -> Result<(), NoMemory>
+    ensures { OnOk result (kept.new ≡ kept.old ++ kept_alone (kept_of_seen next.entry)) }
+{
+    if stands_in(Part::Data, &next.row) {
+        Ok(())
+    } else {
+        let record = next.into_kept(alloc)?;
+        kept.push(record)
+    }
 }
 
 impl Prefix {
@@ -181,73 +206,77 @@ impl Prefix {
         Prefix {
             kept: List::new(alloc),
             tables: Tables::new(alloc),
+            loads: Loads::new(alloc),
+            maus: None,
+            awaits_items: false,
+            ended: false,
             offsets: List::new(alloc),
-            extension: Bytes::new(alloc),
-            environment: Bytes::new(alloc),
-            steps: 0,
+            extension: Vec::new(alloc),
+            environment: Vec::new(alloc),
             size: 0,
+            location: Location::Header(0),
         }
     }
 
-    // Where the byte after the prefix stands.
-    fn place(&self) -> Location
-        ensures { (reads_debug : Bool) (prefix : List prefixes.Step) → IsPrefixOf reads_debug self.now prefix
-            → as_location result ≡ prefixes.location_after prefix }
+    // Where the byte after the prefix stands, after the header: found by the offsets.
+    fn find_location(&self) -> Location
+        ensures { as_location result ≡ prefixes.location_by (prefixes.part_among prefixes.parts_in_order self.now.offsets self.now.size) }
     {
-        if self.steps < HEADER_COUNT {
-            return Location::Header(self.steps as u8);
-        }
         match part_at(self.offsets.as_slice(), self.size) {
             Some(extent) => Location::Part(extent),
             None => Location::End,
         }
     }
 
-    // The last record.
-    fn last(&self) -> Option<&KeptRecord>
-        ensures { option_map (λ k. k.now) result ≡ last_or None self.now.kept }
+    // Where the byte after the prefix stands, whose last step stood in the location that is kept. It is found anew only where
+    // a part ends.
+    fn next_location(&self) -> Location
+        ensures { as_location result ≡ next_location (as_location self.now.location) self.now.offsets self.now.size }
     {
-        match self.kept.as_slice() {
-            [] => None,
-            [.., last] => Some(last),
+        match self.location {
+            Location::Header(count) => {
+                if count < LAST_OF_HEADER {
+                    Location::Header(count + 1)
+                } else {
+                    self.find_location()
+                }
+            }
+            Location::Part(extent) => {
+                if self.size < extent.to {
+                    Location::Part(extent)
+                } else {
+                    self.find_location()
+                }
+            }
+            Location::End => self.find_location(),
         }
     }
 
-    // Whether items may stand after the last record.
-    fn awaits_items(&self) -> bool
-        ensures { result ≡ prefixes.awaits_items (option_map record_of_kept (last_or None self.now.kept)) }
+    // Whether the last byte stands in the part in which the next one does.
+    fn is_inside(&self) -> bool
+        ensures { result ≡ is_inside (as_location self.now.location) self.now.size }
     {
-        match self.last() {
-            None => false,
-            Some(last) => opens_items(&last.row),
+        match self.location {
+            Location::Header(_) => false,
+            Location::Part(extent) => extent.from < self.size,
+            Location::End => false,
         }
     }
 
     /// Whether the end of the module was read.
     pub(crate) fn is_ended(&self) -> bool
-        ensures kept { result ≡ prefixes.ends_with (option_map record_of_kept (last_or None self.now.kept)) }
+        ensures kept { result ≡ self.now.ended }
         ensures prefix { (reads_debug : Bool) (prefix : List prefixes.Step) → IsPrefixOf reads_debug self.now prefix
             → result ≡ prefixes.is_ended prefix }
     {
-        self.has_end()
-    }
-
-    // Whether the last record is the end of the module.
-    fn has_end(&self) -> bool
-        ensures { result ≡ prefixes.ends_with (option_map record_of_kept (last_or None self.now.kept)) }
-    {
-        match self.last() {
-            None => false,
-            Some(last) => matches!(last.row, Record::ModuleEnd),
-        }
+        self.ended
     }
 
     // Whether an item may stand after the prefix in this part, and one does.
     fn may_go_on(&self, extent: Extent, rest: &[u8]) -> bool
-        ensures { result ≡ (not (self.now.size == extent.from) &&
-            (prefixes.awaits_items (option_map record_of_kept (last_or None self.now.kept)) && parts.begins_item rest.now)) }
+        ensures { result ≡ (not (self.now.size == extent.from) && (self.now.awaits_items && parts.begins_item rest.now)) }
     {
-        self.size != extent.from && self.awaits_items() && begins_item(rest)
+        self.size != extent.from && self.awaits_items && begins_item(rest)
     }
 
     // What must stand in a location, where these bytes stand.
@@ -285,73 +314,88 @@ impl Prefix {
         }
     }
 
-    // The fault of a whole record in a part.
+    // The fault of a whole record in a part, with this expression.
     fn part_fault(
         &self,
-        alloc: Global,
         extent: Extent,
-        next: &KeptRecord,
-    ) -> Result<Option<ReadRefusal>, NoMemory>
-        requires own { HasOwnParts next.now }
-        requires fits { self.now.size + length next.now.bytes ≤ file_limit }
+        next: &SeenRecord,
+        tree: Option<&Postfix>,
+    ) -> Option<ReadRefusal>
+        requires fits { self.now.size + length next.now.bytes.now ≤ file_limit }
         requires other { as_part extent.part ≢ parts.debug_part }
-        ensures { IfOk result (λ fault. (reads_debug : Bool) (prefix : List prefixes.Step) → IsPrefixOf reads_debug self.now prefix
-            → option_map as_fault fault ≡ faults.part_record_fault prefix (as_extent extent) self.now.size (record_of_kept next.now)) }
+        ensures { (reads_debug : Bool) (prefix : List prefixes.Step) → IsPrefixOf reads_debug self.now prefix
+            → records.tree_of_record (record_of_kept (kept_of_seen next.now)) ≡ option_map (λ t. t.now) tree.entry
+            → option_map as_fault result
+            ≡ faults.part_record_fault prefix (as_extent extent) self.now.size (record_of_kept (kept_of_seen next.now)) }
     {
         if self.size + next.bytes.len() as u64 > extent.to {
-            return Ok(self.refused(Reason::PartGap));
+            return self.refused(Reason::PartGap);
         }
         if !stands_in(extent.part, &next.row) {
-            return Ok(self.refused(Reason::WrongPart));
+            return self.refused(Reason::WrongPart);
         }
-        let tree = next.expression(alloc)?;
-        Ok(self.rule_fault(&next.row, tree.as_ref()))
+        self.rule_fault(&next.row, tree)
     }
 
-    // The fault of a whole record in its location.
+    // The fault of a whole record in its location, with this expression.
     fn record_fault(
         &self,
-        alloc: Global,
         reads_debug: bool,
         place: Location,
-        next: &KeptRecord,
-    ) -> Result<Option<ReadRefusal>, NoMemory>
-        requires own { HasOwnParts next.now }
-        requires fits { self.now.size + length next.now.bytes ≤ file_limit }
+        next: &SeenRecord,
+        tree: Option<&Postfix>,
+    ) -> Option<ReadRefusal>
+        requires fits { self.now.size + length next.now.bytes.now ≤ file_limit }
         requires placed { IsPlacedWell place next.now.row }
-        ensures { IfOk result (λ fault. (prefix : List prefixes.Step) → IsPrefixOf reads_debug self.now prefix
-            → option_map as_fault fault ≡ faults.record_fault reads_debug prefix (as_location place) self.now.size (record_of_kept next.now)) }
+        ensures { (prefix : List prefixes.Step) → IsPrefixOf reads_debug self.now prefix
+            → records.tree_of_record (record_of_kept (kept_of_seen next.now)) ≡ option_map (λ t. t.now) tree.entry
+            → option_map as_fault result
+            ≡ faults.record_fault reads_debug prefix (as_location place) self.now.size (record_of_kept (kept_of_seen next.now)) }
     {
         match place {
             Location::Header(_) => {
                 let end = self.size + next.bytes.len() as u64;
                 let earlier = self.offsets.as_slice();
-                Ok(header_fault(reads_debug, earlier, &next.row, self.size, end))
+                header_fault(reads_debug, earlier, &next.row, self.size, end)
             }
-            Location::Part(extent) => self.part_fault(alloc, extent, next),
+            Location::Part(extent) => self.part_fault(extent, next, tree),
             Location::End => {
                 if stands_in(Part::End, &next.row) {
-                    Ok(None)
+                    None
                 } else {
-                    Ok(self.refused(Reason::WrongPart))
+                    self.refused(Reason::WrongPart)
                 }
             }
         }
     }
 
-    // Adds a record without a fault.
-    fn add(&mut self, next: KeptRecord) -> Result<(), NoMemory>
+    // Adds a record without a fault, with its expression.
+    fn add(
+        &mut self,
+        alloc: Global,
+        next: SeenRecord,
+        tree: Option<Postfix>,
+    ) -> Result<(), NoMemory>
         requires room { HasRoom self.old.tables }
         requires new { is_new self.old.tables next.row ≡ true }
-        requires few { self.old.steps ≤ file_limit }
-        requires fits { self.old.size + length next.bytes ≤ file_limit }
-        ensures { OnOk result (self.new ≡ with_record self.old next) }
+        requires own { HasOwnParts (kept_of_seen next) }
+        requires tree { tree ≡ records.tree_of_record (record_of_kept (kept_of_seen next)) }
+        requires fits { self.old.size + length next.bytes.now ≤ file_limit }
+        ensures added { OnOk result (self.new ≡ with_record self.old (kept_of_seen next.entry) self.new.location) }
+        ensures location { OnOk result (as_location self.new.location
+            ≡ next_location (as_location self.old.location) (self.old.offsets ++ cons_option (offset_in next.entry.row) [])
+            (self.old.size + length next.entry.bytes.now)) }
     {
+        let maus = self.maus.unwrap_or(2);
+        self.loads.take(alloc, &self.tables, maus, &next, tree)?;
+        self.maus = units_after(self.maus, &next.row);
         self.tables.add(&next.row)?;
         add_offset(&mut self.offsets, &next.row)?;
-        self.steps += 1;
+        self.awaits_items = opens_items(&next.row);
+        self.ended = is_module_end(&next.row);
         self.size += next.bytes.len() as u64;
-        self.kept.push(next)
+        self.location = self.next_location();
+        keep_last(alloc, &mut self.kept, next)
     }
 
     // Judges the record that begins after the prefix, and adds it.
@@ -360,24 +404,25 @@ impl Prefix {
         alloc: Global,
         reads_debug: bool,
         place: Location,
-        next: KeptRecord,
+        next: SeenRecord,
     ) -> Result<Next, NoMemory>
         requires known { (prefix : List prefixes.Step) × IsPrefixOf reads_debug self.old prefix
             × (as_location place ≡ prefixes.location_after prefix) }
-        requires own { HasOwnParts next }
-        requires some { 0 < length next.bytes }
+        requires own { HasOwnParts (kept_of_seen next) }
+        requires some { 0 < length next.bytes.now }
         requires start { next.start ≡ self.old.size }
-        requires fits { self.old.size + length next.bytes ≤ file_limit }
+        requires fits { self.old.size + length next.bytes.now ≤ file_limit }
         requires placed { IsPlacedWell place next.row }
         ensures { IfOk result (λ done. (prefix : List prefixes.Step) → IsPrefixOf reads_debug self.old prefix
             → as_location place ≡ prefixes.location_after prefix
-            → HasTaken reads_debug prefix (record_of_kept next) self.new done) }
+            → HasTaken reads_debug prefix (record_of_kept (kept_of_seen next.entry)) self.new done) }
     {
         let used = next.bytes.len();
-        match self.record_fault(alloc, reads_debug, place, &next)? {
+        let tree = next.expression(alloc)?;
+        match self.record_fault(reads_debug, place, &next, tree.as_ref()) {
             Some(refusal) => Ok(Next::Refused(refusal)),
             None => {
-                self.add(next)?;
+                self.add(alloc, next, tree)?;
                 Ok(Next::Took(used))
             }
         }
@@ -402,8 +447,12 @@ impl Prefix {
             (record_at (mode_at prefix (as_location place) rest.now) rest.now)) rest.now self.new next) }
     {
         match next_record(rest, self.mode(place, rest)) {
-            Taken::Got(record, used) => {
-                let next = keep(alloc, self.size, record, prefix_of(rest, used))?;
+            Taken::Got(row, used) => {
+                let next = SeenRecord {
+                    start: self.size,
+                    row,
+                    bytes: prefix_of(rest, used),
+                };
                 self.take(alloc, reads_debug, place, next)
             }
             Taken::More => Ok(Next::More),
@@ -416,23 +465,21 @@ impl Prefix {
 
     // Adds bytes that are not read, of this part.
     fn add_raw(&mut self, part: Part, bytes: &[u8]) -> Result<(), NoMemory>
-        requires few { self.old.steps ≤ self.old.size }
         requires fits { self.old.size + length bytes.now ≤ file_limit }
         ensures { OnOk result (HasRaw self.old part bytes.now self.new) }
     {
         match part {
-            Part::Extension => append(&mut self.extension, bytes)?,
-            Part::Environment => append(&mut self.environment, bytes)?,
+            Part::Extension => self.extension.extend_from_slice(bytes)?,
+            Part::Environment => self.environment.extend_from_slice(bytes)?,
             _ => {}
         }
-        self.steps += bytes.len() as u64;
         self.size += bytes.len() as u64;
+        self.location = self.next_location();
         Ok(())
     }
 
     // Takes bytes that are not read, as many of the part's as there are.
     fn skip(&mut self, extent: Extent, rest: &[u8]) -> Result<Next, NoMemory>
-        requires few { self.old.steps ≤ self.old.size }
         requires fits { self.old.size + length rest.now ≤ file_limit }
         requires within { self.old.size < extent.to }
         ensures { IfOk result (λ next. HasSkipped self.old extent.part (extent.to - self.old.size) rest.now self.new next) }
@@ -451,6 +498,9 @@ impl Prefix {
         ensures { IfOk result (λ fault. (reads_debug : Bool) (prefix : List prefixes.Step) → IsPrefixOf reads_debug self.now prefix
             → option_map as_fault fault ≡ faults.ended_part_fault prefix) }
     {
+        if self.is_inside() {
+            return Ok(None);
+        }
         match part_at(self.offsets.as_slice(), self.size.saturating_sub(1)) {
             None => Ok(None),
             Some(extent) => {
@@ -471,7 +521,7 @@ impl Prefix {
             → prefixes.is_ended prefix ≡ false → faults.ended_part_fault prefix ≡ None
             → IsStepTaken reads_debug prefix rest.now self.new next) }
     {
-        let place = self.place();
+        let place = self.location;
         match raw_part(reads_debug, place) {
             Some(extent) => self.skip(extent, rest),
             None => self.read(alloc, reads_debug, place, rest),

@@ -30,6 +30,11 @@ impl Model for Reader {
 
     ghost Value = { State };
 
+    ghost use Rattle.std.specs.Coded.{codes};
+    ghost use Rattle.mufom_expr.specs.TreeCode.{tree_code};
+
+    ghost coded = { Prim.hlevel (codes, tree_code) };
+
     ghost view = { λ r. r.state };
 
     // It has read a stream.

@@ -4,7 +4,7 @@ ghost use Rattle.std.specs.Prelude.{◌≡◌, List, [], map, option_map, IfOk, 
 ghost use Rattle.mufom_read.specs.Prefixes.{Step, records_of, offset_records_of};
 ghost use Rattle.mufom_read.specs.Faults as faults;
 ghost use Rattle.mufom_read.specs.PartsOfCode.{as_part};
-ghost use Rattle.mufom_read.specs.Kept.{tables_of, record_of_kept, placed, HasOwnParts, as_fault, lacks_base_in, lacks_value_in, has_unknown_value_in, section_fault_in, external_fault_in};
+ghost use Rattle.mufom_read.specs.Kept.{tables_of, record_of_kept, placed, kept_of, HasOwnParts, as_fault, lacks_base_in, lacks_value_in, has_unknown_value_in, section_fault_in, external_fault_in};
 
 use crate::kept::KeptRecord;
 use crate::part::Part;
@@ -96,7 +96,7 @@ pub(crate) fn whole_fault(
 ) -> Result<Option<ReadRefusal>, NoMemory>
     requires { All HasOwnParts kept.now }
     ensures { IfOk result (λ fault. (prefix : List Step) → tables.now ≡ tables_of (records_of prefix)
-        → map placed kept.now ≡ offset_records_of prefix → faults.open_blocks (offset_records_of prefix) ≡ []
+        → map placed kept.now ≡ kept_of (offset_records_of prefix) → faults.open_blocks (offset_records_of prefix) ≡ []
         → option_map as_fault fault ≡ faults.whole_fault (as_part part) prefix) }
 {
     match part {

@@ -2,20 +2,22 @@ use Rattle.std.proofs.Common.{sym, ap, subst, ◌∙◌}
 use Rattle.mufom_module.specs.declared.module.Parts.{Parts}
 use Rattle.mufom_module.specs.Defects.{IsValid}
 use Rattle.mufom_module.specs.Grammar.{SpellsModule}
-use Rattle.mufom_read.specs.Kept.{tables_of}
-use Rattle.mufom_read.proofs.BuildLaws.{kept-records, whole-stated}
+use Rattle.mufom_read.specs.Prefixes.{records_of}
+use Rattle.mufom_read.specs.Kept.{tables_of, without_section}
+use Rattle.mufom_read.proofs.BuildLaws.{whole-stated}
+use Rattle.mufom_read.proofs.KeptRecords.{kept-records, kept-tables}
 use Rattle.mufom_read.proofs.build.module_of.Goals as goal
 
 pub parts_of-requires-clause-tables : goal.parts_of-requires-clause-tables
 parts_of-requires-clause-tables c =
     let is = c.requires.3 in
-    is.kept.tables ∙ ap tables_of (sym (kept-records c.requires.0 c.args.prefix c.requires.1 is.kept))
+    ap without_section is.kept.tables ∙ kept-tables (records_of c.requires.1) ∙ ap tables_of (sym (kept-records c.requires.0 c.args.prefix c.requires.1 is.kept))
 
 pub parts_of-requires-clause-stated : goal.parts_of-requires-clause-stated
 parts_of-requires-clause-stated c = let stated = whole-stated c.requires.0 c.args.prefix c.requires.1 c.requires.2 c.requires.3 in (stated.0, stated.2)
 
-pub assembled-requires : goal.assembled-requires
-assembled-requires c =
+pub sound-requires : goal.sound-requires
+sound-requires c =
     let stated = whole-stated c.requires.0 c.args.prefix c.requires.1 c.requires.2 c.requires.3 in
     let spells = stated.1 in
     subst IsValid (sym (c.in_ok-parts.ensures stated.0 stated.2)) spells.4
@@ -23,4 +25,4 @@ assembled-requires c =
 pub returns : goal.returns
 returns c = λ reads_debug steps bytes is.
     let stated = whole-stated reads_debug c.args.prefix steps bytes is in
-    subst (λ (m : Parts). SpellsModule m bytes reads_debug) (sym (c.assembled.ensures ∙ c.in_ok-parts.ensures stated.0 stated.2)) stated.1
+    subst (λ (m : Parts). SpellsModule m bytes reads_debug) (sym (c.sound.ensures.same ∙ c.in_ok-parts.ensures stated.0 stated.2)) stated.1

@@ -1,5 +1,5 @@
 use Rattle.std.proofs.Common.{sym, ◌∙◌, arith}
-use Rattle.mufom_read.specs.Built.{indexes_by}
+use Rattle.mufom_read.specs.Kept.{indexes_by}
 use Rattle.mufom_read.proofs.BuildLaws.{start-here, start-later}
 use Rattle.mufom_read.proofs.build.start_of.Goals as goal
 

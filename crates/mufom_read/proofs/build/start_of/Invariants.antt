@@ -1,7 +1,6 @@
 use Rattle.std.proofs.Common.{◌≡◌, map, drop, slice_get}
 use Rattle.mufom_module.specs.Gathered.{starts_of}
-use Rattle.mufom_read.specs.Kept.{record_of_kept}
-use Rattle.mufom_read.specs.Built.{indexes_by}
+use Rattle.mufom_read.specs.Kept.{record_of_kept, indexes_by}
 use Rattle.mufom_read.proofs.build.start_of.Given as goal
 
 abbrev pub invariant-loop-record : goal.invariant-loop-record

@@ -1,15 +1,21 @@
-use Rattle.std.proofs.Common.{◌∷◌, [], map, sym, ap, ◌∙◌}
-use Rattle.mufom_loads.specs.declared.load.Load.TheVariants.{SetPc}
-use Rattle.mufom_module.specs.Gathered.{loads_by, items_at_prefix}
-use Rattle.mufom_read.specs.Kept.{record_of_kept}
-use Rattle.mufom_read.specs.Built.{indexes_by}
-use Rattle.mufom_read.proofs.LoadLaws.{pushed}
+use Rattle.std.proofs.Common.{◌∷◌, [], sym, ap, ◌∙◌}
+use Rattle.mufom_module.specs.SpelledRecords.{positioned, tree_in}
+use Rattle.mufom_read.specs.Kept.{record_of_kept, kept_of_seen, indexes_by}
+use Rattle.mufom_read.specs.LoadsSoFar.{loads_at_once}
+use Rattle.mufom_read.proofs.LoadLaws.{pushed, pc-valued}
 use Rattle.mufom_read.proofs.loads.add_loads.Goals as goal
 
-pub returns-in_ok-value-in-SetPc : goal.returns-in_ok-value-in-SetPc
-returns-in_ok-value-in-SetPc c =
+pub set_pc-requires : goal.set_pc-requires
+set_pc-requires c =
     let ix = indexes_by c.args.tables.now in
+    let p = record_of_kept (kept_of_seen c.args.record.now) in
+    (positioned ix (tree_in p c.in-SetPc.field-1), c.requires.value ∙ pc-valued ix p c.in-SetPc.index c.in-SetPc.field-1 c.in-SetPc.is)
+
+pub returns-in-SetPc : goal.returns-in-SetPc
+returns-in-SetPc c =
+    let ix = indexes_by c.args.tables.now in
+    let p = record_of_kept (kept_of_seen c.args.record.now) in
     pushed c.push-in-SetPc.result c.push-in-SetPc.new.self c.args.loads.now _ _
-    ((λ k. SetPc (c.position_in-section.ensures k) (c.in_ok-value-in-SetPc.ensures k) ∷ [])
-    ∙ ap (λ row. loads_by ix (record_of_kept c.args.record.now) (items_at_prefix ix c.args.maus (map record_of_kept c.args.after.now)) row) (sym c.in-SetPc.is))
+    ((λ k. c.set_pc.ensures (positioned ix (tree_in p c.in-SetPc.field-1)) (c.requires.value ∙ pc-valued ix p c.in-SetPc.index c.in-SetPc.field-1 c.in-SetPc.is) k ∷ [])
+    ∙ ap (λ row. loads_at_once ix p row) (sym c.in-SetPc.is))
     c.push-in-SetPc.ensures.ok

@@ -4,8 +4,8 @@ use Rattle.std.proofs.lemmas.List.Elements.{filter_map-append}
 use Rattle.mufom_module.specs.SpelledRecords.{SpelledRecord, declared, public}
 use Rattle.mufom_module.specs.Gathered.{public_by}
 use Rattle.mufom_read.specs.declared.notes.Named.TheVariants as named
-use Rattle.mufom_read.specs.Kept.{record_of_kept}
-use Rattle.mufom_read.specs.Built.{indexes_by, notes_for}
+use Rattle.mufom_read.specs.Kept.{record_of_kept, indexes_by}
+use Rattle.mufom_read.specs.Built.{notes_for}
 use Rattle.mufom_read.proofs.LoadLaws.{from-offset}
 use Rattle.mufom_read.proofs.NameLaws.{take-more}
 use Rattle.mufom_read.proofs.names.publics_of.Goals as goal

@@ -2,8 +2,8 @@ use Rattle.std.proofs.Common.{◌≡◌, map, filter_map, take, drop}
 use Rattle.std.specs.Vec.Iter.{into_iter_items}
 use Rattle.mufom_module.specs.SpelledRecords.{declared, public}
 use Rattle.mufom_module.specs.Gathered.{public_by}
-use Rattle.mufom_read.specs.Kept.{record_of_kept}
-use Rattle.mufom_read.specs.Built.{indexes_by, notes_for}
+use Rattle.mufom_read.specs.Kept.{record_of_kept, indexes_by}
+use Rattle.mufom_read.specs.Built.{notes_for}
 use Rattle.mufom_read.specs.declared.notes.Named.TheVariants as named
 use Rattle.mufom_read.proofs.names.publics_of.Given as goal
 

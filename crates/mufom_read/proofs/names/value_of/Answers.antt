@@ -2,7 +2,8 @@ use Rattle.std.proofs.Common.{ap, ◌∙◌}
 use Rattle.std.specs.Prelude.{unwrap_or}
 use Rattle.mufom_expr.specs.Tree.{number}
 use Rattle.mufom_module.specs.SpelledRecords.{positioned}
-use Rattle.mufom_read.specs.Built.{indexes_by, stated_at}
+use Rattle.mufom_read.specs.Built.{stated_at}
+use Rattle.mufom_read.specs.Kept.{indexes_by}
 use Rattle.mufom_read.proofs.WholeLaws.{if_ok}
 use Rattle.mufom_read.proofs.NameLaws.{value-stated}
 use Rattle.mufom_read.proofs.names.value_of.Goals as goal

@@ -6,13 +6,17 @@ use Rattle.mufom_read.proofs.prefix.Prefix.new.Goals as goal
 pub returns : goal.returns
 returns c = λ reads_debug. record {
   kept = ap (map placed) c.new.ensures;
+  loads = c.new-3.ensures;
+  maus = refl;
+  awaits = refl;
+  ended = refl;
   own = none-own _ c.new.ensures;
   tables = c.new-2.ensures;
-  offsets = c.new-3.ensures;
-  extension = c.new-4.ensures;
-  environment = c.new-5.ensures;
-  steps = refl;
+  offsets = c.new-4.ensures;
+  extension = c.new-5.ensures.items;
+  environment = c.new-6.ensures.items;
   size = refl;
+  location = refl;
   few = omega arith;
   blocks = refl;
   later = λ reads. refl;

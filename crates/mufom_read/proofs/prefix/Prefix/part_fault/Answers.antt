@@ -1,6 +1,6 @@
 use Rattle.std.proofs.Common.{◌∙◌, sym, refl, arith}
 use Rattle.mufom_read.specs.PartsOfCode.{as_extent}
-use Rattle.mufom_read.specs.Kept.{record_of_kept}
+use Rattle.mufom_read.specs.Kept.{record_of_kept, kept_of_seen}
 use Rattle.mufom_read.proofs.AddLaws.{part-clean, plain-in}
 use Rattle.mufom_read.proofs.prefix.Prefix.part_fault.Goals as goal
 
@@ -8,6 +8,7 @@ pub rule_fault-requires : goal.rule_fault-requires
 rule_fault-requires c = plain-in _ _ (sym c.stands_in.ensures ∙ c.if-not-stands_in.false) c.requires.other
 
 pub returns : goal.returns
-returns c = λ reads_debug prefix is.
-    part-clean prefix (as_extent c.args.extent) c.args.self.now.size (record_of_kept c.args.next.now) _ (omega (arith, c.if-self-len.false, c.len.ensures)) (sym c.stands_in.ensures ∙ c.if-not-stands_in.false)
-    (c.rule_fault.ensures reads_debug prefix (record_of_kept c.args.next.now) is refl (sym (c.as_ref.ensures.value ∙ c.in_ok-tree.ensures)))
+returns c = λ reads_debug prefix is tree.
+    let p = record_of_kept (kept_of_seen c.args.next.now) in
+    part-clean prefix (as_extent c.args.extent) c.args.self.now.size p _ (omega (arith, c.if-self-next.false)) (sym c.stands_in.ensures ∙ c.if-not-stands_in.false)
+    (c.rule_fault.ensures reads_debug prefix p is refl tree)

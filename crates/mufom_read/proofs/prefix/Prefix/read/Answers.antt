@@ -1,43 +1,42 @@
-use Rattle.std.proofs.Common.{◌+◌, ◌∙◌, ap, refl, sym, subst, arith, take, drop, None, Some, ◌<◌}
+use Rattle.std.proofs.Common.{ℕ, List, ◌+◌, ◌∙◌, ap, refl, sym, subst, arith, take, drop, None, Some, ◌<◌}
 use Rattle.mufom_records.specs.declared.record.Mode.{Mode}
 use Rattle.mufom_records.specs.Fields.{first_of}
 use Rattle.mufom_records.specs.Layouts.{IsWholeRecord}
+use Rattle.mufom_records.specs.Parts.{HasParts}
 use Rattle.mufom_records.specs.Reading.{record_at}
-use Rattle.mufom_read.specs.declared.kept.KeptRecord.{KeptRecord}
 use Rattle.mufom_read.specs.Prefixes.{size_of, as_step}
 use Rattle.mufom_read.specs.Faults.{step_fault}
 use Rattle.mufom_read.specs.Kept.{kept_record}
-use Rattle.mufom_read.specs.PrefixOfCode.{as_location, mode_at, IsPlacedWell}
+use Rattle.mufom_read.specs.PrefixOfCode.{as_location, mode_at}
 use Rattle.mufom_read.proofs.WholeLaws.{if_ok}
 use Rattle.mufom_read.proofs.RecordFacts.{got-some, got-own, got-placed}
 use Rattle.mufom_read.proofs.NearFaults.{bad-within}
-use Rattle.mufom_read.proofs.JudgeLaws.{taken-judged, taken_length, own-of}
+use Rattle.mufom_read.proofs.JudgeLaws.{taken-judged, taken_length}
 use Rattle.mufom_read.proofs.prefix.Prefix.read.Goals as goal
 
 pub take-requires-clause-own : goal.take-requires-clause-own
-take-requires-clause-own c = own-of _ _ _ _ _ c.in_ok-next-in-Got.ensures c.prefix_of.ensures (got-own _ _ _ _ c.in-Got.ensures.got.1)
+take-requires-clause-own c = subst (λ (b : List ℕ). HasParts b c.in-Got.row) (sym c.prefix_of.ensures) (got-own _ _ _ _ c.in-Got.ensures.got.1)
 
 pub take-requires-clause-placed : goal.take-requires-clause-placed
 take-requires-clause-placed c =
     let prefix = c.requires.known.0 in
     let rest = c.args.rest.now in
-    subst (λ (k : KeptRecord). IsPlacedWell c.args.place k.row) (sym c.in_ok-next-in-Got.ensures)
-    (got-placed prefix c.args.place rest _ _ _ c.requires.other
-    (subst (λ (m : Mode). IsWholeRecord m c.in-Got.record (take c.in-Got.used rest) (first_of (drop c.in-Got.used rest) None)) (c.mode.ensures c.args.reads_debug prefix c.requires.known.1) c.in-Got.ensures.got.1))
+    got-placed prefix c.args.place rest _ _ _ c.requires.other
+    (subst (λ (m : Mode). IsWholeRecord m c.in-Got.row (take c.in-Got.used rest) (first_of (drop c.in-Got.used rest) None)) (c.mode.ensures c.args.reads_debug prefix c.requires.known.1) c.in-Got.ensures.got.1)
 
 pub overflow_add-result : goal.overflow_add-result
 overflow_add-result c = let within = bad-within c.mode.result c.args.rest.now c.in-Bad.offset c.in-Bad.reason ((c.in-Bad.ensures.bad c.in-Bad.offset c.in-Bad.reason).0 refl) in omega (arith, within, c.requires.fits)
 
-pub returns-in_ok-next-in-Got : goal.returns-in_ok-next-in-Got
-returns-in_ok-next-in-Got c = if_ok _ _ c.take.result (λ done taken. λ prefix is at.
+pub returns-in-Got : goal.returns-in-Got
+returns-in-Got c = if_ok _ _ c.take.result (λ done taken. λ prefix is at.
     let rest = c.args.rest.now in
     let within = c.in-Got.ensures.got.0 in
-    taken-judged c.args.reads_debug prefix rest (record_at (mode_at prefix (as_location c.args.place) rest) rest) c.in-Got.record c.in-Got.used c.args.self.now.size _ _ done
+    taken-judged c.args.reads_debug prefix rest (record_at (mode_at prefix (as_location c.args.place) rest) rest) c.in-Got.row c.in-Got.used c.args.self.now.size _ _ done
     (sym (c.in-Got.ensures.exact ∙ ap (λ (m : Mode). record_at m rest) (c.mode.ensures c.args.reads_debug prefix is)))
     within
     (subst (λ k. 0 < k) (taken_length c.in-Got.used rest within) (got-some _ _ _ _ c.in-Got.ensures.got.1))
     is.size
-    (c.in_ok-next-in-Got.ensures ∙ ap (λ b. kept_record c.args.self.now.size c.in-Got.record b) c.prefix_of.ensures)
+    (ap (λ b. kept_record c.args.self.now.size c.in-Got.row b) c.prefix_of.ensures)
     (taken prefix is at)) c.take.ensures
 
 pub returns-in-More : goal.returns-in-More

@@ -1,8 +1,8 @@
-use Rattle.std.proofs.Common.{◌≡◌, ◌∙◌, ap, sym, subst, arith, [], ◌∷◌, ◌++◌, None, option_map}
+use Rattle.std.proofs.Common.{◌≡◌, ◌∙◌, refl, ap, sym, subst, arith, [], ◌∷◌, ◌++◌, None, option_map}
 use Rattle.mufom_read.specs.declared.prefix.Prefix.{Prefix}
 use Rattle.mufom_read.specs.Prefixes.{read, size_of}
 use Rattle.mufom_read.specs.Faults.{record_fault}
-use Rattle.mufom_read.specs.Kept.{is_new, record_of_kept, as_fault}
+use Rattle.mufom_read.specs.Kept.{is_new, record_of_kept, kept_of_seen, as_fault}
 use Rattle.mufom_read.specs.PrefixOfCode.{IsPrefixOf, as_location}
 use Rattle.mufom_read.proofs.AddLaws.{addable, room}
 use Rattle.mufom_read.proofs.PrefixLaws.{prefix-add}
@@ -16,18 +16,19 @@ pub add-requires-clause-new : goal.add-requires-clause-new
 add-requires-clause-new c =
     let prefix = c.requires.known.0 in
     let is = c.requires.known.1 in
-    let clean = sym (c.in_ok-refusal.ensures prefix is) ∙ ap (option_map as_fault) c.in-None.is in
-    ap (λ t. is_new t c.args.next.row) is.tables ∙ (addable c.args.reads_debug prefix c.args.place c.args.self.now.size (record_of_kept c.args.next) c.requires.placed is.later clean).new
+    let clean = sym (c.record_fault.ensures prefix is (sym (c.as_ref.ensures.value ∙ c.in_ok-tree.ensures))) ∙ ap (option_map as_fault) c.in-None.is in
+    ap (λ t. is_new t c.args.next.row) is.tables ∙ (addable c.args.reads_debug prefix c.args.place c.args.self.now.size (record_of_kept (kept_of_seen c.args.next)) c.requires.placed is.later clean).new
 
 pub returns-in_ok-add-in-None : goal.returns-in_ok-add-in-None
 returns-in_ok-add-in-None c = λ prefix is at.
-    let p = record_of_kept c.args.next in
-    let clean = sym (c.in_ok-refusal.ensures prefix is) ∙ ap (option_map as_fault) c.in-None.is in
+    let k = kept_of_seen c.args.next in
+    let p = record_of_kept k in
+    let clean = sym (c.record_fault.ensures prefix is (sym (c.as_ref.ensures.value ∙ c.in_ok-tree.ensures))) ∙ ap (option_map as_fault) c.in-None.is in
     let fits = addable c.args.reads_debug prefix c.args.place c.args.self.now.size p c.requires.placed is.later clean in
     let here : record_fault c.args.reads_debug prefix (as_location c.args.place) (size_of prefix) p ≡ None = ap (λ n. record_fault c.args.reads_debug prefix (as_location c.args.place) n p) (sym is.size) ∙ clean in (
-      c.len-used.ensures,
+      refl,
       ap (λ pl. record_fault c.args.reads_debug prefix pl (size_of prefix) p) (sym at) ∙ here,
-      subst (λ (f : Prefix). IsPrefixOf c.args.reads_debug f (prefix ++ read (size_of prefix) p ∷ [])) (sym c.in_ok-add-in-None.ensures)
-          (prefix-add c.args.reads_debug c.args.self.now prefix c.args.next is c.requires.own c.requires.some c.requires.start fits
+      subst (λ (f : Prefix). IsPrefixOf c.args.reads_debug f (prefix ++ read (size_of prefix) p ∷ [])) (sym c.in_ok-add-in-None.ensures.added)
+          (prefix-add c.args.reads_debug c.args.self.now prefix k c.add.new.self.location is c.requires.own c.requires.some c.requires.start c.in_ok-add-in-None.ensures.location fits
           (record-bytes c.args.reads_debug prefix c.args.place p is.count is.begun (fits.ordered is.ordered) c.requires.placed at here)),
     )

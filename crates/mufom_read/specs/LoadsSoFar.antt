@@ -1,0 +1,90 @@
+-- The loads that the records read so far give, and what still awaits items.
+use Rattle.std.specs.Prelude.{ℕ, min, Bool, true, false, List, [], ◌∷◌, ◌++◌, Option, Some, None, unwrap_or}
+use Rattle.mufom_expr.specs.Spelled.{Indexes}
+use Rattle.mufom_records.specs.declared.record.Record.{Record}
+use Rattle.mufom_records.specs.declared.record.Record.TheVariants as r
+use Rattle.mufom_loads.specs.declared.load.Item.{Item}
+use Rattle.mufom_loads.specs.declared.load.Load.{Load}
+use Rattle.mufom_loads.specs.declared.load.Load.TheVariants.{One, Repeat}
+use Rattle.mufom_module.specs.SpelledRecords.{SpelledRecord}
+use Rattle.mufom_module.specs.Gathered.{item_by, loads_by}
+use Rattle.mufom_read.specs.declared.loads.Loads.{Loads}
+use Rattle.mufom_read.specs.declared.loads.OpenLoad.{OpenLoad}
+use Rattle.mufom_read.specs.declared.loads.OpenLoad.TheVariants as open_load
+use Rattle.mufom_read.specs.Kept.{tables_of, indexes_by}
+
+abbrev pub loads_and : List Load → OpenLoad → Loads
+loads_and loads awaiting = record { loads = loads; awaiting = awaiting }
+
+-- no loads, and nothing awaits items
+abbrev pub no_loads : Loads
+no_loads = loads_and [] open_load.Nothing
+
+-- what awaits items, as loads: RE its repeat, LR nothing more
+abbrev pub load_of_open : OpenLoad → List Load
+load_of_open open_load.Nothing = []
+load_of_open open_load.Relocate = []
+load_of_open (open_load.Repeat count items) = Repeat count items ∷ []
+
+-- all loads, where no further item comes
+abbrev pub closed : Loads → List Load
+closed s = s.loads ++ load_of_open s.awaiting
+
+-- An item after an LR is a load, and after an RE one more item of its repeat.
+abbrev pub with_item : List Load → OpenLoad → Item → Loads
+with_item loads open_load.Nothing item = loads_and loads open_load.Nothing
+with_item loads open_load.Relocate item = loads_and (loads ++ One item ∷ []) open_load.Relocate
+with_item loads (open_load.Repeat count items) item = loads_and loads (open_load.Repeat count (items ++ item ∷ []))
+
+-- the record is an item
+abbrev pub is_item : Record → Bool
+is_item (r.ConstantItem run) = true
+is_item (r.FieldItem kind value size) = true
+is_item _ = false
+
+-- what awaits items after a record that is no item
+abbrev pub opened_by : Record → OpenLoad
+opened_by r.Relocate = open_load.Relocate
+opened_by (r.RepeatRelocate count) = open_load.Repeat count []
+opened_by _ = open_load.Nothing
+
+-- the loads of a record that is no item, but for its repeat, which awaits its items
+abbrev pub loads_at_once : Indexes → SpelledRecord → Record → List Load
+loads_at_once ix p (r.RepeatRelocate count) = []
+loads_at_once ix p row = loads_by ix p [] row
+
+-- the loads after a record, which is this item or none
+abbrev pub with_made : Indexes → Loads → SpelledRecord → Option Item → Loads
+with_made ix s p None = loads_and (closed s ++ loads_at_once ix p p.row) (opened_by p.row)
+with_made ix s p (Some item) = with_item s.loads s.awaiting item
+
+-- the loads after a record, with these units in an address
+abbrev pub with_load : Indexes → ℕ → Loads → SpelledRecord → Loads
+with_load ix maus s p = with_made ix s p (item_by ix maus p p.row)
+
+-- The units of an address, which the first descriptor gives. No address has more than 8.
+abbrev pub units_after : Option ℕ → Record → Option ℕ
+units_after (Some n) row = Some n
+units_after None (r.Descriptor bits maus letter) = Some (min maus 8)
+units_after None row = None
+
+abbrev pub units_from : Option ℕ → List SpelledRecord → Option ℕ
+units_from o [] = o
+units_from o (p ∷ records) = units_from (units_after o p.row) records
+
+-- the units that these records give
+abbrev pub units_in : List SpelledRecord → Option ℕ
+units_in records = units_from None records
+
+-- Before a descriptor no load is read, and any units do.
+abbrev pub units_or : Option ℕ → ℕ
+units_or o = unwrap_or o 2
+
+-- the loads after further records, each by the indexes and the units of those before it
+abbrev pub loads_from : List SpelledRecord → Loads → List SpelledRecord → Loads
+loads_from before s [] = s
+loads_from before s (p ∷ records) = loads_from (before ++ p ∷ []) (with_load (indexes_by (tables_of before)) (units_or (units_in before)) s p) records
+
+-- the loads that these records give
+abbrev pub loads_so_far : List SpelledRecord → Loads
+loads_so_far records = loads_from [] no_loads records
