@@ -14,9 +14,6 @@ use mufom_numbers::limits::MOST_FILE_BYTES;
 use mufom_numbers::{NoMemory, Reason};
 use std::alloc::Global;
 
-/// The most bytes of a file.
-pub(crate) const FILE_LIMIT: usize = 67_108_864;
-
 /// What a reader keeps of its stream.
 #[derive(Debug, Drop)]
 pub(crate) struct State {
