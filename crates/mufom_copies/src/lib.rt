@@ -1,7 +1,8 @@
 //! Copies of what a module states: texts, notes, sections and debug items.
 //!
 //! Linking and locating leave their modules as they are and answer new ones, so they copy what
-//! stays the same. It stands on the crates of a module's values. Each clause states that the copy
+//! stays the same. Debug items are copied as they are, or with other expressions by an
+//! [`ExpressionMap`]. It stands on the crates of a module's values. Each clause states that the copy
 //! is what was copied; out of memory is the only other answer.
 #![tactic(auto)]
 
@@ -10,5 +11,5 @@ mod entries;
 #[cfg(test)]
 mod tests;
 
-pub use debug::copy_debug_items;
+pub use debug::{ExpressionMap, copy_debug_items, map_debug_items};
 pub use entries::{copy_bytes, copy_note, copy_notes, copy_section};
