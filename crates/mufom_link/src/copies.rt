@@ -4,38 +4,12 @@ ghost use Rattle.std.specs.Prelude.{◌≡◌, ◌++◌, map, option_map, IfOk, 
 ghost use Rattle.mufom_link.specs.Renaming.{renaming_of, renamed_tree, renamed_public, renamed_item, renamed_load};
 
 use crate::site::Site;
+use mufom_copies::{copy_bytes, copy_notes};
 use mufom_expr::Postfix;
 use mufom_loads::{Item, Load};
-use mufom_names::{Note, Public, Reference};
-use mufom_numbers::{Bytes, List, NoMemory};
-use mufom_sections::Section;
+use mufom_names::{Public, Reference};
+use mufom_numbers::{List, NoMemory};
 use std::alloc::Global;
-
-pub(crate) fn copy_bytes(alloc: Global, bytes: &Bytes) -> Result<Bytes, NoMemory>
-    ensures { IfOk result (λ copy. copy ≡ bytes.now) }
-{
-    Bytes::from_slice(alloc, bytes.as_slice())
-}
-
-pub(crate) fn copy_note(note: &Note) -> Result<Note, NoMemory>
-    ensures { IfOk result (λ copy. copy ≡ note.now) }
-{
-    Ok(Note {
-        type_index: note.type_index,
-        attribute: note.attribute,
-        numbers: note.numbers.clone()?,
-    })
-}
-
-fn copy_notes(alloc: Global, notes: &[Note]) -> Result<List<Note>, NoMemory>
-    ensures { IfOk result (λ copies. copies ≡ notes.now) }
-{
-    let mut copies = List::new(alloc);
-    for note in notes {
-        copies.push(copy_note(note)?)?;
-    }
-    Ok(copies)
-}
 
 pub(crate) fn copy_reference(alloc: Global, reference: &Reference) -> Result<Reference, NoMemory>
     ensures { IfOk result (λ copy. copy ≡ reference.now) }
@@ -44,19 +18,6 @@ pub(crate) fn copy_reference(alloc: Global, reference: &Reference) -> Result<Ref
         name: copy_bytes(alloc, &reference.name)?,
         weak: reference.weak,
         notes: copy_notes(alloc, reference.notes.as_slice())?,
-    })
-}
-
-pub(crate) fn copy_section(alloc: Global, section: &Section) -> Result<Section, NoMemory>
-    ensures { IfOk result (λ copy. copy ≡ section.now) }
-{
-    Ok(Section {
-        name: copy_bytes(alloc, &section.name)?,
-        absolute: section.absolute,
-        purpose: section.purpose,
-        size: section.size,
-        align: section.align,
-        base: section.base,
     })
 }
 

@@ -4,8 +4,9 @@ ghost use Rattle.std.specs.Prelude.{◌≡◌, ◌++◌, ◌<◌, ◌^◌, map, 
 ghost use Rattle.mufom_debug.specs.Marks.{marks_of, marks_of_item, block_begin, block_end, names_after_all};
 ghost use Rattle.mufom_link.specs.Renaming.{renaming_of, renamed_head, renamed_mark};
 
-use crate::copies::{copy_bytes, copy_note, copy_optional};
+use crate::copies::copy_optional;
 use crate::site::Site;
+use mufom_copies::{copy_bytes, copy_note};
 use mufom_debug::{Block, BlockHead, DebugItem};
 use mufom_numbers::{List, NoMemory};
 use std::alloc::Global;

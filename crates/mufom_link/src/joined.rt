@@ -5,9 +5,10 @@ ghost use Rattle.mufom_debug.specs.Marks.{marks_of, names_after_all};
 ghost use Rattle.mufom_link.specs.Renaming.{renaming, renaming_of, renamed_public, renamed_load};
 ghost use Rattle.mufom_link.specs.Joining.{IsAppended, IsEmpty, start_after};
 
-use crate::copies::{copy_load, copy_optional, copy_public, copy_section};
+use crate::copies::{copy_load, copy_optional, copy_public};
 use crate::debug_copies::{copy_debug_items, names_after};
 use crate::site::Site;
+use mufom_copies::copy_section;
 use mufom_debug::DebugItem;
 use mufom_expr::{Letter, Postfix};
 use mufom_loads::Load;

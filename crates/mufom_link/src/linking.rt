@@ -11,11 +11,11 @@ ghost use Rattle.mufom_link.specs.Publics.{numbered_from};
 ghost use Rattle.mufom_link.specs.Joining.{HasLists};
 ghost use Rattle.mufom_link.specs.Refusals.{IsRefusalOf};
 
-use crate::copies::copy_bytes;
 use crate::facts::{first_mismatch, index_publics, start_count};
 use crate::joined::Joined;
 use crate::references::References;
 use crate::refusal::LinkRefusal;
+use mufom_copies::copy_bytes;
 use mufom_meaning::{joined_is_valid, joined_stands_for, no_link_answer_is_linkable};
 use mufom_module::{Module, Parts, assemble};
 use mufom_names::{NameIndex, NameTable, Reference};

@@ -45,7 +45,7 @@ module _ (ms : List Parts) (plan : Plan) where
   no_refusal = refusal ≡ None
 
   -- what stands where all that comes before the walk answers nothing
-  before_complete : no_refusal → option_map undefined (first_undefined ms) ≡ None → option_map common_unplaced (first_unplaced_common ms plan) ≡ None
+  pub before_complete : no_refusal → option_map undefined (first_undefined ms) ≡ None → option_map common_unplaced (first_unplaced_common ms plan) ≡ None
       → first_some (cycle_at ms) (public_names ms) ≡ None → image_limit_at (loaded_total ms) ≡ None → (fact : LocateFact) → ¬ StandsBeforeWalk ms plan s fact
   before_complete a d e f g (placement fact) h = refusal_complete (width ms) plan (flat_sections ms) (placed_commons ms plan) fact a h
   before_complete a d e f g (undefined name) h =

@@ -1,5 +1,5 @@
 use Rattle.std.proofs.Common.{◌≡◌, take}
-use Rattle.mufom_link.proofs.copies.copy_notes.Given as goal
+use Rattle.mufom_copies.proofs.entries.copy_notes.Given as goal
 
 abbrev pub invariant-loop-note : goal.invariant-loop-note
 invariant-loop-note l = l.copies ≡ take l.note-index l.notes

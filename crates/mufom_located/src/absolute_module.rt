@@ -1,0 +1,99 @@
+//! The absolute module of a location.
+
+ghost use Rattle.std.specs.Prelude.{◌≡◌, ◌<◌, ◌^◌, [], ◌∷◌, map, option_map, IfOk};
+ghost use Rattle.mufom_expr.specs.Tree.{number};
+ghost use Rattle.mufom_module.specs.Written.{weight};
+ghost use Rattle.mufom_meaning.specs.Absolute.{absolute_of, absolute_public, no_regions};
+ghost use Rattle.mufom_meaning.specs.Location.{IsLocation};
+ghost use Rattle.mufom_located.specs.Located.{IsLocated};
+
+use crate::loads::absolute_loads;
+use crate::located::Located;
+use mufom_copies::{copy_bytes, copy_debug_items, copy_notes, copy_section};
+use mufom_expr::Postfix;
+use mufom_meaning::{
+    LocatedParts, PublicValue, absolute_is_located_as_itself, absolute_is_valid,
+    modules_may_be_placed,
+};
+use mufom_module::{Module, Parts};
+use mufom_names::{NameTable, Public};
+use mufom_numbers::{Bytes, List, NoMemory};
+use mufom_sections::Section;
+use std::alloc::Global;
+
+fn copy_sections(alloc: Global, sections: &[Section]) -> Result<List<Section>, NoMemory>
+    ensures { IfOk result (λ copies. copies ≡ sections.now) }
+{
+    let mut copies = List::new(alloc);
+    for section in sections {
+        copies.push(copy_section(alloc, section)?)?;
+    }
+    Ok(copies)
+}
+
+fn absolute_public(alloc: Global, public: &PublicValue) -> Result<Public, NoMemory>
+    ensures { IfOk result (λ p. p ≡ absolute_public public.now) }
+{
+    Ok(Public {
+        name: copy_bytes(alloc, &public.name)?,
+        value: Postfix::constant(alloc, public.value)?,
+        notes: copy_notes(alloc, public.notes.as_slice())?,
+    })
+}
+
+fn absolute_publics(alloc: Global, publics: &[PublicValue]) -> Result<List<Public>, NoMemory>
+    ensures { IfOk result (λ list. list ≡ map absolute_public publics.now) }
+{
+    let mut list = List::new(alloc);
+    for public in publics {
+        list.push(absolute_public(alloc, public)?)?;
+    }
+    Ok(list)
+}
+
+fn absolute_start(alloc: Global, start: Option<u64>) -> Result<Option<Postfix>, NoMemory>
+    ensures { IfOk result (λ value. value ≡ option_map number start) }
+{
+    match start {
+        Some(start) => Ok(Some(Postfix::constant(alloc, start)?)),
+        None => Ok(None),
+    }
+}
+
+fn absolute_parts(alloc: Global, parts: &LocatedParts) -> Result<Parts, NoMemory>
+    requires { IsLocated parts.now }
+    ensures { IfOk result (λ made. made ≡ absolute_of parts.now) }
+{
+    modules_may_be_placed();
+    Ok(Parts {
+        processor: copy_bytes(alloc, &parts.processor)?,
+        name: copy_bytes(alloc, &parts.name)?,
+        maus: parts.maus,
+        order: parts.order,
+        ext: Bytes::new(alloc),
+        env: Bytes::new(alloc),
+        sections: copy_sections(alloc, parts.sections.as_slice())?,
+        names: NameTable {
+            publics: absolute_publics(alloc, parts.publics.as_slice())?,
+            references: List::new(alloc),
+        },
+        debug: copy_debug_items(alloc, parts.debug.as_slice())?,
+        loads: absolute_loads(alloc, parts.sections.as_slice(), parts.runs.as_slice())?,
+        start: absolute_start(alloc, parts.start)?,
+    })
+}
+
+/// The module that a location is written as: no extension, no environment and no references, one
+/// number for each expression, and for each row of bytes in a section the counter and literals.
+///
+/// [`Located::written_weight`] must be below 2^32. Located alone by a plan without regions the
+/// module is located as itself. Out of memory is the only other answer.
+pub fn absolute(alloc: Global, located: &Located) -> Result<Module, NoMemory>
+    requires { weight (absolute_of located.now) < 2 ^ 32 }
+    ensures absolute { IfOk result (λ m. m ≡ absolute_of located.now) }
+    ensures itself { IfOk result (λ m. IsLocation (m ∷ []) no_regions located.now) }
+{
+    absolute_is_valid();
+    absolute_is_located_as_itself();
+    Ok(Module::sound(absolute_parts(alloc, located.parts())?))
+}

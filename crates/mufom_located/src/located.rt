@@ -1,0 +1,58 @@
+ghost use Rattle.std.specs.Prelude.{◌≡◌};
+ghost use Rattle.mufom_meaning.specs.Absolute.{absolute_of};
+ghost use Rattle.mufom_module.specs.Written.{weight};
+ghost use Rattle.mufom_located.specs.Located.{IsLocated};
+
+use crate::weight::weight_of;
+use mufom_debug::DebugItem;
+use mufom_meaning::LocatedParts;
+use std::marker::Model;
+
+/// The location of a module by a plan. Contracts see it as its parts.
+#[derive(Debug, Drop)]
+pub struct Located {
+    parts: LocatedParts,
+}
+
+impl Model for Located {
+    ghost use Rattle.std.specs.Coded.{codes};
+    ghost use Rattle.mufom_expr.specs.TreeCode.{tree_code};
+    ghost use Rattle.mufom_debug.specs.contracts.item.DebugItem as debug_item;
+    ghost use Rattle.mufom_meaning.specs.declared.located.LocatedParts.{LocatedParts};
+    ghost use Rattle.mufom_located.specs.Located.{IsLocated};
+
+    ghost coded = { Prim.hlevel (codes, tree_code, debug_item.the_row.coded) };
+
+    ghost Value = { LocatedParts };
+
+    ghost view = { λ located. located.parts };
+
+    ghost invariant = { λ located. IsLocated located.parts };
+}
+
+impl Located {
+    /// The location of parts that are known to be one. Looks at nothing, and takes no memory.
+    pub fn sound(parts: LocatedParts) -> Located
+        requires { IsLocated parts }
+        ensures { result ≡ parts }
+    {
+        Located { parts }
+    }
+
+    /// The parts, which are the location of a module. Takes no memory.
+    pub fn parts(&self) -> &LocatedParts
+        ensures same { result.now ≡ self.now }
+        ensures located { IsLocated self.now }
+    {
+        &self.parts
+    }
+
+    /// The weight in bytes of the module that [`absolute`](crate::absolute) makes: the length of its
+    /// written form with nine bytes for each number but the eight offsets of its parts, and three for
+    /// the lead of each string. Takes no memory.
+    pub fn written_weight(&self) -> u64
+        ensures { result ≡ weight (absolute_of self.now) }
+    {
+        weight_of(&self.parts)
+    }
+}

@@ -1,0 +1,64 @@
+//! The part of a location's rows that lies in a section.
+
+ghost use Rattle.std.specs.Prelude.{◌≡◌, ℕ, ◌+◌, ◌-◌, max, take, drop, length, nat_le, nat_lt};
+ghost use Rattle.mufom_meaning.specs.Absolute.{loads_between, run_within};
+ghost use Rattle.mufom_located.specs.Located.{AreRows};
+
+use mufom_meaning::Run;
+
+// The address after the last byte of a row.
+fn end_of(run: &Run) -> u128
+    ensures { result ≡ run.now.address + length run.now.bytes }
+{
+    run.address as u128 + run.bytes.len() as u128
+}
+
+// The rows from the first one on that ends after an address. Those before it have no byte there.
+fn runs_from(runs: &[Run], from: u64) -> &[Run]
+    requires { AreRows runs.now }
+    ensures rows { AreRows result.now }
+    ensures same { (section to : ℕ) → loads_between section runs.now from to ≡ loads_between section result.now from to }
+{
+    let first = runs.partition_point(
+        |run: &Run| -> bool
+            ensures { result ≡ nat_le (run.now.address + length run.now.bytes) from }
+        { end_of(run) <= from as u128 },
+    );
+    runs.split_at(first).1
+}
+
+// The rows up to the last one that begins before an address. Those after it have no byte there.
+fn runs_up_to(runs: &[Run], to: u128) -> &[Run]
+    requires { AreRows runs.now }
+    ensures { (section from : ℕ) → loads_between section runs.now from to ≡ loads_between section result.now from to }
+{
+    let count = runs.partition_point(
+        |run: &Run| -> bool
+            ensures { result ≡ nat_lt run.now.address to }
+        { (run.address as u128) < to },
+    );
+    runs.split_at(count).0
+}
+
+/// The rows that have bytes from one address up to another. The others load nothing there. Takes
+/// time that grows with the logarithm of the number of rows.
+pub(crate) fn runs_between(runs: &[Run], from: u64, to: u128) -> &[Run]
+    requires { AreRows runs.now }
+    ensures { (section : ℕ) → loads_between section runs.now from to ≡ loads_between section result.now from to }
+{
+    runs_up_to(runs_from(runs, from), to)
+}
+
+/// The part of a row from one address up to another: its address, and its bytes.
+pub(crate) fn run_within(run: &Run, from: u64, to: u128) -> (u64, &[u8])
+    ensures address { result.0 ≡ (run_within from to run.now).address }
+    ensures bytes { result.1.now ≡ (run_within from to run.now).bytes }
+{
+    let bytes = run.bytes.as_slice();
+    let skipped = from.saturating_sub(run.address);
+    let wanted = to.saturating_sub(run.address as u128);
+    let end = wanted.min(bytes.len() as u128) as usize;
+    let begin = (skipped as u128).min(end as u128) as usize;
+    let (taken, _) = bytes.split_at(end);
+    (run.address.max(from), taken.split_at(begin).1)
+}
