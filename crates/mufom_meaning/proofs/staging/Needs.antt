@@ -43,7 +43,7 @@ lacks few many within r h = by_case (has_name few r.name) refl where
   by_case true e = absurd (let there : has_name many r.name ≡ true = within r.name e in let clash : not (has_name many r.name) ≡ false = ap not there in cc)
   by_case false e = refl
 
-same_common-decides : (c d : List ℕ × ℕ) → Decides (same_common c d) (c ≡ d)
+pub same_common-decides : (c d : List ℕ × ℕ) → Decides (same_common c d) (c ≡ d)
 same_common-decides c d = (there, back) where
   both : (a b : Bool) → (a && b) ≡ true → (a ≡ true) × (b ≡ true)
   both true b e = (refl, e)

@@ -1,0 +1,188 @@
+//! The values of the publics, each found once.
+
+ghost use Rattle.std.specs.Prelude.{◌≡◌, ◌≢◌, ◌*◌, ◌<◌, ◌≤◌, ◌↔◌, length, option_map, IfOk, IsTrue};
+ghost use Rattle.mufom_expr.specs.Value.{divides_by_zero};
+ghost use Rattle.mufom_place.specs.Facts.{first_some};
+ghost use Rattle.mufom_meaning.specs.declared.located.Site.TheVariants as sites;
+ghost use Rattle.mufom_meaning.specs.Facts.{zero_divisor};
+ghost use Rattle.mufom_meaning.specs.Values.{value};
+ghost use Rattle.mufom_meaning.specs.Walk.{public_fact};
+ghost use Rattle.mufom_image_values.specs.Graph.{IsClosed};
+ghost use Rattle.mufom_image_values.specs.Surroundings.{known};
+ghost use Rattle.mufom_image_values.specs.Evaluated.{alone, graph_edges, setting_of, worth_at, IsPlaced, AreSurroundings, IsEvaluated, AreEvaluated, AreRight, AreKept, IsRound, AreValues};
+
+use crate::components::Components;
+use crate::graph::Graph;
+use crate::surroundings::{Evaluation, Surroundings};
+use mufom_expr::Postfix;
+use mufom_names::Public;
+use mufom_numbers::NoMemory;
+use std::alloc::Global;
+
+/// What the values of expressions are found from.
+#[derive(Clone, Copy)]
+pub struct PlacedModule<'a> {
+    pub graph: Graph<'a>,
+    /// The base of each section.
+    pub bases: &'a [u64],
+    /// The base of each common, by its position, where the plan places commons.
+    pub commons: &'a [u64],
+}
+
+impl<'a> PlacedModule<'a> {
+    // The width of an address in bits.
+    fn width(&self) -> u32
+        requires { self.now.graph.parts.now.maus ≤ 8 }
+        ensures { result ≡ 8 * self.now.graph.parts.now.maus }
+    {
+        8 * u32::from(self.graph.parts.maus)
+    }
+
+    /// What an expression can name, where these are the values of the publics.
+    pub fn surroundings<'b>(
+        &'b self,
+        values: &'b [Evaluation],
+        counter: Option<u64>,
+    ) -> Surroundings<'b>
+        ensures { AreSurroundings self.now values.now counter result }
+    {
+        Surroundings {
+            sections: self.graph.parts.sections.as_slice(),
+            bases: self.bases,
+            commons: self.commons,
+            values,
+            meetings: self.graph.meetings,
+            counter,
+        }
+    }
+
+    // Whether all publics that the one at a position mentions are evaluated.
+    fn can_settle(&self, values: &[Evaluation], position: u32) -> bool
+        requires { IsClosed (graph_edges self.now.graph) (length values.now) }
+        ensures { IsTrue result ↔ AreEvaluated values.now (graph_edges self.now.graph position) }
+    {
+        for token in self.graph.tokens(position) {
+            let Some(next) = self.graph.mentioned(*token) else {
+                continue;
+            };
+            if values[next as usize] == Evaluation::Waiting {
+                return false;
+            }
+        }
+        true
+    }
+
+    // The value of an expression, where all that it mentions is evaluated.
+    fn worth(&self, values: &[Evaluation], value: &Postfix) -> Evaluation
+        requires low { 1 ≤ self.now.graph.parts.now.maus }
+        requires high { self.now.graph.parts.now.maus ≤ 8 }
+        ensures value { known result ≡ worth_at self.now values.now None value.now }
+        ensures evaluated { result ≢ Evaluation.Waiting }
+    {
+        match value.value(&self.surroundings(values, None), self.width()) {
+            Some(value) => Evaluation::Value(value),
+            None => Evaluation::Nothing,
+        }
+    }
+
+    // Evaluates the public at a position, where it waits and all that it mentions is evaluated.
+    fn settle(&self, values: &mut Vec<Evaluation>, position: u32)
+        requires placed { IsPlaced self.now }
+        requires right { AreRight self.now values.old.items }
+        ensures right { AreRight self.now values.new.items }
+        ensures kept { AreKept values.old.items values.new.items }
+        ensures settled { position < length self.now.graph.parts.now.names.publics → AreEvaluated values.old.items (graph_edges self.now.graph position) → IsEvaluated values.new.items position }
+    {
+        let Some(public) = self.graph.publics().get(position as usize) else {
+            return;
+        };
+        if values[position as usize] == Evaluation::Waiting && self.can_settle(values, position) {
+            values[position as usize] = self.worth(values, &public.value);
+        }
+    }
+
+    // Evaluates those publics that can be, in this order.
+    fn settle_in_order(&self, values: &mut Vec<Evaluation>, order: &[u32])
+        requires placed { IsPlaced self.now }
+        requires right { AreRight self.now values.old.items }
+        ensures { AreRight self.now values.new.items }
+    {
+        for position in order {
+            self.settle(values, *position);
+        }
+    }
+
+    // The same in the order of the publics.
+    fn settle_all(&self, values: &mut Vec<Evaluation>)
+        requires placed { IsPlaced self.now }
+        requires right { AreRight self.now values.old.items }
+        ensures right { AreRight self.now values.new.items }
+        ensures round { IsRound self.now values.old.items values.new.items }
+    {
+        for position in 0..self.graph.publics().len() {
+            self.settle(values, position as u32);
+        }
+    }
+
+    /// The values of the publics, which must lead in no circle. All components give the same values;
+    /// with those of the graph one round over the publics finds all.
+    pub fn settled(
+        &self,
+        alloc: Global,
+        components: &Components,
+    ) -> Result<Vec<Evaluation>, NoMemory>
+        requires { IsPlaced self.now }
+        ensures { IfOk result (λ values. AreValues self.now values.items) }
+    {
+        let count = self.graph.publics().len();
+        let mut values = vec![in alloc; Evaluation::Waiting; count]?;
+        self.settle_in_order(&mut values, components.order.as_slice());
+        for _ in 0..=count {
+            if !values.as_slice().contains(&Evaluation::Waiting) {
+                break;
+            }
+            self.settle_all(&mut values);
+        }
+        Ok(values)
+    }
+
+    /// The value of an expression, where all publics are evaluated.
+    pub fn value(
+        &self,
+        values: &[Evaluation],
+        counter: Option<u64>,
+        expression: &Postfix,
+    ) -> Option<u64>
+        requires placed { IsPlaced self.now }
+        requires values { AreValues self.now values.now }
+        ensures { result ≡ value (setting_of self.now) (alone self.now.graph.parts.now) counter expression.now }
+    {
+        expression.value(&self.surroundings(values, counter), self.width())
+    }
+
+    /// The first public that divides by 0 itself, where all publics are evaluated.
+    pub fn first_division(&self, values: &[Evaluation]) -> Option<&'a Public>
+        requires placed { IsPlaced self.now }
+        requires values { AreValues self.now values.now }
+        ensures { first_some (public_fact (setting_of self.now)) (setting_of self.now).publics ≡ option_map (λ public. zero_divisor (sites.Public public.now.name)) result }
+    {
+        let publics = self.graph.publics();
+        for position in 0..publics.len() {
+            if values[position] == Evaluation::Nothing && self.divides(values, &publics[position]) {
+                return Some(&publics[position]);
+            }
+        }
+        None
+    }
+
+    // Whether the public divides by 0 itself.
+    fn divides(&self, values: &[Evaluation], public: &Public) -> bool
+        requires low { 1 ≤ self.now.graph.parts.now.maus }
+        requires high { self.now.graph.parts.now.maus ≤ 8 }
+        ensures { result ≡ divides_by_zero (worth_at self.now values.now None) public.now.value }
+    {
+        public
+            .value
+            .divides_by_zero(&self.surroundings(values, None), self.width())
+    }
+}
