@@ -27,9 +27,10 @@ use Rattle.mufom_meaning.proofs.facts.Answers.{first_some_none, find_at}
 use Rattle.mufom_meaning.proofs.facts.Chains.{cycles_are_short}
 use Rattle.mufom_image_values.specs.Names.{place_in}
 use Rattle.mufom_image_values.specs.Meetings.{meetings_of}
-use Rattle.mufom_image_values.specs.Graph.{edges, mentions_of}
+use Rattle.mufom_image_values.specs.Graph.{edges, mentions_of, IsClosed}
+use Rattle.mufom_image_values.specs.declared.graph.Graph.{Graph}
 use Rattle.mufom_image_values.specs.Circles.{Leads, IsOnCircle, IsFirstOnCircle}
-use Rattle.mufom_image_values.specs.Evaluated.{alone}
+use Rattle.mufom_image_values.specs.Evaluated.{alone, IsGraph}
 use Rattle.mufom_image_values.proofs.NameLaws.{place-some, place-none}
 use Rattle.mufom_image_values.proofs.PublicLaws.{at_site}
 use Rattle.mufom_image_values.proofs.MentionLaws.{sit, flat-alone, named-public, at-place, edges-at, edge-mentions, mention-edge, closed}
@@ -88,7 +89,7 @@ module _ (m : Parts) (distinct : AreDistinct (names_of m.names.publics)) where
     among = passes-In (bytes_eq p.name) (names_of m.names.publics) p.name (In-at p.name (names_of m.names.publics) a (named-at a p e)) ((bytes_eq-Decides p.name p.name).1 refl)
 
     by_place : (o : Option ℕ) → place_in (names_of m.names.publics) p.name ≡ o → option_and_then (slice_get (at_site (alone m) m.names.publics)) o ≡ Some (sit m p)
-    by_place None f = absurd (let none : has_name (names_of m.names.publics) p.name ≡ false = place-none 0 (names_of m.names.publics) p.name f in cc)
+    by_place None f = absurd (let there : has_name (names_of m.names.publics) p.name ≡ true = among in let none : has_name (names_of m.names.publics) p.name ≡ false = place-none 0 (names_of m.names.publics) p.name f in cc)
     by_place (Some k) f =
         let there = place-some 0 (names_of m.names.publics) p.name k f in
         let same = same_place there.0 a p.name there.2 (named-at a p e) in
@@ -137,21 +138,23 @@ module _ (m : Parts) (valid : IsValid m) where
   test-chain (suc k) name a p at e =
       let own : Option SitedPublic → Bool = λ o. is_or_leads (λ x y. leads_within s k name x y) name o in
       let there = found (λ (v : Letter × ℕ). own (mentioned s (alone m) v.0 v.1)) (variables_of p.value) e in
-      by_public there.0 there.1 (mentioned s (alone m) there.0.0 there.0.1) refl there.2 where
-        by_edge : (c : ℕ) (r : Public) → slice_get m.names.publics c ≡ Some r → Contains (steps a) c
+      by_public (λ c r f g. test-chain k name c r f g) there.0 there.1 (mentioned s (alone m) there.0.0 there.0.1) refl there.2 where
+        by_edge : ((c : ℕ) (r : Public) → slice_get m.names.publics c ≡ Some r → leads_within s k name (alone m) r.value ≡ true → LeadsTo c name)
+            → (c : ℕ) (r : Public) → slice_get m.names.publics c ≡ Some r → Contains (steps a) c
             → (bytes_eq r.name name ≡ true) ⊎ (leads_within s k name (alone m) r.value ≡ true) → LeadsTo a name
-        by_edge c r f h (inl same) = (c, r, 0, h, f, (bytes_eq-Decides r.name name).0 same)
-        by_edge c r f h (inr g) = let later = test-chain k name c r f g in (later.0, later.1, suc later.2, (c, h, later.3), later.4, later.5)
+        by_edge later c r f h (inl same) = (c, r, 0, h, f, (bytes_eq-Decides r.name name).0 same)
+        by_edge later c r f h (inr g) = let there = later c r f g in (there.0, there.1, suc there.2, (c, h, there.3), there.4, there.5)
 
-        by_public : (v : Letter × ℕ) → In v (variables_of p.value) → (o : Option SitedPublic) → mentioned s (alone m) v.0 v.1 ≡ o
+        by_public : ((c : ℕ) (r : Public) → slice_get m.names.publics c ≡ Some r → leads_within s k name (alone m) r.value ≡ true → LeadsTo c name)
+            → (v : Letter × ℕ) → In v (variables_of p.value) → (o : Option SitedPublic) → mentioned s (alone m) v.0 v.1 ≡ o
             → is_or_leads (λ x y. leads_within s k name x y) name o ≡ true → LeadsTo a name
-        by_public v h None f g = absurd cc
-        by_public v h (Some q) f g =
+        by_public later v h None f g = absurd cc
+        by_public later v h (Some q) f g =
             let edge = mention-edge m s (flat-alone m) p.value v q h f in
             let r = edge.1 in
             let test : (bytes_eq r.name name || leads_within s k name (alone m) r.value) ≡ true
             = ap (λ (q : SitedPublic). is_or_leads (λ x y. leads_within s k name x y) name (Some q)) edge.4 ∙ g in
-            by_edge edge.0 r edge.3 (in-edge a edge.0 p at edge.2) (either (bytes_eq r.name name) (leads_within s k name (alone m) r.value) test)
+            by_edge later edge.0 r edge.3 (in-edge a edge.0 p at edge.2) (either (bytes_eq r.name name) (leads_within s k name (alone m) r.value) test)
 
 -- ---- circles
 
@@ -222,3 +225,22 @@ no_cycle m none name h = by_first (first_named (setting (m ∷ []) no_bases).pub
       let whole : slice_get (public_names (m ∷ [])) there.0.0 ≡ Some name = ap (λ (names : List (List ℕ)). slice_get names there.0.0) (append-nil (names_of m.names.publics)) ∙ at in
       let without : cycle_at (m ∷ []) name ≡ None = first_some_none (cycle_at (m ∷ [])) (public_names (m ∷ [])) none name there.0.0 whole in
       absurd (let clash : Some (cycle name) ≡ None = sym (ap (λ b. if b then Some (cycle name) else None) test) ∙ without in cc)
+
+-- the first position on a circle, if there is one, has the public whose cycle is named
+pub named-first : (graph : Graph) → IsGraph graph → (first : Option ℕ)
+    → IsFirstOnCircle (edges graph.meetings.now graph.parts.now.names.publics) (length graph.parts.now.names.publics) first
+    → first_some (cycle_at (graph.parts.now ∷ [])) (public_names (graph.parts.now ∷ []))
+    ≡ option_map (λ (p : Public). cycle p.name) (option_and_then (slice_get graph.parts.now.names.publics) first)
+named-first graph h None none =
+    first-cycle-none graph.parts.now h.valid h.distinct
+    (λ n less. subst (λ met. ¬ IsOnCircle (edges met graph.parts.now.names.publics) n) h.meetings (none n less))
+named-first graph h (Some a) first =
+    let p = there_is graph.parts.now.names.publics a first.0 in
+    first-cycle-some graph.parts.now h.valid h.distinct a p.0 p.1
+    (subst (λ met. IsOnCircle (edges met graph.parts.now.names.publics) a) h.meetings first.1)
+    (λ n less. subst (λ met. ¬ IsOnCircle (edges met graph.parts.now.names.publics) n) h.meetings (first.2 n less))
+    ∙ sym (ap (option_map (λ (p : Public). cycle p.name)) p.1)
+
+-- all positions that the graph leads to are those of publics
+pub graph-closed : (graph : Graph) → IsGraph graph → IsClosed (edges graph.meetings.now graph.parts.now.names.publics) (length graph.parts.now.names.publics)
+graph-closed graph h = subst (λ met. IsClosed (edges met graph.parts.now.names.publics) (length graph.parts.now.names.publics)) (sym h.meetings) (closed graph.parts.now h.valid)

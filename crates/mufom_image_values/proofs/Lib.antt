@@ -10,3 +10,5 @@ pub mod Settled
 pub mod DivisionLaws
 pub mod SearchLaws
 pub mod CountLaws
+pub mod CommonLaws
+pub mod TokenLoops

@@ -23,7 +23,7 @@ use Rattle.mufom_image_values.proofs.NameLaws.{filter-both, filter-same, filter-
 
 -- ---- the commons
 
-named-pairs : (rs : List Reference) → map (λ common. common.0) (map (λ r. (r.name, common_size r.weak)) rs) ≡ map (λ r. r.name) rs
+named-pairs : (rs : List Reference) → map (λ (common : List ℕ × ℕ). common.0) (map (λ r. (r.name, common_size r.weak)) rs) ≡ map (λ r. r.name) rs
 named-pairs [] = refl
 named-pairs (r ∷ rs) = ap (λ names. r.name ∷ names) (named-pairs rs)
 

@@ -1,5 +1,5 @@
 -- Indexes of names against the list of the names, and the commons that references ask for one after another.
-use Rattle.std.proofs.Common.{◌≡◌, ℕ, suc, ◌+◌, ◌<◌, List, [], ◌∷◌, ◌++◌, length, map, take, get_or, Option, Some, None, is_none, Bool, true, false, not, cond, ◌||◌, ◌&&◌, if◌then◌else◌, refl, sym, ap, ◌∙◌, append_assoc, append-nil, arith}
+use Rattle.std.proofs.Common.{◌≡◌, ℕ, suc, ◌+◌, ◌<◌, List, [], ◌∷◌, ◌++◌, length, map, take, get_or, Option, Some, None, is_none, Bool, true, false, not, cond, ◌||◌, ◌&&◌, if◌then◌else◌, refl, sym, ap, ◌∙◌, append_assoc, append-nil, length-append, arith}
 use Rattle.std.specs.Prelude.{filter, find, slice_get}
 use Rattle.std.specs.Str.{bytes_eq}
 use Rattle.std.proofs.lemmas.List.{map-append, take_more}
@@ -78,6 +78,21 @@ with_entry-numbered names name n count =
       by_case true e = refl
       by_case false e = e
 
+-- a name that stands already adds none, and another one adds one
+pub counts-old : (names : List (List ℕ)) (name : List ℕ) (n k : ℕ) → n ≡ length names → position_of (numbered_from 0 names) name ≡ Some k
+    → n ≡ length (with_name names name)
+counts-old names name n k count e = by_case (has_name names name) (sym (has-place 0 names name) ∙ ap is_none e) where
+  by_case : (b : Bool) → not b ≡ false → n ≡ length (if b then names else names ++ name ∷ [])
+  by_case true f = count
+  by_case false f = absurd cc
+
+pub counts-new : (names : List (List ℕ)) (name : List ℕ) (n : ℕ) → n ≡ length names → position_of (numbered_from 0 names) name ≡ None
+    → n + 1 ≡ length (with_name names name)
+counts-new names name n count e = by_case (has_name names name) (sym (has-place 0 names name) ∙ ap is_none e) where
+  by_case : (b : Bool) → not b ≡ true → n + 1 ≡ length (if b then names else names ++ name ∷ [])
+  by_case true f = absurd cc
+  by_case false f = omega (arith, count, length-append names (name ∷ []))
+
 -- names one after another, each left out where it stands already
 abbrev pub names_after : List (List ℕ) → List (List ℕ) → List (List ℕ)
 names_after names [] = names
@@ -144,15 +159,15 @@ names_after-is names (x ∷ xs) = by_case (has_name names x) refl (names_after-i
       ∙ ap (λ rest. names ++ x ∷ rest) (filter-same (new (names ++ x ∷ [])) (λ y. new names y && not (bytes_eq x y)) (new-push names x) (distinct bytes_eq xs)
       ∙ turned)
     where
-      turned : filter (λ y. new names y && not (bytes_eq x y)) (distinct bytes_eq xs) ≡ filter (new names) (filter (λ y. not (bytes_eq x y)) (distinct bytes_eq xs))
-      turned = filter-same (λ y. new names y && not (bytes_eq x y)) (λ y. not (bytes_eq x y) && new names y) (λ y. swapped (new names y) (not (bytes_eq x y))) (distinct bytes_eq xs)
-          ∙ sym (filter-both (new names) (λ y. not (bytes_eq x y)) (distinct bytes_eq xs))
-
       swapped : (b c : Bool) → (b && c) ≡ (c && b)
       swapped true true = refl
       swapped true false = refl
       swapped false true = refl
       swapped false false = refl
+
+      turned : filter (λ y. new names y && not (bytes_eq x y)) (distinct bytes_eq xs) ≡ filter (new names) (filter (λ y. not (bytes_eq x y)) (distinct bytes_eq xs))
+      turned = filter-same (λ y. new names y && not (bytes_eq x y)) (λ y. not (bytes_eq x y) && new names y) (λ y. swapped (new names y) (not (bytes_eq x y))) (distinct bytes_eq xs)
+          ∙ sym (filter-both (new names) (λ y. not (bytes_eq x y)) (distinct bytes_eq xs))
 
 pub names_after-distinct : (xs : List (List ℕ)) → names_after [] xs ≡ distinct bytes_eq xs
 names_after-distinct xs = names_after-is [] xs ∙ filter-all (distinct bytes_eq xs)

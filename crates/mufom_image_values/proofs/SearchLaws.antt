@@ -1,7 +1,8 @@
 -- A search through a graph: what it marks is reached, and at its end the marks are left by no step.
-use Rattle.std.proofs.Common.{◌≡◌, ℕ, zero, suc, ◌+◌, ◌<◌, ◌⊎◌, inl, inr, List, [], ◌∷◌, ◌++◌, length, get_or, set, Bool, true, false, refl, sym, ◌∙◌, ap, subst, length-append, arith}
+use Rattle.std.proofs.Common.{◌≡◌, ℕ, zero, suc, ◌+◌, ◌<◌, ◌⊎◌, inl, inr, List, [], ◌∷◌, ◌++◌, length, get_or, set, replicate, Bool, true, false, refl, sym, ◌∙◌, ap, subst, length-append, arith}
 use Rattle.std.specs.Prelude.{Contains, if◌then◌else◌}
 use Rattle.mufom_meaning.proofs.Members.{In, In-left, In-right, In-append, In-Contains, Contains-In}
+use Rattle.mufom_image_values.specs.Graph.{IsClosed}
 use Rattle.mufom_image_values.specs.Circles.{Leads, IsOnCircle, Search, search_of, is_marked, with_position, followed}
 use Rattle.mufom_image_values.proofs.GraphLaws.{leads_on, no_return}
 
@@ -10,7 +11,8 @@ use Rattle.mufom_image_values.proofs.GraphLaws.{leads_on, no_return}
 -- how many positions have no mark
 abbrev pub unmarked : List Bool → ℕ
 unmarked [] = 0
-unmarked (b ∷ marks) = (if b then 0 else 1) + unmarked marks
+unmarked (true ∷ marks) = unmarked marks
+unmarked (false ∷ marks) = suc (unmarked marks)
 
 unmarked-set : (marks : List Bool) (n : ℕ) → n < length marks → get_or marks n false ≡ false → suc (unmarked (set marks n true)) ≡ unmarked marks
 unmarked-set [] n less e = absurd (omega (arith, less))
@@ -45,6 +47,18 @@ pub set-marks : (marks : List Bool) (n : ℕ) → length (set marks n true) ≡ 
 set-marks [] n = refl
 set-marks (b ∷ marks) zero = refl
 set-marks (b ∷ marks) (suc n) = ap suc (set-marks marks n)
+
+-- no position is marked at first
+pub fresh-marks : (n k : ℕ) → get_or (replicate n false) k false ≡ true → ⊥
+fresh-marks zero k e = absurd cc
+fresh-marks (suc n) zero e = absurd cc
+fresh-marks (suc n) (suc k) e = fresh-marks n k e
+
+-- a mark that is there is the same by each default
+pub mark-there : (marks : List Bool) (n : ℕ) (b : Bool) → n < length marks → get_or marks n b ≡ get_or marks n false
+mark-there [] n b less = absurd (omega (arith, less))
+mark-there (m ∷ marks) zero b less = refl
+mark-there (m ∷ marks) (suc n) b less = mark-there marks n b (omega (arith, less))
 
 -- ---- one position more
 
@@ -155,7 +169,7 @@ followed-append (p ∷ ps) qs s = followed-append ps qs (with_position s p)
 
 -- ---- the search from a position
 
-module _ (edges : ℕ → List ℕ) (count : ℕ) (closed : (n c : ℕ) → Contains (edges n) c → c < count) (origin : ℕ) where
+module _ (edges : ℕ → List ℕ) (count origin : ℕ) where
   -- What a search knows: what is marked is reached, and all that it leads to is marked too, unless it is still to be followed.
   pub record IsSearching (s : Search) : Type 0 where
     pub size : length s.marks ≡ count
@@ -165,11 +179,12 @@ module _ (edges : ℕ → List ℕ) (count : ℕ) (closed : (n c : ℕ) → Cont
     pub out : (n : ℕ) → is_marked s n ≡ true → In n s.pending ⊎ ((k : ℕ) → Contains (edges n) k → is_marked s k ≡ true)
     pub pending : (n : ℕ) → In n s.pending → is_marked s n ≡ true
 
+module _ (edges : ℕ → List ℕ) (count : ℕ) (closed : IsClosed edges count) (origin : ℕ) where
   within : (n : ℕ) (s : Search) → length s.marks ≡ count → (p : ℕ) → In p (edges n) → p < length s.marks
   within n s size p i = let less = closed n p (In-Contains p (edges n) i) in omega (arith, less, size)
 
   -- it begins with what the origin leads to
-  pub begins : (s : Search) → length s.marks ≡ count → ((k : ℕ) → is_marked s k ≡ true → ⊥) → s.pending ≡ [] → IsSearching (followed (edges origin) s)
+  pub begins : (s : Search) → length s.marks ≡ count → ((k : ℕ) → is_marked s k ≡ true → ⊥) → s.pending ≡ [] → IsSearching edges count origin (followed (edges origin) s)
   begins s size fresh empty = record {
     size = followed-length (edges origin) s ∙ size;
     below = λ k i. from_edges k (followed-from (edges origin) s k i);
@@ -199,7 +214,7 @@ module _ (edges : ℕ → List ℕ) (count : ℕ) (closed : (n c : ℕ) → Cont
       marks n (inr i) = followed-marks (edges origin) s (within origin s size) n i
 
   -- it goes on with a position that is still to be followed
-  pub searches_on : (marks : List Bool) (rest : List ℕ) (n : ℕ) → IsSearching (search_of marks (rest ++ n ∷ [])) → IsSearching (followed (edges n) (search_of marks rest))
+  pub searches_on : (marks : List Bool) (rest : List ℕ) (n : ℕ) → IsSearching edges count origin (search_of marks (rest ++ n ∷ [])) → IsSearching edges count origin (followed (edges n) (search_of marks rest))
   searches_on marks rest n h = record {
     size = followed-length (edges n) t ∙ h.size;
     below = λ k i. from_edges k (followed-from (edges n) t k i);
@@ -246,11 +261,11 @@ module _ (edges : ℕ → List ℕ) (count : ℕ) (closed : (n c : ℕ) → Cont
       marked k (inr i) = followed-marks (edges n) t (within n t h.size) k i
 
   -- with less left to do
-  pub searches_less : (marks : List Bool) (rest : List ℕ) (n : ℕ) → IsSearching (search_of marks (rest ++ n ∷ [])) → left (followed (edges n) (search_of marks rest)) < left (search_of marks (rest ++ n ∷ []))
+  pub searches_less : (marks : List Bool) (rest : List ℕ) (n : ℕ) → IsSearching edges count origin (search_of marks (rest ++ n ∷ [])) → left (followed (edges n) (search_of marks rest)) < left (search_of marks (rest ++ n ∷ []))
   searches_less marks rest n h = omega (arith, followed-left (edges n) (search_of marks rest) (within n (search_of marks rest) h.size), length-append rest (n ∷ []))
 
   -- at its end the origin is marked exactly where it is led back to
-  pub ends_search : (s : Search) → IsSearching s → s.pending ≡ [] → (is_marked s origin ≡ true → IsOnCircle edges origin) × (IsOnCircle edges origin → is_marked s origin ≡ true)
+  pub ends_search : (s : Search) → IsSearching edges count origin s → s.pending ≡ [] → (is_marked s origin ≡ true → IsOnCircle edges origin) × (IsOnCircle edges origin → is_marked s origin ≡ true)
   ends_search s h empty = (h.reached origin, λ circle. by_mark (is_marked s origin) refl circle) where
     stays : (a b : ℕ) → is_marked s a ≡ true → Contains (edges a) b → is_marked s b ≡ true
     stays a b e c = by_case (h.out a e) where

@@ -179,14 +179,18 @@ abbrev pub EndsBefore : Setting → ℕ → Sited → Tree → Type 0
 EndsBefore s zero site t = ⊥
 EndsBefore s (suc k) site t = EndsWithin s k site t
 
-module _ (placed : PlacedModule) (h : IsPlaced placed) where
-  -- the publics whose chains end before are evaluated
-  abbrev pub HaveSettled : List Evaluation → ℕ → Type 0
-  HaveSettled values k =
-      (n : ℕ) (p : Public) → slice_get placed.graph.parts.now.names.publics n ≡ Some p
-      → EndsBefore (setting_of placed) k (alone placed.graph.parts.now) p.value → IsEvaluated values n
+-- the publics whose chains end before are evaluated
+abbrev pub HaveSettled : PlacedModule → List Evaluation → ℕ → Type 0
+HaveSettled placed values k =
+    (n : ℕ) (p : Public) → slice_get placed.graph.parts.now.names.publics n ≡ Some p
+    → EndsBefore (setting_of placed) k (alone placed.graph.parts.now) p.value → IsEvaluated values n
 
-  pub settled-next : (k : ℕ) (before after : List Evaluation) → HaveSettled before k → IsRound placed before after → HaveSettled after (suc k)
+-- before the first round nothing is asked
+pub settled-first : (placed : PlacedModule) (values : List Evaluation) → HaveSettled placed values 0
+settled-first placed values n p e ends = absurd ends
+
+module _ (placed : PlacedModule) (h : IsPlaced placed) where
+  pub settled-next : (k : ℕ) (before after : List Evaluation) → HaveSettled placed before k → IsRound placed before after → HaveSettled placed after (suc k)
   settled-next k before after settled round n p e ends = round n (slice_get_within (m placed h).names.publics n p e) (by_count k settled ends) where
     mentions : (c : ℕ) → Contains (graph_edges placed.graph n) c → (q : Public) × (slice_get (m placed h).names.publics c ≡ Some q) × IsMentionedIn (s placed h) (alone (m placed h)) p.value (sit (m placed h) q)
     mentions c k =
@@ -196,12 +200,12 @@ module _ (placed : PlacedModule) (h : IsPlaced placed) where
         let v = edge-mentions (m placed h) (s placed h) (flat-alone (m placed h)) p.value c q.0 q.1 inner in
         (q.0, q.1, (v.0, In-Contains v.0 _ v.1, v.2))
 
-    by_count : (k : ℕ) → HaveSettled before k → EndsWithin (s placed h) k (alone (m placed h)) p.value → AreEvaluated before (graph_edges placed.graph n)
+    by_count : (k : ℕ) → HaveSettled placed before k → EndsWithin (s placed h) k (alone (m placed h)) p.value → AreEvaluated before (graph_edges placed.graph n)
     by_count zero settled ends = λ c k. let q = mentions c k in absurd (ends (sit (m placed h) q.0) q.2)
     by_count (suc j) settled ends = λ c k. let q = mentions c k in settled c q.0 q.1 (ends (sit (m placed h) q.0) q.2)
 
   -- after a round for each public, and one more, all are
-  pub all-settled : (values : List Evaluation) → AreRight placed values → HaveSettled values (suc (length (m placed h).names.publics)) → (n : ℕ) → IsEvaluated values n
+  pub all-settled : (values : List Evaluation) → AreRight placed values → HaveSettled placed values (suc (length (m placed h).names.publics)) → (n : ℕ) → IsEvaluated values n
   all-settled values r settled n e =
       let inside = slice_get_within values n evaluations.Waiting e in
       let count = r.count in
@@ -248,8 +252,8 @@ values-right placed values v = record {
   right = λ n p evaluation at to.
       let same : ◌≡◌ {A = Option (Option ℕ)} (Some (known evaluation)) (Some (public_value placed p))
       = sym (slice_get-map known values n ∙ ap (option_map known) to)
-          ∙ ap (λ (os : List (Option ℕ)). slice_get os n) v.values
-          ∙ slice_get-map (public_value placed) placed.graph.parts.now.names.publics n
-          ∙ ap (option_map (public_value placed)) at in
+      ∙ ap (λ (os : List (Option ℕ)). slice_get os n) v.values
+      ∙ slice_get-map (public_value placed) placed.graph.parts.now.names.publics n
+      ∙ ap (option_map (public_value placed)) at in
       known-right (public_value placed p) evaluation (some_same (known evaluation) (public_value placed p) same);
 }

@@ -1,5 +1,5 @@
 -- The values of the publics of a module, found from what its sections and commons have as bases.
-use Rattle.std.specs.Prelude.{◌≡◌, ◌≢◌, ℕ, ◌*◌, ◌^◌, ◌<◌, List, [], ◌∷◌, map, length, Option, Some, None, option_and_then, slice_get, Contains}
+use Rattle.std.specs.Prelude.{◌≡◌, ◌≢◌, ℕ, ◌*◌, ◌^◌, ◌<◌, List, [], ◌∷◌, map, length, Option, Some, None, option_and_then, slice_get, Contains, Bool, true, false, not}
 use Rattle.mufom_expr.specs.Tree.{Tree}
 use Rattle.mufom_expr.specs.Value.{Environment, value_at}
 use Rattle.mufom_names.specs.Names.{names_of, AreDistinct}
@@ -68,6 +68,22 @@ pub record AreRight (placed : PlacedModule) (values : List Evaluation) : Type 0 
 abbrev pub IsEvaluated : List Evaluation → ℕ → Type 0
 IsEvaluated values n = slice_get values n ≢ Some evaluations.Waiting
 
+-- all publics were evaluated
+abbrev pub AllEvaluated : List Evaluation → Type 0
+AllEvaluated values = (n : ℕ) → IsEvaluated values n
+
+-- the public waits to be evaluated
+abbrev pub is_waiting : Option Evaluation → Bool
+is_waiting None = false
+is_waiting (Some evaluations.Waiting) = true
+is_waiting (Some evaluations.Nothing) = false
+is_waiting (Some (evaluations.Value v)) = false
+
+-- the public that is mentioned, if one is, does not wait
+abbrev pub is_ready : List Evaluation → Option ℕ → Bool
+is_ready values None = true
+is_ready values (Some n) = not (is_waiting (slice_get values n))
+
 -- those at these positions were
 abbrev pub AreEvaluated : List Evaluation → List ℕ → Type 0
 AreEvaluated values positions = (n : ℕ) → Contains positions n → IsEvaluated values n
@@ -106,4 +122,4 @@ worth_at placed values counter t = value_at (2 ^ (8 * placed.graph.parts.now.mau
 -- the values of all publics, in order
 pub record AreValues (placed : PlacedModule) (all : List Evaluation) : Type 0 where
   pub values : map known all ≡ map (public_value placed) placed.graph.parts.now.names.publics
-  pub evaluated : (n : ℕ) → slice_get all n ≢ Some evaluations.Waiting
+  pub evaluated : AllEvaluated all

@@ -1,13 +1,14 @@
 //! The first public that its own mentions lead back to.
 
 ghost use Rattle.std.specs.Prelude.{◌≡◌, ◌<◌, ◌^◌, ◌↔◌, [], ◌∷◌, length, option_map, IfOk, OnOk, IsTrue};
+ghost use Rattle.std.specs.List.{list_all};
 ghost use Rattle.mufom_image_values.specs.Graph.{mentioned_in, mentions_of, edges, AreWithin, IsClosed};
 ghost use Rattle.mufom_place.specs.Facts.{first_some};
 ghost use Rattle.mufom_meaning.specs.Facts.{cycle};
 ghost use Rattle.mufom_meaning.specs.Flat.{public_names};
 ghost use Rattle.mufom_meaning.specs.LocateAnswer.{cycle_at};
 ghost use Rattle.mufom_image_values.specs.Evaluated.{IsGraph};
-ghost use Rattle.mufom_image_values.specs.Circles.{number_at, is_down, leads_down, NeverRises, IsOnCircle, IsFirstOnCircle, search_of, followed};
+ghost use Rattle.mufom_image_values.specs.Circles.{number_at, is_down, leads_down, NeverRises, IsOnCircle, IsFirstOnCircle, search_of, with_position, followed};
 
 use crate::components::Components;
 use crate::graph::Graph;
@@ -33,17 +34,21 @@ fn is_down(graph: &Graph<'_>, numbers: &[u32], own: u32, strictly: bool, token: 
     }
 }
 
+// Whether all mentions of the tokens lead down.
+fn all_down(graph: &Graph<'_>, numbers: &[u32], own: u32, strictly: bool, tokens: &[Token]) -> bool
+    ensures { result ≡ list_all (λ token. is_down (number_at numbers.now) own strictly (mentioned_in graph.now.meetings.now token)) tokens.now }
+{
+    tokens
+        .iter()
+        .all(|token| is_down(graph, numbers, own, strictly, *token))
+}
+
 // Whether all mentions of the public lead down.
 fn leads_down(graph: &Graph<'_>, numbers: &[u32], position: u32, strictly: bool) -> bool
     ensures { result ≡ leads_down (number_at numbers.now) (edges graph.now.meetings.now graph.now.parts.now.names.publics) strictly position }
 {
     let own = number_of(numbers, position);
-    for token in graph.tokens(position) {
-        if !is_down(graph, numbers, own, strictly, *token) {
-            return false;
-        }
-    }
-    true
+    all_down(graph, numbers, own, strictly, graph.tokens(position))
 }
 
 // Whether no mention of any public leads up.
@@ -59,6 +64,19 @@ fn never_rises(graph: &Graph<'_>, numbers: &[u32]) -> bool
     true
 }
 
+// Marks a position and puts it with what is still to be followed, unless it is marked already.
+fn mark(marks: &mut Vec<bool>, pending: &mut Vec<u32>, position: u32) -> Result<(), NoMemory>
+    requires { position < length marks.old.items }
+    ensures { OnOk result (search_of marks.new.items pending.new.items
+        ≡ with_position (search_of marks.old.items pending.old.items) position) }
+{
+    if !marks[position as usize] {
+        marks[position as usize] = true;
+        pending.push(position)?;
+    }
+    Ok(())
+}
+
 // Marks what the tokens mention and was not marked, and puts it with what is still to be followed.
 fn follow(
     graph: &Graph<'_>,
@@ -67,15 +85,12 @@ fn follow(
     pending: &mut Vec<u32>,
 ) -> Result<(), NoMemory>
     requires { AreWithin (mentions_of graph.now.meetings.now tokens.now) (length marks.old.items) }
-    ensures { OnOk result (search_of marks.new.items pending.new.items ≡ followed (mentions_of graph.now.meetings.now tokens.now) (search_of marks.old.items pending.old.items)) }
+    ensures { OnOk result (search_of marks.new.items pending.new.items
+        ≡ followed (mentions_of graph.now.meetings.now tokens.now) (search_of marks.old.items pending.old.items)) }
 {
     for token in tokens {
-        let Some(next) = graph.mentioned(*token) else {
-            continue;
-        };
-        if !marks[next as usize] {
-            marks[next as usize] = true;
-            pending.push(next)?;
+        if let Some(next) = graph.mentioned(*token) {
+            mark(marks, pending, next)?;
         }
     }
     Ok(())

@@ -1,10 +1,10 @@
 //! What each reference of a module stands for.
 
-ghost use Rattle.std.specs.Prelude.{◌≡◌, [], ◌∷◌, option_map, slice_get, IfOk};
+ghost use Rattle.std.specs.Prelude.{◌≡◌, ◌&&◌, [], ◌∷◌, option_map, slice_get, IfOk};
 ghost use Rattle.mufom_names.specs.Index.{position_of};
-ghost use Rattle.mufom_meaning.specs.Flat.{common_names};
+ghost use Rattle.mufom_meaning.specs.Flat.{common_names, is_strong};
 ghost use Rattle.mufom_meaning.specs.LocateAnswer.{first_undefined};
-ghost use Rattle.mufom_image_values.specs.Meetings.{meeting_without, meeting_by, meetings_of};
+ghost use Rattle.mufom_image_values.specs.Meetings.{meeting_without, meeting_by, meetings_of, is_nothing, is_first_common};
 
 use crate::names::{index_of_commons, index_of_publics};
 use mufom_module::Module;
@@ -49,7 +49,7 @@ fn meeting_of(publics: &NameIndex, commons: &NameIndex, reference: &Reference) -
 
 /// What each reference of a module stands for, in order.
 pub fn resolve_references(alloc: Global, module: &Module) -> Result<List<Meeting>, NoMemory>
-    ensures { IfOk result (λ meetings. meetings ≡ meetings_of module.now) }
+    ensures { IfOk result (λ meetings. meetings ≡ meetings_of «module».now) }
 {
     let names = &module.parts().names;
     let references = names.references.as_slice();
@@ -62,14 +62,32 @@ pub fn resolve_references(alloc: Global, module: &Module) -> Result<List<Meeting
     Ok(meetings)
 }
 
+fn is_undefined(meeting: Meeting, reference: &Reference) -> bool
+    ensures { result ≡ (is_nothing meeting && is_strong reference.now) }
+{
+    match meeting {
+        Meeting::Nothing => reference.weak.is_none(),
+        _ => false,
+    }
+}
+
+fn is_first_common(meeting: Meeting) -> bool
+    ensures { result ≡ is_first_common meeting }
+{
+    match meeting {
+        Meeting::Common(position) => position == 0,
+        _ => false,
+    }
+}
+
 /// The first strong reference whose name neither a public nor a common has.
 pub fn first_undefined<'a>(module: &'a Module, meetings: &[Meeting]) -> Option<&'a Reference>
-    requires { meetings.now ≡ meetings_of module.now }
-    ensures { option_map (λ reference. reference.now.name) result ≡ first_undefined (module.now ∷ []) }
+    requires { meetings.now ≡ meetings_of «module».now }
+    ensures { option_map (λ reference. reference.now.name) result ≡ first_undefined («module».now ∷ []) }
 {
     let references = module.parts().names.references.as_slice();
     for place in 0..references.len() {
-        if meetings[place] == Meeting::Nothing && references[place].weak.is_none() {
+        if is_undefined(meetings[place], &references[place]) {
             return Some(&references[place]);
         }
     }
@@ -78,12 +96,12 @@ pub fn first_undefined<'a>(module: &'a Module, meetings: &[Meeting]) -> Option<&
 
 /// The first reference that asks for a common, whose name is that of the first common.
 pub fn first_common<'a>(module: &'a Module, meetings: &[Meeting]) -> Option<&'a Reference>
-    requires { meetings.now ≡ meetings_of module.now }
-    ensures { option_map (λ reference. reference.now.name) result ≡ slice_get (common_names (module.now ∷ [])) 0 }
+    requires { meetings.now ≡ meetings_of «module».now }
+    ensures { option_map (λ reference. reference.now.name) result ≡ slice_get (common_names («module».now ∷ [])) 0 }
 {
     let references = module.parts().names.references.as_slice();
     for place in 0..references.len() {
-        if meetings[place] == Meeting::Common(0) {
+        if is_first_common(meetings[place]) {
             return Some(&references[place]);
         }
     }

@@ -1,20 +1,21 @@
 //! The values of the publics, each found once.
 
 ghost use Rattle.std.specs.Prelude.{◌≡◌, ◌≢◌, ◌*◌, ◌<◌, ◌≤◌, ◌↔◌, length, option_map, IfOk, IsTrue};
+ghost use Rattle.std.specs.List.{list_all};
 ghost use Rattle.mufom_expr.specs.Value.{divides_by_zero};
 ghost use Rattle.mufom_place.specs.Facts.{first_some};
 ghost use Rattle.mufom_meaning.specs.declared.located.Site.TheVariants as sites;
 ghost use Rattle.mufom_meaning.specs.Facts.{zero_divisor};
 ghost use Rattle.mufom_meaning.specs.Values.{value};
 ghost use Rattle.mufom_meaning.specs.Walk.{public_fact};
-ghost use Rattle.mufom_image_values.specs.Graph.{IsClosed};
+ghost use Rattle.mufom_image_values.specs.Graph.{mentioned_in};
 ghost use Rattle.mufom_image_values.specs.Surroundings.{known};
-ghost use Rattle.mufom_image_values.specs.Evaluated.{alone, graph_edges, setting_of, worth_at, IsPlaced, AreSurroundings, IsEvaluated, AreEvaluated, AreRight, AreKept, IsRound, AreValues};
+ghost use Rattle.mufom_image_values.specs.Evaluated.{alone, graph_edges, setting_of, worth_at, IsPlaced, AreSurroundings, is_waiting, is_ready, AllEvaluated, IsEvaluated, AreEvaluated, AreRight, AreKept, IsRound, AreValues};
 
 use crate::components::Components;
 use crate::graph::Graph;
 use crate::surroundings::{Evaluation, Surroundings};
-use mufom_expr::Postfix;
+use mufom_expr::{Postfix, Token};
 use mufom_names::Public;
 use mufom_numbers::NoMemory;
 use std::alloc::Global;
@@ -27,6 +28,32 @@ pub struct PlacedModule<'a> {
     pub bases: &'a [u64],
     /// The base of each common, by its position, where the plan places commons.
     pub commons: &'a [u64],
+}
+
+fn is_waiting(evaluation: Option<Evaluation>) -> bool
+    ensures { result ≡ is_waiting evaluation }
+{
+    match evaluation {
+        Some(Evaluation::Waiting) => true,
+        _ => false,
+    }
+}
+
+fn has_no_value(evaluation: Evaluation) -> bool
+    ensures { IsTrue result ↔ (evaluation ≡ Evaluation.Nothing) }
+{
+    match evaluation {
+        Evaluation::Nothing => true,
+        _ => false,
+    }
+}
+
+fn none_waits(values: &[Evaluation]) -> bool
+    ensures { IsTrue result → AllEvaluated values.now }
+{
+    values
+        .iter()
+        .all(|evaluation| !is_waiting(Some(*evaluation)))
 }
 
 impl<'a> PlacedModule<'a> {
@@ -56,20 +83,28 @@ impl<'a> PlacedModule<'a> {
         }
     }
 
+    // Whether the public that a token mentions is evaluated, if it mentions one.
+    fn is_ready(&self, values: &[Evaluation], token: Token) -> bool
+        ensures { result ≡ is_ready values.now (mentioned_in self.now.graph.meetings.now token) }
+    {
+        match self.graph.mentioned(token) {
+            Some(position) => !is_waiting(values.get(position as usize).copied()),
+            None => true,
+        }
+    }
+
+    // The same of all tokens.
+    fn all_ready(&self, values: &[Evaluation], tokens: &[Token]) -> bool
+        ensures { result ≡ list_all (λ token. is_ready values.now (mentioned_in self.now.graph.meetings.now token)) tokens.now }
+    {
+        tokens.iter().all(|token| self.is_ready(values, *token))
+    }
+
     // Whether all publics that the one at a position mentions are evaluated.
     fn can_settle(&self, values: &[Evaluation], position: u32) -> bool
-        requires { IsClosed (graph_edges self.now.graph) (length values.now) }
         ensures { IsTrue result ↔ AreEvaluated values.now (graph_edges self.now.graph position) }
     {
-        for token in self.graph.tokens(position) {
-            let Some(next) = self.graph.mentioned(*token) else {
-                continue;
-            };
-            if values[next as usize] == Evaluation::Waiting {
-                return false;
-            }
-        }
-        true
+        self.all_ready(values, self.graph.tokens(position))
     }
 
     // The value of an expression, where all that it mentions is evaluated.
@@ -85,7 +120,7 @@ impl<'a> PlacedModule<'a> {
         }
     }
 
-    // Evaluates the public at a position, where it waits and all that it mentions is evaluated.
+    // Evaluates the public at a position, where all that it mentions is evaluated.
     fn settle(&self, values: &mut Vec<Evaluation>, position: u32)
         requires placed { IsPlaced self.now }
         requires right { AreRight self.now values.old.items }
@@ -96,7 +131,7 @@ impl<'a> PlacedModule<'a> {
         let Some(public) = self.graph.publics().get(position as usize) else {
             return;
         };
-        if values[position as usize] == Evaluation::Waiting && self.can_settle(values, position) {
+        if self.can_settle(values, position) {
             values[position as usize] = self.worth(values, &public.value);
         }
     }
@@ -124,6 +159,21 @@ impl<'a> PlacedModule<'a> {
         }
     }
 
+    // Evaluates all publics, in rounds over those that wait.
+    fn settle_rounds(&self, values: &mut Vec<Evaluation>)
+        requires placed { IsPlaced self.now }
+        requires right { AreRight self.now values.old.items }
+        ensures right { AreRight self.now values.new.items }
+        ensures evaluated { AllEvaluated values.new.items }
+    {
+        for _round in 0..self.graph.publics().len() + 1 {
+            if none_waits(values) {
+                return;
+            }
+            self.settle_all(values);
+        }
+    }
+
     /// The values of the publics, which must lead in no circle. All components give the same values;
     /// with those of the graph one round over the publics finds all.
     pub fn settled(
@@ -137,12 +187,7 @@ impl<'a> PlacedModule<'a> {
         let count = self.graph.publics().len();
         let mut values = vec![in alloc; Evaluation::Waiting; count]?;
         self.settle_in_order(&mut values, components.order.as_slice());
-        for _ in 0..=count {
-            if !values.as_slice().contains(&Evaluation::Waiting) {
-                break;
-            }
-            self.settle_all(&mut values);
-        }
+        self.settle_rounds(&mut values);
         Ok(values)
     }
 
@@ -168,7 +213,7 @@ impl<'a> PlacedModule<'a> {
     {
         let publics = self.graph.publics();
         for position in 0..publics.len() {
-            if values[position] == Evaluation::Nothing && self.divides(values, &publics[position]) {
+            if has_no_value(values[position]) && self.divides(values, &publics[position]) {
                 return Some(&publics[position]);
             }
         }
