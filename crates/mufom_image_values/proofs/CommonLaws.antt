@@ -1,7 +1,8 @@
 -- The first reference that stands for the first common has its name, and the first that passes a test is found one after another.
-use Rattle.std.proofs.Common.{◌≡◌, ℕ, zero, suc, ◌+◌, ◌<◌, inl, inr, List, [], ◌∷◌, map, Option, Some, None, is_none, Bool, true, false, not, cond, if◌then◌else◌, refl, sym, ap, ◌∙◌, append-nil, arith}
+use Rattle.std.proofs.Common.{◌≡◌, ℕ, zero, suc, ◌+◌, ◌<◌, inl, inr, List, [], ◌∷◌, map, get_or, Option, Some, None, is_none, Bool, true, false, not, cond, if◌then◌else◌, refl, sym, ap, ◌∙◌, append-nil, arith}
 use Rattle.std.specs.Prelude.{filter, find, option_map, slice_get, ◌==◌}
 use Rattle.std.specs.Str.{bytes_eq}
+use Rattle.std.proofs.lemmas.Option.{slice_get-map, get_or_from_slice_get}
 use Rattle.std.proofs.lemmas.Slice.Eq.{bytes_eq-Decides}
 use Rattle.mufom_names.specs.declared.name.Weak.{Weak}
 use Rattle.mufom_names.specs.declared.name.Reference.{Reference}
@@ -16,7 +17,7 @@ use Rattle.mufom_meaning.proofs.facts.Answers.{find_at, find_none}
 use Rattle.mufom_image_values.specs.declared.meetings.Meeting.{Meeting}
 use Rattle.mufom_image_values.specs.declared.meetings.Meeting.TheVariants as meetings
 use Rattle.mufom_image_values.specs.Names.{place_in}
-use Rattle.mufom_image_values.specs.Meetings.{meeting_without, meeting_by, common_list, meeting_of, is_first_common}
+use Rattle.mufom_image_values.specs.Meetings.{meeting_without, meeting_by, common_list, meeting_of, meetings_of, is_first_common}
 use Rattle.mufom_image_values.proofs.NameLaws.{has-place, place-some}
 
 -- ---- the first that passes
@@ -74,7 +75,7 @@ first-stands None None (Some weak) e = by_size (weak.size == 0) e where
   by_size false e = absurd cc
 
 module _ (m : Parts) where
-  abbrev stands : Reference → Bool
+  abbrev pub stands : Reference → Bool
   stands r = is_first_common (meeting_of m r)
 
   -- where there is a common, a reference stands for it
@@ -121,3 +122,9 @@ module _ (m : Parts) where
         let at = at-In r.0 m.names.references r.1 in
         let fails : stands r.0 ≡ false = find_none stands m.names.references e r.0 at.0 at.1 in
         absurd (let passes : stands r.0 ≡ true = r.2 in cc)
+
+-- what a reference stands for stands at its position
+pub meeting-at : (m : Parts) (met : List Meeting) (i : ℕ) (d : Meeting) (r : Reference) → met ≡ meetings_of m → slice_get m.names.references i ≡ Some r → get_or met i d ≡ meeting_of m r
+meeting-at m met i d r same e =
+    get_or_from_slice_get met i (meeting_of m r) d
+    (ap (λ (ms : List Meeting). slice_get ms i) same ∙ slice_get-map (meeting_of m) m.names.references i ∙ ap (option_map (meeting_of m)) e)

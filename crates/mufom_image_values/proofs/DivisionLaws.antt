@@ -53,7 +53,7 @@ module _ (placed : PlacedModule) (h : IsPlaced placed) (values : List Evaluation
 
   -- no public of those before a position divides by 0 itself
   abbrev pub NoneBefore : ℕ → Type 0
-  NoneBefore n = (j : ℕ) (q : Public) → j < n → slice_get (m placed h).names.publics j ≡ Some q → public_fact (s placed h) (sit (m placed h) q) ≡ None
+  NoneBefore n = (j : ℕ) → j < n → (q : Public) → slice_get (m placed h).names.publics j ≡ Some q → public_fact (s placed h) (sit (m placed h) q) ≡ None
 
   sited_at : (j : ℕ) (q : SitedPublic) → slice_get (at_site (alone (m placed h)) (m placed h).names.publics) j ≡ Some q
       → (p : Public) × (slice_get (m placed h).names.publics j ≡ Some p) × (sit (m placed h) p ≡ q)
@@ -73,4 +73,4 @@ module _ (placed : PlacedModule) (h : IsPlaced placed) (values : List Evaluation
       ∙ one_first (public_fact (s placed h)) (at_site (alone (m placed h)) (m placed h).names.publics) n (sit (m placed h) p) (zero_divisor (sites.Public p.name))
       (slice_get-map (sit (m placed h)) (m placed h).names.publics n ∙ ap (option_map (sit (m placed h))) at)
       (fact-some p e)
-      (λ j q less f. let own = sited_at j q f in sym (ap (public_fact (s placed h)) own.2) ∙ none j own.0 less own.1)
+      (λ j q less f. let own = sited_at j q f in sym (ap (public_fact (s placed h)) own.2) ∙ none j less own.0 own.1)

@@ -31,6 +31,7 @@ use Rattle.mufom_image_values.proofs.MentionLaws.{sit, flat-alone, at-place, edg
 use Rattle.mufom_image_values.proofs.CircleLaws.{there_is, no_cycle}
 use Rattle.mufom_image_values.proofs.Around.{IsKnown, value_by-is}
 use Rattle.mufom_image_values.proofs.Once.{value_from_values}
+use Rattle.mufom_image_values.proofs.TokenLoops.{nat_choice}
 
 -- ---- lists with one element changed
 
@@ -50,16 +51,6 @@ pub set-length : {A : Type 0} (xs : List A) (n : ℕ) (x : A) → length (set xs
 set-length [] n x = refl
 set-length (y ∷ xs) zero x = refl
 set-length (y ∷ xs) (suc n) x = ap suc (set-length xs n x)
-
--- two numbers are the same, or not
-pub nat_choice : (a b : ℕ) → (a ≡ b) ⊎ (a ≢ b)
-nat_choice zero zero = inl refl
-nat_choice zero (suc b) = inr (λ e. omega (arith, e))
-nat_choice (suc a) zero = inr (λ e. omega (arith, e))
-nat_choice (suc a) (suc b) = by_case (nat_choice a b) where
-  by_case : (a ≡ b) ⊎ (a ≢ b) → (suc a ≡ suc b) ⊎ (suc a ≢ suc b)
-  by_case (inl e) = inl (ap suc e)
-  by_case (inr other) = inr (λ e. other (omega (arith, e)))
 
 -- ---- what is known of a public
 

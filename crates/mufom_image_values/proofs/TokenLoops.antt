@@ -1,18 +1,18 @@
 -- Tests of all that tokens mention, and of all positions.
-use Rattle.std.proofs.Common.{◌≡◌, ◌≢◌, inl, inr, ℕ, zero, suc, ◌+◌, ◌<◌, length, take, get_or, append-nil, arith, List, [], ◌∷◌, Option, Some, None, Bool, true, false, not, ◌&&◌, refl, sym, ap, ◌∙◌}
+use Rattle.std.proofs.Common.{◌≡◌, ◌≢◌, ◌⊎◌, inl, inr, subst, ℕ, zero, suc, ◌+◌, ◌<◌, length, take, get_or, append-nil, arith, List, [], ◌∷◌, Option, Some, None, Bool, true, false, not, ◌&&◌, refl, sym, ap, ◌∙◌}
 use Rattle.std.specs.Prelude.{slice_get, Contains, IsTrue, option_to_list, ◌++◌}
 use Rattle.std.specs.List.{list_all}
 use Rattle.std.proofs.lemmas.List.{take_more}
 use Rattle.std.proofs.lemmas.Grind.{flat_map-append}
 use Rattle.mufom_expr.specs.declared.token.Token.{Token}
 use Rattle.mufom_meaning.proofs.Members.{In, In-Contains, Contains-In, In-left, In-right}
-use Rattle.mufom_meaning.proofs.Choices.{some_same}
+use Rattle.mufom_meaning.proofs.Choices.{some_same, of_lt}
 use Rattle.mufom_meaning.proofs.facts.Answers.{both}
 use Rattle.mufom_image_values.specs.declared.meetings.Meeting.{Meeting}
 use Rattle.mufom_image_values.specs.declared.surroundings.Evaluation.{Evaluation}
 use Rattle.mufom_image_values.specs.declared.surroundings.Evaluation.TheVariants as evaluations
 use Rattle.mufom_image_values.specs.Graph.{mentioned_in, mentions_of}
-use Rattle.mufom_image_values.specs.Circles.{Search, followed}
+use Rattle.mufom_image_values.specs.Circles.{Search, followed, is_down, leads_down}
 use Rattle.mufom_image_values.proofs.SearchLaws.{followed-append}
 use Rattle.mufom_image_values.specs.Evaluated.{is_waiting, is_ready, AreEvaluated}
 
@@ -83,3 +83,29 @@ mention-at met tokens i d n inside found = In-Contains n (mentions_of met tokens
     own None e = absurd cc
     own (Some k) e = inl (some_same k n e)
   at (t ∷ tokens) (suc i) inside found = In-right n (option_to_list (mentioned_in met t)) (mentions_of met tokens) (at tokens i (omega (arith, inside)) found)
+
+-- ---- positions one after another
+
+-- two numbers are the same, or not
+pub nat_choice : (a b : ℕ) → (a ≡ b) ⊎ (a ≢ b)
+nat_choice zero zero = inl refl
+nat_choice zero (suc b) = inr (λ e. omega (arith, e))
+nat_choice (suc a) zero = inr (λ e. omega (arith, e))
+nat_choice (suc a) (suc b) = by_case (nat_choice a b) where
+  by_case : (a ≡ b) ⊎ (a ≢ b) → (suc a ≡ suc b) ⊎ (suc a ≢ suc b)
+  by_case (inl e) = inl (ap suc e)
+  by_case (inr other) = inr (λ e. other (omega (arith, e)))
+
+lt-from_other : (m n : ℕ) → m ≢ n → m < n + 1 → m < n
+lt-from_other m n other less = grind (arith, other, less)
+
+-- what holds of those below a number and of the number holds of those below the next
+pub below_more : (P : ℕ → Type 0) (k : ℕ) → ((n : ℕ) → n < k → P n) → P k → (n : ℕ) → n < k + 1 → P n
+below_more P k earlier own n less = by_case (nat_choice n k) where
+  by_case : (n ≡ k) ⊎ (n ≢ k) → P n
+  by_case (inl same) = subst P (sym same) own
+  by_case (inr other) = earlier n (lt-from_other n k other less)
+
+-- where all steps from a position lead strictly down, each leads to a lesser number
+pub strictly-down : (number : ℕ → ℕ) (edges : ℕ → List ℕ) (n : ℕ) → leads_down number edges true n ≡ true → (next : ℕ) → Contains (edges n) next → number next < number n
+strictly-down number edges n e next h = of_lt (number next) (number n) (all-Contains (λ next. is_down number (number n) true (Some next)) (edges n) e next h)

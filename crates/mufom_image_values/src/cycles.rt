@@ -147,7 +147,7 @@ pub fn first_on_cycle<'a>(
     ensures { IfOk result (λ first. first_some (cycle_at (graph.now.parts.now ∷ [])) (public_names (graph.now.parts.now ∷ [])) ≡ option_map (λ public. cycle public.now.name) first) }
 {
     match first_on_circle(alloc, graph, components)? {
-        Some(position) => Ok(graph.publics().get(position as usize)),
+        Some(position) => Ok(Some(&graph.publics()[position as usize])),
         None => Ok(None),
     }
 }

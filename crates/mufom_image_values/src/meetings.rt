@@ -87,8 +87,9 @@ pub fn first_undefined<'a>(module: &'a Module, meetings: &[Meeting]) -> Option<&
 {
     let references = module.parts().names.references.as_slice();
     for place in 0..references.len() {
-        if is_undefined(meetings[place], &references[place]) {
-            return Some(&references[place]);
+        let reference = &references[place];
+        if is_undefined(meetings[place], reference) {
+            return Some(reference);
         }
     }
     None
@@ -101,8 +102,9 @@ pub fn first_common<'a>(module: &'a Module, meetings: &[Meeting]) -> Option<&'a 
 {
     let references = module.parts().names.references.as_slice();
     for place in 0..references.len() {
+        let reference = &references[place];
         if is_first_common(meetings[place]) {
-            return Some(&references[place]);
+            return Some(reference);
         }
     }
     None

@@ -18,7 +18,7 @@ loop-token-preserved c =
     let i = c.loop-token.token-index in
     let begun = search_of c.args.marks.now.items c.args.pending.now.items in
     elim c.match-mentioned.branch [
-      in-Some+in_ok-mark w ↦
+      | in-Some+in_ok-mark w ↦
           let marks = w.marks-is in
           let pending = w.pending-is in
           let all = (λ j. search_of (marks j).items (pending j).items)

@@ -6,4 +6,4 @@ use Rattle.mufom_image_values.proofs.meetings.first_undefined.Given as goal
 
 -- no reference so far is undefined
 abbrev pub invariant-loop-place : goal.invariant-loop-place
-invariant-loop-place l = (j : ℕ) (r : Reference) → j < l.place → slice_get l.references j ≡ Some r → is_undefined l.module r ≡ false
+invariant-loop-place l = (j : ℕ) → j < l.place → (r : Reference) → slice_get l.module.names.references j ≡ Some r → is_undefined l.module r ≡ false
