@@ -161,3 +161,17 @@ first_undefined-is m =
     grouped : (a b c : Bool) → (a && (b && c)) ≡ ((a && b) && c)
     grouped true b c = refl
     grouped false b c = refl
+
+-- what references stand for by indexes of these names is what they stand for
+pub meetings-are : (m : Parts) (publics commons : List Entry) → FindsFirst publics (names_of m.names.publics) → commons ≡ numbered_from 0 (asked_after publics [] m.names.references)
+    → map (λ r. meeting_by (position_of publics r.name) (position_of commons r.name) r.weak) m.names.references ≡ meetings_of m
+meetings-are m publics commons finds is = all m.names.references where
+  each : (r : Reference) → meeting_by (position_of publics r.name) (position_of commons r.name) r.weak ≡ meeting_of m r
+  each r =
+      let public = finds r.name in
+      let common = ap (λ es. position_of es r.name) (is ∙ ap (numbered_from 0) (asked-commons m publics finds)) in
+      λ i. meeting_by (public i) (common i) r.weak
+
+  all : (rs : List Reference) → map (λ r. meeting_by (position_of publics r.name) (position_of commons r.name) r.weak) rs ≡ map (meeting_of m) rs
+  all [] = refl
+  all (r ∷ rs) = let first = each r in let rest = all rs in λ i. first i ∷ rest i

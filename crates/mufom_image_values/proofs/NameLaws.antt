@@ -1,8 +1,9 @@
 -- Indexes of names against the list of the names, and the commons that references ask for one after another.
-use Rattle.std.proofs.Common.{◌≡◌, ℕ, suc, ◌+◌, ◌<◌, List, [], ◌∷◌, ◌++◌, length, map, take, get_or, Option, Some, None, is_none, Bool, true, false, not, cond, ◌||◌, ◌&&◌, if◌then◌else◌, refl, sym, ap, ◌∙◌, append_assoc, append-nil, length-append, arith}
+use Rattle.std.proofs.Common.{◌≡◌, ℕ, suc, ◌+◌, ◌<◌, ◌≤◌, List, [], ◌∷◌, ◌++◌, length, map, take, get_or, Option, Some, None, is_none, Bool, true, false, not, cond, ◌||◌, ◌&&◌, if◌then◌else◌, refl, sym, ap, ◌∙◌, append_assoc, append-nil, length-append, arith}
 use Rattle.std.specs.Prelude.{filter, find, slice_get}
 use Rattle.std.specs.Str.{bytes_eq}
-use Rattle.std.proofs.lemmas.List.{map-append, take_more}
+use Rattle.std.proofs.lemmas.List.{map-append, length-map, take_more}
+use Rattle.std.proofs.lemmas.Grind.{common_steps}
 use Rattle.std.proofs.lemmas.List.Folds.{list_any-append}
 use Rattle.std.proofs.lemmas.Slice.Eq.{bytes_eq-Decides}
 use Rattle.mufom_names.specs.declared.name.Public.{Public}
@@ -27,9 +28,12 @@ finds-push es names key n count known name =
     ∙ sym (position_of-push (numbered_from 0 names) key (0 + length names) name)
     ∙ ap (λ es. position_of es name) (sym (numbered-push 0 names key))
 
-pub finds-more : (es : List Entry) (publics : List Public) (i : ℕ) (public : Public) → i < length publics → i ≡ length (names_of (take i publics)) → get_or publics i public ≡ public
+-- and with the next public of a list
+pub finds-more : (es : List Entry) (publics : List Public) (i : ℕ) (public : Public) → i < length publics → get_or publics i public ≡ public
     → FindsFirst es (names_of (take i publics)) → FindsFirst (with_entry es public.name i) (names_of (take (i + 1) publics))
-finds-more es publics i public inside count is known name =
+finds-more es publics i public inside is known name =
+    let taken : length (take i publics) ≡ i = grind (arith, common_steps, inside) in
+    let count = sym (length-map (take i publics) (λ (p : Public). p.name) ∙ taken) in
     let names : names_of (take (i + 1) publics) ≡ names_of (take i publics) ++ public.name ∷ []
     = ap names_of (take_more publics i public inside ∙ ap (λ (p : Public). take i publics ++ p ∷ []) is) ∙ map-append (λ p. p.name) (take i publics) (public ∷ []) in
     finds-push es (names_of (take i publics)) public.name i count known name ∙ ap (λ ns. place_in ns name) (sym names)
@@ -189,3 +193,15 @@ pub asked-more : (publics : List Entry) (names : List (List ℕ)) (references : 
     → asked_after publics names (references ++ r ∷ []) ≡ with_asked publics (asked_after publics names references) r
 asked-more publics names [] r = refl
 asked-more publics names (q ∷ references) r = asked-more publics (with_asked publics names q) references r
+
+-- the next reference of a list
+pub asked-step : (publics : List Entry) (references : List Reference) (k : ℕ) (r : Reference) → k < length references → get_or references k r ≡ r
+    → asked_after publics [] (take (k + 1) references) ≡ with_asked publics (asked_after publics [] (take k references)) r
+asked-step publics references k r inside is =
+    ap (asked_after publics []) (take_more references k r inside ∙ ap (λ (x : Reference). take k references ++ x ∷ []) is) ∙ asked-more publics [] (take k references) r
+
+pub with_name-few : (names : List (List ℕ)) (name : List ℕ) → length (with_name names name) ≤ length names + 1
+with_name-few names name = by_case (has_name names name) where
+  by_case : (b : Bool) → length (if b then names else names ++ name ∷ []) ≤ length names + 1
+  by_case true = omega arith
+  by_case false = omega (arith, length-append names (name ∷ []))

@@ -1,6 +1,6 @@
 //! What each reference of a module stands for.
 
-ghost use Rattle.std.specs.Prelude.{◌≡◌, ◌&&◌, [], ◌∷◌, option_map, slice_get, IfOk};
+ghost use Rattle.std.specs.Prelude.{◌≡◌, ◌&&◌, [], ◌∷◌, map, option_map, slice_get, IfOk};
 ghost use Rattle.mufom_names.specs.Index.{position_of};
 ghost use Rattle.mufom_meaning.specs.Flat.{common_names, is_strong};
 ghost use Rattle.mufom_meaning.specs.LocateAnswer.{first_undefined};
@@ -47,6 +47,23 @@ fn meeting_of(publics: &NameIndex, commons: &NameIndex, reference: &Reference) -
     }
 }
 
+// What references stand for, by the indexes of the names of publics and of commons.
+fn resolved(
+    alloc: Global,
+    publics: &NameIndex,
+    commons: &NameIndex,
+    references: &[Reference],
+) -> Result<List<Meeting>, NoMemory>
+    ensures { IfOk result (λ all. all
+        ≡ map (λ r. meeting_by (position_of publics.now r.name) (position_of commons.now r.name) r.weak) references.now) }
+{
+    let mut all = List::new(alloc);
+    for reference in references {
+        all.push(meeting_of(publics, commons, reference))?;
+    }
+    Ok(all)
+}
+
 /// What each reference of a module stands for, in order.
 pub fn resolve_references(alloc: Global, module: &Module) -> Result<List<Meeting>, NoMemory>
     ensures { IfOk result (λ meetings. meetings ≡ meetings_of «module».now) }
@@ -55,10 +72,7 @@ pub fn resolve_references(alloc: Global, module: &Module) -> Result<List<Meeting
     let references = names.references.as_slice();
     let publics = index_of_publics(alloc, names.publics.as_slice())?;
     let commons = index_of_commons(alloc, &publics, references)?;
-    let mut meetings = List::new(alloc);
-    for reference in references {
-        meetings.push(meeting_of(&publics, &commons, reference))?;
-    }
+    let meetings = resolved(alloc, &publics, &commons, references)?;
     Ok(meetings)
 }
 
