@@ -27,29 +27,29 @@ module _ (placed : PlacedModule) (h : IsPlaced placed) (values : List Evaluation
   pub value-is : (counter : Option ℕ) (t : Tree) → worth_at placed values counter t ≡ value (s placed h) (alone (m placed h)) counter t
   value-is counter t = worth_at-is placed h values counter t (λ c k. known-at placed h values counter (values-right placed values v) c (v.evaluated c))
 
-  divides-is : (t : Tree) → divides_by_zero (worth_at placed values None) t ≡ has_zero_divisor (s placed h) (alone (m placed h)) None t
+  pub divides-is : (t : Tree) → divides_by_zero (worth_at placed values None) t ≡ has_zero_divisor (s placed h) (alone (m placed h)) None t
   divides-is t = λ i. divides_by_zero (λ part. value-is None part i) t
 
-  -- a public that does not divide by 0 itself
-  pub fact-none : (p : Public) → divides_by_zero (worth_at placed values None) p.value ≡ false → public_fact (s placed h) (sit (m placed h) p) ≡ None
-  fact-none p e = ap (λ b. if b then Some (zero_divisor (sites.Public p.name)) else None) (sym (divides-is p.value) ∙ e)
-
-  pub fact-some : (p : Public) → divides_by_zero (worth_at placed values None) p.value ≡ true → public_fact (s placed h) (sit (m placed h) p) ≡ Some (zero_divisor (sites.Public p.name))
-  fact-some p e = ap (λ b. if b then Some (zero_divisor (sites.Public p.name)) else None) (sym (divides-is p.value) ∙ e)
-
-  -- nor does a public with a value
-  pub fact-value : (n : ℕ) (p : Public) (evaluation : Evaluation) → slice_get (m placed h).names.publics n ≡ Some p → slice_get values n ≡ Some evaluation
-      → evaluation ≢ evaluations.Nothing → public_fact (s placed h) (sit (m placed h) p) ≡ None
-  fact-value n p evaluation at to other = by_test (has_zero_divisor (s placed h) (alone (m placed h)) None p.value) refl where
+  -- a public with a value does not divide by 0
+  pub no-divisor : (n : ℕ) (p : Public) (evaluation : Evaluation) → slice_get (m placed h).names.publics n ≡ Some p → slice_get values n ≡ Some evaluation
+      → evaluation ≢ evaluations.Nothing → has_zero_divisor (s placed h) (alone (m placed h)) None p.value ≡ false
+  no-divisor n p evaluation at to other = by_test (has_zero_divisor (s placed h) (alone (m placed h)) None p.value) refl where
     no_value : (evaluation : Evaluation) → slice_get values n ≡ Some evaluation → evaluation ≢ evaluations.Nothing → IsRight (public_value placed p) evaluation
         → value (s placed h) (alone (m placed h)) None p.value ≡ None → ⊥
     no_value evaluations.Waiting to other r none = v.evaluated n to
     no_value evaluations.Nothing to other r none = other refl
     no_value (evaluations.Value x) to other r none = absurd (let clash : Some x ≡ None = sym r ∙ none in cc)
 
-    by_test : (b : Bool) → has_zero_divisor (s placed h) (alone (m placed h)) None p.value ≡ b → (if b then Some (zero_divisor (sites.Public p.name)) else None) ≡ None
+    by_test : (b : Bool) → has_zero_divisor (s placed h) (alone (m placed h)) None p.value ≡ b → b ≡ false
     by_test false e = refl
     by_test true e = absurd (no_value evaluation to other ((values-right placed values v).right n p evaluation at to) (zero_divisor-none (s placed h) (alone (m placed h)) None p.value e))
+
+  -- what is met at a public, by whether it divides by 0
+  pub fact-none : (p : Public) → has_zero_divisor (s placed h) (alone (m placed h)) None p.value ≡ false → public_fact (s placed h) (sit (m placed h) p) ≡ None
+  fact-none p e = ap (λ b. if b then Some (zero_divisor (sites.Public p.name)) else None) e
+
+  fact-some : (p : Public) → has_zero_divisor (s placed h) (alone (m placed h)) None p.value ≡ true → public_fact (s placed h) (sit (m placed h) p) ≡ Some (zero_divisor (sites.Public p.name))
+  fact-some p e = ap (λ b. if b then Some (zero_divisor (sites.Public p.name)) else None) e
 
   -- no public of those before a position divides by 0 itself
   abbrev pub NoneBefore : ℕ → Type 0
@@ -66,7 +66,7 @@ module _ (placed : PlacedModule) (h : IsPlaced placed) (values : List Evaluation
       ∙ none_first (public_fact (s placed h)) (at_site (alone (m placed h)) (m placed h).names.publics)
       (λ j q e. let p = sited_at j q e in sym (ap (public_fact (s placed h)) p.2) ∙ none j p.0 p.1)
 
-  pub first-division-some : (n : ℕ) (p : Public) → slice_get (m placed h).names.publics n ≡ Some p → NoneBefore n → divides_by_zero (worth_at placed values None) p.value ≡ true
+  pub first-division-some : (n : ℕ) (p : Public) → slice_get (m placed h).names.publics n ≡ Some p → NoneBefore n → has_zero_divisor (s placed h) (alone (m placed h)) None p.value ≡ true
       → first_some (public_fact (s placed h)) (s placed h).publics ≡ Some (zero_divisor (sites.Public p.name))
   first-division-some n p at none e =
       ap (first_some (public_fact (s placed h))) (flat-alone (m placed h))

@@ -1,12 +1,12 @@
 //! The values of the publics, each found once.
 
-ghost use Rattle.std.specs.Prelude.{◌≡◌, ◌≢◌, ◌*◌, ◌<◌, ◌≤◌, ◌↔◌, length, option_map, IfOk, IsTrue};
+ghost use Rattle.std.specs.Prelude.{◌≡◌, ◌≢◌, ◌*◌, ◌<◌, ◌≤◌, ◌↔◌, length, option_map, slice_get, Some, None, IfOk, IsTrue};
 ghost use Rattle.std.specs.List.{list_all};
 ghost use Rattle.mufom_expr.specs.Value.{divides_by_zero};
 ghost use Rattle.mufom_place.specs.Facts.{first_some};
 ghost use Rattle.mufom_meaning.specs.declared.located.Site.TheVariants as sites;
 ghost use Rattle.mufom_meaning.specs.Facts.{zero_divisor};
-ghost use Rattle.mufom_meaning.specs.Values.{value};
+ghost use Rattle.mufom_meaning.specs.Values.{value, has_zero_divisor};
 ghost use Rattle.mufom_meaning.specs.Walk.{public_fact};
 ghost use Rattle.mufom_image_values.specs.Graph.{mentioned_in};
 ghost use Rattle.mufom_image_values.specs.Surroundings.{known};
@@ -128,9 +128,11 @@ impl<'a> PlacedModule<'a> {
         ensures kept { AreKept values.old.items values.new.items }
         ensures settled { position < length self.now.graph.parts.now.names.publics → AreEvaluated values.old.items (graph_edges self.now.graph position) → IsEvaluated values.new.items position }
     {
-        let Some(public) = self.graph.publics().get(position as usize) else {
+        let publics = self.graph.publics();
+        if position as usize >= publics.len() {
             return;
-        };
+        }
+        let public = &publics[position as usize];
         if self.can_settle(values, position) {
             values[position as usize] = self.worth(values, &public.value);
         }
@@ -213,11 +215,26 @@ impl<'a> PlacedModule<'a> {
     {
         let publics = self.graph.publics();
         for position in 0..publics.len() {
-            if has_no_value(values[position]) && self.divides(values, &publics[position]) {
-                return Some(&publics[position]);
+            let public = &publics[position];
+            if self.has_division(values, position, public) {
+                return Some(public);
             }
         }
         None
+    }
+
+    // Whether the public at a position divides by 0 itself. One with a value does not.
+    fn has_division(&self, values: &[Evaluation], position: usize, public: &Public) -> bool
+        requires placed { IsPlaced self.now }
+        requires values { AreValues self.now values.now }
+        requires there { slice_get self.now.graph.parts.now.names.publics position ≡ Some public.now }
+        ensures { result ≡ has_zero_divisor (setting_of self.now) (alone self.now.graph.parts.now) None public.now.value }
+    {
+        if has_no_value(values[position]) {
+            self.divides(values, public)
+        } else {
+            false
+        }
     }
 
     // Whether the public divides by 0 itself.
