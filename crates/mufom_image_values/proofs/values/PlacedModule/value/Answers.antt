@@ -1,5 +1,4 @@
-use Rattle.std.proofs.Common.{◌∙◌, ◌^◌, ap}
-use Rattle.mufom_expr.specs.Value.{value_at}
+use Rattle.std.proofs.Common.{◌∙◌, rules}
 use Rattle.mufom_image_values.proofs.DivisionLaws.{value-is}
 use Rattle.mufom_image_values.proofs.values.PlacedModule.value.Goals as goal
 
