@@ -1,5 +1,5 @@
 -- A public lies on a cycle of names exactly where its position lies on a circle of the graph.
-use Rattle.std.proofs.Common.{◌≡◌, ℕ, zero, suc, ◌+◌, ◌<◌, ◌⊎◌, inl, inr, List, [], ◌∷◌, map, length, Option, Some, None, Bool, true, false, ◌||◌, refl, sym, ◌∙◌, ap, subst, append-nil, arith}
+use Rattle.std.proofs.Common.{◌≡◌, ℕ, zero, suc, ◌<◌, ◌⊎◌, inl, inr, List, [], ◌∷◌, length, Option, Some, None, Bool, true, false, ◌||◌, refl, sym, ◌∙◌, ap, subst, append-nil, arith}
 use Rattle.std.specs.Prelude.{slice_get, option_map, option_and_then, if◌then◌else◌, Contains}
 use Rattle.std.specs.List.{list_any}
 use Rattle.std.specs.Str.{bytes_eq}
@@ -18,9 +18,9 @@ use Rattle.mufom_meaning.specs.Bases.{no_bases}
 use Rattle.mufom_meaning.specs.Flat.{SitedPublic, first_named, public_names}
 use Rattle.mufom_meaning.specs.Values.{Setting, setting}
 use Rattle.mufom_meaning.specs.Cycles.{mentioned, is_or_leads, leads_within, leads_from, IsOnCycle, is_on_cycle}
-use Rattle.mufom_meaning.specs.Facts.{LocateFact, cycle}
+use Rattle.mufom_meaning.specs.Facts.{cycle}
 use Rattle.mufom_meaning.specs.LocateAnswer.{cycle_at}
-use Rattle.mufom_meaning.proofs.Choices.{mapped_some, some_same}
+use Rattle.mufom_meaning.proofs.Choices.{mapped_some}
 use Rattle.mufom_meaning.proofs.Members.{In, In-at, passes-In, Contains-In, In-Contains}
 use Rattle.mufom_meaning.proofs.Tests.{either}
 use Rattle.mufom_meaning.proofs.facts.Answers.{first_some_none, find_at}
@@ -33,7 +33,7 @@ use Rattle.mufom_image_values.specs.Circles.{Leads, IsOnCircle, IsFirstOnCircle}
 use Rattle.mufom_image_values.specs.Evaluated.{alone, IsGraph}
 use Rattle.mufom_image_values.proofs.NameLaws.{place-some, place-none}
 use Rattle.mufom_image_values.proofs.PublicLaws.{at_site}
-use Rattle.mufom_image_values.proofs.MentionLaws.{sit, flat-alone, named-public, at-place, edges-at, edge-mentions, mention-edge, closed}
+use Rattle.mufom_image_values.proofs.MentionLaws.{sit, flat-alone, named-public, edges-at, edge-mentions, mention-edge, closed}
 
 -- ---- lists
 

@@ -1,5 +1,5 @@
 -- The first reference that stands for the first common has its name, and the first that passes a test is found one after another.
-use Rattle.std.proofs.Common.{◌≡◌, ℕ, zero, suc, ◌+◌, ◌<◌, inl, inr, List, [], ◌∷◌, map, get_or, Option, Some, None, is_none, Bool, true, false, not, cond, if◌then◌else◌, refl, sym, ap, ◌∙◌, append-nil, arith}
+use Rattle.std.proofs.Common.{◌≡◌, ℕ, zero, suc, ◌<◌, inl, inr, List, [], ◌∷◌, map, get_or, Option, Some, None, is_none, Bool, true, false, not, cond, if◌then◌else◌, refl, sym, ap, ◌∙◌, append-nil, arith}
 use Rattle.std.specs.Prelude.{filter, find, option_map, slice_get, ◌==◌}
 use Rattle.std.specs.Str.{bytes_eq}
 use Rattle.std.proofs.lemmas.Option.{slice_get-map, get_or_from_slice_get}
@@ -11,13 +11,13 @@ use Rattle.mufom_names.specs.Index.{position_of, numbered_from}
 use Rattle.mufom_module.specs.declared.module.Parts.{Parts}
 use Rattle.mufom_plan.specs.Names.{has_name}
 use Rattle.mufom_meaning.specs.Flat.{distinct, is_common, common_size, same_common, public_names, flat_references, unmet_references, commons, common_names}
-use Rattle.mufom_meaning.proofs.Choices.{mapped_none, equal_numbers}
+use Rattle.mufom_meaning.proofs.Choices.{equal_numbers}
 use Rattle.mufom_meaning.proofs.Members.{In, In-at, at-In, map-In, distinct-In, filter-In}
 use Rattle.mufom_meaning.proofs.facts.Answers.{find_at, find_none}
 use Rattle.mufom_image_values.specs.declared.meetings.Meeting.{Meeting}
 use Rattle.mufom_image_values.specs.declared.meetings.Meeting.TheVariants as meetings
 use Rattle.mufom_image_values.specs.Names.{place_in}
-use Rattle.mufom_image_values.specs.Meetings.{meeting_without, meeting_by, common_list, meeting_of, meetings_of, is_first_common}
+use Rattle.mufom_image_values.specs.Meetings.{meeting_by, common_list, meeting_of, meetings_of, is_first_common}
 use Rattle.mufom_image_values.proofs.NameLaws.{has-place, place-some}
 
 -- ---- the first that passes

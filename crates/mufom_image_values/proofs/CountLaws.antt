@@ -1,6 +1,5 @@
 -- A module without a defect has fewer than 2^32 publics, and fewer than 2^32 references.
-use Rattle.std.proofs.Common.{◌≡◌, ◌<◌, ◌^◌, false, length, arith}
-use Rattle.std.specs.Prelude.{nat_le}
+use Rattle.std.proofs.Common.{◌<◌, ◌^◌, length, arith}
 use Rattle.mufom_module.specs.declared.module.Parts.{Parts}
 use Rattle.mufom_module.specs.declared.module.Defect.TheVariants as kinds
 use Rattle.mufom_module.specs.Defects.{IsValid}

@@ -1,5 +1,5 @@
 -- Where all publics are evaluated, each expression has its value, and the first public that divides by 0 itself is found.
-use Rattle.std.proofs.Common.{◌≡◌, ◌≢◌, ℕ, ◌<◌, List, Option, Some, None, Bool, true, false, refl, sym, ◌∙◌, ap, append-nil}
+use Rattle.std.proofs.Common.{◌≡◌, ◌≢◌, ℕ, ◌<◌, List, Option, Some, None, Bool, true, false, refl, sym, ◌∙◌, ap}
 use Rattle.std.specs.Prelude.{slice_get, option_map, if◌then◌else◌}
 use Rattle.std.proofs.lemmas.Option.{slice_get-map}
 use Rattle.mufom_expr.specs.Tree.{Tree}
@@ -7,7 +7,7 @@ use Rattle.mufom_expr.specs.Value.{divides_by_zero}
 use Rattle.mufom_names.specs.declared.name.Public.{Public}
 use Rattle.mufom_place.specs.Facts.{first_some}
 use Rattle.mufom_meaning.specs.declared.located.Site.TheVariants as sites
-use Rattle.mufom_meaning.specs.Facts.{LocateFact, zero_divisor}
+use Rattle.mufom_meaning.specs.Facts.{zero_divisor}
 use Rattle.mufom_meaning.specs.Flat.{SitedPublic}
 use Rattle.mufom_meaning.specs.Values.{value, has_zero_divisor}
 use Rattle.mufom_meaning.specs.Walk.{public_fact}
@@ -16,7 +16,7 @@ use Rattle.mufom_meaning.proofs.values.Causes.{zero_divisor-none}
 use Rattle.mufom_image_values.specs.declared.surroundings.Evaluation.{Evaluation}
 use Rattle.mufom_image_values.specs.declared.surroundings.Evaluation.TheVariants as evaluations
 use Rattle.mufom_image_values.specs.declared.values.PlacedModule.{PlacedModule}
-use Rattle.mufom_image_values.specs.Evaluated.{alone, setting_of, public_value, IsRight, IsPlaced, worth_at, AreValues}
+use Rattle.mufom_image_values.specs.Evaluated.{alone, public_value, IsRight, IsPlaced, worth_at, AreValues}
 use Rattle.mufom_image_values.proofs.PublicLaws.{at_site}
 use Rattle.mufom_image_values.proofs.MentionLaws.{sit, flat-alone}
 use Rattle.mufom_image_values.proofs.CircleLaws.{none_first, one_first}

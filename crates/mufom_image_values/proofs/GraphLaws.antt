@@ -1,5 +1,5 @@
 -- Chains in a graph that come back: numbers that never rise, and a set that is not left.
-use Rattle.std.proofs.Common.{◌≡◌, ℕ, zero, suc, ◌<◌, ◌≤◌, arith}
+use Rattle.std.proofs.Common.{ℕ, zero, suc, ◌<◌, ◌≤◌, arith}
 use Rattle.std.specs.Prelude.{List, Contains}
 use Rattle.mufom_image_values.specs.Circles.{Leads, IsOnCircle, NeverRises}
 

@@ -1,17 +1,15 @@
 -- What references stand for, against the names that are needed and the commons of the module.
-use Rattle.std.proofs.Common.{◌≡◌, ℕ, zero, suc, ◌+◌, List, [], ◌∷◌, ◌++◌, length, map, Option, Some, None, is_none, Bool, true, false, not, cond, ◌||◌, ◌&&◌, if◌then◌else◌, refl, sym, ap, ◌∙◌, append-nil, zero-add, arith}
-use Rattle.std.specs.Prelude.{filter, find, option_map, slice_get, ◌==◌}
-use Rattle.std.specs.Bool.{Decides}
+use Rattle.std.proofs.Common.{◌≡◌, ℕ, List, [], ◌∷◌, map, Option, Some, None, is_none, Bool, true, false, not, cond, ◌&&◌, refl, sym, ap, ◌∙◌, append-nil}
+use Rattle.std.specs.Prelude.{filter, find, option_map}
 use Rattle.std.specs.Str.{bytes_eq}
 use Rattle.std.proofs.lemmas.Slice.Eq.{bytes_eq-Decides}
 use Rattle.mufom_names.specs.declared.name.Weak.{Weak}
-use Rattle.mufom_names.specs.declared.name.Public.{Public}
 use Rattle.mufom_names.specs.declared.name.Reference.{Reference}
 use Rattle.mufom_names.specs.Names.{names_of}
 use Rattle.mufom_names.specs.Index.{Entry, position_of, numbered_from}
 use Rattle.mufom_module.specs.declared.module.Parts.{Parts}
 use Rattle.mufom_plan.specs.Names.{has_name}
-use Rattle.mufom_meaning.specs.Flat.{Sited, SitedPublic, first_named, distinct, is_strong, is_common, common_size, same_common, public_names, flat_references, unmet_references, needs, commons, common_names}
+use Rattle.mufom_meaning.specs.Flat.{distinct, is_strong, is_common, common_size, same_common, public_names, flat_references, unmet_references, commons, common_names}
 use Rattle.mufom_meaning.specs.LocateAnswer.{first_undefined}
 use Rattle.mufom_meaning.proofs.Distinct.{distinct-made, differs}
 use Rattle.mufom_meaning.proofs.Members.{In-at, In-distinct, distinct-In, passes-In}
@@ -19,7 +17,7 @@ use Rattle.mufom_meaning.proofs.Names.{name_at}
 use Rattle.mufom_meaning.proofs.staging.Needs.{same_common-decides}
 use Rattle.mufom_image_values.specs.Names.{place_in, FindsFirst, asks, asked_after}
 use Rattle.mufom_image_values.specs.Meetings.{meeting_without, meeting_by, common_list, meeting_of, meetings_of, is_nothing}
-use Rattle.mufom_image_values.proofs.NameLaws.{filter-both, filter-same, filter-all, has-place, place-some, place-none, asked-names, names_after-distinct}
+use Rattle.mufom_image_values.proofs.NameLaws.{filter-both, filter-same, filter-all, has-place, asked-names, names_after-distinct}
 
 -- ---- the commons
 

@@ -1,7 +1,7 @@
 -- The graph of positions against the mentions of the definitions: a position leads to another exactly where the public at the one
 -- mentions the public at the other.
-use Rattle.std.proofs.Common.{◌≡◌, ℕ, ◌+◌, ◌<◌, inl, inr, List, [], ◌∷◌, ◌++◌, map, length, Option, Some, None, Bool, true, false, refl, sym, ◌∙◌, ap, append-nil, zero-add, arith}
-use Rattle.std.specs.Prelude.{slice_get, option_map, option_and_then, option_to_list, flat_map, Contains, ◌==◌, if◌then◌else◌}
+use Rattle.std.proofs.Common.{◌≡◌, ℕ, ◌<◌, inl, inr, List, [], ◌∷◌, ◌++◌, length, Option, Some, None, Bool, true, false, refl, sym, ◌∙◌, ap, append-nil, zero-add, arith}
+use Rattle.std.specs.Prelude.{slice_get, option_map, option_and_then, option_to_list, flat_map, ◌==◌, if◌then◌else◌}
 use Rattle.std.proofs.lemmas.Option.{slice_get-map, slice_get_within}
 use Rattle.mufom_expr.specs.declared.token.Letter.{Letter}
 use Rattle.mufom_expr.specs.declared.token.Letter.TheVariants as letters
@@ -15,21 +15,19 @@ use Rattle.mufom_names.specs.declared.name.Weak.{Weak}
 use Rattle.mufom_names.specs.declared.name.Public.{Public}
 use Rattle.mufom_names.specs.declared.name.Reference.{Reference}
 use Rattle.mufom_names.specs.Names.{names_of}
-use Rattle.mufom_names.specs.Index.{numbered_from}
 use Rattle.mufom_module.specs.declared.module.Parts.{Parts}
 use Rattle.mufom_module.specs.Defects.{IsValid, counts_of, count_for}
-use Rattle.mufom_meaning.specs.Flat.{Sited, SitedPublic, first_named, flat_publics}
+use Rattle.mufom_meaning.specs.Flat.{SitedPublic, first_named, flat_publics}
 use Rattle.mufom_meaning.specs.Values.{Setting}
 use Rattle.mufom_meaning.specs.Cycles.{mentioned, mentioned_reference}
-use Rattle.mufom_meaning.specs.Valued.{IsMentionedIn}
-use Rattle.mufom_meaning.proofs.Members.{In, In-at, at-In, In-Contains, Contains-In, In-flat_map, flat_map-In}
+use Rattle.mufom_meaning.proofs.Members.{In, In-at, Contains-In, In-flat_map, flat_map-In}
 use Rattle.mufom_meaning.proofs.Choices.{mapped_some}
 use Rattle.mufom_meaning.proofs.WithoutDefect.{public_inside}
 use Rattle.mufom_image_values.specs.declared.meetings.Meeting.{Meeting}
 use Rattle.mufom_image_values.specs.declared.meetings.Meeting.TheVariants as meetings
 use Rattle.mufom_image_values.specs.Names.{place_in}
-use Rattle.mufom_image_values.specs.Meetings.{meeting_without, meeting_by, common_list, meeting_of, meetings_of}
-use Rattle.mufom_image_values.specs.Graph.{public_met, public_named, mentioned_in, mentions_of, tokens_of_public, tokens_at, edges, IsClosed}
+use Rattle.mufom_image_values.specs.Meetings.{meeting_by, common_list, meeting_of, meetings_of}
+use Rattle.mufom_image_values.specs.Graph.{public_met, public_named, mentions_of, tokens_of_public, edges, IsClosed}
 use Rattle.mufom_image_values.specs.Evaluated.{alone}
 use Rattle.mufom_image_values.proofs.NameLaws.{place-some}
 use Rattle.mufom_image_values.proofs.PublicLaws.{at_site, first-some, first-none}

@@ -1,17 +1,16 @@
 -- Publics that are evaluated after those that they mention have their values, and in as many rounds as there are publics, and one
 -- more, all are evaluated.
-use Rattle.std.proofs.Common.{◌≡◌, ◌≢◌, ◌⊎◌, inl, inr, ℕ, zero, suc, ◌+◌, ◌*◌, ◌^◌, ◌<◌, ◌≤◌, List, [], ◌∷◌, map, length, set, Option, Some, None, refl, sym, ◌∙◌, ap, subst, append-nil, arith}
+use Rattle.std.proofs.Common.{◌≡◌, ◌≢◌, ◌⊎◌, inl, inr, ℕ, zero, suc, ◌<◌, List, [], ◌∷◌, map, length, set, Option, Some, None, refl, sym, ◌∙◌, ap, subst, append-nil, arith}
 use Rattle.std.specs.Prelude.{slice_get, option_map, Contains}
 use Rattle.std.proofs.lemmas.List.{length-map}
-use Rattle.std.proofs.lemmas.Option.{slice_get-map, slice_get_within, slice_get_past}
+use Rattle.std.proofs.lemmas.Option.{slice_get-map, slice_get_within}
 use Rattle.mufom_expr.specs.Tree.{Tree, tokens_of}
 use Rattle.mufom_expr.specs.Value.{value_at}
 use Rattle.mufom_names.specs.declared.name.Public.{Public}
 use Rattle.mufom_names.specs.Names.{names_of, RepeatsAt}
 use Rattle.mufom_module.specs.declared.module.Parts.{Parts}
 use Rattle.mufom_meaning.specs.Flat.{Sited, SitedPublic, flat_publics, first_named}
-use Rattle.mufom_meaning.specs.Values.{Setting, Worth, worth_of, environment, value}
-use Rattle.mufom_meaning.specs.Cycles.{IsOnCycle}
+use Rattle.mufom_meaning.specs.Values.{Setting, Worth, worth_of, value}
 use Rattle.mufom_meaning.specs.Facts.{duplicate}
 use Rattle.mufom_meaning.specs.Stands.{LinkFactStands}
 use Rattle.mufom_meaning.specs.Valued.{IsMentionedIn}
@@ -25,9 +24,8 @@ use Rattle.mufom_image_values.specs.declared.values.PlacedModule.{PlacedModule}
 use Rattle.mufom_image_values.specs.Meetings.{meetings_of}
 use Rattle.mufom_image_values.specs.Graph.{edges, mentions_of}
 use Rattle.mufom_image_values.specs.Surroundings.{known, known_of, worth_by}
-use Rattle.mufom_image_values.specs.Evaluated.{alone, bases_by, IsGraph, graph_edges, setting_of, public_value, IsRight, AreRight, IsEvaluated, AreEvaluated, AreKept, IsRound, IsPlaced, worth_at, AreValues}
-use Rattle.mufom_image_values.proofs.PublicLaws.{at_site}
-use Rattle.mufom_image_values.proofs.MentionLaws.{sit, flat-alone, at-place, edges-at, edge-mentions, closed}
+use Rattle.mufom_image_values.specs.Evaluated.{alone, bases_by, graph_edges, setting_of, public_value, IsRight, AreRight, IsEvaluated, AreEvaluated, AreKept, IsRound, IsPlaced, worth_at, AreValues}
+use Rattle.mufom_image_values.proofs.MentionLaws.{sit, flat-alone, edges-at, edge-mentions, closed}
 use Rattle.mufom_image_values.proofs.CircleLaws.{there_is, no_cycle}
 use Rattle.mufom_image_values.proofs.Around.{IsKnown, value_by-is}
 use Rattle.mufom_image_values.proofs.Once.{value_from_values}

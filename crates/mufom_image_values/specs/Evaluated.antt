@@ -43,6 +43,10 @@ pub record IsGraph (graph : Graph) : Type 0 where
 abbrev pub graph_edges : Graph → ℕ → List ℕ
 graph_edges graph n = edges graph.meetings.now graph.parts.now.names.publics n
 
+-- how many publics it has
+abbrev pub public_count : Graph → ℕ
+public_count graph = length graph.parts.now.names.publics
+
 -- the setting of the values
 abbrev pub setting_of : PlacedModule → Setting
 setting_of placed = setting_by placed.graph.parts.now placed.bases.now placed.commons.now

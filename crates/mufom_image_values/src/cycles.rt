@@ -2,13 +2,14 @@
 
 ghost use Rattle.std.specs.Prelude.{◌≡◌, ◌<◌, ◌^◌, ◌↔◌, [], ◌∷◌, length, option_map, IfOk, OnOk, IsTrue};
 ghost use Rattle.std.specs.List.{list_all};
-ghost use Rattle.mufom_image_values.specs.Graph.{mentioned_in, mentions_of, edges, AreWithin, IsClosed};
+ghost use Rattle.mufom_image_values.specs.Graph.{mentioned_in, mentions_of, AreWithin, IsClosed};
 ghost use Rattle.mufom_place.specs.Facts.{first_some};
 ghost use Rattle.mufom_meaning.specs.Facts.{cycle};
 ghost use Rattle.mufom_meaning.specs.Flat.{public_names};
 ghost use Rattle.mufom_meaning.specs.LocateAnswer.{cycle_at};
-ghost use Rattle.mufom_image_values.specs.Evaluated.{IsGraph};
-ghost use Rattle.mufom_image_values.specs.Circles.{number_at, is_down, leads_down, NeverRises, IsOnCircle, IsFirstOnCircle, search_of, with_position, followed};
+ghost use Rattle.mufom_image_values.specs.Evaluated.{IsGraph, graph_edges, public_count};
+ghost use Rattle.mufom_image_values.specs.Circles.{number_at, is_down, leads_down, NeverRises, IsOnCircle, IsFirstOnCircle};
+ghost use Rattle.mufom_image_values.specs.Circles.{search_of, with_position, followed};
 
 use crate::components::Components;
 use crate::graph::Graph;
@@ -36,7 +37,8 @@ fn is_down(graph: &Graph<'_>, numbers: &[u32], own: u32, strictly: bool, token: 
 
 // Whether all mentions of the tokens lead down.
 fn all_down(graph: &Graph<'_>, numbers: &[u32], own: u32, strictly: bool, tokens: &[Token]) -> bool
-    ensures { result ≡ list_all (λ token. is_down (number_at numbers.now) own strictly (mentioned_in graph.now.meetings.now token)) tokens.now }
+    ensures { result
+        ≡ list_all (λ token. is_down (number_at numbers.now) own strictly (mentioned_in graph.now.meetings.now token)) tokens.now }
 {
     tokens
         .iter()
@@ -45,7 +47,7 @@ fn all_down(graph: &Graph<'_>, numbers: &[u32], own: u32, strictly: bool, tokens
 
 // Whether all mentions of the public lead down.
 fn leads_down(graph: &Graph<'_>, numbers: &[u32], position: u32, strictly: bool) -> bool
-    ensures { result ≡ leads_down (number_at numbers.now) (edges graph.now.meetings.now graph.now.parts.now.names.publics) strictly position }
+    ensures { result ≡ leads_down (number_at numbers.now) (graph_edges graph.now) strictly position }
 {
     let own = number_of(numbers, position);
     all_down(graph, numbers, own, strictly, graph.tokens(position))
@@ -53,8 +55,8 @@ fn leads_down(graph: &Graph<'_>, numbers: &[u32], position: u32, strictly: bool)
 
 // Whether no mention of any public leads up.
 fn never_rises(graph: &Graph<'_>, numbers: &[u32]) -> bool
-    requires { length graph.now.parts.now.names.publics < 2 ^ 32 }
-    ensures { IsTrue result → NeverRises (number_at numbers.now) (edges graph.now.meetings.now graph.now.parts.now.names.publics) }
+    requires { public_count graph.now < 2 ^ 32 }
+    ensures { IsTrue result → NeverRises (number_at numbers.now) (graph_edges graph.now) }
 {
     for position in 0..graph.publics().len() {
         if !leads_down(graph, numbers, position as u32, false) {
@@ -98,9 +100,9 @@ fn follow(
 
 // Whether a chain of mentions leads from a public back to it.
 fn leads_back(alloc: Global, graph: &Graph<'_>, position: u32) -> Result<bool, NoMemory>
-    requires inside { position < length graph.now.parts.now.names.publics }
-    requires closed { IsClosed (edges graph.now.meetings.now graph.now.parts.now.names.publics) (length graph.now.parts.now.names.publics) }
-    ensures { IfOk result (λ back. IsTrue back ↔ IsOnCircle (edges graph.now.meetings.now graph.now.parts.now.names.publics) position) }
+    requires inside { position < public_count graph.now }
+    requires closed { IsClosed (graph_edges graph.now) (public_count graph.now) }
+    ensures { IfOk result (λ back. IsTrue back ↔ IsOnCircle (graph_edges graph.now) position) }
 {
     let mut marks = vec![in alloc; false; graph.publics().len()]?;
     let mut pending = Vec::new(alloc);
@@ -118,9 +120,9 @@ fn first_on_circle(
     graph: &Graph<'_>,
     components: &Components,
 ) -> Result<Option<u32>, NoMemory>
-    requires few { length graph.now.parts.now.names.publics < 2 ^ 32 }
-    requires closed { IsClosed (edges graph.now.meetings.now graph.now.parts.now.names.publics) (length graph.now.parts.now.names.publics) }
-    ensures { IfOk result (λ first. IsFirstOnCircle (edges graph.now.meetings.now graph.now.parts.now.names.publics) (length graph.now.parts.now.names.publics) first) }
+    requires few { public_count graph.now < 2 ^ 32 }
+    requires closed { IsClosed (graph_edges graph.now) (public_count graph.now) }
+    ensures { IfOk result (λ first. IsFirstOnCircle (graph_edges graph.now) (public_count graph.now) first) }
 {
     let numbers = components.numbers.as_slice();
     let falling = never_rises(graph, numbers);
@@ -144,7 +146,8 @@ pub fn first_on_cycle<'a>(
     components: &Components,
 ) -> Result<Option<&'a Public>, NoMemory>
     requires { IsGraph graph.now }
-    ensures { IfOk result (λ first. first_some (cycle_at (graph.now.parts.now ∷ [])) (public_names (graph.now.parts.now ∷ [])) ≡ option_map (λ public. cycle public.now.name) first) }
+    ensures { IfOk result (λ first. first_some (cycle_at (graph.now.parts.now ∷ [])) (public_names (graph.now.parts.now ∷ []))
+        ≡ option_map (λ public. cycle public.now.name) first) }
 {
     match first_on_circle(alloc, graph, components)? {
         Some(position) => Ok(Some(&graph.publics()[position as usize])),

@@ -1,6 +1,6 @@
 //! The values of the publics, each found once.
 
-ghost use Rattle.std.specs.Prelude.{◌≡◌, ◌≢◌, ◌*◌, ◌<◌, ◌≤◌, ◌↔◌, length, option_map, slice_get, Some, None, IfOk, IsTrue};
+ghost use Rattle.std.specs.Prelude.{◌≡◌, ◌≢◌, ◌*◌, ◌<◌, ◌≤◌, ◌↔◌, option_map, slice_get, Some, None, IfOk, IsTrue};
 ghost use Rattle.std.specs.List.{list_all};
 ghost use Rattle.mufom_expr.specs.Value.{divides_by_zero};
 ghost use Rattle.mufom_place.specs.Facts.{first_some};
@@ -10,7 +10,9 @@ ghost use Rattle.mufom_meaning.specs.Values.{value, has_zero_divisor};
 ghost use Rattle.mufom_meaning.specs.Walk.{public_fact};
 ghost use Rattle.mufom_image_values.specs.Graph.{mentioned_in};
 ghost use Rattle.mufom_image_values.specs.Surroundings.{known};
-ghost use Rattle.mufom_image_values.specs.Evaluated.{alone, graph_edges, setting_of, worth_at, IsPlaced, AreSurroundings, is_waiting, is_ready, AllEvaluated, IsEvaluated, AreEvaluated, AreRight, AreKept, IsRound, AreValues};
+ghost use Rattle.mufom_image_values.specs.Evaluated.{alone, graph_edges, public_count, setting_of, worth_at, IsPlaced, AreSurroundings};
+ghost use Rattle.mufom_image_values.specs.Evaluated.{is_waiting, is_ready, AllEvaluated, IsEvaluated, AreEvaluated};
+ghost use Rattle.mufom_image_values.specs.Evaluated.{AreRight, AreKept, IsRound, AreValues};
 
 use crate::components::Components;
 use crate::graph::Graph;
@@ -126,7 +128,8 @@ impl<'a> PlacedModule<'a> {
         requires right { AreRight self.now values.old.items }
         ensures right { AreRight self.now values.new.items }
         ensures kept { AreKept values.old.items values.new.items }
-        ensures settled { position < length self.now.graph.parts.now.names.publics → AreEvaluated values.old.items (graph_edges self.now.graph position) → IsEvaluated values.new.items position }
+        ensures settled { position < public_count self.now.graph → AreEvaluated values.old.items (graph_edges self.now.graph position)
+            → IsEvaluated values.new.items position }
     {
         let publics = self.graph.publics();
         if position as usize >= publics.len() {
@@ -211,7 +214,8 @@ impl<'a> PlacedModule<'a> {
     pub fn first_division(&self, values: &[Evaluation]) -> Option<&'a Public>
         requires placed { IsPlaced self.now }
         requires values { AreValues self.now values.now }
-        ensures { first_some (public_fact (setting_of self.now)) (setting_of self.now).publics ≡ option_map (λ public. zero_divisor (sites.Public public.now.name)) result }
+        ensures { first_some (public_fact (setting_of self.now)) (setting_of self.now).publics
+            ≡ option_map (λ public. zero_divisor (sites.Public public.now.name)) result }
     {
         let publics = self.graph.publics();
         for position in 0..publics.len() {

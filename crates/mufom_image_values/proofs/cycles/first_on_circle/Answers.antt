@@ -1,5 +1,4 @@
-use Rattle.std.proofs.Common.{◌∙◌, ◌<◌, ℕ, ap, sym, subst, length, true, false, arith}
-use Rattle.std.specs.Prelude.{IsTrue}
+use Rattle.std.proofs.Common.{◌∙◌, ap, sym, length, arith}
 use Rattle.mufom_image_values.specs.Graph.{edges}
 use Rattle.mufom_image_values.specs.Circles.{number_at, IsOnCircle}
 use Rattle.mufom_image_values.proofs.GraphLaws.{no_way_back}

@@ -1,6 +1,6 @@
 use Rattle.std.proofs.Common.{◌∙◌, ◌+◌, ap, sym, length, take, arith}
 use Rattle.mufom_image_values.specs.Graph.{mentions_of}
-use Rattle.mufom_image_values.specs.Circles.{Search, search_of, with_position, followed}
+use Rattle.mufom_image_values.specs.Circles.{Search, search_of, with_position}
 use Rattle.mufom_image_values.proofs.SearchLaws.{followed-length}
 use Rattle.mufom_image_values.proofs.TokenLoops.{follow-step, mention-at}
 use Rattle.mufom_image_values.proofs.cycles.follow.Goals.{in-Some+in_ok-mark, in_default}

@@ -1,11 +1,9 @@
-use Rattle.std.proofs.Common.{◌≡◌, ◌∙◌, ◌<◌, false, ℕ, List, Some, ap, sym, length, arith}
+use Rattle.std.proofs.Common.{◌≡◌, ◌∙◌, false, List, Some, ap, sym, length, arith}
 use Rattle.std.specs.Prelude.{option_map, slice_get}
 use Rattle.std.proofs.lemmas.Option.{slice_get-get_or, slice_get_within}
 use Rattle.mufom_names.specs.declared.name.Reference.{Reference}
 use Rattle.mufom_module.specs.declared.module.Parts.{Parts}
-use Rattle.mufom_meaning.specs.Flat.{is_strong}
 use Rattle.mufom_meaning.proofs.Choices.{some_same}
-use Rattle.mufom_image_values.specs.declared.meetings.Meeting.{Meeting}
 use Rattle.mufom_image_values.specs.Meetings.{is_first_common}
 use Rattle.mufom_image_values.proofs.CommonLaws.{stands, first_common-is, find-first, find-never, meeting-at}
 use Rattle.mufom_image_values.proofs.TokenLoops.{below_more}

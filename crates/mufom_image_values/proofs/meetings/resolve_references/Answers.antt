@@ -1,8 +1,8 @@
-use Rattle.std.proofs.Common.{◌≡◌, ◌∙◌, ap, sym, subst, length, map, List, [], arith}
+use Rattle.std.proofs.Common.{◌∙◌, ap, subst, length, map, List, [], arith}
 use Rattle.mufom_names.specs.declared.name.Public.{Public}
 use Rattle.mufom_names.specs.declared.name.Reference.{Reference}
 use Rattle.mufom_names.specs.Names.{names_of}
-use Rattle.mufom_names.specs.Index.{Entry, position_of, numbered_from}
+use Rattle.mufom_names.specs.Index.{position_of, numbered_from}
 use Rattle.mufom_module.specs.declared.module.Parts.{Parts}
 use Rattle.mufom_image_values.specs.Names.{FindsFirst, asked_after}
 use Rattle.mufom_image_values.specs.Meetings.{meeting_by}

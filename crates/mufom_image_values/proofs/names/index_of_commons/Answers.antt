@@ -1,4 +1,4 @@
-use Rattle.std.proofs.Common.{◌≡◌, ◌∙◌, ◌≤◌, ◌+◌, ◌&&◌, ℕ, List, [], take, length, if◌then◌else◌, ap, sym, arith}
+use Rattle.std.proofs.Common.{◌≡◌, ◌∙◌, ℕ, List, [], take, length, if◌then◌else◌, ap, sym, arith}
 use Rattle.mufom_names.specs.Index.{Entry, keys_of, numbered_from}
 use Rattle.mufom_names.proofs.PositionLaws.{keys-numbered}
 use Rattle.mufom_image_values.specs.Names.{with_name, asked_after}

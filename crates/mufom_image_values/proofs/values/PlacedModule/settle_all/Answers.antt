@@ -1,4 +1,4 @@
-use Rattle.std.proofs.Common.{◌≡◌, ◌<◌, ap, length, arith}
+use Rattle.std.proofs.Common.{◌<◌, ap, length, arith}
 use Rattle.mufom_image_values.specs.Evaluated.{graph_edges, AreEvaluated, IsEvaluated}
 use Rattle.mufom_image_values.proofs.CountLaws.{few-publics}
 use Rattle.mufom_image_values.proofs.TokenLoops.{below_more}
