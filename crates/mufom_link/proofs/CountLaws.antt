@@ -14,28 +14,15 @@ use Rattle.mufom_module.specs.declared.module.Defect.TheVariants as kinds
 use Rattle.mufom_module.specs.Defects.{IsValid}
 use Rattle.mufom_module.specs.Made.{IsMadeNote, IsMadeReference, IsMade}
 use Rattle.mufom_module.specs.Written.{weight}
-use Rattle.mufom_module.specs.Weights.{section_weight, public_weight, reference_weight, note_weight, mark_weight}
+use Rattle.mufom_module.specs.Weights.{note_weight, mark_weight}
 use Rattle.mufom_module.proofs.WeightLaws.{weight-sum}
+use Rattle.mufom_module.proofs.EntryCounts.{counted, sections-count, publics-count, references-count}
 use Rattle.mufom_meaning.specs.Flat.{name_count, flat_sections, flat_references, public_names}
 use Rattle.mufom_meaning.specs.StagingLaws.{total_weight}
 use Rattle.mufom_meaning.proofs.Choices.{of_not_le}
 use Rattle.mufom_meaning.proofs.NoDefects.{no_defect}
 
 -- ---- entries of one module
-
--- where each element weighs something, there are no more than they weigh
-counted : {X : Type 0} (w : X → ℕ) → ((x : X) → 0 < w x) → (xs : List X) → length xs ≤ sum_by w xs
-counted w some [] = omega arith
-counted w some (x ∷ xs) = let a = some x in let b = sum_by-cons w x xs in let rest = counted w some xs in omega (arith, a, b, rest)
-
-sections-count : (m : Parts) → length m.sections ≤ weight m
-sections-count m = let a = weight-sum m in let b = counted section_weight (λ s. omega arith) m.sections in omega (arith, a, b)
-
-publics-count : (m : Parts) → length m.names.publics ≤ weight m
-publics-count m = let a = weight-sum m in let b = counted public_weight (λ p. omega arith) m.names.publics in omega (arith, a, b)
-
-references-count : (m : Parts) → length m.names.references ≤ weight m
-references-count m = let a = weight-sum m in let b = counted reference_weight (λ r. omega arith) m.names.references in omega (arith, a, b)
 
 marks-count : (marks : List DebugMark) → name_count marks ≤ sum_by mark_weight marks
 marks-count [] = omega arith

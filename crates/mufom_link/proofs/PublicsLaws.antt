@@ -3,13 +3,13 @@ use Rattle.std.proofs.Common.{◌≡◌, ℕ, suc, ◌+◌, List, [], ◌∷◌,
 use Rattle.std.specs.Bool.{Decides}
 use Rattle.std.specs.Str.{bytes_eq}
 use Rattle.std.proofs.lemmas.Slice.Eq.{bytes_eq-Decides}
-use Rattle.mufom_names.specs.Index.{Entry, position_of, with_entry, keys_of}
+use Rattle.mufom_names.specs.Index.{Entry, position_of, with_entry, numbered_from}
 use Rattle.mufom_plan.specs.Names.{has_name}
 use Rattle.mufom_meaning.specs.LinkAnswer.{first_duplicate}
 use Rattle.mufom_meaning.specs.Joined.{position_of as place_of}
 use Rattle.mufom_link.specs.declared.refusal.LinkRefusal.{LinkRefusal}
 use Rattle.mufom_link.specs.declared.refusal.LinkRefusal.TheVariants.{Mismatch, Duplicate, DuplicateStart, NoMemory}
-use Rattle.mufom_link.specs.Publics.{numbered_from, indexed, IsRefusedName}
+use Rattle.mufom_link.specs.Publics.{indexed, IsRefusedName}
 
 -- ---- duplicates
 
@@ -123,10 +123,6 @@ refused-same entries es n k xs ys DuplicateStart same h = h
 
 -- ---- what an index of numbered keys finds
 
-pub keys-numbered : (n : ℕ) (keys : List (List ℕ)) → keys_of (numbered_from n keys) ≡ keys
-keys-numbered n [] = refl
-keys-numbered n (key ∷ keys) = ap (λ rest. key ∷ rest) (keys-numbered (suc n) keys)
-
 pub position-numbered : (n : ℕ) (keys : List (List ℕ)) (key : List ℕ)
     → position_of (numbered_from n keys) key ≡ (if has_name keys key then Some (n + place_of (bytes_eq key) keys) else None)
 position-numbered n [] key = refl
@@ -137,12 +133,6 @@ position-numbered n (x ∷ xs) key = by_case (bytes_eq key x) (position-numbered
   by_case false rest =
       let e : suc n + place_of (bytes_eq key) xs ≡ n + suc (place_of (bytes_eq key) xs) = omega arith in
       rest ∙ ap (λ k. if has_name xs key then Some k else None) e
-
-pub numbered-push : (n : ℕ) (keys : List (List ℕ)) (key : List ℕ) → numbered_from n (keys ++ key ∷ []) ≡ numbered_from n keys ++ (key, n + length keys) ∷ []
-numbered-push n [] key = let e : n ≡ n + 0 = omega arith in ap (λ k. (key, k) ∷ []) e
-numbered-push n (x ∷ xs) key =
-    let e : suc n + length xs ≡ n + length (x ∷ xs) = omega arith in
-    ap (λ rest. (x, n) ∷ rest) (numbered-push (suc n) xs key ∙ ap (λ k. numbered_from (suc n) xs ++ (key, k) ∷ []) e)
 
 -- two tests that decide the same are the same
 pub decides-same : {P Q : Type 0} (a b : Bool) → Decides a P → Decides b Q → (P → Q) → (Q → P) → a ≡ b

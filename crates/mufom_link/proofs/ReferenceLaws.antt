@@ -8,17 +8,17 @@ use Rattle.mufom_expr.specs.declared.token.Letter.{Letter}
 use Rattle.mufom_expr.specs.declared.token.Letter.TheVariants as letters
 use Rattle.mufom_names.specs.declared.name.Note.{Note}
 use Rattle.mufom_names.specs.declared.name.Reference.{Reference}
-use Rattle.mufom_names.specs.Index.{position_of, with_entry}
+use Rattle.mufom_names.specs.Index.{position_of, with_entry, numbered_from}
 use Rattle.mufom_names.specs.Keys.{reference_key, AreSameNotes, IsSameReference, IsShortReference}
 use Rattle.mufom_names.proofs.KeyLaws.{keys-tell}
+use Rattle.mufom_names.proofs.PositionLaws.{numbered-push}
 use Rattle.mufom_plan.specs.Names.{has_name}
 use Rattle.mufom_meaning.specs.Flat.{distinct}
 use Rattle.mufom_meaning.specs.Joined.{position_of as place_of, same_reference}
 use Rattle.mufom_meaning.proofs.Distinct.{filter-weaker, differs}
 use Rattle.mufom_meaning.proofs.References.{same_reference-decides}
-use Rattle.mufom_link.specs.Publics.{numbered_from}
 use Rattle.mufom_link.specs.References.{is_kept, merged_with, kept_with, kept_after, target_in, targets_after, keyed}
-use Rattle.mufom_link.proofs.PublicsLaws.{decides-same, place-turned, position-numbered, numbered-push}
+use Rattle.mufom_link.proofs.PublicsLaws.{decides-same, place-turned, position-numbered}
 
 -- ---- keys
 

@@ -4,11 +4,6 @@ use Rattle.mufom_names.specs.Index.{Entry, position_of, with_entry}
 use Rattle.mufom_link.specs.declared.refusal.LinkRefusal.{LinkRefusal}
 use Rattle.mufom_link.specs.declared.refusal.LinkRefusal.TheVariants.{Mismatch, Duplicate, DuplicateStart, NoMemory}
 
--- keys with their positions, the first of them with this one
-abbrev pub numbered_from : ℕ → List (List ℕ) → List Entry
-numbered_from n [] = []
-numbered_from n (key ∷ keys) = (key, n) ∷ numbered_from (suc n) keys
-
 -- the index after names were added, the first of them with this position, or the first name that it had already
 abbrev pub indexed : List Entry → ℕ → List (List ℕ) → Result (List Entry) (List ℕ)
 indexed entries n [] = Ok entries

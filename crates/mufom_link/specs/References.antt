@@ -5,11 +5,10 @@ use Rattle.std.specs.Str.{bytes_eq}
 use Rattle.mufom_expr.specs.declared.token.Letter.{Letter}
 use Rattle.mufom_expr.specs.declared.token.Letter.TheVariants as letters
 use Rattle.mufom_names.specs.declared.name.Reference.{Reference}
-use Rattle.mufom_names.specs.Index.{Entry}
+use Rattle.mufom_names.specs.Index.{Entry, numbered_from}
 use Rattle.mufom_names.specs.Keys.{reference_key}
 use Rattle.mufom_plan.specs.Names.{has_name}
 use Rattle.mufom_meaning.specs.Joined.{position_of as place_of, same_reference}
-use Rattle.mufom_link.specs.Publics.{numbered_from}
 
 -- an equal reference is kept
 abbrev pub is_kept : List Reference → Reference → Bool

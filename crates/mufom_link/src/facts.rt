@@ -5,7 +5,7 @@ ghost use Rattle.mufom_names.specs.Names.{names_of};
 ghost use Rattle.mufom_meaning.specs.Facts.{mismatch, descriptor};
 ghost use Rattle.mufom_meaning.specs.Flat.{flat_starts, public_names};
 ghost use Rattle.mufom_meaning.specs.LinkAnswer.{first_mismatch, same_descriptor};
-ghost use Rattle.mufom_link.specs.Publics.{indexed, numbered_from, IsIndexed, IsRefusedName};
+ghost use Rattle.mufom_link.specs.Publics.{indexed, IsIndexed, IsRefusedName};
 
 use crate::refusal::LinkRefusal;
 use mufom_meaning::Descriptor;

@@ -1,4 +1,5 @@
 ghost use Rattle.std.specs.Prelude.{◌≡◌, ◌≢◌, ◌+◌, ◌<◌, ◌≤◌, ◌^◌, [], ◌∷◌, None, length, IfOk, IfErr};
+ghost use Rattle.mufom_names.specs.Index.{numbered_from};
 ghost use Rattle.mufom_module.specs.Written.{weight};
 ghost use Rattle.mufom_meaning.specs.Flat.{flat_sections, flat_starts, public_names};
 ghost use Rattle.mufom_meaning.specs.Joined.{IsJoined};
@@ -7,7 +8,6 @@ ghost use Rattle.mufom_meaning.specs.Staging.{AreValid, StandsFor, HasSettledRef
 ghost use Rattle.mufom_meaning.specs.StagingLaws.{JoinedStandsFor, JoinedIsValid, total_weight, first_name_length};
 ghost use Rattle.mufom_meaning.specs.FactLaws.{NoLinkAnswerIsLinkable};
 ghost use Rattle.mufom_link.specs.Conditions.{MayBeLinked};
-ghost use Rattle.mufom_link.specs.Publics.{numbered_from};
 ghost use Rattle.mufom_link.specs.Joining.{HasLists};
 ghost use Rattle.mufom_link.specs.Refusals.{IsRefusalOf};
 

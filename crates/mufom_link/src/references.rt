@@ -2,10 +2,9 @@
 
 ghost use Rattle.std.specs.Prelude.{◌≡◌, [], ◌+◌, ◌<◌, ◌^◌, length, IfOk, OnOk};
 ghost use Rattle.std.specs.List.{AllByRecursion};
-ghost use Rattle.mufom_names.specs.Index.{keys_of};
+ghost use Rattle.mufom_names.specs.Index.{keys_of, numbered_from};
 ghost use Rattle.mufom_names.specs.Keys.{IsShortReference};
 ghost use Rattle.mufom_meaning.specs.Joined.{position_of as place_of, same_reference};
-ghost use Rattle.mufom_link.specs.Publics.{numbered_from};
 ghost use Rattle.mufom_link.specs.References.{merged_with, kept_with, kept_after, target_in, targets_after, keyed};
 
 use crate::copies::copy_reference;

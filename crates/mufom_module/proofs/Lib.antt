@@ -15,3 +15,4 @@ mod WorkedEmpty
 mod WorkedDebug
 mod WorkedDebugFile
 mod WorkedBad
+pub mod EntryCounts

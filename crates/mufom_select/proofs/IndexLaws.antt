@@ -6,54 +6,12 @@ use Rattle.std.proofs.lemmas.List.{take_more}
 use Rattle.std.proofs.lemmas.Grind.{common_steps}
 use Rattle.mufom_names.specs.declared.name.Public.{Public}
 use Rattle.mufom_names.specs.Index.{Entry, position_of, with_entry}
+use Rattle.mufom_names.proofs.PositionLaws.{first_of, first_of-assoc, first_of-None, given, first_of-given, position_of-with}
 use Rattle.mufom_module.specs.declared.module.Parts.{Parts}
 use Rattle.mufom_plan.specs.Names.{has_name}
 use Rattle.mufom_meaning.specs.Flat.{public_names}
 use Rattle.mufom_meaning.specs.Selection.{provider_from, provider}
 use Rattle.mufom_select.specs.Choice.{with_publics, with_providers, IsWithin}
-
--- the first answer that there is
-abbrev pub first_of : Option ℕ → Option ℕ → Option ℕ
-first_of (Some n) other = Some n
-first_of None other = other
-
-first_of-assoc : (a b c : Option ℕ) → first_of (first_of a b) c ≡ first_of a (first_of b c)
-first_of-assoc (Some n) b c = refl
-first_of-assoc None b c = refl
-
-first_of-None : (a : Option ℕ) → first_of a None ≡ a
-first_of-None (Some n) = refl
-first_of-None None = refl
-
--- this position where the test holds
-abbrev given : Bool → ℕ → Option ℕ
-given b p = if b then Some p else None
-
-first_of-given : (b c : Bool) (p : ℕ) → first_of (given b p) (given c p) ≡ given (b || c) p
-first_of-given true c p = refl
-first_of-given false c p = refl
-
-position_of-push : (es : List Entry) (key : List ℕ) (p : ℕ) (name : List ℕ) → position_of (es ++ (key, p) ∷ []) name ≡ first_of (position_of es name) (given (bytes_eq name key) p)
-position_of-push [] key p name = refl
-position_of-push (e ∷ es) key p name = by_case (bytes_eq name e.0) (position_of-push es key p name) where
-  by_case : (b : Bool) → position_of (es ++ (key, p) ∷ []) name ≡ first_of (position_of es name) (given (bytes_eq name key) p)
-      → cond b (Some e.1) (position_of (es ++ (key, p) ∷ []) name) ≡ first_of (cond b (Some e.1) (position_of es name)) (given (bytes_eq name key) p)
-  by_case true rest = refl
-  by_case false rest = rest
-
-position_of-with : (es : List Entry) (key : List ℕ) (p : ℕ) (name : List ℕ) → position_of (with_entry es key p) name ≡ first_of (position_of es name) (given (bytes_eq name key) p)
-position_of-with es key p name = by_case (position_of es key) refl where
-  same : (q : ℕ) → position_of es key ≡ Some q → (b : Bool) → bytes_eq name key ≡ b → position_of es name ≡ first_of (position_of es name) (given b p)
-  same q e true t =
-      let its : name ≡ key = (bytes_eq-Decides name key).0 t in
-      let at : position_of es name ≡ Some q = ap (position_of es) its ∙ e in
-      at ∙ sym (ap (λ r. first_of r (Some p)) at)
-  same q e false t = sym (first_of-None (position_of es name))
-
-  by_case : (r : Option ℕ) → position_of es key ≡ r
-      → position_of (if is_none r then es ++ (key, p) ∷ [] else es) name ≡ first_of (position_of es name) (given (bytes_eq name key) p)
-  by_case None e = position_of-push es key p name
-  by_case (Some q) e = same q e (bytes_eq name key) refl
 
 abbrev names : List Public → List (List ℕ)
 names publics = map (λ public. public.name) publics

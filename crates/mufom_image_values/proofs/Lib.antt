@@ -1,0 +1,14 @@
+pub mod GraphLaws
+pub mod NameLaws
+pub mod MeetingLaws
+pub mod PublicLaws
+pub mod MentionLaws
+pub mod CircleLaws
+pub mod Around
+pub mod Once
+pub mod Settled
+pub mod DivisionLaws
+pub mod SearchLaws
+pub mod CountLaws
+pub mod CommonLaws
+pub mod TokenLoops

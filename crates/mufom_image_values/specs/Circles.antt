@@ -1,0 +1,55 @@
+-- Chains of positions in a graph, those that come back, and the search for them.
+use Rattle.std.specs.Prelude.{ℕ, zero, suc, ◌<◌, ◌≤◌, List, [], ◌∷◌, ◌++◌, get_or, set, Option, Some, None, slice_get, unwrap_or, Contains, Bool, true, false, nat_lt, nat_le, if◌then◌else◌}
+use Rattle.std.specs.List.{list_all}
+
+-- a chain from one position to another: one step, and the given number before it
+abbrev pub Leads : (ℕ → List ℕ) → ℕ → ℕ → ℕ → Type 0
+Leads edges zero a b = Contains (edges a) b
+Leads edges (suc k) a b = (c : ℕ) × Contains (edges a) c × Leads edges k c b
+
+-- a chain leads from the position back to it
+abbrev pub IsOnCircle : (ℕ → List ℕ) → ℕ → Type 0
+IsOnCircle edges n = (k : ℕ) × Leads edges k n n
+
+-- the first position below a count that lies on a circle
+abbrev pub IsFirstOnCircle : (ℕ → List ℕ) → ℕ → Option ℕ → Type 0
+IsFirstOnCircle edges count None = (n : ℕ) → n < count → ¬ IsOnCircle edges n
+IsFirstOnCircle edges count (Some first) = (first < count) × IsOnCircle edges first × ((n : ℕ) → n < first → ¬ IsOnCircle edges n)
+
+-- the number of a position, 0 past the end
+abbrev pub number_at : List ℕ → ℕ → ℕ
+number_at numbers n = unwrap_or (slice_get numbers n) 0
+
+-- the step leads to a lesser number, or where not strictly to the same one
+abbrev pub is_down : (ℕ → ℕ) → ℕ → Bool → Option ℕ → Bool
+is_down number own strictly None = true
+is_down number own strictly (Some n) = if strictly then nat_lt (number n) own else nat_le (number n) own
+
+-- all steps from a position lead down
+abbrev pub leads_down : (ℕ → ℕ) → (ℕ → List ℕ) → Bool → ℕ → Bool
+leads_down number edges strictly n = list_all (λ next. is_down number (number n) strictly (Some next)) (edges n)
+
+-- no step leads up
+abbrev pub NeverRises : (ℕ → ℕ) → (ℕ → List ℕ) → Type 0
+NeverRises number edges = (n next : ℕ) → Contains (edges n) next → number next ≤ number n
+
+-- what a search has marked, and what of it is still to be followed, the latest last
+pub record Search : Type 0 where
+  pub marks : List Bool
+  pub pending : List ℕ
+
+abbrev pub search_of : List Bool → List ℕ → Search
+search_of marks pending = record { marks = marks; pending = pending }
+
+-- the position has a mark
+abbrev pub is_marked : Search → ℕ → Bool
+is_marked s n = get_or s.marks n false
+
+-- one position more, where it is not marked yet
+abbrev pub with_position : Search → ℕ → Search
+with_position s n = if is_marked s n then s else search_of (set s.marks n true) (s.pending ++ n ∷ [])
+
+-- the same of some more
+abbrev pub followed : List ℕ → Search → Search
+followed [] s = s
+followed (n ∷ positions) s = followed positions (with_position s n)

@@ -1,0 +1,125 @@
+//! What each reference of a module stands for.
+
+ghost use Rattle.std.specs.Prelude.{◌≡◌, ◌&&◌, [], ◌∷◌, map, option_map, slice_get, IfOk};
+ghost use Rattle.mufom_names.specs.Index.{position_of};
+ghost use Rattle.mufom_meaning.specs.Flat.{common_names, is_strong};
+ghost use Rattle.mufom_meaning.specs.LocateAnswer.{first_undefined};
+ghost use Rattle.mufom_image_values.specs.Meetings.{meeting_without, meeting_by, meetings_of, is_nothing, is_first_common};
+
+use crate::names::{index_of_commons, index_of_publics};
+use mufom_module::Module;
+use mufom_names::{NameIndex, Reference, Weak};
+use mufom_numbers::{List, NoMemory};
+use std::alloc::Global;
+
+/// What a reference stands for.
+#[derive(Clone, Copy, Debug, PartialEq, Eq)]
+pub enum Meeting {
+    /// The public at this position, the first of its name.
+    Public(u32),
+    /// The common at this position. Commons go by their names, each once, in the order in which
+    /// references first ask for them.
+    Common(u32),
+    /// The default of a weak reference of size 0.
+    Default(u64),
+    /// Nothing: the reference is strong, and neither a public nor a common has its name.
+    Nothing,
+}
+
+// What a reference stands for whose name neither a public nor a common has.
+fn unmet(weak: Option<Weak>) -> Meeting
+    ensures { result ≡ meeting_without weak }
+{
+    match weak {
+        Some(weak) if weak.size == 0 => Meeting::Default(weak.default),
+        _ => Meeting::Nothing,
+    }
+}
+
+fn meeting_of(publics: &NameIndex, commons: &NameIndex, reference: &Reference) -> Meeting
+    ensures { result ≡ meeting_by (position_of publics.now reference.now.name) (position_of commons.now reference.now.name) reference.now.weak }
+{
+    let name = reference.name.as_slice();
+    match (publics.find(name), commons.find(name)) {
+        (Some(position), _) => Meeting::Public(position),
+        (None, Some(position)) => Meeting::Common(position),
+        (None, None) => unmet(reference.weak),
+    }
+}
+
+// What references stand for, by the indexes of the names of publics and of commons.
+fn resolved(
+    alloc: Global,
+    publics: &NameIndex,
+    commons: &NameIndex,
+    references: &[Reference],
+) -> Result<List<Meeting>, NoMemory>
+    ensures { IfOk result (λ all. all
+        ≡ map (λ r. meeting_by (position_of publics.now r.name) (position_of commons.now r.name) r.weak) references.now) }
+{
+    let mut all = List::new(alloc);
+    for reference in references {
+        all.push(meeting_of(publics, commons, reference))?;
+    }
+    Ok(all)
+}
+
+/// What each reference of a module stands for, in order.
+pub fn resolve_references(alloc: Global, module: &Module) -> Result<List<Meeting>, NoMemory>
+    ensures { IfOk result (λ meetings. meetings ≡ meetings_of «module».now) }
+{
+    let names = &module.parts().names;
+    let references = names.references.as_slice();
+    let publics = index_of_publics(alloc, names.publics.as_slice())?;
+    let commons = index_of_commons(alloc, &publics, references)?;
+    let meetings = resolved(alloc, &publics, &commons, references)?;
+    Ok(meetings)
+}
+
+fn is_undefined(meeting: Meeting, reference: &Reference) -> bool
+    ensures { result ≡ (is_nothing meeting && is_strong reference.now) }
+{
+    match meeting {
+        Meeting::Nothing => reference.weak.is_none(),
+        _ => false,
+    }
+}
+
+fn is_first_common(meeting: Meeting) -> bool
+    ensures { result ≡ is_first_common meeting }
+{
+    match meeting {
+        Meeting::Common(position) => position == 0,
+        _ => false,
+    }
+}
+
+/// The first strong reference whose name neither a public nor a common has.
+pub fn first_undefined<'a>(module: &'a Module, meetings: &[Meeting]) -> Option<&'a Reference>
+    requires { meetings.now ≡ meetings_of «module».now }
+    ensures { option_map (λ reference. reference.now.name) result ≡ first_undefined («module».now ∷ []) }
+{
+    let references = module.parts().names.references.as_slice();
+    for place in 0..references.len() {
+        let reference = &references[place];
+        if is_undefined(meetings[place], reference) {
+            return Some(reference);
+        }
+    }
+    None
+}
+
+/// The first reference that asks for a common, whose name is that of the first common.
+pub fn first_common<'a>(module: &'a Module, meetings: &[Meeting]) -> Option<&'a Reference>
+    requires { meetings.now ≡ meetings_of «module».now }
+    ensures { option_map (λ reference. reference.now.name) result ≡ slice_get (common_names («module».now ∷ [])) 0 }
+{
+    let references = module.parts().names.references.as_slice();
+    for place in 0..references.len() {
+        let reference = &references[place];
+        if is_first_common(meetings[place]) {
+            return Some(reference);
+        }
+    }
+    None
+}

@@ -1,0 +1,67 @@
+//! Indexes of the names of publics and of commons.
+
+ghost use Rattle.std.specs.Prelude.{◌≡◌, ◌+◌, ◌<◌, ◌≤◌, ◌^◌, [], ◌&&◌, is_none, length, IfOk, OnOk};
+ghost use Rattle.mufom_names.specs.Names.{names_of};
+ghost use Rattle.mufom_names.specs.Index.{keys_of, numbered_from, position_of};
+ghost use Rattle.mufom_meaning.specs.Flat.{is_common};
+ghost use Rattle.mufom_image_values.specs.Names.{FindsFirst, with_name, asked_after};
+
+use mufom_names::{NameIndex, Public, Reference};
+use mufom_numbers::NoMemory;
+use std::alloc::Global;
+
+/// An index of the names of publics. It finds the first public of a name.
+pub(crate) fn index_of_publics(alloc: Global, publics: &[Public]) -> Result<NameIndex, NoMemory>
+    requires { length publics.now < 2 ^ 32 }
+    ensures { IfOk result (λ index. FindsFirst index (names_of publics.now)) }
+{
+    let mut index = NameIndex::new(alloc)?;
+    for place in 0..publics.len() {
+        let _earlier = index.add(publics[place].name.as_slice(), place as u32)?;
+    }
+    Ok(index)
+}
+
+// Whether a reference asks for a common: its size is not 0, and no public has its name.
+fn asks(publics: &NameIndex, reference: &Reference) -> bool
+    ensures { result ≡ (is_common reference.now && is_none (position_of publics.now reference.now.name)) }
+{
+    match reference.weak {
+        Some(weak) => weak.size != 0 && publics.find(reference.name.as_slice()).is_none(),
+        None => false,
+    }
+}
+
+// Adds a name at the end, unless it is there already. Answers how many names there are then.
+fn add_name(index: &mut NameIndex, name: &[u8], count: u32) -> Result<u32, NoMemory>
+    requires numbered { index.old ≡ numbered_from 0 (keys_of index.old) }
+    requires count { count ≡ length (keys_of index.old) }
+    requires room { count + 1 < 2 ^ 32 }
+    ensures index { OnOk result (index.new ≡ numbered_from 0 (with_name (keys_of index.old) name.now)) }
+    ensures count { IfOk result (λ after. after ≡ length (with_name (keys_of index.old) name.now)) }
+{
+    match index.add(name, count)? {
+        Some(_) => Ok(count),
+        None => Ok(count + 1),
+    }
+}
+
+/// An index of the names of the commons, each once, in the order in which references first ask for
+/// them.
+pub(crate) fn index_of_commons(
+    alloc: Global,
+    publics: &NameIndex,
+    references: &[Reference],
+) -> Result<NameIndex, NoMemory>
+    requires { length references.now < 2 ^ 32 }
+    ensures { IfOk result (λ index. index ≡ numbered_from 0 (asked_after publics.now [] references.now)) }
+{
+    let mut index = NameIndex::new(alloc)?;
+    let mut count = 0;
+    for reference in references {
+        if asks(publics, reference) {
+            count = add_name(&mut index, reference.name.as_slice(), count)?;
+        }
+    }
+    Ok(index)
+}

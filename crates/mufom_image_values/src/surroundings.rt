@@ -1,0 +1,83 @@
+//! What the variables of an expression are worth.
+
+ghost use Rattle.std.specs.Prelude.{◌≡◌, slice_get};
+ghost use Rattle.mufom_image_values.specs.Surroundings.{known_of, worth_met};
+
+use crate::meetings::Meeting;
+use mufom_expr::{Env, Letter};
+use mufom_sections::Section;
+
+/// What is known of the value of a public.
+#[derive(Clone, Copy, Debug, PartialEq, Eq)]
+pub enum Evaluation {
+    /// It is not evaluated yet.
+    Waiting,
+    /// It has no value: it divides by 0, or a public that it goes through does.
+    Nothing,
+    Value(u64),
+}
+
+/// What an expression of the module can name.
+#[derive(Clone, Copy)]
+pub struct Surroundings<'a> {
+    pub sections: &'a [Section],
+    /// The base of each section.
+    pub bases: &'a [u64],
+    /// The base of each common, by its position, where the plan places commons.
+    pub commons: &'a [u64],
+    /// The value of each public.
+    pub values: &'a [Evaluation],
+    /// What each reference stands for.
+    pub meetings: &'a [Meeting],
+    /// The program counter, where the expression finds one.
+    pub counter: Option<u64>,
+}
+
+fn value_of(worth: Option<Evaluation>) -> Option<u64>
+    ensures { result ≡ known_of worth }
+{
+    match worth {
+        Some(Evaluation::Value(value)) => Some(value),
+        _ => None,
+    }
+}
+
+fn value_at(values: &[Evaluation], position: u32) -> Option<u64>
+    ensures { result ≡ known_of (slice_get values.now position) }
+{
+    value_of(values.get(position as usize).copied())
+}
+
+fn worth_met(meeting: Option<Meeting>, values: &[Evaluation], commons: &[u64]) -> Option<u64>
+    ensures { result ≡ worth_met values.now commons.now meeting }
+{
+    match meeting {
+        Some(Meeting::Public(position)) => value_at(values, position),
+        Some(Meeting::Common(position)) => commons.get(position as usize).copied(),
+        Some(Meeting::Default(value)) => Some(value),
+        _ => None,
+    }
+}
+
+impl<'a> Env for Surroundings<'a> {
+    ghost use Rattle.mufom_image_values.specs.Surroundings.{worth_in};
+
+    ghost meaning = { worth_in };
+
+    fn lookup(&self, letter: Letter, index: u32) -> Option<u64> {
+        match letter {
+            Letter::R | Letter::L => self.bases.get(index as usize).copied(),
+            Letter::S => self
+                .sections
+                .get(index as usize)
+                .map(|section| section.size),
+            Letter::P => self.counter,
+            Letter::I => value_at(self.values, index),
+            Letter::X => worth_met(
+                self.meetings.get(index as usize).copied(),
+                self.values,
+                self.commons,
+            ),
+        }
+    }
+}
