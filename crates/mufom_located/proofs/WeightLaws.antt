@@ -14,6 +14,7 @@ use Rattle.mufom_module.specs.declared.module.Parts.{Parts}
 use Rattle.mufom_module.specs.Written.{weight}
 use Rattle.mufom_module.specs.Weights.{capped, section_weight, reference_weight, load_weight}
 use Rattle.mufom_module.proofs.WeightLaws.{weight-sum}
+use Rattle.mufom_module.proofs.EntryCounts.{sections-count}
 use Rattle.mufom_module.proofs.Valid.{weighs_less}
 use Rattle.mufom_meaning.specs.declared.located.LocatedParts.{LocatedParts}
 use Rattle.mufom_meaning.specs.Absolute.{absolute_of, literal_limit, chunks, with_section, section_loads}
@@ -75,10 +76,6 @@ sections-next f sections i section inside is =
 
 -- ---- the bound
 
-sections_light : (sections : List Section) → length sections ≤ sum_by section_weight sections
-sections_light [] = omega arith
-sections_light (section ∷ sections) = let split = sum_by-cons section_weight section sections in let rest = sections_light sections in omega (arith, split, rest)
-
 references_light : (references : List Reference) → length (filter is_common references) ≤ sum_by reference_weight references
 references_light [] = omega arith
 references_light (reference ∷ references) = by_case (is_common reference) (references_light references) (sum_by-cons reference_weight reference references) where
@@ -95,7 +92,7 @@ located-light weighs facts r h =
     let whole = weighs ms h.plan r (h.valid, tt) h.is in
     let own = weighs_less m h.valid in
     let parts = weight-sum m in
-    let sections = sections_light m.sections in
+    let sections = sections-count m in
     let all_sections = ap length (append-nil m.sections) in
     let references = references_light m.names.references in
     let all_references : asking_count ms ≡ length (filter is_common m.names.references) = ap (λ all. length (filter is_common all)) (append-nil m.names.references) in
