@@ -27,8 +27,8 @@ module _ (placed : PlacedModule) (h : IsPlaced placed) (values : List Evaluation
   pub value-is : (counter : Option ℕ) (t : Tree) → worth_at placed values counter t ≡ value (s placed h) (alone (m placed h)) counter t
   value-is counter t = worth_at-is placed h values counter t (λ c k. known-at placed h values counter (values-right placed values v) c (v.evaluated c))
 
-  pub divides-is : (t : Tree) → divides_by_zero (worth_at placed values None) t ≡ has_zero_divisor (s placed h) (alone (m placed h)) None t
-  divides-is t = λ i. divides_by_zero (λ part. value-is None part i) t
+  pub divides-is : (counter : Option ℕ) (t : Tree) → divides_by_zero (worth_at placed values counter) t ≡ has_zero_divisor (s placed h) (alone (m placed h)) counter t
+  divides-is counter t = λ i. divides_by_zero (λ part. value-is counter part i) t
 
   -- a public with a value does not divide by 0
   pub no-divisor : (n : ℕ) (p : Public) (evaluation : Evaluation) → slice_get (m placed h).names.publics n ≡ Some p → slice_get values n ≡ Some evaluation

@@ -210,6 +210,29 @@ impl<'a> PlacedModule<'a> {
         expression.value(&self.surroundings(values, counter), self.width())
     }
 
+    /// Whether a divisor somewhere in an expression has the value 0, where all publics are evaluated.
+    pub fn divides_by_zero(
+        &self,
+        values: &[Evaluation],
+        counter: Option<u64>,
+        expression: &Postfix,
+    ) -> bool
+        requires placed { IsPlaced self.now }
+        requires values { AreValues self.now values.now }
+        ensures { result ≡ has_zero_divisor (setting_of self.now) (alone self.now.graph.parts.now) counter expression.now }
+    {
+        self.divides(values, counter, expression)
+    }
+
+    // The same by what is known of the publics.
+    fn divides(&self, values: &[Evaluation], counter: Option<u64>, expression: &Postfix) -> bool
+        requires low { 1 ≤ self.now.graph.parts.now.maus }
+        requires high { self.now.graph.parts.now.maus ≤ 8 }
+        ensures { result ≡ divides_by_zero (worth_at self.now values.now counter) expression.now }
+    {
+        expression.divides_by_zero(&self.surroundings(values, counter), self.width())
+    }
+
     /// The first public that divides by 0 itself, where all publics are evaluated.
     pub fn first_division(&self, values: &[Evaluation]) -> Option<&'a Public>
         requires placed { IsPlaced self.now }
@@ -235,20 +258,9 @@ impl<'a> PlacedModule<'a> {
         ensures { result ≡ has_zero_divisor (setting_of self.now) (alone self.now.graph.parts.now) None public.now.value }
     {
         if has_no_value(values[position]) {
-            self.divides(values, public)
+            self.divides_by_zero(values, None, &public.value)
         } else {
             false
         }
-    }
-
-    // Whether the public divides by 0 itself.
-    fn divides(&self, values: &[Evaluation], public: &Public) -> bool
-        requires low { 1 ≤ self.now.graph.parts.now.maus }
-        requires high { self.now.graph.parts.now.maus ≤ 8 }
-        ensures { result ≡ divides_by_zero (worth_at self.now values.now None) public.now.value }
-    {
-        public
-            .value
-            .divides_by_zero(&self.surroundings(values, None), self.width())
     }
 }

@@ -14,7 +14,7 @@ use Rattle.mufom_module.specs.declared.module.Defect.TheVariants as kinds
 use Rattle.mufom_module.specs.Defects.{IsValid}
 use Rattle.mufom_module.specs.Made.{IsMadeNote, IsMadeReference, IsMade}
 use Rattle.mufom_module.specs.Written.{weight}
-use Rattle.mufom_module.specs.Weights.{note_weight, mark_weight}
+use Rattle.mufom_module.specs.Weights.{reference_weight, note_weight, mark_weight}
 use Rattle.mufom_module.proofs.WeightLaws.{weight-sum}
 use Rattle.mufom_module.proofs.EntryCounts.{counted, sections-count, publics-count, references-count}
 use Rattle.mufom_meaning.specs.Flat.{name_count, flat_sections, flat_references, public_names}

@@ -3,12 +3,12 @@ use Rattle.std.specs.List.{AllByRecursion}
 use Rattle.std.proofs.lemmas.List.{drop_more, drop_all}
 use Rattle.mufom_names.specs.Index.{Entry, keys_of, numbered_from}
 use Rattle.mufom_names.specs.Keys.{IsShortReference}
+use Rattle.mufom_names.proofs.PositionLaws.{keys-numbered}
 use Rattle.mufom_module.specs.declared.module.Parts.{Parts}
 use Rattle.mufom_meaning.specs.Flat.{public_names}
 use Rattle.mufom_link.specs.References.{kept_after, targets_after, keyed}
 use Rattle.mufom_link.specs.Joining.{HasLists}
 use Rattle.mufom_link.proofs.CountLaws.{short-references}
-use Rattle.mufom_names.proofs.PositionLaws.{keys-numbered}
 use Rattle.mufom_link.proofs.JoiningLaws.{IsUnderway, begun, ended, sections-fit, publics-fit, declared-fit, references-fit, joined}
 use Rattle.mufom_link.proofs.linking.join_lists.Goals as goal
 

@@ -1,11 +1,8 @@
 use Rattle.std.proofs.Common.{◌∙◌, ◌<◌, length, sym, arith}
 use Rattle.std.proofs.lemmas.Option.{slice_get-get_or, slice_get_within}
-use Rattle.mufom_image_values.proofs.DivisionLaws.{divides-is, no-divisor}
+use Rattle.mufom_image_values.proofs.DivisionLaws.{no-divisor}
 use Rattle.mufom_image_values.proofs.Settled.{values-right}
 use Rattle.mufom_image_values.proofs.values.PlacedModule.has_division.Goals as goal
-
-pub returns-then-has_no_value : goal.returns-then-has_no_value
-returns-then-has_no_value c = c.divides.ensures ∙ divides-is c.args.self.now c.requires.placed c.args.values.now c.requires.values c.args.public.now.value
 
 pub returns-else-has_no_value : goal.returns-else-has_no_value
 returns-else-has_no_value c =
