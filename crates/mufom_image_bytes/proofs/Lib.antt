@@ -1,0 +1,4 @@
+pub mod Rooms
+pub mod Faults
+pub mod Outside
+pub mod Doubles
