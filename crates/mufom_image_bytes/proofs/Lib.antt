@@ -1,4 +1,7 @@
 pub mod Rooms
-pub mod Faults
 pub mod Outside
-pub mod Doubles
+pub mod TwiceLaws
+pub mod WalkSteps
+pub mod WalkLaws
+pub mod SharedLaws
+pub mod ChunkLaws

@@ -1,5 +1,22 @@
 //! The bytes that the loads of a module put at addresses.
 #![tactic(auto)]
 
+mod chunk;
+mod doubles;
 mod field;
-pub use field::{field_number, fits};
+mod layout;
+mod loaded;
+mod places;
+mod stop;
+mod values;
+mod walk;
+
+pub use chunk::Chunk;
+pub use doubles::first_double;
+pub use field::{field_number, fits, spelled};
+pub use layout::Layout;
+pub use loaded::{Loaded, nothing_loaded};
+pub use places::first_outside;
+pub use stop::Stop;
+pub use values::Values;
+pub use walk::{Walk, load_item};
