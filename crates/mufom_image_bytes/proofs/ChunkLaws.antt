@@ -88,3 +88,28 @@ chunk_grown bytes more c grown ends address start count =
     ∙ cells_from-append c.address (drop c.start bytes) more
     ∙ ap (λ n. cells_from c.address (drop c.start bytes) ++ cells_from (c.address + n) more) all
     ∙ ap (λ own_bytes. cells_from c.address own_bytes ++ cells_from (c.address + c.count) more) (sym (take-all c.count (drop c.start bytes) own))
+
+-- the last chunk is put with the others
+pub closed : (chunks pushed : List Chunk) (last : Chunk) (end : ℕ) → pushed ≡ chunks ++ last ∷ [] → AreConsecutive 0 chunks last.start → last.start + last.count ≡ end → 0 < last.count
+    → AreConsecutive 0 pushed end
+closed chunks pushed last end same h ends some =
+    subst (λ (x : List Chunk × ℕ). AreConsecutive 0 x.0 x.1) (λ i. (sym same i, ends i)) (consecutive-push 0 last.start chunks last h refl some)
+
+-- the last chunk has no bytes
+pub closed_empty : (chunks : List Chunk) (last : Chunk) (end : ℕ) → AreConsecutive 0 chunks last.start → last.start + last.count ≡ end → last.count ≡ 0 → AreConsecutive 0 chunks end
+closed_empty chunks last end h ends none = let same : last.start ≡ end = omega (arith, ends, none) in subst (AreConsecutive 0 chunks) same h
+
+pub without_last : (bytes : List ℕ) (chunks : List Chunk) (last : Chunk) → last.count ≡ 0 → cells_of_chunks bytes chunks ≡ cells_of_chunks bytes (chunks ++ last ∷ [])
+without_last bytes chunks last none = sym (append-nil (cells_of_chunks bytes chunks)) ∙ ap (λ cells. cells_of_chunks bytes chunks ++ cells) (sym (empty_chunk bytes last none)) ∙ sym (cells-push bytes chunks last)
+
+-- bytes that follow the last chunk
+pub extended : (chunks : List Chunk) (last grown : Chunk) (bytes more longer : List ℕ) → longer ≡ bytes ++ more → AreConsecutive 0 chunks last.start → last.start + last.count ≡ length bytes
+    → grown.address ≡ last.address → grown.start ≡ last.start → grown.count ≡ last.count + length more
+    → cells_of_chunks longer (chunks ++ grown ∷ []) ≡ cells_of_chunks bytes (chunks ++ last ∷ []) ++ cells_from (last.address + last.count) more
+extended chunks last grown bytes more longer same h ends address start count =
+    ap (λ all. cells_of_chunks all (chunks ++ grown ∷ [])) same
+    ∙ cells-push (bytes ++ more) chunks grown
+    ∙ ap (λ cells. cells ++ chunk_cells (bytes ++ more) grown) (chunks_kept 0 last.start bytes more chunks h (omega (arith, ends)))
+    ∙ ap (λ cells. cells_of_chunks bytes chunks ++ cells) (chunk_grown bytes more last grown ends address start count)
+    ∙ sym (append_assoc (cells_of_chunks bytes chunks) (chunk_cells bytes last) (cells_from (last.address + last.count) more))
+    ∙ ap (λ cells. cells ++ cells_from (last.address + last.count) more) (sym (cells-push bytes chunks last))

@@ -5,3 +5,4 @@ pub mod WalkSteps
 pub mod WalkLaws
 pub mod SharedLaws
 pub mod ChunkLaws
+pub mod OutcomeLaws

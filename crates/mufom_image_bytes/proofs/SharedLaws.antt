@@ -327,6 +327,18 @@ shared_chunks k (c ∷ chunks) rise e =
             ∙ ap (λ b. if b then shares_from k 0 chunks else (if nat_lt c.address 0 then true else shares_from k (c.address + part_of k c) chunks)) (sym (not_zero n)) ∙ g) in
           (there.0, there.1)
 
+-- of no bytes none share an address
+pub none_share : (end : ℕ) (chunks : List Chunk) → shares_from 0 end chunks ≡ false
+none_share end [] = refl
+none_share end (c ∷ chunks) =
+    let none : part_of 0 c ≡ 0 = omega arith in
+    ap (λ n. if n == 0 then shares_from 0 end chunks else (if nat_lt c.address end then true else shares_from 0 (c.address + n) chunks)) none ∙ none_share end chunks
+
+-- so where some share one there is a byte
+pub some_byte : (count end : ℕ) (chunks : List Chunk) → shares_from count end chunks ≡ true → 0 < count
+some_byte zero end chunks e = absurd (let none = none_share end chunks in cc)
+some_byte (suc count) end chunks e = omega arith
+
 -- ---- the first double
 
 module _ (loaded chunks : List Chunk) (end : ℕ) (permuted : IsPermutation loaded chunks) (tiles : AreConsecutive 0 loaded end) where

@@ -34,7 +34,19 @@ pub fn nothing_loaded(alloc: Global) -> Loaded
 }
 
 impl Loaded {
-    // Ends the last chunk, and begins one at another address.
+    // Puts the last chunk with the others, where it has a byte.
+    fn close(&mut self) -> Result<(), NoMemory>
+        requires { IsTiled self.old }
+        ensures consecutive { OnOk result (AreConsecutive 0 self.new.chunks.items (length self.new.bytes.items)) }
+        ensures cells { OnOk result (cells_of_chunks self.new.bytes.items self.new.chunks.items ≡ loaded_cells self.old) }
+    {
+        if self.last.count > 0 {
+            self.chunks.push(self.last)?;
+        }
+        Ok(())
+    }
+
+    // Begins a chunk at another address.
     fn begin(&mut self, address: u64) -> Result<(), NoMemory>
         requires { IsTiled self.old }
         ensures tiled { OnOk result (IsTiled self.new) }
@@ -42,9 +54,7 @@ impl Loaded {
         ensures address { OnOk result (self.new.last.address ≡ address) }
         ensures empty { OnOk result (self.new.last.count ≡ 0) }
     {
-        if self.last.count > 0 {
-            self.chunks.push(self.last)?;
-        }
+        self.close()?;
         self.last = Chunk {
             address,
             start: self.bytes.len(),
@@ -76,25 +86,13 @@ impl Loaded {
         self.extend(bytes)
     }
 
-    // Ends the last chunk.
-    fn end(&mut self) -> Result<(), NoMemory>
-        requires { IsTiled self.old }
-        ensures consecutive { OnOk result (AreConsecutive 0 self.new.chunks.items (length self.new.bytes.items)) }
-        ensures cells { OnOk result (cells_of_chunks self.new.bytes.items self.new.chunks.items ≡ loaded_cells self.old) }
-    {
-        if self.last.count > 0 {
-            self.chunks.push(self.last)?;
-        }
-        Ok(())
-    }
-
     /// All chunks, and the bytes.
     pub fn finish(mut self) -> Result<(Vec<Chunk>, Vec<u8>), NoMemory>
         requires { IsTiled self }
         ensures consecutive { IfOk result (λ r. AreConsecutive 0 r.0.items (length r.1.items)) }
         ensures cells { IfOk result (λ r. cells_of_chunks r.1.items r.0.items ≡ loaded_cells self) }
     {
-        self.end()?;
+        self.close()?;
         Ok((self.chunks, self.bytes))
     }
 }
