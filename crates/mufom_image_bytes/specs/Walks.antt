@@ -1,10 +1,12 @@
 -- How far the code has walked, and what it asks of items.
-use Rattle.std.specs.Prelude.{ℕ, ◌≤◌}
+use Rattle.std.specs.Prelude.{ℕ, ◌≤◌, ◌%◌, ◌^◌, List, map, Bool, nat_lt}
 use Rattle.std.specs.List.{All}
 use Rattle.mufom_loads.specs.declared.load.Item.{Item}
 use Rattle.mufom_loads.specs.declared.load.Item.TheVariants.{Literal, Field}
 use Rattle.mufom_loads.specs.declared.load.Load.{Load}
 use Rattle.mufom_loads.specs.declared.load.Load.TheVariants.{SetSection, SetPc, One, Repeat}
+use Rattle.mufom_loads.specs.Lengths.{byte_count}
+use Rattle.mufom_image_bytes.specs.declared.layout.Layout.{Layout}
 use Rattle.mufom_image_bytes.specs.declared.walk.Walk.{Walk}
 use Rattle.mufom_image_bytes.specs.Loaded.{loaded_cells}
 use Rattle.mufom_image_bytes.specs.Outcomes.{Progress}
@@ -24,3 +26,11 @@ HasNarrowItems (SetSection section) = Unit {0}
 HasNarrowItems (SetPc section value) = Unit {0}
 HasNarrowItems (One item) = IsNarrow item
 HasNarrowItems (Repeat count items) = All IsNarrow items
+
+-- an item loads a byte
+abbrev pub has_bytes : Item → Bool
+has_bytes item = nat_lt 0 (byte_count item)
+
+-- the counters before all loads: the bases of the sections, as residues
+abbrev pub first_counters : Layout → List ℕ
+first_counters layout = map (λ base. base % 2 ^ layout.width) layout.bases.now

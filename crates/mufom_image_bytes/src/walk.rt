@@ -26,13 +26,15 @@ pub struct Walk {
     pub loaded: Loaded,
 }
 
-fn counter_of(counters: &[u64], section: u32) -> u64
+/// The counter of a section, and 0 where there is none.
+pub fn counter_of(counters: &[u64], section: u32) -> u64
     ensures { result ≡ slice_index counters.now section }
 {
     counters.get(section as usize).copied().unwrap_or(0)
 }
 
-fn set_counter(counters: &mut [u64], section: u32, value: u64)
+/// Sets the counter of a section, where there is one.
+pub fn set_counter(counters: &mut [u64], section: u32, value: u64)
     ensures { counters.new ≡ slice_set counters.old section value }
 {
     let section = section as usize;
