@@ -6,3 +6,4 @@ pub mod WalkLaws
 pub mod SharedLaws
 pub mod ChunkLaws
 pub mod OutcomeLaws
+pub mod SpreadLaws

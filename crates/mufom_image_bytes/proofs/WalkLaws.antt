@@ -19,9 +19,10 @@ use Rattle.mufom_meaning.specs.Walk.{first_twice, steps_fact, has_number, loaded
 use Rattle.mufom_meaning.proofs.Members.{In}
 use Rattle.mufom_meaning.proofs.Unfolding.{counter-none}
 use Rattle.mufom_image_bytes.specs.declared.layout.Layout.{Layout}
+use Rattle.mufom_image_bytes.specs.Chunks.{cell_addresses as addresses}
 use Rattle.mufom_image_bytes.specs.Outcomes.{WorthAt, Progress, Outcome, continued, item_outcome, items_outcome, current_outcome, counter_outcome, load_outcome, current_after, loads_outcome, progress_at_first}
 use Rattle.mufom_image_bytes.specs.Walked.{IsLaidOut, HasWorth, IsPlainItem, IsPlainLoad, AreWalked}
-use Rattle.mufom_image_bytes.proofs.WalkSteps.{addresses, Agrees, IsTaken, counter_taken, item_taken, or_else-assoc}
+use Rattle.mufom_image_bytes.proofs.WalkSteps.{Agrees, IsTaken, counter_taken, item_taken, or_else-assoc}
 
 module _ (s : Setting) (layout : Layout) (worth : WorthAt) (laid : IsLaidOut s layout) where
   abbrev step_outcome : Step → Progress → Outcome
@@ -48,9 +49,10 @@ module _ (s : Setting) (layout : Layout) (worth : WorthAt) (laid : IsLaidOut s l
   record IsWalk (earlier steps : List Step) (p : Progress) (o : Outcome) : Type 0 where
     facts : (first_twice [] (addresses p.cells) or_else steps_fact s earlier steps) ≡ (first_twice [] (addresses o.0.cells) or_else o.1)
     cells : o.1 ≡ None → o.0.cells ≡ p.cells ++ address_map layout.order s.modulus (readings_after s earlier steps)
+    low : ((a : ℕ) → In a (addresses p.cells) → a < s.modulus) → (a : ℕ) → In a (addresses o.0.cells) → a < s.modulus
 
   walk_is : (earlier steps : List Step) (p : Progress) → Agrees s layout worth laid earlier p → ArePlain steps → IsWalk earlier steps p (steps_outcome steps p)
-  walk_is earlier [] p h w = record { facts = refl; cells = λ none. sym (append-nil p.cells) }
+  walk_is earlier [] p h w = record { facts = refl; cells = λ none. sym (append-nil p.cells); low = λ h. h }
   walk_is earlier (step ∷ steps) p h w = by_step (step_outcome step p) (step_taken earlier p h step w.0) (λ q k. walk_is (step ∷ earlier) steps q k w.1) where
     by_step : (o : Outcome) → IsTaken s layout worth laid earlier step p o
         → ((q : Progress) → Agrees s layout worth laid (step ∷ earlier) q → IsWalk (step ∷ earlier) steps q (steps_outcome steps q))
@@ -62,10 +64,12 @@ module _ (s : Setting) (layout : Layout) (worth : WorthAt) (laid : IsLaidOut s l
             facts = taken.facts (steps_fact s (step ∷ earlier) steps) ∙ rest.facts;
             cells = λ none. rest.cells none ∙ ap (λ cells. cells ++ address_map layout.order s.modulus (readings_after s (step ∷ earlier) steps)) (taken.cells refl)
               ∙ append_assoc p.cells (step_cells layout.order s.modulus (step_reading s earlier step)) (address_map layout.order s.modulus (readings_after s (step ∷ earlier) steps));
+            low = λ h. rest.low (taken.low h);
           }
       by_fact q (Some fact) taken = record {
         facts = taken.facts (steps_fact s (step ∷ earlier) steps);
         cells = λ none. absurd (let gone : ◌≡◌ {A = Option LocateFact} (Some fact) None = none in cc);
+        low = taken.low;
       }
 
   -- ---- steps of loads
@@ -193,6 +197,7 @@ pub walked : (s : Setting) (site : Sited) (layout : Layout) (worth : WorthAt) (l
     → let o = loads_outcome layout worth None loads (progress_at_first counters) in let steps = steps_of site None loads in
     (steps_fact s [] steps ≡ (first_twice [] (addresses o.0.cells) or_else o.1))
     × (o.1 ≡ None → o.0.cells ≡ address_map layout.order s.modulus (readings_after s [] steps))
+    × ((a : ℕ) → In a (addresses o.0.cells) → a < s.modulus)
 walked s site layout worth loads counters h positive first =
     let laid = h.laid_out in
     let steps = steps_of site None loads in
@@ -200,4 +205,5 @@ walked s site layout worth loads counters h positive first =
         (plain_loads s layout worth laid site h.at_first None (tt {0}) loads h.plain) in
     let same = loads_as_steps s layout worth laid site h.at_first None loads (progress_at_first counters) in
     (walk.facts ∙ ap (λ (o : Outcome). first_twice [] (addresses o.0.cells) or_else o.1) same,
-     λ none. sym (ap (λ (o : Outcome). o.0.cells) same) ∙ walk.cells (ap (λ (o : Outcome). o.1) same ∙ none))
+     λ none. sym (ap (λ (o : Outcome). o.0.cells) same) ∙ walk.cells (ap (λ (o : Outcome). o.1) same ∙ none),
+     λ a there. walk.low (λ b none. absurd none) a (subst (λ (o : Outcome). In a (addresses o.0.cells)) (sym same) there))

@@ -1,5 +1,5 @@
 -- One step of the walk by places and values, against what is met at it.
-use Rattle.std.proofs.Common.{◌≡◌, ◌≢◌, ℕ, zero, suc, ◌+◌, ◌<◌, ◌≤◌, List, [], ◌∷◌, ◌++◌, map, length, get_or, set, Option, Some, None, Bool, true, false, ◌||◌, refl, sym, ◌∙◌, ap, subst, arith, append-nil, append_assoc, add-zero, length-set, get_or-set_other, get_or-set_same}
+use Rattle.std.proofs.Common.{◌≡◌, ◌≢◌, ℕ, zero, suc, ◌+◌, ◌<◌, ◌≤◌, List, [], ◌∷◌, ◌++◌, map, length, get_or, set, Option, Some, None, Bool, true, false, ◌||◌, ◌⊎◌, inl, inr, refl, sym, ◌∙◌, ap, subst, arith, append-nil, append_assoc, add-zero, length-set, get_or-set_other, get_or-set_same}
 use Rattle.std.specs.Prelude.{◌%◌, ◌^◌, ◌==◌, option_map, slice_get, slice_index, slice_set, unwrap_or, nat_lt, nat_le, if◌then◌else◌}
 use Rattle.std.specs.List.{list_any}
 use Rattle.std.proofs.Math.Nat.{mod-eq_of_lt}
@@ -18,6 +18,7 @@ use Rattle.mufom_meaning.specs.Flat.{Sited}
 use Rattle.mufom_meaning.specs.Steps.{Step, counter_step, item_step, counter, field_reading, item_reading, step_reading}
 use Rattle.mufom_meaning.specs.Values.{Setting, value, has_zero_divisor}
 use Rattle.mufom_meaning.specs.Walk.{zero_divisor_at, overflow_at, field_fact, step_fact, item_fact, base_number, size_at, counted_from, has_number, outside_at, first_twice, addresses_at, step_addresses, loaded_addresses}
+use Rattle.mufom_meaning.proofs.Members.{In, In-append}
 use Rattle.mufom_meaning.proofs.Choices.{equal_numbers, of_not_lt, of_not_le}
 use Rattle.mufom_meaning.proofs.Tests.{chosen_none, either_false}
 use Rattle.mufom_meaning.proofs.Unfolding.{counter-set, counter-item}
@@ -25,6 +26,7 @@ use Rattle.mufom_meaning.proofs.facts.Answers.{or_else_none}
 use Rattle.mufom_meaning.proofs.locations.OwnAddresses.{length-number_bytes, length-in_byte_order}
 use Rattle.mufom_meaning.proofs.values.Causes.{zero_divisor-none}
 use Rattle.mufom_image_bytes.specs.declared.layout.Layout.{Layout}
+use Rattle.mufom_image_bytes.specs.Chunks.{cell_addresses as addresses}
 use Rattle.mufom_image_bytes.specs.Outcomes.{WorthAt, Progress, Outcome, base_in, size_in, outside_in, field_outcome, item_bytes, with_bytes, placed_outcome, item_outcome, counter_outcome}
 use Rattle.mufom_image_bytes.specs.Walked.{IsLaidOut, HasWorth, IsPlainItem}
 use Rattle.mufom_image_bytes.proofs.TwiceLaws.{passed, twice-append, twice-same}
@@ -55,13 +57,15 @@ all_inside modulus section base size (suc n) at e =
     let later = all_inside modulus section base size n (suc at) none.1 in
     (low, omega (arith, later.1))
 
--- the addresses of cells
-abbrev pub addresses : List Cell → List ℕ
-addresses cells = map (λ (cell : Cell). cell.0) cells
-
+-- the addresses of bytes from an address on
 pub addresses-from : (bytes : List ℕ) (at : ℕ) → addresses (cells_from at bytes) ≡ counted_from (length bytes) at
 addresses-from [] at = refl
 addresses-from (byte ∷ bytes) at = ap (λ rest. at ∷ rest) (addresses-from bytes (suc at))
+
+counted_low : (n at a : ℕ) → In a (counted_from n at) → a < at + n
+counted_low zero at a h = absurd h
+counted_low (suc n) at a (inl same) = omega (arith, same)
+counted_low (suc n) at a (inr h) = let later = counted_low n (suc at) a h in omega (arith, later)
 
 -- ---- numbers among numbers
 
@@ -179,6 +183,7 @@ module _ (s : Setting) (layout : Layout) (worth : WorthAt) (laid : IsLaidOut s l
     pub cells : o.1 ≡ None → o.0.cells ≡ p.cells ++ step_cells layout.order s.modulus (step_reading s earlier step)
     pub facts : (rest : Option LocateFact)
         → (first_twice [] (addresses p.cells) or_else (step_fact s earlier step or_else rest)) ≡ (first_twice [] (addresses o.0.cells) or_else (o.1 or_else rest))
+    pub low : ((a : ℕ) → In a (addresses p.cells) → a < s.modulus) → (a : ℕ) → In a (addresses o.0.cells) → a < s.modulus
 
   -- a counter that is set
   other_counter : (counters : List ℕ) (section n v : ℕ) → section < length counters → (b : Bool) → (section == n) ≡ b
@@ -210,6 +215,7 @@ module _ (s : Setting) (layout : Layout) (worth : WorthAt) (laid : IsLaidOut s l
         cells = λ none. absurd (let gone : ◌≡◌ {A = Option LocateFact} (Some (zero_divisor (sites.Counter section))) None = none in cc);
         facts = λ rest. ap (λ c. first_twice [] (addresses p.cells) or_else (zero_divisor_at s site c t (sites.Counter section) or_else rest)) counter_is
           ∙ ap (λ b. first_twice [] (addresses p.cells) or_else ((if b then Some (zero_divisor (sites.Counter section)) else None) or_else rest)) (w.divides at (sym e));
+        low = λ h. h;
       }
       by_value (Some v) e = record {
         agrees = λ none. record {
@@ -221,6 +227,7 @@ module _ (s : Setting) (layout : Layout) (worth : WorthAt) (laid : IsLaidOut s l
         cells = λ none. sym (append-nil p.cells);
         facts = λ rest. ap (λ c. first_twice [] (addresses p.cells) or_else (zero_divisor_at s site c t (sites.Counter section) or_else rest)) counter_is
           ∙ ap (λ b. first_twice [] (addresses p.cells) or_else ((if b then Some (zero_divisor (sites.Counter section)) else None) or_else rest)) whole;
+        low = λ h. h;
       } where
         not_zero : (b : Bool) → has_zero_divisor s site (Some at) t ≡ b → b ≡ false
         not_zero true d = absurd (let none = e ∙ zero_divisor-none s site (Some at) t d in cc)
@@ -256,6 +263,7 @@ module _ (s : Setting) (layout : Layout) (worth : WorthAt) (laid : IsLaidOut s l
       };
       cells = λ e. sym (append-nil p.cells) ∙ ap (λ c. p.cells ++ step_cells layout.order s.modulus (item_reading s site section c (Literal []))) (sym counter_is);
       facts = λ rest. ap (λ o. first_twice [] (addresses p.cells) or_else (o or_else rest)) (item_step_facts (Literal []));
+      low = λ h. h;
     } where
       moved : (n : ℕ) → n < length s.bases → (b : Bool) → (section == n) ≡ b
           → (if section == n then option_map (λ pc. (pc + 0) % s.modulus) (counter s earlier n) else counter s earlier n) ≡ Some (get_or p.counters n 0)
@@ -281,6 +289,7 @@ module _ (s : Setting) (layout : Layout) (worth : WorthAt) (laid : IsLaidOut s l
       facts = λ rest. ap (λ o. first_twice [] (addresses p.cells) or_else (o or_else rest)) (item_step_facts item)
         ∙ ap (λ o. first_twice [] (addresses p.cells) or_else ((o or_else (first_twice (loaded_addresses s earlier) (addresses_at s.modulus (Some at) item) or_else field_fact s site section at item)) or_else rest))
           (sym (outside_same at (byte_count item)) ∙ e);
+      low = λ h. h;
     } where
       at : ℕ
       at = get_or p.counters section 0
@@ -304,6 +313,7 @@ module _ (s : Setting) (layout : Layout) (worth : WorthAt) (laid : IsLaidOut s l
         ∙ ap (λ new. first_twice [] (addresses p.cells ++ new) or_else (field_fact s site section at item or_else rest)) new_addresses
         ∙ ap (λ all. first_twice [] all or_else (field_fact s site section at item or_else rest)) (sym (map-append (λ (cell : Cell). cell.0) p.cells (cells_from at found.0)))
         ∙ ap (λ o. first_twice [] (addresses (p.cells ++ cells_from at found.0)) or_else (o or_else rest)) (sym (item_facts site section at item w));
+      low = λ h a there. by_side a h (In-append a (addresses p.cells) (addresses (cells_from at found.0)) (subst (λ all. In a all) (map-append (λ (cell : Cell). cell.0) p.cells (cells_from at found.0)) there));
     } where
       at : ℕ
       at = get_or p.counters section 0
@@ -313,6 +323,13 @@ module _ (s : Setting) (layout : Layout) (worth : WorthAt) (laid : IsLaidOut s l
 
       found : List ℕ × Option LocateFact
       found = item_bytes layout worth section at item
+
+      by_side : (a : ℕ) → ((a : ℕ) → In a (addresses p.cells) → a < s.modulus) → In a (addresses p.cells) ⊎ In a (addresses (cells_from at found.0)) → a < s.modulus
+      by_side a h (inl old) = h a old
+      by_side a h (inr new) =
+          let count = item_count section at item in
+          let under = counted_low (length found.0) at a (subst (λ all. In a all) (addresses-from found.0 at) new) in
+          let inside = fits_space in omega (arith, under, count, inside)
 
       clear : first_some (outside_at s.modulus section (base_number s section) (size_at s section)) (counted_from (byte_count item) at) ≡ None
       clear = sym (outside_same at (byte_count item)) ∙ e

@@ -1,5 +1,5 @@
 -- Loaded bytes in the order of the loads, in chunks at neighbouring addresses.
-use Rattle.std.specs.Prelude.{◌≡◌, ℕ, ◌+◌, ◌<◌, List, [], ◌∷◌, flat_map, take, drop}
+use Rattle.std.specs.Prelude.{◌≡◌, ℕ, ◌+◌, ◌<◌, List, [], ◌∷◌, map, flat_map, take, drop}
 use Rattle.mufom_meaning.specs.AddressMap.{Cell, cells_from}
 use Rattle.mufom_meaning.specs.Walk.{counted_from}
 use Rattle.mufom_image_bytes.specs.declared.chunk.Chunk.{Chunk}
@@ -16,7 +16,7 @@ cells_of_chunks bytes chunks = flat_map (chunk_cells bytes) chunks
 abbrev pub chunk_addresses : Chunk → List ℕ
 chunk_addresses c = counted_from c.count c.address
 
--- the same of all chunks
+-- the addresses of all chunks
 abbrev pub addresses_of : List Chunk → List ℕ
 addresses_of chunks = flat_map chunk_addresses chunks
 
@@ -24,3 +24,7 @@ addresses_of chunks = flat_map chunk_addresses chunks
 abbrev pub AreConsecutive : ℕ → List Chunk → ℕ → Type 0
 AreConsecutive start [] end = start ≡ end
 AreConsecutive start (c ∷ chunks) end = (c.start ≡ start) × (0 < c.count) × AreConsecutive (start + c.count) chunks end
+
+-- the addresses of cells
+abbrev pub cell_addresses : List Cell → List ℕ
+cell_addresses cells = map (λ (cell : Cell). cell.0) cells

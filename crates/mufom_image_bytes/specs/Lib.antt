@@ -5,3 +5,5 @@ pub mod Walked
 pub mod Loaded
 pub mod Walks
 pub mod Shared
+pub mod Spread
+pub mod Images

@@ -43,7 +43,7 @@ fn load_items<V: Values>(
     Ok(None)
 }
 
-// Loads items `count` times. There is at least one.
+// Loads items `count` times.
 fn load_copies<V: Values>(
     layout: &Layout<'_>,
     values: &V,
@@ -59,6 +59,9 @@ fn load_copies<V: Values>(
     ensures tiled { OnOk result (IsTiled walk.new.loaded) }
     ensures outcome { IfOk result (λ stop. (progress_of walk.new, option_map fact_of stop) ≡ items_outcome layout.now (V.meaning values.now layout.now.width) section (repeated count (map (λ item. item.now) items.now)) (progress_of walk.old)) }
 {
+    if items.is_empty() {
+        return Ok(None);
+    }
     for _ in 0..count {
         let stop = load_items(layout, values, section, items, walk)?;
         if stop.is_some() {
@@ -101,9 +104,6 @@ fn load_repeat<V: Values>(
     ensures outcome { IfOk result (λ stop. (progress_of walk.new, option_map fact_of stop) ≡ items_outcome layout.now (V.meaning values.now layout.now.width) section (repeated count items.now) (progress_of walk.old)) }
 {
     let items = with_bytes(alloc, items)?;
-    if items.is_empty() {
-        return Ok(None);
-    }
     load_copies(layout, values, section, count, &items, walk)
 }
 

@@ -1,0 +1,82 @@
+//! The image of the loads of a module.
+
+ghost use Rattle.std.specs.Prelude.{◌≡◌, ◌≤◌, ◌<◌, ◌^◌, ℕ, [], None, Some, option_map, Contains, IfOk, IfErr};
+ghost use Rattle.std.specs.List.{All};
+ghost use Rattle.std.specs.List.Sorted.{IsPermutation};
+ghost use Rattle.mufom_place.specs.Facts.{◌or_else◌};
+ghost use Rattle.mufom_meaning.specs.AddressMap.{AreRowsOf};
+ghost use Rattle.mufom_meaning.specs.Walk.{first_twice};
+ghost use Rattle.mufom_image_bytes.specs.Stops.{fact_of};
+ghost use Rattle.mufom_image_bytes.specs.Chunks.{cell_addresses};
+ghost use Rattle.mufom_image_bytes.specs.Loaded.{loaded_cells, IsTiled};
+ghost use Rattle.mufom_image_bytes.specs.Shared.{AreRisingFrom};
+ghost use Rattle.mufom_image_bytes.specs.Walks.{HasNarrowItems};
+ghost use Rattle.mufom_image_bytes.specs.Images.{AreLow, IsImage, IsRefusal, IsImageOf, IsRefusalOf};
+
+use crate::chunk::Chunk;
+use crate::doubles::first_double;
+use crate::layout::Layout;
+use crate::loaded::Loaded;
+use crate::loads::walked;
+use crate::refusal::ImageRefusal;
+use crate::rows::maximal_rows;
+use crate::stop::Stop;
+use crate::values::Values;
+use crate::walk::Walk;
+use mufom_loads::Load;
+use mufom_meaning::Run;
+use mufom_numbers::List;
+use std::alloc::Global;
+
+// Sorts chunks by their addresses.
+fn sort_by_address(chunks: &mut Vec<Chunk>)
+    ensures permutation { IsPermutation chunks.old.items chunks.new.items }
+    ensures rising { AreRisingFrom 0 chunks.new.items }
+{
+    chunks.sort_unstable_by_key(|chunk| chunk.address);
+}
+
+// The rows of loaded bytes, or what keeps them from being an image.
+fn assembled(
+    alloc: Global,
+    loaded: Loaded,
+    stop: Option<Stop>,
+) -> Result<List<Run>, ImageRefusal>
+    requires { IsTiled loaded }
+    ensures image { IfOk result (λ runs. IsImage (loaded_cells loaded) (option_map fact_of stop) runs) }
+    ensures refusal { IfErr result (λ refusal. IsRefusal (loaded_cells loaded) (option_map fact_of stop) refusal) }
+{
+    let (mut chunks, bytes) = loaded.finish()?;
+    sort_by_address(&mut chunks);
+    if let Some(address) = first_double(&chunks, bytes.len()) {
+        return Err(ImageRefusal::Stopped(Stop::Twice { address }));
+    }
+    if let Some(stop) = stop {
+        return Err(ImageRefusal::Stopped(stop));
+    }
+    Ok(maximal_rows(alloc, &chunks, &bytes)?)
+}
+
+/// The image of the loads of a module, in maximal rows of addresses, or the first thing that keeps
+/// it from being made, in the order of the loads.
+///
+/// The fields of the loads must have at most eight bytes each.
+pub fn image_of<V: Values>(
+    alloc: Global,
+    layout: &Layout<'_>,
+    values: &V,
+    loads: &[Load],
+) -> Result<List<Run>, ImageRefusal>
+    requires low { 8 ≤ layout.now.width }
+    requires high { layout.now.width ≤ 64 }
+    requires narrow { All HasNarrowItems loads.now }
+    ensures image { IfOk result (λ runs. IsImageOf layout.now (V.meaning values.now layout.now.width) loads.now runs) }
+    ensures refusal { IfErr result (λ refusal. IsRefusalOf layout.now (V.meaning values.now layout.now.width) loads.now refusal) }
+{
+    let (walk, stop) = walked(alloc, layout, values, loads)?;
+    let Walk {
+        counters: _counters,
+        loaded,
+    } = walk;
+    assembled(alloc, loaded, stop)
+}
