@@ -7,3 +7,4 @@ pub mod SharedLaws
 pub mod ChunkLaws
 pub mod OutcomeLaws
 pub mod SpreadLaws
+pub mod ImageLaws

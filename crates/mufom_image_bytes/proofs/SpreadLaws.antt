@@ -14,7 +14,7 @@ use Rattle.mufom_meaning.specs.Walk.{counted_from}
 use Rattle.mufom_image_bytes.specs.declared.chunk.Chunk.{Chunk}
 use Rattle.mufom_image_bytes.specs.Chunks.{chunk_cells, cells_of_chunks, cell_addresses, chunk_addresses, addresses_of, AreConsecutive}
 use Rattle.mufom_image_bytes.specs.Shared.{part_of, shares_from, AreRisingFrom}
-use Rattle.mufom_image_bytes.specs.Spread.{AreSpread, IsAmong, neighbours, chunk_bytes, bytes_of_chunks, free_after}
+use Rattle.mufom_image_bytes.specs.Spread.{AreSpread, IsAmong, neighbours, first_row, chunk_bytes, bytes_of_chunks, free_after}
 use Rattle.mufom_image_bytes.proofs.ChunkLaws.{cells_from-append, length_dropped, end_after_start}
 use Rattle.mufom_image_bytes.proofs.WalkSteps.{addresses-from}
 
@@ -53,9 +53,9 @@ row_cells bytes end (c ∷ chunks) among =
       by_test false e later = refl
 
 -- the first chunk with its neighbours
-pub first_row : (bytes : List ℕ) (c : Chunk) (chunks : List Chunk) → All (IsAmong bytes) (c ∷ chunks)
+row_of_first : (bytes : List ℕ) (c : Chunk) (chunks : List Chunk) → All (IsAmong bytes) (c ∷ chunks)
     → (let n = neighbours (c.address + c.count) chunks in cells_from c.address (bytes_of_chunks bytes (take (suc n) (c ∷ chunks))) ≡ cells_of_chunks bytes (take (suc n) (c ∷ chunks)))
-first_row bytes c chunks among =
+row_of_first bytes c chunks among =
     let own = chunk_length bytes c (All-head (IsAmong bytes) c chunks among) in
     let next = take (neighbours (c.address + c.count) chunks) chunks in
     row_on bytes c.address (chunk_bytes bytes c) (bytes_of_chunks bytes next) (cells_of_chunks bytes next)
@@ -134,7 +134,7 @@ row_step bytes chunks c more runs run h address row =
     let free = push.1 in
     let from : c.address + c.count + length next + 1 ≡ free_after 0 (runs ++ run ∷ []) = omega (arith, free, address, long) in
     let row_is : cells_from run.address run.bytes ≡ cells_of_chunks bytes (take (suc n) (c ∷ more)) =
-        ap (λ a. cells_from a run.bytes) address ∙ ap (cells_from c.address) row ∙ first_row bytes c more h.among in
+        ap (λ a. cells_from a run.bytes) address ∙ ap (cells_from c.address) row ∙ row_of_first bytes c more h.among in
     record {
       spread = subst (λ k. AreSpread k (drop n more)) from (after_row bytes (c.address + c.count) more (All-tail (IsAmong bytes) c more h.among) h.spread.2);
       among = All-dropped (IsAmong bytes) n more (All-tail (IsAmong bytes) c more h.among);
@@ -145,12 +145,14 @@ row_step bytes chunks c more runs run h address row =
         ∙ h.cells;
     }
 
-pub next_row : (bytes : List ℕ) (chunks : List Chunk) (c : Chunk) (more : List Chunk) (runs : List Run) (run : Run) (n : ℕ)
-    → AreRowsSoFar bytes chunks (c ∷ more) runs → n ≡ neighbours (c.address + c.count) more
-    → run.address ≡ c.address → run.bytes ≡ bytes_of_chunks bytes (take (suc n) (c ∷ more))
-    → AreRowsSoFar bytes chunks (drop n more) (runs ++ run ∷ [])
-next_row bytes chunks c more runs run n h count address row =
-    subst (λ k. run.bytes ≡ bytes_of_chunks bytes (take (suc k) (c ∷ more)) → AreRowsSoFar bytes chunks (drop k more) (runs ++ run ∷ [])) (sym count) (row_step bytes chunks c more runs run h address) row
+-- the first row of what is left
+pub next_row : (bytes : List ℕ) (chunks rest after : List Chunk) (runs : List Run) (run : Run) (c : Chunk) → AreRowsSoFar bytes chunks rest runs
+    → 0 < length rest → run.address ≡ (get_or rest 0 c).address → run.bytes ≡ bytes_of_chunks bytes (take (first_row rest) rest) → after ≡ drop (first_row rest) rest
+    → AreRowsSoFar bytes chunks after (runs ++ run ∷ [])
+next_row bytes chunks [] after runs run c h some address row left = absurd (omega (arith, some))
+next_row bytes chunks (d ∷ more) after runs run c h some address row left =
+    subst (λ list. AreRowsSoFar bytes chunks list (runs ++ run ∷ [])) (sym left)
+    (row_step bytes chunks d more runs run h address row)
 
 -- ---- chunks by address that share none
 

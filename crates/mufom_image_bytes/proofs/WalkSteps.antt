@@ -324,13 +324,6 @@ module _ (s : Setting) (layout : Layout) (worth : WorthAt) (laid : IsLaidOut s l
       found : List ℕ × Option LocateFact
       found = item_bytes layout worth section at item
 
-      by_side : (a : ℕ) → ((a : ℕ) → In a (addresses p.cells) → a < s.modulus) → In a (addresses p.cells) ⊎ In a (addresses (cells_from at found.0)) → a < s.modulus
-      by_side a h (inl old) = h a old
-      by_side a h (inr new) =
-          let count = item_count section at item in
-          let under = counted_low (length found.0) at a (subst (λ all. In a all) (addresses-from found.0 at) new) in
-          let inside = fits_space in omega (arith, under, count, inside)
-
       clear : first_some (outside_at s.modulus section (base_number s section) (size_at s section)) (counted_from (byte_count item) at) ≡ None
       clear = sym (outside_same at (byte_count item)) ∙ e
 
@@ -340,6 +333,13 @@ module _ (s : Setting) (layout : Layout) (worth : WorthAt) (laid : IsLaidOut s l
 
       fits_space : at + byte_count item ≤ s.modulus
       fits_space = let high = lies.1 in let inside = laid.inside section in omega (arith, counted, high, inside)
+
+      by_side : (a : ℕ) → ((a : ℕ) → In a (addresses p.cells) → a < s.modulus) → In a (addresses p.cells) ⊎ In a (addresses (cells_from at found.0)) → a < s.modulus
+      by_side a h (inl old) = h a old
+      by_side a h (inr new) =
+          let count = item_count section at item in
+          let under = counted_low (length found.0) at a (subst (λ all. In a all) (addresses-from found.0 at) new) in
+          let inside = fits_space in omega (arith, under, count, inside)
 
       new_addresses : addresses_at s.modulus (Some at) item ≡ addresses (cells_from at found.0)
       new_addresses =

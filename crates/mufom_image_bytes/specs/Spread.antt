@@ -17,6 +17,11 @@ abbrev pub neighbours : ℕ → List Chunk → ℕ
 neighbours end [] = 0
 neighbours end (c ∷ chunks) = if c.address == end then suc (neighbours (c.address + c.count) chunks) else 0
 
+-- how many chunks the first row has
+abbrev pub first_row : List Chunk → ℕ
+first_row [] = 0
+first_row (c ∷ chunks) = suc (neighbours (c.address + c.count) chunks)
+
 -- the bytes of a chunk
 abbrev pub chunk_bytes : List ℕ → Chunk → List ℕ
 chunk_bytes bytes c = take c.count (drop c.start bytes)

@@ -1,17 +1,17 @@
 //! The image of the loads of a module.
 
-ghost use Rattle.std.specs.Prelude.{◌≡◌, ◌≤◌, ◌<◌, ◌^◌, ℕ, [], None, Some, option_map, Contains, IfOk, IfErr};
+ghost use Rattle.std.specs.Prelude.{◌≡◌, ◌≤◌, ◌<◌, ◌^◌, ℕ, List as list, [], None, false, option_map, Contains, IfOk, IfErr};
 ghost use Rattle.std.specs.List.{All};
 ghost use Rattle.std.specs.List.Sorted.{IsPermutation};
 ghost use Rattle.mufom_place.specs.Facts.{◌or_else◌};
-ghost use Rattle.mufom_meaning.specs.AddressMap.{AreRowsOf};
 ghost use Rattle.mufom_meaning.specs.Walk.{first_twice};
 ghost use Rattle.mufom_image_bytes.specs.Stops.{fact_of};
-ghost use Rattle.mufom_image_bytes.specs.Chunks.{cell_addresses};
+ghost use Rattle.mufom_image_bytes.specs.declared.chunk.Chunk.{Chunk};
+ghost use Rattle.mufom_image_bytes.specs.Chunks.{addresses_of, AreConsecutive};
 ghost use Rattle.mufom_image_bytes.specs.Loaded.{loaded_cells, IsTiled};
-ghost use Rattle.mufom_image_bytes.specs.Shared.{AreRisingFrom};
+ghost use Rattle.mufom_image_bytes.specs.Shared.{shares_from, AreRisingFrom};
 ghost use Rattle.mufom_image_bytes.specs.Walks.{HasNarrowItems};
-ghost use Rattle.mufom_image_bytes.specs.Images.{AreLow, IsImage, IsRefusal, IsImageOf, IsRefusalOf};
+ghost use Rattle.mufom_image_bytes.specs.Images.{IsImage, IsRefusal, IsImageOf, IsRefusalOf};
 
 use crate::chunk::Chunk;
 use crate::doubles::first_double;
@@ -36,6 +36,19 @@ fn sort_by_address(chunks: &mut Vec<Chunk>)
     chunks.sort_unstable_by_key(|chunk| chunk.address);
 }
 
+// The first byte that is loaded on another, and else what ended the loads. The chunks go by address.
+fn first_stop(chunks: &[Chunk], count: usize, stop: Option<Stop>) -> Option<Stop>
+    requires { AreRisingFrom 0 chunks.now }
+    ensures stop { (loaded : list Chunk) → IsPermutation loaded chunks.now → AreConsecutive 0 loaded count → ((a : ℕ) → Contains (addresses_of loaded) a → a < 2 ^ 64) → option_map fact_of result ≡ (first_twice [] (addresses_of loaded) or_else option_map fact_of stop) }
+    ensures apart { result ≡ None → shares_from count 0 chunks.now ≡ false }
+    ensures ended { result ≡ None → stop ≡ None }
+{
+    match first_double(chunks, count) {
+        Some(address) => Some(Stop::Twice { address }),
+        None => stop,
+    }
+}
+
 // The rows of loaded bytes, or what keeps them from being an image.
 fn assembled(
     alloc: Global,
@@ -48,13 +61,10 @@ fn assembled(
 {
     let (mut chunks, bytes) = loaded.finish()?;
     sort_by_address(&mut chunks);
-    if let Some(address) = first_double(&chunks, bytes.len()) {
-        return Err(ImageRefusal::Stopped(Stop::Twice { address }));
+    match first_stop(&chunks, bytes.len(), stop) {
+        Some(stop) => Err(ImageRefusal::Stopped(stop)),
+        None => Ok(maximal_rows(alloc, &chunks, &bytes)?),
     }
-    if let Some(stop) = stop {
-        return Err(ImageRefusal::Stopped(stop));
-    }
-    Ok(maximal_rows(alloc, &chunks, &bytes)?)
 }
 
 /// The image of the loads of a module, in maximal rows of addresses, or the first thing that keeps

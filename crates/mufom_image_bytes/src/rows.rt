@@ -4,7 +4,7 @@ ghost use Rattle.std.specs.Prelude.{◌≡◌, ◌+◌, ◌≤◌, length, IfOk}
 ghost use Rattle.std.specs.List.{All};
 ghost use Rattle.mufom_meaning.specs.AddressMap.{run_cells, AreApart};
 ghost use Rattle.mufom_image_bytes.specs.Chunks.{cells_of_chunks};
-ghost use Rattle.mufom_image_bytes.specs.Spread.{AreSpread, IsAmong, neighbours as neighbours_of, bytes_of_chunks};
+ghost use Rattle.mufom_image_bytes.specs.Spread.{AreSpread, IsAmong, first_row, bytes_of_chunks};
 
 use crate::chunk::Chunk;
 use mufom_meaning::Run;
@@ -18,15 +18,15 @@ fn end_of(chunk: &Chunk) -> u128
     chunk.address as u128 + chunk.count as u128
 }
 
-// How many of the chunks go on at `end`, each at the end of the one before it.
-fn neighbours(end: u128, chunks: &[Chunk]) -> usize
-    ensures count { result ≡ neighbours_of end chunks.now }
+// How many chunks the first row has: the first chunk, and those that go on where the one before ends.
+fn row_count(chunks: &[Chunk]) -> usize
+    ensures count { result ≡ first_row chunks.now }
     ensures within { result ≤ length chunks.now }
 {
-    let mut end = end;
+    let mut end: u128 = 0;
     let mut count = 0;
     for chunk in chunks {
-        if chunk.address as u128 != end {
+        if count > 0 && chunk.address as u128 != end {
             break;
         }
         end = end_of(chunk);
@@ -65,13 +65,13 @@ pub fn maximal_rows(alloc: Global, chunks: &[Chunk], bytes: &[u8]) -> Result<Lis
 {
     let mut runs = List::new(alloc);
     let mut rest = chunks;
-    while let [first, more @ ..] = rest {
-        let count = neighbours(end_of(first), more);
+    while let [first, ..] = rest {
+        let (row, after) = rest.split_at(row_count(rest));
         runs.push(Run {
             address: first.address,
-            bytes: List::from_vec(joined(alloc, &rest[..count + 1], bytes)?),
+            bytes: List::from_vec(joined(alloc, row, bytes)?),
         })?;
-        rest = &more[count..];
+        rest = after;
     }
     Ok(runs)
 }
