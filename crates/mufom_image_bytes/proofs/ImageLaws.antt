@@ -107,9 +107,9 @@ module _ (layout : Layout) (worth : WorthAt) (loads : List Load) (high : layout.
     first = record {
       count = length-map layout.bases.now (λ base. base % 2 ^ layout.width) ∙ ap length (sym h.laid_out.bases);
       residues = λ n less.
-        get_mapped (λ base. base % 2 ^ layout.width) layout.bases.now n (let same = ap length h.laid_out.bases in omega (arith, same, less))
-        ∙ ap (λ m. get_or layout.bases.now n 0 % m) (sym h.laid_out.modulus)
-        ∙ ap (λ bases. get_or bases n 0 % s.modulus) (sym h.laid_out.bases);
+          get_mapped (λ base. base % 2 ^ layout.width) layout.bases.now n (let same = ap length h.laid_out.bases in omega (arith, same, less))
+          ∙ ap (λ m. get_or layout.bases.now n 0 % m) (sym h.laid_out.modulus)
+          ∙ ap (λ bases. get_or bases n 0 % s.modulus) (sym h.laid_out.bases);
     }
 
     walk : (steps_fact s [] (steps_of site None loads) ≡ (first_twice [] (cell_addresses outcome.0.cells) or_else outcome.1))
@@ -129,9 +129,10 @@ module _ (layout : Layout) (worth : WorthAt) (loads : List Load) (high : layout.
   image_there cells stop runs e f i = λ s site h.
       let w = walk s site h in
       let lowest = subst AreLow (sym e) (low s site h) in
-      let none : outcome.1 ≡ None = sym f ∙ i.ended in
-      (w.0 ∙ ap (λ all. first_twice [] (cell_addresses all) or_else outcome.1) (sym e) ∙ ap (λ o. o or_else outcome.1) (i.single lowest) ∙ none,
-       subst (λ all. AreRowsOf all runs) (e ∙ w.1 none) i.rows)
+      let none : outcome.1 ≡ None = sym f ∙ i.ended in (
+        w.0 ∙ ap (λ all. first_twice [] (cell_addresses all) or_else outcome.1) (sym e) ∙ ap (λ o. o or_else outcome.1) (i.single lowest) ∙ none,
+        subst (λ all. AreRowsOf all runs) (e ∙ w.1 none) i.rows,
+      )
 
   pub refusal_there : (cells : List Cell) (stop : Option LocateFact) (refusal : ImageRefusal) → cells ≡ outcome.0.cells → stop ≡ outcome.1 → IsRefusal cells stop refusal → IsRefusalOf layout worth loads refusal
   refusal_there cells stop refusals.NoMemory e f i = tt {0}

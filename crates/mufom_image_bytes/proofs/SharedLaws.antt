@@ -324,7 +324,7 @@ shared_chunks k (c ∷ chunks) rise e =
       by_part zero part g same later = let there = same g in let two = there.1 in (there.0, omega (arith, two))
       by_part (suc n) part g same later =
           let there = later (ap (λ b. if b then true else shares_from k (c.address + part_of k c) chunks) (sym (none_below c.address))
-            ∙ ap (λ b. if b then shares_from k 0 chunks else (if nat_lt c.address 0 then true else shares_from k (c.address + part_of k c) chunks)) (sym (not_zero n)) ∙ g) in
+          ∙ ap (λ b. if b then shares_from k 0 chunks else (if nat_lt c.address 0 then true else shares_from k (c.address + part_of k c) chunks)) (sym (not_zero n)) ∙ g) in
           (there.0, there.1)
 
 -- of no bytes none share an address

@@ -134,15 +134,15 @@ row_step bytes chunks c more runs run h address row =
     let free = push.1 in
     let from : c.address + c.count + length next + 1 ≡ free_after 0 (runs ++ run ∷ []) = omega (arith, free, address, long) in
     let row_is : cells_from run.address run.bytes ≡ cells_of_chunks bytes (take (suc n) (c ∷ more)) =
-        ap (λ a. cells_from a run.bytes) address ∙ ap (cells_from c.address) row ∙ row_of_first bytes c more h.among in
+    ap (λ a. cells_from a run.bytes) address ∙ ap (cells_from c.address) row ∙ row_of_first bytes c more h.among in
     record {
       spread = subst (λ k. AreSpread k (drop n more)) from (after_row bytes (c.address + c.count) more (All-tail (IsAmong bytes) c more h.among) h.spread.2);
       among = All-dropped (IsAmong bytes) n more (All-tail (IsAmong bytes) c more h.among);
       apart = push.0;
       cells = ap (λ cells. cells ++ cells_of_chunks bytes (drop n more)) (run_cells-push runs run ∙ ap (λ cells. run_cells runs ++ cells) row_is)
-        ∙ append_assoc (run_cells runs) (cells_of_chunks bytes (take (suc n) (c ∷ more))) (cells_of_chunks bytes (drop n more))
-        ∙ ap (λ cells. run_cells runs ++ cells) (cells-split bytes (suc n) (c ∷ more))
-        ∙ h.cells;
+          ∙ append_assoc (run_cells runs) (cells_of_chunks bytes (take (suc n) (c ∷ more))) (cells_of_chunks bytes (drop n more))
+          ∙ ap (λ cells. run_cells runs ++ cells) (cells-split bytes (suc n) (c ∷ more))
+          ∙ h.cells;
     }
 
 -- the first row of what is left
@@ -210,7 +210,8 @@ cells_permuted bytes xs ys permuted cell h =
 pub rising_chunks : (low : ℕ) (chunks : List Chunk) → ((i j : ℕ) (d : Chunk) → i ≤ j → j < length chunks → (get_or chunks i d).address ≤ (get_or chunks j d).address)
     → ((d : Chunk) → 0 < length chunks → low ≤ (get_or chunks 0 d).address) → AreRisingFrom low chunks
 rising_chunks low [] up first = tt {0}
-rising_chunks low (c ∷ chunks) up first =
-    (first c (omega arith),
-     rising_chunks c.address chunks (λ i j d le less. up (suc i) (suc j) d (omega (arith, le)) (omega (arith, less)))
-       (λ d some. up 0 1 d (omega arith) (omega (arith, some))))
+rising_chunks low (c ∷ chunks) up first = (
+  first c (omega arith),
+  rising_chunks c.address chunks (λ i j d le less. up (suc i) (suc j) d (omega (arith, le)) (omega (arith, less)))
+      (λ d some. up 0 1 d (omega arith) (omega (arith, some))),
+)

@@ -63,7 +63,7 @@ module _ (s : Setting) (layout : Layout) (worth : WorthAt) (laid : IsLaidOut s l
           let rest = later q (taken.agrees refl) in record {
             facts = taken.facts (steps_fact s (step ∷ earlier) steps) ∙ rest.facts;
             cells = λ none. rest.cells none ∙ ap (λ cells. cells ++ address_map layout.order s.modulus (readings_after s (step ∷ earlier) steps)) (taken.cells refl)
-              ∙ append_assoc p.cells (step_cells layout.order s.modulus (step_reading s earlier step)) (address_map layout.order s.modulus (readings_after s (step ∷ earlier) steps));
+                ∙ append_assoc p.cells (step_cells layout.order s.modulus (step_reading s earlier step)) (address_map layout.order s.modulus (readings_after s (step ∷ earlier) steps));
             low = λ h. rest.low (taken.low h);
           }
       by_fact q (Some fact) taken = record {
@@ -134,7 +134,7 @@ module _ (s : Setting) (layout : Layout) (worth : WorthAt) (laid : IsLaidOut s l
     loads_as_steps current (SetPc section t ∷ loads) p =
         ap (λ n. let first = counter_outcome n (worth (get_or p.counters n 0) t) p in continued first.0 first.1 (λ q. steps_outcome (steps_of site current loads) q)) (at_home section)
         ∙ same_after (counter_outcome section (worth (get_or p.counters section 0) t) p).0 (counter_outcome section (worth (get_or p.counters section 0) t) p).1
-          (λ q. steps_outcome (steps_of site current loads) q) (λ q. loads_outcome layout worth current loads q) (λ q. loads_as_steps current loads q)
+        (λ q. steps_outcome (steps_of site current loads) q) (λ q. loads_outcome layout worth current loads q) (λ q. loads_as_steps current loads q)
     loads_as_steps current (One item ∷ loads) p = items_then current (item ∷ []) (steps_of site current loads) (λ q. loads_outcome layout worth current loads q) p (λ q. loads_as_steps current loads q)
     loads_as_steps current (Repeat count items ∷ loads) p =
         ap (λ steps. steps_outcome (steps ++ steps_of site current loads) p) (repeated_steps current count items)
@@ -202,8 +202,9 @@ walked s site layout worth loads counters h positive first =
     let laid = h.laid_out in
     let steps = steps_of site None loads in
     let walk = walk_is s layout worth laid [] steps (progress_at_first counters) (first_agrees s layout worth laid counters positive first)
-        (plain_loads s layout worth laid site h.at_first None (tt {0}) loads h.plain) in
-    let same = loads_as_steps s layout worth laid site h.at_first None loads (progress_at_first counters) in
-    (walk.facts ∙ ap (λ (o : Outcome). first_twice [] (addresses o.0.cells) or_else o.1) same,
-     λ none. sym (ap (λ (o : Outcome). o.0.cells) same) ∙ walk.cells (ap (λ (o : Outcome). o.1) same ∙ none),
-     λ a there. walk.low (λ b none. absurd none) a (subst (λ (o : Outcome). In a (addresses o.0.cells)) (sym same) there))
+    (plain_loads s layout worth laid site h.at_first None (tt {0}) loads h.plain) in
+    let same = loads_as_steps s layout worth laid site h.at_first None loads (progress_at_first counters) in (
+      walk.facts ∙ ap (λ (o : Outcome). first_twice [] (addresses o.0.cells) or_else o.1) same,
+      λ none. sym (ap (λ (o : Outcome). o.0.cells) same) ∙ walk.cells (ap (λ (o : Outcome). o.1) same ∙ none),
+      λ a there. walk.low (λ b none. absurd none) a (subst (λ (o : Outcome). In a (addresses o.0.cells)) (sym same) there),
+    )

@@ -214,7 +214,7 @@ module _ (s : Setting) (layout : Layout) (worth : WorthAt) (laid : IsLaidOut s l
         agrees = λ none. absurd (let gone : ◌≡◌ {A = Option LocateFact} (Some (zero_divisor (sites.Counter section))) None = none in cc);
         cells = λ none. absurd (let gone : ◌≡◌ {A = Option LocateFact} (Some (zero_divisor (sites.Counter section))) None = none in cc);
         facts = λ rest. ap (λ c. first_twice [] (addresses p.cells) or_else (zero_divisor_at s site c t (sites.Counter section) or_else rest)) counter_is
-          ∙ ap (λ b. first_twice [] (addresses p.cells) or_else ((if b then Some (zero_divisor (sites.Counter section)) else None) or_else rest)) (w.divides at (sym e));
+            ∙ ap (λ b. first_twice [] (addresses p.cells) or_else ((if b then Some (zero_divisor (sites.Counter section)) else None) or_else rest)) (w.divides at (sym e));
         low = λ h. h;
       }
       by_value (Some v) e = record {
@@ -226,7 +226,7 @@ module _ (s : Setting) (layout : Layout) (worth : WorthAt) (laid : IsLaidOut s l
         };
         cells = λ none. sym (append-nil p.cells);
         facts = λ rest. ap (λ c. first_twice [] (addresses p.cells) or_else (zero_divisor_at s site c t (sites.Counter section) or_else rest)) counter_is
-          ∙ ap (λ b. first_twice [] (addresses p.cells) or_else ((if b then Some (zero_divisor (sites.Counter section)) else None) or_else rest)) whole;
+            ∙ ap (λ b. first_twice [] (addresses p.cells) or_else ((if b then Some (zero_divisor (sites.Counter section)) else None) or_else rest)) whole;
         low = λ h. h;
       } where
         not_zero : (b : Bool) → has_zero_divisor s site (Some at) t ≡ b → b ≡ false
@@ -239,7 +239,7 @@ module _ (s : Setting) (layout : Layout) (worth : WorthAt) (laid : IsLaidOut s l
         moved : (n : ℕ) → n < length s.bases → (b : Bool) → (section == n) ≡ b
             → (if section == n then value s site (counter s earlier n) t else counter s earlier n) ≡ Some (get_or (set p.counters section v) n 0)
         moved n less true f = ap (λ c. if c then value s site (counter s earlier n) t else counter s earlier n) f ∙ ap (λ k. value s site (counter s earlier k) t) (sym (equal_numbers section n f))
-          ∙ known (Some v) e (Some v) refl ∙ ap Some (sym (other_counter p.counters section n v in_counters true f))
+            ∙ known (Some v) e (Some v) refl ∙ ap Some (sym (other_counter p.counters section n v in_counters true f))
         moved n less false f = ap (λ c. if c then value s site (counter s earlier n) t else counter s earlier n) f ∙ h.counters n less ∙ ap Some (sym (other_counter p.counters section n v in_counters false f))
 
         under : (n : ℕ) → n < length s.bases → (b : Bool) → (section == n) ≡ b → get_or (set p.counters section v) n 0 < s.modulus
@@ -287,7 +287,7 @@ module _ (s : Setting) (layout : Layout) (worth : WorthAt) (laid : IsLaidOut s l
       agrees = λ none. absurd (let gone : ◌≡◌ {A = Option LocateFact} (Some fact) None = none in cc);
       cells = λ none. absurd (let gone : ◌≡◌ {A = Option LocateFact} (Some fact) None = none in cc);
       facts = λ rest. ap (λ o. first_twice [] (addresses p.cells) or_else (o or_else rest)) (item_step_facts item)
-        ∙ ap (λ o. first_twice [] (addresses p.cells) or_else ((o or_else (first_twice (loaded_addresses s earlier) (addresses_at s.modulus (Some at) item) or_else field_fact s site section at item)) or_else rest))
+          ∙ ap (λ o. first_twice [] (addresses p.cells) or_else ((o or_else (first_twice (loaded_addresses s earlier) (addresses_at s.modulus (Some at) item) or_else field_fact s site section at item)) or_else rest))
           (sym (outside_same at (byte_count item)) ∙ e);
       low = λ h. h;
     } where
@@ -306,13 +306,13 @@ module _ (s : Setting) (layout : Layout) (worth : WorthAt) (laid : IsLaidOut s l
         members = members_after;
       };
       cells = λ none. ap (λ new. p.cells ++ new) (item_cells site section at item w none)
-        ∙ ap (λ c. p.cells ++ step_cells layout.order s.modulus (item_reading s site section c item)) (sym counter_is);
+          ∙ ap (λ c. p.cells ++ step_cells layout.order s.modulus (item_reading s site section c item)) (sym counter_is);
       facts = λ rest. ap (λ o. first_twice [] (addresses p.cells) or_else (o or_else rest)) (item_step_facts item)
-        ∙ ap (λ o. first_twice [] (addresses p.cells) or_else ((o or_else (first_twice (loaded_addresses s earlier) (addresses_at s.modulus (Some at) item) or_else field_fact s site section at item)) or_else rest)) clear
-        ∙ twice_later (addresses p.cells) (addresses_at s.modulus (Some at) item) (loaded_addresses s earlier) (field_fact s site section at item) rest h.members
-        ∙ ap (λ new. first_twice [] (addresses p.cells ++ new) or_else (field_fact s site section at item or_else rest)) new_addresses
-        ∙ ap (λ all. first_twice [] all or_else (field_fact s site section at item or_else rest)) (sym (map-append (λ (cell : Cell). cell.0) p.cells (cells_from at found.0)))
-        ∙ ap (λ o. first_twice [] (addresses (p.cells ++ cells_from at found.0)) or_else (o or_else rest)) (sym (item_facts site section at item w));
+          ∙ ap (λ o. first_twice [] (addresses p.cells) or_else ((o or_else (first_twice (loaded_addresses s earlier) (addresses_at s.modulus (Some at) item) or_else field_fact s site section at item)) or_else rest)) clear
+          ∙ twice_later (addresses p.cells) (addresses_at s.modulus (Some at) item) (loaded_addresses s earlier) (field_fact s site section at item) rest h.members
+          ∙ ap (λ new. first_twice [] (addresses p.cells ++ new) or_else (field_fact s site section at item or_else rest)) new_addresses
+          ∙ ap (λ all. first_twice [] all or_else (field_fact s site section at item or_else rest)) (sym (map-append (λ (cell : Cell). cell.0) p.cells (cells_from at found.0)))
+          ∙ ap (λ o. first_twice [] (addresses (p.cells ++ cells_from at found.0)) or_else (o or_else rest)) (sym (item_facts site section at item w));
       low = λ h a there. by_side a h (In-append a (addresses p.cells) (addresses (cells_from at found.0)) (subst (λ all. In a all) (map-append (λ (cell : Cell). cell.0) p.cells (cells_from at found.0)) there));
     } where
       at : ℕ
@@ -384,11 +384,11 @@ module _ (s : Setting) (layout : Layout) (worth : WorthAt) (laid : IsLaidOut s l
 
     counted_taken : (item : Item) → IsPlainItem s worth site item → (count : ℕ) → byte_count item ≡ count
         → IsTaken earlier (item_step site section item) p
-          (if count == 0 then (p, None) else placed_outcome layout worth section (get_or p.counters section 0) item (outside_in layout section (get_or p.counters section 0) (byte_count item)) p)
+        (if count == 0 then (p, None) else placed_outcome layout worth section (get_or p.counters section 0) item (outside_in layout section (get_or p.counters section 0) (byte_count item)) p)
     counted_taken item w zero e = empty_taken item w e
     counted_taken item w (suc k) e =
         subst (λ b. IsTaken earlier (item_step site section item) p
-          (if b then (p, None) else placed_outcome layout worth section (get_or p.counters section 0) item (outside_in layout section (get_or p.counters section 0) (byte_count item)) p)) (sym (some k))
+        (if b then (p, None) else placed_outcome layout worth section (get_or p.counters section 0) item (outside_in layout section (get_or p.counters section 0) (byte_count item)) p)) (sym (some k))
         (placed_taken item w k e (outside_in layout section (get_or p.counters section 0) (byte_count item)) refl) where
           some : (k : ℕ) → (suc k == 0) ≡ false
           some k = grind arith

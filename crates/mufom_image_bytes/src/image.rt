@@ -50,11 +50,7 @@ fn first_stop(chunks: &[Chunk], count: usize, stop: Option<Stop>) -> Option<Stop
 }
 
 // The rows of loaded bytes, or what keeps them from being an image.
-fn assembled(
-    alloc: Global,
-    loaded: Loaded,
-    stop: Option<Stop>,
-) -> Result<List<Run>, ImageRefusal>
+fn assembled(alloc: Global, loaded: Loaded, stop: Option<Stop>) -> Result<List<Run>, ImageRefusal>
     requires { IsTiled loaded }
     ensures image { IfOk result (λ runs. IsImage (loaded_cells loaded) (option_map fact_of stop) runs) }
     ensures refusal { IfErr result (λ refusal. IsRefusal (loaded_cells loaded) (option_map fact_of stop) refusal) }

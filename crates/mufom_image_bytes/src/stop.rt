@@ -4,11 +4,19 @@ use mufom_expr::FieldKind;
 #[derive(Clone, Copy, Debug)]
 pub enum Stop {
     /// A load that sets the program counter of a section divides by 0.
-    Counter { section: u32 },
+    Counter {
+        section: u32,
+    },
     /// A field divides by 0.
-    Field { section: u32, address: u64 },
+    Field {
+        section: u32,
+        address: u64,
+    },
     /// A byte lies outside its section, at an address modulo the address space.
-    Outside { section: u32, address: u64 },
+    Outside {
+        section: u32,
+        address: u64,
+    },
     /// A value does not fit its field of `size` bytes.
     Overflow {
         section: u32,
@@ -18,5 +26,7 @@ pub enum Stop {
         value: u64,
     },
     /// A byte is loaded on another.
-    Twice { address: u64 },
+    Twice {
+        address: u64,
+    },
 }

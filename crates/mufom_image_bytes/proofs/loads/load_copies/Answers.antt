@@ -14,8 +14,8 @@ pub loop-preserved : goal.loop-preserved
 loop-preserved g c = record {
   tiled = c.in_ok-stop.ensures.tiled;
   outcome = copies_go c.args.layout.now (g.V.Values.meaning c.args.values.now c.args.layout.now.width) c.args.section (map (λ item. item.now) c.args.items.now) c.args.count c.loop.counter
-    (progress_of c.args.walk.now) (progress_of c.loop.walk) (progress_of c.load_items.new.walk) c.in_ok-stop.stop c.loop-test.true (sym c.is_some.ensures ∙ c.if-is_some.false)
-    c.loop.invariant.outcome c.in_ok-stop.ensures.outcome;
+      (progress_of c.args.walk.now) (progress_of c.loop.walk) (progress_of c.load_items.new.walk) c.in_ok-stop.stop c.loop-test.true (sym c.is_some.ensures ∙ c.if-is_some.false)
+      c.loop.invariant.outcome c.in_ok-stop.ensures.outcome;
 }
 
 pub returns-then-is_empty-clause-outcome : goal.returns-then-is_empty-clause-outcome

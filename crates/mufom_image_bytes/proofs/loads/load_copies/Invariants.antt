@@ -9,5 +9,5 @@ abbrev pub invariant-loop : goal.invariant-loop
 invariant-loop g l = let worth = g.V.Values.meaning l.values l.layout.width in record {
   tiled : IsTiled l.walk.loaded;
   outcome : items_outcome l.layout worth l.section (repeated l.count (map (λ item. item.now) l.items)) (progress_of l.fn.walk)
-    ≡ items_outcome l.layout worth l.section (repeated (l.count - l.counter) (map (λ item. item.now) l.items)) (progress_of l.walk);
+      ≡ items_outcome l.layout worth l.section (repeated (l.count - l.counter) (map (λ item. item.now) l.items)) (progress_of l.walk);
 }

@@ -8,5 +8,5 @@ abbrev pub invariant-loop-item : goal.invariant-loop-item
 invariant-loop-item g l = let worth = g.V.Values.meaning l.values l.layout.width in record {
   tiled : IsTiled l.walk.loaded;
   outcome : items_outcome l.layout worth l.section (map (λ item. item.now) l.items) (progress_of l.fn.walk)
-    ≡ items_outcome l.layout worth l.section (map (λ item. item.now) (drop l.item-index l.items)) (progress_of l.walk);
+      ≡ items_outcome l.layout worth l.section (map (λ item. item.now) (drop l.item-index l.items)) (progress_of l.walk);
 }

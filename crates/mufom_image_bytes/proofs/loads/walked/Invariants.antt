@@ -8,5 +8,5 @@ abbrev pub invariant-loop-load : goal.invariant-loop-load
 invariant-loop-load g l = let worth = g.V.Values.meaning l.values l.layout.width in record {
   tiled : IsTiled l.walk.loaded;
   outcome : loads_outcome l.layout worth None l.loads (progress_at_first (first_counters l.layout))
-    ≡ loads_outcome l.layout worth l.current (drop l.load-index l.loads) (progress_of l.walk);
+      ≡ loads_outcome l.layout worth l.current (drop l.load-index l.loads) (progress_of l.walk);
 }
