@@ -8,3 +8,4 @@ pub mod ChunkLaws
 pub mod OutcomeLaws
 pub mod SpreadLaws
 pub mod ImageLaws
+pub mod ModuleLaws

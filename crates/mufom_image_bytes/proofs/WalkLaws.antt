@@ -1,8 +1,6 @@
 -- The walk by places and values is the walk of the definitions.
 use Rattle.std.proofs.Common.{◌≡◌, ℕ, zero, suc, ◌+◌, ◌<◌, List, [], ◌∷◌, ◌++◌, map, length, get_or, Option, Some, None, refl, sym, ◌∙◌, ap, subst, arith, append-nil, append_assoc}
 use Rattle.std.specs.Prelude.{◌%◌, ◌^◌, option_map, slice_get, flat_map}
-use Rattle.std.specs.List.{All}
-use Rattle.std.proofs.lemmas.List.Elements.{All-head, All-tail}
 use Rattle.mufom_expr.specs.Tree.{Tree}
 use Rattle.mufom_loads.specs.declared.load.Item.{Item}
 use Rattle.mufom_loads.specs.declared.load.Item.TheVariants.{Literal, Field}
@@ -13,6 +11,7 @@ use Rattle.mufom_place.specs.Facts.{◌or_else◌}
 use Rattle.mufom_meaning.specs.AddressMap.{Cell, step_cells, address_map}
 use Rattle.mufom_meaning.specs.Facts.{LocateFact}
 use Rattle.mufom_meaning.specs.Flat.{Sited}
+use Rattle.mufom_meaning.specs.Stands.{StandsIn}
 use Rattle.mufom_meaning.specs.Steps.{Step, counter_step, item_step, counter, item_steps, steps_of, step_reading, readings_after}
 use Rattle.mufom_meaning.specs.Values.{Setting}
 use Rattle.mufom_meaning.specs.Walk.{first_twice, steps_fact, has_number, loaded_addresses}
@@ -20,8 +19,8 @@ use Rattle.mufom_meaning.proofs.Members.{In}
 use Rattle.mufom_meaning.proofs.Unfolding.{counter-none}
 use Rattle.mufom_image_bytes.specs.declared.layout.Layout.{Layout}
 use Rattle.mufom_image_bytes.specs.Chunks.{cell_addresses as addresses}
-use Rattle.mufom_image_bytes.specs.Outcomes.{WorthAt, Progress, Outcome, continued, item_outcome, items_outcome, current_outcome, counter_outcome, load_outcome, current_after, loads_outcome, progress_at_first}
-use Rattle.mufom_image_bytes.specs.Walked.{IsLaidOut, HasWorth, IsPlainItem, IsPlainLoad, AreWalked}
+use Rattle.mufom_image_bytes.specs.Outcomes.{WorthAt, Progress, Outcome, continued, item_outcome, items_outcome, current_outcome, counter_outcome, load_outcome, loads_outcome, progress_at_first}
+use Rattle.mufom_image_bytes.specs.Walked.{IsLaidOut, HasWorth, IsPlainItem, IsPlainStep, AreWalked}
 use Rattle.mufom_image_bytes.proofs.WalkSteps.{Agrees, IsTaken, counter_taken, item_taken, or_else-assoc}
 
 module _ (s : Setting) (layout : Layout) (worth : WorthAt) (laid : IsLaidOut s layout) where
@@ -33,15 +32,11 @@ module _ (s : Setting) (layout : Layout) (worth : WorthAt) (laid : IsLaidOut s l
   steps_outcome [] p = (p, None)
   steps_outcome (step ∷ steps) p = let first = step_outcome step p in continued first.0 first.1 (λ q. steps_outcome steps q)
 
-  abbrev IsPlainStep : Step → Type 0
-  IsPlainStep (counter_step site section t) = (section < length s.bases) × HasWorth s worth site t
-  IsPlainStep (item_step site section item) = (section < length s.bases) × IsPlainItem s worth site item
-
   abbrev ArePlain : List Step → Type 0
   ArePlain [] = Unit {0}
-  ArePlain (step ∷ steps) = IsPlainStep step × ArePlain steps
+  ArePlain (step ∷ steps) = IsPlainStep s worth step × ArePlain steps
 
-  step_taken : (earlier : List Step) (p : Progress) → Agrees s layout worth laid earlier p → (step : Step) → IsPlainStep step → IsTaken s layout worth laid earlier step p (step_outcome step p)
+  step_taken : (earlier : List Step) (p : Progress) → Agrees s layout worth laid earlier p → (step : Step) → IsPlainStep s worth step → IsTaken s layout worth laid earlier step p (step_outcome step p)
   step_taken earlier p h (counter_step site section t) w = counter_taken s layout worth laid earlier p h site section w.0 t w.1
   step_taken earlier p h (item_step site section item) w = item_taken s layout worth laid earlier p h site section w.0 item w.1
 
@@ -83,9 +78,9 @@ module _ (s : Setting) (layout : Layout) (worth : WorthAt) (laid : IsLaidOut s l
     by_fact q None later = later q
     by_fact q (Some fact) later = refl
 
-  plain-append : (xs ys : List Step) → ArePlain xs → ArePlain ys → ArePlain (xs ++ ys)
-  plain-append [] ys a b = b
-  plain-append (x ∷ xs) ys a b = (a.0, plain-append xs ys a.1 b)
+  plain_steps : (steps : List Step) → ((step : Step) → StandsIn step steps → IsPlainStep s worth step) → ArePlain steps
+  plain_steps [] h = tt {0}
+  plain_steps (step ∷ steps) h = (h step (0, refl), plain_steps steps (λ other there. h other (suc there.0, there.1)))
 
   module _ (site : Sited) (home : site.first_section ≡ 0) where
     at_home : (n : ℕ) → site.first_section + n ≡ n
@@ -140,37 +135,6 @@ module _ (s : Setting) (layout : Layout) (worth : WorthAt) (laid : IsLaidOut s l
         ap (λ steps. steps_outcome (steps ++ steps_of site current loads) p) (repeated_steps current count items)
         ∙ items_then current (repeated count items) (steps_of site current loads) (λ q. loads_outcome layout worth current loads q) p (λ q. loads_as_steps current loads q)
 
-    -- ---- the steps of plain loads are plain
-
-    abbrev IsThere : Option ℕ → Type 0
-    IsThere None = Unit {0}
-    IsThere (Some section) = section < length s.bases
-
-    plain_items : (current : Option ℕ) → IsThere current → (items : List Item) → All (IsPlainItem s worth site) items → ArePlain (item_steps site current items)
-    plain_items None there items plain = tt {0}
-    plain_items (Some section) there [] plain = tt {0}
-    plain_items (Some section) there (item ∷ items) plain =
-        let same = at_home section in
-        ((omega (arith, same, there), All-head (IsPlainItem s worth site) item items plain), plain_items (Some section) there items (All-tail (IsPlainItem s worth site) item items plain))
-
-    plain_item : (current : Option ℕ) → IsThere current → (item : Item) → IsPlainItem s worth site item → ArePlain (item_steps site current (item ∷ []))
-    plain_item None there item plain = tt {0}
-    plain_item (Some section) there item plain = let same = at_home section in ((omega (arith, same, there), plain), tt {0})
-
-    plain_repeated : (count : ℕ) (steps : List Step) → ArePlain steps → ArePlain (repeated count steps)
-    plain_repeated zero steps plain = tt {0}
-    plain_repeated (suc n) steps plain = plain-append steps (repeated n steps) plain (plain_repeated n steps plain)
-
-    plain_loads : (current : Option ℕ) → IsThere current → (loads : List Load) → All (IsPlainLoad s worth site) loads → ArePlain (steps_of site current loads)
-    plain_loads current there [] plain = tt {0}
-    plain_loads current there (load ∷ loads) plain = by_load load (All-head (IsPlainLoad s worth site) load loads plain) (λ later h. plain_loads later h loads (All-tail (IsPlainLoad s worth site) load loads plain)) where
-      by_load : (load : Load) → IsPlainLoad s worth site load → ((later : Option ℕ) → IsThere later → ArePlain (steps_of site later loads)) → ArePlain (steps_of site current (load ∷ loads))
-      by_load (SetSection section) h rest = rest (Some section) h
-      by_load (SetPc section t) h rest = let same = at_home section in ((omega (arith, same, h.0), h.1), rest current there)
-      by_load (One item) h rest = plain-append (item_steps site current (item ∷ [])) (steps_of site current loads) (plain_item current there item h) (rest current there)
-      by_load (Repeat count items) h rest =
-          plain-append (repeated count (item_steps site current items)) (steps_of site current loads) (plain_repeated count (item_steps site current items) (plain_items current there items h)) (rest current there)
-
 -- ---- the whole walk
 
 -- the counters before all loads are the residues of the bases
@@ -202,7 +166,7 @@ walked s site layout worth loads counters h positive first =
     let laid = h.laid_out in
     let steps = steps_of site None loads in
     let walk = walk_is s layout worth laid [] steps (progress_at_first counters) (first_agrees s layout worth laid counters positive first)
-    (plain_loads s layout worth laid site h.at_first None (tt {0}) loads h.plain) in
+    (plain_steps s layout worth laid steps h.plain) in
     let same = loads_as_steps s layout worth laid site h.at_first None loads (progress_at_first counters) in (
       walk.facts ∙ ap (λ (o : Outcome). first_twice [] (addresses o.0.cells) or_else o.1) same,
       λ none. sym (ap (λ (o : Outcome). o.0.cells) same) ∙ walk.cells (ap (λ (o : Outcome). o.1) same ∙ none),

@@ -7,3 +7,4 @@ pub mod Walks
 pub mod Shared
 pub mod Spread
 pub mod Images
+pub mod Modules

@@ -7,6 +7,7 @@ use Rattle.mufom_loads.specs.declared.load.Item.TheVariants.{Literal, Field}
 use Rattle.mufom_loads.specs.declared.load.Load.{Load}
 use Rattle.mufom_loads.specs.declared.load.Load.TheVariants.{SetSection, SetPc, One, Repeat}
 use Rattle.mufom_loads.specs.Lengths.{repeated, byte_count}
+use Rattle.mufom_module.specs.Contents.{current_after}
 use Rattle.mufom_place.specs.Facts.{first_some}
 use Rattle.mufom_meaning.specs.declared.located.Site.TheVariants as sites
 use Rattle.mufom_meaning.specs.AddressMap.{Cell, cells_from}
@@ -96,13 +97,6 @@ load_outcome layout worth current (SetSection section) p = (p, None)
 load_outcome layout worth current (SetPc section value) p = counter_outcome section (worth (slice_index p.counters section) value) p
 load_outcome layout worth current (One item) p = current_outcome layout worth current (item ∷ []) p
 load_outcome layout worth current (Repeat count items) p = current_outcome layout worth current (repeated count items) p
-
--- the current section after a load
-abbrev pub current_after : Option ℕ → Load → Option ℕ
-current_after current (SetSection section) = Some section
-current_after current (SetPc section value) = current
-current_after current (One item) = current
-current_after current (Repeat count items) = current
 
 -- the loads, one after another
 abbrev pub loads_outcome : Layout → WorthAt → Option ℕ → List Load → Progress → Outcome

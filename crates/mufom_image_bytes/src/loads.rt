@@ -3,10 +3,11 @@
 ghost use Rattle.std.specs.Prelude.{◌≡◌, ◌≤◌, ◌<◌, ◌^◌, map, filter, length, option_map, None, IfOk, OnOk};
 ghost use Rattle.std.specs.List.{All};
 ghost use Rattle.mufom_loads.specs.Lengths.{repeated};
+ghost use Rattle.mufom_module.specs.Contents.{current_after as current_section};
 ghost use Rattle.mufom_image_bytes.specs.Stops.{fact_of};
 ghost use Rattle.mufom_image_bytes.specs.Chunks.{cells_of_chunks, AreConsecutive};
 ghost use Rattle.mufom_image_bytes.specs.Loaded.{IsTiled};
-ghost use Rattle.mufom_image_bytes.specs.Outcomes.{items_outcome, current_outcome, counter_outcome, load_outcome, loads_outcome, progress_at_first, current_after as current_section};
+ghost use Rattle.mufom_image_bytes.specs.Outcomes.{items_outcome, current_outcome, counter_outcome, load_outcome, loads_outcome, progress_at_first};
 ghost use Rattle.mufom_image_bytes.specs.Walks.{progress_of, has_bytes, first_counters as base_residues, IsNarrow, HasNarrowItems};
 
 use crate::layout::Layout;
