@@ -204,8 +204,8 @@ module _ (m : Parts) (valid : IsValid m) (placed : Bases) (bases : List ℕ) (wo
     };
     at_first = refl;
     plain = λ step there.
-      let in_steps = In-at step (steps_of (home_of m) None m.loads) there.0 there.1 in
-      plain_step step (own_steps (home_of m) None m.loads (no_defect m valid d.FieldSize) step in_steps) (named.loads step (subst (In step) (sym all_steps) in_steps));
+        let in_steps = In-at step (steps_of (home_of m) None m.loads) there.0 there.1 in
+        plain_step step (own_steps (home_of m) None m.loads (no_defect m valid d.FieldSize) step in_steps) (named.loads step (subst (In step) (sym all_steps) in_steps));
   }
 
 pub module_image : (m : Parts) → IsValid m → (layout : Layout) (bases : List ℕ) (worth : WorthAt) → layout.width ≡ 8 * m.maus → layout.bases.now ≡ bases → layout.sections.now ≡ m.sections → layout.order ≡ m.order
@@ -213,13 +213,14 @@ pub module_image : (m : Parts) → IsValid m → (layout : Layout) (bases : List
 module_image m valid layout bases worth wide based sectioned ordered runs image = λ placed h.
     let s = setting (m ∷ []) placed in
     let there = image s (home_of m) (walked_so m valid placed bases worth h layout wide based sectioned) in
-    let same = all_steps m valid placed bases worth h in
-    (ap (steps_fact s []) same ∙ there.0,
-     subst (λ cells. AreRowsOf cells runs)
-       (ap (λ order. address_map order s.modulus (step_readings s (steps_of (home_of m) None m.loads))) ordered
-       ∙ ap (λ all. address_map m.order s.modulus (step_readings s all)) (sym same)
-       ∙ ap (address_map m.order s.modulus) (sym (readings-steps (m ∷ []) placed)))
-       there.1)
+    let same = all_steps m valid placed bases worth h in (
+      ap (steps_fact s []) same ∙ there.0,
+      subst (λ cells. AreRowsOf cells runs)
+          (ap (λ order. address_map order s.modulus (step_readings s (steps_of (home_of m) None m.loads))) ordered
+          ∙ ap (λ all. address_map m.order s.modulus (step_readings s all)) (sym same)
+          ∙ ap (address_map m.order s.modulus) (sym (readings-steps (m ∷ []) placed)))
+          there.1,
+    )
 
 pub module_refusal : (m : Parts) → IsValid m → (layout : Layout) (bases : List ℕ) (worth : WorthAt) → layout.width ≡ 8 * m.maus → layout.bases.now ≡ bases → layout.sections.now ≡ m.sections
     → (refusal : ImageRefusal) → IsRefusalOf layout worth m.loads refusal → IsRefusalOfModule m bases worth refusal

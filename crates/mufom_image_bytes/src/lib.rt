@@ -1,4 +1,9 @@
-//! The bytes that the loads of a module put at addresses.
+//! The image of a module: the bytes that its loads put at addresses, in maximal rows.
+//!
+//! [`image_of_module`] walks the loads once. It answers the rows, or the first thing that is met on the
+//! walk: a byte outside its section, a byte on another, a division by 0, or a value that does not fit
+//! its field. Expressions get their values from the caller, through [`Values`]. The crate stands on the
+//! crates of a module's values, and on `mufom_meaning`, whose definitions its contracts cite.
 #![tactic(auto)]
 
 mod chunk;
@@ -16,16 +21,12 @@ mod stop;
 mod values;
 mod walk;
 
-pub use chunk::Chunk;
-pub use doubles::first_double;
-pub use field::{field_number, fits, spelled};
 pub use image::image_of;
 pub use layout::Layout;
-pub use loaded::{Loaded, nothing_loaded};
 pub use module_image::image_of_module;
-pub use places::first_outside;
 pub use refusal::ImageRefusal;
-pub use rows::maximal_rows;
 pub use stop::Stop;
 pub use values::Values;
-pub use walk::{Walk, load_item};
+
+#[cfg(test)]
+mod tests;

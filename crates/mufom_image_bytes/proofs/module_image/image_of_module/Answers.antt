@@ -21,7 +21,7 @@ returns-clause-image g c =
     let loads = c.as_slice-2.ensures in
     IfOk-weaker c.image_of.result _ _
     (λ runs image. module_image m c.requires layout bases (worth (8 * m.maus)) wide refl c.as_slice.ensures refl runs
-      (subst (λ (x : ℕ × List Load). IsImageOf layout (worth x.0) x.1 runs) (λ i. (wide i, loads i)) image))
+    (subst (λ (x : ℕ × List Load). IsImageOf layout (worth x.0) x.1 runs) (λ i. (wide i, loads i)) image))
     c.image_of.ensures.image
 
 pub returns-clause-refusal : goal.returns-clause-refusal
@@ -34,5 +34,5 @@ returns-clause-refusal g c =
     let loads = c.as_slice-2.ensures in
     IfErr-weaker c.image_of.result _ _
     (λ refusal there. module_refusal m c.requires layout bases (worth (8 * m.maus)) wide refl c.as_slice.ensures refusal
-      (subst (λ (x : ℕ × List Load). IsRefusalOf layout (worth x.0) x.1 refusal) (λ i. (wide i, loads i)) there))
+    (subst (λ (x : ℕ × List Load). IsRefusalOf layout (worth x.0) x.1 refusal) (λ i. (wide i, loads i)) there))
     c.image_of.ensures.refusal
