@@ -1,21 +1,21 @@
 -- A row of neighbouring chunks is one run, and what follows it begins after an address that is free.
-use Rattle.std.proofs.Common.{◌≡◌, ◌≢◌, ℕ, zero, suc, ◌+◌, ◌-◌, ◌<◌, ◌≤◌, List, [], ◌∷◌, ◌++◌, length, get_or, take, drop, Bool, true, false, refl, sym, ◌∙◌, ap, subst, arith, append-nil, append_assoc, length-append}
+use Rattle.std.proofs.Common.{◌≡◌, ◌≢◌, ℕ, zero, suc, ◌+◌, ◌-◌, ◌<◌, ◌≤◌, List, [], ◌∷◌, ◌++◌, length, get_or, take, drop, Bool, true, false, inl, inr, refl, sym, ◌∙◌, ap, subst, arith, append-nil, append_assoc, length-append}
 use Rattle.std.specs.Prelude.{◌==◌, nat_lt, Contains, flat_map, if◌then◌else◌}
 use Rattle.std.specs.List.{All}
 use Rattle.std.specs.List.Sorted.{IsPermutation}
 use Rattle.std.proofs.lemmas.List.{map-append}
 use Rattle.std.proofs.lemmas.List.Elements.{All-head, All-tail, All-nil, All-cons}
-use Rattle.std.proofs.lemmas.List.Sorted.{Contains-permutation}
+use Rattle.std.proofs.lemmas.List.Sorted.{Contains-permutation, length_permutation}
 use Rattle.mufom_meaning.specs.declared.located.Run.{Run}
 use Rattle.mufom_meaning.specs.AddressMap.{Cell, cells_from, run_cells, AreApart}
 use Rattle.mufom_meaning.proofs.Choices.{equal_numbers, of_not_lt}
-use Rattle.mufom_meaning.proofs.Members.{In-Contains, Contains-In, In-flat_map, flat_map-In}
+use Rattle.mufom_meaning.proofs.Members.{In, In-Contains, Contains-In, In-flat_map, flat_map-In}
 use Rattle.mufom_meaning.specs.Walk.{counted_from}
 use Rattle.mufom_image_bytes.specs.declared.chunk.Chunk.{Chunk}
 use Rattle.mufom_image_bytes.specs.Chunks.{chunk_cells, cells_of_chunks, cell_addresses, chunk_addresses, addresses_of, AreConsecutive}
 use Rattle.mufom_image_bytes.specs.Shared.{part_of, shares_from, AreRisingFrom}
-use Rattle.mufom_image_bytes.specs.Spread.{AreSpread, IsAmong, neighbours, first_row, chunk_bytes, bytes_of_chunks, free_after}
-use Rattle.mufom_image_bytes.proofs.ChunkLaws.{cells_from-append, length_dropped, end_after_start}
+use Rattle.mufom_image_bytes.specs.Spread.{AreSpread, IsAmong, neighbours, first_row, chunk_bytes, bytes_of_chunks, free_after, HasAllBytes}
+use Rattle.mufom_image_bytes.proofs.ChunkLaws.{cells_from-append, take-all, length_dropped, end_after_start}
 use Rattle.mufom_image_bytes.proofs.WalkSteps.{addresses-from}
 
 take_length : (n : ℕ) (xs : List ℕ) → n ≤ length xs → length (take n xs) ≡ n
@@ -215,3 +215,38 @@ rising_chunks low (c ∷ chunks) up first = (
   rising_chunks c.address chunks (λ i j d le less. up (suc i) (suc j) d (omega (arith, le)) (omega (arith, less)))
       (λ d some. up 0 1 d (omega arith) (omega (arith, some))),
 )
+
+-- ---- a single chunk
+
+-- a chunk that is the only one has all the bytes, in any order of the chunks
+pub single_whole : (end : ℕ) (chunks sorted : List Chunk) → AreConsecutive 0 chunks end → IsPermutation chunks sorted → HasAllBytes end sorted
+single_whole end chunks [] h permuted = tt {0}
+single_whole end chunks (c ∷ d ∷ more) h permuted = tt {0}
+single_whole end chunks (c ∷ []) h permuted = by_chunks chunks h (length_permutation chunks (c ∷ []) permuted) (λ x there. Contains-permutation chunks (c ∷ []) x permuted there) where
+  by_chunks : (chunks : List Chunk) → AreConsecutive 0 chunks end → 1 ≡ length chunks → ((x : Chunk) → Contains chunks x → Contains (c ∷ []) x) → HasAllBytes end (c ∷ [])
+  by_chunks [] h count same = absurd (omega (arith, count))
+  by_chunks (x ∷ y ∷ more) h count same = absurd (omega (arith, count))
+  by_chunks (x ∷ []) h count same = by_member (Contains-In x (c ∷ []) (same x (In-Contains x (x ∷ []) (inl refl)))) where
+    by_member : In x (c ∷ []) → HasAllBytes end (c ∷ [])
+    by_member (inl e) =
+        let start : c.start ≡ 0 = ap (λ (z : Chunk). z.start) e ∙ h.0 in
+        let here = h.2 in
+        let count_same : c.count ≡ x.count = ap (λ (z : Chunk). z.count) e in
+        (start, omega (arith, here, count_same))
+    by_member (inr none) = absurd none
+
+-- its bytes are one run
+pub single_run : (bytes : List ℕ) (chunks : List Chunk) (c : Chunk) (runs : List Run) (run : Run) → length chunks ≡ 1 → HasAllBytes (length bytes) chunks → AreSpread 0 chunks
+    → run.address ≡ (get_or chunks 0 c).address → run.bytes ≡ bytes → runs ≡ run ∷ [] → AreApart 0 runs × (run_cells runs ≡ cells_of_chunks bytes chunks)
+single_run bytes [] c runs run one whole spread address own e = absurd (omega (arith, one))
+single_run bytes (d ∷ x ∷ chunks) c runs run one whole spread address own e = absurd (omega (arith, one))
+single_run bytes (d ∷ []) c runs run one whole spread address own e =
+    let some = spread.1 in let count = whole.1 in let long = ap length own in
+    let apart : AreApart 0 (run ∷ []) = (omega arith, omega (arith, some, count, long), tt {0}) in
+    let all : length bytes ≤ d.count = omega (arith, count) in
+    (subst (AreApart 0) (sym e) apart,
+     ap run_cells e ∙ append-nil (cells_from run.address run.bytes)
+     ∙ ap (cells_from run.address) own ∙ ap (λ a. cells_from a bytes) address
+     ∙ ap (cells_from d.address) (sym (take-all d.count bytes all))
+     ∙ ap (λ n. cells_from d.address (take d.count (drop n bytes))) (sym whole.0)
+     ∙ sym (append-nil (chunk_cells bytes d)))

@@ -1,5 +1,5 @@
 -- Chunks in order of their addresses, none of which shares an address with another.
-use Rattle.std.specs.Prelude.{ℕ, suc, ◌+◌, ◌<◌, ◌≤◌, ◌==◌, List, [], ◌∷◌, length, flat_map, take, drop, if◌then◌else◌}
+use Rattle.std.specs.Prelude.{◌≡◌, ℕ, suc, ◌+◌, ◌<◌, ◌≤◌, ◌==◌, List, [], ◌∷◌, length, flat_map, take, drop, if◌then◌else◌}
 use Rattle.mufom_meaning.specs.declared.located.Run.{Run}
 use Rattle.mufom_image_bytes.specs.declared.chunk.Chunk.{Chunk}
 
@@ -34,3 +34,9 @@ bytes_of_chunks bytes chunks = flat_map (chunk_bytes bytes) chunks
 abbrev pub free_after : ℕ → List Run → ℕ
 free_after from [] = from
 free_after from (run ∷ runs) = free_after (run.address + length run.bytes + 1) runs
+
+-- a chunk that is the only one has all the bytes
+abbrev pub HasAllBytes : ℕ → List Chunk → Type 0
+HasAllBytes count [] = Unit {0}
+HasAllBytes count (c ∷ []) = (c.start ≡ 0) × (c.count ≡ count)
+HasAllBytes count (c ∷ d ∷ chunks) = Unit {0}

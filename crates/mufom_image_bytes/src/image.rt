@@ -1,15 +1,17 @@
 //! The image of the loads of a module.
 
-ghost use Rattle.std.specs.Prelude.{◌≡◌, ◌≤◌, ◌<◌, ◌^◌, ℕ, List as list, [], None, false, option_map, Contains, IfOk, IfErr};
+ghost use Rattle.std.specs.Prelude.{◌≡◌, ◌≤◌, ◌<◌, ◌^◌, ℕ, List as list, [], None, false, option_map, length, Contains, IfOk, IfErr};
 ghost use Rattle.std.specs.List.{All};
 ghost use Rattle.std.specs.List.Sorted.{IsPermutation};
 ghost use Rattle.mufom_place.specs.Facts.{◌or_else◌};
+ghost use Rattle.mufom_meaning.specs.AddressMap.{run_cells, AreApart};
 ghost use Rattle.mufom_meaning.specs.Walk.{first_twice};
 ghost use Rattle.mufom_image_bytes.specs.Stops.{fact_of};
 ghost use Rattle.mufom_image_bytes.specs.declared.chunk.Chunk.{Chunk};
-ghost use Rattle.mufom_image_bytes.specs.Chunks.{addresses_of, AreConsecutive};
+ghost use Rattle.mufom_image_bytes.specs.Chunks.{cells_of_chunks, addresses_of, AreConsecutive};
 ghost use Rattle.mufom_image_bytes.specs.Loaded.{loaded_cells, IsTiled};
 ghost use Rattle.mufom_image_bytes.specs.Shared.{shares_from, AreRisingFrom};
+ghost use Rattle.mufom_image_bytes.specs.Spread.{AreSpread, IsAmong, HasAllBytes};
 ghost use Rattle.mufom_image_bytes.specs.Walks.{HasNarrowItems};
 ghost use Rattle.mufom_image_bytes.specs.Images.{IsImage, IsRefusal, IsImageOf, IsRefusalOf};
 
@@ -25,7 +27,7 @@ use crate::values::Values;
 use crate::walk::Walk;
 use mufom_loads::Load;
 use mufom_meaning::Run;
-use mufom_numbers::List;
+use mufom_numbers::{List, NoMemory};
 use std::alloc::Global;
 
 // Sorts chunks by their addresses.
@@ -49,6 +51,25 @@ fn first_stop(chunks: &[Chunk], count: usize, stop: Option<Stop>) -> Option<Stop
     }
 }
 
+// The rows of chunks, which go by address and share none. The bytes of a single chunk are not copied.
+fn rows_of(alloc: Global, chunks: &[Chunk], bytes: Vec<u8>) -> Result<List<Run>, NoMemory>
+    requires spread { AreSpread 0 chunks.now }
+    requires among { All (IsAmong bytes.items) chunks.now }
+    requires whole { HasAllBytes (length bytes.items) chunks.now }
+    ensures apart { IfOk result (λ runs. AreApart 0 runs) }
+    ensures cells { IfOk result (λ runs. run_cells runs ≡ cells_of_chunks bytes.items chunks.now) }
+{
+    if let [chunk] = chunks {
+        let mut runs = List::new(alloc);
+        runs.push(Run {
+            address: chunk.address,
+            bytes: List::from_vec(bytes),
+        })?;
+        return Ok(runs);
+    }
+    maximal_rows(alloc, chunks, &bytes)
+}
+
 // The rows of loaded bytes, or what keeps them from being an image.
 fn assembled(alloc: Global, loaded: Loaded, stop: Option<Stop>) -> Result<List<Run>, ImageRefusal>
     requires { IsTiled loaded }
@@ -59,7 +80,7 @@ fn assembled(alloc: Global, loaded: Loaded, stop: Option<Stop>) -> Result<List<R
     sort_by_address(&mut chunks);
     match first_stop(&chunks, bytes.len(), stop) {
         Some(stop) => Err(ImageRefusal::Stopped(stop)),
-        None => Ok(maximal_rows(alloc, &chunks, &bytes)?),
+        None => Ok(rows_of(alloc, &chunks, bytes)?),
     }
 }
 

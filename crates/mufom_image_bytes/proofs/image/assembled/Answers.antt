@@ -9,6 +9,7 @@ use Rattle.mufom_image_bytes.specs.Loaded.{loaded_cells}
 use Rattle.mufom_image_bytes.specs.Shared.{shares_from}
 use Rattle.mufom_image_bytes.specs.Spread.{AreSpread, IsAmong}
 use Rattle.mufom_image_bytes.proofs.ImageLaws.{AreSorted, sorted_among, sorted_spread, refused, imaged}
+use Rattle.mufom_image_bytes.proofs.SpreadLaws.{single_whole}
 use Rattle.mufom_image_bytes.proofs.image.assembled.Goals as goal
 
 pub returns-in-Some-clause-refusal : goal.returns-in-Some-clause-refusal
@@ -23,8 +24,8 @@ returns-in-Some-clause-refusal c =
     (λ loaded permuted tiles low. c.in-Some.ensures.stop loaded (subst (λ (list : List Chunk). IsPermutation loaded list) (sym c.deref.ensures.value) permuted)
     (subst (λ n. AreConsecutive 0 loaded n) (sym long) tiles) low)
 
-pub maximal_rows-requires-clause-spread : goal.maximal_rows-requires-clause-spread
-maximal_rows-requires-clause-spread c =
+pub rows_of-requires-clause-spread : goal.rows_of-requires-clause-spread
+rows_of-requires-clause-spread c =
     let bytes = c.in_ok-chunks.bytes.items in
     let long : c.len.result ≡ length bytes = let len = c.len.ensures in omega (arith, len) in
     let chunks = c.in_ok-chunks.chunks.items in
@@ -35,8 +36,8 @@ maximal_rows-requires-clause-spread c =
     (sorted_spread (loaded_cells c.args.loaded) bytes chunks sorted h
     (ap (λ n. shares_from n 0 sorted) (sym long) ∙ ap (shares_from c.len.result 0) (sym c.deref.ensures.value) ∙ c.in-None.ensures.apart refl))
 
-pub maximal_rows-requires-clause-among : goal.maximal_rows-requires-clause-among
-maximal_rows-requires-clause-among c =
+pub rows_of-requires-clause-among : goal.rows_of-requires-clause-among
+rows_of-requires-clause-among c =
     let bytes = c.in_ok-chunks.bytes.items in
     let long : c.len.result ≡ length bytes = let len = c.len.ensures in omega (arith, len) in
     let chunks = c.in_ok-chunks.chunks.items in
@@ -44,7 +45,7 @@ maximal_rows-requires-clause-among c =
     let h : AreSorted (loaded_cells c.args.loaded) bytes chunks sorted =
     record { consecutive = c.in_ok-chunks.ensures.consecutive; same = c.in_ok-chunks.ensures.cells; permuted = c.sort_by_address.ensures.permutation } in
     let P : List ℕ → List Chunk → Type 0 = λ own list. All (IsAmong own) list in
-    subst (P c.deref-in-None-2.result.now) (sym c.deref-in-None.ensures.value) (subst (λ own. P own sorted) (sym c.deref-in-None-2.ensures.value) (sorted_among (loaded_cells c.args.loaded) bytes chunks sorted h))
+    subst (P bytes) (sym c.deref-in-None.ensures.value) (sorted_among (loaded_cells c.args.loaded) bytes chunks sorted h)
 
 pub returns-clause-image : goal.returns-clause-image
 returns-clause-image c =
@@ -54,8 +55,13 @@ returns-clause-image c =
     let sorted = c.sort_by_address.new.chunks.items in
     let h : AreSorted (loaded_cells c.args.loaded) bytes chunks sorted =
     record { consecutive = c.in_ok-chunks.ensures.consecutive; same = c.in_ok-chunks.ensures.cells; permuted = c.sort_by_address.ensures.permutation } in
-    imaged (loaded_cells c.args.loaded) bytes chunks sorted h c.args.stop c.in_ok-maximal_rows-in-None.field-0
+    imaged (loaded_cells c.args.loaded) bytes chunks sorted h c.args.stop c.in_ok-rows_of-in-None.field-0
     (λ loaded permuted tiles low. c.in-None.ensures.stop loaded (subst (λ (list : List Chunk). IsPermutation loaded list) (sym c.deref.ensures.value) permuted)
     (subst (λ n. AreConsecutive 0 loaded n) (sym long) tiles) low)
-    (c.in-None.ensures.ended refl) c.in_ok-maximal_rows-in-None.ensures.apart
-    (c.in_ok-maximal_rows-in-None.ensures.cells ∙ ap (λ own. cells_of_chunks own c.deref-in-None.result.now) c.deref-in-None-2.ensures.value ∙ ap (cells_of_chunks bytes) c.deref-in-None.ensures.value)
+    (c.in-None.ensures.ended refl) c.in_ok-rows_of-in-None.ensures.apart
+    (c.in_ok-rows_of-in-None.ensures.cells ∙ ap (cells_of_chunks bytes) c.deref-in-None.ensures.value)
+
+pub rows_of-requires-clause-whole : goal.rows_of-requires-clause-whole
+rows_of-requires-clause-whole c =
+    let bytes = c.in_ok-chunks.bytes.items in
+    rw c.deref-in-None.ensures.value (single_whole (length bytes) c.in_ok-chunks.chunks.items c.sort_by_address.new.chunks.items c.in_ok-chunks.ensures.consecutive c.sort_by_address.ensures.permutation)
