@@ -1,0 +1,12 @@
+use Rattle.std.proofs.Common.{◌≡◌, None, drop}
+use Rattle.mufom_image_bytes.specs.Loaded.{IsTiled}
+use Rattle.mufom_image_bytes.specs.Outcomes.{loads_outcome, progress_at_first}
+use Rattle.mufom_image_bytes.specs.Walks.{progress_of, first_counters}
+use Rattle.mufom_image_bytes.proofs.loads.walked.Given as goal
+
+abbrev pub invariant-loop-load : goal.invariant-loop-load
+invariant-loop-load g l = let worth = g.V.Values.meaning l.values l.layout.width in record {
+  tiled : IsTiled l.walk.loaded;
+  outcome : loads_outcome l.layout worth None l.loads (progress_at_first (first_counters l.layout))
+      ≡ loads_outcome l.layout worth l.current (drop l.load-index l.loads) (progress_of l.walk);
+}

@@ -1,0 +1,45 @@
+-- The image of loads, and what keeps it from being made.
+use Rattle.std.specs.Prelude.{◌≡◌, ℕ, ◌<◌, ◌^◌, List, [], Option, Some, None, Contains}
+use Rattle.mufom_loads.specs.declared.load.Load.{Load}
+use Rattle.mufom_place.specs.Facts.{◌or_else◌}
+use Rattle.mufom_meaning.specs.declared.located.Run.{Run}
+use Rattle.mufom_meaning.specs.AddressMap.{Cell, address_map, AreRowsOf}
+use Rattle.mufom_meaning.specs.Facts.{LocateFact}
+use Rattle.mufom_meaning.specs.Flat.{Sited}
+use Rattle.mufom_meaning.specs.Steps.{steps_of, step_readings}
+use Rattle.mufom_meaning.specs.Values.{Setting}
+use Rattle.mufom_meaning.specs.Walk.{first_twice, steps_fact}
+use Rattle.mufom_image_bytes.specs.declared.layout.Layout.{Layout}
+use Rattle.mufom_image_bytes.specs.declared.refusal.ImageRefusal.{ImageRefusal}
+use Rattle.mufom_image_bytes.specs.declared.refusal.ImageRefusal.TheVariants as refusals
+use Rattle.mufom_image_bytes.specs.Stops.{fact_of}
+use Rattle.mufom_image_bytes.specs.Chunks.{cell_addresses}
+use Rattle.mufom_image_bytes.specs.Outcomes.{WorthAt}
+use Rattle.mufom_image_bytes.specs.Walked.{AreWalked}
+
+-- the addresses of cells fit 64 bits
+abbrev pub AreLow : List Cell → Type 0
+AreLow cells = (a : ℕ) → Contains (cell_addresses cells) a → a < 2 ^ 64
+
+-- nothing ended the loads, no address stands twice, and the runs are the rows of the cells
+pub record IsImage (cells : List Cell) (stop : Option LocateFact) (runs : List Run) : Type 0 where
+  pub ended : stop ≡ None
+  pub single : AreLow cells → first_twice [] (cell_addresses cells) ≡ None
+  pub rows : AreRowsOf cells runs
+
+-- an address stands twice, and else the loads ended there
+abbrev pub IsRefusal : List Cell → Option LocateFact → ImageRefusal → Type 0
+IsRefusal cells stop (refusals.Stopped other) = AreLow cells → (first_twice [] (cell_addresses cells) or_else stop) ≡ Some (fact_of other)
+IsRefusal cells stop refusals.NoMemory = Unit {0}
+
+-- where the loads are walked so, nothing is met, and the runs are the rows of what they load
+abbrev pub IsImageOf : Layout → WorthAt → List Load → List Run → Type 0
+IsImageOf layout worth loads runs =
+    (s : Setting) (site : Sited) → AreWalked s site layout worth loads
+    → (steps_fact s [] (steps_of site None loads) ≡ None) × AreRowsOf (address_map layout.order s.modulus (step_readings s (steps_of site None loads))) runs
+
+-- where the loads are walked so, this is met first
+abbrev pub IsRefusalOf : Layout → WorthAt → List Load → ImageRefusal → Type 0
+IsRefusalOf layout worth loads (refusals.Stopped stop) =
+    (s : Setting) (site : Sited) → AreWalked s site layout worth loads → steps_fact s [] (steps_of site None loads) ≡ Some (fact_of stop)
+IsRefusalOf layout worth loads refusals.NoMemory = Unit {0}

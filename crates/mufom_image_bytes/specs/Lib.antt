@@ -1,0 +1,10 @@
+pub mod Stops
+pub mod Chunks
+pub mod Outcomes
+pub mod Walked
+pub mod Loaded
+pub mod Walks
+pub mod Shared
+pub mod Spread
+pub mod Images
+pub mod Modules

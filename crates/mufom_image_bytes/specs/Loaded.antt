@@ -1,0 +1,14 @@
+-- The bytes that were loaded so far, and their chunks.
+use Rattle.std.specs.Prelude.{◌≡◌, ℕ, ◌+◌, List, [], ◌∷◌, ◌++◌, length}
+use Rattle.mufom_meaning.specs.AddressMap.{Cell}
+use Rattle.mufom_image_bytes.specs.declared.loaded.Loaded.{Loaded}
+use Rattle.mufom_image_bytes.specs.Chunks.{cells_of_chunks, AreConsecutive}
+
+-- the bytes with their addresses
+abbrev pub loaded_cells : Loaded → List Cell
+loaded_cells l = cells_of_chunks l.bytes.items (l.chunks.items ++ l.last ∷ [])
+
+-- the chunks lie one after another among the bytes, and the last one, which may have no byte yet, ends with them
+pub record IsTiled (l : Loaded) : Type 0 where
+  pub chunks : AreConsecutive 0 l.chunks.items l.last.start
+  pub last : l.last.start + l.last.count ≡ length l.bytes.items

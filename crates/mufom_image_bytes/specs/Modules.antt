@@ -1,0 +1,49 @@
+-- The image of one module, once its sections are placed and its publics have values.
+use Rattle.std.specs.Prelude.{◌≡◌, ℕ, ◌+◌, ◌≤◌, List, [], ◌∷◌, length, Option, Some, None, true, false}
+use Rattle.mufom_expr.specs.Tree.{Tree}
+use Rattle.mufom_module.specs.declared.module.Parts.{Parts}
+use Rattle.mufom_plan.specs.Names.{has_name}
+use Rattle.mufom_place.specs.Facts.{first_some}
+use Rattle.mufom_meaning.specs.declared.located.Run.{Run}
+use Rattle.mufom_meaning.specs.AddressMap.{address_map, AreRowsOf}
+use Rattle.mufom_meaning.specs.Bases.{Bases}
+use Rattle.mufom_meaning.specs.Cycles.{IsOnCycle}
+use Rattle.mufom_meaning.specs.Facts.{duplicate}
+use Rattle.mufom_meaning.specs.Flat.{Sited, needs, common_names}
+use Rattle.mufom_meaning.specs.Readings.{readings}
+use Rattle.mufom_meaning.specs.Stands.{StandsIn, LinkFactStands}
+use Rattle.mufom_meaning.specs.Steps.{steps}
+use Rattle.mufom_meaning.specs.Values.{Setting, setting, value}
+use Rattle.mufom_meaning.specs.Walk.{base_number, size_at, public_fact, steps_fact}
+use Rattle.mufom_image_bytes.specs.declared.refusal.ImageRefusal.{ImageRefusal}
+use Rattle.mufom_image_bytes.specs.declared.refusal.ImageRefusal.TheVariants as refusals
+use Rattle.mufom_image_bytes.specs.Stops.{fact_of}
+use Rattle.mufom_image_bytes.specs.Outcomes.{WorthAt}
+
+-- the module alone in a list
+abbrev pub home_of : Parts → Sited
+home_of m = record { parts = m; first_section = 0; first_public = 0; first_name = 0 }
+
+-- No fact stands that needs no walk, no public divides by 0, and at each counter an expression is worth its value.
+pub record IsReady (m : Parts) (placed : Bases) (bases : List ℕ) (worth : WorthAt) : Type 0 where
+  pub at_bases : placed.sections ≡ bases
+  pub count : length placed.sections ≡ length m.sections
+  pub inside : (n : ℕ) → base_number (setting (m ∷ []) placed) n + size_at (setting (m ∷ []) placed) n ≤ (setting (m ∷ []) placed).modulus
+  pub once : (name : List ℕ) → ¬ LinkFactStands (m ∷ []) (duplicate name)
+  pub defined : (name : List ℕ) → ¬ (StandsIn name (needs (m ∷ [])) × (has_name (common_names (m ∷ [])) name ≡ false))
+  pub commons : (name : List ℕ) → has_name (common_names (m ∷ [])) name ≡ true → placed.commons name ≡ None → ⊥
+  pub acyclic : (name : List ℕ) → ¬ IsOnCycle (m ∷ []) name
+  pub publics : first_some (public_fact (setting (m ∷ []) placed)) (setting (m ∷ []) placed).publics ≡ None
+  pub is_value : (at : ℕ) (t : Tree) → worth at t ≡ value (setting (m ∷ []) placed) (home_of m) (Some at) t
+
+-- where the module is ready, nothing is met at its steps, and the runs are the rows of what they load
+abbrev pub IsImageOfModule : Parts → List ℕ → WorthAt → List Run → Type 0
+IsImageOfModule m bases worth runs =
+    (placed : Bases) → IsReady m placed bases worth → let s = setting (m ∷ []) placed in
+    (steps_fact s [] (steps (m ∷ [])) ≡ None) × AreRowsOf (address_map m.order s.modulus (readings (m ∷ []) placed).steps) runs
+
+-- where the module is ready, this is met first at its steps
+abbrev pub IsRefusalOfModule : Parts → List ℕ → WorthAt → ImageRefusal → Type 0
+IsRefusalOfModule m bases worth (refusals.Stopped stop) =
+    (placed : Bases) → IsReady m placed bases worth → steps_fact (setting (m ∷ []) placed) [] (steps (m ∷ [])) ≡ Some (fact_of stop)
+IsRefusalOfModule m bases worth refusals.NoMemory = Unit {0}

@@ -1,0 +1,83 @@
+//! The first byte that is loaded on another.
+
+ghost use Rattle.std.specs.Prelude.{◌≡◌, ℕ, ◌+◌, ◌-◌, ◌<◌, ◌≤◌, ◌^◌, List, [], None, option_map, true, false, Contains};
+ghost use Rattle.std.specs.List.{All};
+ghost use Rattle.std.specs.List.Sorted.{IsPermutation};
+ghost use Rattle.mufom_meaning.specs.Facts.{loaded_twice};
+ghost use Rattle.mufom_meaning.specs.Walk.{first_twice};
+ghost use Rattle.mufom_image_bytes.specs.declared.chunk.Chunk.{Chunk};
+ghost use Rattle.mufom_image_bytes.specs.Chunks.{addresses_of, AreConsecutive};
+ghost use Rattle.mufom_image_bytes.specs.Shared.{part_of, shares_from, AreRisingFrom, HasByte};
+
+use crate::chunk::Chunk;
+
+// How many bytes of a chunk are among the first `count` that are loaded.
+fn part_of(chunk: &Chunk, count: usize) -> usize
+    ensures { result ≡ part_of count chunk.now }
+{
+    chunk.count.min(count.saturating_sub(chunk.start))
+}
+
+// Whether two of the first `count` bytes share an address. The chunks go by address.
+fn shares(chunks: &[Chunk], count: usize) -> bool
+    ensures { result ≡ shares_from count 0 chunks.now }
+{
+    let mut end: u128 = 0;
+    let mut rest = chunks;
+    while let [chunk, more @ ..] = rest {
+        let part = part_of(chunk, count);
+        if part != 0 {
+            if (chunk.address as u128) < end {
+                return true;
+            }
+            end = chunk.address as u128 + part as u128;
+        }
+        rest = more;
+    }
+    false
+}
+
+// The number of the first byte that shares an address with one before it, where some byte does.
+fn first_shared(chunks: &[Chunk], count: usize) -> usize
+    requires { shares_from count 0 chunks.now ≡ true }
+    ensures within { result < count }
+    ensures before { shares_from result 0 chunks.now ≡ false }
+    ensures shares { shares_from (result + 1) 0 chunks.now ≡ true }
+{
+    let mut apart: usize = 0;
+    let mut over = count;
+    while over - apart > 1 {
+        let middle = apart + (over - apart) / 2;
+        if shares(chunks, middle) {
+            over = middle;
+        } else {
+            apart = middle;
+        }
+    }
+    apart
+}
+
+// The address of the byte of this number, which is one of the chunks'.
+fn address_of(chunks: &[Chunk], number: usize) -> u64
+    ensures { (c : Chunk) → Contains chunks.now c → HasByte c number → (d : Chunk) × Contains chunks.now d × HasByte d number × (d.address + (number - d.start) < 2 ^ 64 → result ≡ d.address + (number - d.start)) }
+{
+    for chunk in chunks {
+        if chunk.start <= number && number - chunk.start < chunk.count {
+            return chunk.address.saturating_add((number - chunk.start) as u64);
+        }
+    }
+    0
+}
+
+/// The first address that is loaded twice, in the order of the loads. The chunks go by address.
+pub fn first_double(chunks: &[Chunk], count: usize) -> Option<u64>
+    requires { AreRisingFrom 0 chunks.now }
+    ensures double { (loaded : List Chunk) → IsPermutation loaded chunks.now → AreConsecutive 0 loaded count → ((a : ℕ) → Contains (addresses_of loaded) a → a < 2 ^ 64) → first_twice [] (addresses_of loaded) ≡ option_map loaded_twice result }
+    ensures none { result ≡ None → shares_from count 0 chunks.now ≡ false }
+{
+    if !shares(chunks, count) {
+        return None;
+    }
+    let number = first_shared(chunks, count);
+    Some(address_of(chunks, number))
+}

@@ -1,0 +1,109 @@
+//! The image of the loads of a module.
+
+ghost use Rattle.std.specs.Prelude.{◌≡◌, ◌≤◌, ◌<◌, ◌^◌, ℕ, List as list, [], None, false, option_map, length, Contains, IfOk, IfErr};
+ghost use Rattle.std.specs.List.{All};
+ghost use Rattle.std.specs.List.Sorted.{IsPermutation};
+ghost use Rattle.mufom_place.specs.Facts.{◌or_else◌};
+ghost use Rattle.mufom_meaning.specs.AddressMap.{run_cells, AreApart};
+ghost use Rattle.mufom_meaning.specs.Walk.{first_twice};
+ghost use Rattle.mufom_image_bytes.specs.Stops.{fact_of};
+ghost use Rattle.mufom_image_bytes.specs.declared.chunk.Chunk.{Chunk};
+ghost use Rattle.mufom_image_bytes.specs.Chunks.{cells_of_chunks, addresses_of, AreConsecutive};
+ghost use Rattle.mufom_image_bytes.specs.Loaded.{loaded_cells, IsTiled};
+ghost use Rattle.mufom_image_bytes.specs.Shared.{shares_from, AreRisingFrom};
+ghost use Rattle.mufom_image_bytes.specs.Spread.{AreSpread, IsAmong, HasAllBytes};
+ghost use Rattle.mufom_image_bytes.specs.Walks.{HasNarrowItems};
+ghost use Rattle.mufom_image_bytes.specs.Images.{IsImage, IsRefusal, IsImageOf, IsRefusalOf};
+
+use crate::chunk::Chunk;
+use crate::doubles::first_double;
+use crate::layout::Layout;
+use crate::loaded::Loaded;
+use crate::loads::walked;
+use crate::refusal::ImageRefusal;
+use crate::rows::maximal_rows;
+use crate::stop::Stop;
+use crate::values::Values;
+use crate::walk::Walk;
+use mufom_loads::Load;
+use mufom_meaning::Run;
+use mufom_numbers::{List, NoMemory};
+use std::alloc::Global;
+
+// Sorts chunks by their addresses.
+fn sort_by_address(chunks: &mut Vec<Chunk>)
+    ensures permutation { IsPermutation chunks.old.items chunks.new.items }
+    ensures rising { AreRisingFrom 0 chunks.new.items }
+{
+    chunks.sort_unstable_by_key(|chunk| chunk.address);
+}
+
+// The first byte that is loaded on another, and else what ended the loads. The chunks go by address.
+fn first_stop(chunks: &[Chunk], count: usize, stop: Option<Stop>) -> Option<Stop>
+    requires { AreRisingFrom 0 chunks.now }
+    ensures stop { (loaded : list Chunk) → IsPermutation loaded chunks.now → AreConsecutive 0 loaded count → ((a : ℕ) → Contains (addresses_of loaded) a → a < 2 ^ 64) → option_map fact_of result ≡ (first_twice [] (addresses_of loaded) or_else option_map fact_of stop) }
+    ensures apart { result ≡ None → shares_from count 0 chunks.now ≡ false }
+    ensures ended { result ≡ None → stop ≡ None }
+{
+    match first_double(chunks, count) {
+        Some(address) => Some(Stop::Twice { address }),
+        None => stop,
+    }
+}
+
+// The rows of chunks, which go by address and share none. The bytes of a single chunk are not copied.
+fn rows_of(alloc: Global, chunks: &[Chunk], bytes: Vec<u8>) -> Result<List<Run>, NoMemory>
+    requires spread { AreSpread 0 chunks.now }
+    requires among { All (IsAmong bytes.items) chunks.now }
+    requires whole { HasAllBytes (length bytes.items) chunks.now }
+    ensures apart { IfOk result (λ runs. AreApart 0 runs) }
+    ensures cells { IfOk result (λ runs. run_cells runs ≡ cells_of_chunks bytes.items chunks.now) }
+{
+    if let [chunk] = chunks {
+        let mut runs = List::new(alloc);
+        runs.push(Run {
+            address: chunk.address,
+            bytes: List::from_vec(bytes),
+        })?;
+        return Ok(runs);
+    }
+    maximal_rows(alloc, chunks, &bytes)
+}
+
+// The rows of loaded bytes, or what keeps them from being an image.
+fn assembled(alloc: Global, loaded: Loaded, stop: Option<Stop>) -> Result<List<Run>, ImageRefusal>
+    requires { IsTiled loaded }
+    ensures image { IfOk result (λ runs. IsImage (loaded_cells loaded) (option_map fact_of stop) runs) }
+    ensures refusal { IfErr result (λ refusal. IsRefusal (loaded_cells loaded) (option_map fact_of stop) refusal) }
+{
+    let (mut chunks, bytes) = loaded.finish()?;
+    sort_by_address(&mut chunks);
+    match first_stop(&chunks, bytes.len(), stop) {
+        Some(stop) => Err(ImageRefusal::Stopped(stop)),
+        None => Ok(rows_of(alloc, &chunks, bytes)?),
+    }
+}
+
+/// The image of the loads of a module, in maximal rows of addresses, or the first thing that keeps
+/// it from being made, in the order of the loads.
+///
+/// The fields of the loads must have at most eight bytes each.
+pub fn image_of<V: Values>(
+    alloc: Global,
+    layout: &Layout<'_>,
+    values: &V,
+    loads: &[Load],
+) -> Result<List<Run>, ImageRefusal>
+    requires low { 8 ≤ layout.now.width }
+    requires high { layout.now.width ≤ 64 }
+    requires narrow { All HasNarrowItems loads.now }
+    ensures image { IfOk result (λ runs. IsImageOf layout.now (V.meaning values.now layout.now.width) loads.now runs) }
+    ensures refusal { IfErr result (λ refusal. IsRefusalOf layout.now (V.meaning values.now layout.now.width) loads.now refusal) }
+{
+    let (walk, stop) = walked(alloc, layout, values, loads)?;
+    let Walk {
+        counters: _counters,
+        loaded,
+    } = walk;
+    assembled(alloc, loaded, stop)
+}

@@ -1,0 +1,32 @@
+//! The image of a module: the bytes that its loads put at addresses, in maximal rows.
+//!
+//! [`image_of_module`] walks the loads once. It answers the rows, or the first thing that is met on the
+//! walk: a byte outside its section, a byte on another, a division by 0, or a value that does not fit
+//! its field. Expressions get their values from the caller, through [`Values`]. The crate stands on the
+//! crates of a module's values, and on `mufom_meaning`, whose definitions its contracts cite.
+#![tactic(auto)]
+
+mod chunk;
+mod doubles;
+mod field;
+mod image;
+mod layout;
+mod loaded;
+mod loads;
+mod module_image;
+mod places;
+mod refusal;
+mod rows;
+mod stop;
+mod values;
+mod walk;
+
+pub use image::image_of;
+pub use layout::Layout;
+pub use module_image::image_of_module;
+pub use refusal::ImageRefusal;
+pub use stop::Stop;
+pub use values::Values;
+
+#[cfg(test)]
+mod tests;

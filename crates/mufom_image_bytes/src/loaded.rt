@@ -1,0 +1,98 @@
+ghost use Rattle.std.specs.Prelude.{◌≡◌, ◌+◌, [], ◌∷◌, ◌++◌, length, IfOk, OnOk};
+ghost use Rattle.mufom_meaning.specs.AddressMap.{cells_from};
+ghost use Rattle.mufom_image_bytes.specs.Chunks.{cells_of_chunks, AreConsecutive};
+ghost use Rattle.mufom_image_bytes.specs.Loaded.{loaded_cells, IsTiled};
+
+use crate::chunk::Chunk;
+use mufom_numbers::NoMemory;
+use std::alloc::Global;
+
+/// Bytes in the order in which they were loaded, and where they lie.
+#[derive(Drop)]
+pub struct Loaded {
+    /// The chunks but the last.
+    pub chunks: Vec<Chunk>,
+    /// The chunk that grows. It may have no byte yet.
+    pub last: Chunk,
+    pub bytes: Vec<u8>,
+}
+
+/// No bytes.
+pub fn nothing_loaded(alloc: Global) -> Loaded
+    ensures tiled { IsTiled result }
+    ensures cells { loaded_cells result ≡ [] }
+{
+    Loaded {
+        chunks: Vec::new(alloc),
+        last: Chunk {
+            address: 0,
+            start: 0,
+            count: 0,
+        },
+        bytes: Vec::new(alloc),
+    }
+}
+
+impl Loaded {
+    // Puts the last chunk with the others, where it has a byte.
+    fn close(&mut self) -> Result<(), NoMemory>
+        requires { IsTiled self.old }
+        ensures consecutive { OnOk result (AreConsecutive 0 self.new.chunks.items (length self.new.bytes.items)) }
+        ensures cells { OnOk result (cells_of_chunks self.new.bytes.items self.new.chunks.items ≡ loaded_cells self.old) }
+    {
+        if self.last.count > 0 {
+            self.chunks.push(self.last)?;
+        }
+        Ok(())
+    }
+
+    // Begins a chunk at another address.
+    fn begin(&mut self, address: u64) -> Result<(), NoMemory>
+        requires { IsTiled self.old }
+        ensures tiled { OnOk result (IsTiled self.new) }
+        ensures cells { OnOk result (loaded_cells self.new ≡ loaded_cells self.old) }
+        ensures address { OnOk result (self.new.last.address ≡ address) }
+        ensures empty { OnOk result (self.new.last.count ≡ 0) }
+    {
+        self.close()?;
+        self.last = Chunk {
+            address,
+            start: self.bytes.len(),
+            count: 0,
+        };
+        Ok(())
+    }
+
+    // Adds bytes right after the last chunk.
+    fn extend(&mut self, bytes: &[u8]) -> Result<(), NoMemory>
+        requires { IsTiled self.old }
+        ensures tiled { OnOk result (IsTiled self.new) }
+        ensures cells { OnOk result (loaded_cells self.new ≡ loaded_cells self.old ++ cells_from (self.old.last.address + self.old.last.count) bytes.now) }
+    {
+        self.bytes.extend_from_slice(bytes)?;
+        self.last.count = self.bytes.len() - self.last.start;
+        Ok(())
+    }
+
+    /// Adds bytes at an address.
+    pub fn add(&mut self, address: u64, bytes: &[u8]) -> Result<(), NoMemory>
+        requires { IsTiled self.old }
+        ensures tiled { OnOk result (IsTiled self.new) }
+        ensures cells { OnOk result (loaded_cells self.new ≡ loaded_cells self.old ++ cells_from address bytes.now) }
+    {
+        if self.last.address as u128 + self.last.count as u128 != address as u128 {
+            self.begin(address)?;
+        }
+        self.extend(bytes)
+    }
+
+    /// All chunks, and the bytes.
+    pub fn finish(mut self) -> Result<(Vec<Chunk>, Vec<u8>), NoMemory>
+        requires { IsTiled self }
+        ensures consecutive { IfOk result (λ r. AreConsecutive 0 r.0.items (length r.1.items)) }
+        ensures cells { IfOk result (λ r. cells_of_chunks r.1.items r.0.items ≡ loaded_cells self) }
+    {
+        self.close()?;
+        Ok((self.chunks, self.bytes))
+    }
+}

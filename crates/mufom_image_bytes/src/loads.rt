@@ -1,0 +1,221 @@
+//! All loads of a module, one after another.
+
+ghost use Rattle.std.specs.Prelude.{◌≡◌, ◌≤◌, ◌<◌, ◌^◌, map, filter, length, option_map, None, IfOk, OnOk};
+ghost use Rattle.std.specs.List.{All};
+ghost use Rattle.mufom_loads.specs.Lengths.{repeated};
+ghost use Rattle.mufom_module.specs.Contents.{current_after as current_section};
+ghost use Rattle.mufom_image_bytes.specs.Stops.{fact_of};
+ghost use Rattle.mufom_image_bytes.specs.Chunks.{cells_of_chunks, AreConsecutive};
+ghost use Rattle.mufom_image_bytes.specs.Loaded.{IsTiled};
+ghost use Rattle.mufom_image_bytes.specs.Outcomes.{items_outcome, current_outcome, counter_outcome, load_outcome, loads_outcome, progress_at_first};
+ghost use Rattle.mufom_image_bytes.specs.Walks.{progress_of, has_bytes, first_counters as base_residues, IsNarrow, HasNarrowItems};
+
+use crate::layout::Layout;
+use crate::loaded::nothing_loaded;
+use crate::stop::Stop;
+use crate::values::Values;
+use crate::walk::{Walk, counter_of, load_item, set_counter};
+use mufom_expr::Postfix;
+use mufom_loads::{Item, Load, item_length};
+use mufom_numbers::NoMemory;
+use std::alloc::Global;
+
+// Loads items, one after another.
+fn load_items<V: Values>(
+    layout: &Layout<'_>,
+    values: &V,
+    section: u32,
+    items: &[&Item],
+    walk: &mut Walk,
+) -> Result<Option<Stop>, NoMemory>
+    requires low { 8 ≤ layout.now.width }
+    requires high { layout.now.width ≤ 64 }
+    requires narrow { All (λ item. IsNarrow item.now) items.now }
+    requires tiled { IsTiled walk.old.loaded }
+    ensures tiled { OnOk result (IsTiled walk.new.loaded) }
+    ensures outcome { IfOk result (λ stop. (progress_of walk.new, option_map fact_of stop) ≡ items_outcome layout.now (V.meaning values.now layout.now.width) section (map (λ item. item.now) items.now) (progress_of walk.old)) }
+{
+    for item in items {
+        let stop = load_item(layout, values, section, *item, walk)?;
+        if stop.is_some() {
+            return Ok(stop);
+        }
+    }
+    Ok(None)
+}
+
+// Loads items `count` times.
+fn load_copies<V: Values>(
+    layout: &Layout<'_>,
+    values: &V,
+    section: u32,
+    count: u64,
+    items: &[&Item],
+    walk: &mut Walk,
+) -> Result<Option<Stop>, NoMemory>
+    requires low { 8 ≤ layout.now.width }
+    requires high { layout.now.width ≤ 64 }
+    requires narrow { All (λ item. IsNarrow item.now) items.now }
+    requires tiled { IsTiled walk.old.loaded }
+    ensures tiled { OnOk result (IsTiled walk.new.loaded) }
+    ensures outcome { IfOk result (λ stop. (progress_of walk.new, option_map fact_of stop) ≡ items_outcome layout.now (V.meaning values.now layout.now.width) section (repeated count (map (λ item. item.now) items.now)) (progress_of walk.old)) }
+{
+    if items.is_empty() {
+        return Ok(None);
+    }
+    for _ in 0..count {
+        let stop = load_items(layout, values, section, items, walk)?;
+        if stop.is_some() {
+            return Ok(stop);
+        }
+    }
+    Ok(None)
+}
+
+// The items that load a byte. Copies of the others would take time and change nothing.
+fn with_bytes<'a>(alloc: Global, items: &'a [Item]) -> Result<Vec<&'a Item>, NoMemory>
+    requires { All IsNarrow items.now }
+    ensures narrow { IfOk result (λ list. All (λ item. IsNarrow item.now) list.items) }
+    ensures items { IfOk result (λ list. map (λ item. item.now) list.items ≡ filter has_bytes items.now) }
+{
+    let mut list: Vec<&Item> = Vec::new(alloc);
+    for item in items {
+        if item_length(item) > 0 {
+            list.push(item)?;
+        }
+    }
+    Ok(list)
+}
+
+// Loads the items of a repeat.
+fn load_repeat<V: Values>(
+    alloc: Global,
+    layout: &Layout<'_>,
+    values: &V,
+    section: u32,
+    count: u64,
+    items: &[Item],
+    walk: &mut Walk,
+) -> Result<Option<Stop>, NoMemory>
+    requires low { 8 ≤ layout.now.width }
+    requires high { layout.now.width ≤ 64 }
+    requires narrow { All IsNarrow items.now }
+    requires tiled { IsTiled walk.old.loaded }
+    ensures tiled { OnOk result (IsTiled walk.new.loaded) }
+    ensures outcome { IfOk result (λ stop. (progress_of walk.new, option_map fact_of stop) ≡ items_outcome layout.now (V.meaning values.now layout.now.width) section (repeated count items.now) (progress_of walk.old)) }
+{
+    let items = with_bytes(alloc, items)?;
+    load_copies(layout, values, section, count, &items, walk)
+}
+
+// Sets the counter of a section to the value of an expression there.
+fn load_counter<V: Values>(
+    layout: &Layout<'_>,
+    values: &V,
+    section: u32,
+    value: &Postfix,
+    walk: &mut Walk,
+) -> Option<Stop>
+    requires low { 8 ≤ layout.now.width }
+    requires high { layout.now.width ≤ 64 }
+    requires tiled { IsTiled walk.old.loaded }
+    ensures tiled { IsTiled walk.new.loaded }
+    ensures outcome { (progress_of walk.new, option_map fact_of result) ≡ load_outcome layout.now (V.meaning values.now layout.now.width) None (Load.SetPc section value.now) (progress_of walk.old) }
+{
+    let at = counter_of(&walk.counters, section);
+    match values.value(layout.width, at, value) {
+        Some(next) => {
+            set_counter(&mut walk.counters, section, next);
+            None
+        }
+        None => Some(Stop::Counter { section }),
+    }
+}
+
+// One load, where this section is the current one.
+fn load_one<V: Values>(
+    alloc: Global,
+    layout: &Layout<'_>,
+    values: &V,
+    current: Option<u32>,
+    load: &Load,
+    walk: &mut Walk,
+) -> Result<Option<Stop>, NoMemory>
+    requires low { 8 ≤ layout.now.width }
+    requires high { layout.now.width ≤ 64 }
+    requires narrow { HasNarrowItems load.now }
+    requires tiled { IsTiled walk.old.loaded }
+    ensures tiled { OnOk result (IsTiled walk.new.loaded) }
+    ensures outcome { IfOk result (λ stop. (progress_of walk.new, option_map fact_of stop) ≡ load_outcome layout.now (V.meaning values.now layout.now.width) current load.now (progress_of walk.old)) }
+{
+    match load {
+        Load::SetSection(_) => Ok(None),
+        Load::SetPc { section, value } => Ok(load_counter(layout, values, *section, value, walk)),
+        Load::One(item) => match current {
+            Some(section) => load_item(layout, values, section, item, walk),
+            None => Ok(None),
+        },
+        Load::Repeat { count, items } => match current {
+            Some(section) => load_repeat(
+                alloc,
+                layout,
+                values,
+                section,
+                *count,
+                items.as_slice(),
+                walk,
+            ),
+            None => Ok(None),
+        },
+    }
+}
+
+// The section that is the current one after a load.
+fn current_after(current: Option<u32>, load: &Load) -> Option<u32>
+    ensures { result ≡ current_section current load.now }
+{
+    match load {
+        Load::SetSection(section) => Some(*section),
+        _ => current,
+    }
+}
+
+// The counter of each section before all loads.
+fn first_counters(alloc: Global, layout: &Layout<'_>) -> Result<Vec<u64>, NoMemory>
+    requires { layout.now.width ≤ 64 }
+    ensures { IfOk result (λ counters. counters.items ≡ base_residues layout.now) }
+{
+    let mut counters = Vec::with_capacity(alloc, layout.bases.len())?;
+    for base in layout.bases {
+        counters.push(layout.residue(*base as u128))?;
+    }
+    Ok(counters)
+}
+
+/// Where the loads end, and how far they went until then.
+pub fn walked<V: Values>(
+    alloc: Global,
+    layout: &Layout<'_>,
+    values: &V,
+    loads: &[Load],
+) -> Result<(Walk, Option<Stop>), NoMemory>
+    requires low { 8 ≤ layout.now.width }
+    requires high { layout.now.width ≤ 64 }
+    requires narrow { All HasNarrowItems loads.now }
+    ensures tiled { IfOk result (λ r. IsTiled r.0.loaded) }
+    ensures outcome { IfOk result (λ r. (progress_of r.0, option_map fact_of r.1) ≡ loads_outcome layout.now (V.meaning values.now layout.now.width) None loads.now (progress_at_first (base_residues layout.now))) }
+{
+    let mut walk = Walk {
+        counters: first_counters(alloc, layout)?,
+        loaded: nothing_loaded(alloc),
+    };
+    let mut current = None;
+    for load in loads {
+        let stop = load_one(alloc, layout, values, current, load, &mut walk)?;
+        if stop.is_some() {
+            return Ok((walk, stop));
+        }
+        current = current_after(current, load);
+    }
+    Ok((walk, None))
+}

@@ -1,0 +1,35 @@
+//! The image of one module.
+
+ghost use Rattle.std.specs.Prelude.{◌≡◌, ◌*◌, IfOk, IfErr};
+ghost use Rattle.mufom_module.specs.Defects.{IsValid};
+ghost use Rattle.mufom_image_bytes.specs.Modules.{IsImageOfModule, IsRefusalOfModule};
+
+use crate::image::image_of;
+use crate::layout::Layout;
+use crate::refusal::ImageRefusal;
+use crate::values::Values;
+use mufom_meaning::Run;
+use mufom_module::Parts;
+use mufom_numbers::List;
+use std::alloc::Global;
+
+/// The image of a module whose sections stand at these bases: the bytes that it loads, in maximal rows
+/// of addresses, or the first thing that keeps it from being made, in the order of the loads.
+pub fn image_of_module<V: Values>(
+    alloc: Global,
+    parts: &Parts,
+    bases: &[u64],
+    values: &V,
+) -> Result<List<Run>, ImageRefusal>
+    requires { IsValid parts.now }
+    ensures image { IfOk result (λ runs. IsImageOfModule parts.now bases.now (V.meaning values.now (8 * parts.now.maus)) runs) }
+    ensures refusal { IfErr result (λ refusal. IsRefusalOfModule parts.now bases.now (V.meaning values.now (8 * parts.now.maus)) refusal) }
+{
+    let layout = Layout {
+        sections: parts.sections.as_slice(),
+        bases,
+        width: 8 * u32::from(parts.maus),
+        order: parts.order,
+    };
+    image_of(alloc, &layout, values, parts.loads.as_slice())
+}

@@ -1,0 +1,22 @@
+use crate::stop::Stop;
+use mufom_numbers::NoMemory;
+
+/// Why the loads of a module make no image.
+#[derive(Debug, Drop)]
+pub enum ImageRefusal {
+    /// What ends the walk over the loads.
+    Stopped(Stop),
+    /// Out of memory.
+    NoMemory,
+}
+
+impl From<NoMemory> for ImageRefusal {
+    ghost use Rattle.std.specs.Prelude.{◌≡◌};
+    ghost use Rattle.mufom_image_bytes.specs.declared.refusal.ImageRefusal.TheVariants.{NoMemory};
+
+    ghost from_gives = { λ _ refusal. refusal ≡ NoMemory };
+
+    fn from(_: NoMemory) -> Self {
+        ImageRefusal::NoMemory
+    }
+}

@@ -1,0 +1,77 @@
+//! The rows of neighbouring addresses that loaded bytes make.
+
+ghost use Rattle.std.specs.Prelude.{◌≡◌, ◌+◌, ◌≤◌, length, IfOk};
+ghost use Rattle.std.specs.List.{All};
+ghost use Rattle.mufom_meaning.specs.AddressMap.{run_cells, AreApart};
+ghost use Rattle.mufom_image_bytes.specs.Chunks.{cells_of_chunks};
+ghost use Rattle.mufom_image_bytes.specs.Spread.{AreSpread, IsAmong, first_row, bytes_of_chunks};
+
+use crate::chunk::Chunk;
+use mufom_meaning::Run;
+use mufom_numbers::{List, NoMemory};
+use std::alloc::Global;
+
+// The address after a chunk.
+fn end_of(chunk: &Chunk) -> u128
+    ensures { result ≡ chunk.now.address + chunk.now.count }
+{
+    chunk.address as u128 + chunk.count as u128
+}
+
+// How many chunks the first row has: the first chunk, and those that go on where the one before ends.
+fn row_count(chunks: &[Chunk]) -> usize
+    ensures count { result ≡ first_row chunks.now }
+    ensures within { result ≤ length chunks.now }
+{
+    let mut end: u128 = 0;
+    let mut count = 0;
+    for chunk in chunks {
+        if count > 0 && chunk.address as u128 != end {
+            break;
+        }
+        end = end_of(chunk);
+        count += 1;
+    }
+    count
+}
+
+// How many bytes the chunks have, as room to take for them.
+fn room_for(chunks: &[Chunk]) -> usize {
+    let mut room: usize = 0;
+    for chunk in chunks {
+        room = room.saturating_add(chunk.count);
+    }
+    room
+}
+
+// The bytes of chunks, one after another.
+fn joined(alloc: Global, chunks: &[Chunk], bytes: &[u8]) -> Result<Vec<u8>, NoMemory>
+    requires { All (IsAmong bytes.now) chunks.now }
+    ensures { IfOk result (λ all. all.items ≡ bytes_of_chunks bytes.now chunks.now) }
+{
+    let mut all = Vec::with_capacity(alloc, room_for(chunks))?;
+    for chunk in chunks {
+        all.extend_from_slice(&bytes[chunk.start..chunk.start + chunk.count])?;
+    }
+    Ok(all)
+}
+
+/// The maximal rows of the bytes of chunks, which go by address and share none.
+pub fn maximal_rows(alloc: Global, chunks: &[Chunk], bytes: &[u8]) -> Result<List<Run>, NoMemory>
+    requires spread { AreSpread 0 chunks.now }
+    requires among { All (IsAmong bytes.now) chunks.now }
+    ensures apart { IfOk result (λ runs. AreApart 0 runs) }
+    ensures cells { IfOk result (λ runs. run_cells runs ≡ cells_of_chunks bytes.now chunks.now) }
+{
+    let mut runs = List::new(alloc);
+    let mut rest = chunks;
+    while let [first, ..] = rest {
+        let (row, after) = rest.split_at(row_count(rest));
+        runs.push(Run {
+            address: first.address,
+            bytes: List::from_vec(joined(alloc, row, bytes)?),
+        })?;
+        rest = after;
+    }
+    Ok(runs)
+}

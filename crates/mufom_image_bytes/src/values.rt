@@ -1,0 +1,18 @@
+ghost use Rattle.std.specs.Prelude.{◌≡◌, ℕ, ◌<◌, ◌≤◌, ◌^◌, Option, IfSome};
+ghost use Rattle.mufom_expr.specs.Tree.{Tree};
+
+use mufom_expr::Postfix;
+
+/// What gives the expressions of a module their values.
+pub trait Values {
+    /// The value of an expression, by the width of an address and the program counter, or none.
+    ghost meaning: { Self → ℕ → ℕ → Tree → Option ℕ };
+
+    /// The value of an expression modulo 2 to the width, which is 8 to 64, where the program counter
+    /// has this value. `None` where it has none.
+    fn value(&self, width: u32, counter: u64, expression: &Postfix) -> Option<u64>
+        requires low { 8 ≤ width }
+        requires high { width ≤ 64 }
+        ensures value { result ≡ meaning self.now width counter expression.now }
+        ensures residue { IfSome result (λ v. v < 2 ^ width) };
+}

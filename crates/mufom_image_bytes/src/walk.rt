@@ -1,0 +1,154 @@
+//! The walk over the loads, up to the first that cannot be put.
+
+ghost use Rattle.std.specs.Prelude.{◌≡◌, ◌+◌, ◌≤◌, ◌^◌, ◌<◌, None, option_map, slice_index, slice_set, IfOk, IfSome, OnOk};
+ghost use Rattle.mufom_expr.specs.Value.{value_at};
+ghost use Rattle.mufom_loads.specs.declared.load.Item.TheVariants.{Field};
+ghost use Rattle.mufom_loads.specs.Lengths.{byte_count, repeated};
+ghost use Rattle.mufom_image_bytes.specs.Stops.{fact_of};
+ghost use Rattle.mufom_image_bytes.specs.Loaded.{IsTiled};
+ghost use Rattle.mufom_image_bytes.specs.Outcomes.{field_outcome, item_bytes, with_bytes, placed_outcome, item_outcome, items_outcome};
+ghost use Rattle.mufom_image_bytes.specs.Walks.{progress_of, IsNarrow};
+
+use crate::field::{field_number, fits, spelled};
+use crate::layout::Layout;
+use crate::loaded::Loaded;
+use crate::stop::Stop;
+use crate::values::Values;
+use mufom_expr::{FieldKind, Postfix};
+use mufom_loads::{Item, item_length};
+use mufom_numbers::NoMemory;
+
+/// How far the loads went.
+#[derive(Drop)]
+pub struct Walk {
+    /// The program counter of each section.
+    pub counters: Vec<u64>,
+    pub loaded: Loaded,
+}
+
+/// The counter of a section, and 0 where there is none.
+pub fn counter_of(counters: &[u64], section: u32) -> u64
+    ensures { result ≡ slice_index counters.now section }
+{
+    counters.get(section as usize).copied().unwrap_or(0)
+}
+
+/// Sets the counter of a section, where there is one.
+pub fn set_counter(counters: &mut [u64], section: u32, value: u64)
+    ensures { counters.new ≡ slice_set counters.old section value }
+{
+    let section = section as usize;
+    if section < counters.len() {
+        counters[section] = value;
+    }
+}
+
+// The number that a field at an address spells, or 0 and what ends the walk.
+fn field_at(
+    layout: &Layout<'_>,
+    section: u32,
+    address: u64,
+    kind: FieldKind,
+    size: u8,
+    value: Option<u64>,
+) -> (u64, Option<Stop>)
+    requires width { layout.now.width ≤ 64 }
+    requires size { size ≤ 8 }
+    requires residue { IfSome value (λ v. v < 2 ^ layout.now.width) }
+    ensures number { result.0 ≡ (field_outcome (2 ^ layout.now.width) section address kind size value).0 }
+    ensures stop { option_map fact_of result.1 ≡ (field_outcome (2 ^ layout.now.width) section address kind size value).1 }
+{
+    let Some(value) = value else {
+        return (0, Some(Stop::Field { section, address }));
+    };
+    if !fits(layout.width, kind, size, value) {
+        let stop = Stop::Overflow {
+            section,
+            address,
+            kind,
+            size,
+            value,
+        };
+        return (0, Some(stop));
+    }
+    (field_number(layout.width, kind, size, value), None)
+}
+
+impl Walk {
+    // Puts the `count` bytes of an item at the counter of a section.
+    fn put(
+        &mut self,
+        layout: &Layout<'_>,
+        section: u32,
+        at: u64,
+        bytes: &[u8],
+        count: u64,
+    ) -> Result<(), NoMemory>
+        requires width { layout.now.width ≤ 64 }
+        requires tiled { IsTiled self.old.loaded }
+        ensures tiled { OnOk result (IsTiled self.new.loaded) }
+        ensures progress { OnOk result (progress_of self.new ≡ with_bytes layout.now section at bytes.now count (progress_of self.old)) }
+    {
+        self.loaded.add(at, bytes)?;
+        let next = layout.residue(at as u128 + count as u128);
+        set_counter(&mut self.counters, section, next);
+        Ok(())
+    }
+}
+
+// Puts an item of which no byte lies outside its section.
+fn put_item<V: Values>(
+    layout: &Layout<'_>,
+    values: &V,
+    section: u32,
+    at: u64,
+    item: &Item,
+    walk: &mut Walk,
+) -> Result<Option<Stop>, NoMemory>
+    requires low { 8 ≤ layout.now.width }
+    requires high { layout.now.width ≤ 64 }
+    requires narrow { IsNarrow item.now }
+    requires tiled { IsTiled walk.old.loaded }
+    ensures tiled { OnOk result (IsTiled walk.new.loaded) }
+    ensures outcome { IfOk result (λ stop. (progress_of walk.new, option_map fact_of stop) ≡ placed_outcome layout.now (V.meaning values.now layout.now.width) section at item.now None (progress_of walk.old)) }
+{
+    match item {
+        Item::Literal(bytes) => {
+            walk.put(layout, section, at, bytes.as_slice(), bytes.len() as u64)?;
+            Ok(None)
+        }
+        Item::Field { kind, value, size } => {
+            let found = values.value(layout.width, at, value);
+            let (number, stop) = field_at(layout, section, at, *kind, *size, found);
+            let bytes = spelled(layout.order, *size, number);
+            walk.put(layout, section, at, bytes.as_slice(), *size as u64)?;
+            Ok(stop)
+        }
+    }
+}
+
+/// Loads an item at the counter of a section, and answers what ends the walk there.
+pub fn load_item<V: Values>(
+    layout: &Layout<'_>,
+    values: &V,
+    section: u32,
+    item: &Item,
+    walk: &mut Walk,
+) -> Result<Option<Stop>, NoMemory>
+    requires low { 8 ≤ layout.now.width }
+    requires high { layout.now.width ≤ 64 }
+    requires narrow { IsNarrow item.now }
+    requires tiled { IsTiled walk.old.loaded }
+    ensures tiled { OnOk result (IsTiled walk.new.loaded) }
+    ensures outcome { IfOk result (λ stop. (progress_of walk.new, option_map fact_of stop) ≡ item_outcome layout.now (V.meaning values.now layout.now.width) section item.now (progress_of walk.old)) }
+{
+    let count = item_length(item);
+    if count == 0 {
+        return Ok(None);
+    }
+    let at = counter_of(&walk.counters, section);
+    match layout.outside(section, at, count) {
+        Some(address) => Ok(Some(Stop::Outside { section, address })),
+        None => put_item(layout, values, section, at, item, walk),
+    }
+}
