@@ -9,14 +9,14 @@ use Rattle.mufom_records.specs.declared.record.Record.{Record}
 use Rattle.mufom_records.specs.declared.record.Record.TheVariants as r
 use Rattle.mufom_module.specs.SpelledRecords.{SpelledRecord, section, public, reference, of_kind, declared_by, assigned_by}
 use Rattle.mufom_module.specs.RecordParts.{Part, extension_part, environment_part, section_part, external_part, debug_part, data_part, trailer_part, end_part, number_of, part_of, is_this_part, stands_in}
-use Rattle.mufom_module.specs.Grammar.{offset_in, declares_again, states_again, file_limit}
+use Rattle.mufom_module.specs.Grammar.{offset_in, declares_again, states_again, names_unknown, has_no_section, Follows, file_limit}
 use Rattle.mufom_read.specs.declared.prefix.Prefix.{Prefix}
 use Rattle.mufom_read.specs.declared.prefix.Location as code
 use Rattle.mufom_read.specs.declared.prefix.Location.TheVariants as offset
 use Rattle.mufom_read.specs.Prefixes.{Step, Extent, records_of, offsets_of, record_of}
-use Rattle.mufom_read.specs.Faults.{Fault, fault_if, fault_for, record_fault, part_record_fault, rule_broken, is_out_of_order, is_left_for_later}
+use Rattle.mufom_read.specs.Faults.{Fault, fault_if, fault_for, record_fault, part_record_fault, rule_broken, has_bad_alignment, is_out_of_order, is_left_for_later}
 use Rattle.mufom_read.specs.PartsOfCode.{as_extent}
-use Rattle.mufom_read.specs.Kept.{statements, alignment_stated, size_stated, base_stated, value_stated, weakness_stated, HasRoom}
+use Rattle.mufom_read.specs.Kept.{as_record, statements, alignment_stated, size_stated, base_stated, value_stated, weakness_stated, HasRoom}
 use Rattle.mufom_read.specs.PrefixOfCode.{AreFrom, AreOrdered, IsPrefixOf, IsAddable, IsHeaderRow, IsPlacedWell, as_location}
 use Rattle.mufom_read.proofs.RuleLaws.{declares, states}
 
@@ -288,6 +288,35 @@ part_row reads_debug prefix e start p other later clean =
       later = λ reads. same_later (offsets_of prefix) _ (no_offset e.part p.row stands) (later reads);
       ordered = same_order (offsets_of prefix) _ (no_offset e.part p.row stands);
     }
+
+header_follows : (before : List SpelledRecord) (row : Record) (bytes : List ℕ) → IsHeaderRow row → Follows before (as_record row bytes)
+header_follows before (r.ModuleBegin a b) bytes is = record { new = refl; known = refl; once = refl; placed = refl }
+header_follows before (r.Descriptor a b c) bytes is = record { new = refl; known = refl; once = refl; placed = refl }
+header_follows before (r.Offset a b) bytes is = record { new = refl; known = refl; once = refl; placed = refl }
+header_follows before row bytes is = absurd is
+
+end_follows : (before : List SpelledRecord) (row : Record) (bytes : List ℕ) → stands_in end_part row ≡ true → Follows before (as_record row bytes)
+end_follows before r.ModuleEnd bytes h = record { new = refl; known = refl; once = refl; placed = refl }
+end_follows before (r.ModuleBegin a b) bytes h = absurd (true≢false (sym h))
+end_follows before (r.Descriptor a b c) bytes h = absurd (true≢false (sym h))
+end_follows before (r.Offset a b) bytes h = absurd (true≢false (sym h))
+end_follows before row bytes h = absurd (true≢false (sym h))
+
+part_follows : (prefix : List Step) (e : Extent) (start : ℕ) (p : SpelledRecord) → part_record_fault prefix e start p ≡ None → Follows (records_of prefix) p
+part_follows prefix e start p clean =
+    let unbroken = no_reason start _ (none_of _ _ (none_of _ _ clean).1).1 in
+    let first = no_first (declares_again (records_of prefix) p.row) _ _ unbroken in
+    let second = no_first (names_unknown (records_of prefix) p) _ _ first.1 in
+    let third = no_first (states_again (records_of prefix) p.row) _ _ second.1 in
+    let fourth = no_first (has_bad_alignment p.row) _ _ third.1 in
+    let fifth = no_first (has_no_section (records_of prefix) p.row) _ _ fourth.1 in
+    record { new = first.0; known = second.0; once = third.0; placed = fifth.0 }
+
+-- a record at its place that has no fault keeps to the rules after those before it
+pub follows-at : (reads_debug : Bool) (prefix : List Step) (at : code.Location) (start : ℕ) (p : SpelledRecord) → IsPlacedWell at p.row → record_fault reads_debug prefix (as_location at) start p ≡ None → Follows (records_of prefix) p
+follows-at reads_debug prefix (offset.Header k) start p well clean = header_follows (records_of prefix) p.row p.bytes well.0
+follows-at reads_debug prefix (offset.Part e) start p well clean = part_follows prefix (as_extent e) start p clean
+follows-at reads_debug prefix offset.End start p well clean = end_follows (records_of prefix) p.row p.bytes (not_not _ (no_fault _ _ _ clean))
 
 -- a record at its place that has no fault may be added
 pub addable : (reads_debug : Bool) (prefix : List Step) (at : code.Location) (start : ℕ) (p : SpelledRecord) → IsPlacedWell at p.row → (reads_debug ≡ true → get_or (offsets_of prefix) 4 0 ≡ 0)

@@ -3,7 +3,6 @@ pub mod RuleLaws
 pub mod TreeLaws
 pub mod WholeLaws
 pub mod StatedLaws
-pub mod NameLaws
 pub mod PrefixLaws
 pub mod AddLaws
 pub mod JudgeLaws
@@ -13,6 +12,15 @@ pub mod RecordFacts
 pub mod StepLaws
 pub mod PlaceLaws
 pub mod LocationMoves
+pub mod FollowLaws
+pub mod InPlace
+pub mod ReferenceSteps
+pub mod PublicSteps
+pub mod MarkSteps
+pub mod PublicLaws
+pub mod PartEnd
+pub mod PublicFaults
+pub mod FaultLaws
 pub mod PartBytes
 pub mod RawLaws
 pub mod TakeLaws

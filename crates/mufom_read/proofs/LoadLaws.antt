@@ -1,5 +1,5 @@
 -- The loads so far, record by record.
-use Rattle.std.proofs.Common.{◌≡◌, ℕ, suc, ◌+◌, ◌<◌, false, true≢false, List, [], ◌∷◌, ◌++◌, length, map, drop, get_or, refl, sym, ap, ◌∙◌, arith, append-nil, append_assoc, Result, Ok, Err, OnOk, Option, Some, None, option_map}
+use Rattle.std.proofs.Common.{◌≡◌, ℕ, suc, ◌+◌, ◌<◌, true, false, true≢false, List, [], ◌∷◌, ◌++◌, length, map, drop, get_or, refl, sym, ap, ◌∙◌, arith, append-nil, append_assoc, Result, Ok, Err, OnOk, Option, Some, None, option_map}
 use Rattle.std.proofs.Math.Seq.{drop-cons}
 use Rattle.std.specs.Prelude.{unwrap_or}
 use Rattle.mufom_numbers.specs.declared.taken.Span.{Span}
@@ -9,7 +9,7 @@ use Rattle.mufom_expr.specs.Spelled.{Indexes}
 use Rattle.mufom_records.specs.declared.record.Record.{Record}
 use Rattle.mufom_records.specs.declared.record.Record.TheVariants as r
 use Rattle.mufom_loads.specs.declared.load.Item.TheVariants.{Field}
-use Rattle.mufom_module.specs.SpelledRecords.{SpelledRecord, expression_of, tree_in, tree_of_record, positioned}
+use Rattle.mufom_module.specs.SpelledRecords.{SpelledRecord, is_public_value, expression_of, tree_in, tree_of_record, positioned}
 use Rattle.mufom_module.specs.Gathered.{item_by}
 use Rattle.mufom_read.specs.declared.kept.KeptRecord.{KeptRecord}
 use Rattle.mufom_read.specs.declared.loads.Loads.{Loads}
@@ -78,3 +78,12 @@ no_item ix maus p row h = refl
 -- the loads with a record that is no item
 pub with-other : (ix : Indexes) (maus : ℕ) (s : Loads) (p : SpelledRecord) → is_item p.row ≡ false → with_load ix maus s p ≡ with_made ix s p None
 with-other ix maus s p h = ap (with_made ix s p) (no_item ix maus p p.row h)
+
+-- an item is no value of a public
+pub item-plain : (row : Record) → is_item row ≡ true → is_public_value row ≡ false
+item-plain (r.PublicValue i value) h = absurd (true≢false (sym h))
+item-plain row h = refl
+
+pub stepped : {A E : Type 0} (r : Result A E) (a b c : Loads) → b ≡ c → OnOk r (a ≡ b) → OnOk r (a ≡ c)
+stepped (Ok x) a b c e h = h ∙ e
+stepped (Err x) a b c e h = tt

@@ -1,5 +1,5 @@
 -- The loads of a whole prefix: those that the records of its data part give by the indexes of the file.
-use Rattle.std.proofs.Common.{◌≡◌, ℕ, ◌==◌, true, false, true≢false, not, List, [], ◌∷◌, ◌++◌, map, Option, Some, is_none, unwrap_or, refl, sym, ap, ◌∙◌, append-nil, append_assoc}
+use Rattle.std.proofs.Common.{◌≡◌, ℕ, ◌==◌, Bool, true, false, true≢false, not, List, [], ◌∷◌, ◌++◌, map, Option, Some, is_none, unwrap_or, refl, sym, ap, ◌∙◌, append-nil, append_assoc}
 use Rattle.std.specs.List.{list_all, AllByRecursion}
 use Rattle.std.proofs.lemmas.Bool.{and_parts}
 use Rattle.std.proofs.lemmas.List.Elements.{filter_map-append}
@@ -21,7 +21,7 @@ use Rattle.mufom_module.specs.Gathered.{loads_of}
 use Rattle.mufom_read.specs.declared.loads.Loads.{Loads}
 use Rattle.mufom_read.specs.declared.loads.OpenLoad.TheVariants as open_load
 use Rattle.mufom_read.specs.Stated.{indexes_in}
-use Rattle.mufom_read.specs.Kept.{tables_of, indexes_by, is_kept, as_record}
+use Rattle.mufom_read.specs.Kept.{tables_of, indexes_by, as_record}
 use Rattle.mufom_read.specs.LoadsSoFar.{loads_and, no_loads, closed, with_item, with_load, units_after, units_in, units_or, loads_from, loads_so_far}
 use Rattle.mufom_read.proofs.EndedParts.{KeptFrom}
 use Rattle.mufom_read.proofs.EndedNames.{IsSilent}
@@ -33,28 +33,32 @@ use Rattle.mufom_read.proofs.Stable.{position-stays}
 
 -- ---- records of other parts
 
--- none of the records is one of the data part
-abbrev pub AreKept : List SpelledRecord → Type 0
-AreKept records = AllByRecursion (λ p. is_kept p.row ≡ true) records
+-- a record of another part than the data part
+abbrev pub is_other : Record → Bool
+is_other row = not (stands_in data_part row)
 
--- records of another part are kept
-pub others-kept : (part : Part) → (number_of data_part == number_of part) ≡ false → (records : List SpelledRecord) → list_all (λ p. stands_in part p.row) records ≡ true → AreKept records
-others-kept part differ [] h = tt
-others-kept part differ (p ∷ records) h =
+-- none of the records is one of the data part
+abbrev pub AreOther : List SpelledRecord → Type 0
+AreOther records = AllByRecursion (λ p. is_other p.row ≡ true) records
+
+-- records of another part are none of it
+pub others-other : (part : Part) → (number_of data_part == number_of part) ≡ false → (records : List SpelledRecord) → list_all (λ p. stands_in part p.row) records ≡ true → AreOther records
+others-other part differ [] h = tt
+others-other part differ (p ∷ records) h =
     let both = and_parts (stands_in part p.row) _ h in
-    (ap not (other_part data_part part (part_of p.row) differ both.0), others-kept part differ records both.1)
+    (ap not (other_part data_part part (part_of p.row) differ both.0), others-other part differ records both.1)
 
 -- and those of the header
-pub silent-kept : (records : List SpelledRecord) → IsSilent records → AreKept records
-silent-kept [] h = tt
-silent-kept (p ∷ records) h = let both = and_parts (is_none (part_of p.row)) _ h in (ap not (unplaced data_part (part_of p.row) both.0), silent-kept records both.1)
+pub silent-other : (records : List SpelledRecord) → IsSilent records → AreOther records
+silent-other [] h = tt
+silent-other (p ∷ records) h = let both = and_parts (is_none (part_of p.row)) _ h in (ap not (unplaced data_part (part_of p.row) both.0), silent-other records both.1)
 
-pub kept-append : (a b : List SpelledRecord) → AreKept a → AreKept b → AreKept (a ++ b)
-kept-append [] b x y = y
-kept-append (p ∷ a) b x y = (x.0, kept-append a b x.1 y)
+pub other-append : (a b : List SpelledRecord) → AreOther a → AreOther b → AreOther (a ++ b)
+other-append [] b x y = y
+other-append (p ∷ a) b x y = (x.0, other-append a b x.1 y)
 
 module _ (ix : Indexes) (maus : ℕ) where
-  quiet_row : (s : Loads) (row : Record) (bytes : List ℕ) → is_kept row ≡ true → with_load ix maus s (as_record row bytes) ≡ loads_and (closed s) open_load.Nothing
+  quiet_row : (s : Loads) (row : Record) (bytes : List ℕ) → is_other row ≡ true → with_load ix maus s (as_record row bytes) ≡ loads_and (closed s) open_load.Nothing
   quiet_row s (r.SetSection i) bytes h = absurd (true≢false (sym h))
   quiet_row s (r.SetPc i value) bytes h = absurd (true≢false (sym h))
   quiet_row s (r.Constant run) bytes h = absurd (true≢false (sym h))
@@ -66,23 +70,23 @@ module _ (ix : Indexes) (maus : ℕ) where
   quiet_row s row bytes h = ap (λ (l : List Load). loads_and l open_load.Nothing) (append-nil (closed s))
 
   -- a record of another part ends what awaits items, and adds nothing
-  quiet_load : (s : Loads) (p : SpelledRecord) → is_kept p.row ≡ true → with_load ix maus s p ≡ loads_and (closed s) open_load.Nothing
+  quiet_load : (s : Loads) (p : SpelledRecord) → is_other p.row ≡ true → with_load ix maus s p ≡ loads_and (closed s) open_load.Nothing
   quiet_load s p h = quiet_row s p.row p.bytes h
 
 -- the loads after one record, by the indexes and the units of those before it
 abbrev loads_at : List SpelledRecord → Loads → SpelledRecord → Loads
 loads_at before s p = with_load (indexes_by (tables_of before)) (units_or (units_in before)) s p
 
-quiet_at : (before : List SpelledRecord) (s : Loads) (p : SpelledRecord) → is_kept p.row ≡ true → loads_at before s p ≡ loads_and (closed s) open_load.Nothing
+quiet_at : (before : List SpelledRecord) (s : Loads) (p : SpelledRecord) → is_other p.row ≡ true → loads_at before s p ≡ loads_and (closed s) open_load.Nothing
 quiet_at before s p h = quiet_load (indexes_by (tables_of before)) (units_or (units_in before)) s p h
 
-quiet_all : (before : List SpelledRecord) (loads : List Load) (records : List SpelledRecord) → AreKept records → loads_from before (loads_and loads open_load.Nothing) records ≡ loads_and loads open_load.Nothing
+quiet_all : (before : List SpelledRecord) (loads : List Load) (records : List SpelledRecord) → AreOther records → loads_from before (loads_and loads open_load.Nothing) records ≡ loads_and loads open_load.Nothing
 quiet_all before loads [] all = refl
 quiet_all before loads (p ∷ records) all =
     ap (λ (s : Loads). loads_from (before ++ p ∷ []) s records) (quiet_at before (loads_and loads open_load.Nothing) p all.0 ∙ ap (λ (l : List Load). loads_and l open_load.Nothing) (append-nil loads))
     ∙ quiet_all (before ++ p ∷ []) loads records all.1
 
-quiet_closed : (before : List SpelledRecord) (s : Loads) (records : List SpelledRecord) → AreKept records → closed (loads_from before s records) ≡ closed s
+quiet_closed : (before : List SpelledRecord) (s : Loads) (records : List SpelledRecord) → AreOther records → closed (loads_from before s records) ≡ closed s
 quiet_closed before s [] all = refl
 quiet_closed before s (p ∷ records) all =
     ap (λ (x : Loads). closed (loads_from (before ++ p ∷ []) x records)) (quiet_at before s p all.0)
@@ -153,7 +157,7 @@ data_loads maus ix before (p ∷ records) after s same given kept =
 
 -- The loads that all records of a file give, where these are the records before the data part, those of it, those after it and
 -- the end of the module.
-pub loads-whole : (maus : ℕ) (ix : Indexes) (before loads after : List SpelledRecord) (end : SpelledRecord) → AreKept before → AreKept after → is_kept end.row ≡ true
+pub loads-whole : (maus : ℕ) (ix : Indexes) (before loads after : List SpelledRecord) (end : SpelledRecord) → AreOther before → AreOther after → is_other end.row ≡ true
     → indexes_in (((before ++ loads) ++ after) ++ end ∷ []) ≡ ix → units_in before ≡ Some maus → KeptFrom data_part before loads
     → (loads_so_far (((before ++ loads) ++ after) ++ end ∷ [])).loads ≡ loads_of ix maus loads
 loads-whole maus ix before loads after end quiet late last same given kept =

@@ -7,19 +7,21 @@ use Rattle.std.proofs.lemmas.List.Elements.{filter-append, filter_map-append}
 use Rattle.std.proofs.lemmas.List.Folds.{list_any-append}
 use Rattle.mufom_records.specs.declared.record.Record.{Record}
 use Rattle.mufom_records.specs.declared.record.Record.TheVariants as r
-use Rattle.mufom_module.specs.SpelledRecords.{SpelledRecord, section, public, reference, of_kind, declared_by, Once, start_address, is_same_statement, assigned_by}
+use Rattle.mufom_module.specs.SpelledRecords.{SpelledRecord, section, public, reference, declared, of_kind, declared_by, Once, start_address, is_same_statement, assigned_by}
 use Rattle.mufom_module.specs.RecordParts.{debug_part, stands_in, begins_item}
-use Rattle.mufom_module.specs.Grammar.{offset_in}
+use Rattle.mufom_module.specs.Grammar.{offset_in, Follows, FollowFrom}
+use Rattle.mufom_module.specs.Gathered.{references_of}
 use Rattle.mufom_read.specs.declared.prefix.Prefix.{Prefix}
 use Rattle.mufom_read.specs.declared.kept.KeptRecord.{KeptRecord}
 use Rattle.mufom_read.specs.declared.tables.Tables.{Tables}
-use Rattle.mufom_read.specs.Prefixes.{Step, read, step_bytes, prefix_bytes, size_of, record_of, records_of, offset_record, offset_records_of, offsets_of, first_present, OffsetRecord, awaits_items, ends_with}
+use Rattle.mufom_read.specs.Prefixes.{Step, raw, read, step_bytes, prefix_bytes, size_of, record_of, records_of, offset_record, offset_records_of, offsets_of, first_present, OffsetRecord, awaits_items, ends_with}
 use Rattle.mufom_read.specs.Faults.{set_by, OpenBlock, opened_after, open_from, open_blocks}
 use Rattle.mufom_read.specs.Kept.{tables_of, with_row, statements, alignment_stated, size_stated, base_stated, value_stated, weakness_stated, indexes_by, record_of_kept, placed, is_kept, kept_of, kept_alone, HasOwnParts}
+use Rattle.mufom_read.specs.NamesSoFar.{records_in, ArePublicsOf, AreRising}
 use Rattle.mufom_read.specs.LoadsSoFar.{with_load, units_after, units_in, units_or, loads_so_far}
-use Rattle.mufom_read.specs.PrefixOfCode.{AreOrdered, offset_count, IsPrefixOf, with_record, as_location, next_location, IsAddable}
-use Rattle.mufom_read.specs.declared.prefix.Location as code
+use Rattle.mufom_read.specs.PrefixOfCode.{AreOrdered, offset_count, IsPrefixOf, with_record, as_location, next_location, IsNext, IsAddable}
 use Rattle.mufom_read.proofs.LocationMoves.{offsets-stay, location-moves}
+use Rattle.mufom_read.proofs.FollowLaws.{follow-more, rising-more}
 use Rattle.mufom_read.proofs.PartBytes.{KeepsBytes}
 use Rattle.mufom_read.proofs.LoadLaws.{units-more, loads-more}
 
@@ -194,11 +196,35 @@ kept-alone k = by_case (is_kept k.row) where
   by_case true = refl
   by_case false = refl
 
+pub records-placed : (prefix : List Step) → records_of prefix ≡ records_in (offset_records_of prefix)
+records-placed [] = refl
+records-placed (raw b ∷ prefix) = records-placed prefix
+records-placed (read start p ∷ prefix) = ap (λ ps. p ∷ ps) (records-placed prefix)
+
+-- what is known of the publics and the references before a record that keeps to the rules
+pub next-of : (reads_debug : Bool) (f : Prefix) (prefix : List Step) (p : SpelledRecord) → IsPrefixOf reads_debug f prefix → Follows (records_of prefix) p → IsNext f (offset_records_of prefix) p
+next-of reads_debug f prefix p is follows =
+    let same = records-placed prefix in (
+      record {
+        publics = is.publics;
+        table = ap (λ (t : Tables). t.publics) is.tables ∙ ap (declared public) same;
+        follow = subst (FollowFrom []) same is.follow;
+        next = subst (λ ps. Follows ps p) same follows;
+      },
+      record {
+        same = is.references ∙ ap references_of same;
+        table = ap (λ (t : Tables). t.references) is.tables ∙ ap (declared reference) same;
+        follow = subst (FollowFrom []) same is.follow;
+        next = subst (λ ps. Follows ps p) same follows;
+      },
+    )
+
 -- a record is added after a prefix
-pub prefix-add : (reads_debug : Bool) (f : Prefix) (prefix : List Step) (k : KeptRecord) (location : code.Location) → IsPrefixOf reads_debug f prefix → HasOwnParts k → 0 < length k.bytes → k.start ≡ f.size
-    → as_location location ≡ next_location (as_location f.location) (f.offsets ++ cons_option (offset_in k.row) []) (f.size + length k.bytes)
-    → IsAddable reads_debug prefix k.row → KeepsBytes prefix (record_of_kept k) → IsPrefixOf reads_debug (with_record f k location) (prefix ++ read (size_of prefix) (record_of_kept k) ∷ [])
-prefix-add reads_debug f prefix k location is own some start moved fits keeps =
+pub prefix-add : (reads_debug : Bool) (f : Prefix) (prefix : List Step) (k : KeptRecord) (new : Prefix) → IsPrefixOf reads_debug f prefix → HasOwnParts k → 0 < length k.bytes → k.start ≡ f.size
+    → as_location new.location ≡ next_location (as_location f.location) (f.offsets ++ cons_option (offset_in k.row) []) (f.size + length k.bytes)
+    → ArePublicsOf new.publics (offset_records_of prefix ++ placed k ∷ []) → new.references.items ≡ references_of (records_in (offset_records_of prefix) ++ record_of_kept k ∷ [])
+    → IsAddable reads_debug prefix k.row → Follows (records_of prefix) (record_of_kept k) → KeepsBytes prefix (record_of_kept k) → IsPrefixOf reads_debug (with_record f k new) (prefix ++ read (size_of prefix) (record_of_kept k) ∷ [])
+prefix-add reads_debug f prefix k new is own some start moved publics references fits follows keeps =
     let p = record_of_kept k in
     let more : List Step = read (size_of prefix) p ∷ [] in
     let records : records_of (prefix ++ more) ≡ records_of prefix ++ p ∷ [] = filter_map-append record_of prefix more in
@@ -219,6 +245,8 @@ prefix-add reads_debug f prefix k location is own some start moved fits keeps =
       maus = ap (λ o. units_after o k.row) is.maus ∙ sym (ap units_in records ∙ units-more (records_of prefix) p);
       awaits = sym (ap awaits_items last);
       ended = sym (ap ends_with last);
+      publics = subst (ArePublicsOf new.publics) ((λ j. offset_records_of prefix ++ ((start ∙ is.size) j, p) ∷ []) ∙ sym offsets_named) publics;
+      references = references ∙ ap (λ ps. references_of (ps ++ p ∷ [])) (sym (records-placed prefix)) ∙ ap references_of (sym records);
       own = All-append HasOwnParts f.kept (kept_alone k) is.own (alone-own k own);
       tables = ap (λ t. with_row t k.row) is.tables ∙ with-grown (tables_of (records_of prefix)) k.row ∙ sym (tables-append (records_of prefix) p) ∙ ap tables_of (sym records);
       offsets = new_offsets;
@@ -232,6 +260,8 @@ prefix-add reads_debug f prefix k location is own some start moved fits keeps =
       ordered = subst AreOrdered (sym offsets) (fits.ordered is.ordered);
       count = ap length offsets ∙ keeps.count ∙ ap offset_count (sym (length-append prefix more));
       begun = λ many. subst (λ (os : List ℕ). first_present os ≤ size_of (prefix ++ more)) (sym offsets) (omega (arith, size, keeps.begun (omega (arith, many, length-append prefix more))));
+      follow = subst (FollowFrom []) (sym records) (follow-more [] (records_of prefix) p is.follow follows);
+      rising = subst (λ ps. AreRising 0 ps (size_of (prefix ++ more))) (sym offsets_named) (rising-more 0 (offset_records_of prefix) (size_of prefix) (size_of (prefix ++ more)) p is.rising (omega (arith, size, some)));
     }
 
 -- ---- the last record

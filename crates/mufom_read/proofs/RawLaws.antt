@@ -5,7 +5,11 @@ use Rattle.std.specs.List.{last_or}
 use Rattle.std.proofs.lemmas.List.Elements.{filter_map-append}
 use Rattle.std.specs.Prelude.{All}
 use Rattle.mufom_module.specs.SpelledRecords.{SpelledRecord}
-use Rattle.mufom_module.specs.Grammar.{offsets_in}
+use Rattle.mufom_module.specs.Grammar.{offsets_in, FollowFrom}
+use Rattle.mufom_module.specs.Gathered.{references_of}
+use Rattle.mufom_read.specs.declared.publics.Publics.{Publics}
+use Rattle.mufom_read.specs.NamesSoFar.{ArePublicsOf, AreRising}
+use Rattle.mufom_read.proofs.FollowLaws.{rising-on}
 use Rattle.mufom_read.specs.Kept.{placed, kept_of, tables_of, HasOwnParts}
 use Rattle.mufom_read.specs.LoadsSoFar.{units_in, loads_so_far}
 use Rattle.mufom_read.specs.declared.prefix.Prefix.{Prefix}
@@ -72,6 +76,8 @@ raw-prefix reads_debug old new prefix e bytes is header found within more =
       maus = more.maus ∙ is.maus ∙ ap units_in (sym records);
       awaits = more.awaits ∙ is.awaits ∙ ap (λ (ps : List SpelledRecord). awaits_items (last_or None ps)) (sym records);
       ended = more.ended ∙ is.ended ∙ ap (λ (ps : List SpelledRecord). ends_with (last_or None ps)) (sym records);
+      publics = subst (λ (n : Publics). ArePublicsOf n (offset_records_of (prefix ++ map raw bytes))) (sym more.publics) (subst (ArePublicsOf old.publics) (sym (places_same prefix bytes)) is.publics);
+      references = more.references ∙ is.references ∙ ap references_of (sym records);
       own = subst (All HasOwnParts) (sym more.kept) is.own;
       tables = more.tables ∙ is.tables ∙ ap tables_of (sym records);
       offsets = more.offsets ∙ is.offsets ∙ ap offsets_in (sym records);
@@ -85,6 +91,8 @@ raw-prefix reads_debug old new prefix e bytes is header found within more =
       ordered = subst (λ (ps : List SpelledRecord). AreOrdered (offsets_in ps)) (sym records) is.ordered;
       count = ap (λ (ps : List SpelledRecord). length (offsets_in ps)) records ∙ is.count ∙ omega (arith, ltb-false (length prefix) 10 header, steps);
       begun = λ many. subst (λ (ps : List SpelledRecord). first_present (offsets_in ps) ≤ size_of (prefix ++ map raw bytes)) (sym records) (omega (arith, begun, size));
+      follow = subst (FollowFrom []) (sym records) is.follow;
+      rising = subst (λ ps. AreRising 0 ps (size_of (prefix ++ map raw bytes))) (sym (places_same prefix bytes)) (rising-on 0 (offset_records_of prefix) (size_of prefix) (size_of (prefix ++ map raw bytes)) is.rising (omega (arith, size)));
     }
 
 -- ---- the steps

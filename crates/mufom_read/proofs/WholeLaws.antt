@@ -2,8 +2,6 @@
 use Rattle.std.proofs.Common.{◌≡◌, ℕ, zero, suc, ◌+◌, ◌==◌, ◌&&◌, Bool, true, false, cond, true≢false, not, List, [], ◌∷◌, ◌++◌, length, Option, Some, None, refl, sym, ap, ◌∙◌, arith, ◌⊎◌, inl, inr, eq-eqb, ne_eqb, length-append, Result, Ok, Err, IfOk}
 use Rattle.std.proofs.lemmas.Bool.{cases_eq}
 use Rattle.std.specs.Option.{option_or}
-use Rattle.std.specs.List.{list_any}
-use Rattle.mufom_expr.specs.Value.{variables_of}
 use Rattle.mufom_read.specs.declared.tables.Tables.{Tables}
 use Rattle.mufom_records.specs.declared.record.Record.TheVariants as r
 use Rattle.mufom_numbers.specs.declared.reason.Reason.TheVariants as why
@@ -12,7 +10,7 @@ use Rattle.mufom_module.specs.Contents.{any_of}
 use Rattle.mufom_module.specs.SpelledRecords.{SpelledRecord, is_public_value, tree_of_record}
 use Rattle.mufom_read.specs.Prefixes.{OffsetRecord, first_present}
 use Rattle.mufom_read.specs.Faults.{Fault, leaves_gap, fault_if, first_fault, absolute_declared, public_declared, lacks_base, lacks_value, has_unknown_variable, section_fault, external_fault}
-use Rattle.mufom_read.specs.Kept.{tables_of, statements, has, is_unknown, is_kept, kept_of, lacks_base_in, lacks_value_in, has_unknown_value_in, section_fault_in, external_fault_in, first_or}
+use Rattle.mufom_read.specs.Kept.{tables_of, statements, has, is_kept, kept_of, lacks_base_in, lacks_value_in, has_unknown_value_in, section_fault_in, external_fault_in, first_or}
 use Rattle.mufom_read.proofs.TableLaws.{base-has, value-has}
 use Rattle.mufom_read.proofs.RuleLaws.{known-tree}
 
@@ -82,18 +80,5 @@ no_section : (row : Record) → is_kept row ≡ false → absolute_declared row 
 no_section (r.SectionType i absolute letter name a b c) h = absurd (true≢false h)
 no_section row h = refl
 
-no_public : (row : Record) → is_kept row ≡ false → public_declared row ≡ None
-no_public (r.PublicName i name) h = absurd (true≢false h)
-no_public row h = refl
-
-no_value : (row : Record) → is_kept row ≡ false → is_public_value row ≡ false
-no_value (r.PublicValue i value) h = absurd (true≢false h)
-no_value row h = refl
-
 pub no-section-fault : (t : Tables) (p : OffsetRecord) → is_kept p.1.row ≡ false → section_fault_in t p ≡ None
 no-section-fault t p h = ap (λ o. fault_if (any_of (λ i. not (has t.bases i)) o) p.0 why.MissingBase) (no_section p.1.row h)
-
-pub no-external-fault : (t : Tables) (p : OffsetRecord) → is_kept p.1.row ≡ false → external_fault_in t p ≡ None
-no-external-fault t p h = (λ k. option_or
-    (fault_if (no_value p.1.row h k && any_of (λ e. list_any (is_unknown t) (variables_of e)) (tree_of_record p.1)) p.0 why.UnknownIndex)
-    (fault_if (any_of (λ i. not (has t.values i)) (no_public p.1.row h k)) p.0 why.MissingValue))

@@ -1,23 +1,19 @@
 -- What the code gathers from the records of a prefix for the module that they state (IEEE Std 695, module structure).
-use Rattle.std.specs.Prelude.{◌≡◌, ℕ, ◌<◌, ◌≤◌, ◌==◌, Bool, true, List, [], ◌∷◌, ◌++◌, length, map, filter_map, position, slice_get, Option, Some, None, option_and_then, option_to_list, unwrap_or, if◌then◌else◌}
+use Rattle.std.specs.Prelude.{◌≡◌, ℕ, ◌<◌, ◌≤◌, ◌==◌, Bool, true, List, [], ◌∷◌, ◌++◌, length, map, position, slice_get, Option, Some, None, option_and_then, option_to_list}
 use Rattle.std.specs.List.{cons_option}
 use Rattle.mufom_numbers.specs.Spelling.{AreBytes}
-use Rattle.mufom_expr.specs.Tree.{Tree}
 use Rattle.mufom_records.specs.declared.record.Record.{Record}
 use Rattle.mufom_records.specs.declared.record.Record.TheVariants as r
-use Rattle.mufom_names.specs.declared.name.Note.{Note}
-use Rattle.mufom_names.specs.declared.name.Weak.{Weak}
 use Rattle.mufom_module.specs.declared.module.Parts.{Parts}
 use Rattle.mufom_module.specs.Grammar.{NamesModule, Describes, file_limit}
-use Rattle.mufom_module.specs.SpelledRecords.{SpelledRecord, tree_in, Kind, public, reference}
-use Rattle.mufom_module.specs.Gathered.{answers, note_of, public_note_for, reference_note_for, sections_of, publics_of, references_of, starts_of}
+use Rattle.mufom_module.specs.SpelledRecords.{SpelledRecord}
+use Rattle.mufom_module.specs.Gathered.{answers, sections_of, starts_of}
 use Rattle.mufom_read.specs.declared.prefix.Prefix.{Prefix}
 use Rattle.mufom_read.specs.declared.sections.SectionFacts.{SectionFacts}
-use Rattle.mufom_read.specs.declared.notes.Named.{Named}
-use Rattle.mufom_read.specs.declared.notes.Named.TheVariants as named
 use Rattle.mufom_read.specs.Prefixes.{Step, size_of, is_ended}
 use Rattle.mufom_read.specs.Judging.{IsSoundPrefix}
 use Rattle.mufom_read.specs.Kept.{record_of_kept, indexes_by}
+use Rattle.mufom_read.specs.NamesSoFar.{placed_public}
 use Rattle.mufom_read.specs.PrefixOfCode.{IsPrefixOf}
 
 -- ---- by the tables
@@ -51,52 +47,6 @@ section_facts ps = record { sizes = answers size_in ps; alignments = answers ali
 abbrev pub with_facts : SectionFacts → Record → SectionFacts
 with_facts f row = record { sizes = f.sizes ++ cons_option (size_in row) []; alignments = f.alignments ++ cons_option (alignment_in row) []; bases = f.bases ++ cons_option (base_in row) [] }
 
--- ---- names
-
--- the value that a record states, of whichever public
-abbrev pub value_in : SpelledRecord → Record → Option Tree
-value_in p (r.PublicValue i value) = Some (tree_in p value)
-value_in p _ = None
-
--- the values that records state, in order
-abbrev pub values_in : List SpelledRecord → List Tree
-values_in ps = filter_map (λ p. value_in p p.row) ps
-
--- what it states that makes a reference weak, whichever it is
-abbrev pub weak_in : Record → Option Weak
-weak_in (r.WeakReference i n default) = Some (record { size = n; default = unwrap_or default 0 })
-weak_in _ = None
-
--- the kind of index that such a name has
-abbrev pub kind_of : Named → Kind
-kind_of named.Public = public
-kind_of named.Reference = reference
-
--- no notes yet, where the record declares such a name
-abbrev pub none_for : Named → Record → Option (List Note)
-none_for named.Public (r.PublicName i name) = Some []
-none_for named.Reference (r.ReferenceName i name) = Some []
-none_for _ _ = None
-
--- the note that a record is of such a name, with the index of the name
-abbrev pub note_in : Named → Record → Option (ℕ × Note)
-note_in named.Public (r.PublicNote i type_index attribute ns) = Some (i, note_of type_index attribute ns)
-note_in named.Reference (r.ReferenceNote i type_index attribute ns) = Some (i, note_of type_index attribute ns)
-note_in _ _ = None
-
--- the note of the name with this index
-abbrev pub note_for : Named → ℕ → Record → Option Note
-note_for named.Public i row = public_note_for i row
-note_for named.Reference i row = reference_note_for i row
-
--- the notes of the name with this index, in order
-abbrev pub notes_for : Named → ℕ → List SpelledRecord → List Note
-notes_for which i ps = answers (note_for which i) ps
-
--- those with one more, of this index
-abbrev pub notes_with : ℕ → Note → (ℕ → List Note) → ℕ → List Note
-notes_with index note notes i = if i == index then notes i ++ note ∷ [] else notes i
-
 -- ---- the module
 
 -- What the records and the bytes that the code keeps state is what the module has.
@@ -111,8 +61,8 @@ pub record IsStatedByKept (f : Prefix) (m : Parts) : Type 0 where
   pub extension : m.ext ≡ f.extension.items
   pub environment : m.env ≡ f.environment.items
   pub sections : m.sections ≡ sections_of (map record_of_kept f.kept)
-  pub publics : m.names.publics ≡ publics_of (indexes_by f.tables) (map record_of_kept f.kept)
-  pub references : m.names.references ≡ references_of (map record_of_kept f.kept)
+  pub publics : m.names.publics ≡ map (placed_public (indexes_by f.tables)) f.publics.list.items
+  pub references : m.names.references ≡ f.references.items
   pub debug : m.debug ≡ []
   pub loads : m.loads ≡ f.loads.loads
   pub start : option_to_list m.start ≡ starts_of (indexes_by f.tables) (map record_of_kept f.kept)

@@ -1,5 +1,5 @@
 -- What the code keeps of the records of a prefix: which indexes they declare, and which they give a value.
-use Rattle.std.specs.Prelude.{ℕ, zero, suc, ◌<◌, ◌-◌, ◌^◌, ◌==◌, ◌||◌, ◌&&◌, Bool, true, false, not, List, [], ◌∷◌, ◌++◌, length, filter_map, Option, Some, None, is_none, option_to_list, if◌then◌else◌}
+use Rattle.std.specs.Prelude.{◌≡◌, ℕ, zero, suc, ◌<◌, ◌-◌, ◌^◌, ◌==◌, ◌||◌, ◌&&◌, Bool, true, false, not, List, [], ◌∷◌, ◌++◌, length, filter_map, Option, Some, None, is_none, option_to_list, if◌then◌else◌}
 use Rattle.std.specs.List.{list_any, list_all, filter}
 use Rattle.mufom_numbers.specs.declared.reason.Reason.{Reason}
 use Rattle.mufom_numbers.specs.declared.reason.Reason.TheVariants as why
@@ -11,7 +11,7 @@ use Rattle.mufom_records.specs.declared.record.Record.{Record}
 use Rattle.mufom_records.specs.declared.record.Record.TheVariants as r
 use Rattle.mufom_module.specs.Contents.{any_of}
 use Rattle.mufom_module.specs.Defects.{has_other_counter}
-use Rattle.mufom_module.specs.RecordParts.{data_part, stands_in, is_loading}
+use Rattle.mufom_module.specs.RecordParts.{external_part, data_part, stands_in, is_loading}
 use Rattle.mufom_module.specs.SpelledRecords.{SpelledRecord, Kind, FileIndex, section, public, reference, debug_name, declared, named_by, is_public_value, tree_of_record, index_of_variable, Once, value_of_public, weakness, alignment, section_size, section_base, start_address, assigned_by, is_assigned}
 use Rattle.mufom_read.specs.declared.tables.Tables.{Tables}
 use Rattle.std.specs.Option.{option_or}
@@ -70,9 +70,11 @@ tables_of records = record {
 abbrev pub indexes_by : Tables → Indexes
 indexes_by t = record { sections = t.sections; publics = t.publics; references = t.references; debug_names = [] }
 
--- the tables with no section set
-abbrev pub without_section : Tables → Tables
-without_section t = record t { current = None }
+-- the tables have what these records state of sections
+pub record AreSectionTables (t : Tables) (records : List SpelledRecord) : Type 0 where
+  pub alignments : t.alignments ≡ filter_map alignment_stated (statements records)
+  pub sizes : t.sizes ≡ filter_map size_stated (statements records)
+  pub bases : t.bases ≡ filter_map base_stated (statements records)
 
 -- the tables with what one more record declares or states
 abbrev pub with_row : Tables → Record → Tables
@@ -193,9 +195,9 @@ kept_of_seen s = kept_record s.start s.row s.bytes.now
 abbrev pub placed : KeptRecord → OffsetRecord
 placed k = (k.start, record_of_kept k)
 
--- Records of the data part become loads at once; the code keeps the others.
+-- Records of the data part become loads at once, and those of the external part publics and references; the code keeps the others.
 abbrev pub is_kept : Record → Bool
-is_kept row = not (stands_in data_part row)
+is_kept row = not (stands_in external_part row) && not (stands_in data_part row)
 
 -- of records with their offsets, those that are kept
 abbrev pub kept_of : List OffsetRecord → List OffsetRecord

@@ -10,3 +10,4 @@ pub mod Reader
 pub mod Built
 pub mod Source
 pub mod LoadsSoFar
+pub mod NamesSoFar

@@ -10,7 +10,8 @@ use Rattle.mufom_module.specs.SpelledRecords.{SpelledRecord}
 use Rattle.mufom_numbers.specs.declared.taken.Taken.{Taken}
 use Rattle.mufom_numbers.specs.declared.taken.Taken.TheVariants.{Got, More}
 use Rattle.mufom_module.specs.RecordParts.{Part, extension_part, environment_part, debug_part, stands_in, opens_items}
-use Rattle.mufom_module.specs.Grammar.{offset_in}
+use Rattle.mufom_module.specs.Grammar.{offset_in, FollowFrom}
+use Rattle.mufom_module.specs.Gathered.{references_of}
 use Rattle.mufom_read.specs.declared.kept.KeptRecord.{KeptRecord}
 use Rattle.mufom_read.specs.declared.prefix.Prefix.{Prefix}
 use Rattle.mufom_read.specs.declared.prefix.Location as code
@@ -20,12 +21,13 @@ use Rattle.mufom_read.specs.declared.part.Part.TheVariants as part_of_code
 use Rattle.mufom_read.specs.declared.part.Extent as extents
 use Rattle.mufom_read.specs.declared.prefix.Next.{Next}
 use Rattle.mufom_read.specs.declared.prefix.Next.TheVariants as next
-use Rattle.mufom_read.specs.Prefixes.{Step, step_bytes, read, header_mode, body_mode, is_raw, part_among, parts_in_order, location_by, location_after, size_of, records_of, offset_records_of, offsets_of, first_present, header_count, Location, in_header, in_part, at_end, next_step, awaits_items, is_module_end, is_ended}
+use Rattle.mufom_read.specs.Prefixes.{OffsetRecord, Step, step_bytes, read, header_mode, body_mode, is_raw, part_among, parts_in_order, location_by, location_after, size_of, records_of, offset_records_of, offsets_of, first_present, header_count, Location, in_header, in_part, at_end, next_step, awaits_items, is_module_end, is_ended}
 use Rattle.mufom_read.specs.Faults.{open_blocks, record_fault, step_fault, ended_part_fault, fault_after}
 use Rattle.mufom_read.specs.Judging.{IsSoundFrom}
 use Rattle.mufom_read.specs.Stated.{part_bytes}
 use Rattle.mufom_read.specs.PartsOfCode.{as_part, as_extent}
 use Rattle.mufom_read.specs.Kept.{tables_of, with_row, indexes_by, is_new, placed, record_of_kept, kept_of, kept_alone, HasOwnParts, as_fault}
+use Rattle.mufom_read.specs.NamesSoFar.{records_in, ArePublicsOf, IsBefore, AreBefore, AreRising}
 use Rattle.mufom_read.specs.LoadsSoFar.{with_load, units_after, units_in, units_or, loads_so_far}
 
 -- where the next byte stands
@@ -75,6 +77,8 @@ pub record IsPrefixOf (reads_debug : Bool) (f : Prefix) (prefix : List Step) : T
   pub maus : f.maus ≡ units_in (records_of prefix)
   pub awaits : f.awaits_items ≡ awaits_items (last_or None (records_of prefix))
   pub ended : f.ended ≡ is_ended prefix
+  pub publics : ArePublicsOf f.publics (offset_records_of prefix)
+  pub references : f.references.items ≡ references_of (records_of prefix)
   pub own : All HasOwnParts f.kept
   pub tables : f.tables ≡ tables_of (records_of prefix)
   pub offsets : f.offsets ≡ offsets_of prefix
@@ -88,10 +92,12 @@ pub record IsPrefixOf (reads_debug : Bool) (f : Prefix) (prefix : List Step) : T
   pub ordered : AreOrdered (offsets_of prefix)
   pub count : length (offsets_of prefix) ≡ offset_count (length prefix)
   pub begun : 10 ≤ length prefix → first_present (offsets_of prefix) ≤ size_of prefix
+  pub follow : FollowFrom [] (records_of prefix)
+  pub rising : AreRising 0 (offset_records_of prefix) (size_of prefix)
 
--- the prefix with one more record, after which the next byte stands in this location
-abbrev pub with_record : Prefix → KeptRecord → code.Location → Prefix
-with_record f k location = record {
+-- the prefix with one more record, with the publics, the references and the location that stand after it
+abbrev pub with_record : Prefix → KeptRecord → Prefix → Prefix
+with_record f k new = record {
   kept = f.kept ++ kept_alone k;
   tables = with_row f.tables k.row;
   loads = with_load (indexes_by f.tables) (units_or f.maus) f.loads (record_of_kept k);
@@ -102,8 +108,14 @@ with_record f k location = record {
   extension = f.extension;
   environment = f.environment;
   size = f.size + length k.bytes;
-  location = location;
+  location = new.location;
+  publics = new.publics;
+  references = new.references;
 }
+
+-- what is known of the publics and the references before a record
+abbrev pub IsNext : Prefix → List OffsetRecord → SpelledRecord → Type 0
+IsNext f all p = IsBefore f.publics f.tables.publics all p × AreBefore f.references.items f.tables.references (records_in all) p
 
 -- what the record must be to be added after a prefix
 pub record IsAddable (reads_debug : Bool) (prefix : List Step) (row : Record) : Type 0 where
@@ -177,6 +189,8 @@ pub record HasRaw (old : Prefix) (part : codes.Part) (bytes : List ℕ) (new : P
   pub kept : new.kept ≡ old.kept
   pub tables : new.tables ≡ old.tables
   pub loads : new.loads ≡ old.loads
+  pub publics : new.publics ≡ old.publics
+  pub references : new.references.items ≡ old.references.items
   pub maus : new.maus ≡ old.maus
   pub awaits : new.awaits_items ≡ old.awaits_items
   pub ended : new.ended ≡ old.ended

@@ -7,12 +7,11 @@ ghost use Rattle.mufom_module.specs.SpelledRecords as spelled_records;
 ghost use Rattle.mufom_module.specs.Gathered as gathered;
 ghost use Rattle.mufom_module.specs.Grammar.{NamesModule, Describes, IsLetterOf, SpellsModule};
 ghost use Rattle.mufom_read.specs.Prefixes.{Step};
-ghost use Rattle.mufom_read.specs.Kept.{record_of_kept, tables_of, without_section, HasOwnParts, indexes_by};
+ghost use Rattle.mufom_read.specs.Kept.{record_of_kept, AreSectionTables, HasOwnParts, indexes_by};
 ghost use Rattle.mufom_read.specs.Built.{IsStatedByKept, IsWhole};
 
 use crate::kept::KeptRecord;
 use crate::loads::Loads;
-use crate::names::{publics_of, references_of};
 use crate::positions::value_in;
 use crate::prefix::Prefix;
 use crate::sections::sections_of;
@@ -125,44 +124,32 @@ fn start_of(
     Ok(None)
 }
 
-// The publics and the references.
-fn name_table(alloc: Global, tables: &Tables, kept: &[KeptRecord]) -> Result<NameTable, NoMemory>
-    requires own { All HasOwnParts kept.now }
-    requires tables { tables.now ≡ tables_of (map record_of_kept kept.now) }
-    ensures publics { IfOk result (λ names. names.publics ≡ gathered.publics_of (indexes_by tables.now) (map record_of_kept kept.now)) }
-    ensures references { IfOk result (λ names. names.references ≡ gathered.references_of (map record_of_kept kept.now)) }
-{
-    let publics = publics_of(alloc, tables, kept)?;
-    let references = references_of(alloc, tables, kept)?;
-    Ok(NameTable {
-        publics,
-        references,
-    })
-}
-
 // The parts of the module that the prefix states.
 fn parts_of(alloc: Global, prefix: Prefix) -> Result<Parts, NoMemory>
     requires own { All HasOwnParts prefix.kept }
-    requires tables { without_section prefix.tables ≡ tables_of (map record_of_kept prefix.kept) }
+    requires tables { AreSectionTables prefix.tables (map record_of_kept prefix.kept) }
     requires stated { (m : module_parts.Parts) × IsStatedByKept prefix m }
     ensures { IfOk result (λ parts. (m : module_parts.Parts) → IsStatedByKept prefix m → parts ≡ m) }
 {
     let Prefix {
         kept,
-        mut tables,
+        publics,
+        references,
+        tables,
         loads,
         extension,
         environment,
         ..
     } = prefix;
     let Loads { loads, .. } = loads;
-    // None of the records that are kept sets a section.
-    tables.current = None;
     let records = kept.as_slice();
     let (processor, name) = names_of(alloc, begin_of(records))?;
     let (maus, order) = layout_of(&descriptor_of(records).row);
     let sections = sections_of(alloc, &tables, records)?;
-    let names = name_table(alloc, &tables, records)?;
+    let names = NameTable {
+        publics: publics.into_placed(&tables),
+        references: List::from_vec(references),
+    };
     let start = start_of(alloc, &tables, records)?;
     Ok(Parts {
         processor,

@@ -1,6 +1,6 @@
 //! The records of a prefix, with their bytes: the one that is judged, and those that are kept.
 
-ghost use Rattle.std.specs.Prelude.{◌≡◌, ◌+◌, ◌≤◌, length, slice_range, IfOk, IfSome};
+ghost use Rattle.std.specs.Prelude.{◌≡◌, ◌+◌, ◌≤◌, length, slice_range, IfOk};
 ghost use Rattle.mufom_records.specs.Parts.{LiesIn, IsExpressionIn, HasParts};
 ghost use Rattle.mufom_module.specs.SpelledRecords as records;
 ghost use Rattle.mufom_read.specs.Kept.{record_of_kept, kept_of_seen};
@@ -129,19 +129,5 @@ impl KeptRecord {
         ensures { IfOk result (λ tree. tree ≡ records.tree_in (record_of_kept self.now) span) }
     {
         postfix_of(alloc, self.text(span))
-    }
-
-    /// The record's expression; none has more than one.
-    pub(crate) fn expression(&self, alloc: Global) -> Result<Option<Postfix>, NoMemory>
-        requires { HasParts self.now.bytes self.now.row }
-        ensures { IfOk result (λ tree. tree ≡ records.tree_of_record (record_of_kept self.now)) }
-    {
-        match expression_of(&self.row) {
-            None => Ok(None),
-            Some(span) => {
-                let tree = self.tree(alloc, span)?;
-                Ok(Some(tree))
-            }
-        }
     }
 }

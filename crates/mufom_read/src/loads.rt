@@ -1,6 +1,6 @@
 //! The loads so far, and what awaits items.
 
-ghost use Rattle.std.specs.Prelude.{◌≡◌, [], ◌∷◌, ◌++◌, IfOk, OnOk, option_map, Some, true};
+ghost use Rattle.std.specs.Prelude.{◌≡◌, [], ◌∷◌, ◌++◌, IfOk, OnOk, option_map, Some, true, false};
 ghost use Rattle.mufom_expr.specs.Tree.{Tree};
 ghost use Rattle.mufom_expr.specs.Spelled.{Indexes};
 ghost use Rattle.mufom_module.specs.SpelledRecords as records;
@@ -122,7 +122,7 @@ fn add_loads(
     value: Option<Postfix>,
 ) -> Result<(), NoMemory>
     requires own { HasOwnParts (kept_of_seen «record».now) }
-    requires value { value
+    requires value { records.is_public_value «record».now.row ≡ false → value
         ≡ option_map (records.positioned (indexes_by tables.now)) (records.tree_of_record (record_of_kept (kept_of_seen «record».now))) }
     ensures { OnOk result (loads.new ≡ loads.old
         ++ loads_at_once (indexes_by tables.now) (record_of_kept (kept_of_seen «record».now)) «record».now.row) }
@@ -190,7 +190,7 @@ impl Loads {
         value: Option<Postfix>,
     ) -> Result<(), NoMemory>
         requires own { HasOwnParts (kept_of_seen «record».now) }
-        requires value { value
+        requires value { records.is_public_value «record».now.row ≡ false → value
             ≡ option_map (records.positioned (indexes_by tables.now)) (records.tree_of_record (record_of_kept (kept_of_seen «record».now))) }
         ensures { OnOk result (self.new ≡ loads_and
             (closed self.old ++ loads_at_once (indexes_by tables.now) (record_of_kept (kept_of_seen «record».now)) «record».now.row)
@@ -201,7 +201,7 @@ impl Loads {
         add_loads(alloc, tables, &mut self.loads, record, value)
     }
 
-    /// Takes the next record, with its expression over the indexes of the file, by the indexes that those before it declare
+    /// Takes the next record, with its expression over the indexes of the file unless it is the value of a public, by the indexes that those before it declare
     /// and with these units in an address.
     pub(crate) fn take(
         &mut self,
@@ -212,7 +212,8 @@ impl Loads {
         tree: Option<Postfix>,
     ) -> Result<(), NoMemory>
         requires own { HasOwnParts (kept_of_seen «record».now) }
-        requires tree { tree ≡ records.tree_of_record (record_of_kept (kept_of_seen «record».now)) }
+        requires tree { records.is_public_value «record».now.row ≡ false
+            → tree ≡ records.tree_of_record (record_of_kept (kept_of_seen «record».now)) }
         ensures { OnOk result (self.new ≡ with_load (indexes_by tables.now) maus self.old (record_of_kept (kept_of_seen «record».now))) }
     {
         let value = renamed(tables, tree);

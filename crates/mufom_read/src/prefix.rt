@@ -1,15 +1,17 @@
 //! The records and unread bytes with which a stream begins, and the step after them.
 
-ghost use Rattle.std.specs.Prelude.{◌≡◌, ◌≢◌, ◌+◌, ◌-◌, ◌≤◌, ◌<◌, [], ◌++◌, ℕ, Bool, true, false, ◌==◌, ◌&&◌, not, if◌then◌else◌, Some, OnOk, List, length, take, None, option_map, IfOk, All, MatchOption};
+ghost use Rattle.std.specs.Prelude.{◌≡◌, ◌≢◌, ◌+◌, ◌-◌, ◌≤◌, ◌<◌, [], ◌++◌, ◌∷◌, ℕ, Bool, true, false, ◌==◌, ◌&&◌, not, if◌then◌else◌, Some, OnOk, List, length, take, None, option_map, IfOk, MatchOption};
 ghost use Rattle.std.specs.List.{cons_option};
 ghost use Rattle.mufom_module.specs.SpelledRecords as records;
 ghost use Rattle.mufom_module.specs.RecordParts as parts;
 ghost use Rattle.mufom_read.specs.Prefixes as prefixes;
 ghost use Rattle.mufom_read.specs.Faults as faults;
 ghost use Rattle.mufom_read.specs.PartsOfCode.{as_part, as_extent};
-ghost use Rattle.mufom_read.specs.Kept.{record_of_kept, kept_of_seen, kept_alone, HasOwnParts, HasRoom, is_new, as_fault};
+ghost use Rattle.mufom_read.specs.Kept.{record_of_kept, kept_of_seen, kept_alone, placed, HasOwnParts, HasRoom, is_new, as_fault};
+ghost use Rattle.mufom_read.specs.NamesSoFar.{ArePublicsOf, records_in};
+ghost use Rattle.mufom_module.specs.Gathered as gathered;
 ghost use Rattle.mufom_read.specs.LoadsSoFar.{units_after};
-ghost use Rattle.mufom_read.specs.PrefixOfCode.{IsPrefixOf, IsRead, IsRawPart, IsNotDebug, HasJudged, HasRaw, HasSkipped, IsPlacedWell, with_record, as_location, next_location, is_inside, mode_at, HasTaken, IsStepTaken, HasAdvanced};
+ghost use Rattle.mufom_read.specs.PrefixOfCode.{IsPrefixOf, IsNext, IsRead, IsRawPart, IsNotDebug, HasJudged, HasRaw, HasSkipped, IsPlacedWell, with_record, as_location, next_location, is_inside, mode_at, HasTaken, IsStepTaken, HasAdvanced};
 ghost use Rattle.mufom_read.specs.declared.prefix.Next.TheVariants as nexts;
 ghost use Rattle.mufom_records.specs.Reading.{record_at};
 ghost use Rattle.mufom_records.specs.declared.record.Mode.TheVariants as modes;
@@ -19,11 +21,14 @@ use crate::header::header_fault;
 use crate::kept::{KeptRecord, SeenRecord};
 use crate::loads::Loads;
 use crate::part::{Extent, Part, is_raw, part_at, stands_in};
+use crate::publics::Publics;
+use crate::references::take as take_reference;
 use crate::refusal::ReadRefusal;
-use crate::rules::rule_broken;
+use crate::rules::{is_public_value, rule_broken};
 use crate::tables::Tables;
 use crate::whole::whole_fault;
 use mufom_expr::Postfix;
+use mufom_names::Reference;
 use mufom_numbers::{List, NoMemory, Reason, Taken, codes};
 use mufom_records::{Mode, Record, next_record};
 use std::alloc::Global;
@@ -37,8 +42,10 @@ const MOST_UNITS: u64 = 8;
 /// What was judged of a stream so far, and has no fault.
 #[derive(Debug, Drop)]
 pub(crate) struct Prefix {
-    /// The records but those of the data part.
+    /// The records but those of the external and the data part.
     pub kept: List<KeptRecord>,
+    pub publics: Publics,
+    pub references: Vec<Reference>,
     pub tables: Tables,
     /// What the records of the data part give.
     pub loads: Loads,
@@ -169,6 +176,18 @@ fn at_most(bytes: &[u8], count: u64) -> &[u8]
     }
 }
 
+// The expression of the value of a public, or else of another record.
+fn value_and_rest(record: &Record, tree: Option<Postfix>) -> (Option<Postfix>, Option<Postfix>)
+    ensures value { records.is_public_value «record».now ≡ true → result.0 ≡ tree }
+    ensures rest { records.is_public_value «record».now ≡ false → result.1 ≡ tree }
+{
+    if is_public_value(record) {
+        (tree, None)
+    } else {
+        (None, tree)
+    }
+}
+
 // The units of an address: those of the first descriptor.
 fn units_after(maus: Option<u8>, record: &Record) -> Option<u8>
     ensures { result ≡ units_after maus «record».now }
@@ -186,11 +205,11 @@ fn is_module_end(record: &Record) -> bool
     matches!(record, Record::ModuleEnd)
 }
 
-// Keeps the record, unless it is one of the data part, whose loads are kept.
+// Keeps the record, unless it is one of the external part or of the data part: what these state is kept elsewhere.
 fn keep_last(alloc: Global, kept: &mut List<KeptRecord>, next: SeenRecord) -> Result<(), NoMemory>
     ensures { OnOk result (kept.new ≡ kept.old ++ kept_alone (kept_of_seen next.entry)) }
 {
-    if stands_in(Part::Data, &next.row) {
+    if stands_in(Part::External, &next.row) || stands_in(Part::Data, &next.row) {
         Ok(())
     } else {
         let record = next.into_kept(alloc)?;
@@ -205,6 +224,8 @@ impl Prefix {
     {
         Prefix {
             kept: List::new(alloc),
+            publics: Publics::new(alloc),
+            references: Vec::new(alloc),
             tables: Tables::new(alloc),
             loads: Loads::new(alloc),
             maus: None,
@@ -381,11 +402,21 @@ impl Prefix {
         requires own { HasOwnParts (kept_of_seen next) }
         requires tree { tree ≡ records.tree_of_record (record_of_kept (kept_of_seen next)) }
         requires fits { self.old.size + length next.bytes.now ≤ file_limit }
-        ensures added { OnOk result (self.new ≡ with_record self.old (kept_of_seen next.entry) self.new.location) }
+        requires start { next.start ≡ self.old.size }
+        requires known { (all : List prefixes.OffsetRecord) × IsNext self.old all (record_of_kept (kept_of_seen next)) }
+        ensures added { OnOk result (self.new ≡ with_record self.old (kept_of_seen next.entry) self.new) }
+        ensures publics { OnOk result ((all : List prefixes.OffsetRecord) → IsNext self.old all (record_of_kept (kept_of_seen next.entry))
+            → ArePublicsOf self.new.publics (all ++ placed (kept_of_seen next.entry) ∷ [])) }
+        ensures references { OnOk result ((all : List prefixes.OffsetRecord) → IsNext self.old all (record_of_kept (kept_of_seen next.entry))
+            → self.new.references.items ≡ gathered.references_of (records_in all ++ record_of_kept (kept_of_seen next.entry) ∷ [])) }
         ensures location { OnOk result (as_location self.new.location
             ≡ next_location (as_location self.old.location) (self.old.offsets ++ cons_option (offset_in next.entry.row) [])
             (self.old.size + length next.entry.bytes.now)) }
     {
+        let (value, tree) = value_and_rest(&next.row, tree);
+        self.publics
+            .take(alloc, &self.tables.publics, &next, value)?;
+        take_reference(alloc, &mut self.references, &self.tables.references, &next)?;
         let maus = self.maus.unwrap_or(2);
         self.loads.take(alloc, &self.tables, maus, &next, tree)?;
         self.maus = units_after(self.maus, &next.row);
@@ -493,21 +524,26 @@ impl Prefix {
     }
 
     /// The fault of the part that ends where the prefix does, as a whole, if one ends there.
-    fn ended_fault(&self, alloc: Global) -> Result<Option<ReadRefusal>, NoMemory>
-        requires known { All HasOwnParts self.now.kept }
-        ensures { IfOk result (λ fault. (reads_debug : Bool) (prefix : List prefixes.Step) → IsPrefixOf reads_debug self.now prefix
-            → option_map as_fault fault ≡ faults.ended_part_fault prefix) }
+    fn ended_fault(&self) -> Option<ReadRefusal>
+        requires { length self.now.publics.list.items ≡ length self.now.publics.marks.items }
+        ensures { (reads_debug : Bool) (prefix : List prefixes.Step) → IsPrefixOf reads_debug self.now prefix
+            → option_map as_fault result ≡ faults.ended_part_fault prefix }
     {
         if self.is_inside() {
-            return Ok(None);
+            return None;
         }
         match part_at(self.offsets.as_slice(), self.size.saturating_sub(1)) {
-            None => Ok(None),
+            None => None,
             Some(extent) => {
                 if extent.to == self.size {
-                    whole_fault(alloc, extent.part, &self.tables, self.kept.as_slice())
+                    whole_fault(
+                        extent.part,
+                        &self.tables,
+                        &self.publics,
+                        self.kept.as_slice(),
+                    )
                 } else {
-                    Ok(None)
+                    None
                 }
             }
         }
@@ -543,24 +579,24 @@ impl Prefix {
             → HasAdvanced reads_debug prefix rest.now self.new next) }
     {
         match self.step(alloc, reads_debug, rest)? {
-            Next::Took(count) => self.judge_part(alloc, count),
+            Next::Took(count) => Ok(self.judge_part(count)),
             Next::More => Ok(Next::More),
             Next::Refused(refusal) => Ok(Next::Refused(refusal)),
         }
     }
 
     // Judges the part that ends after the bytes that were taken, by their number, unless the module has ended.
-    fn judge_part(&self, alloc: Global, count: usize) -> Result<Next, NoMemory>
-        requires known { All HasOwnParts self.now.kept }
-        ensures { IfOk result (λ next. (reads_debug : Bool) (prefix : List prefixes.Step) (rest : List ℕ)
-            → IsStepTaken reads_debug prefix rest self.now (nexts.Took count) → HasAdvanced reads_debug prefix rest self.now next) }
+    fn judge_part(&self, count: usize) -> Next
+        requires { length self.now.publics.list.items ≡ length self.now.publics.marks.items }
+        ensures { (reads_debug : Bool) (prefix : List prefixes.Step) (rest : List ℕ)
+            → IsStepTaken reads_debug prefix rest self.now (nexts.Took count) → HasAdvanced reads_debug prefix rest self.now result }
     {
         if self.is_ended() {
-            return Ok(Next::Took(count));
+            return Next::Took(count);
         }
-        match self.ended_fault(alloc)? {
-            None => Ok(Next::Took(count)),
-            Some(refusal) => Ok(Next::Refused(refusal)),
+        match self.ended_fault() {
+            None => Next::Took(count),
+            Some(refusal) => Next::Refused(refusal),
         }
     }
 }

@@ -4,8 +4,8 @@ ghost use Rattle.std.specs.Prelude.{◌≡◌, [], ◌++◌, IfOk, OnOk, List, A
 ghost use Rattle.std.specs.List.{cons_option};
 ghost use Rattle.mufom_module.specs.SpelledRecords as records;
 ghost use Rattle.mufom_module.specs.Gathered as gathered;
-ghost use Rattle.mufom_read.specs.Kept.{record_of_kept, tables_of, HasOwnParts};
-ghost use Rattle.mufom_read.specs.Built.{size_in, alignment_in, base_in, section_facts, with_facts};
+ghost use Rattle.mufom_read.specs.Kept.{record_of_kept, AreSectionTables, HasOwnParts};
+ghost use Rattle.mufom_read.specs.Built.{section_facts, with_facts};
 
 use crate::kept::KeptRecord;
 use crate::positions::stated_at;
@@ -90,7 +90,7 @@ fn section_by(
     record: &KeptRecord,
 ) -> Result<Option<Section>, NoMemory>
     requires { HasOwnParts «record».now }
-    ensures { IfOk result (λ section. (part : List records.SpelledRecord) → tables.now ≡ tables_of part → facts.now ≡ section_facts part
+    ensures { IfOk result (λ section. (part : List records.SpelledRecord) → AreSectionTables tables.now part → facts.now ≡ section_facts part
         → section ≡ gathered.section_by part (record_of_kept «record».now) «record».now.row) }
 {
     match &record.row {
@@ -118,7 +118,7 @@ pub(crate) fn sections_of(
     kept: &[KeptRecord],
 ) -> Result<List<Section>, NoMemory>
     requires own { All HasOwnParts kept.now }
-    requires tables { tables.now ≡ tables_of (map record_of_kept kept.now) }
+    requires tables { AreSectionTables tables.now (map record_of_kept kept.now) }
     ensures { IfOk result (λ sections. sections ≡ gathered.sections_of (map record_of_kept kept.now)) }
 {
     let facts = facts_of(alloc, kept)?;

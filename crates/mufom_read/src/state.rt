@@ -1,6 +1,6 @@
 //! What a reader keeps of its stream, and how it reads on.
 
-ghost use Rattle.std.specs.Prelude.{◌≡◌, ◌↔◌, ◌+◌, ◌-◌, ◌≤◌, nat_lt, ℕ, Bool, true, false, List, ◌++◌, length, take, drop, None, IfOk, OnOk};
+ghost use Rattle.std.specs.Prelude.{◌≡◌, ◌+◌, ◌-◌, ◌≤◌, nat_lt, ℕ, Bool, true, false, List, ◌++◌, length, take, drop, None, IfOk, OnOk};
 ghost use Rattle.mufom_numbers.specs.Spelling.{AreBytes};
 ghost use Rattle.mufom_module.specs.Grammar.{file_limit};
 ghost use Rattle.mufom_read.specs.Prefixes.{Step, is_ended};

@@ -1,6 +1,6 @@
 use Rattle.std.proofs.Common.{◌≡◌, ◌∷◌, map, slice_get, refl, ap, ◌∙◌}
 use Rattle.mufom_read.specs.Kept.{record_of_kept, indexes_by}
-use Rattle.mufom_module.specs.Gathered.{sections_of, publics_of, references_of, starts_of}
+use Rattle.mufom_module.specs.Gathered.{sections_of, starts_of}
 use Rattle.mufom_read.proofs.BuildLaws.{begins-here, describes-here, the-parts}
 use Rattle.mufom_read.proofs.build.parts_of.Goals as goal
 
@@ -29,10 +29,10 @@ returns c = λ m stated.
     let layout = c.layout_of-maus.ensures m (describes-here c.args.prefix m stated c.descriptor_of.result.now (c.descriptor_of.ensures stated.begin stated.descriptor stated.after all)) in
     let ps = ap (map record_of_kept) c.as_slice-records.ensures in
     let ix = indexes_by c.args.prefix.tables in
-    the-parts c.args.prefix m _ stated names layout c.from_vec.ensures c.from_vec-2.ensures
+    the-parts c.args.prefix m _ stated names layout c.from_vec-2.ensures c.from_vec-3.ensures
     (c.in_ok-sections.ensures ∙ ap sections_of ps)
-    (c.in_ok-names.ensures.publics ∙ ap (publics_of ix) ps)
-    (c.in_ok-names.ensures.references ∙ ap references_of ps)
+    c.into_placed.ensures
+    c.from_vec.ensures
     c.new.ensures
     refl
     (c.in_ok-start.ensures ∙ ap (λ l. slice_get (starts_of ix l) 0) ps)

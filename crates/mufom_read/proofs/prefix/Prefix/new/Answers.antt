@@ -6,15 +6,17 @@ use Rattle.mufom_read.proofs.prefix.Prefix.new.Goals as goal
 pub returns : goal.returns
 returns c = λ reads_debug. record {
   kept = ap (map placed) c.new.ensures;
-  loads = c.new-3.ensures;
+  publics = c.new-2.ensures;
+  references = c.new-3.ensures.items;
+  loads = c.new-5.ensures;
   maus = refl;
   awaits = refl;
   ended = refl;
   own = none-own _ c.new.ensures;
-  tables = c.new-2.ensures;
-  offsets = c.new-4.ensures;
-  extension = c.new-5.ensures.items;
-  environment = c.new-6.ensures.items;
+  tables = c.new-4.ensures;
+  offsets = c.new-6.ensures;
+  extension = c.new-7.ensures.items;
+  environment = c.new-8.ensures.items;
   size = refl;
   location = refl;
   few = omega arith;
@@ -23,4 +25,6 @@ returns c = λ reads_debug. record {
   ordered = tt;
   count = refl;
   begun = λ many. omega (arith, many);
+  follow = tt;
+  rising = omega arith;
 }

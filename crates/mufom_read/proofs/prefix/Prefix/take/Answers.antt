@@ -1,11 +1,11 @@
 use Rattle.std.proofs.Common.{◌≡◌, ◌∙◌, refl, ap, sym, subst, arith, [], ◌∷◌, ◌++◌, None, option_map}
 use Rattle.mufom_read.specs.declared.prefix.Prefix.{Prefix}
-use Rattle.mufom_read.specs.Prefixes.{read, size_of}
+use Rattle.mufom_read.specs.Prefixes.{read, size_of, offset_records_of}
 use Rattle.mufom_read.specs.Faults.{record_fault}
 use Rattle.mufom_read.specs.Kept.{is_new, record_of_kept, kept_of_seen, as_fault}
 use Rattle.mufom_read.specs.PrefixOfCode.{IsPrefixOf, as_location}
-use Rattle.mufom_read.proofs.AddLaws.{addable, room}
-use Rattle.mufom_read.proofs.PrefixLaws.{prefix-add}
+use Rattle.mufom_read.proofs.AddLaws.{addable, follows-at, room}
+use Rattle.mufom_read.proofs.PrefixLaws.{next-of, prefix-add}
 use Rattle.mufom_read.proofs.PartBytes.{record-bytes}
 use Rattle.mufom_read.proofs.prefix.Prefix.take.Goals as goal
 
@@ -19,16 +19,27 @@ add-requires-clause-new c =
     let clean = sym (c.record_fault.ensures prefix is (sym (c.as_ref.ensures.value ∙ c.in_ok-tree.ensures))) ∙ ap (option_map as_fault) c.in-None.is in
     ap (λ t. is_new t c.args.next.row) is.tables ∙ (addable c.args.reads_debug prefix c.args.place c.args.self.now.size (record_of_kept (kept_of_seen c.args.next)) c.requires.placed is.later clean).new
 
+pub add-requires-clause-known : goal.add-requires-clause-known
+add-requires-clause-known c =
+    let prefix = c.requires.known.0 in
+    let is = c.requires.known.1 in
+    let p = record_of_kept (kept_of_seen c.args.next) in
+    let clean = sym (c.record_fault.ensures prefix is (sym (c.as_ref.ensures.value ∙ c.in_ok-tree.ensures))) ∙ ap (option_map as_fault) c.in-None.is in
+    (offset_records_of prefix, next-of c.args.reads_debug c.args.self.now prefix p is (follows-at c.args.reads_debug prefix c.args.place c.args.self.now.size p c.requires.placed clean))
+
 pub returns-in_ok-add-in-None : goal.returns-in_ok-add-in-None
 returns-in_ok-add-in-None c = λ prefix is at.
     let k = kept_of_seen c.args.next in
     let p = record_of_kept k in
     let clean = sym (c.record_fault.ensures prefix is (sym (c.as_ref.ensures.value ∙ c.in_ok-tree.ensures))) ∙ ap (option_map as_fault) c.in-None.is in
     let fits = addable c.args.reads_debug prefix c.args.place c.args.self.now.size p c.requires.placed is.later clean in
+    let follows = follows-at c.args.reads_debug prefix c.args.place c.args.self.now.size p c.requires.placed clean in
+    let next = next-of c.args.reads_debug c.args.self.now prefix p is follows in
     let here : record_fault c.args.reads_debug prefix (as_location c.args.place) (size_of prefix) p ≡ None = ap (λ n. record_fault c.args.reads_debug prefix (as_location c.args.place) n p) (sym is.size) ∙ clean in (
       refl,
       ap (λ pl. record_fault c.args.reads_debug prefix pl (size_of prefix) p) (sym at) ∙ here,
       subst (λ (f : Prefix). IsPrefixOf c.args.reads_debug f (prefix ++ read (size_of prefix) p ∷ [])) (sym c.in_ok-add-in-None.ensures.added)
-          (prefix-add c.args.reads_debug c.args.self.now prefix k c.add.new.self.location is c.requires.own c.requires.some c.requires.start c.in_ok-add-in-None.ensures.location fits
+          (prefix-add c.args.reads_debug c.args.self.now prefix k c.add.new.self is c.requires.own c.requires.some c.requires.start c.in_ok-add-in-None.ensures.location
+          (c.in_ok-add-in-None.ensures.publics (offset_records_of prefix) next) (c.in_ok-add-in-None.ensures.references (offset_records_of prefix) next) fits follows
           (record-bytes c.args.reads_debug prefix c.args.place p is.count is.begun (fits.ordered is.ordered) c.requires.placed at here)),
     )

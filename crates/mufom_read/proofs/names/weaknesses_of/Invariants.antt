@@ -1,8 +1,0 @@
-use Rattle.std.proofs.Common.{◌≡◌, map, take}
-use Rattle.mufom_module.specs.Gathered.{answers}
-use Rattle.mufom_read.specs.Kept.{record_of_kept}
-use Rattle.mufom_read.specs.Built.{weak_in}
-use Rattle.mufom_read.proofs.names.weaknesses_of.Given as goal
-
-abbrev pub invariant-loop-record : goal.invariant-loop-record
-invariant-loop-record l = l.all ≡ answers weak_in (map record_of_kept (take l.record-index l.kept))
