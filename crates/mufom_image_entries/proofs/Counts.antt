@@ -1,6 +1,6 @@
 -- A module without a defect has fewer than 2^32 debug expressions, and its debug blocks are at most 32 deep.
-use Rattle.std.proofs.Common.{◌≡◌, ℕ, ◌+◌, ◌<◌, ◌≤◌, ◌^◌, List, [], ◌∷◌, ◌++◌, Option, Some, None, length, sum_by, length-append, arith, false}
-use Rattle.std.specs.Prelude.{nat_lt, nat_le, option_to_list}
+use Rattle.std.proofs.Common.{◌<◌, ◌≤◌, ◌^◌, List, [], ◌∷◌, Option, Some, None, length, sum_by, length-append, arith}
+use Rattle.std.specs.Prelude.{option_to_list}
 use Rattle.std.proofs.lemmas.List.Sums.{sum_by-cons}
 use Rattle.mufom_expr.specs.Tree.{Tree}
 use Rattle.mufom_debug.specs.declared.item.BlockHead.TheVariants as heads

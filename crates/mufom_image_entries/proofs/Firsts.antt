@@ -1,23 +1,19 @@
 -- The first debug expression that divides by 0, and the start, as facts.
-use Rattle.std.proofs.Common.{◌≡◌, ℕ, zero, suc, ◌+◌, ◌<◌, ◌≤◌, List, [], ◌∷◌, ◌++◌, map, length, drop, Option, Some, None, Bool, true, false, refl, sym, ◌∙◌, ap, append-nil, zero-add, arith}
+use Rattle.std.proofs.Common.{◌≡◌, ℕ, zero, suc, ◌+◌, ◌<◌, List, [], ◌∷◌, map, length, drop, Option, Some, None, Bool, true, false, refl, sym, ◌∙◌, ap, zero-add, arith}
 use Rattle.std.specs.Prelude.{slice_get, option_map, option_to_list, if◌then◌else◌}
 use Rattle.std.specs.List.{enumerate_from}
 use Rattle.std.proofs.lemmas.Option.{slice_get-map}
 use Rattle.mufom_expr.specs.Tree.{Tree}
-use Rattle.mufom_debug.specs.Marks.{marks_of, expressions_of}
-use Rattle.mufom_module.specs.declared.module.Parts.{Parts}
 use Rattle.mufom_place.specs.Facts.{first_some, ◌or_else◌}
-use Rattle.mufom_meaning.specs.declared.located.Site.{Site}
 use Rattle.mufom_meaning.specs.declared.located.Site.TheVariants as sites
-use Rattle.mufom_meaning.specs.Facts.{LocateFact, zero_divisor}
+use Rattle.mufom_meaning.specs.Facts.{zero_divisor}
 use Rattle.mufom_meaning.specs.Flat.{Sited}
 use Rattle.mufom_meaning.specs.Values.{Setting, has_zero_divisor}
-use Rattle.mufom_meaning.specs.Walk.{SitedTree, zero_divisor_at, debug_fact, debug_trees, start_fact, start_trees}
+use Rattle.mufom_meaning.specs.Walk.{SitedTree, debug_fact, start_fact}
 use Rattle.mufom_meaning.proofs.Choices.{mapped_some}
 use Rattle.mufom_meaning.proofs.Tests.{enumerate_get, get_enumerate}
-use Rattle.mufom_image_values.specs.Evaluated.{alone}
 use Rattle.mufom_image_values.proofs.CircleLaws.{none_first, one_first}
-use Rattle.mufom_image_entries.specs.Valued.{NoneBefore, IsFirstDivision}
+use Rattle.mufom_image_entries.specs.Valued.{IsFirstDivision}
 
 -- ---- lists from a position on
 

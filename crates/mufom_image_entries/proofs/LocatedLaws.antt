@@ -1,15 +1,13 @@
 -- Where each expression has a value, the entries with their values are those of a location.
-use Rattle.std.proofs.Common.{◌≡◌, ◌≢◌, ℕ, ◌+◌, inl, inr, List, [], ◌∷◌, ◌++◌, map, Option, Some, None, refl, sym, ◌∙◌, ap, append-nil, zero-add}
-use Rattle.std.specs.Prelude.{option_map, option_to_list, unwrap_or, flat_map}
+use Rattle.std.proofs.Common.{◌≡◌, ◌≢◌, ℕ, inl, List, [], ◌∷◌, map, Option, Some, None, refl, sym, ◌∙◌, ap, zero-add}
+use Rattle.std.specs.Prelude.{option_map, option_to_list, unwrap_or}
 use Rattle.mufom_expr.specs.Tree.{Tree, number}
-use Rattle.mufom_names.specs.declared.name.Public.{Public}
 use Rattle.mufom_debug.specs.declared.item.BlockHead.{BlockHead}
 use Rattle.mufom_debug.specs.declared.item.BlockHead.TheVariants as heads
-use Rattle.mufom_debug.specs.Marks.{DebugMark, block_begin, block_end, name_mark, note_mark, value_mark, marks_of, mark_expressions, expressions_of, offset_of}
+use Rattle.mufom_debug.specs.Marks.{DebugMark, block_begin, block_end, name_mark, note_mark, value_mark, mark_expressions, expressions_of, offset_of}
 use Rattle.mufom_module.specs.declared.module.Parts.{Parts}
-use Rattle.mufom_meaning.specs.Flat.{Sited}
 use Rattle.mufom_meaning.specs.Values.{Setting, value}
-use Rattle.mufom_meaning.specs.Readings.{head_reading, mark_reading, note_reading, value_reading}
+use Rattle.mufom_meaning.specs.Readings.{head_reading, mark_reading}
 use Rattle.mufom_meaning.specs.Location.{located_head, located_mark}
 use Rattle.mufom_meaning.proofs.Members.{In, In-left, In-right}
 use Rattle.mufom_image_values.specs.Evaluated.{alone}

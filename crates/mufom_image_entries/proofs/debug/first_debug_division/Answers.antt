@@ -1,4 +1,4 @@
-use Rattle.std.proofs.Common.{◌≡◌, ◌∙◌, List, map, ap, subst, length, append-nil, arith}
+use Rattle.std.proofs.Common.{◌∙◌, List, map, ap, subst, length, append-nil, arith}
 use Rattle.std.specs.List.{enumerate_from}
 use Rattle.mufom_expr.specs.Tree.{Tree}
 use Rattle.mufom_debug.specs.declared.item.DebugItem.{DebugItem}

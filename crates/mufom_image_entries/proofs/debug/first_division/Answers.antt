@@ -1,4 +1,4 @@
-use Rattle.std.proofs.Common.{◌≡◌, ◌∙◌, ◌<◌, Some, false, ap, sym, arith}
+use Rattle.std.proofs.Common.{◌≡◌, ◌∙◌, Some, false, ap, sym, arith}
 use Rattle.std.specs.Prelude.{slice_get}
 use Rattle.mufom_expr.specs.Tree.{Tree}
 use Rattle.mufom_meaning.proofs.Choices.{some_same}
