@@ -12,3 +12,4 @@ pub mod SearchLaws
 pub mod CountLaws
 pub mod CommonLaws
 pub mod TokenLoops
+pub mod PlannedLaws

@@ -21,6 +21,3 @@ pub use graph::Graph;
 pub use meetings::{Meeting, first_common, first_undefined, resolve_references};
 pub use surroundings::{Evaluation, Surroundings};
 pub use values::PlacedModule;
-
-#[cfg(test)]
-mod tests;

@@ -1,0 +1,58 @@
+-- The entries of a module with the value of each expression in its place.
+use Rattle.std.specs.Prelude.{◌≡◌, ℕ, ◌<◌, List, Option, Some, None, option_map, unwrap_or, slice_get, Bool, true, false}
+use Rattle.mufom_expr.specs.Tree.{Tree, number}
+use Rattle.mufom_names.specs.declared.name.Public.{Public}
+use Rattle.mufom_debug.specs.declared.item.BlockHead.{BlockHead}
+use Rattle.mufom_debug.specs.declared.item.BlockHead.TheVariants as heads
+use Rattle.mufom_debug.specs.Marks.{DebugMark, block_begin, block_end, name_mark, note_mark, value_mark}
+use Rattle.mufom_module.specs.declared.module.Parts.{Parts}
+use Rattle.mufom_meaning.specs.declared.located.PublicValue.{PublicValue}
+use Rattle.mufom_meaning.specs.Values.{value, has_zero_divisor}
+use Rattle.mufom_image_values.specs.Evaluated.{alone, setting_of, IsPlaced, AreValues}
+use Rattle.mufom_image_entries.specs.declared.valued.ValuedModule.{ValuedModule}
+
+-- the module may be evaluated, and these are the values of its publics
+pub record IsValued (valued : ValuedModule) : Type 0 where
+  pub placed : IsPlaced valued.placed.now
+  pub values : AreValues valued.placed.now valued.values.now
+
+-- the parts of the module
+abbrev pub parts_of : ValuedModule → Parts
+parts_of valued = valued.placed.now.graph.parts.now
+
+-- the value of an expression that finds no program counter, and 0 where it has none
+abbrev pub value_of : ValuedModule → Tree → ℕ
+value_of valued t = unwrap_or (value (setting_of valued.placed.now) (alone (parts_of valued)) None t) 0
+
+-- somewhere in the expression a divisor has the value 0
+abbrev pub divides : ValuedModule → Tree → Bool
+divides valued t = has_zero_divisor (setting_of valued.placed.now) (alone (parts_of valued)) None t
+
+-- a public with its value
+abbrev pub valued_public : ValuedModule → Public → PublicValue
+valued_public valued p = record { name = p.name; value = value_of valued p.value; notes = p.notes }
+
+-- the head of a block with the value of its expression
+abbrev pub valued_head : (Tree → ℕ) → BlockHead → BlockHead
+valued_head f heads.Module = heads.Module
+valued_head f (heads.Global stack type_index offset) = heads.Global stack type_index (number (f offset))
+valued_head f (heads.Source numbers) = heads.Source numbers
+valued_head f (heads.Local stack type_index offset) = heads.Local stack type_index (number (f offset))
+valued_head f (heads.Section section_type section offset) = heads.Section section_type section (number (f offset))
+
+-- a debug mark with the values of its expressions
+abbrev pub valued_mark : (Tree → ℕ) → DebugMark → DebugMark
+valued_mark f (block_begin head name) = block_begin (valued_head f head) name
+valued_mark f (block_end end) = block_end (option_map (λ t. number (f t)) end)
+valued_mark f (name_mark name) = name_mark name
+valued_mark f (note_mark name note) = note_mark name note
+valued_mark f (value_mark name t) = value_mark name (number (f t))
+
+-- no expression before this position passes the test
+abbrev pub NoneBefore : (Tree → Bool) → List Tree → ℕ → Type 0
+NoneBefore test trees n = (j : ℕ) → j < n → (t : Tree) → slice_get trees j ≡ Some t → test t ≡ false
+
+-- the position of the first expression that passes, if one does
+abbrev pub IsFirstDivision : (Tree → Bool) → List Tree → Option ℕ → Type 0
+IsFirstDivision test trees None = (j : ℕ) (t : Tree) → slice_get trees j ≡ Some t → test t ≡ false
+IsFirstDivision test trees (Some n) = (t : Tree) × (slice_get trees n ≡ Some t) × (test t ≡ true) × NoneBefore test trees n
