@@ -1,5 +1,5 @@
 -- The image of loaded bytes whose chunks were sorted by address.
-use Rattle.std.proofs.Common.{◌≡◌, ℕ, ◌+◌, ◌<◌, ◌^◌, List, [], length, Option, Some, None, map, get_or, refl, sym, ◌∙◌, ap, subst, arith, ◌∷◌, ◌≤◌, false, zero, suc}
+use Rattle.std.proofs.Common.{◌≡◌, ℕ, ◌<◌, ◌^◌, List, [], length, Option, Some, None, map, get_or, refl, sym, ◌∙◌, ap, subst, arith, ◌∷◌, ◌≤◌, false, zero, suc}
 use Rattle.std.specs.Prelude.{Contains, option_map, ◌%◌}
 use Rattle.std.specs.List.{All}
 use Rattle.std.specs.List.Sorted.{IsPermutation}

@@ -1,5 +1,5 @@
 -- Chunks in order of their addresses, of which two share an address.
-use Rattle.std.specs.Prelude.{◌≡◌, ℕ, ◌+◌, ◌-◌, ◌<◌, ◌≤◌, ◌==◌, min, List, [], ◌∷◌, Bool, true, false, nat_lt, if◌then◌else◌}
+use Rattle.std.specs.Prelude.{ℕ, ◌+◌, ◌-◌, ◌<◌, ◌≤◌, ◌==◌, min, List, [], ◌∷◌, Bool, true, false, nat_lt, if◌then◌else◌}
 use Rattle.mufom_image_bytes.specs.declared.chunk.Chunk.{Chunk}
 
 -- how many bytes of a chunk are among the first `count` that are loaded

@@ -1,7 +1,7 @@
-use Rattle.std.proofs.Common.{◌≡◌, ℕ, ◌+◌, ◌-◌, ◌<◌, ◌≤◌, ◌^◌, Some, sym, ◌∙◌, ap, arith}
+use Rattle.std.proofs.Common.{◌≡◌, ℕ, ◌+◌, ◌-◌, ◌<◌, ◌^◌, Some, sym, ◌∙◌, ap, arith}
 use Rattle.std.specs.Prelude.{slice_get}
 use Rattle.std.proofs.lemmas.List.Sorted.{Contains-permutation, IsPermutation-sym}
-use Rattle.mufom_meaning.proofs.Members.{In, In-Contains, Contains-In, In-at}
+use Rattle.mufom_meaning.proofs.Members.{In-Contains, Contains-In, In-at}
 use Rattle.mufom_image_bytes.specs.Chunks.{addresses_of}
 use Rattle.mufom_image_bytes.proofs.SharedLaws.{all_apart, byte_there, byte_address, double_at}
 use Rattle.mufom_image_bytes.proofs.doubles.first_double.Goals as goal

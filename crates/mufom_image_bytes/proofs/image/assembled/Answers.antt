@@ -7,7 +7,7 @@ use Rattle.mufom_image_bytes.specs.Stops.{fact_of}
 use Rattle.mufom_image_bytes.specs.Chunks.{cells_of_chunks, AreConsecutive}
 use Rattle.mufom_image_bytes.specs.Loaded.{loaded_cells}
 use Rattle.mufom_image_bytes.specs.Shared.{shares_from}
-use Rattle.mufom_image_bytes.specs.Spread.{AreSpread, IsAmong}
+use Rattle.mufom_image_bytes.specs.Spread.{IsAmong}
 use Rattle.mufom_image_bytes.proofs.ImageLaws.{AreSorted, sorted_among, sorted_spread, refused, imaged}
 use Rattle.mufom_image_bytes.proofs.SpreadLaws.{single_whole}
 use Rattle.mufom_image_bytes.proofs.image.assembled.Goals as goal
