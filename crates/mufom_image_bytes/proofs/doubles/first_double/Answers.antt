@@ -7,11 +7,14 @@ use Rattle.mufom_image_bytes.proofs.SharedLaws.{all_apart, byte_there, byte_addr
 use Rattle.mufom_image_bytes.proofs.doubles.first_double.Goals as goal
 
 pub returns-then-not-shares-clause-double : goal.returns-then-not-shares-clause-double
-returns-then-not-shares-clause-double c = λ loaded permuted tiles below.
-    all_apart loaded c.args.chunks.now c.args.count permuted tiles (sym c.shares.ensures ∙ c.if-not-shares.true)
+returns-then-not-shares-clause-double c = λ loaded h.
+    all_apart loaded c.args.chunks.now c.args.count h.0 h.1 (sym c.shares.ensures ∙ c.if-not-shares.true)
 
 pub returns-clause-double : goal.returns-clause-double
-returns-clause-double c = λ loaded permuted tiles below.
+returns-clause-double c = λ loaded h.
+    let permuted = h.0 in
+    let tiles = h.1 in
+    let below = h.2 in
     let chunks = c.args.chunks.now in
     let number = c.first_shared-number.result in
     let within = c.first_shared-number.ensures.within in
