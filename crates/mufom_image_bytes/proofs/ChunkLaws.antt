@@ -1,7 +1,6 @@
 -- Chunks of bytes: more bytes after them, one chunk more, and a chunk that grows.
-use Rattle.std.proofs.Common.{◌≡◌, ℕ, zero, suc, ◌+◌, ◌-◌, ◌<◌, ◌≤◌, List, [], ◌∷◌, ◌++◌, length, take, drop, refl, sym, ◌∙◌, ap, subst, arith, append-nil, append_assoc, length-append, length-drop, flat_map}
-use Rattle.std.proofs.lemmas.Grind.{flat_map-append}
-use Rattle.mufom_meaning.specs.AddressMap.{Cell, cells_from}
+use Rattle.std.proofs.Common.{◌≡◌, ℕ, zero, suc, ◌+◌, ◌-◌, ◌<◌, ◌≤◌, List, [], ◌∷◌, ◌++◌, length, take, drop, refl, sym, ◌∙◌, ap, subst, arith, append-nil, append_assoc, length-append}
+use Rattle.mufom_meaning.specs.AddressMap.{cells_from}
 use Rattle.mufom_image_bytes.specs.declared.chunk.Chunk.{Chunk}
 use Rattle.mufom_image_bytes.specs.Chunks.{chunk_cells, cells_of_chunks, AreConsecutive}
 

@@ -1,5 +1,5 @@
 -- The image of loaded bytes whose chunks were sorted by address.
-use Rattle.std.proofs.Common.{◌≡◌, ℕ, ◌+◌, ◌<◌, ◌^◌, List, [], length, Option, Some, None, map, get_or, refl, sym, ◌∙◌, ap, subst, arith, ◌∷◌, ◌≤◌, false, zero, suc}
+use Rattle.std.proofs.Common.{◌≡◌, ℕ, ◌<◌, ◌^◌, List, [], length, Option, Some, None, map, get_or, refl, sym, ◌∙◌, ap, subst, arith, ◌∷◌, ◌≤◌, false, zero, suc}
 use Rattle.std.specs.Prelude.{Contains, option_map, ◌%◌}
 use Rattle.std.specs.List.{All}
 use Rattle.std.specs.List.Sorted.{IsPermutation}
@@ -25,7 +25,7 @@ use Rattle.mufom_image_bytes.specs.declared.refusal.ImageRefusal.TheVariants as 
 use Rattle.mufom_image_bytes.specs.declared.stop.Stop.{Stop}
 use Rattle.mufom_image_bytes.specs.Stops.{fact_of}
 use Rattle.mufom_image_bytes.specs.Chunks.{cells_of_chunks, cell_addresses, addresses_of, AreConsecutive}
-use Rattle.mufom_image_bytes.specs.Shared.{shares_from}
+use Rattle.mufom_image_bytes.specs.Shared.{shares_from, EndsFirst}
 use Rattle.mufom_image_bytes.specs.Spread.{AreSpread, IsAmong}
 use Rattle.mufom_image_bytes.specs.Outcomes.{WorthAt, Outcome, loads_outcome, progress_at_first}
 use Rattle.mufom_image_bytes.specs.Walked.{AreWalked}
@@ -59,18 +59,13 @@ module _ (cells : List Cell) (bytes : List ℕ) (chunks sorted : List Chunk) (h 
   low_addresses : AreLow cells → (a : ℕ) → Contains (addresses_of chunks) a → a < 2 ^ 64
   low_addresses low a there = low a (subst (λ all. Contains all a) (sym own_addresses) there)
 
-  -- what ends the loads first
-  abbrev pub EndsFirst : Option Stop → Option LocateFact → Type 0
-  EndsFirst result stop = (loaded : List Chunk) → IsPermutation loaded sorted → AreConsecutive 0 loaded (length bytes) → ((a : ℕ) → Contains (addresses_of loaded) a → a < 2 ^ 64)
-      → option_map fact_of result ≡ (first_twice [] (addresses_of loaded) or_else stop)
+  first_end : (result : Option Stop) (stop : Option LocateFact) → EndsFirst sorted (length bytes) stop (option_map fact_of result) → AreLow cells → (first_twice [] (cell_addresses cells) or_else stop) ≡ option_map fact_of result
+  first_end result stop e low = ap (λ all. first_twice [] all or_else stop) own_addresses ∙ sym (e chunks (h.permuted, h.consecutive, low_addresses low))
 
-  first_end : (result : Option Stop) (stop : Option LocateFact) → EndsFirst result stop → AreLow cells → (first_twice [] (cell_addresses cells) or_else stop) ≡ option_map fact_of result
-  first_end result stop e low = ap (λ all. first_twice [] all or_else stop) own_addresses ∙ sym (e chunks h.permuted h.consecutive (low_addresses low))
-
-  pub refused : (other : Stop) (stop : Option LocateFact) → EndsFirst (Some other) stop → IsRefusal cells stop (refusals.Stopped other)
+  pub refused : (other : Stop) (stop : Option LocateFact) → EndsFirst sorted (length bytes) stop (Some (fact_of other)) → IsRefusal cells stop (refusals.Stopped other)
   refused other stop e = λ low. first_end (Some other) stop e low
 
-  pub imaged : (stop : Option Stop) (runs : List Run) → EndsFirst None (option_map fact_of stop) → stop ≡ None → AreApart 0 runs → run_cells runs ≡ cells_of_chunks bytes sorted
+  pub imaged : (stop : Option Stop) (runs : List Run) → EndsFirst sorted (length bytes) (option_map fact_of stop) None → stop ≡ None → AreApart 0 runs → run_cells runs ≡ cells_of_chunks bytes sorted
       → IsImage cells (option_map fact_of stop) runs
   imaged stop runs e none apart rows = record {
     ended = ap (option_map fact_of) none;

@@ -1,6 +1,6 @@
 -- The loads of a module without a defect are walked so, once its sections are placed and its publics have values.
-use Rattle.std.proofs.Common.{◌≡◌, ℕ, zero, suc, ◌+◌, ◌*◌, ◌^◌, ◌<◌, ◌≤◌, ◌⊎◌, inl, inr, List, [], ◌∷◌, ◌++◌, length, Option, Some, None, Bool, true, false, not, ◌&&◌, ◌||◌, refl, sym, ◌∙◌, ap, subst, arith, rules, append-nil}
-use Rattle.std.specs.Prelude.{slice_get, ◌==◌, nat_lt, nat_le, if◌then◌else◌}
+use Rattle.std.proofs.Common.{◌≡◌, ℕ, zero, suc, ◌+◌, ◌*◌, ◌^◌, ◌<◌, ◌≤◌, ◌⊎◌, inl, inr, List, [], ◌∷◌, ◌++◌, length, Option, Some, None, true, false, not, ◌&&◌, ◌||◌, refl, sym, ◌∙◌, ap, subst, arith, rules, append-nil}
+use Rattle.std.specs.Prelude.{slice_get, ◌==◌, nat_lt, nat_le}
 use Rattle.std.specs.List.{All, list_any}
 use Rattle.std.proofs.lemmas.List.Elements.{All-nil, All-cons}
 use Rattle.mufom_expr.specs.Tree.{Tree}
@@ -13,20 +13,19 @@ use Rattle.mufom_module.specs.declared.module.Parts.{Parts}
 use Rattle.mufom_module.specs.declared.module.Defect.TheVariants as d
 use Rattle.mufom_module.specs.Contents.{any_item}
 use Rattle.mufom_module.specs.Defects.{IsValid, has_bad_size, is_unit_count}
-use Rattle.mufom_place.specs.Facts.{first_some}
 use Rattle.mufom_meaning.specs.declared.located.Site.TheVariants as sites
 use Rattle.mufom_meaning.specs.declared.located.Run.{Run}
 use Rattle.mufom_meaning.specs.AddressMap.{address_map, AreRowsOf}
 use Rattle.mufom_meaning.specs.Bases.{Bases}
 use Rattle.mufom_meaning.specs.Facts.{zero_divisor}
-use Rattle.mufom_meaning.specs.Flat.{Sited, SitedPublic, width}
+use Rattle.mufom_meaning.specs.Flat.{Sited, SitedPublic}
 use Rattle.mufom_meaning.specs.Staging.{AreValid}
 use Rattle.mufom_meaning.specs.Stands.{StandsIn}
 use Rattle.mufom_meaning.specs.Steps.{Step, counter_step, item_step, item_steps, steps, steps_of, step_readings}
 use Rattle.mufom_meaning.specs.Values.{Setting, setting, value, has_zero_divisor}
 use Rattle.mufom_meaning.specs.Valued.{CounterPlace, counter_there, MeetsZeroDivisor, itself, through_name, through_counter}
 use Rattle.mufom_meaning.specs.Walk.{public_fact, steps_fact}
-use Rattle.mufom_meaning.proofs.Members.{In, In-at, In-append, get_some}
+use Rattle.mufom_meaning.proofs.Members.{In, In-at, In-append}
 use Rattle.mufom_meaning.proofs.NoDefects.{no_defect}
 use Rattle.mufom_meaning.proofs.Tests.{chosen_none, either_false}
 use Rattle.mufom_meaning.proofs.Unfolding.{readings-steps}
@@ -34,7 +33,7 @@ use Rattle.mufom_meaning.proofs.absolute.Marks.{width_positive, value_below}
 use Rattle.mufom_meaning.proofs.facts.Answers.{first_some_none}
 use Rattle.mufom_meaning.proofs.values.Ends.{mentioned-among}
 use Rattle.mufom_meaning.proofs.values.Causes.{IsWellNamed}
-use Rattle.mufom_meaning.proofs.values.Lacks.{HasAllNamed, HasBase, IsWellStep, Why, why}
+use Rattle.mufom_meaning.proofs.values.Lacks.{HasAllNamed, IsWellStep, Why, why}
 use Rattle.mufom_meaning.proofs.values.Named.{has_all_named}
 use Rattle.mufom_image_bytes.specs.declared.layout.Layout.{Layout}
 use Rattle.mufom_image_bytes.specs.declared.refusal.ImageRefusal.{ImageRefusal}
@@ -42,7 +41,7 @@ use Rattle.mufom_image_bytes.specs.declared.refusal.ImageRefusal.TheVariants as 
 use Rattle.mufom_image_bytes.specs.Images.{IsImageOf, IsRefusalOf}
 use Rattle.mufom_image_bytes.specs.Modules.{home_of, IsReady, IsImageOfModule, IsRefusalOfModule}
 use Rattle.mufom_image_bytes.specs.Outcomes.{WorthAt}
-use Rattle.mufom_image_bytes.specs.Walked.{IsLaidOut, HasWorth, IsPlainStep, AreWalked}
+use Rattle.mufom_image_bytes.specs.Walked.{HasWorth, IsPlainStep, AreWalked}
 use Rattle.mufom_image_bytes.specs.Walks.{IsNarrow, HasNarrowItems}
 
 -- ---- sizes of fields

@@ -1,12 +1,12 @@
 -- Chunks that go by address share an address exactly where one begins before the end of the one before it.
-use Rattle.std.proofs.Common.{◌≡◌, ℕ, zero, suc, ◌+◌, ◌-◌, ◌<◌, ◌≤◌, min, List, [], ◌∷◌, ◌++◌, length, take, drop, Option, Some, None, Bool, true, false, ◌||◌, ◌&&◌, inl, inr, refl, sym, ◌∙◌, ap, subst, arith, length-append}
+use Rattle.std.proofs.Common.{◌≡◌, ℕ, zero, suc, ◌+◌, ◌-◌, ◌<◌, ◌≤◌, min, List, [], ◌∷◌, ◌++◌, length, take, drop, Some, None, Bool, true, false, ◌||◌, ◌&&◌, inl, inr, refl, sym, ◌∙◌, ap, subst, arith, length-append}
 use Rattle.std.specs.Prelude.{◌==◌, nat_lt, nat_le, slice_get, if◌then◌else◌}
 use Rattle.std.specs.List.{sum_by}
 use Rattle.std.specs.List.Sorted.{IsPermutation}
 use Rattle.std.proofs.lemmas.List.Sums.{sum_by-cons}
 use Rattle.std.proofs.lemmas.List.Sorted.{sum_by-IsPermutation}
 use Rattle.mufom_place.specs.Facts.{◌or_else◌}
-use Rattle.mufom_meaning.specs.Facts.{LocateFact, loaded_twice}
+use Rattle.mufom_meaning.specs.Facts.{loaded_twice}
 use Rattle.mufom_meaning.specs.Walk.{counted_from, has_number, first_twice}
 use Rattle.mufom_meaning.proofs.Choices.{equal_numbers, of_lt, is_lt, of_not_lt, not_lt}
 use Rattle.mufom_meaning.proofs.Members.{In}

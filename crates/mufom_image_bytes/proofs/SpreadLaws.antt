@@ -1,6 +1,6 @@
 -- A row of neighbouring chunks is one run, and what follows it begins after an address that is free.
-use Rattle.std.proofs.Common.{◌≡◌, ◌≢◌, ℕ, zero, suc, ◌+◌, ◌-◌, ◌<◌, ◌≤◌, List, [], ◌∷◌, ◌++◌, length, get_or, take, drop, Bool, true, false, inl, inr, refl, sym, ◌∙◌, ap, subst, arith, append-nil, append_assoc, length-append}
-use Rattle.std.specs.Prelude.{◌==◌, nat_lt, Contains, flat_map, if◌then◌else◌}
+use Rattle.std.proofs.Common.{◌≡◌, ◌≢◌, ℕ, zero, suc, ◌+◌, ◌<◌, ◌≤◌, List, [], ◌∷◌, ◌++◌, length, get_or, take, drop, Bool, true, false, inl, inr, refl, sym, ◌∙◌, ap, subst, arith, append-nil, append_assoc, length-append}
+use Rattle.std.specs.Prelude.{◌==◌, nat_lt, Contains, if◌then◌else◌}
 use Rattle.std.specs.List.{All}
 use Rattle.std.specs.List.Sorted.{IsPermutation}
 use Rattle.std.proofs.lemmas.List.{map-append}
@@ -243,10 +243,11 @@ single_run bytes (d ∷ x ∷ chunks) c runs run one whole spread address own e 
 single_run bytes (d ∷ []) c runs run one whole spread address own e =
     let some = spread.1 in let count = whole.1 in let long = ap length own in
     let apart : AreApart 0 (run ∷ []) = (omega arith, omega (arith, some, count, long), tt {0}) in
-    let all : length bytes ≤ d.count = omega (arith, count) in
-    (subst (AreApart 0) (sym e) apart,
-     ap run_cells e ∙ append-nil (cells_from run.address run.bytes)
-     ∙ ap (cells_from run.address) own ∙ ap (λ a. cells_from a bytes) address
-     ∙ ap (cells_from d.address) (sym (take-all d.count bytes all))
-     ∙ ap (λ n. cells_from d.address (take d.count (drop n bytes))) (sym whole.0)
-     ∙ sym (append-nil (chunk_cells bytes d)))
+    let all : length bytes ≤ d.count = omega (arith, count) in (
+      subst (AreApart 0) (sym e) apart,
+      ap run_cells e ∙ append-nil (cells_from run.address run.bytes)
+          ∙ ap (cells_from run.address) own ∙ ap (λ a. cells_from a bytes) address
+          ∙ ap (cells_from d.address) (sym (take-all d.count bytes all))
+          ∙ ap (λ n. cells_from d.address (take d.count (drop n bytes))) (sym whole.0)
+          ∙ sym (append-nil (chunk_cells bytes d)),
+    )

@@ -1,27 +1,25 @@
 -- The walk by places and values is the walk of the definitions.
-use Rattle.std.proofs.Common.{◌≡◌, ℕ, zero, suc, ◌+◌, ◌<◌, List, [], ◌∷◌, ◌++◌, map, length, get_or, Option, Some, None, refl, sym, ◌∙◌, ap, subst, arith, append-nil, append_assoc}
-use Rattle.std.specs.Prelude.{◌%◌, ◌^◌, option_map, slice_get, flat_map}
-use Rattle.mufom_expr.specs.Tree.{Tree}
+use Rattle.std.proofs.Common.{◌≡◌, ℕ, zero, suc, ◌+◌, ◌<◌, List, [], ◌∷◌, ◌++◌, length, get_or, Option, Some, None, refl, sym, ◌∙◌, ap, subst, arith, append-nil, append_assoc}
+use Rattle.std.specs.Prelude.{◌%◌, option_map, slice_get}
 use Rattle.mufom_loads.specs.declared.load.Item.{Item}
-use Rattle.mufom_loads.specs.declared.load.Item.TheVariants.{Literal, Field}
 use Rattle.mufom_loads.specs.declared.load.Load.{Load}
 use Rattle.mufom_loads.specs.declared.load.Load.TheVariants.{SetSection, SetPc, One, Repeat}
 use Rattle.mufom_loads.specs.Lengths.{repeated}
 use Rattle.mufom_place.specs.Facts.{◌or_else◌}
-use Rattle.mufom_meaning.specs.AddressMap.{Cell, step_cells, address_map}
+use Rattle.mufom_meaning.specs.AddressMap.{step_cells, address_map}
 use Rattle.mufom_meaning.specs.Facts.{LocateFact}
 use Rattle.mufom_meaning.specs.Flat.{Sited}
 use Rattle.mufom_meaning.specs.Stands.{StandsIn}
-use Rattle.mufom_meaning.specs.Steps.{Step, counter_step, item_step, counter, item_steps, steps_of, step_reading, readings_after}
+use Rattle.mufom_meaning.specs.Steps.{Step, counter_step, item_step, item_steps, steps_of, step_reading, readings_after}
 use Rattle.mufom_meaning.specs.Values.{Setting}
-use Rattle.mufom_meaning.specs.Walk.{first_twice, steps_fact, has_number, loaded_addresses}
+use Rattle.mufom_meaning.specs.Walk.{first_twice, steps_fact}
 use Rattle.mufom_meaning.proofs.Members.{In}
 use Rattle.mufom_meaning.proofs.Unfolding.{counter-none}
 use Rattle.mufom_image_bytes.specs.declared.layout.Layout.{Layout}
 use Rattle.mufom_image_bytes.specs.Chunks.{cell_addresses as addresses}
-use Rattle.mufom_image_bytes.specs.Outcomes.{WorthAt, Progress, Outcome, continued, item_outcome, items_outcome, current_outcome, counter_outcome, load_outcome, loads_outcome, progress_at_first}
-use Rattle.mufom_image_bytes.specs.Walked.{IsLaidOut, HasWorth, IsPlainItem, IsPlainStep, AreWalked}
-use Rattle.mufom_image_bytes.proofs.WalkSteps.{Agrees, IsTaken, counter_taken, item_taken, or_else-assoc}
+use Rattle.mufom_image_bytes.specs.Outcomes.{WorthAt, Progress, Outcome, continued, item_outcome, items_outcome, current_outcome, counter_outcome, loads_outcome, progress_at_first}
+use Rattle.mufom_image_bytes.specs.Walked.{IsLaidOut, IsPlainStep, AreWalked}
+use Rattle.mufom_image_bytes.proofs.WalkSteps.{Agrees, IsTaken, counter_taken, item_taken}
 
 module _ (s : Setting) (layout : Layout) (worth : WorthAt) (laid : IsLaidOut s layout) where
   abbrev step_outcome : Step → Progress → Outcome

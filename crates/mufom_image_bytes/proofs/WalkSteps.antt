@@ -1,7 +1,6 @@
 -- One step of the walk by places and values, against what is met at it.
-use Rattle.std.proofs.Common.{◌≡◌, ◌≢◌, ℕ, zero, suc, ◌+◌, ◌<◌, ◌≤◌, List, [], ◌∷◌, ◌++◌, map, length, get_or, set, Option, Some, None, Bool, true, false, ◌||◌, ◌⊎◌, inl, inr, refl, sym, ◌∙◌, ap, subst, arith, append-nil, append_assoc, add-zero, length-set, get_or-set_other, get_or-set_same}
-use Rattle.std.specs.Prelude.{◌%◌, ◌^◌, ◌==◌, option_map, slice_get, slice_index, slice_set, unwrap_or, nat_lt, nat_le, if◌then◌else◌}
-use Rattle.std.specs.List.{list_any}
+use Rattle.std.proofs.Common.{◌≡◌, ◌≢◌, ℕ, zero, suc, ◌+◌, ◌<◌, ◌≤◌, List, [], ◌∷◌, ◌++◌, map, length, get_or, set, Option, Some, None, Bool, true, false, ◌||◌, ◌⊎◌, inl, inr, refl, sym, ◌∙◌, ap, subst, arith, append-nil, add-zero, length-set, get_or-set_other, get_or-set_same}
+use Rattle.std.specs.Prelude.{◌%◌, ◌^◌, ◌==◌, option_map, slice_get, unwrap_or, nat_lt, nat_le, if◌then◌else◌}
 use Rattle.std.proofs.Math.Nat.{mod-eq_of_lt}
 use Rattle.std.proofs.lemmas.List.{map-append}
 use Rattle.mufom_expr.specs.declared.token.FieldKind.{FieldKind}
@@ -12,12 +11,12 @@ use Rattle.mufom_loads.specs.Lengths.{byte_count}
 use Rattle.mufom_place.specs.Facts.{first_some, ◌or_else◌}
 use Rattle.mufom_meaning.specs.declared.located.Site.TheVariants as sites
 use Rattle.mufom_meaning.specs.AddressMap.{Cell, cells_from, step_cells}
-use Rattle.mufom_meaning.specs.Facts.{LocateFact, zero_divisor, load_outside, loaded_twice, overflow}
+use Rattle.mufom_meaning.specs.Facts.{LocateFact, zero_divisor, load_outside, overflow}
 use Rattle.mufom_meaning.specs.Fields.{fits, field_number, number_bytes, in_byte_order}
 use Rattle.mufom_meaning.specs.Flat.{Sited}
 use Rattle.mufom_meaning.specs.Steps.{Step, counter_step, item_step, counter, field_reading, item_reading, step_reading}
 use Rattle.mufom_meaning.specs.Values.{Setting, value, has_zero_divisor}
-use Rattle.mufom_meaning.specs.Walk.{zero_divisor_at, overflow_at, field_fact, step_fact, item_fact, base_number, size_at, counted_from, has_number, outside_at, first_twice, addresses_at, step_addresses, loaded_addresses}
+use Rattle.mufom_meaning.specs.Walk.{zero_divisor_at, overflow_at, field_fact, step_fact, item_fact, base_number, size_at, counted_from, has_number, outside_at, first_twice, addresses_at, loaded_addresses}
 use Rattle.mufom_meaning.proofs.Members.{In, In-append}
 use Rattle.mufom_meaning.proofs.Choices.{equal_numbers, of_not_lt, of_not_le}
 use Rattle.mufom_meaning.proofs.Tests.{chosen_none, either_false}
@@ -27,7 +26,7 @@ use Rattle.mufom_meaning.proofs.locations.OwnAddresses.{length-number_bytes, len
 use Rattle.mufom_meaning.proofs.values.Causes.{zero_divisor-none}
 use Rattle.mufom_image_bytes.specs.declared.layout.Layout.{Layout}
 use Rattle.mufom_image_bytes.specs.Chunks.{cell_addresses as addresses}
-use Rattle.mufom_image_bytes.specs.Outcomes.{WorthAt, Progress, Outcome, base_in, size_in, outside_in, field_outcome, item_bytes, with_bytes, placed_outcome, item_outcome, counter_outcome}
+use Rattle.mufom_image_bytes.specs.Outcomes.{WorthAt, Progress, Outcome, base_in, size_in, outside_in, field_outcome, item_bytes, placed_outcome, item_outcome, counter_outcome}
 use Rattle.mufom_image_bytes.specs.Walked.{IsLaidOut, HasWorth, IsPlainItem}
 use Rattle.mufom_image_bytes.proofs.TwiceLaws.{passed, twice-append, twice-same}
 

@@ -35,8 +35,8 @@ IsRefusal cells stop refusals.NoMemory = Unit {0}
 -- where the loads are walked so, nothing is met, and the runs are the rows of what they load
 abbrev pub IsImageOf : Layout → WorthAt → List Load → List Run → Type 0
 IsImageOf layout worth loads runs =
-    (s : Setting) (site : Sited) → AreWalked s site layout worth loads
-    → (steps_fact s [] (steps_of site None loads) ≡ None) × AreRowsOf (address_map layout.order s.modulus (step_readings s (steps_of site None loads))) runs
+    (s : Setting) (site : Sited) → AreWalked s site layout worth loads → let steps = steps_of site None loads in
+    (steps_fact s [] steps ≡ None) × AreRowsOf (address_map layout.order s.modulus (step_readings s steps)) runs
 
 -- where the loads are walked so, this is met first
 abbrev pub IsRefusalOf : Layout → WorthAt → List Load → ImageRefusal → Type 0

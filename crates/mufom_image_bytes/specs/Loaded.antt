@@ -1,5 +1,5 @@
 -- The bytes that were loaded so far, and their chunks.
-use Rattle.std.specs.Prelude.{◌≡◌, ℕ, ◌+◌, List, [], ◌∷◌, ◌++◌, length}
+use Rattle.std.specs.Prelude.{◌≡◌, ◌+◌, List, [], ◌∷◌, ◌++◌, length}
 use Rattle.mufom_meaning.specs.AddressMap.{Cell}
 use Rattle.mufom_image_bytes.specs.declared.loaded.Loaded.{Loaded}
 use Rattle.mufom_image_bytes.specs.Chunks.{cells_of_chunks, AreConsecutive}

@@ -1,5 +1,5 @@
 -- The image of one module, once its sections are placed and its publics have values.
-use Rattle.std.specs.Prelude.{◌≡◌, ℕ, ◌+◌, ◌≤◌, List, [], ◌∷◌, length, Option, Some, None, true, false}
+use Rattle.std.specs.Prelude.{◌≡◌, ℕ, ◌+◌, ◌≤◌, List, [], ◌∷◌, length, Some, None, true, false}
 use Rattle.mufom_expr.specs.Tree.{Tree}
 use Rattle.mufom_module.specs.declared.module.Parts.{Parts}
 use Rattle.mufom_plan.specs.Names.{has_name}
@@ -13,7 +13,7 @@ use Rattle.mufom_meaning.specs.Flat.{Sited, needs, common_names}
 use Rattle.mufom_meaning.specs.Readings.{readings}
 use Rattle.mufom_meaning.specs.Stands.{StandsIn, LinkFactStands}
 use Rattle.mufom_meaning.specs.Steps.{steps}
-use Rattle.mufom_meaning.specs.Values.{Setting, setting, value}
+use Rattle.mufom_meaning.specs.Values.{setting, value}
 use Rattle.mufom_meaning.specs.Walk.{base_number, size_at, public_fact, steps_fact}
 use Rattle.mufom_image_bytes.specs.declared.refusal.ImageRefusal.{ImageRefusal}
 use Rattle.mufom_image_bytes.specs.declared.refusal.ImageRefusal.TheVariants as refusals

@@ -1,5 +1,6 @@
 -- What the loads of one module put at addresses, by places and values, up to the first that cannot be put.
-use Rattle.std.specs.Prelude.{ℕ, ◌+◌, ◌%◌, ◌^◌, ◌==◌, List, [], ◌∷◌, ◌++◌, Option, Some, None, option_map, slice_get, slice_index, slice_set, unwrap_or, if◌then◌else◌}
+use Rattle.std.specs.Prelude.{◌≡◌, ℕ, ◌+◌, ◌%◌, ◌^◌, ◌==◌, List, [], ◌∷◌, ◌++◌, Option, Some, None, option_map, unwrap_or, if◌then◌else◌}
+use Rattle.std.specs.Prelude.{slice_get, slice_index, slice_set}
 use Rattle.mufom_expr.specs.declared.token.FieldKind.{FieldKind}
 use Rattle.mufom_expr.specs.Tree.{Tree}
 use Rattle.mufom_loads.specs.declared.load.Item.{Item}
@@ -11,7 +12,7 @@ use Rattle.mufom_module.specs.Contents.{current_after}
 use Rattle.mufom_place.specs.Facts.{first_some}
 use Rattle.mufom_meaning.specs.declared.located.Site.TheVariants as sites
 use Rattle.mufom_meaning.specs.AddressMap.{Cell, cells_from}
-use Rattle.mufom_meaning.specs.Facts.{LocateFact, zero_divisor, overflow}
+use Rattle.mufom_meaning.specs.Facts.{LocateFact, zero_divisor, load_outside, overflow}
 use Rattle.mufom_meaning.specs.Fields.{fits, field_number, number_bytes, in_byte_order}
 use Rattle.mufom_meaning.specs.Walk.{counted_from, outside_at}
 use Rattle.mufom_image_bytes.specs.declared.layout.Layout.{Layout}
@@ -44,7 +45,14 @@ size_in layout section = unwrap_or (option_map (λ found. found.size) (slice_get
 
 -- the first of the bytes of an item that lies outside its section
 abbrev pub outside_in : Layout → ℕ → ℕ → ℕ → Option LocateFact
-outside_in layout section at count = first_some (outside_at (2 ^ layout.width) section (base_in layout section) (size_in layout section)) (counted_from count at)
+outside_in layout section at count =
+    first_some (outside_at (2 ^ layout.width) section (base_in layout section) (size_in layout section)) (counted_from count at)
+
+-- the first of `count` addresses that lies outside the `size` addresses from `base` on
+abbrev pub IsFirstOutside : ℕ → ℕ → ℕ → ℕ → Option ℕ → Type 0
+IsFirstOutside base size at count first =
+    (modulus section : ℕ)
+    → first_some (outside_at modulus section base size) (counted_from count at) ≡ option_map (λ a. load_outside section (a % modulus)) first
 
 -- the number that the bytes of a field spell, or 0 and what is met in its place
 abbrev pub field_outcome : ℕ → ℕ → ℕ → FieldKind → ℕ → Option ℕ → ℕ × Option LocateFact
@@ -56,7 +64,8 @@ field_outcome modulus section at kind size (Some v) =
 abbrev pub item_bytes : Layout → WorthAt → ℕ → ℕ → Item → List ℕ × Option LocateFact
 item_bytes layout worth section at (Literal bytes) = (bytes, None)
 item_bytes layout worth section at (Field kind t size) =
-    let found = field_outcome (2 ^ layout.width) section at kind size (worth at t) in (in_byte_order layout.order (number_bytes size found.0), found.1)
+    let found = field_outcome (2 ^ layout.width) section at kind size (worth at t) in
+    (in_byte_order layout.order (number_bytes size found.0), found.1)
 
 -- bytes are put at a counter, and the counter of the section moves on
 abbrev pub with_bytes : Layout → ℕ → ℕ → List ℕ → ℕ → Progress → Progress
@@ -73,7 +82,7 @@ placed_outcome layout worth section at item None p =
 unfoldable pub item_outcome : Layout → WorthAt → ℕ → Item → Progress → Outcome
 item_outcome layout worth section item p =
     if byte_count item == 0 then (p, None)
-    else placed_outcome layout worth section (slice_index p.counters section) item (outside_in layout section (slice_index p.counters section) (byte_count item)) p
+    else (let at = slice_index p.counters section in placed_outcome layout worth section at item (outside_in layout section at (byte_count item)) p)
 
 -- items are loaded, one after another
 abbrev pub items_outcome : Layout → WorthAt → ℕ → List Item → Progress → Outcome
@@ -102,7 +111,8 @@ load_outcome layout worth current (Repeat count items) p = current_outcome layou
 abbrev pub loads_outcome : Layout → WorthAt → Option ℕ → List Load → Progress → Outcome
 loads_outcome layout worth current [] p = (p, None)
 loads_outcome layout worth current (load ∷ loads) p =
-    let first = load_outcome layout worth current load p in continued first.0 first.1 (λ q. loads_outcome layout worth (current_after current load) loads q)
+    let first = load_outcome layout worth current load p in
+    continued first.0 first.1 (λ q. loads_outcome layout worth (current_after current load) loads q)
 
 -- before all loads each counter is the base of its section
 abbrev pub progress_at_first : List ℕ → Progress

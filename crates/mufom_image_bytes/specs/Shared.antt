@@ -1,6 +1,12 @@
 -- Chunks in order of their addresses, of which two share an address.
-use Rattle.std.specs.Prelude.{◌≡◌, ℕ, ◌+◌, ◌-◌, ◌<◌, ◌≤◌, ◌==◌, min, List, [], ◌∷◌, Bool, true, false, nat_lt, if◌then◌else◌}
+use Rattle.std.specs.Prelude.{◌≡◌, ℕ, ◌+◌, ◌-◌, ◌^◌, ◌<◌, ◌≤◌, ◌==◌, min, List, [], ◌∷◌, Option, option_map, Contains}
+use Rattle.std.specs.Prelude.{Bool, true, false, nat_lt, if◌then◌else◌}
+use Rattle.std.specs.List.Sorted.{IsPermutation}
+use Rattle.mufom_place.specs.Facts.{◌or_else◌}
+use Rattle.mufom_meaning.specs.Facts.{LocateFact, loaded_twice}
+use Rattle.mufom_meaning.specs.Walk.{first_twice}
 use Rattle.mufom_image_bytes.specs.declared.chunk.Chunk.{Chunk}
+use Rattle.mufom_image_bytes.specs.Chunks.{addresses_of, AreConsecutive}
 
 -- how many bytes of a chunk are among the first `count` that are loaded
 abbrev pub part_of : ℕ → Chunk → ℕ
@@ -21,3 +27,27 @@ AreRisingFrom low (c ∷ chunks) = (low ≤ c.address) × AreRisingFrom c.addres
 -- the byte of this number, from 0 in the order of the loads, is one of the chunk
 abbrev pub HasByte : Chunk → ℕ → Type 0
 HasByte c number = (c.start ≤ number) × (number < c.start + c.count)
+
+-- the address of the byte of this number, where a chunk has it and its address fits 64 bits
+abbrev pub IsAddressOf : List Chunk → ℕ → ℕ → Type 0
+IsAddressOf chunks number address =
+    (c : Chunk) → Contains chunks c → HasByte c number
+    → (d : Chunk) × Contains chunks d × HasByte d number × (d.address + (number - d.start) < 2 ^ 64 → address ≡ d.address + (number - d.start))
+
+-- the addresses of chunks fit 64 bits
+abbrev pub HaveLowAddresses : List Chunk → Type 0
+HaveLowAddresses loaded = (a : ℕ) → Contains (addresses_of loaded) a → a < 2 ^ 64
+
+-- of chunks in the order of the loads, `count` bytes in all, of which the given ones are those in another order
+abbrev pub AreOrdered : List Chunk → ℕ → List Chunk → Type 0
+AreOrdered chunks count loaded = IsPermutation loaded chunks × AreConsecutive 0 loaded count × HaveLowAddresses loaded
+
+-- the first address that stands twice, in the order of the loads
+abbrev pub IsFirstDouble : List Chunk → ℕ → Option ℕ → Type 0
+IsFirstDouble chunks count double =
+    (loaded : List Chunk) → AreOrdered chunks count loaded → first_twice [] (addresses_of loaded) ≡ option_map loaded_twice double
+
+-- the first address that stands twice, and else what ended the loads
+abbrev pub EndsFirst : List Chunk → ℕ → Option LocateFact → Option LocateFact → Type 0
+EndsFirst chunks count stop first =
+    (loaded : List Chunk) → AreOrdered chunks count loaded → first ≡ (first_twice [] (addresses_of loaded) or_else stop)

@@ -1,5 +1,6 @@
 -- Chunks in order of their addresses, none of which shares an address with another.
-use Rattle.std.specs.Prelude.{◌≡◌, ℕ, suc, ◌+◌, ◌<◌, ◌≤◌, ◌==◌, List, [], ◌∷◌, length, flat_map, take, drop, if◌then◌else◌}
+use Rattle.std.specs.Prelude.{◌≡◌, ℕ, suc, ◌+◌, ◌<◌, ◌≤◌, ◌==◌, List, [], ◌∷◌, length}
+use Rattle.std.specs.Prelude.{flat_map, take, drop, if◌then◌else◌}
 use Rattle.mufom_meaning.specs.declared.located.Run.{Run}
 use Rattle.mufom_image_bytes.specs.declared.chunk.Chunk.{Chunk}
 

@@ -1,13 +1,7 @@
 //! The first byte that is loaded on another.
 
-ghost use Rattle.std.specs.Prelude.{◌≡◌, ℕ, ◌+◌, ◌-◌, ◌<◌, ◌≤◌, ◌^◌, List, [], None, option_map, true, false, Contains};
-ghost use Rattle.std.specs.List.{All};
-ghost use Rattle.std.specs.List.Sorted.{IsPermutation};
-ghost use Rattle.mufom_meaning.specs.Facts.{loaded_twice};
-ghost use Rattle.mufom_meaning.specs.Walk.{first_twice};
-ghost use Rattle.mufom_image_bytes.specs.declared.chunk.Chunk.{Chunk};
-ghost use Rattle.mufom_image_bytes.specs.Chunks.{addresses_of, AreConsecutive};
-ghost use Rattle.mufom_image_bytes.specs.Shared.{part_of, shares_from, AreRisingFrom, HasByte};
+ghost use Rattle.std.specs.Prelude.{◌≡◌, ◌+◌, ◌<◌, None, true, false};
+ghost use Rattle.mufom_image_bytes.specs.Shared.{part_of, shares_from, AreRisingFrom, IsAddressOf, IsFirstDouble};
 
 use crate::chunk::Chunk;
 
@@ -59,7 +53,7 @@ fn first_shared(chunks: &[Chunk], count: usize) -> usize
 
 // The address of the byte of this number, which is one of the chunks'.
 fn address_of(chunks: &[Chunk], number: usize) -> u64
-    ensures { (c : Chunk) → Contains chunks.now c → HasByte c number → (d : Chunk) × Contains chunks.now d × HasByte d number × (d.address + (number - d.start) < 2 ^ 64 → result ≡ d.address + (number - d.start)) }
+    ensures { IsAddressOf chunks.now number result }
 {
     for chunk in chunks {
         if chunk.start <= number && number - chunk.start < chunk.count {
@@ -72,7 +66,7 @@ fn address_of(chunks: &[Chunk], number: usize) -> u64
 /// The first address that is loaded twice, in the order of the loads. The chunks go by address.
 pub fn first_double(chunks: &[Chunk], count: usize) -> Option<u64>
     requires { AreRisingFrom 0 chunks.now }
-    ensures double { (loaded : List Chunk) → IsPermutation loaded chunks.now → AreConsecutive 0 loaded count → ((a : ℕ) → Contains (addresses_of loaded) a → a < 2 ^ 64) → first_twice [] (addresses_of loaded) ≡ option_map loaded_twice result }
+    ensures double { IsFirstDouble chunks.now count result }
     ensures none { result ≡ None → shares_from count 0 chunks.now ≡ false }
 {
     if !shares(chunks, count) {

@@ -1,16 +1,13 @@
 //! The image of the loads of a module.
 
-ghost use Rattle.std.specs.Prelude.{◌≡◌, ◌≤◌, ◌<◌, ◌^◌, ℕ, List as list, [], None, false, option_map, length, Contains, IfOk, IfErr};
+ghost use Rattle.std.specs.Prelude.{◌≡◌, ◌≤◌, None, false, option_map, length, IfOk, IfErr};
 ghost use Rattle.std.specs.List.{All};
 ghost use Rattle.std.specs.List.Sorted.{IsPermutation};
-ghost use Rattle.mufom_place.specs.Facts.{◌or_else◌};
 ghost use Rattle.mufom_meaning.specs.AddressMap.{run_cells, AreApart};
-ghost use Rattle.mufom_meaning.specs.Walk.{first_twice};
 ghost use Rattle.mufom_image_bytes.specs.Stops.{fact_of};
-ghost use Rattle.mufom_image_bytes.specs.declared.chunk.Chunk.{Chunk};
-ghost use Rattle.mufom_image_bytes.specs.Chunks.{cells_of_chunks, addresses_of, AreConsecutive};
+ghost use Rattle.mufom_image_bytes.specs.Chunks.{cells_of_chunks};
 ghost use Rattle.mufom_image_bytes.specs.Loaded.{loaded_cells, IsTiled};
-ghost use Rattle.mufom_image_bytes.specs.Shared.{shares_from, AreRisingFrom};
+ghost use Rattle.mufom_image_bytes.specs.Shared.{shares_from, AreRisingFrom, EndsFirst};
 ghost use Rattle.mufom_image_bytes.specs.Spread.{AreSpread, IsAmong, HasAllBytes};
 ghost use Rattle.mufom_image_bytes.specs.Walks.{HasNarrowItems};
 ghost use Rattle.mufom_image_bytes.specs.Images.{IsImage, IsRefusal, IsImageOf, IsRefusalOf};
@@ -41,7 +38,7 @@ fn sort_by_address(chunks: &mut Vec<Chunk>)
 // The first byte that is loaded on another, and else what ended the loads. The chunks go by address.
 fn first_stop(chunks: &[Chunk], count: usize, stop: Option<Stop>) -> Option<Stop>
     requires { AreRisingFrom 0 chunks.now }
-    ensures stop { (loaded : list Chunk) → IsPermutation loaded chunks.now → AreConsecutive 0 loaded count → ((a : ℕ) → Contains (addresses_of loaded) a → a < 2 ^ 64) → option_map fact_of result ≡ (first_twice [] (addresses_of loaded) or_else option_map fact_of stop) }
+    ensures stop { EndsFirst chunks.now count (option_map fact_of stop) (option_map fact_of result) }
     ensures apart { result ≡ None → shares_from count 0 chunks.now ≡ false }
     ensures ended { result ≡ None → stop ≡ None }
 {

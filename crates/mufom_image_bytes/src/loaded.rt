@@ -1,6 +1,6 @@
 ghost use Rattle.std.specs.Prelude.{◌≡◌, ◌+◌, [], ◌∷◌, ◌++◌, length, IfOk, OnOk};
 ghost use Rattle.mufom_meaning.specs.AddressMap.{cells_from};
-ghost use Rattle.mufom_image_bytes.specs.Chunks.{cells_of_chunks, AreConsecutive};
+ghost use Rattle.mufom_image_bytes.specs.Chunks.{end_of_chunk, cells_of_chunks, AreConsecutive};
 ghost use Rattle.mufom_image_bytes.specs.Loaded.{loaded_cells, IsTiled};
 
 use crate::chunk::Chunk;
@@ -67,7 +67,7 @@ impl Loaded {
     fn extend(&mut self, bytes: &[u8]) -> Result<(), NoMemory>
         requires { IsTiled self.old }
         ensures tiled { OnOk result (IsTiled self.new) }
-        ensures cells { OnOk result (loaded_cells self.new ≡ loaded_cells self.old ++ cells_from (self.old.last.address + self.old.last.count) bytes.now) }
+        ensures cells { OnOk result (loaded_cells self.new ≡ loaded_cells self.old ++ cells_from (end_of_chunk self.old.last) bytes.now) }
     {
         self.bytes.extend_from_slice(bytes)?;
         self.last.count = self.bytes.len() - self.last.start;

@@ -2,13 +2,11 @@
 
 ghost use Rattle.std.specs.Prelude.{◌≡◌, ◌≤◌, ◌<◌, ◌^◌, map, filter, length, option_map, None, IfOk, OnOk};
 ghost use Rattle.std.specs.List.{All};
-ghost use Rattle.mufom_loads.specs.Lengths.{repeated};
 ghost use Rattle.mufom_module.specs.Contents.{current_after as current_section};
-ghost use Rattle.mufom_image_bytes.specs.Stops.{fact_of};
 ghost use Rattle.mufom_image_bytes.specs.Chunks.{cells_of_chunks, AreConsecutive};
 ghost use Rattle.mufom_image_bytes.specs.Loaded.{IsTiled};
-ghost use Rattle.mufom_image_bytes.specs.Outcomes.{items_outcome, current_outcome, counter_outcome, load_outcome, loads_outcome, progress_at_first};
-ghost use Rattle.mufom_image_bytes.specs.Walks.{progress_of, has_bytes, first_counters as base_residues, IsNarrow, HasNarrowItems};
+ghost use Rattle.mufom_image_bytes.specs.Walks.{has_bytes, first_counters as base_residues, IsNarrow, HasNarrowItems};
+ghost use Rattle.mufom_image_bytes.specs.Walks.{LoadsItems, Copies, LoadsOne, LoadsAll};
 
 use crate::layout::Layout;
 use crate::loaded::nothing_loaded;
@@ -33,7 +31,7 @@ fn load_items<V: Values>(
     requires narrow { All (λ item. IsNarrow item.now) items.now }
     requires tiled { IsTiled walk.old.loaded }
     ensures tiled { OnOk result (IsTiled walk.new.loaded) }
-    ensures outcome { IfOk result (λ stop. (progress_of walk.new, option_map fact_of stop) ≡ items_outcome layout.now (V.meaning values.now layout.now.width) section (map (λ item. item.now) items.now) (progress_of walk.old)) }
+    ensures outcome { LoadsItems layout.now (V.meaning values.now layout.now.width) section (map (λ i. i.now) items.now) walk.old walk.new result }
 {
     for item in items {
         let stop = load_item(layout, values, section, *item, walk)?;
@@ -58,7 +56,7 @@ fn load_copies<V: Values>(
     requires narrow { All (λ item. IsNarrow item.now) items.now }
     requires tiled { IsTiled walk.old.loaded }
     ensures tiled { OnOk result (IsTiled walk.new.loaded) }
-    ensures outcome { IfOk result (λ stop. (progress_of walk.new, option_map fact_of stop) ≡ items_outcome layout.now (V.meaning values.now layout.now.width) section (repeated count (map (λ item. item.now) items.now)) (progress_of walk.old)) }
+    ensures outcome { Copies layout.now (V.meaning values.now layout.now.width) section count (map (λ i. i.now) items.now) walk.old walk.new result }
 {
     if items.is_empty() {
         return Ok(None);
@@ -102,7 +100,7 @@ fn load_repeat<V: Values>(
     requires narrow { All IsNarrow items.now }
     requires tiled { IsTiled walk.old.loaded }
     ensures tiled { OnOk result (IsTiled walk.new.loaded) }
-    ensures outcome { IfOk result (λ stop. (progress_of walk.new, option_map fact_of stop) ≡ items_outcome layout.now (V.meaning values.now layout.now.width) section (repeated count items.now) (progress_of walk.old)) }
+    ensures outcome { Copies layout.now (V.meaning values.now layout.now.width) section count items.now walk.old walk.new result }
 {
     let items = with_bytes(alloc, items)?;
     load_copies(layout, values, section, count, &items, walk)
@@ -120,7 +118,7 @@ fn load_counter<V: Values>(
     requires high { layout.now.width ≤ 64 }
     requires tiled { IsTiled walk.old.loaded }
     ensures tiled { IsTiled walk.new.loaded }
-    ensures outcome { (progress_of walk.new, option_map fact_of result) ≡ load_outcome layout.now (V.meaning values.now layout.now.width) None (Load.SetPc section value.now) (progress_of walk.old) }
+    ensures outcome { LoadsOne layout.now (V.meaning values.now layout.now.width) None (Load.SetPc section value.now) walk.old walk.new result }
 {
     let at = counter_of(&walk.counters, section);
     match values.value(layout.width, at, value) {
@@ -146,7 +144,7 @@ fn load_one<V: Values>(
     requires narrow { HasNarrowItems load.now }
     requires tiled { IsTiled walk.old.loaded }
     ensures tiled { OnOk result (IsTiled walk.new.loaded) }
-    ensures outcome { IfOk result (λ stop. (progress_of walk.new, option_map fact_of stop) ≡ load_outcome layout.now (V.meaning values.now layout.now.width) current load.now (progress_of walk.old)) }
+    ensures outcome { IfOk result (λ stop. LoadsOne layout.now (V.meaning values.now layout.now.width) current load.now walk.old walk.new stop) }
 {
     match load {
         Load::SetSection(_) => Ok(None),
@@ -203,7 +201,7 @@ pub fn walked<V: Values>(
     requires high { layout.now.width ≤ 64 }
     requires narrow { All HasNarrowItems loads.now }
     ensures tiled { IfOk result (λ r. IsTiled r.0.loaded) }
-    ensures outcome { IfOk result (λ r. (progress_of r.0, option_map fact_of r.1) ≡ loads_outcome layout.now (V.meaning values.now layout.now.width) None loads.now (progress_at_first (base_residues layout.now))) }
+    ensures outcome { IfOk result (λ r. LoadsAll layout.now (V.meaning values.now layout.now.width) loads.now r.0 r.1) }
 {
     let mut walk = Walk {
         counters: first_counters(alloc, layout)?,

@@ -1,16 +1,14 @@
 //! Where item copies lie.
 
-ghost use Rattle.std.specs.Prelude.{◌≡◌, ◌+◌, ◌≤◌, ◌^◌, ◌<◌, ℕ, option_map, slice_get, unwrap_or, ◌%◌};
-ghost use Rattle.mufom_place.specs.Facts.{first_some};
+ghost use Rattle.std.specs.Prelude.{◌≡◌, ◌≤◌, ◌%◌, ◌^◌, option_map};
 ghost use Rattle.mufom_meaning.specs.Facts.{load_outside};
-ghost use Rattle.mufom_meaning.specs.Walk.{counted_from, outside_at};
-ghost use Rattle.mufom_image_bytes.specs.Outcomes.{base_in, size_in, outside_in};
+ghost use Rattle.mufom_image_bytes.specs.Outcomes.{base_in, size_in, outside_in, IsFirstOutside};
 
 use crate::layout::Layout;
 
 /// The first of `count` addresses that lies outside the `size` addresses from `base` on.
 pub fn first_outside(at: u64, count: u64, base: u64, size: u64) -> Option<u128>
-    ensures { (modulus section : ℕ) → first_some (outside_at modulus section base size) (counted_from count at) ≡ option_map (λ a. load_outside section (a % modulus)) result }
+    ensures { IsFirstOutside base size at count result }
 {
     if count == 0 {
         return None;

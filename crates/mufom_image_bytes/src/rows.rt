@@ -3,7 +3,7 @@
 ghost use Rattle.std.specs.Prelude.{◌≡◌, ◌+◌, ◌≤◌, length, IfOk};
 ghost use Rattle.std.specs.List.{All};
 ghost use Rattle.mufom_meaning.specs.AddressMap.{run_cells, AreApart};
-ghost use Rattle.mufom_image_bytes.specs.Chunks.{cells_of_chunks};
+ghost use Rattle.mufom_image_bytes.specs.Chunks.{end_of_chunk, cells_of_chunks};
 ghost use Rattle.mufom_image_bytes.specs.Spread.{AreSpread, IsAmong, first_row, bytes_of_chunks};
 
 use crate::chunk::Chunk;
@@ -13,7 +13,7 @@ use std::alloc::Global;
 
 // The address after a chunk.
 fn end_of(chunk: &Chunk) -> u128
-    ensures { result ≡ chunk.now.address + chunk.now.count }
+    ensures { result ≡ end_of_chunk chunk.now }
 {
     chunk.address as u128 + chunk.count as u128
 }

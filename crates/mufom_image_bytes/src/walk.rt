@@ -6,8 +6,8 @@ ghost use Rattle.mufom_loads.specs.declared.load.Item.TheVariants.{Field};
 ghost use Rattle.mufom_loads.specs.Lengths.{byte_count, repeated};
 ghost use Rattle.mufom_image_bytes.specs.Stops.{fact_of};
 ghost use Rattle.mufom_image_bytes.specs.Loaded.{IsTiled};
-ghost use Rattle.mufom_image_bytes.specs.Outcomes.{field_outcome, item_bytes, with_bytes, placed_outcome, item_outcome, items_outcome};
-ghost use Rattle.mufom_image_bytes.specs.Walks.{progress_of, IsNarrow};
+ghost use Rattle.mufom_image_bytes.specs.Outcomes.{field_outcome, with_bytes};
+ghost use Rattle.mufom_image_bytes.specs.Walks.{progress_of, PutsItem, LoadsItem, IsNarrow};
 
 use crate::field::{field_number, fits, spelled};
 use crate::layout::Layout;
@@ -110,7 +110,7 @@ fn put_item<V: Values>(
     requires narrow { IsNarrow item.now }
     requires tiled { IsTiled walk.old.loaded }
     ensures tiled { OnOk result (IsTiled walk.new.loaded) }
-    ensures outcome { IfOk result (λ stop. (progress_of walk.new, option_map fact_of stop) ≡ placed_outcome layout.now (V.meaning values.now layout.now.width) section at item.now None (progress_of walk.old)) }
+    ensures outcome { IfOk result (λ stop. PutsItem layout.now (V.meaning values.now layout.now.width) section at item.now walk.old walk.new stop) }
 {
     match item {
         Item::Literal(bytes) => {
@@ -140,7 +140,7 @@ pub fn load_item<V: Values>(
     requires narrow { IsNarrow item.now }
     requires tiled { IsTiled walk.old.loaded }
     ensures tiled { OnOk result (IsTiled walk.new.loaded) }
-    ensures outcome { IfOk result (λ stop. (progress_of walk.new, option_map fact_of stop) ≡ item_outcome layout.now (V.meaning values.now layout.now.width) section item.now (progress_of walk.old)) }
+    ensures outcome { IfOk result (λ stop. LoadsItem layout.now (V.meaning values.now layout.now.width) section item.now walk.old walk.new stop) }
 {
     let count = item_length(item);
     if count == 0 {

@@ -1,17 +1,20 @@
-use Rattle.std.proofs.Common.{◌≡◌, ℕ, ◌+◌, ◌-◌, ◌<◌, ◌≤◌, ◌^◌, Some, sym, ◌∙◌, ap, arith}
+use Rattle.std.proofs.Common.{◌≡◌, ℕ, ◌+◌, ◌-◌, ◌<◌, ◌^◌, Some, sym, ◌∙◌, ap, arith}
 use Rattle.std.specs.Prelude.{slice_get}
 use Rattle.std.proofs.lemmas.List.Sorted.{Contains-permutation, IsPermutation-sym}
-use Rattle.mufom_meaning.proofs.Members.{In, In-Contains, Contains-In, In-at}
+use Rattle.mufom_meaning.proofs.Members.{In-Contains, Contains-In, In-at}
 use Rattle.mufom_image_bytes.specs.Chunks.{addresses_of}
 use Rattle.mufom_image_bytes.proofs.SharedLaws.{all_apart, byte_there, byte_address, double_at}
 use Rattle.mufom_image_bytes.proofs.doubles.first_double.Goals as goal
 
 pub returns-then-not-shares-clause-double : goal.returns-then-not-shares-clause-double
-returns-then-not-shares-clause-double c = λ loaded permuted tiles below.
-    all_apart loaded c.args.chunks.now c.args.count permuted tiles (sym c.shares.ensures ∙ c.if-not-shares.true)
+returns-then-not-shares-clause-double c = λ loaded h.
+    all_apart loaded c.args.chunks.now c.args.count h.0 h.1 (sym c.shares.ensures ∙ c.if-not-shares.true)
 
 pub returns-clause-double : goal.returns-clause-double
-returns-clause-double c = λ loaded permuted tiles below.
+returns-clause-double c = λ loaded h.
+    let permuted = h.0 in
+    let tiles = h.1 in
+    let below = h.2 in
     let chunks = c.args.chunks.now in
     let number = c.first_shared-number.result in
     let within = c.first_shared-number.ensures.within in

@@ -1,4 +1,4 @@
-use Rattle.std.proofs.Common.{◌≡◌, ℕ, suc, ◌+◌, ◌-◌, [], ◌∷◌, ◌++◌, length, ◌/◌, ◌%◌, sym, ◌∙◌, ap, arith, append_assoc}
+use Rattle.std.proofs.Common.{◌≡◌, ℕ, suc, ◌+◌, ◌-◌, [], ◌∷◌, ◌++◌, ◌/◌, ◌%◌, sym, ◌∙◌, ap, arith, append_assoc}
 use Rattle.mufom_meaning.specs.Fields.{number_bytes}
 use Rattle.mufom_image_bytes.proofs.field.least_first.Goals as goal
 

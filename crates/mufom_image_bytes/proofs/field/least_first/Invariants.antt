@@ -1,4 +1,4 @@
-use Rattle.std.proofs.Common.{◌≡◌, ◌-◌, ◌+◌, ◌++◌, length}
+use Rattle.std.proofs.Common.{◌≡◌, ◌-◌, ◌++◌, length}
 use Rattle.mufom_meaning.specs.Fields.{number_bytes}
 use Rattle.mufom_image_bytes.proofs.field.least_first.Given as goal
 

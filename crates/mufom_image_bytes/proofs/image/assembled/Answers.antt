@@ -1,13 +1,12 @@
 use Rattle.std.proofs.Common.{◌≡◌, ℕ, List, length, arith, sym, ◌∙◌, ap, subst, refl}
 use Rattle.std.specs.Prelude.{option_map}
 use Rattle.std.specs.List.{All}
-use Rattle.std.specs.List.Sorted.{IsPermutation}
 use Rattle.mufom_image_bytes.specs.declared.chunk.Chunk.{Chunk}
 use Rattle.mufom_image_bytes.specs.Stops.{fact_of}
-use Rattle.mufom_image_bytes.specs.Chunks.{cells_of_chunks, AreConsecutive}
+use Rattle.mufom_image_bytes.specs.Chunks.{cells_of_chunks}
 use Rattle.mufom_image_bytes.specs.Loaded.{loaded_cells}
-use Rattle.mufom_image_bytes.specs.Shared.{shares_from}
-use Rattle.mufom_image_bytes.specs.Spread.{AreSpread, IsAmong}
+use Rattle.mufom_image_bytes.specs.Shared.{shares_from, AreOrdered}
+use Rattle.mufom_image_bytes.specs.Spread.{IsAmong}
 use Rattle.mufom_image_bytes.proofs.ImageLaws.{AreSorted, sorted_among, sorted_spread, refused, imaged}
 use Rattle.mufom_image_bytes.proofs.SpreadLaws.{single_whole}
 use Rattle.mufom_image_bytes.proofs.image.assembled.Goals as goal
@@ -21,8 +20,7 @@ returns-in-Some-clause-refusal c =
     let h : AreSorted (loaded_cells c.args.loaded) bytes chunks sorted =
     record { consecutive = c.in_ok-chunks.ensures.consecutive; same = c.in_ok-chunks.ensures.cells; permuted = c.sort_by_address.ensures.permutation } in
     refused (loaded_cells c.args.loaded) bytes chunks sorted h c.in-Some.stop (option_map fact_of c.args.stop)
-    (λ loaded permuted tiles low. c.in-Some.ensures.stop loaded (subst (λ (list : List Chunk). IsPermutation loaded list) (sym c.deref.ensures.value) permuted)
-    (subst (λ n. AreConsecutive 0 loaded n) (sym long) tiles) low)
+    (λ loaded ordered. c.in-Some.ensures.stop loaded (subst (λ (x : List Chunk × ℕ). AreOrdered x.0 x.1 loaded) (λ i. (sym c.deref.ensures.value i, sym long i)) ordered))
 
 pub rows_of-requires-clause-spread : goal.rows_of-requires-clause-spread
 rows_of-requires-clause-spread c =
@@ -56,8 +54,7 @@ returns-clause-image c =
     let h : AreSorted (loaded_cells c.args.loaded) bytes chunks sorted =
     record { consecutive = c.in_ok-chunks.ensures.consecutive; same = c.in_ok-chunks.ensures.cells; permuted = c.sort_by_address.ensures.permutation } in
     imaged (loaded_cells c.args.loaded) bytes chunks sorted h c.args.stop c.in_ok-rows_of-in-None.field-0
-    (λ loaded permuted tiles low. c.in-None.ensures.stop loaded (subst (λ (list : List Chunk). IsPermutation loaded list) (sym c.deref.ensures.value) permuted)
-    (subst (λ n. AreConsecutive 0 loaded n) (sym long) tiles) low)
+    (λ loaded ordered. c.in-None.ensures.stop loaded (subst (λ (x : List Chunk × ℕ). AreOrdered x.0 x.1 loaded) (λ i. (sym c.deref.ensures.value i, sym long i)) ordered))
     (c.in-None.ensures.ended refl) c.in_ok-rows_of-in-None.ensures.apart
     (c.in_ok-rows_of-in-None.ensures.cells ∙ ap (cells_of_chunks bytes) c.deref-in-None.ensures.value)
 

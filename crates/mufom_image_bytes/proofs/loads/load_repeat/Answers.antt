@@ -1,6 +1,4 @@
-use Rattle.std.proofs.Common.{◌≡◌, map, sym, ◌∙◌, ap}
-use Rattle.mufom_loads.specs.Lengths.{repeated}
-use Rattle.mufom_image_bytes.specs.Outcomes.{items_outcome}
+use Rattle.std.proofs.Common.{map, sym, ◌∙◌, ap}
 use Rattle.mufom_image_bytes.specs.Walks.{progress_of}
 use Rattle.mufom_image_bytes.proofs.OutcomeLaws.{repeated_with_bytes}
 use Rattle.mufom_image_bytes.proofs.loads.load_repeat.Goals as goal

@@ -1,4 +1,4 @@
-use Rattle.std.proofs.Common.{◌≡◌, sym, ◌∙◌, ap, arith}
+use Rattle.std.proofs.Common.{sym, ◌∙◌, ap}
 use Rattle.std.specs.Prelude.{slice_index}
 use Rattle.mufom_image_bytes.specs.Walks.{progress_of}
 use Rattle.mufom_image_bytes.proofs.OutcomeLaws.{item_empty, item_placed}

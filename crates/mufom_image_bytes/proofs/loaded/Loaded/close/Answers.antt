@@ -1,5 +1,5 @@
 use Rattle.std.proofs.Common.{arith}
-use Rattle.mufom_image_bytes.proofs.ChunkLaws.{closed, closed_empty, without_last}
+use Rattle.mufom_image_bytes.proofs.ChunkLaws.{closed}
 use Rattle.mufom_image_bytes.proofs.loaded.Loaded.close.Goals as goal
 
 pub returns-in_ok-push-clause-consecutive : goal.returns-in_ok-push-clause-consecutive
