@@ -1,9 +1,13 @@
 -- Files that are read one after another: what was accepted so far, one file more, and the file that stops the run.
-use Rattle.std.proofs.Common.{◌≡◌, ℕ, ◌+◌, ◌-◌, ◌<◌, ◌≤◌, Bool, List, [], ◌∷◌, ◌++◌, length, map, take, drop, get_or, sum_by, Option, Some, None, IfSome, OnSome, Err, refl, sym, ap, subst, ◌∙◌, arith, append_assoc}
+use Rattle.std.proofs.Common.{◌≡◌, ℕ, ◌+◌, ◌*◌, ◌-◌, ◌<◌, ◌≤◌, Bool, List, [], ◌∷◌, ◌++◌, length, map, take, drop, get_or, sum_by, Option, Some, None, IfSome, OnSome, Err, refl, sym, ap, subst, ◌∙◌, arith, append_assoc}
 use Rattle.std.proofs.lemmas.List.{append-nil, drop_more, length-append, length-take-le, map-append, take-append-drop, take_all, take_more}
 use Rattle.std.proofs.lemmas.List.Sums.{sum_by-append}
 use Rattle.mufom_host.specs.World.{Faults, Meaning, NamedFile, GrowsBy, KeepsAllButOpened, KeepsAllButReads, Rose, file_named}
 use Rattle.mufom_module.specs.declared.module.Parts.{Parts}
+use Rattle.mufom_module.specs.Defects.{IsValid}
+use Rattle.mufom_module.specs.Written.{weight}
+use Rattle.mufom_meaning.specs.Staging.{AreValid}
+use Rattle.mufom_meaning.specs.StagingLaws.{total_weight}
 use Rattle.mufom_read.specs.declared.source.SourceStop.{SourceStop}
 use Rattle.mufom_read.specs.declared.source.SourceStop.TheVariants as source
 use Rattle.mufom_read.specs.Judging.{IsModule}
@@ -13,8 +17,21 @@ use Rattle.mufom_command.specs.declared.outcome.Outcome.{Outcome}
 use Rattle.mufom_command.specs.declared.outcome.Outcome.TheVariants as outcome
 use Rattle.mufom_command.specs.declared.outcome.Refusal.TheVariants as refusal
 use Rattle.mufom_command.specs.Inputs.{AreAccepted, AreModules, ComeTo, StopsAt, accepted, most_input_bytes, room_after}
-use Rattle.mufom_command.specs.FilesRead.{FileStops, HasModule, outcome_of_source_stop}
-use Rattle.mufom_command.specs.Run.{Lists, FileHas, IsOpenedCount, OpensPrefix}
+use Rattle.mufom_command.specs.FilesRead.{FileHas, FileStops, FilesStop, HasModule, outcome_of_source_stop}
+use Rattle.mufom_groups.specs.Groups.{most_weight}
+use Rattle.mufom_command.specs.Run.{Call, IsOpenedCount, OpensPrefix}
+
+-- the call with these meanings and faults before and after
+abbrev pub call_between : Meaning → Meaning → Faults → Faults → Call
+call_between old new before now = record { old = old; new = new; before = before; now = now }
+
+-- one module more has no defect
+pub valid-more : (ms : List Parts) (m : Parts) → AreValid ms → IsValid m → AreValid (ms ++ m ∷ [])
+valid-more [] m are is = (is, tt)
+valid-more (first ∷ ms) m are is = (are.0, valid-more ms m are.1 is)
+
+weight-more : (ms : List Parts) (m : Parts) → total_weight (ms ++ m ∷ []) ≡ total_weight ms + weight m
+weight-more ms m = let sum = sum_by-append weight ms (m ∷ []) in omega (arith, sum)
 
 -- ---- names in their order
 
@@ -93,6 +110,8 @@ module _ (reads_debug : Bool) where
     pub counts : KeepsAllButReads before after
     pub later : before.reads ≤ after.reads
     pub count : length ms ≡ done
+    pub valid : AreValid ms
+    pub light : total_weight ms + 10 * room ≤ most_weight
 
   grows_by_none : {T : Type 0} (o : Option (List T)) → GrowsBy o o []
   grows_by_none None = tt
@@ -120,6 +139,8 @@ module _ (reads_debug : Bool) where
     counts = refl;
     later = omega arith;
     count = refl;
+    valid = tt;
+    light = omega arith;
   }
 
   accepted_next : (files : Option (List NamedFile)) (prefix more : List (List ℕ)) (name : List ℕ) (ms : List Parts) (m : Parts) (room count : ℕ) → more ≡ prefix ++ name ∷ []
@@ -137,11 +158,8 @@ module _ (reads_debug : Bool) where
     files_same : mid.files ≡ old.files
     files_same = ap (λ (m : Meaning). m.files) so_far.stays
 
-    out_same : new.out ≡ old.out
-    out_same = ap (λ (m : Meaning). m.out) stays ∙ ap (λ (m : Meaning). m.out) so_far.stays
-
-    pub have_read_more : (m : Parts) (count : ℕ) → FileHas name mid.files (HasModule reads_debug room m count) → GrowsBy mid.opened new.opened (name ∷ []) → HaveRead names (number + 1) (ms ++ m ∷ []) (room - count) old new before now
-    have_read_more m count read opened = record {
+    pub have_read_more : (m : Parts) (count : ℕ) → IsValid m → (weight m ≤ 10 * count) × (count ≤ room) → FileHas name mid.files (HasModule reads_debug room m count) → GrowsBy mid.opened new.opened (name ∷ []) → HaveRead names (number + 1) (ms ++ m ∷ []) (room - count) old new before now
+    have_read_more m count valid weighs read opened = record {
       files = accepted_next old.files (take number names) (take (number + 1) names) name ms m room count next so_far.files (subst (λ (o : Option (List NamedFile)). FileHas name o (HasModule reads_debug room m count)) files_same read);
       fits = let fits = so_far.fits in omega (arith, fits);
       opened = subst (λ (l : List (List ℕ)). GrowsBy old.opened new.opened l) (sym next) (grows_by_both old.opened mid.opened new.opened (take number names) (name ∷ []) so_far.opened opened);
@@ -149,6 +167,8 @@ module _ (reads_debug : Bool) where
       counts = counts ∙ ap (λ (f : Faults). record f { reads = now.reads }) so_far.counts;
       later = let first = so_far.later in omega (arith, first, later);
       count = let all = length-append ms (m ∷ []) in let first = so_far.count in omega (arith, all, first);
+      valid = valid-more ms m so_far.valid valid;
+      light = let sum = weight-more ms m in let light = so_far.light in let own = weighs.0 in let within = weighs.1 in omega (arith, sum, light, own, within);
     }
 
     at_file : (P : ℕ → List ℕ → Type 0) (i : ℕ) (files : Option (List NamedFile)) → names ≡ take number names ++ name ∷ drop (number + 1) names → length (take number names) ≡ number → i ≡ number
@@ -173,23 +193,21 @@ module _ (reads_debug : Bool) where
     accepted_before i None is them = tt
     accepted_before i (Some fs) is (contents, them, left) = (ms, (contents, subst (λ n. AreAccepted reads_debug fs (take n names) contents ms) (sym is) them))
 
-    -- why this file was not read is the answer
-    pub stop_answers : (text : List Parts → List ℕ) (stop : Outcome) → names ≡ take number names ++ name ∷ drop (number + 1) names → length (take number names) ≡ number → FileStops reads_debug name number room mid.files between now stop → Lists reads_debug text names old new before now stop
-    stop_answers text outcome.Done split place why = absurd why
-    stop_answers text (outcome.Refused (refusal.Read i r)) split place why = (
-      at_file (λ limit bytes. IsRefusedWithin reads_debug limit bytes r.place r.reason) i old.files split place why.0 so_far.files (subst (λ (o : Option (List NamedFile)). FileHas name o (λ bytes. IsRefusedWithin reads_debug room bytes r.place r.reason)) files_same why.1),
-      out_same,
-    )
-    stop_answers text (outcome.Refused (refusal.InputLimit i)) split place why = (
-      at_file (λ limit bytes. IsPastLimit reads_debug limit bytes) i old.files split place why.0 so_far.files (subst (λ (o : Option (List NamedFile)). FileHas name o (λ bytes. IsPastLimit reads_debug room bytes)) files_same why.1),
-      out_same,
-    )
-    stop_answers text (outcome.Refused (refusal.TooManyFiles count)) split place why = absurd why
-    stop_answers text (outcome.Refused (refusal.TooDeep depth)) split place why = absurd why
-    stop_answers text (outcome.Usage f) split place why = absurd why
-    stop_answers text (outcome.ReadFault (input.File i)) split place why = (rose_since before.reads between.reads now.reads so_far.later why.1, accepted_before i old.files why.0 so_far.files, out_same)
-    stop_answers text outcome.WriteFault split place why = absurd why
-    stop_answers text outcome.NoMemory split place why = out_same
+    -- why this file was not read is why not all were
+    pub files_stop : (stop : Outcome) → names ≡ take number names ++ name ∷ drop (number + 1) names → length (take number names) ≡ number → FileStops reads_debug name number room mid.files between now stop
+        → FilesStop reads_debug names (call_between old new before now) stop
+    files_stop outcome.Done split place why = absurd why
+    files_stop (outcome.Refused (refusal.Read i r)) split place why =
+        at_file (λ limit bytes. IsRefusedWithin reads_debug limit bytes r.place r.reason) i old.files split place why.0 so_far.files (subst (λ (o : Option (List NamedFile)). FileHas name o (λ bytes. IsRefusedWithin reads_debug room bytes r.place r.reason)) files_same why.1)
+    files_stop (outcome.Refused (refusal.InputLimit i)) split place why =
+        at_file (λ limit bytes. IsPastLimit reads_debug limit bytes) i old.files split place why.0 so_far.files (subst (λ (o : Option (List NamedFile)). FileHas name o (λ bytes. IsPastLimit reads_debug room bytes)) files_same why.1)
+    files_stop (outcome.Refused (refusal.TooManyFiles count)) split place why = absurd why
+    files_stop (outcome.Refused (refusal.TooDeep depth)) split place why = absurd why
+    files_stop (outcome.Refused (refusal.Link l)) split place why = absurd why
+    files_stop (outcome.Usage f) split place why = absurd why
+    files_stop (outcome.ReadFault (input.File i)) split place why = (rose_since before.reads between.reads now.reads so_far.later why.1, accepted_before i old.files why.0 so_far.files)
+    files_stop outcome.WriteFault split place why = absurd why
+    files_stop outcome.NoMemory split place why = tt
 
     opened_now : OnSome new.opened (GrowsBy mid.opened new.opened (name ∷ [])) → OnSome new.opened (GrowsBy old.opened new.opened (take (number + 1) names))
     opened_now opened = subst (λ (l : List (List ℕ)). OnSome new.opened (GrowsBy old.opened new.opened l)) (sym next) (grows_then old.opened mid.opened new.opened (take number names) (name ∷ []) so_far.opened opened)
@@ -200,13 +218,14 @@ module _ (reads_debug : Bool) where
     opened_count (outcome.Refused (refusal.InputLimit i)) why = let is = why.0 in omega (arith, is)
     opened_count (outcome.Refused (refusal.TooManyFiles count)) why = absurd why
     opened_count (outcome.Refused (refusal.TooDeep depth)) why = absurd why
+    opened_count (outcome.Refused (refusal.Link l)) why = absurd why
     opened_count (outcome.Usage f) why = absurd why
     opened_count (outcome.ReadFault (input.File i)) why = let is = why.0 in omega (arith, is)
     opened_count outcome.WriteFault why = absurd why
     opened_count outcome.NoMemory why = tt
 
     -- and none after it was opened
-    pub stop_opens : (stop : Outcome) → number < length names → FileStops reads_debug name number room mid.files between now stop → OnSome new.opened (GrowsBy mid.opened new.opened (name ∷ [])) → OpensPrefix names old new stop
+    pub stop_opens : (stop : Outcome) → number < length names → FileStops reads_debug name number room mid.files between now stop → OnSome new.opened (GrowsBy mid.opened new.opened (name ∷ [])) → OpensPrefix names (call_between old new before now) stop
     stop_opens stop inside why opened = record { count = number + 1; exact = opened_count stop why; within = omega (arith, inside); opened = opened_now opened }
 
   -- ---- all files
@@ -217,7 +236,8 @@ module _ (reads_debug : Bool) where
   accepted_all (Some fs) names done ms room is (contents, them, left) = (contents, subst (λ (l : List (List ℕ)). AreAccepted reads_debug fs l contents ms) is them)
 
   pub all_read : (names : List (List ℕ)) (done : ℕ) (ms : List Parts) (room : ℕ) (old now : Meaning) (before after : Faults) → HaveRead names done ms room old now before after → length names ≤ done
-      → IfSome old.files (λ fs. ComeTo reads_debug fs names (accepted ms)) × GrowsBy old.opened now.opened names
+      → IfSome old.files (λ fs. ComeTo reads_debug fs names (accepted ms)) × GrowsBy old.opened now.opened names × (total_weight ms ≤ most_weight)
   all_read names done ms room old now before after them enough =
       let is = take_all done names enough in
-      (accepted_all old.files names done ms room is them.files, subst (λ (l : List (List ℕ)). GrowsBy old.opened now.opened l) is them.opened)
+      let light = them.light in
+      (accepted_all old.files names done ms room is them.files, subst (λ (l : List (List ℕ)). GrowsBy old.opened now.opened l) is them.opened, omega (arith, light))

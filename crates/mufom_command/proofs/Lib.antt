@@ -6,10 +6,12 @@ pub mod ChainLaws
 pub mod Rows
 pub mod Loading
 pub mod Lengths
-pub mod Dumping
-pub mod Telling
 pub mod Judgments
 pub mod LineLaws
 pub mod InputLaws
 pub mod Verdicts
-pub mod ListLaws
+pub mod AnswerLaws
+pub mod DoesLaws
+pub mod Dumping
+pub mod MakingLaws
+pub mod Runs

@@ -1,7 +1,7 @@
 -- An open, and the reads after it.
 use Rattle.std.proofs.Common.{◌≡◌, ℕ, List, [], ◌∷◌, Option, Some, None, IfSome, OnSome, sym, ap, subst}
 use Rattle.mufom_host.specs.World.{Meaning, NamedFile, GrowsBy, KeepsAllButLeft, file_named}
-use Rattle.mufom_command.specs.Run.{FileHas, IsEnoughOf}
+use Rattle.mufom_command.specs.FilesRead.{FileHas, IsEnoughOf}
 
 pub on_some : {T : Type 0} (o : Option T) (P : Type 0) → P → OnSome o P
 on_some None P p = tt

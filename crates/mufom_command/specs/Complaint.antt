@@ -3,6 +3,10 @@ use Rattle.std.specs.Prelude.{ℕ, [], ◌++◌, codes}
 use Rattle.std.specs.Fmt.{decimal}
 use Rattle.mufom_numbers.specs.declared.reason.Reason.{Reason}
 use Rattle.mufom_numbers.specs.declared.reason.Reason.TheVariants as why
+use Rattle.mufom_meaning.specs.declared.located.Descriptor.{Descriptor}
+use Rattle.mufom_link.specs.declared.refusal.LinkRefusal.{LinkRefusal}
+use Rattle.mufom_link.specs.declared.refusal.LinkRefusal.TheVariants as link
+use Rattle.mufom_text.specs.Show.{order_letter}
 use Rattle.mufom_command.specs.declared.outcome.Input.{Input}
 use Rattle.mufom_command.specs.declared.outcome.Input.TheVariants as input
 use Rattle.mufom_command.specs.declared.outcome.Outcome.{Outcome}
@@ -11,7 +15,7 @@ use Rattle.mufom_command.specs.declared.outcome.Refusal.{Refusal}
 use Rattle.mufom_command.specs.declared.outcome.Refusal.TheVariants as refusal
 use Rattle.mufom_words.specs.declared.stop.UsageFault.{UsageFault}
 use Rattle.mufom_words.specs.declared.stop.UsageFault.TheVariants as usage
-use Rattle.mufom_command.specs.Text.{Text, line}
+use Rattle.mufom_command.specs.Text.{Text, line, quoted}
 
 abbrev pub status_of : Outcome → ℕ
 status_of outcome.Done = 0
@@ -71,11 +75,22 @@ usage_text usage.FileCount = codes "file count"
 usage_text usage.BadCount = codes "bad count"
 usage_text usage.LongName = codes "long name"
 
+-- the number of units of an address, and the letter of the order of bytes
+abbrev pub descriptor_text : Descriptor → Text
+descriptor_text d = decimal d.maus ++ codes " " ++ order_letter d.order
+
+abbrev pub link_text : LinkRefusal → Text
+link_text (link.Mismatch first other) = codes "Mismatch " ++ descriptor_text first ++ codes " " ++ descriptor_text other
+link_text (link.Duplicate name) = codes "Duplicate " ++ quoted name
+link_text link.DuplicateStart = codes "DuplicateStart"
+link_text link.NoMemory = []
+
 abbrev pub refusal_text : Refusal → Text
 refusal_text (refusal.Read n r) = codes "file " ++ decimal n ++ codes " at " ++ decimal r.place ++ codes ": " ++ reason_text r.reason
 refusal_text (refusal.InputLimit n) = codes "file " ++ decimal n ++ codes ": InputLimit"
 refusal_text (refusal.TooManyFiles n) = codes "TooManyFiles " ++ decimal n
 refusal_text (refusal.TooDeep n) = codes "TooDeep " ++ decimal n
+refusal_text (refusal.Link l) = codes "link: " ++ link_text l
 
 abbrev pub input_text : Input → Text
 input_text (input.File n) = codes "file " ++ decimal n

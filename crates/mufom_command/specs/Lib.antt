@@ -1,8 +1,12 @@
 pub mod Formats
 pub mod Plain
 pub mod Reading
-pub mod Complaint
 pub mod Text
+pub mod Complaint
 pub mod Inputs
+pub mod Stop
+pub mod Commands
 pub mod Run
 pub mod FilesRead
+pub mod LinkEnds
+pub mod Making

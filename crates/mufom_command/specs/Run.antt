@@ -1,80 +1,213 @@
--- What a run answers, what it has done to the outside then, and what it states.
-use Rattle.std.specs.Prelude.{◌≡◌, ◌⊎◌, ℕ, ◌+◌, ◌<◌, ◌≤◌, Bool, not, flat_map, List, [], ◌∷◌, ◌++◌, length, take, Option, Some, Ok, Err, IfSome, OnSome}
-use Rattle.mufom_host.specs.World.{Meaning, Faults, NamedFile, Rose, GrowsBy, GrowsByPrefix, file_named}
+-- What the contract of the top call states: the answer and its cause, what was put out, which inputs were opened, and which error line was
+-- printed.
+use Rattle.std.specs.Prelude.{◌≡◌, ◌⊎◌, ℕ, ◌+◌, ◌<◌, ◌≤◌, not, List, [], ◌∷◌, ◌++◌, length, take, Option, Some, None, Result, Ok, Err, IfSome, OnSome}
+use Rattle.mufom_host.specs.World.{Meaning, Faults, NamedFile, Rose, GrowsBy, GrowsByPrefix}
+use Rattle.mufom_module.specs.declared.module.Parts.{Parts}
+use Rattle.mufom_words.specs.declared.command.Command.{Command}
+use Rattle.mufom_words.specs.declared.stop.WordsStop.{WordsStop}
+use Rattle.mufom_words.specs.declared.stop.WordsStop.TheVariants as words_stop
+use Rattle.mufom_words.specs.Answer.{answer_of}
+use Rattle.mufom_command.specs.declared.outcome.Input.{Input}
 use Rattle.mufom_command.specs.declared.outcome.Input.TheVariants as input
 use Rattle.mufom_command.specs.declared.outcome.Outcome.{Outcome}
 use Rattle.mufom_command.specs.declared.outcome.Outcome.TheVariants as outcome
 use Rattle.mufom_command.specs.declared.outcome.Refusal.TheVariants as refusal
-use Rattle.mufom_text.specs.Show.{module_text}
-use Rattle.mufom_words.specs.declared.command.Command.{Command}
-use Rattle.mufom_words.specs.declared.command.Verb.{Verb}
-use Rattle.mufom_words.specs.declared.command.Verb.TheVariants as verbs
-use Rattle.mufom_words.specs.declared.stop.WordsStop.{WordsStop}
-use Rattle.mufom_words.specs.declared.stop.WordsStop.TheVariants as stop
-use Rattle.mufom_words.specs.Answer.{answer_of}
 use Rattle.mufom_command.specs.Complaint.{complaint}
-use Rattle.mufom_command.specs.Inputs.{ComeTo, accepted, refused, past_limit}
-use Rattle.mufom_command.specs.Plain.{Image, IsPlainModule, Refuses, most_bytes}
-use Rattle.mufom_command.specs.Text.{check_text, dump_text}
-use Rattle.mufom_module.specs.declared.module.Parts.{Parts}
+use Rattle.mufom_command.specs.Inputs.{ComeTo, accepted, HoldBytes}
+use Rattle.mufom_groups.specs.Refusals.{link_refusal}
+use Rattle.mufom_groups.specs.Work.{Reached, gives, stops, Work}
+use Rattle.mufom_command.specs.Stop.{Stop, words_refused, file_refused, past_limit, link_fact}
+use Rattle.mufom_command.specs.Commands.{Output, printed, made, work_of, run_of}
 
--- the file with this name has bytes of which the fact holds; nothing is stated where the files are not known
-abbrev pub FileHas : List ℕ → Option (List NamedFile) → (List ℕ → Type 0) → Type 0
-FileHas name files P = IfSome files (λ fs. (bytes : List ℕ) × (file_named name fs ≡ Some bytes) × P bytes)
+-- What stood outside before a call and after it, and how often calls of the outside had failed.
+pub record Call : Type 0 where
+  pub old : Meaning
+  pub new : Meaning
+  pub before : Faults
+  pub now : Faults
 
--- the bytes are all there are, or the prefix of them and more than are read
-abbrev pub IsEnoughOf : List ℕ → List ℕ → Type 0
-IsEnoughOf all bytes = (all ≡ bytes) ⊎ ((most_bytes < length bytes) × ((rest : List ℕ) × (all ≡ bytes ++ rest)))
+-- the call by which a world came from another
+abbrev pub call_of : {W : Type 0} → (W → Meaning) → (W → Faults) → W → W → Call
+call_of meaning faults old new = record { old = meaning old; new = meaning new; before = faults old; now = faults new }
 
--- What the answer to `dump` states of the file with this name, of the faults in this call, and of what was printed.
-abbrev pub Dumps : List ℕ → Meaning → Meaning → Faults → Faults → Outcome → Type 0
-Dumps name old new before now outcome.Done = FileHas name old.files (λ bytes. (image : Image) × IsPlainModule image bytes × GrowsBy old.out new.out (dump_text image))
-Dumps name old new before now (outcome.Refused (refusal.Read i r)) = (i ≡ 0) × FileHas name old.files (λ bytes. Refuses bytes r) × (new.out ≡ old.out)
-Dumps name old new before now (outcome.Refused (refusal.InputLimit i)) = ⊥
-Dumps name old new before now (outcome.Refused (refusal.TooManyFiles count)) = ⊥
-Dumps name old new before now (outcome.Refused (refusal.TooDeep depth)) = ⊥
-Dumps name old new before now (outcome.Usage f) = ⊥
-Dumps name old new before now (outcome.ReadFault (input.File i)) = (i ≡ 0) × Rose before.reads now.reads × (new.out ≡ old.out)
-Dumps name old new before now outcome.WriteFault = Rose before.writes now.writes × FileHas name old.files (λ bytes. (image : Image) × IsPlainModule image bytes × GrowsByPrefix old.out new.out (dump_text image))
-Dumps name old new before now outcome.NoMemory = new.out ≡ old.out
+-- ---- the answer that a run comes to
 
--- What an answer states of the files with these names, which are read with their debug parts or without, of the faults in this
--- call, and of what was printed: this text of the modules.
-abbrev pub Lists : Bool → (List Parts → List ℕ) → List (List ℕ) → Meaning → Meaning → Faults → Faults → Outcome → Type 0
-Lists reads_debug text names old new before now outcome.Done = IfSome old.files (λ files. (ms : List Parts) × ComeTo reads_debug files names (accepted ms) × GrowsBy old.out new.out (text ms))
-Lists reads_debug text names old new before now (outcome.Refused (refusal.Read i r)) = IfSome old.files (λ files. ComeTo reads_debug files names (refused i r)) × (new.out ≡ old.out)
-Lists reads_debug text names old new before now (outcome.Refused (refusal.InputLimit i)) = IfSome old.files (λ files. ComeTo reads_debug files names (past_limit i)) × (new.out ≡ old.out)
-Lists reads_debug text names old new before now (outcome.Refused (refusal.TooManyFiles count)) = ⊥
-Lists reads_debug text names old new before now (outcome.Refused (refusal.TooDeep depth)) = ⊥
-Lists reads_debug text names old new before now (outcome.Usage f) = ⊥
-Lists reads_debug text names old new before now (outcome.ReadFault (input.File i)) =
-    Rose before.reads now.reads × IfSome old.files (λ files. (ms : List Parts) × ComeTo reads_debug files (take i names) (accepted ms)) × (new.out ≡ old.out)
-Lists reads_debug text names old new before now outcome.WriteFault =
-    Rose before.writes now.writes × IfSome old.files (λ files. (ms : List Parts) × ComeTo reads_debug files names (accepted ms) × GrowsByPrefix old.out new.out (text ms))
-Lists reads_debug text names old new before now outcome.NoMemory = new.out ≡ old.out
+-- the answer to words that are no command
+abbrev pub stop_answer : WordsStop → Outcome
+stop_answer (words_stop.Usage f) = outcome.Usage f
+stop_answer (words_stop.TooManyFiles count) = outcome.Refused (refusal.TooManyFiles count)
+stop_answer (words_stop.TooDeep depth) = outcome.Refused (refusal.TooDeep depth)
+stop_answer words_stop.NoMemory = outcome.NoMemory
 
--- What printing this text of modules has done to the output: all of it, or where a print failed a prefix of it.
-abbrev pub IsPrinted : List ℕ → Option (List ℕ) → Option (List ℕ) → ℕ → ℕ → Outcome → Type 0
-IsPrinted text before after writes now outcome.Done = GrowsBy before after text
-IsPrinted text before after writes now outcome.WriteFault = Rose writes now × GrowsByPrefix before after text
-IsPrinted text before after writes now outcome.NoMemory = after ≡ before
-IsPrinted text before after writes now _ = ⊥
+abbrev pub stop_outcome : Stop → Outcome
+stop_outcome (words_refused s) = stop_answer s
+stop_outcome (file_refused n r) = outcome.Refused (refusal.Read n r)
+stop_outcome (past_limit n) = outcome.Refused (refusal.InputLimit n)
+stop_outcome (link_fact f) = outcome.Refused (refusal.Link (link_refusal f))
 
--- How many of the given number of files were opened: all where all were read, and none after the one that stopped the run.
+abbrev pub outcome_of : Reached Stop Output → Outcome
+outcome_of (gives output) = outcome.Done
+outcome_of (stops s) = stop_outcome s
+
+-- ---- causes
+
+-- the end is not that of words
+abbrev pub IsOfInputs : Stop → Type 0
+IsOfInputs (words_refused s) = ⊥
+IsOfInputs _ = Unit {0}
+
+-- The refusal is an end to which the work on the inputs comes. Of files that are not known nothing is stated.
+pub record IsStopped (work : List NamedFile → Work Stop Output) (files : Option (List NamedFile)) (result : Outcome) : Type 0 where
+  pub stop : Stop
+  pub is : result ≡ stop_outcome stop
+  pub of_inputs : IsOfInputs stop
+  pub cause : IfSome files (λ fs. work fs (stops stop))
+
+-- the name of the file that is made; none where a text is printed
+abbrev pub file_name : Output → Option (List ℕ)
+file_name (printed text) = None
+file_name (made name bytes) = Some name
+
+-- This is the output to which the work comes. A file has the name that the words give.
+pub record IsOutput (out : Option (List ℕ)) (work : List NamedFile → Work Stop Output) (files : Option (List NamedFile)) (output : Output) : Type 0 where
+  pub place : file_name output ≡ out
+  pub cause : IfSome files (λ fs. work fs (gives output))
+
+-- the input is one of the command, and each that is read before it is accepted
+abbrev pub IsReached : Option (List NamedFile) → Command → Input → Type 0
+IsReached files c (input.File n) =
+    (n < length c.files) × IfSome files (λ fs. (ms : List Parts) × ComeTo (not c.no_debug) fs (take n c.files) (accepted ms))
+
+-- ---- what was put out
+
+-- nothing was put out
+abbrev pub PutsOutNothing : Call → Type 0
+PutsOutNothing call = call.new ≡ record call.old { left = call.new.left; err = call.new.err; opened = call.new.opened }
+
+-- the file is made whole, and its name is the only one that was created
+pub record MakesFile (name bytes : List ℕ) (call : Call) : Type 0 where
+  pub added : IfSome call.old.made (λ files. call.new.made ≡ Some (files ++ (name, bytes) ∷ []))
+  pub finished : IfSome call.old.making (λ before. call.new.making ≡ Some None)
+  pub created : GrowsBy call.old.created call.new.created (name ∷ [])
+  pub stays : call.new ≡ record call.old {
+    left = call.new.left;
+    err = call.new.err;
+    opened = call.new.opened;
+    making = call.new.making;
+    made = call.new.made;
+    created = call.new.created;
+  }
+
+-- the text is printed whole
+pub record PrintsText (text : List ℕ) (call : Call) : Type 0 where
+  pub added : GrowsBy call.old.out call.new.out text
+  pub stays : call.new ≡ record call.old { left = call.new.left; err = call.new.err; opened = call.new.opened; out = call.new.out }
+
+-- The output, and nothing else.
+abbrev pub PutsOut : Output → Call → Type 0
+PutsOut (printed text) call = PrintsText text call
+PutsOut (made name bytes) call = MakesFile name bytes call
+
+-- no file is finished; the one that is being made is that from before, or this one with a prefix of its bytes
+pub record BeginsFile (name bytes : List ℕ) (call : Call) : Type 0 where
+  pub begun : IfSome call.old.making (λ before. (call.new.making ≡ Some before) ⊎ ((n : ℕ) × (call.new.making ≡ Some (Some (name, take n bytes)))))
+  pub created : OnSome call.new.created (GrowsBy call.old.created call.new.created (name ∷ []))
+  pub stays : call.new ≡ record call.old {
+    left = call.new.left;
+    err = call.new.err;
+    opened = call.new.opened;
+    making = call.new.making;
+    created = call.new.created;
+  }
+
+-- a prefix of the text is printed
+pub record BeginsText (text : List ℕ) (call : Call) : Type 0 where
+  pub added : GrowsByPrefix call.old.out call.new.out text
+  pub stays : call.new ≡ record call.old { left = call.new.left; err = call.new.err; opened = call.new.opened; out = call.new.out }
+
+-- A prefix of the output, and nothing else.
+abbrev pub PutsOutPrefix : Output → Call → Type 0
+PutsOutPrefix (printed text) call = BeginsText text call
+PutsOutPrefix (made name bytes) call = BeginsFile name bytes call
+
+-- ---- the clauses
+
+-- The answer to a command whose work this is has its cause, and so much was put out.
+abbrev pub AnswersFor : Command → (List NamedFile → Work Stop Output) → Call → Outcome → Type 0
+AnswersFor c work call outcome.Done = (output : Output) × IsOutput c.out work call.old.files output × PutsOut output call
+AnswersFor c work call (outcome.Refused r) = IsStopped work call.old.files (outcome.Refused r) × PutsOutNothing call
+AnswersFor c work call (outcome.Usage f) = ⊥
+AnswersFor c work call (outcome.ReadFault at) = Rose call.before.reads call.now.reads × IsReached call.old.files c at × PutsOutNothing call
+AnswersFor c work call outcome.WriteFault =
+    Rose call.before.writes call.now.writes × ((output : Output) × IsOutput c.out work call.old.files output × PutsOutPrefix output call)
+AnswersFor c work call outcome.NoMemory = PutsOutNothing call
+
+-- words that are no command are answered so, or no memory was found; nothing but the error output was touched
+pub record RefusesWords (stop : WordsStop) (call : Call) (result : Outcome) : Type 0 where
+  pub is : (result ≡ stop_answer stop) ⊎ (result ≡ outcome.NoMemory)
+  pub stays : call.new ≡ record call.old { err = call.new.err }
+
+abbrev pub AnswersBy : Result Command WordsStop → Call → Outcome → Type 0
+AnswersBy (Ok c) call result = AnswersFor c (λ files. work_of c.verb files c) call result
+AnswersBy (Err s) call result = RefusesWords s call result
+
+-- Each answer has its cause, and so much was put out.
+abbrev pub Answers : List (List ℕ) → Call → Outcome → Type 0
+Answers words call result = AnswersBy (answer_of words) call result
+
+-- no memory was found, or a call of the outside failed
+abbrev pub IsForced : Call → Outcome → Type 0
+IsForced call outcome.Done = ⊥
+IsForced call (outcome.Refused r) = ⊥
+IsForced call (outcome.Usage f) = ⊥
+IsForced call (outcome.ReadFault at) = Rose call.before.reads call.now.reads
+IsForced call outcome.WriteFault = Rose call.before.writes call.now.writes
+IsForced call outcome.NoMemory = Unit {0}
+
+-- What the words and the files come to is the answer, unless it is forced.
+abbrev pub IsComplete : List (List ℕ) → Call → Outcome → Type 0
+IsComplete words call result =
+    IfSome call.old.files (λ files. HoldBytes files → (reached : Reached Stop Output) → run_of words files reached → (result ≡ outcome_of reached) ⊎ IsForced call result)
+
+-- How many of the given number of files were opened: up to the one that the answer names, and else all; where no memory was found, any number.
 abbrev pub IsOpenedCount : ℕ → Outcome → ℕ → Type 0
-IsOpenedCount files outcome.Done count = count ≡ files
-IsOpenedCount files (outcome.Refused (refusal.Read i r)) count = count ≡ i + 1
-IsOpenedCount files (outcome.Refused (refusal.InputLimit i)) count = count ≡ i + 1
-IsOpenedCount files (outcome.ReadFault (input.File i)) count = count ≡ i + 1
-IsOpenedCount files outcome.WriteFault count = count ≡ files
-IsOpenedCount files _ count = Unit {0}
+IsOpenedCount files (outcome.Refused (refusal.Read n r)) count = count ≡ n + 1
+IsOpenedCount files (outcome.Refused (refusal.InputLimit n)) count = count ≡ n + 1
+IsOpenedCount files (outcome.ReadFault (input.File n)) count = count ≡ n + 1
+IsOpenedCount files outcome.NoMemory count = Unit {0}
+IsOpenedCount files _ count = count ≡ files
 
 -- a prefix of the files was opened, in their order
-pub record OpensPrefix (names : List (List ℕ)) (old new : Meaning) (result : Outcome) : Type 0 where
+pub record OpensPrefix (names : List (List ℕ)) (call : Call) (result : Outcome) : Type 0 where
   pub count : ℕ
   pub exact : IsOpenedCount (length names) result count
   pub within : count ≤ length names
-  pub opened : OnSome new.opened (GrowsBy old.opened new.opened (take count names))
+  pub opened : OnSome call.new.opened (GrowsBy call.old.opened call.new.opened (take count names))
+
+abbrev pub OpensBy : Result Command WordsStop → Call → Outcome → Type 0
+OpensBy (Ok c) call result = OpensPrefix c.files call result
+OpensBy (Err s) call result = call.new.opened ≡ call.old.opened
+
+-- The files of the command were opened in their order, and nothing else was.
+abbrev pub Opens : List (List ℕ) → Call → Outcome → Type 0
+Opens words call result = OpensBy (answer_of words) call result
+
+-- the line is added to the error output, or a prefix of it where printing it failed in this call
+abbrev pub AddsErrorLine : Call → List ℕ → Type 0
+AddsErrorLine call text = GrowsBy call.old.err call.new.err text ⊎ (Rose call.before.complaints call.now.complaints × GrowsByPrefix call.old.err call.new.err text)
+
+-- Each answer but Done prints its error line.
+abbrev pub PrintsErrorLine : Call → Outcome → Type 0
+PrintsErrorLine call outcome.Done = call.new.err ≡ call.old.err
+PrintsErrorLine call result = AddsErrorLine call (complaint result)
+
+-- no count of failed calls falls
+pub record NoneFalls (call : Call) : Type 0 where
+  pub reads : call.before.reads ≤ call.now.reads
+  pub writes : call.before.writes ≤ call.now.writes
+  pub complaints : call.before.complaints ≤ call.now.complaints
+
+-- ---- parts of a run
 
 -- no memory may have been found for the line of these
 abbrev pub MayLackMemory : Outcome → Type 0
@@ -86,65 +219,17 @@ MayLackMemory _ = ⊥
 abbrev pub IsPrintedAs : Outcome → Outcome → Type 0
 IsPrintedAs answer result = (result ≡ answer) ⊎ ((result ≡ outcome.NoMemory) × MayLackMemory answer)
 
--- the answer to words that are no command
-abbrev pub stop_answer : WordsStop → Outcome
-stop_answer (stop.Usage f) = outcome.Usage f
-stop_answer (stop.TooManyFiles count) = outcome.Refused (refusal.TooManyFiles count)
-stop_answer (stop.TooDeep depth) = outcome.Refused (refusal.TooDeep depth)
-stop_answer stop.NoMemory = outcome.NoMemory
+-- What a call that does the work of a command has done, before its error line is printed.
+pub record Does (c : Command) (work : List NamedFile → Work Stop Output) (call : Call) (result : Outcome) : Type 0 where
+  pub answers : AnswersFor c work call result
+  pub opens : OpensPrefix c.files call result
+  pub err : call.new.err ≡ call.old.err
+  pub counts : NoneFalls call
 
--- the words are no command, or no memory was found for them; nothing was touched
-pub record IsStopped (words : List (List ℕ)) (old new : Meaning) (result : Outcome) : Type 0 where
-  pub fault : ((s : WordsStop) × IsPrintedAs (stop_answer s) result × (answer_of words ≡ Err s)) ⊎ (result ≡ outcome.NoMemory)
-  pub kept : new ≡ record old { err = new.err }
+abbrev pub DoesBy : Result Command WordsStop → Call → Outcome → Type 0
+DoesBy (Ok c) call result = Does c (λ files. work_of c.verb files c) call result
+DoesBy (Err s) call result = ((result ≡ stop_answer s) ⊎ (result ≡ outcome.NoMemory)) × (call.new ≡ call.old) × (call.now ≡ call.before)
 
--- the words name a file to dump, which alone was opened
-pub record IsDump (words : List (List ℕ)) (old new : Meaning) (before now : Faults) (result : Outcome) : Type 0 where
-  pub command : Command
-  pub named : answer_of words ≡ Ok command
-  pub is_dump : command.verb ≡ verbs.Dump
-  pub name : List ℕ
-  pub alone : command.files ≡ name ∷ []
-  pub answer : Dumps name old new before now result
-  pub opened : OnSome new.opened (GrowsBy old.opened new.opened (name ∷ []))
-
--- what is printed of modules: by `show` their texts, by `check` a line for each
-abbrev pub text_by : Verb → List Parts → List ℕ
-text_by verbs.Show ms = flat_map module_text ms
-text_by verbs.Check ms = check_text ms
-text_by _ ms = []
-
--- the words name files to show or to check, and no other was opened
-pub record IsListing (words : List (List ℕ)) (old new : Meaning) (before now : Faults) (result : Outcome) : Type 0 where
-  pub command : Command
-  pub named : answer_of words ≡ Ok command
-  pub lists : (command.verb ≡ verbs.Show) ⊎ (command.verb ≡ verbs.Check)
-  pub answer : Lists (not command.no_debug) (text_by command.verb) command.files old new before now result
-  pub opened : OpensPrefix command.files old new result
-
--- The answer is that of the words.
-abbrev pub Answers : List (List ℕ) → Meaning → Meaning → Faults → Faults → Outcome → Type 0
-Answers words old new before now result = IsStopped words old new result ⊎ (IsDump words old new before now result ⊎ IsListing words old new before now result)
-
--- the line is added to the error output, or a prefix of it where printing it failed in this call
-abbrev pub Reveals : Meaning → Meaning → Faults → Faults → List ℕ → Type 0
-Reveals old new before now text = GrowsBy old.err new.err text ⊎ (Rose before.complaints now.complaints × GrowsByPrefix old.err new.err text)
-
--- Each answer but Done prints its error line.
-abbrev pub Complains : Meaning → Meaning → Faults → Faults → Outcome → Type 0
-Complains old new before now outcome.Done = new.err ≡ old.err
-Complains old new before now result = Reveals old new before now (complaint result)
-
--- files are opened and text printed; nothing else is touched
-abbrev pub ReadsAndPrints : Meaning → Meaning → Type 0
-ReadsAndPrints old new = new ≡ record old { left = new.left; out = new.out; opened = new.opened }
-
--- no count falls
-pub record NoneFalls (before now : Faults) : Type 0 where
-  pub reads : before.reads ≤ now.reads
-  pub writes : before.writes ≤ now.writes
-  pub complaints : before.complaints ≤ now.complaints
-
--- no file is made, and no file that may be opened changes
-abbrev pub MakesNothing : Meaning → Meaning → Type 0
-MakesNothing old new = new ≡ record old { left = new.left; out = new.out; err = new.err; opened = new.opened }
+-- What a call has done that does what the words ask for, before its error line is printed. Where there is no memory it has done nothing.
+abbrev pub DoesWords : List (List ℕ) → Call → Outcome → Type 0
+DoesWords words call result = DoesBy (answer_of words) call result

@@ -1,11 +1,9 @@
 ghost use Rattle.std.specs.Prelude.{◌<◌, ◌^◌, length};
 
+use crate::run;
 use crate::tests::{PLAIN, ROOM, numbers, words};
-use crate::{Input, Outcome, Refusal, run};
 use mufom_host::MemHost;
-use mufom_numbers::{Bytes, List, Reason, Text};
-use mufom_read::ReadRefusal;
-use mufom_words::UsageFault;
+use mufom_numbers::{Bytes, List, Text};
 use std::alloc::Global;
 use std::process::Abort;
 use std::test::Fail;
@@ -59,12 +57,12 @@ fn checks(
     second: &[u8],
     reads: &[u64],
     writes: &[u64],
-    wanted: (Outcome, &[u8], &[u8]),
+    wanted: (u8, &[u8], &[u8]),
 ) -> Result<(), Fail> {
     let mut host = host(alloc, second, reads, writes)?;
     let words = words(alloc, &["check", "a", "b"])?;
     let outcome = run(alloc, words.as_slice(), &mut host);
-    assert_eq!(rt; outcome, wanted.0);
+    assert_eq!(rt; outcome.status(), wanted.0);
     assert_eq!(rt; host.out(), wanted.1);
     assert_eq!(rt; host.err(), wanted.2);
     Ok(())
@@ -72,14 +70,7 @@ fn checks(
 
 #[test]
 fn modules_that_were_read_have_a_line_each(rt: HostRuntime) -> Result<(), Fail> {
-    checks(
-        &rt,
-        rt.alloc(),
-        &PLAIN,
-        &[],
-        &[],
-        (Outcome::Done, LINES, b""),
-    )
+    checks(&rt, rt.alloc(), &PLAIN, &[], &[], (0, LINES, b""))
 }
 
 #[test]
@@ -87,73 +78,40 @@ fn a_name_is_printed_in_quotes(rt: HostRuntime) -> Result<(), Fail> {
     let mut second = PLAIN;
     for (byte, line) in QUOTED {
         second[8] = byte;
-        checks(
-            &rt,
-            rt.alloc(),
-            &second,
-            &[],
-            &[],
-            (Outcome::Done, line, b""),
-        )?;
+        checks(&rt, rt.alloc(), &second, &[], &[], (0, line, b""))?;
     }
     Ok(())
 }
 
 #[test]
 fn nothing_is_printed_where_a_later_file_is_refused(rt: HostRuntime) -> Result<(), Fail> {
-    let refusal = ReadRefusal {
-        place: 50,
-        reason: Reason::Truncated,
-    };
-    let refused = Outcome::Refused(Refusal::Read(1, refusal));
     let line = b"refused: file 1 at 50: Truncated\n";
-    checks(
-        &rt,
-        rt.alloc(),
-        &PLAIN[..50],
-        &[],
-        &[],
-        (refused, b"", line),
-    )
+    checks(&rt, rt.alloc(), &PLAIN[..50], &[], &[], (1, b"", line))
 }
 
 #[test]
 fn a_file_that_fails_to_open_is_named_by_its_number(rt: HostRuntime) -> Result<(), Fail> {
-    let first = Outcome::ReadFault(Input::File(0));
     let line = b"read fault: file 0\n";
-    checks(&rt, rt.alloc(), &PLAIN, &[0], &[], (first, b"", line))?;
+    checks(&rt, rt.alloc(), &PLAIN, &[0], &[], (3, b"", line))?;
     // The first file is opened, read, and read to its end by the calls 0, 1 and 2.
-    let second = Outcome::ReadFault(Input::File(1));
     let line = b"read fault: file 1\n";
-    checks(&rt, rt.alloc(), &PLAIN, &[3], &[], (second, b"", line))
+    checks(&rt, rt.alloc(), &PLAIN, &[3], &[], (3, b"", line))
 }
 
 #[test]
 fn a_failed_print_of_lines_is_a_write_fault(rt: HostRuntime) -> Result<(), Fail> {
     let line = b"write fault\n";
-    checks(
-        &rt,
-        rt.alloc(),
-        &PLAIN,
-        &[],
-        &[0],
-        (Outcome::WriteFault, b"", line),
-    )
+    checks(&rt, rt.alloc(), &PLAIN, &[], &[0], (4, b"", line))
 }
 
 // The answer to words, over a host with the files `a` and `b`, and what it printed as errors.
-fn answers(
-    rt: &impl Abort,
-    alloc: Global,
-    line: &[&str],
-    wanted: (Outcome, &[u8]),
-) -> Result<(), Fail>
+fn answers(rt: &impl Abort, alloc: Global, line: &[&str], wanted: (u8, &[u8])) -> Result<(), Fail>
     requires { length line.now < 2 ^ 32 }
 {
     let mut host = host(alloc, &PLAIN, &[], &[])?;
     let words = words(alloc, line)?;
     let outcome = run(alloc, words.as_slice(), &mut host);
-    assert_eq!(rt; outcome, wanted.0);
+    assert_eq!(rt; outcome.status(), wanted.0);
     assert_eq!(rt; host.out(), b"".as_slice());
     assert_eq!(rt; host.err(), wanted.1);
     Ok(())
@@ -162,16 +120,10 @@ fn answers(
 #[test]
 fn words_that_name_no_files_to_check_are_refused(rt: HostRuntime) -> Result<(), Fail> {
     let alloc = rt.alloc();
-    let no_file: (Outcome, &[u8]) = (Outcome::Usage(UsageFault::NoFile), b"usage: no file\n");
-    let bad_words: (Outcome, &[u8]) = (Outcome::Usage(UsageFault::BadWords), b"usage: bad words\n");
-    let bracket: (Outcome, &[u8]) = (
-        Outcome::Usage(UsageFault::StrayBracket),
-        b"usage: stray bracket\n",
-    );
-    let members: (Outcome, &[u8]) = (
-        Outcome::Usage(UsageFault::BadMembers),
-        b"usage: bad members\n",
-    );
+    let no_file: (u8, &[u8]) = (2, b"usage: no file\n");
+    let bad_words: (u8, &[u8]) = (2, b"usage: bad words\n");
+    let bracket: (u8, &[u8]) = (2, b"usage: stray bracket\n");
+    let members: (u8, &[u8]) = (2, b"usage: bad members\n");
     answers(&rt, alloc, &["check"], no_file)?;
     answers(&rt, alloc, &["check", "-x", "a"], bad_words)?;
     answers(&rt, alloc, &["check", "[", "a", "]"], bracket)?;
@@ -183,12 +135,11 @@ fn words_that_name_no_files_to_check_are_refused(rt: HostRuntime) -> Result<(), 
 
 #[test]
 fn a_dash_alone_names_a_file(rt: HostRuntime) -> Result<(), Fail> {
-    let fault = Outcome::ReadFault(Input::File(0));
     answers(
         &rt,
         rt.alloc(),
         &["check", "-"],
-        (fault, b"read fault: file 0\n"),
+        (3, b"read fault: file 0\n"),
     )
 }
 
@@ -196,18 +147,6 @@ fn a_dash_alone_names_a_file(rt: HostRuntime) -> Result<(), Fail> {
 fn files_are_at_most_1024(rt: HostRuntime) -> Result<(), Fail> {
     let mut line = ["c"; 1026];
     line[0] = "check";
-    let fault = Outcome::ReadFault(Input::File(0));
-    answers(
-        &rt,
-        rt.alloc(),
-        &line[..1025],
-        (fault, b"read fault: file 0\n"),
-    )?;
-    let many = Outcome::Refused(Refusal::TooManyFiles(1025));
-    answers(
-        &rt,
-        rt.alloc(),
-        &line,
-        (many, b"refused: TooManyFiles 1025\n"),
-    )
+    answers(&rt, rt.alloc(), &line[..1025], (3, b"read fault: file 0\n"))?;
+    answers(&rt, rt.alloc(), &line, (1, b"refused: TooManyFiles 1025\n"))
 }

@@ -2,10 +2,15 @@
 
 ghost use Rattle.std.specs.Prelude.{◌≡◌, IfOk};
 ghost use Rattle.std.specs.String.{string_bytes};
+ghost use Rattle.mufom_text.specs.Show.{order_letter};
 ghost use Rattle.mufom_command.specs.Complaint.{complaint, reason_text};
 
+use crate::lines::quoted;
 use crate::outcome::{Input, Outcome, Refusal};
-use mufom_numbers::{NoMemory, Reason};
+use mufom_link::LinkRefusal;
+use mufom_meaning::Descriptor;
+use mufom_module::Order;
+use mufom_numbers::{Bytes, NoMemory, Reason};
 use mufom_read::ReadRefusal;
 use mufom_words::UsageFault;
 use std::alloc::Global;
@@ -101,15 +106,63 @@ fn depth_line(alloc: Global, depth: u32) -> Result<String, NoMemory>
     Ok(format!(in alloc; "refused: TooDeep {depth}\n")?)
 }
 
-/// The line of a refusal.
-pub(crate) fn refusal_line(alloc: Global, refusal: Refusal) -> Result<String, NoMemory>
-    ensures { IfOk result (λ text. string_bytes text ≡ complaint (Outcome.Refused refusal)) }
+// The letter of an order of bytes.
+fn order_name(order: Order) -> &'static str
+    ensures { result.now ≡ order_letter order }
+{
+    match order {
+        Order::Least => "L",
+        Order::Most => "M",
+    }
+}
+
+// The line of modules that have not all the same descriptor.
+fn mismatch_line(alloc: Global, first: Descriptor, other: Descriptor) -> Result<String, NoMemory>
+    ensures { IfOk result (λ text. string_bytes text ≡ complaint (Outcome.Refused (Refusal.Link (LinkRefusal.Mismatch first other)))) }
+{
+    let maus = first.maus;
+    let order = order_name(first.order);
+    let other_maus = other.maus;
+    let other_order = order_name(other.order);
+    Ok(format!(in alloc; "refused: link: Mismatch {maus} {order} {other_maus} {other_order}\n")?)
+}
+
+// The line of modules that have a public name twice.
+fn duplicate_line(alloc: Global, name: &Bytes) -> Result<Vec<u8>, NoMemory>
+    ensures { IfOk result (λ text. text.items ≡ complaint (Outcome.Refused (Refusal.Link (LinkRefusal.Duplicate name.now)))) }
+{
+    let mut line = Vec::from_slice(alloc, b"refused: link: Duplicate ")?;
+    line.extend_from_slice(quoted(alloc, name.as_slice())?.as_slice())?;
+    line.push(b'\n')?;
+    Ok(line)
+}
+
+// The line of modules that can't be linked.
+fn link_line(alloc: Global, refusal: &LinkRefusal) -> Result<Vec<u8>, NoMemory>
+    ensures { IfOk result (λ text. text.items ≡ complaint (Outcome.Refused (Refusal.Link refusal.now))) }
 {
     match refusal {
-        Refusal::Read(file, refusal) => read_line(alloc, file, refusal),
-        Refusal::InputLimit(file) => limit_line(alloc, file),
-        Refusal::TooManyFiles(count) => count_line(alloc, count),
-        Refusal::TooDeep(depth) => depth_line(alloc, depth),
+        LinkRefusal::Mismatch(first, other) => {
+            Ok(mismatch_line(alloc, *first, *other)?.into_bytes())
+        }
+        LinkRefusal::Duplicate(name) => duplicate_line(alloc, name),
+        LinkRefusal::DuplicateStart => {
+            Ok(Vec::from_slice(alloc, b"refused: link: DuplicateStart\n")?)
+        }
+        LinkRefusal::NoMemory => Err(NoMemory),
+    }
+}
+
+/// The line of a refusal.
+pub(crate) fn refusal_line(alloc: Global, refusal: &Refusal) -> Result<Vec<u8>, NoMemory>
+    ensures { IfOk result (λ text. text.items ≡ complaint (Outcome.Refused refusal.now)) }
+{
+    match refusal {
+        Refusal::Read(file, refusal) => Ok(read_line(alloc, *file, *refusal)?.into_bytes()),
+        Refusal::InputLimit(file) => Ok(limit_line(alloc, *file)?.into_bytes()),
+        Refusal::TooManyFiles(count) => Ok(count_line(alloc, *count)?.into_bytes()),
+        Refusal::TooDeep(depth) => Ok(depth_line(alloc, *depth)?.into_bytes()),
+        Refusal::Link(refusal) => link_line(alloc, refusal),
     }
 }
 

@@ -1,11 +1,15 @@
 //! Reading the module files of a run, in their order.
 
-ghost use Rattle.std.specs.Prelude.{◌≡◌, ◌<◌, ◌≤◌, ◌^◌, ◌∷◌, [], ℕ, List, length, IfErr, IfOk, IfSome, OnSome};
-ghost use Rattle.mufom_module.specs.declared.module.Parts.{Parts as module_parts};
+ghost use Rattle.std.specs.Prelude.{◌≡◌, ◌*◌, ◌<◌, ◌≤◌, ◌^◌, ◌∷◌, [], length, not, IfErr, IfOk, IfSome, OnSome};
+ghost use Rattle.mufom_module.specs.Defects.{IsValid};
+ghost use Rattle.mufom_module.specs.Written.{weight};
+ghost use Rattle.mufom_meaning.specs.Staging.{AreValid};
+ghost use Rattle.mufom_meaning.specs.StagingLaws.{total_weight};
 ghost use Rattle.mufom_host.specs.World.{GrowsBy, OnlyOpens};
-ghost use Rattle.mufom_command.specs.FilesRead.{FileStops, HasModule, outcome_of_source_stop};
+ghost use Rattle.mufom_command.specs.FilesRead.{FileHas, FileStops, FilesStop, HasModule, outcome_of_source_stop};
 ghost use Rattle.mufom_command.specs.Inputs.{ComeTo, accepted, most_input_bytes};
-ghost use Rattle.mufom_command.specs.Run.{Lists, FileHas, OpensPrefix};
+ghost use Rattle.mufom_groups.specs.Groups.{most_weight};
+ghost use Rattle.mufom_command.specs.Run.{call_of, OpensPrefix};
 
 use crate::outcome::{Input, Outcome, Refusal};
 use mufom_host::{Failed, Host};
@@ -13,6 +17,7 @@ use mufom_module::Module;
 use mufom_numbers::limits::MOST_FILE_BYTES;
 use mufom_numbers::{List, NoMemory, Text};
 use mufom_read::{SourceStop, read_module};
+use mufom_words::Command;
 use std::alloc::Global;
 
 // How many bytes the module files of a run have at most, all together.
@@ -41,6 +46,8 @@ fn read_file<H: Host>(
 ) -> Result<(Module, u64), Outcome>
     requires { limit ≤ most_input_bytes }
     ensures read { IfOk result (λ read. FileHas name.now (H.meaning host.old).files (HasModule reads_debug limit read.0 read.1)) }
+    ensures valid { IfOk result (λ read. IsValid read.0) }
+    ensures weighs { IfOk result (λ read. (weight read.0 ≤ 10 * read.1) × (read.1 ≤ limit)) }
     ensures stops { IfErr result
         (λ stop. FileStops reads_debug name.now file limit (H.meaning host.old).files (H.faults host.old) (H.faults host.new) stop) }
     ensures opened { OnSome (H.meaning host.new).opened (GrowsBy (H.meaning host.old).opened (H.meaning host.new).opened (name.now ∷ [])) }
@@ -51,13 +58,16 @@ fn read_file<H: Host>(
         return Err(Outcome::ReadFault(Input::File(file)));
     };
     match read_module(alloc, host, limit, reads_debug) {
-        Ok((module, length)) => Ok((module, length)),
+        Ok((entry, length)) => {
+            let _ = entry.parts();
+            Ok((entry, length))
+        }
         Err(stop) => Err(outcome_of_source_stop(file, stop)),
     }
 }
 
-/// Reads the modules of the files with these names.
-pub(crate) fn read_files<H: Host>(
+// Reads the modules of the files with these names.
+fn read_files<H: Host>(
     alloc: Global,
     names: &[Text],
     reads_debug: bool,
@@ -67,9 +77,10 @@ pub(crate) fn read_files<H: Host>(
     ensures read { IfOk result (λ modules. IfSome (H.meaning host.old).files (λ files. ComeTo reads_debug files names.now (accepted modules))) }
     ensures count { IfOk result (λ modules. length modules ≡ length names.now) }
     ensures all { IfOk result (λ modules. GrowsBy (H.meaning host.old).opened (H.meaning host.new).opened names.now) }
-    ensures stops { IfErr result (λ stop. (text : List module_parts → List ℕ)
-        → Lists reads_debug text names.now (H.meaning host.old) (H.meaning host.new) (H.faults host.old) (H.faults host.new) stop) }
-    ensures opened { IfErr result (λ stop. OpensPrefix names.now (H.meaning host.old) (H.meaning host.new) stop) }
+    ensures valid { IfOk result AreValid }
+    ensures light { IfOk result (λ modules. total_weight modules ≤ most_weight) }
+    ensures stops { IfErr result (λ stop. FilesStop reads_debug names.now (call_of H.meaning H.faults host.old host.new) stop) }
+    ensures opened { IfErr result (λ stop. OpensPrefix names.now (call_of H.meaning H.faults host.old host.new) stop) }
     ensures only { OnlyOpens (H.meaning host.old) (H.meaning host.new) (H.faults host.old) (H.faults host.new) }
 {
     let mut modules = List::new(alloc);
@@ -94,4 +105,24 @@ pub(crate) fn read_files<H: Host>(
         }
     }
     Ok(modules)
+}
+
+/// Reads the modules of the files of a command.
+pub(crate) fn read_modules<H: Host>(
+    alloc: Global,
+    command: &Command,
+    host: &mut H,
+) -> Result<List<Module>, Outcome>
+    requires { length command.now.files < 2 ^ 32 }
+    ensures read { IfOk result (λ modules. IfSome (H.meaning host.old).files
+        (λ files. ComeTo (not command.now.no_debug) files command.now.files (accepted modules))) }
+    ensures count { IfOk result (λ modules. length modules ≡ length command.now.files) }
+    ensures all { IfOk result (λ modules. GrowsBy (H.meaning host.old).opened (H.meaning host.new).opened command.now.files) }
+    ensures valid { IfOk result AreValid }
+    ensures light { IfOk result (λ modules. total_weight modules ≤ most_weight) }
+    ensures stops { IfErr result (λ stop. FilesStop (not command.now.no_debug) command.now.files (call_of H.meaning H.faults host.old host.new) stop) }
+    ensures opened { IfErr result (λ stop. OpensPrefix command.now.files (call_of H.meaning H.faults host.old host.new) stop) }
+    ensures only { OnlyOpens (H.meaning host.old) (H.meaning host.new) (H.faults host.old) (H.faults host.new) }
+{
+    read_files(alloc, command.files.as_slice(), !command.no_debug, host)
 }

@@ -54,8 +54,8 @@ fn push_quoted_byte(alloc: Global, text: &mut Vec<u8>, byte: u8) -> Result<(), N
     Ok(())
 }
 
-// A name in double quotes.
-fn quoted(alloc: Global, name: &[u8]) -> Result<Vec<u8>, NoMemory>
+/// A name in double quotes.
+pub(crate) fn quoted(alloc: Global, name: &[u8]) -> Result<Vec<u8>, NoMemory>
     ensures { IfOk result (λ text. text.items ≡ quoted name.now) }
 {
     let mut text = Vec::new(alloc);

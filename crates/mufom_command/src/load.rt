@@ -2,7 +2,7 @@
 
 ghost use Rattle.std.specs.Prelude.{◌≡◌, ◌⊎◌, ◌<◌, ◌≤◌, ◌∷◌, ◌++◌, [], length, take, IfErr, IfOk, IfSome, OnOk, OnSome};
 ghost use Rattle.mufom_host.specs.World.{GrowsBy, OnlyOpens, OnlyReads, Reads, Rose};
-ghost use Rattle.mufom_command.specs.Run.{FileHas, IsEnoughOf};
+ghost use Rattle.mufom_command.specs.FilesRead.{FileHas, IsEnoughOf};
 
 use crate::judging::MOST_BYTES;
 use crate::outcome::{Input, Outcome};
@@ -75,9 +75,8 @@ pub(crate) fn load<H: Host>(alloc: Global, name: &str, host: &mut H) -> Result<V
     ensures opened { OnSome (H.meaning host.new).opened (GrowsBy (H.meaning host.old).opened (H.meaning host.new).opened (name.now ∷ [])) }
     ensures only { OnlyOpens (H.meaning host.old) (H.meaning host.new) (H.faults host.old) (H.faults host.new) }
 {
-    let fault = Outcome::ReadFault(Input::File(0));
     let Ok(()) = host.open(name) else {
-        return Err(fault);
+        return Err(Outcome::ReadFault(Input::File(0)));
     };
     let Ok(mut buffer) = vec![in alloc; 0u8; Chunk] else {
         return Err(Outcome::NoMemory);
@@ -85,7 +84,7 @@ pub(crate) fn load<H: Host>(alloc: Global, name: &str, host: &mut H) -> Result<V
     let mut bytes = Vec::new(alloc);
     match read_bytes(host, &mut buffer, &mut bytes) {
         Ok(()) => Ok(bytes),
-        Err(Halt::Fault) => Err(fault),
+        Err(Halt::Fault) => Err(Outcome::ReadFault(Input::File(0))),
         Err(Halt::NoMemory) => Err(Outcome::NoMemory),
     }
 }

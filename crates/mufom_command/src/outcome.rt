@@ -1,6 +1,7 @@
 ghost use Rattle.std.specs.Prelude.{◌≡◌};
 ghost use Rattle.mufom_command.specs.Complaint.{status_of};
 
+use mufom_link::LinkRefusal;
 use mufom_read::ReadRefusal;
 use mufom_words::UsageFault;
 
@@ -12,7 +13,7 @@ pub enum Input {
 }
 
 /// What a run refuses.
-#[derive(Clone, Copy, Debug, PartialEq, Eq)]
+#[derive(Debug, Drop)]
 pub enum Refusal {
     /// The bytes of the file with this number are no module.
     Read(u32, ReadRefusal),
@@ -22,10 +23,12 @@ pub enum Refusal {
     TooManyFiles(u32),
     /// This number of groups is open at once, more than a run may have.
     TooDeep(u32),
+    /// The files, or those of a group, can't be linked.
+    Link(LinkRefusal),
 }
 
 /// How a run ended.
-#[derive(Clone, Copy, Debug, PartialEq, Eq)]
+#[derive(Debug, Drop)]
 pub enum Outcome {
     /// All was done that the words ask for.
     Done,

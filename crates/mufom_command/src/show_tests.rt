@@ -1,10 +1,9 @@
 ghost use Rattle.std.specs.Prelude.{◌<◌, ◌^◌, length};
 
+use crate::run;
 use crate::tests::{PLAIN, ROOM, numbers, words};
-use crate::{Outcome, Refusal, run};
 use mufom_host::MemHost;
-use mufom_numbers::{Bytes, List, Reason, Text};
-use mufom_read::ReadRefusal;
+use mufom_numbers::{Bytes, List, Text};
 use std::alloc::Global;
 use std::process::Abort;
 use std::test::Fail;
@@ -32,14 +31,14 @@ fn shows(
     line: &[&str],
     file: &[u8],
     writes: &[u64],
-    wanted: (Outcome, &[u8], &[u8]),
+    wanted: (u8, &[u8], &[u8]),
 ) -> Result<(), Fail>
     requires { length line.now < 2 ^ 32 }
 {
     let mut host = host(alloc, file, writes)?;
     let words = words(alloc, line)?;
     let outcome = run(alloc, words.as_slice(), &mut host);
-    assert_eq!(rt; outcome, wanted.0);
+    assert_eq!(rt; outcome.status(), wanted.0);
     assert_eq!(rt; host.out(), wanted.1);
     assert_eq!(rt; host.err(), wanted.2);
     Ok(())
@@ -47,7 +46,7 @@ fn shows(
 
 #[test]
 fn a_module_that_was_read_is_shown(rt: HostRuntime) -> Result<(), Fail> {
-    let wanted: (Outcome, &[u8], &[u8]) = (Outcome::Done, TEXT, b"");
+    let wanted: (u8, &[u8], &[u8]) = (0, TEXT, b"");
     shows(&rt, rt.alloc(), &["show", "a"], &PLAIN, &[], wanted)?;
     let line = ["show", "a", "--no-debug"];
     shows(&rt, rt.alloc(), &line, &PLAIN, &[], wanted)
@@ -55,7 +54,7 @@ fn a_module_that_was_read_is_shown(rt: HostRuntime) -> Result<(), Fail> {
 
 #[test]
 fn a_failed_print_of_a_text_is_a_write_fault(rt: HostRuntime) -> Result<(), Fail> {
-    let wanted: (Outcome, &[u8], &[u8]) = (Outcome::WriteFault, b"", b"write fault\n");
+    let wanted: (u8, &[u8], &[u8]) = (4, b"", b"write fault\n");
     shows(&rt, rt.alloc(), &["show", "a"], &PLAIN, &[0], wanted)
 }
 
@@ -70,26 +69,7 @@ fn a_debug_part_is_passed_over_where_the_words_say_so(rt: HostRuntime) -> Result
     file[68] = 0x73;
     file[76] = 0x78;
     let line = ["show", "--no-debug", "a"];
-    shows(
-        &rt,
-        rt.alloc(),
-        &line,
-        &file,
-        &[],
-        (Outcome::Done, TEXT, b""),
-    )?;
-    let refusal = ReadRefusal {
-        place: 45,
-        reason: Reason::NotBuilt,
-    };
-    let refused = Outcome::Refused(Refusal::Read(0, refusal));
+    shows(&rt, rt.alloc(), &line, &file, &[], (0, TEXT, b""))?;
     let line = b"refused: file 0 at 45: NotBuilt\n";
-    shows(
-        &rt,
-        rt.alloc(),
-        &["show", "a"],
-        &file,
-        &[],
-        (refused, b"", line),
-    )
+    shows(&rt, rt.alloc(), &["show", "a"], &file, &[], (1, b"", line))
 }

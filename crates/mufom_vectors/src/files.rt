@@ -2,7 +2,7 @@
 
 ghost use Rattle.std.specs.Prelude.{◌<◌, ◌^◌, IfOk, length, vec_len};
 
-use mufom_command::{Outcome, run};
+use mufom_command::run;
 use mufom_host::MemHost;
 use mufom_numbers::{Bytes, List, Text};
 use std::alloc::Global;
@@ -76,7 +76,7 @@ pub(crate) const EVERY_KIND: [u8; 207] = [
     0x90, 0x01, 0xBD, 0x01, 0x09, 0xF7, 0x00, 0xE4, 0xE2, 0xC7, 0xBE, 0xD2, 0x01, 0xBF, 0xE1,
 ];
 
-fn words(alloc: Global, words: &[&str]) -> Result<Vec<String>, Fail>
+pub(crate) fn words(alloc: Global, words: &[&str]) -> Result<Vec<String>, Fail>
     requires { length words.now < 2 ^ 32 }
     ensures { IfOk result (λ list. vec_len list < 2 ^ 32) }
 {
@@ -99,20 +99,20 @@ pub(crate) fn host(alloc: Global, files: &[(&str, &[u8])]) -> Result<MemHost, Fa
     Ok(MemHost::new(alloc, list, List::new(alloc), List::new(alloc), ROOM)?)
 }
 
-/// These words over these files are answered so, with what must be printed to both outputs.
+/// These words over these files are answered with this status, and what must be printed to both outputs.
 pub(crate) fn answers(
     rt: &impl Abort,
     alloc: Global,
     files: &[(&str, &[u8])],
     line: &[&str],
-    wanted: (Outcome, &[u8], &[u8]),
+    wanted: (u8, &[u8], &[u8]),
 ) -> Result<(), Fail>
     requires { length line.now < 2 ^ 32 }
 {
     let mut host = host(alloc, files)?;
     let words = words(alloc, line)?;
     let outcome = run(alloc, words.as_slice(), &mut host);
-    assert_eq!(rt; outcome, wanted.0);
+    assert_eq!(rt; outcome.status(), wanted.0);
     assert_eq!(rt; host.out(), wanted.1);
     assert_eq!(rt; host.err(), wanted.2);
     Ok(())

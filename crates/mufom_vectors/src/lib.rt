@@ -9,6 +9,8 @@
 mod check;
 #[cfg(test)]
 mod files;
+#[cfg(test)]
+mod link;
 mod round_trip;
 #[cfg(test)]
 mod round_trip_tests;

@@ -1,8 +1,6 @@
 ghost use Rattle.std.specs.Prelude.{◌<◌, ◌^◌, length};
 
 use crate::files::{ABSOLUTE, RELOCATABLE, answers};
-use mufom_command::Outcome;
-use mufom_words::UsageFault;
 use std::alloc::Global;
 use std::process::Abort;
 use std::test::Fail;
@@ -41,7 +39,7 @@ pub(crate) fn shows(
 ) -> Result<(), Fail>
     requires { length line.now < 2 ^ 32 }
 {
-    answers(rt, alloc, &[(name, file)], line, (Outcome::Done, text, b""))
+    answers(rt, alloc, &[(name, file)], line, (0, text, b""))
 }
 
 #[test]
@@ -83,23 +81,21 @@ fn faulty(
     rt: &impl Abort,
     alloc: Global,
     line: &[&str],
-    fault: UsageFault,
     known: &[u8],
 ) -> Result<(), Fail>
     requires { length line.now < 2 ^ 32 }
 {
-    let wanted = Outcome::Usage(fault);
-    answers(rt, alloc, &[("m1", &ABSOLUTE)], line, (wanted, b"", known))
+    answers(rt, alloc, &[("m1", &ABSOLUTE)], line, (2, b"", known))
 }
 
 #[test]
 fn words_without_a_command_or_a_file_are_usage_faults(rt: HostRuntime) -> Result<(), Fail> {
     let alloc = rt.alloc();
     let known = b"usage: no command\n";
-    faulty(&rt, alloc, &[], UsageFault::NoCommand, known)?;
-    faulty(&rt, alloc, &["dmup", "a"], UsageFault::NoCommand, known)?;
+    faulty(&rt, alloc, &[], known)?;
+    faulty(&rt, alloc, &["dmup", "a"], known)?;
     let known = b"usage: no file\n";
-    faulty(&rt, alloc, &["dump"], UsageFault::NoFile, known)
+    faulty(&rt, alloc, &["dump"], known)
 }
 
 #[test]
@@ -110,13 +106,12 @@ fn words_that_name_not_one_file_are_usage_faults(rt: HostRuntime) -> Result<(), 
         &rt,
         alloc,
         &["show", "m1", "m1"],
-        UsageFault::FileCount,
         known,
     )?;
     let known = b"usage: stray bracket\n";
-    faulty(&rt, alloc, &["show", "["], UsageFault::StrayBracket, known)?;
+    faulty(&rt, alloc, &["show", "["], known)?;
     let known = b"usage: bad words\n";
-    faulty(&rt, alloc, &["show", "--help"], UsageFault::BadWords, known)?;
+    faulty(&rt, alloc, &["show", "--help"], known)?;
     let twice = ["show", "--no-debug", "--no-debug", "m1"];
-    faulty(&rt, alloc, &twice, UsageFault::BadWords, known)
+    faulty(&rt, alloc, &twice, known)
 }

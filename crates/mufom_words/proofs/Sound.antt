@@ -240,12 +240,13 @@ record IsObeyedForm (f : Form) : Type 0 where
   one : takes_one_file (usage_of f).verb ≡ true → (usage_of f).operands ≡ OneFile
 
 form_of-obeyed : (word : Text) (f : Form) → Some f ≡ form_of word → IsObeyedForm f
-form_of-obeyed word f is = by_name (bytes_eq word (codes "show")) (bytes_eq word (codes "check")) (bytes_eq word (codes "dump")) is where
-  by_name : (a b c : Bool) → Some f ≡ cond a (Some form.Show) (cond b (Some form.Check) (cond c (Some form.PlainDump) None)) → IsObeyedForm f
-  by_name true b c e = let same : form.Show ≡ f = cc in subst IsObeyedForm same (record { verb = refl; files = λ bad. cc; one = λ _. refl })
-  by_name false true c e = let same : form.Check ≡ f = cc in subst IsObeyedForm same (record { verb = refl; files = λ bad. cc; one = λ bad. absurd cc })
-  by_name false false true e = let same : form.PlainDump ≡ f = cc in subst IsObeyedForm same (record { verb = refl; files = λ bad. cc; one = λ _. refl })
-  by_name false false false e = absurd cc
+form_of-obeyed word f is = by_name (bytes_eq word (codes "show")) (bytes_eq word (codes "check")) (bytes_eq word (codes "link")) (bytes_eq word (codes "dump")) is where
+  by_name : (a b c d : Bool) → Some f ≡ cond a (Some form.Show) (cond b (Some form.Check) (cond c (Some form.Link) (cond d (Some form.PlainDump) None))) → IsObeyedForm f
+  by_name true b c d e = let same : form.Show ≡ f = cc in subst IsObeyedForm same (record { verb = refl; files = λ bad. cc; one = λ _. refl })
+  by_name false true c d e = let same : form.Check ≡ f = cc in subst IsObeyedForm same (record { verb = refl; files = λ bad. cc; one = λ bad. absurd cc })
+  by_name false false true d e = let same : form.Link ≡ f = cc in subst IsObeyedForm same (record { verb = refl; files = λ bad. cc; one = λ bad. absurd cc })
+  by_name false false false true e = let same : form.PlainDump ≡ f = cc in subst IsObeyedForm same (record { verb = refl; files = λ bad. cc; one = λ _. refl })
+  by_name false false false false e = absurd cc
 
 command-obeyed : (f : Form) (words : List Text) (c : Command) → IsObeyedForm f → answer_for (Some f) words ≡ Ok c → IsObeyed c
 command-obeyed f words c o e =

@@ -39,7 +39,7 @@ usage_of form.Make = record { verb = verb.Make; name = codes "make"; settings = 
 
 -- the commands that the program obeys so far
 abbrev pub obeyed : List Form
-obeyed = form.Show ∷ form.Check ∷ form.PlainDump ∷ []
+obeyed = form.Show ∷ form.Check ∷ form.Link ∷ form.PlainDump ∷ []
 
 -- the one that a word names
 abbrev pub form_of : Text → Option Form
@@ -49,7 +49,7 @@ form_of word = find (λ f. bytes_eq word (usage_of f).name) obeyed
 abbrev pub is_obeyed : Verb → Bool
 is_obeyed verb.Show = true
 is_obeyed verb.Check = true
-is_obeyed verb.Link = false
+is_obeyed verb.Link = true
 is_obeyed verb.Locate = false
 is_obeyed verb.Dump = true
 is_obeyed verb.Make = false

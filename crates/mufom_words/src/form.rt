@@ -40,6 +40,7 @@ impl Form {
         match word {
             "show" => Some(Form::Show),
             "check" => Some(Form::Check),
+            "link" => Some(Form::Link),
             "dump" => Some(Form::PlainDump),
             _ => None,
         }

@@ -1,17 +1,22 @@
-use Rattle.std.proofs.Common.{flat_map, ◌∙◌}
+use Rattle.std.proofs.Common.{flat_map, inl, ◌∙◌}
 use Rattle.mufom_text.specs.Show.{module_text}
-use Rattle.mufom_command.proofs.ListLaws.{listed_opens}
+use Rattle.mufom_command.specs.Commands.{listing}
+use Rattle.mufom_command.proofs.DoesLaws.{listed-does, stopped-does}
 use Rattle.mufom_command.proofs.command.show.Goals as goal
 
-pub returns-in-Ok-clause-opened : goal.returns-in-Ok-clause-opened
-returns-in-Ok-clause-opened g c =
-    let read = c.in-Ok.ensures in let printed = c.print_text.ensures in
-    listed_opens c.args.reads_debug (λ ms. flat_map module_text ms) c.args.names.now c.in-Ok.modules (g.H.World.meaning c.args.host.now) (g.H.World.meaning c.read_files.new.host) (g.H.World.meaning c.print_text.new.host)
-    (g.H.World.faults c.args.host.now) (g.H.World.faults c.read_files.new.host) (g.H.World.faults c.print_text.new.host)
-    read.read read.all c.read_files.ensures.only.0 c.read_files.ensures.only.1 c.read_files.ensures.only.2 printed.only.0 printed.only.1 printed.only.2 c.print_text.result (rw c.as_slice.ensures at printed.answer)
+pub returns-in-Ok : goal.returns-in-Ok
+returns-in-Ok g c =
+    let read = c.in-Ok.ensures in let put = c.print_text.ensures in
+    let old = g.H.World.meaning c.args.host.now in let mid = g.H.World.meaning c.read_modules.new.host in let new = g.H.World.meaning c.print_text.new.host in
+    let before = g.H.World.faults c.args.host.now in let between = g.H.World.faults c.read_modules.new.host in let now = g.H.World.faults c.print_text.new.host in
+    listed-does c.args.command.now c.in-Ok.modules old mid before between read.read read.all read.only.0 read.only.1 read.only.2 new now put.only.1 put.only.2 (λ ms. flat_map module_text ms) c.requires.no_file put.only.0
+    c.print_text.result (rw c.as_slice.ensures at put.answer)
 
-pub returns-in-Err-clause-answer : goal.returns-in-Err-clause-answer
-returns-in-Err-clause-answer g c = c.in-Err.ensures.stops (λ ms. flat_map module_text ms)
+pub returns-in-Err : goal.returns-in-Err
+returns-in-Err g c =
+    let read = c.in-Err.ensures in
+    stopped-does (g.H.World.meaning c.args.host.now) (g.H.World.meaning c.read_modules.new.host) (g.H.World.faults c.args.host.now) (g.H.World.faults c.read_modules.new.host) read.only.0 read.only.1 read.only.2
+    c.args.command.now (λ files. listing (λ ms. flat_map module_text ms) files c.args.command.now) (λ files s comes. inl comes) c.in-Err.stop read.stops read.opened
 
 pub print_text-requires : goal.print_text-requires
-print_text-requires g c = rw c.as_slice.ensures (c.in-Ok.ensures.count ∙ c.requires)
+print_text-requires g c = rw c.as_slice.ensures (c.in-Ok.ensures.count ∙ c.requires.one)

@@ -1,0 +1,147 @@
+-- The error line after the work of a command: the answer keeps its cause. And the answer is complete, since a run comes to one end.
+use Rattle.std.proofs.Common.{◌≡◌, ◌≢◌, ◌⊎◌, ℕ, ◌≤◌, List, [], Option, Some, None, Result, Ok, Err, OnSome, length, take, refl, sym, ap, subst, ◌∙◌, inl, inr, arith}
+use Rattle.std.proofs.lemmas.List.{append-nil}
+use Rattle.mufom_host.specs.World.{Faults, Meaning, NamedFile, GrowsBy, GrowsByPrefix, OnlyPrintsErrors}
+use Rattle.mufom_words.specs.declared.command.Command.{Command}
+use Rattle.mufom_words.specs.declared.stop.WordsStop.{WordsStop}
+use Rattle.mufom_words.specs.declared.stop.WordsStop.TheVariants as words_stop
+use Rattle.mufom_command.specs.declared.outcome.Input.TheVariants as input
+use Rattle.mufom_command.specs.declared.outcome.Outcome.{Outcome}
+use Rattle.mufom_command.specs.declared.outcome.Outcome.TheVariants as outcome
+use Rattle.mufom_command.specs.declared.outcome.Refusal.TheVariants as refusal
+use Rattle.mufom_groups.specs.Work.{Work}
+use Rattle.mufom_command.specs.Stop.{Stop}
+use Rattle.mufom_command.specs.Commands.{Output, printed, made, work_of}
+use Rattle.mufom_command.specs.Complaint.{complaint}
+use Rattle.mufom_command.specs.Run.{AddsErrorLine, AnswersBy, AnswersFor, Does, DoesBy, IsOpenedCount, IsPrintedAs, MayLackMemory, NoneFalls, OpensBy, OpensPrefix, PrintsErrorLine, PutsOut, PutsOutNothing, PutsOutPrefix, stop_answer}
+use Rattle.mufom_command.proofs.InputLaws.{call_between}
+
+module _ (old mid : Meaning) (before between : Faults) (err : Option (List ℕ)) (complaints : ℕ) where
+  -- the world after the error line
+  abbrev new : Meaning
+  new = record mid { err = err }
+
+  abbrev now : Faults
+  now = record between { complaints = complaints }
+
+  nothing-kept : PutsOutNothing (call_between old mid before between) → PutsOutNothing (call_between old new before now)
+  nothing-kept stays = ap (λ (m : Meaning). record m { err = err }) stays
+
+  output-kept : (output : Output) → PutsOut output (call_between old mid before between) → PutsOut output (call_between old new before now)
+  output-kept (printed text) is = record { added = is.added; stays = ap (λ (m : Meaning). record m { err = err }) is.stays }
+  output-kept (made name bytes) is = record { added = is.added; finished = is.finished; created = is.created; stays = ap (λ (m : Meaning). record m { err = err }) is.stays }
+
+  prefix-kept : (output : Output) → PutsOutPrefix output (call_between old mid before between) → PutsOutPrefix output (call_between old new before now)
+  prefix-kept (printed text) is = record { added = is.added; stays = ap (λ (m : Meaning). record m { err = err }) is.stays }
+  prefix-kept (made name bytes) is = record { begun = is.begun; created = is.created; stays = ap (λ (m : Meaning). record m { err = err }) is.stays }
+
+  module _ (c : Command) (work : List NamedFile → Work Stop Output) where
+    answers-kept : (o : Outcome) → AnswersFor c work (call_between old mid before between) o → AnswersFor c work (call_between old new before now) o
+    answers-kept outcome.Done (output, is, puts) = (output, is, output-kept output puts)
+    answers-kept (outcome.Refused r) (is, nothing) = (is, nothing-kept nothing)
+    answers-kept (outcome.Usage f) is = absurd is
+    answers-kept (outcome.ReadFault at) (rose, is, nothing) = (rose, is, nothing-kept nothing)
+    answers-kept outcome.WriteFault (rose, (output, is, puts)) = (rose, (output, is, prefix-kept output puts))
+    answers-kept outcome.NoMemory nothing = nothing-kept nothing
+
+    nothing-lacked : (o : Outcome) → MayLackMemory o → AnswersFor c work (call_between old mid before between) o → PutsOutNothing (call_between old new before now)
+    nothing-lacked outcome.Done may is = absurd may
+    nothing-lacked (outcome.Refused r) may (is, nothing) = nothing-kept nothing
+    nothing-lacked (outcome.Usage f) may is = absurd may
+    nothing-lacked (outcome.ReadFault at) may (rose, is, nothing) = nothing-kept nothing
+    nothing-lacked outcome.WriteFault may is = absurd may
+    nothing-lacked outcome.NoMemory may is = absurd may
+
+    answers-after : (o result : Outcome) → IsPrintedAs o result → AnswersFor c work (call_between old mid before between) o → AnswersFor c work (call_between old new before now) result
+    answers-after o result (inl same) is = subst (λ (x : Outcome). AnswersFor c work (call_between old new before now) x) (sym same) (answers-kept o is)
+    answers-after o result (inr (same, may)) is = subst (λ (x : Outcome). AnswersFor c work (call_between old new before now) x) (sym same) (nothing-lacked o may is)
+
+  count-after : (files : ℕ) (o result : Outcome) → IsPrintedAs o result → (count : ℕ) → IsOpenedCount files o count → IsOpenedCount files result count
+  count-after files o result (inl same) count exact = subst (λ (x : Outcome). IsOpenedCount files x count) (sym same) exact
+  count-after files o result (inr (same, may)) count exact = subst (λ (x : Outcome). IsOpenedCount files x count) (sym same) tt
+
+  opens-after : (names : List (List ℕ)) (o result : Outcome) → IsPrintedAs o result → OpensPrefix names (call_between old mid before between) o → OpensPrefix names (call_between old new before now) result
+  opens-after names o result shown is = record { count = is.count; exact = count-after (length names) o result shown is.count is.exact; within = is.within; opened = is.opened }
+
+  stop-after : (s : WordsStop) (o result : Outcome) → IsPrintedAs o result → (o ≡ stop_answer s) ⊎ (o ≡ outcome.NoMemory) → (result ≡ stop_answer s) ⊎ (result ≡ outcome.NoMemory)
+  stop-after s o result (inl same) (inl is) = inl (same ∙ is)
+  stop-after s o result (inl same) (inr is) = inr (same ∙ is)
+  stop-after s o result (inr (same, may)) is = inr same
+
+  all-after : (r : Result Command WordsStop) (o result : Outcome) → IsPrintedAs o result → between.complaints ≤ complaints → DoesBy r (call_between old mid before between) o
+      → AnswersBy r (call_between old new before now) result × OpensBy r (call_between old new before now) result × NoneFalls (call_between old new before now)
+  all-after (Ok c) o result shown later does = (
+    answers-after c (λ files. work_of c.verb files c) o result shown does.answers,
+    opens-after c.files o result shown does.opens,
+    record { reads = does.counts.reads; writes = does.counts.writes; complaints = let first = does.counts.complaints in omega (arith, first, later) },
+  )
+  all-after (Err s) o result shown later (is, stays, counts) = (
+    record { is = stop-after s o result shown is; stays = ap (λ (m : Meaning). record m { err = err }) stays },
+    ap (λ (m : Meaning). m.opened) stays,
+    record {
+      reads = let same = ap (λ (f : Faults). f.reads) counts in omega (arith, same);
+      writes = let same = ap (λ (f : Faults). f.writes) counts in omega (arith, same);
+      complaints = let same = ap (λ (f : Faults). f.complaints) counts in omega (arith, same, later);
+    },
+  )
+
+-- the answer after its error line, and what stands before it was printed
+pub record IsAnswered (r : Result Command WordsStop) (old new : Meaning) (before now : Faults) (result : Outcome) : Type 0 where
+  pub answers : AnswersBy r (call_between old new before now) result
+  pub opens : OpensBy r (call_between old new before now) result
+  pub counts : NoneFalls (call_between old new before now)
+
+pub answered : (r : Result Command WordsStop) (old mid new : Meaning) (before between now : Faults) (o result : Outcome) → IsPrintedAs o result → OnlyPrintsErrors mid new between now
+    → DoesBy r (call_between old mid before between) o → IsAnswered r old new before now result
+answered r old mid new before between now o result shown (stays, counts, later) does =
+    let all = all-after old mid before between new.err now.complaints r o result shown later does in
+    subst (λ (m : Meaning). IsAnswered r old m before now result) (sym stays)
+    (subst (λ (f : Faults). IsAnswered r old (record mid { err = new.err }) before f result) (sym counts) (record { answers = all.0; opens = all.1; counts = all.2 }))
+
+-- ---- the error output before the error line
+
+pub err-before : (r : Result Command WordsStop) (old mid : Meaning) (before between : Faults) (o : Outcome) → DoesBy r (call_between old mid before between) o → (mid.err ≡ old.err) × (before.complaints ≤ between.complaints)
+err-before (Ok c) old mid before between o does = (does.err, does.counts.complaints)
+err-before (Err s) old mid before between o (is, stays, counts) = (ap (λ (m : Meaning). m.err) stays, let same = ap (λ (f : Faults). f.complaints) counts in omega (arith, same))
+
+adds-since : (old mid new : Meaning) (before between now : Faults) (text : List ℕ) → mid.err ≡ old.err → before.complaints ≤ between.complaints → AddsErrorLine (call_between mid new between now) text
+    → AddsErrorLine (call_between old new before now) text
+adds-since old mid new before between now text same later (inl grows) = inl (subst (λ (e : Option (List ℕ)). GrowsBy e new.err text) same grows)
+adds-since old mid new before between now text same later (inr (rose, grows)) =
+    inr (omega (arith, rose, later), subst (λ (e : Option (List ℕ)). GrowsByPrefix e new.err text) same grows)
+
+-- the error line is that of the whole call
+pub line-since : (old mid new : Meaning) (before between now : Faults) (result : Outcome) → mid.err ≡ old.err → before.complaints ≤ between.complaints → PrintsErrorLine (call_between mid new between now) result
+    → PrintsErrorLine (call_between old new before now) result
+line-since old mid new before between now outcome.Done same later line = line ∙ same
+line-since old mid new before between now (outcome.Refused r) same later line = adds-since old mid new before between now (complaint (outcome.Refused r)) same later line
+line-since old mid new before between now (outcome.Usage f) same later line = adds-since old mid new before between now (complaint (outcome.Usage f)) same later line
+line-since old mid new before between now (outcome.ReadFault at) same later line = adds-since old mid new before between now (complaint (outcome.ReadFault at)) same later line
+line-since old mid new before between now outcome.WriteFault same later line = adds-since old mid new before between now (complaint outcome.WriteFault) same later line
+line-since old mid new before between now outcome.NoMemory same later line = adds-since old mid new before between now (complaint outcome.NoMemory) same later line
+
+-- ---- what the words ask for
+
+pub does-command : (r : Result Command WordsStop) (c : Command) (old new : Meaning) (before now : Faults) (o : Outcome) → r ≡ Ok c → Does c (λ files. work_of c.verb files c) (call_between old new before now) o
+    → DoesBy r (call_between old new before now) o
+does-command r c old new before now o same does = subst (λ (x : Result Command WordsStop). DoesBy x (call_between old new before now) o) (sym same) does
+
+opens-none : (names : List (List ℕ)) (o : Option (List (List ℕ))) → OnSome o (GrowsBy o o (take 0 names))
+opens-none names None = tt
+opens-none names (Some l) = ap (λ (x : List (List ℕ)). Some x) (sym (append-nil l))
+
+does-nothing : (r : Result Command WordsStop) (m : Meaning) (f : Faults) → DoesBy r (call_between m m f f) outcome.NoMemory
+does-nothing (Ok c) m f = record {
+  answers = refl;
+  opens = record { count = 0; exact = tt; within = omega arith; opened = opens-none c.files m.opened };
+  err = refl;
+  counts = record { reads = omega arith; writes = omega arith; complaints = omega arith };
+}
+does-nothing (Err s) m f = (inr refl, refl, refl)
+
+-- the words were refused, or not read
+pub does-words : (r : Result Command WordsStop) (m : Meaning) (f : Faults) (s : WordsStop) (o : Outcome) → o ≡ stop_answer s → (s ≢ words_stop.NoMemory → r ≡ Err s) → DoesBy r (call_between m m f f) o
+does-words r m f words_stop.NoMemory o is refused = subst (λ (x : Outcome). DoesBy r (call_between m m f f) x) (sym is) (does-nothing r m f)
+does-words r m f (words_stop.Usage u) o is refused = subst (λ (x : Result Command WordsStop). DoesBy x (call_between m m f f) o) (sym (refused (λ same. cc))) (inl is, refl, refl)
+does-words r m f (words_stop.TooManyFiles n) o is refused = subst (λ (x : Result Command WordsStop). DoesBy x (call_between m m f f) o) (sym (refused (λ same. cc))) (inl is, refl, refl)
+does-words r m f (words_stop.TooDeep n) o is refused = subst (λ (x : Result Command WordsStop). DoesBy x (call_between m m f f) o) (sym (refused (λ same. cc))) (inl is, refl, refl)

@@ -1,0 +1,57 @@
+//! Printing the error line of an outcome.
+
+ghost use Rattle.std.specs.Prelude.{◌≡◌, List, ℕ};
+ghost use Rattle.mufom_host.specs.World.{OnlyPrintsErrors};
+ghost use Rattle.mufom_command.specs.Complaint.{complaint};
+ghost use Rattle.mufom_command.specs.Run.{call_of, AddsErrorLine, IsPrintedAs, PrintsErrorLine};
+
+use crate::complaint::{fault_line, refusal_line, usage_line};
+use crate::outcome::Outcome;
+use mufom_host::{Failed, Host};
+use mufom_numbers::NoMemory;
+use std::alloc::Global;
+
+// Prints a line on the error output; where that fails the line, or its end, is lost.
+fn print_line<H: Host>(line: &[u8], host: &mut H)
+    ensures added { AddsErrorLine (call_of H.meaning H.faults host.old host.new) line.now }
+    ensures only { OnlyPrintsErrors (H.meaning host.old) (H.meaning host.new) (H.faults host.old) (H.faults host.new) }
+{
+    match host.complain(line) {
+        Ok(()) => {}
+        Err(Failed) => {}
+    }
+}
+
+// Prints that there is no memory.
+fn out_of_memory<H: Host>(host: &mut H) -> Outcome
+    ensures same { result ≡ Outcome.NoMemory }
+    ensures added { AddsErrorLine (call_of H.meaning H.faults host.old host.new) (complaint Outcome.NoMemory) }
+    ensures only { OnlyPrintsErrors (H.meaning host.old) (H.meaning host.new) (H.faults host.old) (H.faults host.new) }
+{
+    print_line(b"out of memory\n", host);
+    Outcome::NoMemory
+}
+
+/// Prints the error line of an outcome that is not `Done`, which then stays what it is. Where there is no
+/// memory for the line of a refusal or of a read fault, that is the outcome.
+pub(crate) fn print_error_line<H: Host>(alloc: Global, outcome: Outcome, host: &mut H) -> Outcome
+    ensures same { IsPrintedAs outcome result }
+    ensures line { PrintsErrorLine (call_of H.meaning H.faults host.old host.new) result }
+    ensures only { OnlyPrintsErrors (H.meaning host.old) (H.meaning host.new) (H.faults host.old) (H.faults host.new) }
+{
+    match &outcome {
+        Outcome::Done => {}
+        Outcome::Usage(fault) => print_line(usage_line(*fault).as_bytes(), host),
+        Outcome::WriteFault => print_line(b"write fault\n", host),
+        Outcome::NoMemory => print_line(b"out of memory\n", host),
+        Outcome::Refused(refusal) => match refusal_line(alloc, refusal) {
+            Ok(line) => print_line(line.as_slice(), host),
+            Err(NoMemory) => return out_of_memory(host),
+        },
+        Outcome::ReadFault(input) => match fault_line(alloc, *input) {
+            Ok(line) => print_line(line.as_bytes(), host),
+            Err(NoMemory) => return out_of_memory(host),
+        },
+    }
+    outcome
+}

@@ -1,0 +1,13 @@
+pub mod GroupWalk
+pub mod ShortNames
+pub mod Stages
+pub mod LinkWalk
+pub mod LinkSteps
+pub mod Selecting
+pub mod LinkFrom
+pub mod RootsLink
+pub mod WholeLink
+pub mod AllLinked
+pub mod Works
+pub mod Singles
+pub mod GroupsAlike

@@ -1,0 +1,5 @@
+pub mod Work
+pub mod Linked
+pub mod Refusals
+pub mod Groups
+pub mod Laws

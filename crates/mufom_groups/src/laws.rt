@@ -1,0 +1,24 @@
+//! Laws of links in groups, each the contract of a function that does nothing.
+
+ghost use Rattle.mufom_groups.specs.Laws.{GroupsMakeNoDifference, LinkFactsStand, LinkedIsFlat, LinksAreSingle};
+
+/// Commands that differ in their brackets at most come to the same module, of whatever modules, and to
+/// a link fact both or neither.
+pub fn groups_make_no_difference()
+    ensures { GroupsMakeNoDifference }
+{}
+
+/// The list that is linked at last is the flat list, exactly where no link fact stands against it.
+pub fn linked_is_flat()
+    ensures { LinkedIsFlat }
+{}
+
+/// A link fact against a list that is linked before stands against the flat list too.
+pub fn link_facts_stand()
+    ensures { LinkFactsStand }
+{}
+
+/// The modules of a command come to one module, or to one link fact, at most.
+pub fn links_are_single()
+    ensures { LinksAreSingle }
+{}

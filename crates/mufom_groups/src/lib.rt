@@ -1,0 +1,12 @@
+//! Linking the modules of a command: by its groups, from the inside out, and with the members that its roots need.
+//!
+//! [`link_modules`] links each group as its bracket closes, then the roots, selects members for them, and links these. Its
+//! main clause is that the module which it answers is the link of the flat list, wherever the groups stand, and a refusal is
+//! the first link fact.
+#![tactic(auto)]
+
+mod laws;
+mod linking;
+
+pub use laws::{groups_make_no_difference, link_facts_stand, linked_is_flat, links_are_single};
+pub use linking::link_modules;

@@ -1,0 +1,278 @@
+//! Linking the modules of a command: each group as its bracket closes, the roots, and then the roots with
+//! the members that are selected for them.
+
+ghost use Rattle.std.specs.Prelude.{◌≡◌, ◌+◌, ◌++◌, ◌<◌, ◌≤◌, ◌^◌, [], ◌∷◌, length, map, drop, slice_get, unwrap_or, None, IfOk, IfErr, IfSome, OnOk};
+ghost use Rattle.std.specs.Vec.Iter.{into_iter_items};
+ghost use Rattle.mufom_module.specs.Defects.{IsValid};
+ghost use Rattle.mufom_place.specs.Facts.{first_some};
+ghost use Rattle.mufom_meaning.specs.Joined.{IsJoined};
+ghost use Rattle.mufom_meaning.specs.LinkAnswer.{link_answer};
+ghost use Rattle.mufom_meaning.specs.Selection.{member_at, members_at};
+ghost use Rattle.mufom_meaning.specs.Staging.{AreValid};
+ghost use Rattle.mufom_meaning.specs.StagingLaws.{total_weight};
+ghost use Rattle.mufom_link.specs.Refusals.{IsRefusalOf};
+ghost use Rattle.mufom_words.specs.Sound.{numbers_from, HasTree};
+ghost use Rattle.mufom_words.specs.Tree.{groups, leaves, spelling, tree_of};
+ghost use Rattle.mufom_groups.specs.Linked.{first_name, linked_module, links, tree_links};
+ghost use Rattle.mufom_groups.specs.Work.{gives};
+ghost use Rattle.mufom_groups.specs.Groups.{elements, files_of, last_of, most_weight, AreInPlaceOf, AreRootsLinked, HasSelected, StopsWork};
+ghost use Rattle.mufom_groups.specs.Groups.{HasRoot, IsClosed, IsLinkedFrom, IsNextOf, IsRefusedMark, IsTaken};
+
+use mufom_link::{LinkRefusal, link};
+use mufom_module::Module;
+use mufom_numbers::List;
+use mufom_select::select;
+use mufom_words::{Command, Mark};
+use std::alloc::Global;
+use std::vec::IntoIter;
+
+// The name of a module.
+fn name_of(entry: &Module) -> &[u8]
+    ensures name { result.now ≡ entry.now.name }
+    ensures valid { IsValid entry.now }
+{
+    entry.parts().name.as_slice()
+}
+
+// Adds a module to those that were linked so far.
+fn add(linked: &mut Vec<Module>, entry: Module) -> Result<(), LinkRefusal>
+    ensures ok { OnOk result (linked.new.items ≡ linked.old.items ++ entry ∷ []) }
+    ensures err { IfErr result (λ e. e ≡ LinkRefusal.NoMemory) }
+{
+    match linked.push(entry) {
+        Ok(()) => Ok(()),
+        Err(_) => Err(LinkRefusal::NoMemory),
+    }
+}
+
+// Adds a module, where there is one.
+fn add_optional(linked: &mut Vec<Module>, entry: Option<Module>) -> Result<(), LinkRefusal>
+    ensures ok { OnOk result (linked.new.items ≡ linked.old.items ++ member_at entry) }
+    ensures err { IfErr result (λ e. e ≡ LinkRefusal.NoMemory) }
+{
+    match entry {
+        Some(entry) => add(linked, entry),
+        None => Ok(()),
+    }
+}
+
+// The next module, if there is one.
+fn next_of(rest: &mut IntoIter<Module>) -> Option<Module>
+    ensures { IsNextOf (into_iter_items rest.old) result (into_iter_items rest.new) }
+{
+    rest.next()
+}
+
+// The next module, of which there are some.
+fn next_module(rest: &mut IntoIter<Module>) -> Module
+    requires { 0 < length (into_iter_items rest.old) }
+    ensures { into_iter_items rest.old ≡ result ∷ into_iter_items rest.new }
+{
+    match rest.next() {
+        Some(entry) => entry,
+        None => unreachable!(),
+    }
+}
+
+// The module after `count` others, which are let go; none where there are no more.
+fn module_after(rest: &mut IntoIter<Module>, count: usize) -> Option<Module>
+    ensures item { result ≡ slice_get (into_iter_items rest.old) count }
+    ensures rest { into_iter_items rest.new ≡ drop (count + 1) (into_iter_items rest.old) }
+{
+    for turn in 0..count {
+        let _ = next_of(rest);
+    }
+    next_of(rest)
+}
+
+// The modules from this position on.
+fn from_position(linked: &[Module], start: usize) -> &[Module]
+    requires { start ≤ length linked.now }
+    ensures { result.now ≡ drop start linked.now }
+{
+    &linked[start..]
+}
+
+// Links the modules from this position on into one, which takes their place. It has the name of the
+// first of them.
+fn link_from(alloc: Global, linked: &mut Vec<Module>, start: usize) -> Result<(), LinkRefusal>
+    requires inside { start < length linked.old.items }
+    requires light { total_weight linked.old.items ≤ most_weight }
+    ensures ok { OnOk result (IsLinkedFrom start linked.old.items linked.new.items) }
+    ensures refused { IfErr result (λ e. IsRefusalOf (drop start linked.old.items) e) }
+{
+    let group = from_position(linked, start);
+    let entry = link(alloc, group, name_of(&group[0]))?;
+    linked.truncate(start);
+    add(linked, entry)
+}
+
+// Links the modules of the innermost open group, which closes.
+fn close_group(
+    alloc: Global,
+    begun: &mut Vec<usize>,
+    linked: &mut Vec<Module>,
+) -> Result<(), LinkRefusal>
+    requires { total_weight linked.old.items ≤ most_weight }
+    ensures ok { OnOk result (IsClosed begun.old.items linked.old.items begun.new.items linked.new.items) }
+    ensures refused { IfErr result (λ e. IsRefusalOf (drop (last_of begun.old.items) linked.old.items) e) }
+{
+    let start = begun.pop().unwrap_or(0);
+    if start < linked.len() {
+        link_from(alloc, linked, start)
+    } else {
+        Ok(())
+    }
+}
+
+// What a mark asks for: a group begins or closes, or the next of the roots stands for a file.
+fn take_mark(
+    alloc: Global,
+    mark: &Mark,
+    begun: &mut Vec<usize>,
+    linked: &mut Vec<Module>,
+    rest: &mut IntoIter<Module>,
+) -> Result<(), LinkRefusal>
+    requires left { HasRoot mark.now (into_iter_items rest.old) }
+    requires light { total_weight linked.old.items ≤ most_weight }
+    ensures ok { OnOk result (IsTaken mark.now begun.old.items linked.old.items (into_iter_items rest.old)
+        begun.new.items linked.new.items (into_iter_items rest.new)) }
+    ensures refused { IfErr result (λ e. IsRefusedMark mark.now begun.old.items linked.old.items e) }
+{
+    match mark {
+        Mark::Open => match begun.push(linked.len()) {
+            Ok(()) => Ok(()),
+            Err(_) => Err(LinkRefusal::NoMemory),
+        },
+        Mark::File(_) => add(linked, next_module(rest)),
+        Mark::Close => close_group(alloc, begun, linked),
+    }
+}
+
+// Links each group that the marks spell, as its bracket closes. The modules of the elements at the top
+// of the tree stay.
+fn link_groups(
+    alloc: Global,
+    marks: &[Mark],
+    roots: Vec<Module>,
+) -> Result<Vec<Module>, LinkRefusal>
+    requires spelled { spelling (tree_of marks.now) ≡ marks.now }
+    requires numbered { leaves (tree_of marks.now) ≡ numbers_from 0 (length roots.items) }
+    requires valid { AreValid roots.items }
+    requires light { total_weight roots.items ≤ most_weight }
+    ensures ok { IfOk result (λ linked. AreInPlaceOf linked.items (map (members_at roots.items) (elements (tree_of marks.now)))) }
+    ensures light { IfOk result (λ linked. total_weight linked.items ≤ total_weight roots.items) }
+    ensures linkable { IfOk result (λ _. first_some link_answer (map (members_at roots.items) (groups (tree_of marks.now))) ≡ None) }
+    ensures refused { IfErr result (λ e. StopsWork (links (map (members_at roots.items) (groups (tree_of marks.now)))) e) }
+{
+    let mut rest = roots.into_iter();
+    let mut linked = Vec::new(alloc);
+    let mut begun = Vec::new(alloc);
+    for mark in marks {
+        take_mark(alloc, mark, &mut begun, &mut linked, &mut rest)?;
+    }
+    Ok(linked)
+}
+
+// 1 where the mark names a file, and 0 where it is a bracket.
+fn own_files(mark: &Mark) -> usize
+    ensures value { result ≡ length (files_of (mark.now ∷ [])) }
+    ensures few { result ≤ 1 }
+{
+    match mark {
+        Mark::File(_) => 1,
+        Mark::Open | Mark::Close => 0,
+    }
+}
+
+// How many files the marks name.
+fn file_count(marks: &[Mark]) -> usize
+    ensures { result ≡ length (files_of marks.now) }
+{
+    let mut count = 0;
+    for mark in marks {
+        count += own_files(mark);
+    }
+    count
+}
+
+// Adds to the roots, which are one module, the members that are selected for them.
+fn add_members(
+    alloc: Global,
+    roots: &mut Vec<Module>,
+    members: Vec<Module>,
+) -> Result<(), LinkRefusal>
+    requires one { length roots.old.items ≡ 1 }
+    requires few { length members.items < 2 ^ 32 }
+    ensures ok { OnOk result (HasSelected roots.old.items members.items roots.new.items) }
+    ensures err { IfErr result (λ e. e ≡ LinkRefusal.NoMemory) }
+{
+    let chosen = select(alloc, &roots[0], &members)?;
+    let mut rest = members.into_iter();
+    let mut passed = 0;
+    let positions = chosen.as_slice();
+    for position in positions {
+        let position = *position as usize;
+        add_optional(roots, module_after(&mut rest, position - passed))?;
+        passed = position + 1;
+    }
+    Ok(())
+}
+
+// The link of the flat list, under the name that the command gives or that of the first module.
+fn link_flat(alloc: Global, command: &Command, flat: &[Module]) -> Result<Module, LinkRefusal>
+    requires some { 0 < length flat.now }
+    requires short { IfSome command.now.name (λ name. length name < 2 ^ 16) }
+    requires light { total_weight flat.now ≤ most_weight }
+    ensures joined { IfOk result (λ M. IsJoined M flat.now (unwrap_or command.now.name (first_name flat.now))) }
+    ensures linkable { IfOk result (λ _. link_answer flat.now ≡ None) }
+    ensures refused { IfErr result (λ e. IsRefusalOf flat.now e) }
+{
+    match &command.name {
+        Some(name) => link(alloc, flat, name.as_slice()),
+        None => link(alloc, flat, name_of(&flat[0])),
+    }
+}
+
+// The modules of the tree, linked into one.
+fn link_roots(alloc: Global, marks: &[Mark], roots: Vec<Module>) -> Result<Vec<Module>, LinkRefusal>
+    requires spelled { spelling (tree_of marks.now) ≡ marks.now }
+    requires some { 1 ≤ length (leaves (tree_of marks.now)) }
+    requires numbered { leaves (tree_of marks.now) ≡ numbers_from 0 (length roots.items) }
+    requires valid { AreValid roots.items }
+    requires light { total_weight roots.items ≤ most_weight }
+    ensures ok { IfOk result (λ linked. AreRootsLinked marks.now roots.items linked.items) }
+    ensures refused { IfErr result (λ e. StopsWork (links (tree_links (tree_of marks.now) roots.items)) e) }
+{
+    let mut linked = link_groups(alloc, marks, roots)?;
+    link_from(alloc, &mut linked, 0)?;
+    Ok(linked)
+}
+
+/// The module into which a command links its modules: those of the tree, with each group linked first,
+/// and the members that are selected for them. It has the name that the command gives, or that of the
+/// first module.
+pub fn link_modules(
+    alloc: Global,
+    command: &Command,
+    modules: List<Module>,
+) -> Result<Module, LinkRefusal>
+    requires tree { HasTree command.now }
+    requires some { 1 ≤ length (leaves (tree_of command.now.marks)) }
+    requires count { length modules ≡ length command.now.files }
+    requires few { length command.now.files < 2 ^ 32 }
+    requires short { IfSome command.now.name (λ name. length name < 2 ^ 16) }
+    requires valid { AreValid modules }
+    requires light { total_weight modules ≤ most_weight }
+    ensures ok { IfOk result (λ M. linked_module command.now modules (gives M)) }
+    ensures refused { IfErr result (λ e. StopsWork (linked_module command.now modules) e) }
+{
+    let marks = command.marks.as_slice();
+    let mut modules = modules.into_vec();
+    let Ok(members) = modules.split_off(file_count(marks)) else {
+        return Err(LinkRefusal::NoMemory);
+    };
+    let mut linked = link_roots(alloc, marks, modules)?;
+    add_members(alloc, &mut linked, members)?;
+    link_flat(alloc, command, &linked)
+}
