@@ -34,7 +34,7 @@ pub chunks-first : (size n : ℕ) (xs : List ℕ) → 0 < length xs → n ≡ mi
 chunks-first size n xs some is =
     chunks-next size xs some
     ∙ (let own = ap (λ k. take k xs) is ∙ take_min (suc size) xs in let rest = ap (λ k. drop k xs) is ∙ drop_min (suc size) xs in
-      λ i. sym own i ∷ chunks (suc size) (sym rest i))
+    λ i. sym own i ∷ chunks (suc size) (sym rest i))
 
 -- ---- a section that is opened once
 

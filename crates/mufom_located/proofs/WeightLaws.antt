@@ -69,7 +69,7 @@ with_section-some section (load ∷ loads) some = let split = sum_by-cons load_w
 -- the section with the next number
 pub sections-next : (f : ℕ × Section → List Load) (sections : List Section) (i : ℕ) (section : Section) → i < length sections → section ≡ get_or sections i section
     → sum_by load_weight (flat_map f (enumerate_from i (drop i sections)))
-      ≡ sum_by load_weight (f (i, section)) + sum_by load_weight (flat_map f (enumerate_from (i + 1) (drop (i + 1) sections)))
+    ≡ sum_by load_weight (f (i, section)) + sum_by load_weight (flat_map f (enumerate_from (i + 1) (drop (i + 1) sections)))
 sections-next f sections i section inside is =
     ap (λ rest. sum_by load_weight (flat_map f (enumerate_from i rest))) (drop_more sections i section inside ∙ ap (λ s. s ∷ drop (i + 1) sections) (sym is))
     ∙ sum_by-append load_weight (f (i, section)) (flat_map f (enumerate_from (i + 1) (drop (i + 1) sections)))
@@ -103,5 +103,5 @@ pub sections-few : ModulesMayBePlaced → (r : LocatedParts) → IsLocated r →
 sections-few may r h =
     let placed = (may h.source h.plan h.valid).count in
     let same = ap length h.is.sections ∙ length-map (enumerate_from 0 (extended_sections (h.source ∷ []) h.plan)) (placed_section (base_list (h.source ∷ []) h.plan))
-        ∙ length-enumerate_from 0 (extended_sections (h.source ∷ []) h.plan) in
+    ∙ length-enumerate_from 0 (extended_sections (h.source ∷ []) h.plan) in
     omega (arith, placed, same)

@@ -17,4 +17,4 @@ returns-clause-itself c =
     let h = c.parts.ensures.located in
     let same = c.sound.ensures.same ∙ c.in_ok-absolute_parts.ensures ∙ ap absolute_of c.parts.ensures.same in
     subst (λ (m : Parts). IsLocation (m ∷ []) no_regions c.args.located.now) (sym same)
-        (c.absolute_is_located_as_itself.ensures (h.source ∷ []) h.plan c.args.located.now (h.valid, tt) h.is)
+    (c.absolute_is_located_as_itself.ensures (h.source ∷ []) h.plan c.args.located.now (h.valid, tt) h.is)

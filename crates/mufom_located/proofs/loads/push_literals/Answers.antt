@@ -14,6 +14,6 @@ loop-rest-preserved c =
     ap (λ all. all ++ literals (chunks literal_limit c.split_at.result.1.now)) c.in_ok-push.ensures.ok
     ∙ append_assoc c.loop-rest.loads (One (Literal c.in_ok-from_slice.field-0) ∷ []) (literals (chunks literal_limit c.split_at.result.1.now))
     ∙ (let own = c.in_ok-from_slice.ensures ∙ c.split_at.ensures.front in let back = c.split_at.ensures.back in
-      λ i. c.loop-rest.loads ++ (One (Literal (own i)) ∷ literals (chunks literal_limit (back i))))
+    λ i. c.loop-rest.loads ++ (One (Literal (own i)) ∷ literals (chunks literal_limit (back i))))
     ∙ ap (λ all. c.loop-rest.loads ++ literals all) (sym first)
     ∙ c.loop-rest.invariant

@@ -9,4 +9,4 @@ abbrev pub invariant-loop-section : goal.invariant-loop-section
 invariant-loop-section l =
     (done : ℕ) × (l.total ≡ capped done)
     × (done + sum_by load_weight (flat_map (section_loads l.runs) (enumerate_from l.section-index (drop l.section-index l.sections)))
-      ≡ sum_by load_weight (flat_map (section_loads l.runs) (enumerate_from 0 l.sections)))
+    ≡ sum_by load_weight (flat_map (section_loads l.runs) (enumerate_from 0 l.sections)))
