@@ -75,7 +75,8 @@ fn check<H: Host>(alloc: Global, command: &Command, host: &mut H) -> Outcome
 fn show<H: Host>(alloc: Global, command: &Command, host: &mut H) -> Outcome
     requires one { length command.now.files ≡ 1 }
     requires no_file { command.now.out ≡ None }
-    ensures { Does command.now (λ files. listing (λ ms. flat_map module_text ms) files command.now) (call_of H.meaning H.faults host.old host.new) result }
+    ensures { Does command.now (λ files. listing (λ ms. flat_map module_text ms) files command.now)
+        (call_of H.meaning H.faults host.old host.new) result }
 {
     match read_modules(alloc, command, host) {
         Ok(modules) => print_text(alloc, modules.as_slice(), host),
@@ -112,7 +113,8 @@ fn linked(alloc: Global, command: &Command, modules: List<Module>) -> Result<Mod
 // Makes the file that the command names, of a module.
 fn make_output<H: Host>(command: &Command, object: &Module, host: &mut H) -> Outcome
     requires { IsSome command.now.out }
-    ensures { (name : list ℕ) → command.now.out ≡ Some name → IsMadeAlone name (written object.now) (call_of H.meaning H.faults host.old host.new) result }
+    ensures { (name : list ℕ) → command.now.out ≡ Some name
+        → IsMadeAlone name (written object.now) (call_of H.meaning H.faults host.old host.new) result }
 {
     match &command.out {
         Some(name) => make_file(name.as_str(), object, host),

@@ -33,7 +33,8 @@ fn located_text(alloc: Global, bytes: &[u8]) -> Result<Vec<u8>, Outcome>
 
 /// Dumps the file with this name, the only one of the command; the answer is whose error line is not printed yet.
 pub(crate) fn dump<H: Host>(alloc: Global, name: &str, host: &mut H) -> Outcome
-    ensures { (c : Command) → c.files ≡ name.now ∷ [] → c.out ≡ None → Does c (λ files. plain_dump files c) (call_of H.meaning H.faults host.old host.new) result }
+    ensures { (c : Command) → c.files ≡ name.now ∷ [] → c.out ≡ None
+        → Does c (λ files. plain_dump files c) (call_of H.meaning H.faults host.old host.new) result }
 {
     let bytes = match load(alloc, name, host) {
         Ok(bytes) => bytes,

@@ -120,7 +120,8 @@ pub(crate) fn read_modules<H: Host>(
     ensures all { IfOk result (λ modules. GrowsBy (H.meaning host.old).opened (H.meaning host.new).opened command.now.files) }
     ensures valid { IfOk result AreValid }
     ensures light { IfOk result (λ modules. total_weight modules ≤ most_weight) }
-    ensures stops { IfErr result (λ stop. FilesStop (not command.now.no_debug) command.now.files (call_of H.meaning H.faults host.old host.new) stop) }
+    ensures stops { IfErr result (λ stop. FilesStop (not command.now.no_debug) command.now.files
+        (call_of H.meaning H.faults host.old host.new) stop) }
     ensures opened { IfErr result (λ stop. OpensPrefix command.now.files (call_of H.meaning H.faults host.old host.new) stop) }
     ensures only { OnlyOpens (H.meaning host.old) (H.meaning host.new) (H.faults host.old) (H.faults host.new) }
 {
