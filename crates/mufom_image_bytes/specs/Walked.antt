@@ -25,11 +25,12 @@ pub record HasWorth (s : Setting) (worth : WorthAt) (site : Sited) (t : Tree) : 
   pub residue : (at v : ℕ) → value s site (Some at) t ≡ Some v → v < s.modulus
   pub divides : (at : ℕ) → value s site (Some at) t ≡ None → has_zero_divisor s site (Some at) t ≡ true
 
--- a step is one of a section, its expression has its worth, and a field has a byte
+-- a field has a byte, and its expression its worth
 abbrev pub IsPlainItem : Setting → WorthAt → Sited → Item → Type 0
 IsPlainItem s worth site (Literal bytes) = Unit {0}
 IsPlainItem s worth site (Field kind t size) = (0 < size) × HasWorth s worth site t
 
+-- a step is one of a section, and its expression has its worth
 abbrev pub IsPlainStep : Setting → WorthAt → Step → Type 0
 IsPlainStep s worth (counter_step site section t) = (section < length s.bases) × HasWorth s worth site t
 IsPlainStep s worth (item_step site section item) = (section < length s.bases) × IsPlainItem s worth site item
