@@ -34,7 +34,3 @@ pub taken-judged : (reads_debug : Bool) (prefix : List Step) (rest : List ℕ) (
 taken-judged reads_debug prefix rest answer row n start kept new done got within some at same taken =
     subst (λ a. HasJudged reads_debug prefix (as_step (size_of prefix) rest a) rest new done) (sym got)
     (judged reads_debug prefix rest row n start new done within some at (subst (λ k. HasTaken reads_debug prefix (record_of_kept k) new done) same taken))
-
--- a kept record has what its bytes have
-pub own-of : (kept : KeptRecord) (start : ℕ) (row : Record) (bytes text : List ℕ) → kept ≡ kept_record start row bytes → bytes ≡ text → HasParts text row → HasOwnParts kept
-own-of kept start row bytes text same copy own = subst HasOwnParts (sym same) (subst (λ b. HasParts b row) (sym copy) own)

@@ -70,15 +70,6 @@ module _ (ix : Indexes) (p : SpelledRecord) where
       let same : v ≡ positioned ix (tree_in p span) = ap (λ (o : Option Tree). unwrap_or o v) (value ∙ field-valued kind span size is) in
       ap (item_by ix maus p) is ∙ (λ k. Some (Field kind (sym same k) (sym count k)))
 
-no_item : (ix : Indexes) (maus : ℕ) (p : SpelledRecord) (row : Record) → is_item row ≡ false → item_by ix maus p row ≡ None
-no_item ix maus p (r.ConstantItem run) h = absurd (true≢false h)
-no_item ix maus p (r.FieldItem kind value size) h = absurd (true≢false h)
-no_item ix maus p row h = refl
-
--- the loads with a record that is no item
-pub with-other : (ix : Indexes) (maus : ℕ) (s : Loads) (p : SpelledRecord) → is_item p.row ≡ false → with_load ix maus s p ≡ with_made ix s p None
-with-other ix maus s p h = ap (with_made ix s p) (no_item ix maus p p.row h)
-
 -- an item is no value of a public
 pub item-plain : (row : Record) → is_item row ≡ true → is_public_value row ≡ false
 item-plain (r.PublicValue i value) h = absurd (true≢false (sym h))
