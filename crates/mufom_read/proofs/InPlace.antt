@@ -1,9 +1,8 @@
 -- What a record states of an entry that an earlier one declares changes this entry in its place, and no other.
-use Rattle.std.proofs.Common.{◌≡◌, ◌⊎◌, ℕ, zero, suc, ◌==◌, false, cond, nat_eq, List, [], ◌∷◌, filter_map, slice_get, Option, Some, None, is_some, refl, sym, ap, subst, ◌∙◌, eq-eqb, ne_eqb, true≢false, inl, inr}
+use Rattle.std.proofs.Common.{◌≡◌, ℕ, zero, suc, ◌==◌, false, cond, nat_eq, List, [], ◌∷◌, filter_map, slice_get, Option, Some, None, is_some, refl, sym, ap, subst, ◌∙◌, eq-eqb, true≢false}
 use Rattle.std.specs.Prelude.{unwrap_or, slice_set}
 use Rattle.std.specs.List.{cons_option, IsDistinct, AllByRecursion}
 use Rattle.mufom_read.proofs.TableLaws.{eqb-swap}
-use Rattle.std.proofs.lemmas.Bool.{cases_eq}
 
 -- the entry, changed where its key is this one
 abbrev pub changed_at : {E : Type 0} → ℕ → (E → E) → Option ℕ → Option E → Option E

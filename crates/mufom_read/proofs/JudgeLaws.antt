@@ -3,14 +3,13 @@ use Rattle.std.proofs.Common.{◌≡◌, ℕ, ◌<◌, ◌≤◌, Bool, List, le
 use Rattle.mufom_numbers.specs.declared.taken.Taken.{Taken}
 use Rattle.mufom_numbers.specs.declared.taken.Taken.TheVariants.{Got}
 use Rattle.mufom_records.specs.declared.record.Record.{Record}
-use Rattle.mufom_records.specs.Parts.{HasParts}
 use Rattle.mufom_module.specs.SpelledRecords.{SpelledRecord}
 use Rattle.mufom_read.specs.declared.prefix.Prefix.{Prefix}
 use Rattle.mufom_read.specs.declared.prefix.Next.{Next}
 use Rattle.mufom_read.specs.declared.prefix.Next.TheVariants as next
 use Rattle.mufom_read.specs.declared.kept.KeptRecord.{KeptRecord}
 use Rattle.mufom_read.specs.Prefixes.{Step, read, size_of, as_step}
-use Rattle.mufom_read.specs.Kept.{record_of_kept, kept_record, HasOwnParts}
+use Rattle.mufom_read.specs.Kept.{record_of_kept, kept_record}
 use Rattle.mufom_read.specs.PrefixOfCode.{HasTaken, HasJudged}
 
 the_record : Record → List ℕ → SpelledRecord

@@ -56,7 +56,8 @@ fn item_of(
 ) -> Result<Item, NoMemory>
     requires own { HasOwnParts (kept_of_seen «record».now) }
     requires item { is_item «record».now.row ≡ true }
-    requires value { (ix : Indexes) × (value ≡ option_map (records.positioned ix) (records.tree_of_record (record_of_kept (kept_of_seen «record».now)))) }
+    requires value { (ix : Indexes)
+        × (value ≡ option_map (records.positioned ix) (records.tree_of_record (record_of_kept (kept_of_seen «record».now)))) }
     ensures { IfOk result (λ item. (ix : Indexes)
         → value ≡ option_map (records.positioned ix) (records.tree_of_record (record_of_kept (kept_of_seen «record».now)))
         → gathered.item_by ix maus (record_of_kept (kept_of_seen «record».now)) «record».now.row ≡ Some item) }
@@ -201,8 +202,8 @@ impl Loads {
         add_loads(alloc, tables, &mut self.loads, record, value)
     }
 
-    /// Takes the next record, with its expression over the indexes of the file unless it is the value of a public, by the indexes that those before it declare
-    /// and with these units in an address.
+    /// Takes the next record, with its expression over the indexes of the file unless it is the value of a public, by the
+    /// indexes that those before it declare and with these units in an address.
     pub(crate) fn take(
         &mut self,
         alloc: Global,

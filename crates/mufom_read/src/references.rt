@@ -53,8 +53,10 @@ pub(crate) fn take(
     seen: &SeenRecord,
 ) -> Result<(), NoMemory>
     requires own { HasOwnParts (kept_of_seen seen.now) }
-    requires known { (before : List records.SpelledRecord) × AreBefore references.old.items table.now before (record_of_kept (kept_of_seen seen.now)) }
-    ensures { OnOk result ((before : List records.SpelledRecord) → AreBefore references.old.items table.now before (record_of_kept (kept_of_seen seen.now))
+    requires known { (before : List records.SpelledRecord)
+        × AreBefore references.old.items table.now before (record_of_kept (kept_of_seen seen.now)) }
+    ensures { OnOk result ((before : List records.SpelledRecord)
+        → AreBefore references.old.items table.now before (record_of_kept (kept_of_seen seen.now))
         → references.new.items ≡ gathered.references_of (before ++ record_of_kept (kept_of_seen seen.now) ∷ [])) }
 {
     match &seen.row {
