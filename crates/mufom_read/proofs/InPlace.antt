@@ -1,14 +1,8 @@
 -- What a record states of an entry that an earlier one declares changes this entry in its place, and no other.
-use Rattle.std.proofs.Common.{◌≡◌, ◌⊎◌, ℕ, zero, suc, ◌==◌, false, cond, nat_eq, List, [], ◌∷◌, filter_map, slice_get, Option, Some, None, is_some, refl, sym, ap, subst, ◌∙◌, eq-eqb, ne_eqb, true≢false, inl, inr}
+use Rattle.std.proofs.Common.{◌≡◌, ℕ, zero, suc, ◌==◌, false, cond, nat_eq, List, [], ◌∷◌, filter_map, slice_get, Option, Some, None, is_some, refl, sym, ap, subst, ◌∙◌, eq-eqb, true≢false}
 use Rattle.std.specs.Prelude.{unwrap_or, slice_set}
 use Rattle.std.specs.List.{cons_option, IsDistinct, AllByRecursion}
-use Rattle.std.proofs.lemmas.Bool.{cases_eq}
-
-eqb-swap : (i j : ℕ) → (i == j) ≡ (j == i)
-eqb-swap i j = by_case (cases_eq i j) where
-  by_case : ((i ≡ j) ⊎ (i ≡ j → ⊥)) → (i == j) ≡ (j == i)
-  by_case (inl e) = eq-eqb i j e ∙ sym (eq-eqb j i (sym e))
-  by_case (inr n) = ne_eqb i j n ∙ sym (ne_eqb j i (λ e. n (sym e)))
+use Rattle.mufom_read.proofs.TableLaws.{eqb-swap}
 
 -- the entry, changed where its key is this one
 abbrev pub changed_at : {E : Type 0} → ℕ → (E → E) → Option ℕ → Option E → Option E

@@ -3,14 +3,13 @@ use Rattle.std.proofs.Common.{◌≡◌, ℕ, ◌<◌, ◌≤◌, Bool, List, le
 use Rattle.mufom_numbers.specs.declared.taken.Taken.{Taken}
 use Rattle.mufom_numbers.specs.declared.taken.Taken.TheVariants.{Got}
 use Rattle.mufom_records.specs.declared.record.Record.{Record}
-use Rattle.mufom_records.specs.Parts.{HasParts}
 use Rattle.mufom_module.specs.SpelledRecords.{SpelledRecord}
 use Rattle.mufom_read.specs.declared.prefix.Prefix.{Prefix}
 use Rattle.mufom_read.specs.declared.prefix.Next.{Next}
 use Rattle.mufom_read.specs.declared.prefix.Next.TheVariants as next
 use Rattle.mufom_read.specs.declared.kept.KeptRecord.{KeptRecord}
 use Rattle.mufom_read.specs.Prefixes.{Step, read, size_of, as_step}
-use Rattle.mufom_read.specs.Kept.{record_of_kept, kept_record, HasOwnParts}
+use Rattle.mufom_read.specs.Kept.{record_of_kept, kept_record}
 use Rattle.mufom_read.specs.PrefixOfCode.{HasTaken, HasJudged}
 
 the_record : Record → List ℕ → SpelledRecord
@@ -34,7 +33,3 @@ pub taken-judged : (reads_debug : Bool) (prefix : List Step) (rest : List ℕ) (
 taken-judged reads_debug prefix rest answer row n start kept new done got within some at same taken =
     subst (λ a. HasJudged reads_debug prefix (as_step (size_of prefix) rest a) rest new done) (sym got)
     (judged reads_debug prefix rest row n start new done within some at (subst (λ k. HasTaken reads_debug prefix (record_of_kept k) new done) same taken))
-
--- a kept record has what its bytes have
-pub own-of : (kept : KeptRecord) (start : ℕ) (row : Record) (bytes text : List ℕ) → kept ≡ kept_record start row bytes → bytes ≡ text → HasParts text row → HasOwnParts kept
-own-of kept start row bytes text same copy own = subst HasOwnParts (sym same) (subst (λ b. HasParts b row) (sym copy) own)

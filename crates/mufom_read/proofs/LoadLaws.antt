@@ -1,5 +1,5 @@
 -- The loads so far, record by record.
-use Rattle.std.proofs.Common.{◌≡◌, ℕ, suc, ◌+◌, ◌<◌, true, false, true≢false, List, [], ◌∷◌, ◌++◌, length, map, drop, get_or, refl, sym, ap, ◌∙◌, arith, append-nil, append_assoc, Result, Ok, Err, OnOk, Option, Some, None, option_map}
+use Rattle.std.proofs.Common.{◌≡◌, ℕ, suc, ◌+◌, ◌<◌, true, false, true≢false, List, [], ◌∷◌, ◌++◌, length, map, drop, get_or, refl, sym, ap, ◌∙◌, arith, append-nil, append_assoc, Result, Ok, Err, OnOk, Option, Some, option_map}
 use Rattle.std.proofs.Math.Seq.{drop-cons}
 use Rattle.std.specs.Prelude.{unwrap_or}
 use Rattle.mufom_numbers.specs.declared.taken.Span.{Span}
@@ -14,7 +14,7 @@ use Rattle.mufom_module.specs.Gathered.{item_by}
 use Rattle.mufom_read.specs.declared.kept.KeptRecord.{KeptRecord}
 use Rattle.mufom_read.specs.declared.loads.Loads.{Loads}
 use Rattle.mufom_read.specs.Kept.{tables_of, indexes_by, record_of_kept}
-use Rattle.mufom_read.specs.LoadsSoFar.{no_loads, is_item, with_made, with_load, units_after, units_from, units_in, units_or, loads_from, loads_so_far}
+use Rattle.mufom_read.specs.LoadsSoFar.{no_loads, is_item, with_load, units_after, units_from, units_in, units_or, loads_from, loads_so_far}
 
 -- what was pushed, where that went well
 pub pushed : {X A E : Type 0} (r : Result A E) (new old few more : List X) → few ≡ more → OnOk r (new ≡ old ++ few) → OnOk r (new ≡ old ++ more)
@@ -69,15 +69,6 @@ module _ (ix : Indexes) (p : SpelledRecord) where
   field-made maus kind span size v n is value count =
       let same : v ≡ positioned ix (tree_in p span) = ap (λ (o : Option Tree). unwrap_or o v) (value ∙ field-valued kind span size is) in
       ap (item_by ix maus p) is ∙ (λ k. Some (Field kind (sym same k) (sym count k)))
-
-no_item : (ix : Indexes) (maus : ℕ) (p : SpelledRecord) (row : Record) → is_item row ≡ false → item_by ix maus p row ≡ None
-no_item ix maus p (r.ConstantItem run) h = absurd (true≢false h)
-no_item ix maus p (r.FieldItem kind value size) h = absurd (true≢false h)
-no_item ix maus p row h = refl
-
--- the loads with a record that is no item
-pub with-other : (ix : Indexes) (maus : ℕ) (s : Loads) (p : SpelledRecord) → is_item p.row ≡ false → with_load ix maus s p ≡ with_made ix s p None
-with-other ix maus s p h = ap (with_made ix s p) (no_item ix maus p p.row h)
 
 -- an item is no value of a public
 pub item-plain : (row : Record) → is_item row ≡ true → is_public_value row ≡ false

@@ -14,7 +14,7 @@ use Rattle.mufom_read.specs.Prefixes.{OffsetRecord}
 use Rattle.mufom_read.specs.Kept.{as_record}
 use Rattle.mufom_read.specs.NamesSoFar.{value_start_for, public_mark_by, public_marks, records_in}
 use Rattle.mufom_read.proofs.InPlace.{changed_at, changed-there}
-use Rattle.mufom_read.proofs.ReferenceSteps.{same_each, same_count, same_index}
+use Rattle.mufom_read.proofs.ReferenceSteps.{one_more_none, same_each, same_count, same_index}
 use Rattle.mufom_read.proofs.PublicSteps.{is_of_public}
 
 abbrev key : OffsetRecord → Option ℕ
@@ -23,9 +23,6 @@ key p = of_kind public (declared_by p.1.row)
 map_asks : {X : Type 0} (ask : SpelledRecord → Option X) (placed : List OffsetRecord) → filter_map ask (records_in placed) ≡ filter_map (λ (p : OffsetRecord). ask p.1) placed
 map_asks ask [] = refl
 map_asks ask (p ∷ placed) = ap (cons_option (ask p.1)) (map_asks ask placed)
-
-one_more_none : {X : Type 0} (ask : OffsetRecord → Option X) (ps : List OffsetRecord) (q : OffsetRecord) → ask q ≡ None → filter_map ask (ps ++ q ∷ []) ≡ filter_map ask ps
-one_more_none ask ps q none = filter_map-append ask ps (q ∷ []) ∙ ap (λ o. filter_map ask ps ++ cons_option o []) none ∙ append-nil (filter_map ask ps)
 
 keyed : (all : List OffsetRecord) (p : OffsetRecord) (row : Record) → is_some (of_kind public (declared_by row)) ≡ is_some (public_mark_by all p row)
 keyed all p (r.PublicName i name) = refl

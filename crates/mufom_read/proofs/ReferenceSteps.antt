@@ -27,7 +27,7 @@ keyed part p (r.DebugName i name) = refl
 keyed part p row = refl
 
 -- a record that an ask says nothing of changes nothing
-pub one_more_none : {X : Type 0} (ask : SpelledRecord → Option X) (ps : List SpelledRecord) (q : SpelledRecord) → ask q ≡ None → filter_map ask (ps ++ q ∷ []) ≡ filter_map ask ps
+pub one_more_none : {P X : Type 0} (ask : P → Option X) (ps : List P) (q : P) → ask q ≡ None → filter_map ask (ps ++ q ∷ []) ≡ filter_map ask ps
 one_more_none ask ps q none = filter_map-append ask ps (q ∷ []) ∙ ap (λ o. filter_map ask ps ++ cons_option o []) none ∙ append-nil (filter_map ask ps)
 
 pub same_each : {P E : Type 0} (by after : P → Option E) → ((p : P) → after p ≡ by p) → (ps : List P) → filter_map after ps ≡ filter_map by ps

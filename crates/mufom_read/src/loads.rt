@@ -202,8 +202,8 @@ impl Loads {
         add_loads(alloc, tables, &mut self.loads, record, value)
     }
 
-    /// Takes the next record, with its expression over the indexes of the file unless it is the value of
-    /// a public, by the indexes that those before it declare and with these units in an address.
+    /// Takes the next record, with its expression over the indexes of the file unless it is the value of a public, by the
+    /// indexes that those before it declare and with these units in an address.
     pub(crate) fn take(
         &mut self,
         alloc: Global,

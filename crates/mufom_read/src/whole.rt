@@ -49,8 +49,8 @@ pub(crate) fn whole_fault(
     kept: &[KeptRecord],
 ) -> Option<ReadRefusal>
     requires { length publics.now.list.items ≡ length publics.now.marks.items }
-    ensures { (reads_debug : Bool) (f : Prefix) (prefix : List Step)
-        → IsPrefixOf reads_debug f prefix → tables.now ≡ f.tables → publics.now ≡ f.publics → kept.now ≡ f.kept
+    ensures { (reads_debug : Bool) (f : Prefix) (prefix : List Step) → IsPrefixOf reads_debug f prefix
+        → tables.now ≡ f.tables → publics.now ≡ f.publics → kept.now ≡ f.kept
         → option_map as_fault result ≡ faults.whole_fault (as_part part) prefix }
 {
     match part {
