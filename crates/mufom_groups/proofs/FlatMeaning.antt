@@ -16,7 +16,7 @@ pub links-stand-for-flat : LinksStandForFlat
 links-stand-for-flat c ms M valid (flat, is, j) =
     let is_flat = ((linked-flat answers_are_facts link_facts_grow (tree_of c.marks) ms flat).0 is).0 in
     let flat_valid : AreValid flat = subst AreValid (sym is_flat.2)
-        (valid-append (roots (tree_of c.marks) ms) (members_at (members (tree_of c.marks) ms) is_flat.0) (valid-members ms (leaves (tree_of c.marks)) valid)
-        (valid-members (members (tree_of c.marks) ms) is_flat.0 (valid-drop (length (leaves (tree_of c.marks))) ms valid))) in
+    (valid-append (roots (tree_of c.marks) ms) (members_at (members (tree_of c.marks) ms) is_flat.0) (valid-members ms (leaves (tree_of c.marks)) valid)
+    (valid-members (members (tree_of c.marks) ms) is_flat.0 (valid-drop (length (leaves (tree_of c.marks))) ms valid))) in
     let stands = joined_stands_for M flat (unwrap_or c.name (first_name flat)) j flat_valid in
     record { flat = flat; is_flat = is_flat; stands = stands.0; settled = stands.3 }

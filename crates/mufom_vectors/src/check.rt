@@ -6,12 +6,7 @@ use std::process::Abort;
 use std::test::Fail;
 
 // The answer to `check a`, with the error line that must be printed.
-fn refuses(
-    rt: &impl Abort,
-    alloc: Global,
-    file: &[u8],
-    line: &[u8],
-) -> Result<(), Fail> {
+fn refuses(rt: &impl Abort, alloc: Global, file: &[u8], line: &[u8]) -> Result<(), Fail> {
     answers(rt, alloc, &[("a", file)], &["check", "a"], (1, b"", line))
 }
 
@@ -63,12 +58,7 @@ fn an_offset_in_the_middle_of_a_part_leaves_a_gap(rt: HostRuntime) -> Result<(),
 }
 
 // One byte of the absolute module is changed.
-fn changed(
-    rt: &impl Abort,
-    alloc: Global,
-    change: (usize, u8),
-    line: &[u8],
-) -> Result<(), Fail> {
+fn changed(rt: &impl Abort, alloc: Global, change: (usize, u8), line: &[u8]) -> Result<(), Fail> {
     let mut file = ABSOLUTE;
     if let Some(byte) = file.get_mut(change.0) {
         *byte = change.1;
@@ -137,12 +127,7 @@ fn a_second_file_that_is_cut_off_is_refused_by_its_number(rt: HostRuntime) -> Re
 }
 
 // The answer to words that name no files, over one file.
-fn usage(
-    rt: &impl Abort,
-    alloc: Global,
-    line: &[&str],
-    known: &[u8],
-) -> Result<(), Fail>
+fn usage(rt: &impl Abort, alloc: Global, line: &[&str], known: &[u8]) -> Result<(), Fail>
     requires { length line.now < 2 ^ 32 }
 {
     answers(rt, alloc, &[("m1", &ABSOLUTE)], line, (2, b"", known))
@@ -152,28 +137,13 @@ fn usage(
 fn words_that_name_no_files_are_usage_faults(rt: HostRuntime) -> Result<(), Fail> {
     let alloc = rt.alloc();
     let line = b"usage: stray bracket\n";
-    usage(
-        &rt,
-        alloc,
-        &["check", "[", "m1", "]"],
-        line,
-    )?;
+    usage(&rt, alloc, &["check", "[", "m1", "]"], line)?;
     let line = b"usage: bad members\n";
-    usage(
-        &rt,
-        alloc,
-        &["check", "m1", "+", "m1"],
-        line,
-    )?;
+    usage(&rt, alloc, &["check", "m1", "+", "m1"], line)?;
     let line = b"usage: no file\n";
     usage(&rt, alloc, &["check"], line)?;
     let line = b"usage: bad words\n";
-    usage(
-        &rt,
-        alloc,
-        &["check", "-x", "m1"],
-        line,
-    )
+    usage(&rt, alloc, &["check", "-x", "m1"], line)
 }
 
 #[test]

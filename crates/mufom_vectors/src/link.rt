@@ -58,7 +58,12 @@ fn links(rt: &impl Abort, alloc: Global, line: &[&str], made: &[u8]) -> Result<(
 fn two_modules_are_linked_wherever_the_groups_stand(rt: HostRuntime) -> Result<(), Fail> {
     let alloc = rt.alloc();
     links(&rt, alloc, &["link", "-o", "c", "a", "b"], &LINKED)?;
-    links(&rt, alloc, &["link", "[", "[", "a", "]", "b", "]", "-oc"], &LINKED)?;
+    links(
+        &rt,
+        alloc,
+        &["link", "[", "[", "a", "]", "b", "]", "-oc"],
+        &LINKED,
+    )?;
     links(&rt, alloc, &["link", "a", "[", "b", "]", "-o=c"], &LINKED)
 }
 

@@ -77,12 +77,7 @@ fn names_after_two_dashes_and_a_dash_alone_are_files(rt: HostRuntime) -> Result<
 }
 
 // These words are no command, for this reason.
-fn faulty(
-    rt: &impl Abort,
-    alloc: Global,
-    line: &[&str],
-    known: &[u8],
-) -> Result<(), Fail>
+fn faulty(rt: &impl Abort, alloc: Global, line: &[&str], known: &[u8]) -> Result<(), Fail>
     requires { length line.now < 2 ^ 32 }
 {
     answers(rt, alloc, &[("m1", &ABSOLUTE)], line, (2, b"", known))
@@ -102,12 +97,7 @@ fn words_without_a_command_or_a_file_are_usage_faults(rt: HostRuntime) -> Result
 fn words_that_name_not_one_file_are_usage_faults(rt: HostRuntime) -> Result<(), Fail> {
     let alloc = rt.alloc();
     let known = b"usage: file count\n";
-    faulty(
-        &rt,
-        alloc,
-        &["show", "m1", "m1"],
-        known,
-    )?;
+    faulty(&rt, alloc, &["show", "m1", "m1"], known)?;
     let known = b"usage: stray bracket\n";
     faulty(&rt, alloc, &["show", "["], known)?;
     let known = b"usage: bad words\n";
