@@ -93,13 +93,13 @@ module _ (facts : AllAnswersAreFacts) (grow : LinkFactsGrow) where
     none_of_groups (file n rest) more is = none_of_groups rest more (suffix_modules ms whole (n ∷ []) (leaves rest) is)
     none_of_groups (group inner rest) more is =
         let own : List Parts = members_at ms (leaves inner) in
-        let behind : List (List Parts) = map (members_at ms) (groups rest) ++ more in
+        let following : List (List Parts) = map (members_at ms) (groups rest) ++ more in
         let inner_part : IsPart own whole = prefix_modules ms whole (leaves inner) (leaves rest) is in
         let rest_part : IsPart (members_at ms (leaves rest)) whole = suffix_modules ms whole (leaves inner) (leaves rest) is in
-        let split : map (members_at ms) (groups inner ++ leaves inner ∷ groups rest) ++ more ≡ map (members_at ms) (groups inner) ++ own ∷ behind
+        let split : map (members_at ms) (groups inner ++ leaves inner ∷ groups rest) ++ more ≡ map (members_at ms) (groups inner) ++ own ∷ following
         = ap (λ (l : List (List Parts)). l ++ more) (map-append (members_at ms) (groups inner) (leaves inner ∷ groups rest)) ∙ append_assoc (map (members_at ms) (groups inner)) (own ∷ map (members_at ms) (groups rest)) more in
-        ap (λ (l : List (List Parts)). first_some link_answer l) split ∙ (none_of_groups inner (own ∷ behind) inner_part
-        ∙ (first-none own behind (none_of_part own whole inner_part none) ∙ none_of_groups rest more rest_part))
+        ap (λ (l : List (List Parts)). first_some link_answer l) split ∙ (none_of_groups inner (own ∷ following) inner_part
+        ∙ (first-none own following (none_of_part own whole inner_part none) ∙ none_of_groups rest more rest_part))
 
   -- nothing is answered for the links of a tree exactly where nothing is for all of its modules
   none_of_links : (tree : Forest) (ms : List Parts) → link_answer (roots tree ms) ≡ None → first_some link_answer (tree_links tree ms) ≡ None
@@ -158,12 +158,12 @@ module _ (facts : AllAnswersAreFacts) (grow : LinkFactsGrow) where
         → LinkFactStands whole f ⊎ (first_some link_answer more ≡ Some f)
     groups_fact empty more is found = inr found
     groups_fact (file n rest) more is found = groups_fact rest more (suffix_modules ms whole (n ∷ []) (leaves rest) is) found
-    groups_fact (group inner rest) more is found = outer (groups_fact inner (own ∷ behind) inner_part (sym (ap (λ (l : List (List Parts)). first_some link_answer l) split) ∙ found)) (groups_fact rest more rest_part) where
+    groups_fact (group inner rest) more is found = outer (groups_fact inner (own ∷ following) inner_part (sym (ap (λ (l : List (List Parts)). first_some link_answer l) split) ∙ found)) (groups_fact rest more rest_part) where
       own : List Parts
       own = members_at ms (leaves inner)
 
-      behind : List (List Parts)
-      behind = map (members_at ms) (groups rest) ++ more
+      following : List (List Parts)
+      following = map (members_at ms) (groups rest) ++ more
 
       inner_part : IsPart own whole
       inner_part = prefix_modules ms whole (leaves inner) (leaves rest) is
@@ -171,16 +171,16 @@ module _ (facts : AllAnswersAreFacts) (grow : LinkFactsGrow) where
       rest_part : IsPart (members_at ms (leaves rest)) whole
       rest_part = suffix_modules ms whole (leaves inner) (leaves rest) is
 
-      split : map (members_at ms) (groups inner ++ leaves inner ∷ groups rest) ++ more ≡ map (members_at ms) (groups inner) ++ own ∷ behind
+      split : map (members_at ms) (groups inner ++ leaves inner ∷ groups rest) ++ more ≡ map (members_at ms) (groups inner) ++ own ∷ following
       split = ap (λ (l : List (List Parts)). l ++ more) (map-append (members_at ms) (groups inner) (leaves inner ∷ groups rest)) ∙ append_assoc (map (members_at ms) (groups inner)) (own ∷ map (members_at ms) (groups rest)) more
 
-      middle : (link_answer own ≡ Some f) ⊎ (first_some link_answer behind ≡ Some f) → (first_some link_answer behind ≡ Some f → LinkFactStands whole f ⊎ (first_some link_answer more ≡ Some f)) → LinkFactStands whole f ⊎ (first_some link_answer more ≡ Some f)
+      middle : (link_answer own ≡ Some f) ⊎ (first_some link_answer following ≡ Some f) → (first_some link_answer following ≡ Some f → LinkFactStands whole f ⊎ (first_some link_answer more ≡ Some f)) → LinkFactStands whole f ⊎ (first_some link_answer more ≡ Some f)
       middle (inl same) next = inl (part_fact own whole f inner_part same)
       middle (inr later) next = next later
 
-      outer : LinkFactStands whole f ⊎ (first_some link_answer (own ∷ behind) ≡ Some f) → (first_some link_answer behind ≡ Some f → LinkFactStands whole f ⊎ (first_some link_answer more ≡ Some f)) → LinkFactStands whole f ⊎ (first_some link_answer more ≡ Some f)
+      outer : LinkFactStands whole f ⊎ (first_some link_answer (own ∷ following) ≡ Some f) → (first_some link_answer following ≡ Some f → LinkFactStands whole f ⊎ (first_some link_answer more ≡ Some f)) → LinkFactStands whole f ⊎ (first_some link_answer more ≡ Some f)
       outer (inl stands) next = inl stands
-      outer (inr later) next = middle (first_of own behind f later) next
+      outer (inr later) next = middle (first_of own following f later) next
 
   -- the fact of one list is the answer for it
   only_of : (list : List Parts) (f : LinkFact) → first_some link_answer (list ∷ []) ≡ Some f → link_answer list ≡ Some f

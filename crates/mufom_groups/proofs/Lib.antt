@@ -11,3 +11,4 @@ pub mod AllLinked
 pub mod Works
 pub mod Singles
 pub mod GroupsAlike
+pub mod FlatMeaning

@@ -3,9 +3,10 @@ use Rattle.std.specs.Prelude.{◌≡◌, ◌↔◌, List, None}
 use Rattle.mufom_module.specs.declared.module.Parts.{Parts}
 use Rattle.mufom_words.specs.declared.command.Command.{Command}
 use Rattle.mufom_words.specs.Alike.{AreAlike}
-use Rattle.mufom_words.specs.Tree.{Forest}
+use Rattle.mufom_words.specs.Tree.{Forest, tree_of}
 use Rattle.mufom_meaning.specs.Facts.{LinkFact}
 use Rattle.mufom_meaning.specs.LinkAnswer.{link_answer}
+use Rattle.mufom_meaning.specs.Staging.{AreValid, HasSettledReferences, StandsFor}
 use Rattle.mufom_meaning.specs.Stands.{LinkFactStands}
 use Rattle.mufom_groups.specs.Linked.{IsFlatList, linked, linked_module}
 use Rattle.mufom_groups.specs.Work.{Work, gives, stops, IsSingle}
@@ -34,3 +35,14 @@ GroupsMakeNoDifference = (c d : Command) → AreAlike c d → (ms : List Parts) 
 -- The modules of a command come to one module, or to one link fact, at most.
 abbrev pub LinksAreSingle : Type 0
 LinksAreSingle = (c : Command) (ms : List Parts) → IsSingle (linked_module c ms)
+
+-- The module stands for the flat list of the modules, in every context.
+pub record StandsForFlat (c : Command) (ms : List Parts) (M : Parts) : Type 0 where
+  pub flat : List Parts
+  pub is_flat : IsFlatList (tree_of c.marks) ms flat
+  pub stands : StandsFor M flat
+  pub settled : HasSettledReferences M
+
+-- The module into which modules without a defect are linked stands for their flat list.
+abbrev pub LinksStandForFlat : Type 0
+LinksStandForFlat = (c : Command) (ms : List Parts) (M : Parts) → AreValid ms → linked_module c ms (gives M) → StandsForFlat c ms M

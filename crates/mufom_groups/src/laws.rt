@@ -1,6 +1,6 @@
 //! Laws of links in groups, each the contract of a function that does nothing.
 
-ghost use Rattle.mufom_groups.specs.Laws.{GroupsMakeNoDifference, LinkFactsStand, LinkedIsFlat, LinksAreSingle};
+ghost use Rattle.mufom_groups.specs.Laws.{GroupsMakeNoDifference, LinkFactsStand, LinkedIsFlat, LinksAreSingle, LinksStandForFlat};
 
 /// Commands that differ in their brackets at most come to the same module, of whatever modules, and to
 /// a link fact both or neither.
@@ -21,4 +21,10 @@ pub fn link_facts_stand()
 /// The modules of a command come to one module, or to one link fact, at most.
 pub fn links_are_single()
     ensures { LinksAreSingle }
+{}
+
+/// The module into which modules without a defect are linked stands for their flat list: it means what
+/// the list means, whatever modules stand around it and wherever its sections are placed.
+pub fn links_stand_for_flat_lists()
+    ensures { LinksStandForFlat }
 {}

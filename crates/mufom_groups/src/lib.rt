@@ -8,5 +8,8 @@
 mod laws;
 mod linking;
 
-pub use laws::{groups_make_no_difference, link_facts_stand, linked_is_flat, links_are_single};
+pub use laws::{
+    groups_make_no_difference, link_facts_stand, linked_is_flat, links_are_single,
+    links_stand_for_flat_lists,
+};
 pub use linking::link_modules;
