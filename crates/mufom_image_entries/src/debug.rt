@@ -10,8 +10,8 @@ ghost use Rattle.mufom_meaning.specs.Walk.{debug_fact, debug_trees};
 ghost use Rattle.mufom_image_values.specs.Evaluated.{setting_of};
 ghost use Rattle.mufom_image_entries.specs.Valued.{IsValued, parts_of, value_of, divides, valued_head, valued_mark, IsFirstDivision};
 
-use crate::copies::{copy_bytes, copy_note};
 use crate::valued::ValuedModule;
+use mufom_copies::{copy_bytes, copy_note};
 use mufom_debug::{Addresses, Block, BlockHead, DebugItem, addresses};
 use mufom_numbers::{List, NoMemory};
 use std::alloc::Global;

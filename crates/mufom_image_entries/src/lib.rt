@@ -5,7 +5,6 @@
 //! expression replaced by its value. The values of the publics come from `mufom_image_values`.
 #![tactic(auto)]
 
-mod copies;
 mod debug;
 mod publics;
 mod start;

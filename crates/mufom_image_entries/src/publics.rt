@@ -3,8 +3,8 @@
 ghost use Rattle.std.specs.Prelude.{◌≡◌, map, IfOk};
 ghost use Rattle.mufom_image_entries.specs.Valued.{IsValued, parts_of, valued_public};
 
-use crate::copies::{copy_bytes, copy_notes};
 use crate::valued::ValuedModule;
+use mufom_copies::{copy_bytes, copy_notes};
 use mufom_meaning::PublicValue;
 use mufom_names::Public;
 use mufom_numbers::{List, NoMemory};
