@@ -2,6 +2,7 @@ ghost use Rattle.std.specs.Prelude.{◌<◌, ◌^◌, length};
 
 use crate::files::{ABSOLUTE, EMPTY, host, words};
 use mufom_command::run;
+use mufom_host::MemHost;
 use std::alloc::Global;
 use std::process::Abort;
 use std::test::Fail;
@@ -42,14 +43,27 @@ const LINKED: [u8; 136] = [
     0xC9, 0x20, 0x02, 0xA5, 0x90, 0x04, 0xBF, 0xE1,
 ];
 
+// The files `a`, `b` and `m`.
+fn linkable(alloc: Global) -> Result<MemHost, Fail> {
+    host(alloc, &[("a", &FIRST), ("b", &SECOND), ("m", &EMPTY)])
+}
+
+// Whether the host has made this file.
+fn is_made(host: &MemHost, wanted: &[u8], content: &[u8]) -> bool {
+    match host.made() {
+        Some((name, bytes)) => name == wanted && bytes == content,
+        None => false,
+    }
+}
+
 // The words make the file `c`, of these bytes, of the files `a`, `b` and `m`.
 fn links(rt: &impl Abort, alloc: Global, line: &[&str], made: &[u8]) -> Result<(), Fail>
     requires { length line.now < 2 ^ 32 }
 {
-    let mut host = host(alloc, &[("a", &FIRST), ("b", &SECOND), ("m", &EMPTY)])?;
+    let mut host = linkable(alloc)?;
     let words = words(alloc, line)?;
     assert_eq!(rt; run(alloc, words.as_slice(), &mut host).status(), 0);
-    assert_eq!(rt; host.made(), Some(("c".as_bytes(), made)));
+    assert!(rt; is_made(&host, b"c", made));
     assert_eq!(rt; host.out(), b"".as_slice());
     Ok(())
 }
@@ -73,13 +87,18 @@ fn a_member_is_linked_where_the_roots_need_it(rt: HostRuntime) -> Result<(), Fai
     links(&rt, rt.alloc(), &line, &LINKED)
 }
 
+// The files `a`, `s`, whose addresses are shorter, and `m1`, which has a start.
+fn unlike(alloc: Global) -> Result<MemHost, Fail> {
+    let mut small = EMPTY;
+    small[11] = 0x02;
+    host(alloc, &[("a", &FIRST), ("s", &small), ("m1", &ABSOLUTE)])
+}
+
 // These words are refused with this line, and no file is made.
 fn refuses(rt: &impl Abort, alloc: Global, line: &[&str], refusal: &[u8]) -> Result<(), Fail>
     requires { length line.now < 2 ^ 32 }
 {
-    let mut small = EMPTY;
-    small[11] = 0x02;
-    let mut host = host(alloc, &[("a", &FIRST), ("s", &small), ("m1", &ABSOLUTE)])?;
+    let mut host = unlike(alloc)?;
     let words = words(alloc, line)?;
     assert_eq!(rt; run(alloc, words.as_slice(), &mut host).status(), 1);
     assert_eq!(rt; host.err(), refusal);
