@@ -3,3 +3,4 @@ pub mod Chains
 pub mod Words
 pub mod Show
 pub mod Terms
+pub mod Image

@@ -9,6 +9,7 @@
 #![tactic(auto)]
 
 mod debug;
+mod image;
 mod infix;
 mod loads;
 mod names;
@@ -20,4 +21,5 @@ mod show;
 mod tests;
 mod words;
 
+pub use image::print_image;
 pub use show::{PrintStop, print_module};
