@@ -25,7 +25,8 @@ use Rattle.mufom_command.specs.declared.outcome.Refusal.{Refusal}
 use Rattle.mufom_command.specs.declared.outcome.Refusal.TheVariants as refusal
 use Rattle.mufom_words.specs.declared.stop.UsageFault.{UsageFault}
 use Rattle.mufom_words.specs.declared.stop.UsageFault.TheVariants as usage
-use Rattle.mufom_text.specs.Words.{Text, address, line, quoted}
+use Rattle.mufom_text.specs.Image.{address}
+use Rattle.mufom_text.specs.Words.{Text, line, quoted}
 
 abbrev pub status_of : Outcome → ℕ
 status_of outcome.Done = 0

@@ -1,5 +1,5 @@
 -- What opening and reading files answers.
-use Rattle.std.specs.Prelude.{◌≡◌, ℕ, ◌+◌, ◌<◌, ◌≤◌, Bool, List, length, take, Option, Some, IfSome, OnSome}
+use Rattle.std.specs.Prelude.{◌≡◌, ℕ, ◌+◌, ◌≤◌, Bool, List, length, take, Option, Some, IfSome, OnSome}
 use Rattle.mufom_host.specs.World.{NamedFile, Faults, GrowsBy, Rose, file_named}
 use Rattle.mufom_module.specs.declared.module.Parts.{Parts}
 use Rattle.mufom_read.specs.declared.source.SourceStop.{SourceStop}
@@ -43,8 +43,7 @@ abbrev pub FilesStop : Bool → List (List ℕ) → Call → Outcome → Type 0
 FilesStop reads_debug names call (outcome.Refused (refusal.Read n r)) = IfSome call.old.files (λ files. ComeTo reads_debug files names (refused n r))
 FilesStop reads_debug names call (outcome.Refused (refusal.InputLimit n)) = IfSome call.old.files (λ files. ComeTo reads_debug files names (past_limit n))
 FilesStop reads_debug names call (outcome.ReadFault (input.File n)) =
-    (n < length names) × Rose call.before.reads call.now.reads
-    × IfSome call.old.files (λ files. (ms : List Parts) × ComeTo reads_debug files (take n names) (accepted ms))
+    Rose call.before.reads call.now.reads × IfSome call.old.files (λ files. (ms : List Parts) × ComeTo reads_debug files (take n names) (accepted ms))
 FilesStop reads_debug names call outcome.NoMemory = Unit {0}
 FilesStop reads_debug names call _ = ⊥
 

@@ -1,8 +1,9 @@
 -- What reading the inputs of a command answers: its plan, and then the modules of its files.
-use Rattle.std.specs.Prelude.{◌≡◌, ◌⊎◌, ℕ, ◌<◌, ◌×◌, List, ◌++◌, length, Option, IfSome}
+use Rattle.std.specs.Prelude.{◌≡◌, ◌⊎◌, ℕ, ◌<◌, List, ◌++◌, length, Option, Result, Err, IfSome, IsSome}
 use Rattle.mufom_host.specs.World.{NamedFile, Faults, Rose}
 use Rattle.mufom_module.specs.declared.module.Parts.{Parts}
 use Rattle.mufom_plan.specs.declared.plan.Plan.{Plan}
+use Rattle.mufom_plan.specs.declared.refusal.PlanRefusal.{PlanRefusal}
 use Rattle.mufom_words.specs.declared.command.Command.{Command}
 use Rattle.mufom_groups.specs.Work.{Work, gives, stops, ◌>>=◌, sure}
 use Rattle.mufom_command.specs.declared.outcome.Input.TheVariants as input
@@ -28,10 +29,16 @@ inputs_in files c = do
   ms ← modules_in files c
   sure (plan, ms)
 
+-- the answer to bytes that are no plan, or out of memory
+abbrev pub IsPlanAnswer : Result Plan PlanRefusal → Outcome → Type 0
+IsPlanAnswer plan (outcome.Refused (refusal.Plan r)) = plan ≡ Err r
+IsPlanAnswer plan outcome.NoMemory = Unit {0}
+IsPlanAnswer plan _ = ⊥
+
 -- Why the plan with this name was not read; none may be named.
 abbrev pub PlanStops : Option (List ℕ) → Call → Outcome → Type 0
-PlanStops name call (outcome.Refused (refusal.Plan r)) = IfSome call.old.files (λ files. plan_in files name (stops (plan_refused r)))
-PlanStops name call (outcome.ReadFault input.Plan) = Rose call.before.reads call.now.reads
+PlanStops name call (outcome.Refused (refusal.Plan r)) = IsSome name × IfSome call.old.files (λ files. plan_in files name (stops (plan_refused r)))
+PlanStops name call (outcome.ReadFault input.Plan) = IsSome name × Rose call.before.reads call.now.reads
 PlanStops name call outcome.NoMemory = Unit {0}
 PlanStops name call _ = ⊥
 

@@ -24,6 +24,5 @@ pub fn locate(alloc: Global, module: &Module, plan: &Plan) -> Result<Located, Lo
     ensures light { IfOk result (λ located. weight (absolute_of located) ≤ most_weight «module».now) }
     ensures refused { IfErr result (IsMet (locate_answer («module».now ∷ []) plan.now)) }
 {
-    let _ = (alloc, module, plan);
     Err(LocateRefusal::NoMemory)
 }

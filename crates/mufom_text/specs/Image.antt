@@ -1,5 +1,6 @@
 -- The text of a located image.
 use Rattle.std.specs.Prelude.{ℕ, ◌+◌, ◌%◌, ◌==◌, ◌||◌, Bool, true, false, List, [], ◌∷◌, ◌++◌, flat_map, map, Option, Some, None, unwrap_or, slice_get, codes, if◌then◌else◌, option_to_list}
+use Rattle.std.specs.Int.{bytes_high_first}
 use Rattle.std.specs.Fmt.{decimal}
 use Rattle.hex.specs.Hex.{encode_upper}
 use Rattle.mufom_expr.specs.Tree.{Tree, number, variable, one, two}
@@ -7,7 +8,11 @@ use Rattle.mufom_debug.specs.Marks.{DebugMark, block_begin, block_end, name_mark
 use Rattle.mufom_meaning.specs.declared.located.Run.{Run}
 use Rattle.mufom_meaning.specs.declared.located.PublicValue.{PublicValue}
 use Rattle.mufom_meaning.specs.declared.located.LocatedParts.{LocatedParts}
-use Rattle.mufom_text.specs.Words.{Text, address, each, line, quoted}
+use Rattle.mufom_text.specs.Words.{Text, each, line, quoted}
+
+-- an address in upper-case hexadecimal, two digits for each of the `maus` units
+abbrev pub address : ℕ → ℕ → Text
+address maus a = encode_upper (bytes_high_first maus a)
 
 -- ---- loaded bytes
 

@@ -1,7 +1,6 @@
 -- The words of texts: names, numbers and bytes as they are printed.
 use Rattle.std.specs.Prelude.{ℕ, zero, suc, ◌+◌, ◌==◌, ◌&&◌, not, nat_le, Bool, List, [], ◌∷◌, ◌++◌, flat_map, codes, if◌then◌else◌}
 use Rattle.std.specs.Fmt.{decimal}
-use Rattle.std.specs.Int.{bytes_high_first}
 use Rattle.hex.specs.Hex.{encode_upper}
 -- the texts of the entries of a list, each by its position; from n on
 pub use Rattle.mufom_module.specs.Written.{each, each_from}
@@ -37,7 +36,3 @@ hex_bytes bytes = flat_map (λ b. encode_upper (b ∷ [])) bytes
 abbrev pub indent : ℕ → Text
 indent zero = []
 indent (suc depth) = indent depth ++ codes "  "
-
--- an address in upper-case hexadecimal, two digits for each of the given number of units
-abbrev pub address : ℕ → ℕ → Text
-address maus a = encode_upper (bytes_high_first maus a)

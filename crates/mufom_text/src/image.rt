@@ -6,14 +6,14 @@ ghost use Rattle.mufom_text.specs.Image.{image_text};
 
 use crate::show::PrintStop;
 use mufom_host::Host;
-use mufom_meaning::LocatedParts;
+use mufom_located::Located;
 use std::alloc::Global;
 
 /// Prints the image of a location. (This body only gives up; it stands in for the one that prints.)
 pub fn print_image<H: Host>(
     alloc: Global,
     host: &mut H,
-    located: &LocatedParts,
+    located: &Located,
 ) -> Result<(), PrintStop>
     ensures done { OnOk result (GrowsBy (H.meaning host.old).out (H.meaning host.new).out (image_text located.now)) }
     ensures fault { result ≡ Err PrintStop.Fault
@@ -22,6 +22,5 @@ pub fn print_image<H: Host>(
     ensures unmade { result ≡ Err PrintStop.NoMemory → (H.meaning host.new).out ≡ (H.meaning host.old).out }
     ensures only { OnlyPrints (H.meaning host.old) (H.meaning host.new) (H.faults host.old) (H.faults host.new) }
 {
-    let _ = (alloc, host, located);
     Err(PrintStop::NoMemory)
 }
