@@ -1,5 +1,5 @@
 -- The plan and then the files: what was read, and why not all was.
-use Rattle.std.proofs.Common.{◌≡◌, ℕ, ◌+◌, ◌<◌, ◌≤◌, List, [], ◌∷◌, ◌++◌, length, take, not, Option, Some, None, IfSome, IsSome, OnSome, option_to_list, refl, sym, ap, subst, ◌∙◌, inl, inr, arith}
+use Rattle.std.proofs.Common.{◌≡◌, ℕ, suc, ◌+◌, ◌<◌, ◌≤◌, List, [], ◌∷◌, ◌++◌, length, take, not, Option, Some, None, IfSome, IsSome, OnSome, option_to_list, refl, sym, ap, subst, ◌∙◌, inl, inr, arith}
 use Rattle.std.proofs.lemmas.List.{append-nil, length-append, take_all}
 use Rattle.mufom_host.specs.World.{Faults, Meaning, NamedFile, GrowsBy, KeepsAllButOpened, KeepsAllButReads, OnlyOpens, Rose}
 use Rattle.mufom_module.specs.declared.module.Parts.{Parts}
@@ -29,8 +29,8 @@ known-both P Q None first second = tt
 known-both P Q (Some a) first second = (first, second)
 
 take-after : {T : Type 0} (xs ys : List T) (n : ℕ) → take (length xs + n) (xs ++ ys) ≡ xs ++ take n ys
-take-after [] ys n = refl
-take-after (x ∷ xs) ys n = ap (λ l. x ∷ l) (take-after xs ys n)
+take-after [] ys n = let none : 0 + n ≡ n = omega arith in ap (λ k. take k ys) none
+take-after (x ∷ xs) ys n = let more : length (x ∷ xs) + n ≡ suc (length xs + n) = omega arith in ap (λ k. take k (x ∷ (xs ++ ys))) more ∙ ap (λ l. x ∷ l) (take-after xs ys n)
 
 -- ---- calls of one kind in a row
 
@@ -131,11 +131,10 @@ module _ (c : Command) (old mid : Meaning) (before between : Faults) (only : Onl
     files-stops (outcome.Refused (refusal.InputLimit n)) why opens = record { stop = past_limit n; is = refl; of_inputs = tt; cause = at-files (past_limit n) why }
     files-stops (outcome.ReadFault (input.File n)) (rose, them) opens = (
       (let same = ap (λ (f : Faults). f.reads) only.1 in let later = only.2 in omega (arith, rose, later)),
-      (let exact = opens.exact in let within = opens.within in omega (arith, exact, within)),
-      known-map (λ fs. plan_in fs c.plan (gives plan) × ((ms : List Parts) × ComeTo (not c.no_debug) fs (take n c.files) (accepted ms)))
+      ((let exact = opens.exact in let within = opens.within in omega (arith, exact, within)), known-map (λ fs. plan_in fs c.plan (gives plan) × ((ms : List Parts) × ComeTo (not c.no_debug) fs (take n c.files) (accepted ms)))
       (λ fs. ((p : Plan) × plan_in fs c.plan (gives p)) × ((ms : List Parts) × ComeTo (not c.no_debug) fs (take n c.files) (accepted ms))) old.files (λ fs both. ((plan, both.0), both.1))
       (known-both (λ fs. plan_in fs c.plan (gives plan)) (λ fs. (ms : List Parts) × ComeTo (not c.no_debug) fs (take n c.files) (accepted ms)) old.files is_planned
-      (subst (λ (o : Option (List NamedFile)). IfSome o (λ fs. (ms : List Parts) × ComeTo (not c.no_debug) fs (take n c.files) (accepted ms))) files-same them)),
+      (subst (λ (o : Option (List NamedFile)). IfSome o (λ fs. (ms : List Parts) × ComeTo (not c.no_debug) fs (take n c.files) (accepted ms))) files-same them))),
     )
     files-stops (outcome.ReadFault input.Plan) why opens = absurd why
     files-stops (outcome.Refused (refusal.Plan r)) why opens = absurd why

@@ -9,3 +9,11 @@ pub mod LocatingLaws
 pub mod MakingLaws
 pub mod AnswerLaws
 pub mod Runs
+pub mod LightLaws
+pub mod EndLaws
+pub mod SameWorks
+pub mod StageLaws
+pub mod MadeLaws
+pub mod Determined
+pub mod Headline
+pub mod AddressLaws

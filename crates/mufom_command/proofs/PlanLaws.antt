@@ -6,8 +6,11 @@ use Rattle.mufom_host.specs.World.{Faults, Meaning, NamedFile, GrowsBy, KeepsAll
 use Rattle.mufom_plan.specs.declared.plan.Plan.{Plan}
 use Rattle.mufom_plan.specs.declared.refusal.PlanRefusal.{PlanRefusal}
 use Rattle.mufom_plan.specs.declared.refusal.PlanRefusal.TheVariants.{TooLong, Syntax}
+use Rattle.std.specs.List.{IsDistinct}
+use Rattle.mufom_plan.specs.Names.{AreDistinctNames}
 use Rattle.mufom_plan.specs.Document.{document_of}
 use Rattle.mufom_plan.specs.PlanText.{◌>>=◌, or_refuse, unless, plan_of_document, plan_of_text}
+use Rattle.mufom_image.specs.Placements.{IsSoundPlan}
 use Rattle.mufom_groups.specs.Work.{gives, stops}
 use Rattle.mufom_command.specs.declared.outcome.Input.TheVariants as input
 use Rattle.mufom_command.specs.declared.outcome.Outcome.{Outcome}
@@ -18,6 +21,14 @@ use Rattle.mufom_command.specs.Commands.{plan_by, plan_in}
 use Rattle.mufom_command.specs.FilesRead.{FileHas}
 use Rattle.mufom_command.specs.InputsRead.{IsEnoughOf, IsPlanAnswer, PlanStops, most_plan_bytes}
 use Rattle.mufom_command.proofs.InputLaws.{call_between}
+
+none-twice : AreDistinctNames []
+unfolding IsDistinct
+none-twice = tt
+
+-- the plan without regions has what each plan that is read has
+pub no-regions-sound : IsSoundPlan (record { regions = [] })
+no-regions-sound = record { names = none-twice; regions = omega arith; common = omega arith }
 
 pub on_some : {T : Type 0} (o : Option T) (P : Type 0) → P → OnSome o P
 on_some None P p = tt

@@ -28,7 +28,7 @@ use Rattle.mufom_groups.specs.Work.{Reached, gives, stops, Work, ◌>>=◌, with
 use Rattle.mufom_groups.proofs.Singles.{joined-single, linked-single}
 use Rattle.mufom_groups.proofs.Works.{sure-single, stop_at-single, one_with-single, nowhere-single, stops-single, then-single}
 use Rattle.mufom_command.specs.Stop.{Stop, words_refused, plan_refused, file_refused, past_limit, link_fact, locate_fact}
-use Rattle.mufom_command.specs.Inputs.{Verdict, accepted, refused, past_limit as past, ComeTo}
+use Rattle.mufom_command.specs.Inputs.{HaveOneVerdict, Verdict, accepted, refused, past_limit as past, ComeTo}
 use Rattle.mufom_command.specs.Text.{Text, check_text}
 use Rattle.mufom_command.specs.Commands.{Output, printed, made, prints, writes, file_in, plan_by, plan_in, modules_in, maus_of, located, located_unless, linked_file, absolute_file, printed_image, listing, linking, not_obeyed, work_of, work_by, run_of}
 use Rattle.mufom_command.specs.Run.{AnswersBy, AnswersFor, Call, IsForced, outcome_of, stop_outcome, stop_answer}
@@ -54,11 +54,15 @@ by_verdict files c (stops (plan_refused r)) is = absurd is
 by_verdict files c (stops (link_fact f)) is = absurd is
 by_verdict files c (stops (locate_fact maus f)) is = absurd is
 
-modules_in-single : (files : List NamedFile) → HoldBytes files → (c : Command) → IsSingle (modules_in files c)
+-- files come to one verdict
+pub one-verdict : HaveOneVerdict
+one-verdict = one_verdict (has_one_judgment judgments_exclude_each_other)
+
+pub modules_in-single : (files : List NamedFile) → HoldBytes files → (c : Command) → IsSingle (modules_in files c)
 modules_in-single files bytes c x y is_x is_y =
     let (v, comes_v, is_v) = by_verdict files c x is_x in
     let (w, comes_w, is_w) = by_verdict files c y is_y in
-    let same : v ≡ w = one_verdict (has_one_judgment judgments_exclude_each_other) (not c.no_debug) files c.files v w bytes comes_v comes_w in
+    let same : v ≡ w = one-verdict (not c.no_debug) files c.files v w bytes comes_v comes_w in
     sym is_v ∙ (ap reached_by same ∙ is_w)
 
 -- ---- the outputs
@@ -73,7 +77,7 @@ plan_by-single : (r : Result Plan PlanRefusal) → IsSingle (plan_by r)
 plan_by-single (Ok plan) = sure-single plan
 plan_by-single (Err r) = stop_at-single (plan_refused r)
 
-plan_in-single : (files : List NamedFile) (name : Option (List ℕ)) → IsSingle (plan_in files name)
+pub plan_in-single : (files : List NamedFile) (name : Option (List ℕ)) → IsSingle (plan_in files name)
 plan_in-single files None = sure-single no_regions
 plan_in-single files (Some name) =
     then-single (file_in files name) (λ bytes. plan_by (plan_of_text bytes)) (one_with-single (λ bytes. file_named name files ≡ Some bytes) (λ a b is_a is_b. let same : Some a ≡ Some b = sym is_a ∙ is_b in cc))
@@ -128,7 +132,7 @@ run_of-single words files bytes = by (answer_of words) where
 -- ---- so an answer that has its cause is complete
 
 module _ (call : Call) (files : List NamedFile) (known : call.old.files ≡ Some files) where
-  of-files : (P : List NamedFile → Type 0) → IfSome call.old.files P → P files
+  pub of-files : (P : List NamedFile → Type 0) → IfSome call.old.files P → P files
   of-files P holds = subst (λ (o : Option (List NamedFile)). IfSome o P) known holds
 
   module _ (c : Command) (work : List NamedFile → Work Stop Output) (single : IsSingle (work files)) (reached : Reached Stop Output) (comes : work files reached) where
@@ -144,7 +148,7 @@ module _ (call : Call) (files : List NamedFile) (known : call.old.files ≡ Some
   refused-end s (gives output) comes = absurd comes
   refused-end s (stops t) comes = ap stop_outcome (sym comes)
 
-  complete-by : (r : Result Command WordsStop) → HoldBytes files → (result : Outcome) → AnswersBy r call result → (reached : Reached Stop Output) → work_by r files reached → (result ≡ outcome_of reached) ⊎ IsForced call result
+  pub complete-by : (r : Result Command WordsStop) → HoldBytes files → (result : Outcome) → AnswersBy r call result → (reached : Reached Stop Output) → work_by r files reached → (result ≡ outcome_of reached) ⊎ IsForced call result
   complete-by (Ok c) bytes result is reached comes = complete-for c (λ fs. work_of c.verb fs c) (work_of-single files bytes c c.verb) reached comes result is
   complete-by (Err s) bytes result is reached comes = by is.is where
     by : (result ≡ stop_answer s) ⊎ (result ≡ outcome.NoMemory) → (result ≡ outcome_of reached) ⊎ IsForced call result

@@ -135,12 +135,12 @@ RunsOfStages =
 
 -- the output is the file of a module that stands for the list
 pub record IsFileOfLink (c : Command) (flat : List Parts) (output : Output) : Type 0 where
-  pub module : Parts
+  pub link : Parts
   pub name : List ℕ
   pub file : c.out ≡ Some name
-  pub bytes : output ≡ made name (written module)
-  pub joined : IsJoined module flat (unwrap_or c.name (first_name flat))
-  pub stands : StandsFor module flat
+  pub bytes : output ≡ made name (written link)
+  pub joined : IsJoined link flat (unwrap_or c.name (first_name flat))
+  pub stands : StandsFor link flat
 
 -- What is put out by a link is the file of a module that stands for the flat list, in every context.
 abbrev pub LinkedFilesStand : Type 0

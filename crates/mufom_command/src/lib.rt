@@ -22,12 +22,8 @@ mod plan_file;
 mod writing;
 
 pub use command::run;
-pub use laws::files_have_one_verdict;
+pub use laws::{
+    absolute_files_stand, answers_are_determined, files_have_one_verdict, linked_files_stand,
+    locating_is_done, runs_are_single, runs_of_stages, stages_make_no_difference,
+};
 pub use outcome::{Input, Outcome, Refusal};
-
-#[cfg(test)]
-mod check_tests;
-#[cfg(test)]
-mod show_tests;
-#[cfg(test)]
-mod tests;

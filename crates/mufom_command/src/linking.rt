@@ -3,6 +3,7 @@
 ghost use Rattle.std.specs.Prelude.{◌≡◌, ◌≤◌, ◌<◌, ◌+◌, ◌^◌, ◌∷◌, [], ℕ, length, None, Some, List as list, IfErr, IfOk, IsSome};
 ghost use Rattle.mufom_host.specs.World.{OnlyPrints};
 ghost use Rattle.mufom_names.specs.Names.{names_of, AreDistinct};
+ghost use Rattle.mufom_module.specs.Defects.{IsValid};
 ghost use Rattle.mufom_module.specs.Written.{weight, written};
 ghost use Rattle.mufom_meaning.specs.declared.located.LocatedParts.{LocatedParts};
 ghost use Rattle.mufom_meaning.specs.Absolute.{absolute_of};
@@ -58,11 +59,15 @@ fn outcome_of_locate(maus: u8, refusal: LocateRefusal) -> Outcome
 fn linked(alloc: Global, command: &Command, modules: List<Module>) -> Result<Module, Outcome>
     requires { AreLinkable command.now modules }
     ensures ok { IfOk result (λ M. linked_module command.now modules (gives M)) }
+    ensures valid { IfOk result (λ M. IsValid M) }
     ensures light { IfOk result (λ M. weight M < most_weight + 2 ^ 16) }
     ensures stops { IfErr result (EndsAt (with_stops link_fact (linked_module command.now modules))) }
 {
     match link_modules(alloc, command, modules) {
-        Ok(entry) => Ok(entry),
+        Ok(entry) => {
+            let _ = entry.parts();
+            Ok(entry)
+        }
         Err(refusal) => Err(outcome_of_link(refusal)),
     }
 }

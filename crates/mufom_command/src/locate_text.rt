@@ -1,6 +1,7 @@
 //! The texts of refusals of locating.
 
 ghost use Rattle.std.specs.Prelude.{◌≡◌, ◌++◌, IfOk, OnOk};
+ghost use Rattle.std.specs.Fmt.{decimal};
 ghost use Rattle.std.specs.Int.{byte_at, bytes_high_first};
 ghost use Rattle.mufom_text.specs.Image.{address};
 ghost use Rattle.mufom_text.specs.Show.{kind_text};
@@ -47,12 +48,53 @@ fn push_address(alloc: Global, text: &mut Vec<u8>, maus: u8, at: u64) -> Result<
     Ok(())
 }
 
+// Adds words and a number.
+fn push_number(
+    alloc: Global,
+    text: &mut Vec<u8>,
+    words: &[u8],
+    number: u32,
+) -> Result<(), NoMemory>
+    ensures { OnOk result (text.new.items ≡ text.old.items ++ (words.now ++ decimal number)) }
+{
+    text.extend_from_slice(words)?;
+    text.extend_from_slice(format!(in alloc; "{number}")?.as_bytes())?;
+    Ok(())
+}
+
+// Adds words and an address.
+fn push_at(
+    alloc: Global,
+    text: &mut Vec<u8>,
+    words: &[u8],
+    maus: u8,
+    at: u64,
+) -> Result<(), NoMemory>
+    ensures { OnOk result (text.new.items ≡ text.old.items ++ (words.now ++ address maus at)) }
+{
+    text.extend_from_slice(words)?;
+    push_address(alloc, text, maus, at)
+}
+
 // Adds a name in double quotes.
 fn push_quoted(alloc: Global, text: &mut Vec<u8>, name: &Bytes) -> Result<(), NoMemory>
     ensures { OnOk result (text.new.items ≡ text.old.items ++ quoted_text name.now) }
 {
     text.extend_from_slice(quoted(alloc, name.as_slice())?.as_slice())?;
     Ok(())
+}
+
+// Adds words and a name in double quotes.
+fn push_named(
+    alloc: Global,
+    text: &mut Vec<u8>,
+    words: &str,
+    name: &Bytes,
+) -> Result<(), NoMemory>
+    ensures { OnOk result (text.new.items ≡ text.old.items ++ (words.now ++ quoted_text name.now)) }
+{
+    text.extend_from_slice(words.as_bytes())?;
+    push_quoted(alloc, text, name)
 }
 
 /// Adds the number of a region, where there is one.
@@ -63,10 +105,10 @@ pub(crate) fn push_region(
 ) -> Result<(), NoMemory>
     ensures { OnOk result (text.new.items ≡ text.old.items ++ region_text region) }
 {
-    if let Some(region) = region {
-        text.extend_from_slice(format!(in alloc; " region {region}")?.as_bytes())?;
+    match region {
+        Some(region) => push_number(alloc, text, b" region ", region),
+        None => Ok(()),
     }
-    Ok(())
 }
 
 // Adds the text of sections that can't be placed.
@@ -74,18 +116,14 @@ fn push_place(alloc: Global, text: &mut Vec<u8>, refusal: PlaceRefusal) -> Resul
     ensures { OnOk result (text.new.items ≡ text.old.items ++ place_text refusal) }
 {
     match refusal {
-        PlaceRefusal::Unplaced(section) => {
-            text.extend_from_slice(format!(in alloc; "Unplaced section {section}")?.as_bytes())?;
-            Ok(())
-        }
+        PlaceRefusal::Unplaced(section) => push_number(alloc, text, b"Unplaced section ", section),
         PlaceRefusal::Misfit { section, region } => {
-            text.extend_from_slice(format!(in alloc; "Misfit section {section}")?.as_bytes())?;
+            push_number(alloc, text, b"Misfit section ", section)?;
             push_region(alloc, text, region)
         }
         PlaceRefusal::Overlap(first, other) => {
-            let pair = format!(in alloc; "Overlap section {first} section {other}")?;
-            text.extend_from_slice(pair.as_bytes())?;
-            Ok(())
+            push_number(alloc, text, b"Overlap section ", first)?;
+            push_number(alloc, text, b" section ", other)
         }
         PlaceRefusal::NoMemory => Err(NoMemory),
     }
@@ -101,25 +139,15 @@ fn push_site(
     ensures { OnOk result (text.new.items ≡ text.old.items ++ site_text maus site.now) }
 {
     match site {
-        Site::Public(name) => {
-            text.extend_from_slice(b"public ")?;
-            push_quoted(alloc, text, name)?;
-        }
-        Site::Counter(section) => {
-            let counter = format!(in alloc; "counter of section {section}")?;
-            text.extend_from_slice(counter.as_bytes())?;
-        }
+        Site::Public(name) => push_named(alloc, text, "public ", name),
+        Site::Counter(section) => push_number(alloc, text, b"counter of section ", *section),
         Site::Field { section, address } => {
-            text.extend_from_slice(b"field at ")?;
-            push_address(alloc, text, maus, *address)?;
-            text.extend_from_slice(format!(in alloc; " in section {section}")?.as_bytes())?;
+            push_at(alloc, text, b"field at ", maus, *address)?;
+            push_number(alloc, text, b" in section ", *section)
         }
-        Site::Start => text.extend_from_slice(b"start")?,
-        Site::Debug(number) => {
-            text.extend_from_slice(format!(in alloc; "debug {number}")?.as_bytes())?;
-        }
+        Site::Start => Ok(text.extend_from_slice(b"start")?),
+        Site::Debug(number) => push_number(alloc, text, b"debug ", *number),
     }
-    Ok(())
 }
 
 // The word of a kind of field.
@@ -131,33 +159,6 @@ fn kind_name(kind: FieldKind) -> &'static str
         FieldKind::Unsigned => "unsigned",
         FieldKind::Either => "either",
     }
-}
-
-// Adds the text of a refusal that names a public or a reference.
-fn push_named(
-    alloc: Global,
-    text: &mut Vec<u8>,
-    word: &str,
-    name: &Bytes,
-) -> Result<(), NoMemory>
-    ensures { OnOk result (text.new.items ≡ text.old.items ++ (word.now ++ quoted_text name.now)) }
-{
-    text.extend_from_slice(word.as_bytes())?;
-    push_quoted(alloc, text, name)
-}
-
-// Adds the text of a refusal that names an address.
-fn push_at(
-    alloc: Global,
-    text: &mut Vec<u8>,
-    words: &[u8],
-    maus: u8,
-    at: u64,
-) -> Result<(), NoMemory>
-    ensures { OnOk result (text.new.items ≡ text.old.items ++ (words.now ++ address maus at)) }
-{
-    text.extend_from_slice(words)?;
-    push_address(alloc, text, maus, at)
 }
 
 /// Adds the text of a refusal of locating, in which an address has `maus` units.
@@ -185,15 +186,16 @@ pub(crate) fn push_locate(
             size,
             value,
         } => {
-            let begin = format!(in alloc; "Overflow section {section} at ")?;
-            push_at(alloc, text, begin.as_bytes(), maus, *address)?;
-            let kind = kind_name(*kind);
-            let value_words = format!(in alloc; " {kind} {size} value ")?;
-            push_at(alloc, text, value_words.as_bytes(), maus, *value)
+            push_number(alloc, text, b"Overflow section ", *section)?;
+            push_at(alloc, text, b" at ", maus, *address)?;
+            text.push(b' ')?;
+            text.extend_from_slice(kind_name(*kind).as_bytes())?;
+            push_number(alloc, text, b" ", u32::from(*size))?;
+            push_at(alloc, text, b" value ", maus, *value)
         }
         LocateRefusal::LoadOutside { section, address } => {
-            let begin = format!(in alloc; "LoadOutside section {section} at ")?;
-            push_at(alloc, text, begin.as_bytes(), maus, *address)
+            push_number(alloc, text, b"LoadOutside section ", *section)?;
+            push_at(alloc, text, b" at ", maus, *address)
         }
         LocateRefusal::LoadedTwice(address) => push_at(alloc, text, b"LoadedTwice ", maus, *address),
         LocateRefusal::ImageLimit(count) => {
