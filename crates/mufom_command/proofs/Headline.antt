@@ -4,13 +4,12 @@ use Rattle.mufom_host.specs.World.{HoldBytes, NamedFile}
 use Rattle.mufom_words.specs.declared.command.Command.{Command}
 use Rattle.mufom_words.specs.declared.command.Verb.{Verb}
 use Rattle.mufom_words.specs.declared.command.Verb.TheVariants as verb
-use Rattle.mufom_words.specs.declared.form.Form.{Form}
 use Rattle.mufom_words.specs.declared.stop.WordsStop.{WordsStop}
-use Rattle.mufom_words.specs.Answer.{answer_for, answer_of}
-use Rattle.mufom_words.specs.Options.{Text, form_of, makes_file, makes_modules}
+use Rattle.mufom_words.specs.Answer.{answer_of}
+use Rattle.mufom_words.specs.Options.{makes_file, makes_modules}
 use Rattle.mufom_words.specs.Sound.{IsSound, numbers_from}
 use Rattle.mufom_words.specs.Tree.{leaves, tree_of}
-use Rattle.mufom_words.proofs.Sound.{commands-sound}
+use Rattle.mufom_words.proofs.Sound.{words-sound}
 use Rattle.mufom_module.specs.declared.module.Parts.{Parts}
 use Rattle.mufom_module.specs.Written.{written}
 use Rattle.mufom_plan.specs.declared.plan.Plan.{Plan}
@@ -74,15 +73,7 @@ first-some (m ∷ ms) rest ns (suc count) same some more = λ is_empty.
     let first : members_at (m ∷ ms) (numbers_from 0 (suc count)) ++ rest ≡ [] = subst (λ (l : List ℕ). members_at (m ∷ ms) l ++ rest ≡ []) same is_empty in
     let bad : m ∷ (members_at (m ∷ ms) (numbers_from 1 count) ++ rest) ≡ [] = first in cc
 
--- ---- the command of words
-
-sound-by : (words : List Text) (f : Option Form) (c : Command) → answer_for f words ≡ Ok c → IsSound c
-sound-by words None c named = absurd cc
-sound-by words (Some f) c named = commands-sound f words c named
-
-pub words-sound : (words : List Text) (c : Command) → answer_of words ≡ Ok c → IsSound c
-words-sound [] c named = absurd cc
-words-sound (word ∷ words) c named = sound-by (word ∷ words) (form_of word) c named
+-- ---- the flat list is not empty
 
 no-modules : (v : Verb) → IsLocating v → makes_modules v ≡ false
 no-modules verb.Show never = absurd never

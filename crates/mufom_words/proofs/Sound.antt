@@ -25,7 +25,7 @@ use Rattle.mufom_words.specs.declared.stop.WordsStop.{WordsStop}
 use Rattle.mufom_words.specs.Options.{Text, Usage, Given, usage_of, app_for, form_of, takes, id_of, given_by, makes_file, makes_modules, names_module, reads_plan, is_obeyed, takes_one_file}
 use Rattle.mufom_words.specs.Operands.{word_of, file_words, is_name, names_in, operands_fault, number_fault, count_fault, count_of, is_digit, decimal_number, most_modules, number_of, files_of, marks_of, depth_of}
 use Rattle.mufom_words.specs.Tree.{tree_of, leaves}
-use Rattle.mufom_words.specs.Answer.{◌or_else◌, most_files, longest_name, options_fault, name_fault, out_fault, usage_fault, limit_stop, limit_stop_by, usage, words_stop, command_by, unless_stopped, answer_for, given}
+use Rattle.mufom_words.specs.Answer.{◌or_else◌, most_files, longest_name, options_fault, name_fault, out_fault, usage_fault, limit_stop, limit_stop_by, usage, words_stop, command_by, unless_stopped, answer_for, answer_of, given}
 use Rattle.mufom_words.specs.Sound.{numbers_from, IsSound, IsObeyed, CommandsAreSound}
 use Rattle.mufom_words.proofs.TreeOfWords.{tree_count, count-some, count-some-plain, length-numbers_from, IsTreeOf, tree-of-words, tree-of-plain}
 
@@ -236,6 +236,15 @@ pub commands-sound : CommandsAreSound
 commands-sound f words c e =
     let fine = accepted (words_stop (usage_of f) (fault_of (app_for f) words) (given f words)) (command_by (usage_of f) (given f words)) c e in
     subst IsSound fine.1 (sound_by f (matches_of (app_for f) words) (accepted_by (usage_of f) (fault_of (app_for f) words) (given f words) fine.0))
+
+sound-by : (words : List Text) (f : Option Form) (c : Command) → answer_for f words ≡ Ok c → IsSound c
+sound-by words None c named = absurd cc
+sound-by words (Some f) c named = commands-sound f words c named
+
+-- so is the command of words
+pub words-sound : (words : List Text) (c : Command) → answer_of words ≡ Ok c → IsSound c
+words-sound [] c named = absurd cc
+words-sound (word ∷ words) c named = sound-by (word ∷ words) (form_of word) c named
 
 -- ---- the obeyed ones
 

@@ -15,8 +15,8 @@ returns-in-Err g c =
     stopped-does command (λ files. linking printed_image files command) (g.H.World.meaning c.args.host.now) (g.H.World.meaning c.read_inputs.new.host) (g.H.World.faults c.args.host.now) (g.H.World.faults c.read_inputs.new.host) read.only
     (linking-begins printed_image command) c.in-Err.stop read.stops read.opened
 
-pub returns : goal.returns
-returns g c =
+pub returns-in-Err-location : goal.returns-in-Err-location
+returns-in-Err-location g c =
     let read = c.in-Ok.ensures in let command = c.args.command.now in let inputs = c.in-Ok.inputs in
     ends-does command inputs.plan inputs.modules (λ files. linking printed_image files command) (location_of command inputs.plan inputs.modules) (g.H.World.meaning c.args.host.now) (g.H.World.meaning c.read_inputs.new.host) (g.H.World.faults c.args.host.now) (g.H.World.faults c.read_inputs.new.host)
     read.only read.all read.read (λ fs is s ends. image-stops command inputs.plan inputs.modules fs is s ends) c.in-Err-location.stop c.in-Err-location.ensures.stops

@@ -17,8 +17,8 @@ returns-in-Err g c =
     stopped-does command (λ files. linking absolute_file files command) (g.H.World.meaning c.args.host.now) (g.H.World.meaning c.read_inputs.new.host) (g.H.World.faults c.args.host.now) (g.H.World.faults c.read_inputs.new.host) read.only
     (linking-begins absolute_file command) c.in-Err.stop read.stops read.opened
 
-pub returns : goal.returns
-returns g c =
+pub returns-in-Err-absolute_module : goal.returns-in-Err-absolute_module
+returns-in-Err-absolute_module g c =
     let read = c.in-Ok.ensures in let command = c.args.command.now in let inputs = c.in-Ok.inputs in
     ends-does command inputs.plan inputs.modules (λ files. linking absolute_file files command) (location_of command inputs.plan inputs.modules) (g.H.World.meaning c.args.host.now) (g.H.World.meaning c.read_inputs.new.host) (g.H.World.faults c.args.host.now) (g.H.World.faults c.read_inputs.new.host)
     read.only read.all read.read (λ fs is s ends. absolute-stops command inputs.plan inputs.modules fs is s ends) c.in-Err-absolute_module.stop c.in-Err-absolute_module.ensures.stops
