@@ -1,6 +1,6 @@
 -- A run comes to one end at most, since each of its parts does.
 use Rattle.std.proofs.Common.{◌≡◌, ◌⊎◌, ℕ, List, [], ◌∷◌, ◌++◌, Option, Some, None, Result, Ok, Err, IfSome, not, unwrap_or, refl, sym, ap, subst, ◌∙◌, flat_map, inl, inr}
-use Rattle.mufom_host.specs.World.{NamedFile, file_named}
+use Rattle.mufom_host.specs.World.{HoldBytes, NamedFile, file_named}
 use Rattle.mufom_words.specs.declared.command.Command.{Command}
 use Rattle.mufom_words.specs.declared.command.Verb.{Verb}
 use Rattle.mufom_words.specs.declared.command.Verb.TheVariants as verb
@@ -18,7 +18,7 @@ use Rattle.mufom_groups.specs.Work.{Reached, gives, stops, Work, ◌>>=◌, with
 use Rattle.mufom_groups.proofs.Singles.{linked_module-single}
 use Rattle.mufom_groups.proofs.Works.{sure-single, stop_at-single, one_with-single, nowhere-single, stops-single, then-single}
 use Rattle.mufom_command.specs.Stop.{Stop, words_refused, file_refused, past_limit, link_fact}
-use Rattle.mufom_command.specs.Inputs.{Verdict, accepted, refused, past_limit as past, ComeTo, HoldBytes}
+use Rattle.mufom_command.specs.Inputs.{Verdict, accepted, refused, past_limit as past, ComeTo}
 use Rattle.mufom_command.specs.Plain.{Image, IsPlainModule}
 use Rattle.mufom_command.specs.Text.{Text, check_text, dump_text}
 use Rattle.mufom_command.specs.Commands.{Output, printed, made, prints, writes, modules_in, listing, linking, only_file, plain_image, plain_dump, not_obeyed, work_of, work_by, run_of}

@@ -5,13 +5,13 @@ use Rattle.std.proofs.lemmas.List.{take_all}
 use Rattle.std.proofs.lemmas.List.Sums.{sum_by-append, sum_by-cons}
 use Rattle.mufom_numbers.specs.declared.reason.Reason.{Reason}
 use Rattle.mufom_numbers.proofs.SpellingLaws.{AreBytes-take}
-use Rattle.mufom_host.specs.World.{NamedFile, file_named}
+use Rattle.mufom_host.specs.World.{HoldBytes, NamedFile, file_named}
 use Rattle.mufom_module.specs.declared.module.Parts.{Parts}
 use Rattle.mufom_read.specs.declared.refusal.ReadRefusal.{ReadRefusal}
 use Rattle.mufom_read.specs.Judging.{IsJudged, IsModule, module_of, refusal}
 use Rattle.mufom_read.specs.Laws.{HasOneJudgment}
 use Rattle.mufom_read.specs.Source.{IsPastLimit, IsRefusedWithin}
-use Rattle.mufom_command.specs.Inputs.{AreAccepted, AreModules, ComeTo, HaveBytes, HaveOneVerdict, HoldBytes, StopsAt, Verdict, accepted, past_limit, refused, room_after}
+use Rattle.mufom_command.specs.Inputs.{AreAccepted, AreModules, ComeTo, HaveBytes, HaveOneVerdict, StopsAt, Verdict, accepted, past_limit, refused, room_after}
 
 -- ---- lists with a name in two places
 

@@ -1,7 +1,7 @@
 -- What the contract of the top call states: the answer and its cause, what was put out, which inputs were opened, and which error line was
 -- printed.
 use Rattle.std.specs.Prelude.{◌≡◌, ◌⊎◌, ℕ, ◌+◌, ◌<◌, ◌≤◌, not, List, [], ◌∷◌, ◌++◌, length, take, Option, Some, None, Result, Ok, Err, IfSome, OnSome}
-use Rattle.mufom_host.specs.World.{Meaning, Faults, NamedFile, Rose, GrowsBy, GrowsByPrefix}
+use Rattle.mufom_host.specs.World.{Meaning, Faults, HoldBytes, NamedFile, Rose, GrowsBy, GrowsByPrefix}
 use Rattle.mufom_module.specs.declared.module.Parts.{Parts}
 use Rattle.mufom_words.specs.declared.command.Command.{Command}
 use Rattle.mufom_words.specs.declared.stop.WordsStop.{WordsStop}
@@ -13,7 +13,7 @@ use Rattle.mufom_command.specs.declared.outcome.Outcome.{Outcome}
 use Rattle.mufom_command.specs.declared.outcome.Outcome.TheVariants as outcome
 use Rattle.mufom_command.specs.declared.outcome.Refusal.TheVariants as refusal
 use Rattle.mufom_command.specs.Complaint.{complaint}
-use Rattle.mufom_command.specs.Inputs.{ComeTo, accepted, HoldBytes}
+use Rattle.mufom_command.specs.Inputs.{ComeTo, accepted}
 use Rattle.mufom_groups.specs.Refusals.{link_refusal}
 use Rattle.mufom_groups.specs.Work.{Reached, gives, stops, Work}
 use Rattle.mufom_command.specs.Stop.{Stop, words_refused, file_refused, past_limit, link_fact}

@@ -2,6 +2,7 @@ pub mod World
 pub mod Spans
 pub mod Counts
 pub mod Real
+pub mod Revealed
 pub mod Memory
 pub mod Kept
 pub mod KeptNames

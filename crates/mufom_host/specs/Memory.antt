@@ -1,6 +1,7 @@
 -- A host in memory: what stands in it, exactly which of its calls fail, and what each call leaves.
 use Rattle.std.specs.Prelude.{ℕ, ◌+◌, min, nat_lt, Bool, not, ◌||◌, if◌then◌else◌, List, [], ◌++◌, length, drop, Option, Some, None, is_some}
 use Rattle.mufom_host.specs.World.{NamedFile, Meaning, Faults, one_more, optional, with_bytes}
+use Rattle.mufom_host.specs.Revealed.{revealed}
 use Rattle.mufom_host.specs.Kept.{names_with, has_file, is_listed, bytes_after, has_any, passes_file}
 
 pub record Memory : Type 0 where
@@ -43,11 +44,11 @@ fresh files fail_reads fail_writes room = record {
   write_number = 0;
 }
 
--- a host in memory reveals all
+-- a host in memory reveals all; its files hold bytes
 abbrev pub memory_meaning : Memory → Meaning
 memory_meaning m = record {
   left = Some m.left;
-  files = Some m.files;
+  files = revealed m.files;
   making = Some m.making;
   made = Some m.made;
   out = Some m.out;

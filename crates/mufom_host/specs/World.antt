@@ -1,6 +1,7 @@
 -- What stands outside, as far as it is known, and what each call does to it.
 use Rattle.std.specs.Prelude.{◌≡◌, ◌⊎◌, ℕ, ◌+◌, ◌-◌, ◌^◌, ◌<◌, ◌≤◌, min, List, [], ◌∷◌, ◌++◌, length, take, drop, Option, Some, None, Result, Ok, Err, OnOk, OnErr, IfOk, IfSome, IsSome, OnSome, option_map, find}
 use Rattle.std.specs.Str.{bytes_eq}
+use Rattle.mufom_numbers.specs.Spelling.{AreBytes}
 use Rattle.mufom_host.specs.declared.world.Failed.{Failed}
 
 -- a file by its name and bytes
@@ -25,10 +26,20 @@ pub record Meaning : Type 0 where
   pub opened : Option (List (List ℕ))
   pub created : Option (List (List ℕ))
 
--- a host that reveals the files reveals what is left, and one that reveals the finished files reveals the one being made
+-- the bytes of the first file with this name
+abbrev pub file_named : List ℕ → List NamedFile → Option (List ℕ)
+file_named name files = option_map (λ f. f.1) (find (λ f. bytes_eq f.0 name) files)
+
+-- each file that is there holds bytes
+abbrev pub HoldBytes : List NamedFile → Type 0
+HoldBytes files = (name bytes : List ℕ) → file_named name files ≡ Some bytes → AreBytes bytes
+
+-- A host that reveals the files reveals what is left, and one that reveals the finished files reveals the one being made. The files that
+-- it reveals hold bytes.
 pub record RevealsTogether (meaning : Meaning) : Type 0 where
   pub left : IsSome meaning.files → IsSome meaning.left
   pub making : IsSome meaning.made → IsSome meaning.making
+  pub bytes : IfSome meaning.files HoldBytes
 
 -- how often reads, writes and prints of errors failed
 pub record Faults : Type 0 where
@@ -123,10 +134,6 @@ Writes before after (Err e) chunk = MakingGrowsByPrefix before after chunk
 abbrev pub WritesAll : Option (Option NamedFile) → Option (Option NamedFile) → Result (Unit {0}) Failed → List ℕ → Type 0
 WritesAll before after (Ok done) bytes = MakingGrowsBy before after bytes
 WritesAll before after (Err e) bytes = MakingGrowsByPrefix before after bytes
-
--- the bytes of the first file with this name
-abbrev pub file_named : List ℕ → List NamedFile → Option (List ℕ)
-file_named name files = option_map (λ f. f.1) (find (λ f. bytes_eq f.0 name) files)
 
 -- the list of names grows by the name; on a failure it may be known no longer
 abbrev pub NamesGrow : Option (List (List ℕ)) → Option (List (List ℕ)) → Result (Unit {0}) Failed → List ℕ → Type 0

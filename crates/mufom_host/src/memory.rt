@@ -135,12 +135,13 @@ impl MemHost {
 impl World for MemHost {
     ghost use Rattle.std.specs.Prelude.{refl};
     ghost use Rattle.mufom_host.specs.Memory.{memory_meaning, memory_faults};
+    ghost use Rattle.mufom_host.specs.Revealed.{revealed-bytes};
 
     ghost meaning = { memory_meaning };
 
     ghost faults = { memory_faults };
 
-    ghost together = { λ m. record { left = λ _. refl; making = λ _. refl } };
+    ghost together = { λ m. record { left = λ _. refl; making = λ _. refl; bytes = revealed-bytes m.files } };
 }
 
 impl Source for MemHost {

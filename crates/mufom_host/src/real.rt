@@ -43,7 +43,7 @@ impl World for RealHost {
 
     ghost faults = { λ host. host };
 
-    ghost together = { λ host. record { left = λ known. known; making = λ known. known } };
+    ghost together = { λ host. record { left = λ known. known; making = λ known. known; bytes = tt } };
 }
 
 impl RealHost {

@@ -10,8 +10,8 @@ pub struct Failed;
 /// It has no calls, so that a reader over [`Source`] alone and a writer over [`Sink`] alone can state
 /// what stays. A call leaves each part and each count that its own clauses do not name, after `Ok`
 /// and after `Failed`. A part that is known stays known, but for the names of files after a failed
-/// [`open`](Host::open) or [`create`](Host::create). The counts never fall; one that stands at the
-/// last `u64` is stated to have risen all the same.
+/// [`open`](Host::open) or [`create`](Host::create). Files that are known hold bytes. The counts
+/// never fall; one that stands at the last `u64` is stated to have risen all the same.
 pub trait World {
     ghost meaning: { Self → Meaning };
 

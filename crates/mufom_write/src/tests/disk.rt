@@ -67,7 +67,7 @@ impl World for Disk {
 
     ghost faults = { λ disk. record { reads = 0; writes = disk.faults; complaints = 0 } };
 
-    ghost together = { λ disk. record { left = λ known. known; making = λ known. known } };
+    ghost together = { λ disk. record { left = λ known. known; making = λ known. known; bytes = tt } };
 }
 
 impl Sink for Disk {
