@@ -3,3 +3,6 @@ pub mod Chains
 pub mod Words
 pub mod Show
 pub mod Terms
+pub mod Image
+pub mod Addresses
+pub mod Fitting
