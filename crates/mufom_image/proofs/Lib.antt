@@ -1,0 +1,4 @@
+pub mod SizeLaws
+pub mod PlaceLaws
+pub mod RoomLaws
+pub mod PlacedLaws

@@ -1,0 +1,3 @@
+pub mod Placements
+pub mod Refusals
+pub mod Rooms
