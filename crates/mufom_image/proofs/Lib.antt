@@ -1,0 +1,4 @@
+pub mod MetLaws
+pub mod ReadyLaws
+pub mod EntryLaws
+pub mod PlannedLaws

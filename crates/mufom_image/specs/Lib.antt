@@ -1,0 +1,4 @@
+pub mod Placements
+pub mod Refusals
+pub mod Stages
+pub mod Entries
