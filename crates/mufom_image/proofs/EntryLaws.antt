@@ -1,13 +1,10 @@
 -- The entries with their values are those of the location, where each expression has a value.
-use Rattle.std.proofs.Common.{◌≡◌, ◌≢◌, ℕ, ◌+◌, ◌*◌, ◌^◌, ◌≤◌, inl, inr, List, [], ◌∷◌, ◌++◌, map, length, Option, Some, None, refl, sym, ◌∙◌, ap, subst, append-nil, arith}
+use Rattle.std.proofs.Common.{◌≡◌, ◌≢◌, ◌*◌, ◌^◌, ◌≤◌, inl, inr, List, [], ◌∷◌, map, length, Option, Some, None, refl, sym, ◌∙◌, ap, subst, append-nil, arith}
 use Rattle.std.specs.Prelude.{filter, option_map, option_to_list}
 use Rattle.mufom_expr.specs.Tree.{Tree}
-use Rattle.mufom_debug.specs.Marks.{DebugMark, marks_of, expressions_of}
+use Rattle.mufom_debug.specs.Marks.{marks_of, expressions_of}
 use Rattle.mufom_names.specs.declared.name.Public.{Public}
-use Rattle.mufom_names.specs.declared.name.Reference.{Reference}
 use Rattle.mufom_names.specs.Names.{names_of, AreDistinct}
-use Rattle.mufom_sections.specs.declared.section.Section.{Section}
-use Rattle.mufom_loads.specs.Lengths.{lengths_loaded}
 use Rattle.mufom_module.specs.declared.module.Order.{Order}
 use Rattle.mufom_module.specs.declared.module.Parts.{Parts}
 use Rattle.mufom_module.specs.Defects.{IsValid}
@@ -19,26 +16,23 @@ use Rattle.mufom_meaning.specs.declared.located.Run.{Run}
 use Rattle.mufom_meaning.specs.Absolute.{absolute_of}
 use Rattle.mufom_meaning.specs.AddressMap.{AreRowsOf, address_map}
 use Rattle.mufom_meaning.specs.Bases.{Bases}
-use Rattle.mufom_meaning.specs.Counts.{loaded_total}
-use Rattle.mufom_meaning.specs.Flat.{Sited, SitedPublic, sited, flat_publics, is_common}
-use Rattle.mufom_meaning.specs.LinkAnswer.{link_answer}
+use Rattle.mufom_meaning.specs.Flat.{Sited, sited, flat_publics, is_common}
 use Rattle.mufom_meaning.specs.LocateAnswer.{locate_answer}
-use Rattle.mufom_meaning.specs.Location.{IsLocation, Header, first_header, located_sections, located_public, located_mark}
+use Rattle.mufom_meaning.specs.Location.{IsLocation, Header, located_sections, located_public, located_mark}
 use Rattle.mufom_meaning.specs.LocationLaws.{AbsoluteWeighs, asking_count}
 use Rattle.mufom_meaning.specs.Placed.{planned_bases}
-use Rattle.mufom_meaning.specs.Readings.{readings, PublicReading, public_reading, mark_reading}
-use Rattle.mufom_meaning.specs.Stands.{StandsIn}
+use Rattle.mufom_meaning.specs.Readings.{readings, public_reading, mark_reading}
 use Rattle.mufom_meaning.specs.Valued.{HaveValues}
 use Rattle.mufom_meaning.specs.Values.{Setting, setting, value}
-use Rattle.mufom_meaning.specs.Walk.{SitedTree, start_trees, debug_trees}
+use Rattle.mufom_meaning.specs.Walk.{start_trees, debug_trees}
 use Rattle.mufom_meaning.proofs.Choices.{some_same}
-use Rattle.mufom_meaning.proofs.Members.{In, at-In, In-at, In-map, In-flat_map}
+use Rattle.mufom_meaning.proofs.Members.{In, at-In, In-map, In-flat_map}
 use Rattle.mufom_meaning.proofs.Unfolding.{readings-publics, readings-starts, readings-debug}
 use Rattle.mufom_meaning.proofs.values.ValueLaws.{values_exist}
-use Rattle.mufom_image_values.specs.Evaluated.{alone, setting_of}
+use Rattle.mufom_image_values.specs.Evaluated.{alone}
 use Rattle.mufom_image_values.proofs.MentionLaws.{sit, flat-alone}
 use Rattle.mufom_image_entries.specs.declared.valued.ValuedModule.{ValuedModule}
-use Rattle.mufom_image_entries.specs.Valued.{parts_of, value_of, valued_mark, valued_public}
+use Rattle.mufom_image_entries.specs.Valued.{parts_of, valued_mark}
 use Rattle.mufom_image_entries.proofs.LocatedLaws.{or_zero, has-value, located-marks}
 use Rattle.mufom_image.specs.Entries.{HasEntries, AreRuns}
 use Rattle.mufom_image.specs.Stages.{IsPlannedBy, bases_of, most_weight}

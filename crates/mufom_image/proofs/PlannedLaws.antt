@@ -1,20 +1,17 @@
 -- A module that stands where a plan puts it: what is known of the module, of it as it is placed.
-use Rattle.std.proofs.Common.{◌≡◌, ℕ, List, [], ◌∷◌, length, take, drop, Option, Some, None, refl, sym, ◌∙◌, ap, subst}
+use Rattle.std.proofs.Common.{◌≡◌, ℕ, List, [], ◌∷◌, length, take, drop, None, sym, ◌∙◌, ap, subst}
 use Rattle.std.specs.Prelude.{option_map}
 use Rattle.mufom_names.specs.Names.{names_of, AreDistinct}
 use Rattle.mufom_sections.specs.declared.section.Section.{Section}
 use Rattle.mufom_module.specs.declared.module.Parts.{Parts}
-use Rattle.mufom_module.specs.Defects.{IsValid}
 use Rattle.mufom_plan.specs.declared.plan.Plan.{Plan}
 use Rattle.mufom_meaning.specs.declared.located.LocatedParts.{LocatedParts}
 use Rattle.mufom_meaning.specs.declared.located.Run.{Run}
 use Rattle.mufom_meaning.specs.Bases.{Bases}
-use Rattle.mufom_place.specs.Facts.{place_refusal}
-use Rattle.mufom_meaning.specs.Facts.{LocateFact, placement}
-use Rattle.mufom_meaning.specs.Flat.{flat_sections, width}
+use Rattle.mufom_meaning.specs.Facts.{placement}
 use Rattle.mufom_meaning.specs.LocateAnswer.{locate_answer}
 use Rattle.mufom_meaning.specs.Location.{IsLocation, placed_sections, located_sections}
-use Rattle.mufom_meaning.specs.Placed.{base_list, extended_sections, placed_commons, planned_bases}
+use Rattle.mufom_meaning.specs.Placed.{base_list, planned_bases}
 use Rattle.mufom_meaning.specs.Values.{setting}
 use Rattle.mufom_meaning.specs.Walk.{walk_answer}
 use Rattle.mufom_image_values.specs.declared.meetings.Meeting.{Meeting}
@@ -24,7 +21,7 @@ use Rattle.mufom_image_values.specs.Meetings.{meetings_of}
 use Rattle.mufom_image_entries.specs.declared.valued.ValuedModule.{ValuedModule}
 use Rattle.mufom_image_entries.specs.Valued.{parts_of, IsValued}
 use Rattle.mufom_image.specs.declared.refusal.LocateRefusal.{LocateRefusal}
-use Rattle.mufom_image.specs.Placements.{ArePlaced, StandsAt}
+use Rattle.mufom_image.specs.Placements.{placing_refusal, ArePlaced, StandsAt}
 use Rattle.mufom_image.specs.Refusals.{IsMet}
 use Rattle.mufom_image.specs.Entries.{HasEntries, AreRuns}
 use Rattle.mufom_image.specs.Stages.{unplaced, circular, IsJudged, IsPlannedBy, MayBeWalked}
@@ -88,26 +85,26 @@ pub walked-where-placed : (m : Parts) (met : List Meeting) (bases : List ℕ) (v
 walked-where-placed m met bases valued at names plan sections there clear v =
     let back = sym at.parts in
     may-be-walked plan valued v (own-names m met bases valued.placed.now at names)
-    (subst (λ (x : Parts). place_refusal (width (x ∷ [])) plan (flat_sections (x ∷ [])) (placed_commons (x ∷ []) plan) ≡ None) back there.none)
+    (subst (λ (x : Parts). placing_refusal x plan ≡ None) back there.none)
     (subst (λ (x : Parts). IsJudged x plan) back clear)
     (planned-by m met bases valued.placed.now at names plan sections there)
 
 -- its parts with their values are the location
-pub located-where-placed : (m : Parts) (met : List Meeting) (bases : List ℕ) (valued : ValuedModule) → StandsAt m met bases valued.placed.now
-    → AreDistinct (names_of m.names.publics) → (plan : Plan) (sections : List Section) → ArePlaced m plan sections bases → IsJudged m plan
-    → walk_answer (parts_of valued ∷ []) (setting_of valued.placed.now) ≡ None
-    → (runs : List Run) (r : LocatedParts) → AreRuns valued runs → HasEntries valued (placed_sections bases sections) runs r → IsLocation (m ∷ []) plan r
-located-where-placed m met bases valued at names plan sections there clear passed runs r rows entries =
+pub located-where-placed : (m : Parts) (met : List Meeting) (bases : List ℕ) (valued : ValuedModule) (own : List Section) (runs : List Run) (r : LocatedParts)
+    → HasEntries valued own runs r → StandsAt m met bases valued.placed.now → AreDistinct (names_of m.names.publics)
+    → (plan : Plan) (sections : List Section) → ArePlaced m plan sections bases → own ≡ placed_sections bases sections → IsJudged m plan
+    → walk_answer (parts_of valued ∷ []) (setting_of valued.placed.now) ≡ None → AreRuns valued runs → IsLocation (m ∷ []) plan r
+located-where-placed m met bases valued own runs r entries at names plan sections there same clear passed rows =
     let back = sym at.parts in
     let placed = valued.placed.now in
     let none : walk_answer (m ∷ []) (setting (m ∷ []) (planned_bases (m ∷ []) plan)) ≡ None
     = sym (walk-same m met bases placed at names plan sections there) ∙ passed in
     let locates = nothing-answered m plan (nothing-unplaced m met bases placed at names plan sections there) clear none in
-    let all : placed_sections bases sections ≡ located_sections (parts_of valued ∷ []) plan
-    = (let at_bases = there.bases in let all_sections = there.sections in λ i. placed_sections (at_bases i) (all_sections i))
+    let all : own ≡ located_sections (parts_of valued ∷ []) plan
+    = same ∙ (let at_bases = there.bases in let all_sections = there.sections in λ i. placed_sections (at_bases i) (all_sections i))
     ∙ ap (λ (x : Parts). located_sections (x ∷ []) plan) back in
     subst (λ (x : Parts). IsLocation (x ∷ []) plan r) at.parts
     (entries-located plan valued runs r (planned-by m met bases placed at names plan sections there) at.valid
     (own-names m met bases placed at names)
     (subst (λ (x : Parts). locate_answer (x ∷ []) plan ≡ None) back locates) rows
-    (subst (λ (own : List Section). HasEntries valued own runs r) all entries))
+    (subst (λ (sections : List Section). HasEntries valued sections runs r) all entries))

@@ -1,5 +1,5 @@
 -- Where nothing is met before the walk, a module may be walked over.
-use Rattle.std.proofs.Common.{◌≡◌, ℕ, ◌+◌, ◌^◌, ◌<◌, ◌≤◌, ◌⊎◌, inl, inr, List, [], ◌∷◌, ◌++◌, length, take, drop, Option, Some, None, Bool, true, false, refl, sym, ◌∙◌, ap, subst, append-nil, length-append, arith}
+use Rattle.std.proofs.Common.{◌≡◌, ℕ, ◌+◌, ◌^◌, ◌<◌, ◌≤◌, inr, List, [], ◌∷◌, ◌++◌, length, Option, Some, None, Bool, true, false, refl, sym, ◌∙◌, ap, subst, append-nil, length-append, arith}
 use Rattle.std.specs.Prelude.{slice_get, option_map, option_to_list, unwrap_or}
 use Rattle.std.proofs.lemmas.Option.{slice_get_within}
 use Rattle.mufom_expr.specs.Tree.{Tree}
@@ -10,12 +10,11 @@ use Rattle.mufom_plan.specs.declared.plan.Plan.{Plan}
 use Rattle.mufom_plan.specs.Commons.{has_common}
 use Rattle.mufom_plan.specs.Names.{has_name}
 use Rattle.mufom_place.specs.Bases.{site_of}
-use Rattle.mufom_place.specs.Facts.{place_refusal}
 use Rattle.mufom_meaning.specs.Bases.{Bases}
 use Rattle.mufom_meaning.specs.Facts.{LocateFact, duplicate, undefined, common_unplaced, cycle}
 use Rattle.mufom_meaning.specs.Flat.{flat_sections, width, common_names}
 use Rattle.mufom_meaning.specs.LinkAnswer.{link_answer}
-use Rattle.mufom_meaning.specs.Placed.{placed_commons, base_list, planned_bases}
+use Rattle.mufom_meaning.specs.Placed.{placed_commons, planned_bases}
 use Rattle.mufom_meaning.specs.Stands.{StandsBeforeWalk}
 use Rattle.mufom_meaning.specs.Values.{Setting, setting, value}
 use Rattle.mufom_meaning.specs.Walk.{base_number, size_at}
@@ -27,14 +26,14 @@ use Rattle.mufom_meaning.proofs.facts.AllAnswers.{before_complete}
 use Rattle.mufom_meaning.proofs.facts.Linkable.{no_link_answer_is_linkable}
 use Rattle.mufom_meaning.proofs.values.ValueLaws.{no_link_fact}
 use Rattle.mufom_image_values.specs.declared.values.PlacedModule.{PlacedModule}
-use Rattle.mufom_image_values.specs.Evaluated.{bases_by, setting_of}
+use Rattle.mufom_image_values.specs.Evaluated.{bases_by}
 use Rattle.mufom_image_values.proofs.DivisionLaws.{value-is}
 use Rattle.mufom_image_values.proofs.PlannedLaws.{planned}
 use Rattle.mufom_image_bytes.specs.Modules.{home_of, IsReady}
 use Rattle.mufom_image_bytes.specs.Outcomes.{WorthAt}
 use Rattle.mufom_image_entries.specs.declared.valued.ValuedModule.{ValuedModule}
 use Rattle.mufom_image_entries.specs.Valued.{parts_of, IsValued}
-use Rattle.mufom_image.specs.Placements.{ArePlaced}
+use Rattle.mufom_image.specs.Placements.{placing_refusal, ArePlaced}
 use Rattle.mufom_image.specs.Stages.{IsJudged, IsPlannedBy, public_division, bases_of, worth_of, MayBeWalked}
 
 -- a module alone may be linked, where none of its publics has the name of another
@@ -49,7 +48,7 @@ linkable-alone m names = (no_link_answer_is_linkable (m ∷ [])).1 (record {
     at_most_one None = omega arith
     at_most_one (Some t) = omega arith
 
-module _ (m : Parts) (plan : Plan) (names : AreDistinct (names_of m.names.publics)) (placed : place_refusal (width (m ∷ [])) plan (flat_sections (m ∷ [])) (placed_commons (m ∷ []) plan) ≡ None) (clear : IsJudged m plan) where
+module _ (m : Parts) (plan : Plan) (names : AreDistinct (names_of m.names.publics)) (placed : placing_refusal m plan ≡ None) (clear : IsJudged m plan) where
   abbrev ms : List Parts
   ms = m ∷ []
 
@@ -117,7 +116,7 @@ same-bases plan placed by =
 
 -- the loads of the module may be walked over
 pub may-be-walked : (plan : Plan) (valued : ValuedModule) → IsValued valued → AreDistinct (names_of (parts_of valued).names.publics)
-    → place_refusal (width (parts_of valued ∷ [])) plan (flat_sections (parts_of valued ∷ [])) (placed_commons (parts_of valued ∷ []) plan) ≡ None
+    → placing_refusal (parts_of valued) plan ≡ None
     → IsJudged (parts_of valued) plan → IsPlannedBy plan valued.placed.now → MayBeWalked valued
 may-be-walked plan valued v names none clear by = let m = parts_of valued in let worth = worth_of valued in record {
   ready = subst (λ (b : Bases). ((counter : ℕ) (t : Tree) → worth counter t ≡ value (setting (m ∷ []) b) (home_of m) (Some counter) t)

@@ -1,11 +1,12 @@
 -- The sections and commons of a module, placed by a plan.
-use Rattle.std.specs.Prelude.{◌≡◌, ◌<◌, ◌^◌, ℕ, List, [], ◌∷◌, length, take, drop, None}
+use Rattle.std.specs.Prelude.{◌≡◌, ◌<◌, ◌^◌, ℕ, List, [], ◌∷◌, length, take, drop, Option, None}
 use Rattle.mufom_sections.specs.declared.section.Section.{Section}
 use Rattle.mufom_module.specs.declared.module.Parts.{Parts}
 use Rattle.mufom_module.specs.Defects.{IsValid}
 use Rattle.mufom_plan.specs.declared.plan.Plan.{Plan}
 use Rattle.mufom_plan.specs.Names.{AreDistinctNames, listed_names}
 use Rattle.mufom_plan.specs.Commons.{HasAtMostOneCommon}
+use Rattle.mufom_place.specs.declared.refusal.PlaceRefusal.{PlaceRefusal}
 use Rattle.mufom_place.specs.Facts.{place_refusal}
 use Rattle.mufom_meaning.specs.Flat.{flat_sections, width}
 use Rattle.mufom_meaning.specs.Placed.{placed_commons, extended_sections, base_list}
@@ -18,9 +19,13 @@ pub record IsSoundPlan (plan : Plan) : Type 0 where
   pub regions : length plan.regions < 2 ^ 32
   pub common : HasAtMostOneCommon plan.regions
 
+-- what keeps the sections and commons of the module from being placed by the plan
+abbrev pub placing_refusal : Parts → Plan → Option PlaceRefusal
+placing_refusal m plan = place_refusal (width (m ∷ [])) plan (flat_sections (m ∷ [])) (placed_commons (m ∷ []) plan)
+
 -- nothing keeps the sections and commons of the module from being placed, and these are they and their bases
 pub record ArePlaced (m : Parts) (plan : Plan) (placed : List Section) (at : List ℕ) : Type 0 where
-  pub none : place_refusal (width (m ∷ [])) plan (flat_sections (m ∷ [])) (placed_commons (m ∷ []) plan) ≡ None
+  pub none : placing_refusal m plan ≡ None
   pub sections : placed ≡ extended_sections (m ∷ []) plan
   pub bases : at ≡ base_list (m ∷ []) plan
 

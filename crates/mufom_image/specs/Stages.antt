@@ -1,18 +1,18 @@
 -- What keeps a module from being located, stage by stage.
-use Rattle.std.specs.Prelude.{◌≡◌, ℕ, ◌+◌, ◌*◌, ◌^◌, List, [], ◌∷◌, length, filter, take, drop, Option, Some, None, option_map}
+use Rattle.std.specs.Prelude.{◌≡◌, ℕ, ◌+◌, ◌*◌, ◌^◌, [], ◌∷◌, length, filter, take, drop, Option, Some, None, option_map}
 use Rattle.std.specs.List.{enumerate_from}
 use Rattle.mufom_expr.specs.Value.{value_at}
 use Rattle.mufom_loads.specs.Lengths.{lengths_loaded}
 use Rattle.mufom_module.specs.declared.module.Parts.{Parts}
 use Rattle.mufom_module.specs.Written.{weight}
 use Rattle.mufom_plan.specs.declared.plan.Plan.{Plan}
-use Rattle.mufom_place.specs.Facts.{◌or_else◌, first_some, place_refusal}
+use Rattle.mufom_place.specs.Facts.{◌or_else◌, first_some}
 use Rattle.mufom_meaning.specs.Bases.{Bases}
 use Rattle.mufom_meaning.specs.Facts.{LocateFact, placement, undefined, common_unplaced}
-use Rattle.mufom_meaning.specs.Flat.{flat_sections, public_names, width, is_common}
+use Rattle.mufom_meaning.specs.Flat.{public_names, is_common}
 use Rattle.mufom_meaning.specs.LocateAnswer.{first_undefined, first_unplaced_common, cycle_at, image_limit_at}
 use Rattle.mufom_meaning.specs.Counts.{loaded_total}
-use Rattle.mufom_meaning.specs.Placed.{placed_commons, base_list}
+use Rattle.mufom_meaning.specs.Placed.{base_list}
 use Rattle.mufom_meaning.specs.Values.{Setting}
 use Rattle.mufom_meaning.specs.Walk.{public_fact, start_fact, start_trees, debug_fact, debug_trees}
 use Rattle.mufom_image_values.specs.declared.values.PlacedModule.{PlacedModule}
@@ -21,10 +21,11 @@ use Rattle.mufom_image_bytes.specs.Modules.{IsReady}
 use Rattle.mufom_image_bytes.specs.Outcomes.{WorthAt}
 use Rattle.mufom_image_entries.specs.declared.valued.ValuedModule.{ValuedModule}
 use Rattle.mufom_image_entries.specs.Valued.{parts_of}
+use Rattle.mufom_image.specs.Placements.{placing_refusal}
 
 -- the sections and commons cannot be placed
 abbrev pub unplaced : Parts → Plan → Option LocateFact
-unplaced m plan = option_map placement (place_refusal (width (m ∷ [])) plan (flat_sections (m ∷ [])) (placed_commons (m ∷ []) plan))
+unplaced m plan = option_map placement (placing_refusal m plan)
 
 -- a strong reference has no meaning
 abbrev pub unmet : Parts → Option LocateFact

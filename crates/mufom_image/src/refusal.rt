@@ -1,5 +1,4 @@
 use mufom_expr::FieldKind;
-use mufom_image_bytes::{ImageRefusal, Stop};
 use mufom_meaning::Site;
 use mufom_numbers::{Bytes, NoMemory};
 use mufom_place::PlaceRefusal;

@@ -1,4 +1,4 @@
-use Rattle.std.proofs.Common.{◌≡◌, sym, subst}
+use Rattle.std.proofs.Common.{sym, subst}
 use Rattle.mufom_image.specs.Refusals.{IsMet}
 use Rattle.mufom_image.specs.Stages.{bases_of}
 use Rattle.mufom_image.proofs.walk.runs_of.Goals as goal
