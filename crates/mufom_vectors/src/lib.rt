@@ -11,6 +11,8 @@ mod check;
 mod files;
 #[cfg(test)]
 mod link;
+#[cfg(test)]
+mod locate;
 mod round_trip;
 #[cfg(test)]
 mod round_trip_tests;
