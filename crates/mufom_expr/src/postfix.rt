@@ -12,7 +12,7 @@ use crate::env::{Env, VarMap};
 use crate::expr::{Expr, grow, pop_expr};
 use crate::mentions::Mentions;
 use crate::token::Token;
-use crate::value::{Stack, finds_zero_divisor, pop_value, single_value, step};
+use crate::value::{Stack, finds_zero_divisor, pop_value, single_value, step, value_of_pair};
 use arrayvec::ArrayVec;
 use mufom_numbers::NoMemory;
 use std::alloc::Global;
@@ -131,7 +131,7 @@ impl Postfix {
     {
         match &self.tokens {
             Tokens::One(token) => single_value(*token, env, width),
-            Tokens::Many(all) => stack_value(all.as_slice(), env, width),
+            Tokens::Many(all) => several_value(all.as_slice(), env, width),
         }
     }
 
@@ -215,6 +215,21 @@ fn stack_value<E: Env>(tokens: &[Token], env: &E, width: u32) -> Option<u64>
         step(&mut stack, *token, env, width);
     }
     pop_value(&mut stack)
+}
+
+// The value of tokens that are an expression, without the stack where they are few enough.
+fn several_value<E: Env>(tokens: &[Token], env: &E, width: u32) -> Option<u64>
+    requires one { LeaveOneTerm tokens.now }
+    requires few { length tokens.now ≤ 255 }
+    requires low { 8 ≤ width }
+    requires high { width ≤ 64 }
+    ensures value { result ≡ value_at (2 ^ width) (E.meaning env.now) (the_term tokens.now) }
+    ensures residue { IfSome result (λ v. v < 2 ^ width) }
+{
+    match value_of_pair(tokens, env, width) {
+        Some(value) => value,
+        None => stack_value(tokens, env, width),
+    }
 }
 
 // Whether a divisor in the expression that these tokens are has the value 0.

@@ -2,13 +2,13 @@
 
 ghost use Rattle.std.specs.Prelude.{◌≡◌, ◌+◌, ◌^◌, ◌<◌, ◌≤◌, ◌%◌, ◌||◌};
 ghost use Rattle.std.specs.Prelude.{Some, length, reverse, option_map, slice_get, [], ◌∷◌, IfSome};
-ghost use Rattle.mufom_expr.specs.Codes.{operands, operands_of};
+ghost use Rattle.mufom_expr.specs.Codes.{operands as operands_taken, operands_of};
 ghost use Rattle.mufom_expr.specs.Value.{both, value_at};
 ghost use Rattle.mufom_expr.specs.Terms.{the_term};
 ghost use Rattle.mufom_expr.specs.ValueStack.{unary_value, binary_value, values_with, values_applied, AreResidues, zero_there, token_divides_by_zero};
 
 use crate::env::Env;
-use crate::token::{Function, Token};
+use crate::token::{Function, Token, operands};
 use arrayvec::ArrayVec;
 
 /// The values that stand, the last at the end: one for each token at most.
@@ -40,7 +40,7 @@ fn binary(function: Function, a: u64, b: u64, width: u32) -> Option<u64>
     requires high { width ≤ 64 }
     requires left { a < 2 ^ width }
     requires right { b < 2 ^ width }
-    requires two { operands function ≡ 2 }
+    requires two { operands_taken function ≡ 2 }
     ensures value { result ≡ binary_value (2 ^ width) function a b }
     ensures residue { IfSome result (λ v. v < 2 ^ width) }
 {
@@ -114,7 +114,7 @@ fn binary_of(function: Function, a: Option<u64>, b: Option<u64>, width: u32) -> 
     requires high { width ≤ 64 }
     requires left { IfSome a (λ v. v < 2 ^ width) }
     requires right { IfSome b (λ v. v < 2 ^ width) }
-    requires two { operands function ≡ 2 }
+    requires two { operands_taken function ≡ 2 }
     ensures value { result ≡ both (binary_value (2 ^ width) function) a b }
     ensures residue { IfSome result (λ v. v < 2 ^ width) }
 {
@@ -144,7 +144,7 @@ fn apply_binary(stack: &mut Stack, function: Function, width: u32)
     requires some { 2 ≤ length stack.old.items }
     requires room { length stack.old.items < 255 }
     requires residues { AreResidues (2 ^ width) (reverse stack.old.items) }
-    requires two { operands function ≡ 2 }
+    requires two { operands_taken function ≡ 2 }
     ensures value { reverse stack.new.items ≡ values_applied (2 ^ width) 2 function (reverse stack.old.items) }
     ensures length { length stack.new.items + 1 ≡ length stack.old.items }
     ensures residues { AreResidues (2 ^ width) (reverse stack.new.items) }
@@ -191,6 +191,69 @@ pub(crate) fn single_value<E: Env>(token: Token, env: &E, width: u32) -> Option<
             None => None,
         },
         Token::Fun(_) => unreachable!(),
+    }
+}
+
+// The value of a function of two tokens that are no functions themselves. Needs no stack.
+fn pair_value<E: Env>(
+    left: Token,
+    right: Token,
+    function: Function,
+    env: &E,
+    width: u32,
+) -> Option<u64>
+    requires low { 1 ≤ width }
+    requires high { width ≤ 64 }
+    requires left { operands_of left ≡ 0 }
+    requires right { operands_of right ≡ 0 }
+    requires two { operands_taken function ≡ 2 }
+    ensures value { result ≡ value_at (2 ^ width) (E.meaning env.now) (the_term (left ∷ right ∷ Token.Fun function ∷ [])) }
+    ensures residue { IfSome result (λ v. v < 2 ^ width) }
+{
+    let left = single_value(left, env, width);
+    let right = single_value(right, env, width);
+    binary_of(function, left, right, width)
+}
+
+// The same for the token of a function.
+fn triple_value<E: Env>(
+    left: Token,
+    right: Token,
+    function: Token,
+    env: &E,
+    width: u32,
+) -> Option<u64>
+    requires low { 1 ≤ width }
+    requires high { width ≤ 64 }
+    requires left { operands_of left ≡ 0 }
+    requires right { operands_of right ≡ 0 }
+    requires two { operands_of function ≡ 2 }
+    ensures value { result ≡ value_at (2 ^ width) (E.meaning env.now) (the_term (left ∷ right ∷ function ∷ [])) }
+    ensures residue { IfSome result (λ v. v < 2 ^ width) }
+{
+    match function {
+        Token::Fun(function) => pair_value(left, right, function, env, width),
+        _ => unreachable!(),
+    }
+}
+
+/// The value of tokens that are a function of two tokens that are no functions. Needs no stack.
+/// `None` for tokens of another form, even if these have a value.
+pub(crate) fn value_of_pair<E: Env>(tokens: &[Token], env: &E, width: u32) -> Option<Option<u64>>
+    requires low { 1 ≤ width }
+    requires high { width ≤ 64 }
+    ensures value { IfSome result (λ value. value ≡ value_at (2 ^ width) (E.meaning env.now) (the_term tokens.now)) }
+    ensures residue { IfSome result (λ value. IfSome value (λ v. v < 2 ^ width)) }
+{
+    match tokens {
+        [left, right, function] => {
+            if operands(*left) == 0 && operands(*right) == 0 && operands(*function) == 2 {
+                Some(triple_value(*left, *right, *function, env, width))
+            } else {
+                None
+            }
+        }
+        _ => None,
     }
 }
 

@@ -26,7 +26,10 @@ pub enum LocateRefusal {
         value: u64,
     },
     /// The first address, modulo the address space, of a byte that lies outside its section.
-    LoadOutside { section: u32, address: u64 },
+    LoadOutside {
+        section: u32,
+        address: u64,
+    },
     /// The first address at which a second byte is loaded.
     LoadedTwice(u64),
     /// The number of loaded bytes, which is above 67,108,864.

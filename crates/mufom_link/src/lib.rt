@@ -18,8 +18,6 @@ mod linking;
 mod references;
 mod refusal;
 mod site;
-#[cfg(test)]
-mod tests;
 
 pub use conditions::may_be_linked;
 pub use linking::link;

@@ -5,3 +5,7 @@ pub mod MarkLines
 pub mod Counted
 pub mod Finished
 pub mod Worked
+pub mod AddressLaws
+pub mod RowLaws
+pub mod FitLaws
+pub mod DigitLaws

@@ -1,14 +1,16 @@
--- The text of a located image.
-use Rattle.std.specs.Prelude.{ℕ, ◌+◌, ◌%◌, ◌==◌, ◌||◌, Bool, true, false, List, [], ◌∷◌, ◌++◌, flat_map, map, Option, Some, None, unwrap_or, slice_get, codes, if◌then◌else◌, option_to_list}
+-- The text of a located image: a line for each 16 addresses with loaded bytes, the start, each public, and each debug address.
+use Rattle.std.specs.Prelude.{ℕ, ◌+◌, ◌%◌, ◌==◌, ◌||◌, Bool, true, false, List, [], ◌∷◌, ◌++◌, map, flat_map, Option, Some, None, unwrap_or, slice_get, codes, if◌then◌else◌}
 use Rattle.std.specs.Int.{bytes_high_first}
 use Rattle.std.specs.Fmt.{decimal}
 use Rattle.hex.specs.Hex.{encode_upper}
 use Rattle.mufom_expr.specs.Tree.{Tree, number, variable, one, two}
-use Rattle.mufom_debug.specs.Marks.{DebugMark, block_begin, block_end, name_mark, note_mark, value_mark, marks_of, kind_number, offset_of}
+use Rattle.mufom_debug.specs.declared.item.DebugItem.{DebugItem, fold-DebugItem}
+use Rattle.mufom_debug.specs.declared.item.DebugItem.TheOpen.{DebugItem-F, Block-F}
+use Rattle.mufom_debug.specs.Marks.{DebugMark, block_begin, block_end, name_mark, note_mark, value_mark, joined, kind_number, marks_of, offset_of}
 use Rattle.mufom_meaning.specs.declared.located.Run.{Run}
 use Rattle.mufom_meaning.specs.declared.located.PublicValue.{PublicValue}
 use Rattle.mufom_meaning.specs.declared.located.LocatedParts.{LocatedParts}
-use Rattle.mufom_text.specs.Words.{Text, each, line, quoted}
+use Rattle.mufom_text.specs.Words.{Text, line, quoted, each}
 
 -- an address in upper-case hexadecimal, two digits for each of the `maus` units
 abbrev pub address : ℕ → ℕ → Text
@@ -28,10 +30,14 @@ abbrev pub is_last : List ℕ → Bool
 is_last [] = true
 is_last (_ ∷ _) = false
 
--- a row of bytes from an address on, each byte a space and two upper-case hexadecimal digits
+-- a byte of a row: a space and two digits, within the ends of its line
+abbrev pub byte_text : ℕ → Bool → Bool → ℕ → ℕ → Text
+byte_text maus first last a b = line_start maus first a ++ ((32 ∷ encode_upper (b ∷ [])) ++ line_end last a)
+
+-- a row of bytes from an address on
 abbrev pub row_text : ℕ → Bool → ℕ → List ℕ → Text
 row_text maus first a [] = []
-row_text maus first a (b ∷ bytes) = line_start maus first a ++ (codes " " ++ encode_upper (b ∷ []) ++ line_end (is_last bytes) a) ++ row_text maus false (a + 1) bytes
+row_text maus first a (b ∷ bytes) = byte_text maus first (is_last bytes) a b ++ row_text maus false (a + 1) bytes
 
 abbrev pub run_text : ℕ → Run → Text
 run_text maus run = row_text maus true run.address run.bytes
@@ -54,42 +60,67 @@ number_of (variable l p) = 0
 number_of (one f a) = 0
 number_of (two f a b) = 0
 
--- a block, by the number of its kind and its name
-abbrev pub Block : Type 0
-Block = ℕ × List ℕ
+-- the names that a mark declares
+abbrev pub mark_names : DebugMark → List (List ℕ)
+mark_names (block_begin head name) = []
+mark_names (block_end end) = []
+mark_names (name_mark name) = name ∷ []
+mark_names (note_mark name note) = []
+mark_names (value_mark name value) = []
 
-abbrev pub block_text : Text → Block → Text
-block_text word block = word ++ codes " " ++ decimal block.0 ++ codes " " ++ quoted block.1
+-- all names, in the order of the file
+abbrev pub names_of : List DebugMark → List (List ℕ)
+names_of marks = flat_map mark_names marks
 
--- an address, and what it is the address of
-abbrev pub Named : Type 0
-Named = ℕ × Text
+-- what a debug address is: the begin or the end of a block, with the number of its kind and its name, or the value of a name
+pub data Role : Type 0 where
+  begin_of : (kind : ℕ) → (name : List ℕ) → Role
+  end_of : (kind : ℕ) → (name : List ℕ) → Role
+  value_of : (name : List ℕ) → Role
 
-abbrev pub named_all : Text → List Tree → List Named
-named_all text trees = map (λ t. (number_of t, text)) trees
+abbrev pub block_text : Text → ℕ → List ℕ → Text
+block_text word kind name = word ++ decimal kind ++ codes " " ++ quoted name
 
-abbrev pub after_end : List Block → List Block
-after_end [] = []
-after_end (block ∷ opened) = opened
+abbrev pub role_text : Role → Text
+role_text (begin_of kind name) = block_text (codes " begin ") kind name
+role_text (end_of kind name) = block_text (codes " end ") kind name
+role_text (value_of name) = codes " name " ++ quoted name
 
-abbrev pub end_text : List Block → Text
-end_text [] = []
-end_text (block ∷ opened) = block_text (codes "end") block
+-- a debug address
+abbrev pub Address : Type 0
+Address = ℕ × Role
 
--- the addresses of marks in their order, where these blocks are open, the innermost first, and these names stand before
-abbrev pub debug_addresses : List Block → List (List ℕ) → List DebugMark → List Named
-debug_addresses opened names [] = []
-debug_addresses opened names (block_begin head name ∷ marks) =
-    named_all (block_text (codes "begin") (kind_number head, name)) (option_to_list (offset_of head)) ++ debug_addresses ((kind_number head, name) ∷ opened) names marks
-debug_addresses opened names (block_end end ∷ marks) = named_all (end_text opened) (option_to_list end) ++ debug_addresses (after_end opened) names marks
-debug_addresses opened names (name_mark name ∷ marks) = debug_addresses opened (names ++ name ∷ []) marks
-debug_addresses opened names (note_mark name note ∷ marks) = debug_addresses opened names marks
-debug_addresses opened names (value_mark name value ∷ marks) = (number_of value, codes "name " ++ quoted (unwrap_or (slice_get names name) [])) ∷ debug_addresses opened names marks
+-- the address that an expression is, where there is one
+abbrev pub address_in : Role → Option Tree → List Address
+address_in role None = []
+address_in role (Some t) = (number_of t, role) ∷ []
 
-abbrev pub debug_text : ℕ → ℕ → Named → Text
-debug_text maus n named = line (codes "debug " ++ decimal n ++ codes " " ++ address maus named.0 ++ codes " " ++ named.1)
+-- one level of a block, with each item inside already seen as its addresses
+abbrev pub block_addresses : Block-F (List Address) (List Address) → List Address
+block_addresses b = address_in (begin_of (kind_number b.head) b.name) (offset_of b.head)
+    ++ (joined b.items ++ address_in (end_of (kind_number b.head) b.name) b.end)
+
+-- one level of an item, with the block inside already seen as its addresses; these names are declared
+abbrev pub item_addresses : List (List ℕ) → DebugItem-F (List Address) (List Address) → List Address
+item_addresses names (DebugItem-F.Block addresses) = addresses
+item_addresses names (DebugItem-F.Name name) = []
+item_addresses names (DebugItem-F.Note name note) = []
+item_addresses names (DebugItem-F.Value name value) = (number_of value, value_of (unwrap_or (slice_get names name) [])) ∷ []
+
+-- the addresses of an item: of a block that of its begin, those of its items, and that of its end
+abbrev pub addresses_of_item : List (List ℕ) → DebugItem → List Address
+addresses_of_item names = fold-DebugItem (List Address) (List Address) (item_addresses names) block_addresses
+
+-- the addresses of items, one after another
+abbrev pub addresses_of : List (List ℕ) → List DebugItem → List Address
+addresses_of names items = joined (map (addresses_of_item names) items)
+
+abbrev pub address_text : ℕ → ℕ → Address → Text
+address_text maus n a = line ((codes "debug " ++ decimal n) ++ ((codes " " ++ address maus a.0) ++ role_text a.1))
+
+-- ---- the whole
 
 -- The loaded bytes, the start, the publics and the debug addresses.
 abbrev pub image_text : LocatedParts → Text
-image_text r = flat_map (run_text r.maus) r.runs ++ start_text r.maus r.start ++ flat_map (public_text r.maus) r.publics
-    ++ each (debug_text r.maus) (debug_addresses [] [] (marks_of r.debug))
+image_text r = flat_map (run_text r.maus) r.runs ++ (start_text r.maus r.start ++ (flat_map (public_text r.maus) r.publics
+    ++ each (address_text r.maus) (addresses_of (names_of (marks_of r.debug)) r.debug)))

@@ -4,3 +4,5 @@ pub mod Words
 pub mod Show
 pub mod Terms
 pub mod Image
+pub mod Addresses
+pub mod Fitting

@@ -1,25 +1,28 @@
-//! The text of a module, as `show` prints it: one line for each entry.
+//! Texts: of a module, as `show` prints it, with one line for each entry; and of a located image, as
+//! `dump` prints it, with the loaded bytes, the start, the publics and the debug addresses.
 //!
-//! It stands on the crates of a module's entries, `mufom_module`, `mufom_host`, `itoa` and `thiserror`,
-//! and its definitions on `hex`; `arrayvec` is for the tests. All lines are put by functions over one
+//! It stands on the crates of a module's entries, `mufom_module`, `mufom_host`, `mufom_meaning` and `mufom_located` for what
+//! a location is, `itoa` and `thiserror`, and its definitions on `hex`. All lines are put by functions over one
 //! trait, and a page of a fixed size implements it: the text goes through the page to a host, so that
-//! printing takes no memory after the page's. Its main clause is that of [`print_module`]: the output
-//! grows by exactly the module's text, or a print failed, its count of faults rose, and the output grew
+//! no text is ever held whole. Its main clauses are those of [`print_module`] and [`print_image`]: the output
+//! grows by exactly the text, or a print failed, its count of faults rose, and the output grew
 //! by a prefix of that text.
 #![tactic(auto)]
 
+mod addresses;
 mod debug;
 mod image;
+mod image_lines;
 mod infix;
 mod loads;
 mod names;
 mod output;
 mod page;
+mod print;
 mod sections;
 mod show;
-#[cfg(test)]
-mod tests;
 mod words;
 
-pub use image::print_image;
-pub use show::{PrintStop, print_module};
+pub use image_lines::print_image;
+pub use print::PrintStop;
+pub use show::print_module;

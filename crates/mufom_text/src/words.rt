@@ -44,6 +44,15 @@ fn hex_byte<K: Output>(out: &mut K, byte: u8)
     out.put(&[high, low]);
 }
 
+/// A space and the two upper-case hexadecimal digits of a byte.
+pub(crate) fn spaced_hex<K: Output>(out: &mut K, byte: u8)
+    ensures { K.takes out.old out.new (32 ∷ encode_upper (byte ∷ [])) }
+{
+    let high = DIGITS[(byte / 16) as usize];
+    let low = DIGITS[(byte % 16) as usize];
+    out.put(&[b' ', high, low]);
+}
+
 /// Bytes as upper-case hexadecimal digits.
 pub(crate) fn hex_bytes<K: Output>(out: &mut K, bytes: &[u8])
     ensures { K.takes out.old out.new (hex_bytes bytes.now) }

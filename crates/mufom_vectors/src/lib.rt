@@ -13,6 +13,8 @@ mod faults;
 mod files;
 #[cfg(test)]
 mod link;
+#[cfg(test)]
+mod locate;
 mod round_trip;
 #[cfg(test)]
 mod round_trip_tests;

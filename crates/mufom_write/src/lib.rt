@@ -1,7 +1,7 @@
 //! The writer of object modules: a module's written form goes to a file, record by record.
 //!
-//! It stands on the crates of a module's entries, `mufom_module`, `mufom_host`, `arrayvec` and
-//! `thiserror`, and takes no memory. All records are written by functions over one trait, whose two
+//! It stands on the crates of a module's entries, `mufom_module`, `mufom_host`, `thiserror` and,
+//! in its proofs, `arrayvec`. It takes no memory. All records are written by functions over one trait, whose two
 //! implementations write to a sink and count bytes. Its main clause is that of [`write_module`]: the
 //! file being made grows by exactly the written form, or a write failed, its count of faults rose,
 //! and the file grew by a prefix of that form; and the form, where it is no longer than a file may be,
@@ -17,8 +17,6 @@ mod output;
 mod parts;
 mod places;
 mod sections;
-#[cfg(test)]
-mod tests;
 mod write;
 
 pub use measure::layout;

@@ -10,12 +10,12 @@ pub single_value-requires-clause-operand : goal.single_value-requires-clause-ope
 single_value-requires-clause-operand g c =
     single_operands c.in-One.token (subst (λ (ts : List Token). LeaveOneTerm ts) (ap tokens_held c.in-One.is) c.self.invariant.0)
 
-pub stack_value-requires-clause-one : goal.stack_value-requires-clause-one
-stack_value-requires-clause-one g c =
+pub several_value-requires-clause-one : goal.several_value-requires-clause-one
+several_value-requires-clause-one g c =
     subst (λ (ts : List Token). LeaveOneTerm ts) (ap tokens_held c.in-Many.is ∙ sym c.as_slice.ensures.value) c.self.invariant.0
 
 pub returns-in-Many-clause-value : goal.returns-in-Many-clause-value
 returns-in-Many-clause-value g c =
-    c.stack_value.ensures.value
+    c.several_value.ensures.value
     ∙ ap (value_at (2 ^ c.args.width) (g.E.Env.meaning c.args.env.now))
     (ap the_term c.as_slice.ensures.value ∙ sym (ap (λ held. the_term (tokens_held held)) c.in-Many.is) ∙ c.self.view_is)

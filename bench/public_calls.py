@@ -1,0 +1,86 @@
+#!/usr/bin/env python3
+"""Writes docs/CALLS.md: every public call of every crate, with what it needs and what it may answer.
+
+usage: public_calls.py [--check]      run at the top of the repository
+
+A call is public where its crate's root exports it, or the type that it belongs to. With --check it prints whether docs/CALLS.md is
+what it would write, and ends with status 1 if it is not.
+"""
+import os, re, sys
+
+PAGE = "docs/CALLS.md"
+SIGNATURE = re.compile(r"^( *)pub fn (\w+)\s*(<[^(]*>)?\((.*?)\)\s*(?:->\s*(.*?))?\s*\n(.*?)^\1\{", re.M | re.S)
+IMPL = re.compile(r"^impl(?:<[^{]*?>)?\s+(?:(\w+)(?:<[^{]*?>)?\s+for\s+)?(\w+)", re.M)
+
+
+def read(path):
+    with open(path, encoding="utf-8") as file:
+        return file.read()
+
+
+def exported(crate):
+    """Returns the names that the root of a crate exports."""
+    root = read(f"crates/{crate}/src/lib.rt")
+    names = set()
+    for group, one in re.findall(r"^pub use [\w:]+?::(?:\{([^}]*)\}|(\w+));", root, re.M):
+        names |= {it.strip().split(" as ")[-1] for it in (group or one).split(",") if it.strip()}
+    return names
+
+
+def files(crate):
+    for folder, _, names in sorted(os.walk(f"crates/{crate}/src")):
+        for name in sorted(names):
+            if name.endswith(".rt") and "test" not in os.path.join(folder, name).split("/src/")[1]:
+                yield os.path.join(folder, name)
+
+
+def calls(crate):
+    names = exported(crate)
+    for path in files(crate):
+        text = read(path)
+        owners = [(found.start(), found[2]) for found in IMPL.finditer(text)]
+        for found in SIGNATURE.finditer(text):
+            indent, name, _, params, answer, clauses = found.groups()
+            owner = ""
+            if indent:
+                before = [it for at, it in owners if at < found.start()]
+                owner = before[-1] if before else ""
+            if (owner or name) not in names:
+                continue
+            needs = len(re.findall(r"^\s*requires\b", clauses, re.M))
+            gives = len(re.findall(r"^\s*ensures\b", clauses, re.M))
+            answer = re.sub(r"\s+", " ", answer or "()").strip()
+            memory = "yes" if re.search(r"NoMemory|Refusal|PrintStop|Stop\b|Outcome", answer) and "alloc" in params else ("yes" if "NoMemory" in answer else "")
+            host = "yes" if re.search(r"&mut (H|S|K|W)\b|&mut impl", params) else ""
+            yield (f"{owner}::{name}" if owner else name, needs, gives, memory, host, answer)
+
+
+def main():
+    crates = re.findall(r"^([a-z_0-9]+):", read("crates.txt"), re.M)
+    page = ["# Public calls", "",
+            "Every public call, from the crate roots, written by `python3 bench/public_calls.py`. Each is proved to return, whatever it is given that meets",
+            "its conditions. *Conditions* and *clauses* count the `requires` and `ensures` of its contract; a call with *memory* may answer that it is out of",
+            "memory, in place of its result, and changes nothing then that its clauses do not name; a call with *host* reads, writes or prints by what it is",
+            "lent, and answers a fault only where a count of faults rose.", ""]
+    total = 0
+    for crate in crates:
+        if not os.path.isfile(f"crates/{crate}/src/lib.rt"):
+            continue
+        rows = list(calls(crate))
+        if not rows:
+            continue
+        total += len(rows)
+        page += [f"## {crate}", "", "| call | conditions | clauses | memory | host | answers |", "|---|---|---|---|---|---|"]
+        page += ["| `%s` | %d | %d | %s | %s | `%s` |" % row for row in rows] + [""]
+    page += [f"{total} calls.", ""]
+    text = "\n".join(page)
+    if "--check" in sys.argv:
+        same = os.path.isfile(PAGE) and read(PAGE) == text
+        print("up to date" if same else f"{PAGE} is stale: run bench/public_calls.py")
+        sys.exit(0 if same else 1)
+    with open(PAGE, "w", encoding="utf-8") as file:
+        file.write(text)
+    print(f"{PAGE}: {total} calls")
+
+
+main()

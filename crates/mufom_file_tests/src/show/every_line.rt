@@ -1,0 +1,319 @@
+//! A module with every kind of line, and each function.
+
+use super::{joined, shows};
+use crate::entries::{
+    SectionRow, base, base_and_four, block, expression, field, list, literal, note, public,
+    reference, sections, with,
+};
+use arrayvec::ArrayVec;
+use mufom_debug::{BlockHead, DebugItem};
+use mufom_expr::{FieldKind, Function, Letter, Postfix, Token};
+use mufom_loads::Load;
+use mufom_module::{Order, Parts, assemble};
+use mufom_names::{NameTable, Public, Reference, Weak};
+use mufom_numbers::{Bytes, List, NoMemory};
+use mufom_sections::Purpose;
+use std::alloc::Global;
+use std::test::Fail;
+
+const SECTIONS: [SectionRow; 4] = [
+    (b"c", false, Some(Purpose::Code), 12, 2, None),
+    (b"d", true, Some(Purpose::Data), 0, 1, Some(4096)),
+    (b"", false, Some(Purpose::Rom), 0, 1, None),
+    (b"n", false, None, 0, 1, None),
+];
+
+// ---- names
+
+fn entry(alloc: Global) -> Result<Public, NoMemory> {
+    let value = base_and_four(alloc)?;
+    let notes = list(alloc, note(15, 19, Some(1)))?;
+    public(alloc, b"f", value, notes)
+}
+
+fn publics(alloc: Global) -> Result<List<Public>, NoMemory> {
+    list(alloc, entry(alloc)?)
+}
+
+// A weak reference with a default and a note, one without, and a strong one.
+fn references(alloc: Global) -> Result<List<Reference>, NoMemory> {
+    let notes = list(alloc, note(1, 2, None))?;
+    let weak = Some(Weak {
+        size: 8,
+        default: 300,
+    });
+    let references = list(alloc, reference(alloc, b"x", weak, notes)?)?;
+    let weak = Some(Weak {
+        size: 0,
+        default: 0,
+    });
+    let second = reference(alloc, b"y", weak, List::new(alloc))?;
+    let references = with(references, second)?;
+    let third = reference(alloc, b"z", None, List::new(alloc))?;
+    with(references, third)
+}
+
+// ---- debug items
+
+fn local_function(alloc: Global) -> Result<DebugItem, NoMemory> {
+    let head = BlockHead::Local {
+        stack: 1,
+        type_index: 2,
+        offset: Postfix::constant(alloc, 3)?,
+    };
+    let end = Some(Postfix::constant(alloc, 7)?);
+    let items = list(alloc, DebugItem::Name(Bytes::from_slice(alloc, b"j")?))?;
+    block(alloc, head, b"l", items, end)
+}
+
+// A name, its note and its value, and a local function.
+fn items(alloc: Global) -> Result<List<DebugItem>, NoMemory> {
+    let items = list(alloc, DebugItem::Name(Bytes::from_slice(alloc, b"i")?))?;
+    let note = note(0, 1, None);
+    let items = with(items, DebugItem::Note { name: 0, note })?;
+    let value = Postfix::constant(alloc, 5)?;
+    let items = with(items, DebugItem::Value { name: 0, value })?;
+    with(items, local_function(alloc)?)
+}
+
+fn global_function(alloc: Global) -> Result<DebugItem, NoMemory> {
+    let head = BlockHead::Global {
+        stack: 0,
+        type_index: 0,
+        offset: base(alloc)?,
+    };
+    let end = Some(base(alloc)?);
+    block(alloc, head, b"g", items(alloc)?, end)
+}
+
+fn source(alloc: Global) -> Result<DebugItem, NoMemory> {
+    let mut numbers: ArrayVec<u64, 6> = ArrayVec::new();
+    let _ = numbers.try_push(1);
+    let _ = numbers.try_push(2);
+    let head = BlockHead::Source { numbers };
+    block(alloc, head, b"s", List::new(alloc), None)
+}
+
+fn section_block(alloc: Global) -> Result<DebugItem, NoMemory> {
+    let head = BlockHead::Section {
+        section_type: 1,
+        section: 1,
+        offset: Postfix::constant(alloc, 0)?,
+    };
+    block(alloc, head, b"t", List::new(alloc), None)
+}
+
+fn debug(alloc: Global) -> Result<List<DebugItem>, NoMemory> {
+    let blocks = list(alloc, global_function(alloc)?)?;
+    let blocks = with(blocks, source(alloc)?)?;
+    let module = block(alloc, BlockHead::Module, b"m", List::new(alloc), None)?;
+    let blocks = with(blocks, module)?;
+    with(blocks, section_block(alloc)?)
+}
+
+// ---- loads
+
+// A literal and a field.
+fn single_items(alloc: Global) -> Result<List<Load>, NoMemory> {
+    let value = base(alloc)?;
+    let loads = list(alloc, Load::SetSection(0))?;
+    let loads = with(loads, Load::SetPc { section: 0, value })?;
+    let loads = with(loads, Load::One(literal(alloc, &[0x4E, 0x71])?))?;
+    let value = expression(alloc, &[Token::Var(Letter::X, 0)])?;
+    with(loads, Load::One(field(FieldKind::Either, value, 4)))
+}
+
+// A field and a literal, to be repeated.
+fn two_items(alloc: Global) -> Result<Load, NoMemory> {
+    let value = Postfix::constant(alloc, 1)?;
+    let items = list(alloc, field(FieldKind::Unsigned, value, 1))?;
+    let items = with(items, literal(alloc, &[9])?)?;
+    Ok(Load::Repeat { count: 2, items })
+}
+
+fn loads(alloc: Global) -> Result<List<Load>, NoMemory> {
+    let loads = single_items(alloc)?;
+    let items = list(alloc, literal(alloc, &[0])?)?;
+    let loads = with(loads, Load::Repeat { count: 3, items })?;
+    let value = Postfix::constant(alloc, 6)?;
+    let items = list(alloc, field(FieldKind::Signed, value, 2))?;
+    let loads = with(loads, Load::Repeat { count: 4, items })?;
+    let loads = with(loads, two_items(alloc)?)?;
+    let items = List::new(alloc);
+    with(loads, Load::Repeat { count: 0, items })
+}
+
+fn every_kind(alloc: Global) -> Result<Parts, NoMemory> {
+    Ok(Parts {
+        processor: Bytes::from_slice(alloc, b"P")?,
+        name: Bytes::from_slice(alloc, b"m")?,
+        maus: 2,
+        order: Order::Least,
+        ext: Bytes::from_slice(alloc, &[0xF0, 0x20, 0x00])?,
+        env: Bytes::from_slice(alloc, &[0xF1])?,
+        sections: sections(alloc, &SECTIONS)?,
+        names: NameTable {
+            publics: publics(alloc)?,
+            references: references(alloc)?,
+        },
+        debug: debug(alloc)?,
+        loads: loads(alloc)?,
+        start: Some(base(alloc)?),
+    })
+}
+
+const EVERY_LINE: [&str; 40] = [
+    "module \"m\" processor \"P\" maus 2 order L",
+    "extension 3 bytes",
+    "environment 1 bytes",
+    "section 0 \"c\" CP size 12 align 2",
+    "section 1 \"d\" ASD size 0 align 1 base 4096",
+    "section 2 \"\" CR size 0 align 1",
+    "section 3 \"n\" C size 0 align 1",
+    "public 0 \"f\" = (R0 + 4)",
+    "note type 15 attribute 19 1",
+    "reference 0 \"x\" weak size 8 default 300",
+    "note type 1 attribute 2",
+    "reference 1 \"y\" weak size 0 default 0",
+    "reference 2 \"z\"",
+    "block 4 \"g\" stack 0 type 0 offset R0",
+    "  name 0 \"i\"",
+    "  note 0 type 0 attribute 1",
+    "  value 0 = 5",
+    "  block 6 \"l\" stack 1 type 2 offset 3",
+    "    name 1 \"j\"",
+    "  end = 7",
+    "end = R0",
+    "block 5 \"s\" 1 2",
+    "end",
+    "block 3 \"m\"",
+    "end",
+    "block 11 \"t\" section-type 1 section 1 offset 0",
+    "end",
+    "select 0",
+    "counter 0 = R0",
+    "bytes 2 4E71",
+    "field either 4 = X0",
+    "repeat 3",
+    "  bytes 1 00",
+    "repeat 4",
+    "  field signed 2 = 6",
+    "repeat 2",
+    "  field unsigned 1 = 1",
+    "  bytes 1 09",
+    "repeat 0",
+    "start = R0",
+];
+
+#[test]
+fn every_kind_of_line_is_printed(rt: HostRuntime) -> Result<(), Fail> {
+    let Ok(module) = assemble(every_kind(rt.alloc())?) else {
+        panic!(rt; "no module");
+    };
+    let text = joined(rt.alloc(), &EVERY_LINE)?;
+    shows(&rt, rt.alloc(), &module, text.as_slice())
+}
+
+// ---- functions
+
+const OVER_TWO: [Function; 14] = [
+    Function::Plus,
+    Function::Minus,
+    Function::Divide,
+    Function::Times,
+    Function::Max,
+    Function::Min,
+    Function::Mod,
+    Function::Less,
+    Function::Greater,
+    Function::Equal,
+    Function::Unequal,
+    Function::And,
+    Function::Or,
+    Function::Xor,
+];
+
+// The function over the size of the first section, and the greatest number.
+fn over_two(alloc: Global, function: Function) -> Result<Postfix, NoMemory> {
+    let greatest = Token::Number(18_446_744_073_709_551_615);
+    let tokens = [Token::Var(Letter::S, 0), greatest, Token::Fun(function)];
+    expression(alloc, &tokens)
+}
+
+// The second operand of the outer difference is a term of four tokens.
+fn nested(alloc: Global) -> Result<Postfix, NoMemory> {
+    let tokens = [
+        Token::Number(9),
+        Token::Var(Letter::L, 1),
+        Token::Var(Letter::I, 0),
+        Token::Fun(Function::Minus),
+        Token::Fun(Function::Neg),
+        Token::Fun(Function::Minus),
+        Token::Fun(Function::Abs),
+    ];
+    expression(alloc, &tokens)
+}
+
+fn functions(alloc: Global) -> Result<List<Public>, NoMemory> {
+    let mut publics = list(
+        alloc,
+        public(alloc, b"n", nested(alloc)?, List::new(alloc))?,
+    )?;
+    for function in OVER_TWO {
+        let value = over_two(alloc, function)?;
+        publics.push(public(alloc, b"f", value, List::new(alloc))?)?;
+    }
+    Ok(publics)
+}
+
+// The sections of the module above, and these publics.
+fn with_functions(alloc: Global) -> Result<Parts, NoMemory> {
+    Ok(Parts {
+        processor: Bytes::from_slice(alloc, b"P")?,
+        name: Bytes::from_slice(alloc, b"m")?,
+        maus: 2,
+        order: Order::Least,
+        ext: Bytes::from_slice(alloc, &[])?,
+        env: Bytes::from_slice(alloc, &[])?,
+        sections: sections(alloc, &SECTIONS)?,
+        names: NameTable {
+            publics: functions(alloc)?,
+            references: List::new(alloc),
+        },
+        debug: List::new(alloc),
+        loads: List::new(alloc),
+        start: None,
+    })
+}
+
+const FUNCTION_LINES: [&str; 20] = [
+    "module \"m\" processor \"P\" maus 2 order L",
+    "section 0 \"c\" CP size 12 align 2",
+    "section 1 \"d\" ASD size 0 align 1 base 4096",
+    "section 2 \"\" CR size 0 align 1",
+    "section 3 \"n\" C size 0 align 1",
+    "public 0 \"n\" = abs((9 - neg((L1 - I0))))",
+    "public 1 \"f\" = (S0 + 18446744073709551615)",
+    "public 2 \"f\" = (S0 - 18446744073709551615)",
+    "public 3 \"f\" = (S0 / 18446744073709551615)",
+    "public 4 \"f\" = (S0 * 18446744073709551615)",
+    "public 5 \"f\" = max(S0, 18446744073709551615)",
+    "public 6 \"f\" = min(S0, 18446744073709551615)",
+    "public 7 \"f\" = mod(S0, 18446744073709551615)",
+    "public 8 \"f\" = (S0 < 18446744073709551615)",
+    "public 9 \"f\" = (S0 > 18446744073709551615)",
+    "public 10 \"f\" = (S0 = 18446744073709551615)",
+    "public 11 \"f\" = (S0 <> 18446744073709551615)",
+    "public 12 \"f\" = and(S0, 18446744073709551615)",
+    "public 13 \"f\" = or(S0, 18446744073709551615)",
+    "public 14 \"f\" = xor(S0, 18446744073709551615)",
+];
+
+#[test]
+fn each_function_is_printed_in_infix_form(rt: HostRuntime) -> Result<(), Fail> {
+    let Ok(module) = assemble(with_functions(rt.alloc())?) else {
+        panic!(rt; "no module");
+    };
+    let text = joined(rt.alloc(), &FUNCTION_LINES)?;
+    shows(&rt, rt.alloc(), &module, text.as_slice())
+}

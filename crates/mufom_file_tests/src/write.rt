@@ -1,0 +1,55 @@
+//! Modules that are written, to a file in memory.
+
+mod disk;
+mod every_kind;
+mod linked;
+mod located;
+
+use disk::Disk;
+use mufom_module::{Module, Parts, assemble};
+use mufom_write::{WriteStop, layout, write_module};
+use std::alloc::Global;
+use std::process::Abort;
+use std::test::Fail;
+
+// The module is written as these bytes, where `most` are taken at a call.
+fn writes_by(rt: &impl Abort, module: &Module, most: usize, bytes: &[u8]) {
+    let mut disk = Disk::new(most, 1000);
+    assert_eq!(rt; write_module(module, &mut disk), Ok(()));
+    assert_eq!(rt; disk.bytes(), bytes);
+    assert_eq!(rt; disk.faults, 0);
+}
+
+// Where one byte is taken at each call, the call with each number fails once, and leaves the bytes
+// before it.
+fn stops_by(rt: &impl Abort, module: &Module, bytes: &[u8]) {
+    for place in 0..bytes.len() {
+        let mut disk = Disk::new(1, place);
+        assert_eq!(rt; write_module(module, &mut disk), Err(WriteStop::Fault));
+        assert_eq!(rt; disk.bytes(), &bytes[..place]);
+        assert_eq!(rt; disk.faults, 1);
+    }
+}
+
+// The module of the parts is written as these records, in hexadecimal, in records of any size and up
+// to each write that fails; and its layout has these offsets and their length.
+fn writes(
+    rt: &impl Abort,
+    alloc: Global,
+    parts: Parts,
+    offsets: [u64; 8],
+    records: &str,
+) -> Result<(), Fail> {
+    let Ok(module) = assemble(parts) else {
+        panic!(rt; "no module");
+    };
+    let bytes = hex::decode(alloc, records)?;
+    let layout = layout(&module);
+    assert_eq!(rt; layout.offsets, offsets);
+    assert_eq!(rt; layout.length, bytes.len() as u64);
+    writes_by(rt, &module, 1000, &bytes);
+    writes_by(rt, &module, 3, &bytes);
+    writes_by(rt, &module, 1, &bytes);
+    stops_by(rt, &module, &bytes);
+    Ok(())
+}

@@ -1,0 +1,163 @@
+//! A relocatable module, and one that it links with.
+
+use super::writes;
+use crate::entries::{
+    SectionRow, base, base_and_four, expression, field, list, literal, note, public, reference,
+    sections, with,
+};
+use mufom_expr::{FieldKind, Function, Letter, Postfix, Token};
+use mufom_loads::Load;
+use mufom_module::{Order, Parts};
+use mufom_names::NameTable;
+use mufom_numbers::{Bytes, List, NoMemory};
+use mufom_sections::Purpose;
+use std::alloc::Global;
+use std::test::Fail;
+
+// ---- the program
+
+const PROGRAM_SECTIONS: [SectionRow; 1] = [(b".text", false, Some(Purpose::Code), 12, 2, None)];
+
+fn program_names(alloc: Global) -> Result<NameTable, NoMemory> {
+    let notes = list(alloc, note(15, 19, Some(1)))?;
+    let main = public(alloc, b"main", base_and_four(alloc)?, notes)?;
+    let exit = reference(alloc, b"exit", None, List::new(alloc))?;
+    Ok(NameTable {
+        publics: list(alloc, main)?,
+        references: list(alloc, exit)?,
+    })
+}
+
+// From the program counter to the first reference.
+fn distance(alloc: Global) -> Result<Postfix, NoMemory> {
+    let counter = Token::Var(Letter::P, 0);
+    let tokens = [
+        Token::Var(Letter::X, 0),
+        counter,
+        Token::Fun(Function::Minus),
+    ];
+    expression(alloc, &tokens)
+}
+
+fn program_loads(alloc: Global) -> Result<List<Load>, NoMemory> {
+    let value = base(alloc)?;
+    let loads = list(alloc, Load::SetSection(0))?;
+    let loads = with(loads, Load::SetPc { section: 0, value })?;
+    let bytes = literal(alloc, &[0x4E, 0x71, 0x4E, 0x71])?;
+    let loads = with(loads, Load::One(bytes))?;
+    let address = field(FieldKind::Either, base_and_four(alloc)?, 4);
+    let loads = with(loads, Load::One(address))?;
+    let signed = field(FieldKind::Signed, distance(alloc)?, 4);
+    with(loads, Load::One(signed))
+}
+
+fn program(alloc: Global) -> Result<Parts, NoMemory> {
+    Ok(Parts {
+        processor: Bytes::from_slice(alloc, b"68000")?,
+        name: Bytes::from_slice(alloc, b"prog")?,
+        maus: 4,
+        order: Order::Most,
+        ext: Bytes::from_slice(alloc, &[0xF0, 0x20, 0x00])?,
+        env: Bytes::from_slice(alloc, &[0xF0, 0x21, 0x00])?,
+        sections: sections(alloc, &PROGRAM_SECTIONS)?,
+        names: program_names(alloc)?,
+        debug: List::new(alloc),
+        loads: program_loads(alloc)?,
+        start: Some(base_and_four(alloc)?),
+    })
+}
+
+const PROGRAM: &str = "\
+    E00536383030300470726F67\
+    EC0804CD\
+    E2D7008400000050\
+    E2D7018400000053\
+    E2D7028400000056\
+    E2D7038400000067\
+    E2D7048400000000\
+    E2D7058400000082\
+    E2D70684000000A2\
+    E2D70784000000AA\
+    F02000\
+    F02100\
+    E601C3D0052E74657874\
+    E70102\
+    E2D3010C\
+    E820046D61696E\
+    F1C9200F1301\
+    E2C920D20104A5\
+    E90B0465786974\
+    E501\
+    E2D001D201\
+    ED044E714E71\
+    E4BED20104A59004BF\
+    E4BAD80BD001A69004BB\
+    E2C7BED20104A5BF\
+    E1";
+
+#[test]
+fn a_program_is_written(rt: HostRuntime) -> Result<(), Fail> {
+    let alloc = rt.alloc();
+    let offsets = [0x50, 0x53, 0x56, 0x67, 0, 0x82, 0xA2, 0xAA];
+    writes(&rt, alloc, program(alloc)?, offsets, PROGRAM)
+}
+
+// ---- the library
+
+const LIBRARY_SECTIONS: [SectionRow; 1] = [(b".text", false, Some(Purpose::Code), 2, 1, None)];
+
+fn library_loads(alloc: Global) -> Result<List<Load>, NoMemory> {
+    let bytes = literal(alloc, &[0x4E, 0x75])?;
+    let loads = list(alloc, Load::SetSection(0))?;
+    with(loads, Load::One(bytes))
+}
+
+fn library_names(alloc: Global) -> Result<NameTable, NoMemory> {
+    let exit = public(alloc, b"exit", base(alloc)?, List::new(alloc))?;
+    Ok(NameTable {
+        publics: list(alloc, exit)?,
+        references: List::new(alloc),
+    })
+}
+
+fn library(alloc: Global) -> Result<Parts, NoMemory> {
+    Ok(Parts {
+        processor: Bytes::from_slice(alloc, b"68000")?,
+        name: Bytes::from_slice(alloc, b"lib")?,
+        maus: 4,
+        order: Order::Most,
+        ext: Bytes::new(alloc),
+        env: Bytes::new(alloc),
+        sections: sections(alloc, &LIBRARY_SECTIONS)?,
+        names: library_names(alloc)?,
+        debug: List::new(alloc),
+        loads: library_loads(alloc)?,
+        start: None,
+    })
+}
+
+const LIBRARY: &str = "\
+    E0053638303030036C6962\
+    EC0804CD\
+    E2D7008400000000\
+    E2D7018400000000\
+    E2D702840000004F\
+    E2D703840000005D\
+    E2D7048400000000\
+    E2D7058400000069\
+    E2D7068400000000\
+    E2D707840000006F\
+    E601C3D0052E74657874\
+    E2D30102\
+    E8200465786974\
+    E2C920D201\
+    E501\
+    ED024E75\
+    E1";
+
+#[test]
+fn a_library_is_written(rt: HostRuntime) -> Result<(), Fail> {
+    let alloc = rt.alloc();
+    let offsets = [0, 0, 0x4F, 0x5D, 0, 0x69, 0, 0x6F];
+    writes(&rt, alloc, library(alloc)?, offsets, LIBRARY)
+}

@@ -1,0 +1,121 @@
+//! The commons of a module, as sections.
+
+ghost use Rattle.std.specs.Prelude.{◌≡◌, ◌∷◌, [], IfOk, OnOk};
+ghost use Rattle.mufom_plan.specs.Commons.{has_common as takes_commons};
+ghost use Rattle.mufom_meaning.specs.Placed.{common_sections, placed_commons};
+ghost use Rattle.mufom_image_values.specs.Meetings.{meetings_of};
+ghost use Rattle.mufom_image.specs.Rooms.{room_of, common_of, raised, with_asked};
+
+use mufom_copies::copy_bytes;
+use mufom_image_values::Meeting;
+use mufom_module::Module;
+use mufom_names::{Reference, Weak};
+use mufom_numbers::{Bytes, List, NoMemory};
+use mufom_plan::{Plan, Region};
+use mufom_sections::Section;
+use std::alloc::Global;
+
+// Where a common begins: at a multiple of this.
+const COMMON_ALIGN: u64 = 8;
+
+// The room that a reference asks for: `size` addressable units in the common at a position.
+#[derive(Clone, Copy)]
+struct Room {
+    common: u32,
+    size: u64,
+}
+
+/// Whether one of these regions takes the commons.
+pub(crate) fn has_common(regions: &[Region]) -> bool
+    ensures { result ≡ takes_commons regions.now }
+{
+    regions.iter().any(|region| region.common)
+}
+
+fn room_asked(meeting: Meeting, weak: Option<Weak>) -> Option<Room>
+    ensures { result ≡ room_of meeting weak }
+{
+    match (meeting, weak) {
+        (Meeting::Common(common), Some(weak)) if weak.size != 0 => Some(Room {
+            common,
+            size: weak.size,
+        }),
+        _ => None,
+    }
+}
+
+fn new_common(alloc: Global, name: &Bytes, size: u64) -> Result<Section, NoMemory>
+    ensures { IfOk result (λ common. common ≡ common_of name.now size) }
+{
+    Ok(Section {
+        name: copy_bytes(alloc, name)?,
+        absolute: false,
+        purpose: None,
+        size,
+        align: COMMON_ALIGN,
+        base: None,
+    })
+}
+
+fn raise(common: &mut Section, size: u64)
+    ensures { common.new ≡ raised size common.old }
+{
+    common.size = size.max(common.size);
+}
+
+// Makes room for a reference, if it asks for some: in the common that stands at its place, or in a
+// new one.
+fn make_room(
+    alloc: Global,
+    commons: &mut Vec<Section>,
+    meeting: Meeting,
+    reference: &Reference,
+) -> Result<(), NoMemory>
+    ensures { OnOk result (commons.new.items ≡ with_asked commons.old.items (room_of meeting reference.now.weak) reference.now.name) }
+{
+    let Some(room) = room_asked(meeting, reference.weak) else {
+        return Ok(());
+    };
+    let place = room.common as usize;
+    if place < commons.len() {
+        raise(&mut commons[place], room.size);
+        return Ok(());
+    }
+    commons.push(new_common(alloc, &reference.name, room.size)?)?;
+    Ok(())
+}
+
+// The commons of a module, as sections.
+fn all_commons(
+    alloc: Global,
+    module: &Module,
+    meetings: &[Meeting],
+) -> Result<List<Section>, NoMemory>
+    requires { meetings.now ≡ meetings_of «module».now }
+    ensures { IfOk result (λ commons. commons ≡ common_sections («module».now ∷ [])) }
+{
+    let references = module.parts().names.references.as_slice();
+    let mut commons = Vec::new(alloc);
+    for place in 0..references.len() {
+        make_room(alloc, &mut commons, meetings[place], &references[place])?;
+    }
+    Ok(List::from_vec(commons))
+}
+
+/// The commons that a plan places, as sections: a section for each name that weak references ask
+/// room for and no public has, of the greatest size that they ask for.
+pub(crate) fn planned_commons(
+    alloc: Global,
+    module: &Module,
+    meetings: &[Meeting],
+    plan: &Plan,
+) -> Result<List<Section>, NoMemory>
+    requires { meetings.now ≡ meetings_of «module».now }
+    ensures { IfOk result (λ commons. commons ≡ placed_commons («module».now ∷ []) plan.now) }
+{
+    if has_common(plan.regions.as_slice()) {
+        Ok(all_commons(alloc, module, meetings)?)
+    } else {
+        Ok(List::new(alloc))
+    }
+}

@@ -1,0 +1,217 @@
+//! One of the generated modules, and the plan for all of them.
+
+ghost use Rattle.std.specs.Prelude.{◌≡◌, ◌+◌, ◌<◌, ◌≤◌, ◌^◌, ◌==◌, ◌∷◌, [], ◌++◌, ◌%◌, length, IfOk, OnOk};
+ghost use Rattle.mufom_expr.specs.Terms.{FindsTooFew};
+ghost use Rattle.mufom_loads.specs.declared.load.Item.TheVariants.{Literal, Field};
+ghost use Rattle.mufom_expr.specs.declared.token.FieldKind.TheVariants.{Either};
+ghost use Rattle.mufom_make.specs.Generated.{code_section, entry_at, loads_at, made_plan, module_at, name_at, next_value, references_at};
+
+use mufom_expr::{Builder, ExprFault, FieldKind, Function, Letter, Postfix, Token};
+use mufom_loads::{Item, Load};
+use mufom_module::{Module, Order, Parts};
+use mufom_names::{NameTable, Public, Reference};
+use mufom_numbers::{Bytes, List, NoMemory};
+use mufom_plan::{Plan, Region};
+use mufom_sections::{Purpose, Section};
+use std::alloc::Global;
+
+/// How many modules can be generated.
+pub const MOST_MODULES: u32 = 65_536;
+
+// How many units the section of a module has.
+const SECTION_SIZE: u64 = 16;
+
+// At which offset of its section the public of a module stands.
+const ENTRY_OFFSET: u64 = 4;
+
+// How many units an address has.
+const ADDRESS_SIZE: u8 = 4;
+
+// Where the sections of all modules begin.
+const FIRST_BASE: u64 = 4096;
+
+// A letter, and a number in decimal after it.
+fn name_at(alloc: Global, letter: &str, number: u32) -> Result<Bytes, NoMemory>
+    ensures { IfOk result (λ name. name ≡ name_at letter.now number) }
+{
+    let name = format!(in alloc; "{letter}{number}")?;
+    Ok(List::from_vec(name.into_bytes()))
+}
+
+fn code_section(alloc: Global) -> Result<Section, NoMemory>
+    ensures { IfOk result (λ section. section ≡ code_section) }
+{
+    Ok(Section {
+        name: Bytes::from_slice(alloc, b"code")?,
+        absolute: false,
+        purpose: Some(Purpose::Code),
+        size: SECTION_SIZE,
+        align: 4,
+        base: None,
+    })
+}
+
+// Adds a token that finds its terms, where fewer than 255 stand.
+fn add(builder: &mut Builder, token: Token) -> Result<(), NoMemory>
+    requires room { length builder.old < 255 }
+    requires found { FindsTooFew builder.old token → ⊥ }
+    ensures { OnOk result (builder.new ≡ builder.old ++ token ∷ []) }
+{
+    match builder.push(token) {
+        Ok(()) => Ok(()),
+        Err(ExprFault::NoMemory) => Err(NoMemory),
+        Err(_) => unreachable!(),
+    }
+}
+
+// The address of the public of a module.
+fn entry_value(alloc: Global) -> Result<Postfix, NoMemory>
+    ensures { IfOk result (λ value. value ≡ (entry_at 0).value) }
+{
+    let mut builder = Builder::with_capacity(alloc, 3)?;
+    add(&mut builder, Token::Var(Letter::R, 0))?;
+    add(&mut builder, Token::Number(ENTRY_OFFSET))?;
+    add(&mut builder, Token::Fun(Function::Plus))?;
+    match builder.finish() {
+        Ok(value) => Ok(value),
+        Err(_) => unreachable!(),
+    }
+}
+
+// The public of the module with this number.
+fn entry_at(alloc: Global, number: u32) -> Result<Public, NoMemory>
+    ensures { IfOk result (λ entry. entry ≡ entry_at number) }
+{
+    Ok(Public {
+        name: name_at(alloc, "f", number)?,
+        value: entry_value(alloc)?,
+        notes: List::new(alloc),
+    })
+}
+
+// The references of the module with this number: to the public of the next, and none in the last.
+fn references_at(alloc: Global, last: bool, number: u32) -> Result<List<Reference>, NoMemory>
+    requires { number < 2 ^ 31 }
+    ensures { IfOk result (λ references. references ≡ references_at last number) }
+{
+    let mut references = List::new(alloc);
+    if !last {
+        references.push(Reference {
+            name: name_at(alloc, "f", number + 1)?,
+            weak: None,
+            notes: List::new(alloc),
+        })?;
+    }
+    Ok(references)
+}
+
+// The address of the public of the next module, and 0 in the last.
+fn next_value(last: bool) -> Postfix
+    ensures { result ≡ next_value last }
+{
+    Postfix::single(if last {
+        Token::Number(0)
+    } else {
+        Token::Var(Letter::X, 0)
+    })
+}
+
+// A load of the value of an expression, as an address.
+fn address_load(value: Postfix) -> Load
+    ensures { result ≡ Load.One (Field Either value 4) }
+{
+    Load::One(Item::Field {
+        kind: FieldKind::Either,
+        value,
+        size: ADDRESS_SIZE,
+    })
+}
+
+// The lowest byte of a number and a byte 0, as the items of a repeat.
+fn low_bytes(alloc: Global, number: u32) -> Result<List<Item>, NoMemory>
+    ensures { IfOk result (λ items. items ≡ Literal (number % 256 ∷ 0 ∷ []) ∷ []) }
+{
+    let mut items = List::new(alloc);
+    let bytes = Bytes::from_slice(alloc, &[(number % 256) as u8, 0])?;
+    items.push(Item::Literal(bytes))?;
+    Ok(items)
+}
+
+// The loads of the module with this number.
+fn loads_at(alloc: Global, last: bool, number: u32) -> Result<List<Load>, NoMemory>
+    ensures { IfOk result (λ loads. loads ≡ loads_at last number) }
+{
+    let mut loads = List::new(alloc);
+    loads.push(Load::SetSection(0))?;
+    loads.push(address_load(next_value(last)))?;
+    let own = Bytes::from_slice(alloc, &number.to_be_bytes())?;
+    loads.push(Load::One(Item::Literal(own)))?;
+    loads.push(address_load(Postfix::single(Token::Var(Letter::P, 0))))?;
+    loads.push(Load::Repeat {
+        count: 2,
+        items: low_bytes(alloc, number)?,
+    })?;
+    Ok(loads)
+}
+
+// A list of one item.
+fn single<T: Drop>(alloc: Global, item: T) -> Result<List<T>, NoMemory>
+    ensures { IfOk result (λ list. list ≡ item ∷ []) }
+{
+    let mut list = List::new(alloc);
+    list.push(item)?;
+    Ok(list)
+}
+
+fn parts_at(alloc: Global, last: bool, number: u32) -> Result<Parts, NoMemory>
+    requires { number < 2 ^ 31 }
+    ensures { IfOk result (λ parts. parts ≡ module_at last number) }
+{
+    Ok(Parts {
+        processor: Bytes::from_slice(alloc, b"MADE")?,
+        name: name_at(alloc, "m", number)?,
+        maus: ADDRESS_SIZE,
+        order: Order::Most,
+        ext: Bytes::new(alloc),
+        env: Bytes::new(alloc),
+        sections: single(alloc, code_section(alloc)?)?,
+        names: NameTable {
+            publics: single(alloc, entry_at(alloc, number)?)?,
+            references: references_at(alloc, last, number)?,
+        },
+        debug: List::new(alloc),
+        loads: loads_at(alloc, last, number)?,
+        start: None,
+    })
+}
+
+/// The module with this number of `count` generated modules.
+pub(crate) fn module_at(alloc: Global, count: u32, number: u32) -> Result<Module, NoMemory>
+    requires { number < 65536 }
+    ensures { IfOk result (λ m. m ≡ module_at (number + 1 == count) number) }
+{
+    let parts = parts_at(alloc, number + 1 == count, number)?;
+    Ok(Module::sound(parts))
+}
+
+// The region of all sections.
+fn region(alloc: Global, count: u32) -> Result<Region, NoMemory>
+    ensures { IfOk result (λ region. region ∷ [] ≡ (made_plan count).regions) }
+{
+    Ok(Region {
+        name: Bytes::from_slice(alloc, b"all")?,
+        base: FIRST_BASE,
+        size: SECTION_SIZE * count as u64,
+        sections: single(alloc, Bytes::from_slice(alloc, b"*")?)?,
+        common: false,
+    })
+}
+
+/// The plan for `count` generated modules: one region, which takes all sections.
+pub(crate) fn made_plan(alloc: Global, count: u32) -> Result<Plan, NoMemory>
+    ensures { IfOk result (λ plan. plan ≡ made_plan count) }
+{
+    Ok(Plan {
+        regions: single(alloc, region(alloc, count)?)?,
+    })
+}

@@ -1,0 +1,31 @@
+ghost use Rattle.std.specs.Prelude.{◌≤◌, IfOk, IfErr};
+ghost use Rattle.mufom_meaning.specs.Location.{IsLocation};
+ghost use Rattle.mufom_meaning.specs.LocateAnswer.{locate_answer};
+ghost use Rattle.mufom_image.specs.Refusals.{IsMet};
+ghost use Rattle.mufom_make.specs.Generated.{made_modules, made_plan};
+ghost use Rattle.mufom_make.specs.declared.generated.TheConstants.{MOST_MODULES};
+
+use crate::generated::made_plan;
+use crate::linking::linked_modules;
+use mufom_image::{LocateRefusal, Located, locate};
+use std::alloc::Global;
+
+/// Builds `count` generated modules, links them in pairs and the results into one module, and locates
+/// that.
+///
+/// There are 1 to [`MOST_MODULES`](crate::MOST_MODULES) of them. Each has one section of 16 units and a public in it,
+/// and loads the address of the public of the next module. The modules of a pair are let go as soon as
+/// they are linked.
+pub fn made(alloc: Global, count: u32) -> Result<Located, LocateRefusal>
+    requires some { 1 ≤ count }
+    requires few { count ≤ MOST_MODULES }
+
+    // What is answered is the location of the list of all modules.
+    ensures located { IfOk result (IsLocation (made_modules count) (made_plan count)) }
+    // A refusal is the first thing that keeps that list from being located, or there was no memory.
+    ensures refused { IfErr result (IsMet (locate_answer (made_modules count) (made_plan count))) }
+{
+    let module = linked_modules(alloc, count)?;
+    let plan = made_plan(alloc, count)?;
+    locate(alloc, &module, &plan)
+}

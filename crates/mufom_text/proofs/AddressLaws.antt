@@ -1,0 +1,60 @@
+-- The debug addresses and names of items, one after another.
+use Rattle.std.proofs.Common.{◌≡◌, ℕ, ◌+◌, ◌<◌, List, [], ◌∷◌, ◌++◌, length, map, take, get_or, refl, sym, ap, ◌∙◌, rules, append-nil}
+use Rattle.std.proofs.lemmas.List.{take_more, map-append}
+use Rattle.std.proofs.lemmas.Grind.{flat_map-append}
+use Rattle.mufom_expr.specs.declared.token.Function.{Function}
+use Rattle.mufom_expr.specs.declared.token.Token.{Token}
+use Rattle.mufom_expr.specs.declared.token.Token.TheVariants.{Number, Var, Fun}
+use Rattle.mufom_expr.specs.Tree.{function_of_one, function_of_two}
+use Rattle.mufom_expr.specs.Tree.{Tree, number, variable, one, two, tokens_of}
+use Rattle.mufom_debug.specs.declared.item.DebugItem.{DebugItem, Block as block_case, the_lemmas}
+use Rattle.mufom_debug.specs.declared.item.DebugItem.TheOpen.{Block-F}
+use Rattle.mufom_debug.specs.Marks.{block_end, joined, kind_number, marks_of, marks_of_item, offset_of}
+use Rattle.mufom_debug.proofs.MarksLemmas.{joined-append, marks-Block, marks_of_more}
+use Rattle.mufom_text.specs.Addresses.{number_in}
+use Rattle.mufom_text.specs.Image.{address_in, addresses_of, addresses_of_item, begin_of, end_of, mark_names, names_of, number_of}
+
+-- ---- the number that an expression is
+
+applied : (tokens : List Token) (f : Function) → number_in (tokens ++ Fun f ∷ []) ≡ 0
+applied [] f = refl
+applied (Number n ∷ []) f = refl
+applied (Number n ∷ (t ∷ tokens)) f = refl
+applied (Var l p ∷ tokens) f = refl
+applied (Fun g ∷ tokens) f = refl
+
+pub number-by_tokens : (t : Tree) → number_in (tokens_of t) ≡ number_of t
+number-by_tokens (number n) = refl
+number-by_tokens (variable l p) = refl
+number-by_tokens (one f a) = applied (tokens_of a) (function_of_one f)
+number-by_tokens (two f a b) = applied (tokens_of a ++ tokens_of b) (function_of_two f)
+
+-- ---- addresses
+
+pub addresses-Block : (names : List (List ℕ)) (b : Block-F DebugItem (Unit {0})) → addresses_of_item names (block_case b)
+    ≡ address_in (begin_of (kind_number b.head) b.name) (offset_of b.head) ++ (addresses_of names b.items ++ address_in (end_of (kind_number b.head) b.name) b.end)
+addresses-Block names b = search (rules, the_lemmas)
+
+pub addresses-more : (names : List (List ℕ)) (items : List DebugItem) (i : ℕ) (x : DebugItem) → i < length items → x ≡ get_or items i x
+    → addresses_of names (take (i + 1) items) ≡ addresses_of names (take i items) ++ addresses_of_item names x
+addresses-more names items i x inside is =
+    let own = addresses_of_item names in
+    ap (addresses_of names) (take_more items i x inside)
+    ∙ ap joined (map-append own (take i items) (get_or items i x ∷ []))
+    ∙ joined-append (map own (take i items)) (own (get_or items i x) ∷ [])
+    ∙ ap (λ all. addresses_of names (take i items) ++ all) (append-nil (own (get_or items i x)) ∙ ap own (sym is))
+
+-- ---- names
+
+pub names-Block : (b : Block-F DebugItem (Unit {0})) → names_of (marks_of_item (block_case b)) ≡ names_of (marks_of b.items)
+names-Block b =
+    ap names_of (marks-Block b)
+    ∙ flat_map-append mark_names (marks_of b.items) (block_end b.end ∷ [])
+    ∙ append-nil (names_of (marks_of b.items))
+
+pub names-more : (items : List DebugItem) (i : ℕ) (x : DebugItem) → i < length items → x ≡ get_or items i x
+    → names_of (marks_of (take (i + 1) items)) ≡ names_of (marks_of (take i items)) ++ names_of (marks_of_item x)
+names-more items i x inside is =
+    ap names_of (marks_of_more items i x inside)
+    ∙ flat_map-append mark_names (marks_of (take i items)) (marks_of_item (get_or items i x))
+    ∙ ap (λ y. names_of (marks_of (take i items)) ++ names_of (marks_of_item y)) (sym is)

@@ -1,0 +1,81 @@
+//! Printing a text through a page.
+
+ghost use Rattle.std.specs.Prelude.{◌≡◌, ◌≤◌, ℕ, List, Err, OnOk, take};
+ghost use Rattle.mufom_host.specs.World.{Grows, GrowsBy, GrowsByPrefix, HasCause, KeepsAllButOut, KeepsAllButWrites, OnlyPrints, Rose};
+ghost use Rattle.mufom_text.specs.Printing.{Puts};
+
+use crate::output::Output;
+use crate::page::{Page, room};
+use mufom_host::{Failed, Host};
+use std::alloc::Global;
+use thiserror::Error;
+
+/// Why a text is not printed.
+#[derive(Clone, Copy, Debug, PartialEq, Eq, Error)]
+pub enum PrintStop {
+    /// A print failed, and was counted.
+    #[error("a print failed")]
+    Fault,
+    /// There was no memory for the page.
+    #[error("out of memory")]
+    NoMemory,
+}
+
+/// What has a text of lines.
+pub(crate) trait Lines {
+    /// All its lines.
+    ghost text: { Self → List ℕ };
+
+    /// Puts all lines.
+    fn put_lines<K: Output>(&self, out: &mut K)
+        ensures { K.takes out.old out.new (text self.now) };
+}
+
+// Puts all lines on a page, which stays the same host's.
+fn fill<H: Host, T: Lines>(page: &mut Page<H>, lines: &T)
+    ensures same { page.new.host.ghost_name ≡ page.old.host.ghost_name }
+    ensures puts { Puts (H.meaning page.old.host.now) (H.meaning page.new.host.now) (H.faults page.old.host.now)
+        (H.faults page.new.host.now) (take page.old.used page.old.room.items)
+        (take page.new.used page.new.room.items) page.old.has_failed page.new.has_failed (T.text lines.now) }
+{
+    lines.put_lines(page);
+}
+
+// Prints all lines through a page with this room.
+fn print_all<H: Host, T: Lines>(room: Vec<u8>, host: &mut H, lines: &T) -> Result<(), Failed>
+    ensures grows { Grows (H.meaning host.old).out (H.meaning host.new).out result (T.text lines.now) }
+    ensures stays { KeepsAllButOut (H.meaning host.old) (H.meaning host.new) }
+    ensures cause { HasCause (H.faults host.old).writes (H.faults host.new).writes result }
+    ensures counts { KeepsAllButWrites (H.faults host.old) (H.faults host.new) }
+{
+    let mut page = Page::new(host, room);
+    fill(&mut page, lines);
+    let printed = page.finish();
+    let _host = page.into_host();
+    printed
+}
+
+/// Prints the lines, in chunks of about 65,536 bytes but for the last.
+///
+/// `NoMemory` comes before anything is printed. `Fault` comes only where a print failed and the
+/// count of such faults rose; a prefix of the text may then be printed.
+pub(crate) fn print_lines<H: Host, T: Lines>(
+    alloc: Global,
+    host: &mut H,
+    lines: &T,
+) -> Result<(), PrintStop>
+    ensures done { OnOk result (GrowsBy (H.meaning host.old).out (H.meaning host.new).out (T.text lines.now)) }
+    ensures fault { result ≡ Err PrintStop.Fault
+        → GrowsByPrefix (H.meaning host.old).out (H.meaning host.new).out (T.text lines.now)
+        × Rose (H.faults host.old).writes (H.faults host.new).writes }
+    ensures unmade { result ≡ Err PrintStop.NoMemory → (H.meaning host.new).out ≡ (H.meaning host.old).out }
+    ensures only { OnlyPrints (H.meaning host.old) (H.meaning host.new) (H.faults host.old) (H.faults host.new) }
+{
+    let Ok(room) = room(alloc) else {
+        return Err(PrintStop::NoMemory);
+    };
+    match print_all(room, host, lines) {
+        Ok(()) => Ok(()),
+        Err(Failed) => Err(PrintStop::Fault),
+    }
+}
