@@ -1,5 +1,5 @@
 -- The error line after the work of a command: the answer keeps its cause. And the answer is complete, since a run comes to one end.
-use Rattle.std.proofs.Common.{◌≡◌, ◌≢◌, ◌⊎◌, ℕ, ◌≤◌, List, [], Option, Some, None, Result, Ok, Err, OnSome, length, take, refl, sym, ap, subst, ◌∙◌, inl, inr, arith}
+use Rattle.std.proofs.Common.{◌≡◌, ◌≢◌, ◌⊎◌, ℕ, ◌≤◌, List, [], Option, Some, None, Result, Ok, Err, OnSome, take, refl, sym, ap, subst, ◌∙◌, inl, inr, arith}
 use Rattle.std.proofs.lemmas.List.{append-nil}
 use Rattle.mufom_host.specs.World.{Faults, Meaning, NamedFile, GrowsBy, GrowsByPrefix, OnlyPrintsErrors}
 use Rattle.mufom_words.specs.declared.command.Command.{Command}
@@ -13,7 +13,7 @@ use Rattle.mufom_groups.specs.Work.{Work}
 use Rattle.mufom_command.specs.Stop.{Stop}
 use Rattle.mufom_command.specs.Commands.{Output, printed, made, work_of}
 use Rattle.mufom_command.specs.Complaint.{complaint}
-use Rattle.mufom_command.specs.Run.{AddsErrorLine, AnswersBy, AnswersFor, Does, DoesBy, IsOpenedCount, IsPrintedAs, MayLackMemory, NoneFalls, OpensBy, OpensPrefix, PrintsErrorLine, PutsOut, PutsOutNothing, PutsOutPrefix, stop_answer}
+use Rattle.mufom_command.specs.Run.{AddsErrorLine, AnswersBy, AnswersFor, Does, DoesBy, IsOpenedCount, IsPrintedAs, MayLackMemory, NoneFalls, OpensBy, OpensInputs, PrintsErrorLine, PutsOut, PutsOutNothing, PutsOutPrefix, inputs_of, stop_answer}
 use Rattle.mufom_command.proofs.InputLaws.{call_between}
 
 module _ (old mid : Meaning) (before between : Faults) (err : Option (List ℕ)) (complaints : ℕ) where
@@ -56,12 +56,12 @@ module _ (old mid : Meaning) (before between : Faults) (err : Option (List ℕ))
     answers-after o result (inl same) is = subst (λ (x : Outcome). AnswersFor c work (call_between old new before now) x) (sym same) (answers-kept o is)
     answers-after o result (inr (same, may)) is = subst (λ (x : Outcome). AnswersFor c work (call_between old new before now) x) (sym same) (nothing-lacked o may is)
 
-  count-after : (files : ℕ) (o result : Outcome) → IsPrintedAs o result → (count : ℕ) → IsOpenedCount files o count → IsOpenedCount files result count
-  count-after files o result (inl same) count exact = subst (λ (x : Outcome). IsOpenedCount files x count) (sym same) exact
-  count-after files o result (inr (same, may)) count exact = subst (λ (x : Outcome). IsOpenedCount files x count) (sym same) tt
+  count-after : (c : Command) (o result : Outcome) → IsPrintedAs o result → (count : ℕ) → IsOpenedCount c o count → IsOpenedCount c result count
+  count-after c o result (inl same) count exact = subst (λ (x : Outcome). IsOpenedCount c x count) (sym same) exact
+  count-after c o result (inr (same, may)) count exact = subst (λ (x : Outcome). IsOpenedCount c x count) (sym same) tt
 
-  opens-after : (names : List (List ℕ)) (o result : Outcome) → IsPrintedAs o result → OpensPrefix names (call_between old mid before between) o → OpensPrefix names (call_between old new before now) result
-  opens-after names o result shown is = record { count = is.count; exact = count-after (length names) o result shown is.count is.exact; within = is.within; opened = is.opened }
+  opens-after : (c : Command) (o result : Outcome) → IsPrintedAs o result → OpensInputs c (call_between old mid before between) o → OpensInputs c (call_between old new before now) result
+  opens-after c o result shown is = record { count = is.count; exact = count-after c o result shown is.count is.exact; within = is.within; opened = is.opened }
 
   stop-after : (s : WordsStop) (o result : Outcome) → IsPrintedAs o result → (o ≡ stop_answer s) ⊎ (o ≡ outcome.NoMemory) → (result ≡ stop_answer s) ⊎ (result ≡ outcome.NoMemory)
   stop-after s o result (inl same) (inl is) = inl (same ∙ is)
@@ -72,7 +72,7 @@ module _ (old mid : Meaning) (before between : Faults) (err : Option (List ℕ))
       → AnswersBy r (call_between old new before now) result × OpensBy r (call_between old new before now) result × NoneFalls (call_between old new before now)
   all-after (Ok c) o result shown later does = (
     answers-after c (λ files. work_of c.verb files c) o result shown does.answers,
-    opens-after c.files o result shown does.opens,
+    opens-after c o result shown does.opens,
     record { reads = does.counts.reads; writes = does.counts.writes; complaints = let first = does.counts.complaints in omega (arith, first, later) },
   )
   all-after (Err s) o result shown later (is, stays, counts) = (
@@ -133,7 +133,7 @@ opens-none names (Some l) = ap (λ (x : List (List ℕ)). Some x) (sym (append-n
 does-nothing : (r : Result Command WordsStop) (m : Meaning) (f : Faults) → DoesBy r (call_between m m f f) outcome.NoMemory
 does-nothing (Ok c) m f = record {
   answers = refl;
-  opens = record { count = 0; exact = tt; within = omega arith; opened = opens-none c.files m.opened };
+  opens = record { count = 0; exact = tt; within = omega arith; opened = opens-none (inputs_of c) m.opened };
   err = refl;
   counts = record { reads = omega arith; writes = omega arith; complaints = omega arith };
 }

@@ -17,9 +17,9 @@ use Rattle.mufom_command.specs.declared.outcome.Outcome.{Outcome}
 use Rattle.mufom_command.specs.declared.outcome.Outcome.TheVariants as outcome
 use Rattle.mufom_command.specs.declared.outcome.Refusal.TheVariants as refusal
 use Rattle.mufom_command.specs.Inputs.{AreAccepted, AreModules, ComeTo, StopsAt, accepted, most_input_bytes, room_after}
-use Rattle.mufom_command.specs.FilesRead.{FileHas, FileStops, FilesStop, HasModule, outcome_of_source_stop}
+use Rattle.mufom_command.specs.FilesRead.{FileHas, FileStops, FilesStop, HasModule, IsFileCount, OpensFiles, outcome_of_source_stop}
 use Rattle.mufom_groups.specs.Groups.{most_weight}
-use Rattle.mufom_command.specs.Run.{Call, IsOpenedCount, OpensPrefix}
+use Rattle.mufom_command.specs.Run.{Call}
 
 -- the call with these meanings and faults before and after
 abbrev pub call_between : Meaning → Meaning → Faults → Faults → Call
@@ -45,6 +45,21 @@ module _ (names : List (List ℕ)) (i : ℕ) (name : List ℕ) (inside : i < len
 
   pub names_before : length (take i names) ≡ i
   names_before = length-take-le i names (omega (arith, inside))
+
+-- ---- lists that grow
+
+pub grows_by_none : {T : Type 0} (o : Option (List T)) → GrowsBy o o []
+grows_by_none None = tt
+grows_by_none (Some list) = ap (λ l. Some l) (sym (append-nil list))
+
+pub grows_by_both : {T : Type 0} (a b c : Option (List T)) (xs ys : List T) → GrowsBy a b xs → GrowsBy b c ys → GrowsBy a c (xs ++ ys)
+grows_by_both None b c xs ys first second = tt
+grows_by_both (Some list) b c xs ys first second =
+    subst (λ (o : Option (List _)). IfSome o (λ l. c ≡ Some (l ++ ys))) first second ∙ ap (λ l. Some l) (append_assoc list xs ys)
+
+pub grows_then : {T : Type 0} (a b c : Option (List T)) (xs ys : List T) → GrowsBy a b xs → OnSome c (GrowsBy b c ys) → OnSome c (GrowsBy a c (xs ++ ys))
+grows_then a b None xs ys first second = tt
+grows_then a b (Some list) xs ys first second = grows_by_both a b (Some list) xs ys first second
 
 module _ (reads_debug : Bool) where
   modules-append : (contents : List (List ℕ)) (ms : List Parts) (bytes : List ℕ) (m : Parts) → AreModules reads_debug contents ms → IsModule reads_debug bytes m → AreModules reads_debug (contents ++ bytes ∷ []) (ms ++ m ∷ [])
@@ -112,19 +127,6 @@ module _ (reads_debug : Bool) where
     pub count : length ms ≡ done
     pub valid : AreValid ms
     pub light : total_weight ms + 10 * room ≤ most_weight
-
-  grows_by_none : {T : Type 0} (o : Option (List T)) → GrowsBy o o []
-  grows_by_none None = tt
-  grows_by_none (Some list) = ap (λ l. Some l) (sym (append-nil list))
-
-  grows_by_both : {T : Type 0} (a b c : Option (List T)) (xs ys : List T) → GrowsBy a b xs → GrowsBy b c ys → GrowsBy a c (xs ++ ys)
-  grows_by_both None b c xs ys first second = tt
-  grows_by_both (Some list) b c xs ys first second =
-      subst (λ (o : Option (List _)). IfSome o (λ l. c ≡ Some (l ++ ys))) first second ∙ ap (λ l. Some l) (append_assoc list xs ys)
-
-  grows_then : {T : Type 0} (a b c : Option (List T)) (xs ys : List T) → GrowsBy a b xs → OnSome c (GrowsBy b c ys) → OnSome c (GrowsBy a c (xs ++ ys))
-  grows_then a b None xs ys first second = tt
-  grows_then a b (Some list) xs ys first second = grows_by_both a b (Some list) xs ys first second
 
   accepted_first : (files : Option (List NamedFile)) (names : List (List ℕ)) → IfSome files (λ fs. (contents : List (List ℕ)) × AreAccepted reads_debug fs (take 0 names) contents [] × (most_input_bytes ≡ room_after contents))
   accepted_first None names = tt
@@ -203,8 +205,11 @@ module _ (reads_debug : Bool) where
         at_file (λ limit bytes. IsPastLimit reads_debug limit bytes) i old.files split place why.0 so_far.files (subst (λ (o : Option (List NamedFile)). FileHas name o (λ bytes. IsPastLimit reads_debug room bytes)) files_same why.1)
     files_stop (outcome.Refused (refusal.TooManyFiles count)) split place why = absurd why
     files_stop (outcome.Refused (refusal.TooDeep depth)) split place why = absurd why
+    files_stop (outcome.Refused (refusal.Plan r)) split place why = absurd why
     files_stop (outcome.Refused (refusal.Link l)) split place why = absurd why
+    files_stop (outcome.Refused (refusal.Locate l maus)) split place why = absurd why
     files_stop (outcome.Usage f) split place why = absurd why
+    files_stop (outcome.ReadFault input.Plan) split place why = absurd why
     files_stop (outcome.ReadFault (input.File i)) split place why = (rose_since before.reads between.reads now.reads so_far.later why.1, accepted_before i old.files why.0 so_far.files)
     files_stop outcome.WriteFault split place why = absurd why
     files_stop outcome.NoMemory split place why = tt
@@ -212,20 +217,23 @@ module _ (reads_debug : Bool) where
     opened_now : OnSome new.opened (GrowsBy mid.opened new.opened (name ∷ [])) → OnSome new.opened (GrowsBy old.opened new.opened (take (number + 1) names))
     opened_now opened = subst (λ (l : List (List ℕ)). OnSome new.opened (GrowsBy old.opened new.opened l)) (sym next) (grows_then old.opened mid.opened new.opened (take number names) (name ∷ []) so_far.opened opened)
 
-    opened_count : (stop : Outcome) → FileStops reads_debug name number room mid.files between now stop → IsOpenedCount (length names) stop (number + 1)
+    opened_count : (stop : Outcome) → FileStops reads_debug name number room mid.files between now stop → IsFileCount stop (number + 1)
     opened_count outcome.Done why = absurd why
     opened_count (outcome.Refused (refusal.Read i r)) why = let is = why.0 in omega (arith, is)
     opened_count (outcome.Refused (refusal.InputLimit i)) why = let is = why.0 in omega (arith, is)
     opened_count (outcome.Refused (refusal.TooManyFiles count)) why = absurd why
     opened_count (outcome.Refused (refusal.TooDeep depth)) why = absurd why
+    opened_count (outcome.Refused (refusal.Plan r)) why = absurd why
     opened_count (outcome.Refused (refusal.Link l)) why = absurd why
+    opened_count (outcome.Refused (refusal.Locate l maus)) why = absurd why
     opened_count (outcome.Usage f) why = absurd why
+    opened_count (outcome.ReadFault input.Plan) why = absurd why
     opened_count (outcome.ReadFault (input.File i)) why = let is = why.0 in omega (arith, is)
     opened_count outcome.WriteFault why = absurd why
     opened_count outcome.NoMemory why = tt
 
     -- and none after it was opened
-    pub stop_opens : (stop : Outcome) → number < length names → FileStops reads_debug name number room mid.files between now stop → OnSome new.opened (GrowsBy mid.opened new.opened (name ∷ [])) → OpensPrefix names (call_between old new before now) stop
+    pub stop_opens : (stop : Outcome) → number < length names → FileStops reads_debug name number room mid.files between now stop → OnSome new.opened (GrowsBy mid.opened new.opened (name ∷ [])) → OpensFiles names (call_between old new before now) stop
     stop_opens stop inside why opened = record { count = number + 1; exact = opened_count stop why; within = omega (arith, inside); opened = opened_now opened }
 
   -- ---- all files

@@ -10,20 +10,28 @@ use Rattle.mufom_module.specs.declared.module.Parts.{Parts}
 use Rattle.mufom_module.specs.Written.{written}
 use Rattle.mufom_read.proofs.PrefixJudged.{has_one_judgment}
 use Rattle.mufom_read.proofs.SpelledJudged.{judgments_exclude_each_other}
+use Rattle.mufom_text.specs.Image.{image_text}
 use Rattle.mufom_text.specs.Show.{module_text}
+use Rattle.mufom_plan.specs.declared.plan.Plan.{Plan}
+use Rattle.mufom_plan.specs.declared.refusal.PlanRefusal.{PlanRefusal}
+use Rattle.mufom_plan.specs.PlanText.{plan_of_text}
+use Rattle.mufom_meaning.specs.Absolute.{absolute_of, no_regions}
+use Rattle.mufom_meaning.specs.Facts.{LocateFact}
+use Rattle.mufom_meaning.specs.LocateAnswer.{locate_answer}
+use Rattle.mufom_meaning.specs.Location.{IsLocation}
+use Rattle.mufom_meaning.proofs.locations.Single.{location_is_single}
+use Rattle.mufom_words.specs.Tree.{tree_of}
 use Rattle.mufom_command.specs.declared.outcome.Outcome.{Outcome}
 use Rattle.mufom_command.specs.declared.outcome.Outcome.TheVariants as outcome
-use Rattle.mufom_groups.specs.Linked.{linked_module}
+use Rattle.mufom_groups.specs.Linked.{joined, linked}
 use Rattle.mufom_groups.specs.Work.{Reached, gives, stops, Work, ◌>>=◌, with_stops, IsSingle}
-use Rattle.mufom_groups.proofs.Singles.{linked_module-single}
+use Rattle.mufom_groups.proofs.Singles.{joined-single, linked-single}
 use Rattle.mufom_groups.proofs.Works.{sure-single, stop_at-single, one_with-single, nowhere-single, stops-single, then-single}
-use Rattle.mufom_command.specs.Stop.{Stop, words_refused, file_refused, past_limit, link_fact}
-use Rattle.mufom_command.specs.Inputs.{Verdict, accepted, refused, past_limit as past, ComeTo}
-use Rattle.mufom_command.specs.Plain.{Image, IsPlainModule}
-use Rattle.mufom_command.specs.Text.{Text, check_text, dump_text}
-use Rattle.mufom_command.specs.Commands.{Output, printed, made, prints, writes, modules_in, listing, linking, only_file, plain_image, plain_dump, not_obeyed, work_of, work_by, run_of}
+use Rattle.mufom_command.specs.Stop.{Stop, words_refused, plan_refused, file_refused, past_limit, link_fact, locate_fact}
+use Rattle.mufom_command.specs.Inputs.{HaveOneVerdict, Verdict, accepted, refused, past_limit as past, ComeTo}
+use Rattle.mufom_command.specs.Text.{Text, check_text}
+use Rattle.mufom_command.specs.Commands.{Output, printed, made, prints, writes, file_in, plan_by, plan_in, modules_in, maus_of, located, located_unless, linked_file, absolute_file, printed_image, listing, linking, not_obeyed, work_of, work_by, run_of}
 use Rattle.mufom_command.specs.Run.{AnswersBy, AnswersFor, Call, IsForced, outcome_of, stop_outcome, stop_answer}
-use Rattle.mufom_command.proofs.Judgments.{not_both, one_image, one_refusal}
 use Rattle.mufom_command.proofs.Verdicts.{one_verdict}
 
 -- ---- the inputs
@@ -42,13 +50,19 @@ by_verdict files c (gives ms) is = (accepted ms, is, refl)
 by_verdict files c (stops (file_refused n r)) is = (refused n r, is, refl)
 by_verdict files c (stops (past_limit n)) is = (past n, is, refl)
 by_verdict files c (stops (words_refused s)) is = absurd is
+by_verdict files c (stops (plan_refused r)) is = absurd is
 by_verdict files c (stops (link_fact f)) is = absurd is
+by_verdict files c (stops (locate_fact maus f)) is = absurd is
 
-modules_in-single : (files : List NamedFile) → HoldBytes files → (c : Command) → IsSingle (modules_in files c)
+-- files come to one verdict
+pub one-verdict : HaveOneVerdict
+one-verdict = one_verdict (has_one_judgment judgments_exclude_each_other)
+
+pub modules_in-single : (files : List NamedFile) → HoldBytes files → (c : Command) → IsSingle (modules_in files c)
 modules_in-single files bytes c x y is_x is_y =
     let (v, comes_v, is_v) = by_verdict files c x is_x in
     let (w, comes_w, is_w) = by_verdict files c y is_y in
-    let same : v ≡ w = one_verdict (has_one_judgment judgments_exclude_each_other) (not c.no_debug) files c.files v w bytes comes_v comes_w in
+    let same : v ≡ w = one-verdict (not c.no_debug) files c.files v w bytes comes_v comes_w in
     sym is_v ∙ (ap reached_by same ∙ is_w)
 
 -- ---- the outputs
@@ -57,19 +71,36 @@ writes-single : (name : Option (List ℕ)) (bytes : List ℕ) → IsSingle (writ
 writes-single None bytes = nowhere-single
 writes-single (Some name) bytes = sure-single (made name bytes)
 
--- ---- the plain dump
+-- ---- the plan
 
-only_file-single : (files : List NamedFile) (names : List (List ℕ)) → IsSingle (only_file files names)
-only_file-single files names = one_with-single (λ bytes. (name : List ℕ) × (names ≡ name ∷ []) × (file_named name files ≡ Some bytes)) single where
-  single : (a b : List ℕ) → (name : List ℕ) × (names ≡ name ∷ []) × (file_named name files ≡ Some a) → (name : List ℕ) × (names ≡ name ∷ []) × (file_named name files ≡ Some b) → a ≡ b
-  single a b (name, is_a, has_a) (other, is_b, has_b) = let same : name ≡ other = cc in let has : file_named name files ≡ Some b = ap (λ n. file_named n files) same ∙ has_b in cc
+plan_by-single : (r : Result Plan PlanRefusal) → IsSingle (plan_by r)
+plan_by-single (Ok plan) = sure-single plan
+plan_by-single (Err r) = stop_at-single (plan_refused r)
 
-plain_image-single : (bytes : List ℕ) → IsSingle (plain_image bytes)
-plain_image-single bytes (gives a) (gives b) (image, plain, is_a) (other, also, is_b) =
-    ap gives (is_a ∙ ap (λ (i : Image). printed (dump_text i)) (one_image bytes image other plain also) ∙ sym is_b)
-plain_image-single bytes (gives a) (stops s) (image, plain, is_a) (r, is_s, refuses) = absurd (not_both bytes image r plain refuses)
-plain_image-single bytes (stops s) (gives a) (r, is_s, refuses) (image, plain, is_a) = absurd (not_both bytes image r plain refuses)
-plain_image-single bytes (stops s) (stops t) (r, is_s, refuses) (q, is_t, also) = ap stops (is_s ∙ ap (file_refused 0) (one_refusal bytes r q refuses also) ∙ sym is_t)
+pub plan_in-single : (files : List NamedFile) (name : Option (List ℕ)) → IsSingle (plan_in files name)
+plan_in-single files None = sure-single no_regions
+plan_in-single files (Some name) =
+    then-single (file_in files name) (λ bytes. plan_by (plan_of_text bytes)) (one_with-single (λ bytes. file_named name files ≡ Some bytes) (λ a b is_a is_b. let same : Some a ≡ Some b = sym is_a ∙ is_b in cc))
+    (λ bytes. plan_by-single (plan_of_text bytes))
+
+-- ---- what is put out of a list
+
+pub located-single : (plan : Plan) (ms : List Parts) → IsSingle (located plan ms)
+located-single plan ms = by (locate_answer ms plan) where
+  by : (o : Option LocateFact) → IsSingle (located_unless o plan ms)
+  by None = one_with-single (IsLocation ms plan) (location_is_single ms plan)
+  by (Some f) = stop_at-single (locate_fact (maus_of ms) f)
+
+module _ (c : Command) (plan : Plan) (flat : List Parts) where
+  pub linked_file-single : IsSingle (linked_file c plan flat)
+  linked_file-single =
+      then-single (with_stops link_fact (joined c.name flat)) (λ M. writes c.out (written M)) (stops-single link_fact (joined c.name flat) (joined-single c.name flat)) (λ M. writes-single c.out (written M))
+
+  pub absolute_file-single : IsSingle (absolute_file c plan flat)
+  absolute_file-single = then-single (located plan flat) (λ r. writes c.out (written (absolute_of r))) (located-single plan flat) (λ r. writes-single c.out (written (absolute_of r)))
+
+  pub printed_image-single : IsSingle (printed_image c plan flat)
+  printed_image-single = then-single (located plan flat) (λ r. prints (image_text r)) (located-single plan flat) (λ r. sure-single (printed (image_text r)))
 
 -- ---- the table
 
@@ -77,20 +108,18 @@ module _ (files : List NamedFile) (bytes : HoldBytes files) (c : Command) where
   listing-single : (text : List Parts → Text) → IsSingle (listing text files c)
   listing-single text = then-single (modules_in files c) (λ ms. prints (text ms)) (modules_in-single files bytes c) (λ ms. sure-single (printed (text ms)))
 
-  linking-single : IsSingle (linking files c)
-  linking-single =
-      then-single (modules_in files c) (λ ms. with_stops link_fact (linked_module c ms) >>= λ M. writes c.out (written M)) (modules_in-single files bytes c) λ ms.
-      then-single (with_stops link_fact (linked_module c ms)) (λ M. writes c.out (written M)) (stops-single link_fact (linked_module c ms) (linked_module-single c ms)) λ M. writes-single c.out (written M)
-
-  dump-single : IsSingle (plain_dump files c)
-  dump-single = then-single (only_file files c.files) plain_image (only_file-single files c.files) plain_image-single
+  linking-single : (output : Command → Plan → List Parts → Work Stop Output) → ((plan : Plan) (flat : List Parts) → IsSingle (output c plan flat)) → IsSingle (linking output files c)
+  linking-single output single =
+      then-single (plan_in files c.plan) (λ plan. modules_in files c >>= λ ms. with_stops link_fact (linked (tree_of c.marks) ms) >>= λ flat. output c plan flat) (plan_in-single files c.plan) λ plan.
+      then-single (modules_in files c) (λ ms. with_stops link_fact (linked (tree_of c.marks) ms) >>= λ flat. output c plan flat) (modules_in-single files bytes c) λ ms.
+      then-single (with_stops link_fact (linked (tree_of c.marks) ms)) (λ flat. output c plan flat) (stops-single link_fact (linked (tree_of c.marks) ms) (linked-single (tree_of c.marks) ms)) λ flat. single plan flat
 
   work_of-single : (v : Verb) → IsSingle (work_of v files c)
   work_of-single verb.Show = listing-single (λ ms. flat_map module_text ms)
   work_of-single verb.Check = listing-single check_text
-  work_of-single verb.Link = linking-single
-  work_of-single verb.Locate = nowhere-single
-  work_of-single verb.Dump = dump-single
+  work_of-single verb.Link = linking-single linked_file (linked_file-single c)
+  work_of-single verb.Locate = linking-single absolute_file (absolute_file-single c)
+  work_of-single verb.Dump = linking-single printed_image (printed_image-single c)
   work_of-single verb.Make = nowhere-single
 
 -- A run comes to one end at most.
@@ -103,7 +132,7 @@ run_of-single words files bytes = by (answer_of words) where
 -- ---- so an answer that has its cause is complete
 
 module _ (call : Call) (files : List NamedFile) (known : call.old.files ≡ Some files) where
-  of-files : (P : List NamedFile → Type 0) → IfSome call.old.files P → P files
+  pub of-files : (P : List NamedFile → Type 0) → IfSome call.old.files P → P files
   of-files P holds = subst (λ (o : Option (List NamedFile)). IfSome o P) known holds
 
   module _ (c : Command) (work : List NamedFile → Work Stop Output) (single : IsSingle (work files)) (reached : Reached Stop Output) (comes : work files reached) where
@@ -119,7 +148,7 @@ module _ (call : Call) (files : List NamedFile) (known : call.old.files ≡ Some
   refused-end s (gives output) comes = absurd comes
   refused-end s (stops t) comes = ap stop_outcome (sym comes)
 
-  complete-by : (r : Result Command WordsStop) → HoldBytes files → (result : Outcome) → AnswersBy r call result → (reached : Reached Stop Output) → work_by r files reached → (result ≡ outcome_of reached) ⊎ IsForced call result
+  pub complete-by : (r : Result Command WordsStop) → HoldBytes files → (result : Outcome) → AnswersBy r call result → (reached : Reached Stop Output) → work_by r files reached → (result ≡ outcome_of reached) ⊎ IsForced call result
   complete-by (Ok c) bytes result is reached comes = complete-for c (λ fs. work_of c.verb fs c) (work_of-single files bytes c c.verb) reached comes result is
   complete-by (Err s) bytes result is reached comes = by is.is where
     by : (result ≡ stop_answer s) ⊎ (result ≡ outcome.NoMemory) → (result ≡ outcome_of reached) ⊎ IsForced call result
@@ -131,8 +160,8 @@ known-to P None each = tt
 known-to P (Some a) each = each a refl
 
 -- An answer that has its cause is complete.
-pub answers-complete : (words : List (List ℕ)) (call : Call) (result : Outcome) → AnswersBy (answer_of words) call result
-    → IfSome call.old.files (λ files. HoldBytes files → (reached : Reached Stop Output) → run_of words files reached → (result ≡ outcome_of reached) ⊎ IsForced call result)
-answers-complete words call result is =
-    known-to (λ files. HoldBytes files → (reached : Reached Stop Output) → run_of words files reached → (result ≡ outcome_of reached) ⊎ IsForced call result) call.old.files
-    (λ files known bytes reached comes. complete-by call files known (answer_of words) bytes result is reached comes)
+pub answers-complete : (words : List (List ℕ)) (call : Call) (result : Outcome) → IfSome call.old.files HoldBytes → AnswersBy (answer_of words) call result
+    → IfSome call.old.files (λ files. (reached : Reached Stop Output) → run_of words files reached → (result ≡ outcome_of reached) ⊎ IsForced call result)
+answers-complete words call result bytes is =
+    known-to (λ files. (reached : Reached Stop Output) → run_of words files reached → (result ≡ outcome_of reached) ⊎ IsForced call result) call.old.files
+    (λ files known reached comes. complete-by call files known (answer_of words) (of-files call files known HoldBytes bytes) result is reached comes)

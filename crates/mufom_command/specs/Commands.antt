@@ -7,16 +7,24 @@ use Rattle.mufom_words.specs.declared.command.Verb.{Verb}
 use Rattle.mufom_words.specs.declared.command.Verb.TheVariants as verb
 use Rattle.mufom_words.specs.declared.stop.WordsStop.{WordsStop}
 use Rattle.mufom_words.specs.Answer.{answer_of}
+use Rattle.mufom_words.specs.Tree.{tree_of}
 use Rattle.mufom_module.specs.declared.module.Parts.{Parts}
 use Rattle.mufom_module.specs.Written.{written}
-use Rattle.mufom_read.specs.declared.refusal.ReadRefusal.{ReadRefusal}
+use Rattle.mufom_plan.specs.declared.plan.Plan.{Plan}
+use Rattle.mufom_plan.specs.declared.refusal.PlanRefusal.{PlanRefusal}
+use Rattle.mufom_plan.specs.PlanText.{plan_of_text}
+use Rattle.mufom_text.specs.Image.{image_text}
 use Rattle.mufom_text.specs.Show.{module_text}
+use Rattle.mufom_meaning.specs.declared.located.LocatedParts.{LocatedParts}
+use Rattle.mufom_meaning.specs.Absolute.{absolute_of, no_regions}
+use Rattle.mufom_meaning.specs.Facts.{LocateFact}
+use Rattle.mufom_meaning.specs.LocateAnswer.{locate_answer}
+use Rattle.mufom_meaning.specs.Location.{IsLocation}
 use Rattle.mufom_groups.specs.Work.{gives, stops, Work, ◌>>=◌, sure, one_with, stop_at, nowhere, with_stops}
-use Rattle.mufom_groups.specs.Linked.{linked_module}
-use Rattle.mufom_command.specs.Stop.{Stop, words_refused, file_refused, past_limit, link_fact}
+use Rattle.mufom_groups.specs.Linked.{joined, linked}
+use Rattle.mufom_command.specs.Stop.{Stop, words_refused, plan_refused, file_refused, past_limit, link_fact, locate_fact}
 use Rattle.mufom_command.specs.Inputs.{ComeTo, accepted, refused, past_limit as past}
-use Rattle.mufom_command.specs.Plain.{Image, IsPlainModule, Refuses}
-use Rattle.mufom_command.specs.Text.{Text, check_text, dump_text}
+use Rattle.mufom_command.specs.Text.{Text, check_text}
 
 -- ---- outputs
 
@@ -35,13 +43,63 @@ writes (Some name) bytes = sure (made name bytes)
 
 -- ---- inputs
 
+-- the bytes of a file that is there
+abbrev pub file_in : List NamedFile → List ℕ → Work Stop (List ℕ)
+file_in files name = one_with (λ bytes. file_named name files ≡ Some bytes)
+
+-- the plan, or why bytes are none
+abbrev pub plan_by : Result Plan PlanRefusal → Work Stop Plan
+plan_by (Ok plan) = sure plan
+plan_by (Err r) = stop_at (plan_refused r)
+
+-- the plan of a file, and the one without regions where no file is named
+abbrev pub plan_in : List NamedFile → Option (List ℕ) → Work Stop Plan
+plan_in files None = sure no_regions
+plan_in files (Some name) = do
+  bytes ← file_in files name
+  plan_by (plan_of_text bytes)
+
 -- the modules of the files
 abbrev pub modules_in : List NamedFile → Command → Work Stop (List Parts)
 modules_in files c (gives ms) = ComeTo (not c.no_debug) files c.files (accepted ms)
 modules_in files c (stops (file_refused n r)) = ComeTo (not c.no_debug) files c.files (refused n r)
 modules_in files c (stops (past_limit n)) = ComeTo (not c.no_debug) files c.files (past n)
-modules_in files c (stops (words_refused s)) = ⊥
-modules_in files c (stops (link_fact f)) = ⊥
+modules_in files c (stops _) = ⊥
+
+-- ---- locating
+
+-- how many bytes an address has
+abbrev pub maus_of : List Parts → ℕ
+maus_of [] = 0
+maus_of (m ∷ ms) = m.maus
+
+abbrev pub located_unless : Option LocateFact → Plan → List Parts → Work Stop LocatedParts
+located_unless None plan ms = one_with (IsLocation ms plan)
+located_unless (Some f) plan ms = stop_at (locate_fact (maus_of ms) f)
+
+-- the location of a list of modules by a plan, or the first locate fact against it
+abbrev pub located : Plan → List Parts → Work Stop LocatedParts
+located plan ms = located_unless (locate_answer ms plan) plan ms
+
+-- ---- what is put out of a list of modules that can be linked, by a plan
+
+-- the file of its partial link
+abbrev pub linked_file : Command → Plan → List Parts → Work Stop Output
+linked_file c plan ms = do
+  M ← with_stops link_fact (joined c.name ms)
+  writes c.out (written M)
+
+-- the file of the absolute module of its location
+abbrev pub absolute_file : Command → Plan → List Parts → Work Stop Output
+absolute_file c plan ms = do
+  r ← located plan ms
+  writes c.out (written (absolute_of r))
+
+-- the text of its image
+abbrev pub printed_image : Command → Plan → List Parts → Work Stop Output
+printed_image c plan ms = do
+  r ← located plan ms
+  prints (image_text r)
 
 -- ---- the table
 
@@ -51,27 +109,13 @@ listing text files c = do
   ms ← modules_in files c
   prints (text ms)
 
--- the file of the module into which the modules of the files are linked
-abbrev pub linking : List NamedFile → Command → Work Stop Output
-linking files c = do
+-- The plan is read, where one is named, and the files; the flat list of their modules is linked; and this is put out of it.
+abbrev pub linking : (Command → Plan → List Parts → Work Stop Output) → List NamedFile → Command → Work Stop Output
+linking output files c = do
+  plan ← plan_in files c.plan
   ms ← modules_in files c
-  M ← with_stops link_fact (linked_module c ms)
-  writes c.out (written M)
-
--- the image of a plain absolute module, or why the bytes of file 0 are none
-abbrev pub plain_image : List ℕ → Work Stop Output
-plain_image bytes (gives output) = (image : Image) × IsPlainModule image bytes × (output ≡ printed (dump_text image))
-plain_image bytes (stops s) = (r : ReadRefusal) × (s ≡ file_refused 0 r) × Refuses bytes r
-
--- the bytes of the only file with one of these names
-abbrev pub only_file : List NamedFile → List (List ℕ) → Work Stop (List ℕ)
-only_file files names = one_with (λ bytes. (name : List ℕ) × (names ≡ name ∷ []) × (file_named name files ≡ Some bytes))
-
--- so far `dump` is for a plain absolute module
-abbrev pub plain_dump : List NamedFile → Command → Work Stop Output
-plain_dump files c = do
-  bytes ← only_file files c.files
-  plain_image bytes
+  flat ← with_stops link_fact (linked (tree_of c.marks) ms)
+  output c plan flat
 
 -- a command that is not obeyed yet; no words give it
 abbrev pub not_obeyed : List NamedFile → Command → Work Stop Output
@@ -81,9 +125,9 @@ not_obeyed files c = nowhere
 abbrev pub work_of : Verb → List NamedFile → Command → Work Stop Output
 work_of verb.Show = listing (λ ms. flat_map module_text ms)
 work_of verb.Check = listing check_text
-work_of verb.Link = linking
-work_of verb.Locate = not_obeyed
-work_of verb.Dump = plain_dump
+work_of verb.Link = linking linked_file
+work_of verb.Locate = linking absolute_file
+work_of verb.Dump = linking printed_image
 work_of verb.Make = not_obeyed
 
 -- the work of the words that give this

@@ -1,12 +1,22 @@
 -- The status of each outcome, and the error line of each but Done.
-use Rattle.std.specs.Prelude.{ℕ, [], ◌++◌, codes}
+use Rattle.std.specs.Prelude.{ℕ, Option, Some, None, [], ◌++◌, codes}
 use Rattle.std.specs.Fmt.{decimal}
 use Rattle.mufom_numbers.specs.declared.reason.Reason.{Reason}
 use Rattle.mufom_numbers.specs.declared.reason.Reason.TheVariants as why
+use Rattle.mufom_plan.specs.declared.refusal.PlanField.{PlanField}
+use Rattle.mufom_plan.specs.declared.refusal.PlanField.TheVariants as field
+use Rattle.mufom_plan.specs.declared.refusal.PlanRefusal.{PlanRefusal}
+use Rattle.mufom_plan.specs.declared.refusal.PlanRefusal.TheVariants as plan
+use Rattle.mufom_place.specs.declared.refusal.PlaceRefusal.{PlaceRefusal}
+use Rattle.mufom_place.specs.declared.refusal.PlaceRefusal.TheVariants as place
 use Rattle.mufom_meaning.specs.declared.located.Descriptor.{Descriptor}
+use Rattle.mufom_meaning.specs.declared.located.Site.{Site}
+use Rattle.mufom_meaning.specs.declared.located.Site.TheVariants as site
+use Rattle.mufom_image.specs.declared.refusal.LocateRefusal.{LocateRefusal}
+use Rattle.mufom_image.specs.declared.refusal.LocateRefusal.TheVariants as locate
 use Rattle.mufom_link.specs.declared.refusal.LinkRefusal.{LinkRefusal}
 use Rattle.mufom_link.specs.declared.refusal.LinkRefusal.TheVariants as link
-use Rattle.mufom_text.specs.Show.{order_letter}
+use Rattle.mufom_text.specs.Show.{kind_text, order_letter}
 use Rattle.mufom_command.specs.declared.outcome.Input.{Input}
 use Rattle.mufom_command.specs.declared.outcome.Input.TheVariants as input
 use Rattle.mufom_command.specs.declared.outcome.Outcome.{Outcome}
@@ -15,7 +25,8 @@ use Rattle.mufom_command.specs.declared.outcome.Refusal.{Refusal}
 use Rattle.mufom_command.specs.declared.outcome.Refusal.TheVariants as refusal
 use Rattle.mufom_words.specs.declared.stop.UsageFault.{UsageFault}
 use Rattle.mufom_words.specs.declared.stop.UsageFault.TheVariants as usage
-use Rattle.mufom_command.specs.Text.{Text, line, quoted}
+use Rattle.mufom_text.specs.Image.{address}
+use Rattle.mufom_text.specs.Words.{Text, line, quoted}
 
 abbrev pub status_of : Outcome → ℕ
 status_of outcome.Done = 0
@@ -85,14 +96,68 @@ link_text (link.Duplicate name) = codes "Duplicate " ++ quoted name
 link_text link.DuplicateStart = codes "DuplicateStart"
 link_text link.NoMemory = []
 
+-- the part of a plan that has not the shape it must have
+abbrev pub field_text : PlanField → Text
+field_text field.Region = codes "region"
+field_text field.Extra = codes "extra"
+field_text field.Name = codes "name"
+field_text field.Base = codes "base"
+field_text field.Size = codes "size"
+field_text field.Sections = codes "sections"
+field_text field.Common = codes "common"
+
+-- the region, where there is one
+abbrev pub region_text : Option ℕ → Text
+region_text None = []
+region_text (Some n) = codes " region " ++ decimal n
+
+abbrev pub plan_text : PlanRefusal → Text
+plan_text plan.Syntax = codes "Syntax"
+plan_text (plan.Shape region f) = codes "Shape" ++ region_text region ++ codes " " ++ field_text f
+plan_text (plan.Beyond n) = codes "Beyond region " ++ decimal n
+plan_text plan.TooLong = codes "TooLong"
+plan_text plan.NoMemory = []
+
+abbrev pub place_text : PlaceRefusal → Text
+place_text (place.Unplaced n) = codes "Unplaced section " ++ decimal n
+place_text (place.Misfit n region) = codes "Misfit section " ++ decimal n ++ region_text region
+place_text (place.Overlap n other) = codes "Overlap section " ++ decimal n ++ codes " section " ++ decimal other
+place_text place.NoMemory = []
+
+-- where an expression stands; an address has the given number of units
+abbrev pub site_text : ℕ → Site → Text
+site_text maus (site.Public name) = codes "public " ++ quoted name
+site_text maus (site.Counter n) = codes "counter of section " ++ decimal n
+site_text maus (site.Field n a) = codes "field at " ++ address maus a ++ codes " in section " ++ decimal n
+site_text maus site.Start = codes "start"
+site_text maus (site.Debug n) = codes "debug " ++ decimal n
+
+-- an address, and a value, has the given number of units
+abbrev pub locate_text : ℕ → LocateRefusal → Text
+locate_text maus (locate.Place p) = place_text p
+locate_text maus (locate.Undefined name) = codes "Undefined " ++ quoted name
+locate_text maus (locate.CommonUnplaced name) = codes "CommonUnplaced " ++ quoted name
+locate_text maus (locate.Cycle name) = codes "Cycle " ++ quoted name
+locate_text maus (locate.DivideByZero s) = codes "DivideByZero " ++ site_text maus s
+locate_text maus (locate.Overflow n a k size value) =
+    codes "Overflow section " ++ decimal n ++ codes " at " ++ address maus a ++ codes " " ++ kind_text k ++ codes " " ++ decimal size
+    ++ codes " value " ++ address maus value
+locate_text maus (locate.LoadOutside n a) = codes "LoadOutside section " ++ decimal n ++ codes " at " ++ address maus a
+locate_text maus (locate.LoadedTwice a) = codes "LoadedTwice " ++ address maus a
+locate_text maus (locate.ImageLimit count) = codes "ImageLimit " ++ decimal count
+locate_text maus locate.NoMemory = []
+
 abbrev pub refusal_text : Refusal → Text
 refusal_text (refusal.Read n r) = codes "file " ++ decimal n ++ codes " at " ++ decimal r.place ++ codes ": " ++ reason_text r.reason
 refusal_text (refusal.InputLimit n) = codes "file " ++ decimal n ++ codes ": InputLimit"
 refusal_text (refusal.TooManyFiles n) = codes "TooManyFiles " ++ decimal n
 refusal_text (refusal.TooDeep n) = codes "TooDeep " ++ decimal n
+refusal_text (refusal.Plan p) = codes "plan: " ++ plan_text p
 refusal_text (refusal.Link l) = codes "link: " ++ link_text l
+refusal_text (refusal.Locate l maus) = codes "locate: " ++ locate_text maus l
 
 abbrev pub input_text : Input → Text
+input_text input.Plan = codes "plan"
 input_text (input.File n) = codes "file " ++ decimal n
 
 -- The line of an outcome; of Done there is none.

@@ -1,6 +1,6 @@
 -- What opening and reading files answers.
-use Rattle.std.specs.Prelude.{◌≡◌, ◌⊎◌, ℕ, ◌<◌, ◌≤◌, Bool, List, ◌++◌, length, take, Option, Some, IfSome}
-use Rattle.mufom_host.specs.World.{NamedFile, Faults, Rose, file_named}
+use Rattle.std.specs.Prelude.{◌≡◌, ℕ, ◌+◌, ◌≤◌, Bool, List, length, take, Option, Some, IfSome, OnSome}
+use Rattle.mufom_host.specs.World.{NamedFile, Faults, GrowsBy, Rose, file_named}
 use Rattle.mufom_module.specs.declared.module.Parts.{Parts}
 use Rattle.mufom_read.specs.declared.source.SourceStop.{SourceStop}
 use Rattle.mufom_read.specs.declared.source.SourceStop.TheVariants as stop
@@ -11,16 +11,11 @@ use Rattle.mufom_command.specs.declared.outcome.Outcome.{Outcome}
 use Rattle.mufom_command.specs.declared.outcome.Outcome.TheVariants as outcome
 use Rattle.mufom_command.specs.declared.outcome.Refusal.TheVariants as refusal
 use Rattle.mufom_command.specs.Inputs.{ComeTo, accepted, refused, past_limit}
-use Rattle.mufom_command.specs.Plain.{most_bytes}
 use Rattle.mufom_command.specs.Run.{Call}
 
 -- the file with this name has bytes of which the fact holds; nothing is stated where the files are not known
 abbrev pub FileHas : List ℕ → Option (List NamedFile) → (List ℕ → Type 0) → Type 0
 FileHas name files P = IfSome files (λ fs. (bytes : List ℕ) × (file_named name fs ≡ Some bytes) × P bytes)
-
--- the bytes are all there are, or the prefix of them and more than are read
-abbrev pub IsEnoughOf : List ℕ → List ℕ → Type 0
-IsEnoughOf all bytes = (all ≡ bytes) ⊎ ((most_bytes < length bytes) × ((rest : List ℕ) × (all ≡ bytes ++ rest)))
 
 -- the bytes are those of this module, their number is this, and no more than may be read
 abbrev pub HasModule : Bool → ℕ → Parts → ℕ → List ℕ → Type 0
@@ -35,27 +30,34 @@ outcome_of_source_stop number stop.NoMemory = outcome.NoMemory
 
 -- Why the file with this name and number was not read.
 abbrev pub FileStops : Bool → List ℕ → ℕ → ℕ → Option (List NamedFile) → Faults → Faults → Outcome → Type 0
-FileStops reads_debug name number limit files before now outcome.Done = ⊥
-FileStops reads_debug name number limit files before now (outcome.Refused (refusal.Read i r)) = (i ≡ number) × FileHas name files (λ bytes. IsRefusedWithin reads_debug limit bytes r.place r.reason)
-FileStops reads_debug name number limit files before now (outcome.Refused (refusal.InputLimit i)) = (i ≡ number) × FileHas name files (λ bytes. IsPastLimit reads_debug limit bytes)
-FileStops reads_debug name number limit files before now (outcome.Refused (refusal.TooManyFiles count)) = ⊥
-FileStops reads_debug name number limit files before now (outcome.Refused (refusal.TooDeep depth)) = ⊥
-FileStops reads_debug name number limit files before now (outcome.Refused (refusal.Link l)) = ⊥
-FileStops reads_debug name number limit files before now (outcome.Usage f) = ⊥
+FileStops reads_debug name number limit files before now (outcome.Refused (refusal.Read i r)) =
+    (i ≡ number) × FileHas name files (λ bytes. IsRefusedWithin reads_debug limit bytes r.place r.reason)
+FileStops reads_debug name number limit files before now (outcome.Refused (refusal.InputLimit i)) =
+    (i ≡ number) × FileHas name files (λ bytes. IsPastLimit reads_debug limit bytes)
 FileStops reads_debug name number limit files before now (outcome.ReadFault (input.File i)) = (i ≡ number) × Rose before.reads now.reads
-FileStops reads_debug name number limit files before now outcome.WriteFault = ⊥
 FileStops reads_debug name number limit files before now outcome.NoMemory = Unit {0}
+FileStops reads_debug name number limit files before now _ = ⊥
 
 -- Why the files with these names were not all read.
 abbrev pub FilesStop : Bool → List (List ℕ) → Call → Outcome → Type 0
-FilesStop reads_debug names call outcome.Done = ⊥
 FilesStop reads_debug names call (outcome.Refused (refusal.Read n r)) = IfSome call.old.files (λ files. ComeTo reads_debug files names (refused n r))
 FilesStop reads_debug names call (outcome.Refused (refusal.InputLimit n)) = IfSome call.old.files (λ files. ComeTo reads_debug files names (past_limit n))
-FilesStop reads_debug names call (outcome.Refused (refusal.TooManyFiles count)) = ⊥
-FilesStop reads_debug names call (outcome.Refused (refusal.TooDeep depth)) = ⊥
-FilesStop reads_debug names call (outcome.Refused (refusal.Link l)) = ⊥
-FilesStop reads_debug names call (outcome.Usage f) = ⊥
 FilesStop reads_debug names call (outcome.ReadFault (input.File n)) =
     Rose call.before.reads call.now.reads × IfSome call.old.files (λ files. (ms : List Parts) × ComeTo reads_debug files (take n names) (accepted ms))
-FilesStop reads_debug names call outcome.WriteFault = ⊥
 FilesStop reads_debug names call outcome.NoMemory = Unit {0}
+FilesStop reads_debug names call _ = ⊥
+
+-- How many of the files were opened: up to the one that the answer names; where no memory was found, any number.
+abbrev pub IsFileCount : Outcome → ℕ → Type 0
+IsFileCount (outcome.Refused (refusal.Read n r)) count = count ≡ n + 1
+IsFileCount (outcome.Refused (refusal.InputLimit n)) count = count ≡ n + 1
+IsFileCount (outcome.ReadFault (input.File n)) count = count ≡ n + 1
+IsFileCount outcome.NoMemory count = Unit {0}
+IsFileCount _ count = ⊥
+
+-- the first of the files were opened, in their order
+pub record OpensFiles (names : List (List ℕ)) (call : Call) (result : Outcome) : Type 0 where
+  pub count : ℕ
+  pub exact : IsFileCount result count
+  pub within : count ≤ length names
+  pub opened : OnSome call.new.opened (GrowsBy call.old.opened call.new.opened (take count names))

@@ -1,12 +1,12 @@
-pub mod Formats
-pub mod Plain
-pub mod Reading
 pub mod Text
 pub mod Complaint
 pub mod Inputs
 pub mod Stop
+pub mod LocateRefusals
 pub mod Commands
 pub mod Run
+pub mod RunLaws
 pub mod FilesRead
-pub mod LinkEnds
+pub mod InputsRead
+pub mod WorkEnds
 pub mod Making

@@ -1,12 +1,13 @@
 -- What the contract of the top call states: the answer and its cause, what was put out, which inputs were opened, and which error line was
 -- printed.
-use Rattle.std.specs.Prelude.{◌≡◌, ◌⊎◌, ℕ, ◌+◌, ◌<◌, ◌≤◌, not, List, [], ◌∷◌, ◌++◌, length, take, Option, Some, None, Result, Ok, Err, IfSome, OnSome}
-use Rattle.mufom_host.specs.World.{Meaning, Faults, HoldBytes, NamedFile, Rose, GrowsBy, GrowsByPrefix}
+use Rattle.std.specs.Prelude.{◌≡◌, ◌⊎◌, ℕ, ◌+◌, ◌<◌, ◌≤◌, not, List, [], ◌∷◌, ◌++◌, length, take, Option, Some, None, Result, Ok, Err, IfSome, IsSome, OnSome, option_to_list}
+use Rattle.mufom_host.specs.World.{Meaning, Faults, NamedFile, Rose, GrowsBy, GrowsByPrefix}
 use Rattle.mufom_module.specs.declared.module.Parts.{Parts}
 use Rattle.mufom_words.specs.declared.command.Command.{Command}
 use Rattle.mufom_words.specs.declared.stop.WordsStop.{WordsStop}
 use Rattle.mufom_words.specs.declared.stop.WordsStop.TheVariants as words_stop
 use Rattle.mufom_words.specs.Answer.{answer_of}
+use Rattle.mufom_plan.specs.declared.plan.Plan.{Plan}
 use Rattle.mufom_command.specs.declared.outcome.Input.{Input}
 use Rattle.mufom_command.specs.declared.outcome.Input.TheVariants as input
 use Rattle.mufom_command.specs.declared.outcome.Outcome.{Outcome}
@@ -16,8 +17,9 @@ use Rattle.mufom_command.specs.Complaint.{complaint}
 use Rattle.mufom_command.specs.Inputs.{ComeTo, accepted}
 use Rattle.mufom_groups.specs.Refusals.{link_refusal}
 use Rattle.mufom_groups.specs.Work.{Reached, gives, stops, Work}
-use Rattle.mufom_command.specs.Stop.{Stop, words_refused, file_refused, past_limit, link_fact}
-use Rattle.mufom_command.specs.Commands.{Output, printed, made, work_of, run_of}
+use Rattle.mufom_command.specs.LocateRefusals.{locate_refusal}
+use Rattle.mufom_command.specs.Stop.{Stop, words_refused, plan_refused, file_refused, past_limit, link_fact, locate_fact}
+use Rattle.mufom_command.specs.Commands.{Output, printed, made, plan_in, work_of, run_of}
 
 -- What stood outside before a call and after it, and how often calls of the outside had failed.
 pub record Call : Type 0 where
@@ -41,9 +43,11 @@ stop_answer words_stop.NoMemory = outcome.NoMemory
 
 abbrev pub stop_outcome : Stop → Outcome
 stop_outcome (words_refused s) = stop_answer s
+stop_outcome (plan_refused r) = outcome.Refused (refusal.Plan r)
 stop_outcome (file_refused n r) = outcome.Refused (refusal.Read n r)
 stop_outcome (past_limit n) = outcome.Refused (refusal.InputLimit n)
 stop_outcome (link_fact f) = outcome.Refused (refusal.Link (link_refusal f))
+stop_outcome (locate_fact maus f) = outcome.Refused (refusal.Locate (locate_refusal f) maus)
 
 abbrev pub outcome_of : Reached Stop Output → Outcome
 outcome_of (gives output) = outcome.Done
@@ -57,7 +61,7 @@ IsOfInputs (words_refused s) = ⊥
 IsOfInputs _ = Unit {0}
 
 -- The refusal is an end to which the work on the inputs comes. Of files that are not known nothing is stated.
-pub record IsStopped (work : List NamedFile → Work Stop Output) (files : Option (List NamedFile)) (result : Outcome) : Type 0 where
+pub record IsStopped {A : Type 0} (work : List NamedFile → Work Stop A) (files : Option (List NamedFile)) (result : Outcome) : Type 0 where
   pub stop : Stop
   pub is : result ≡ stop_outcome stop
   pub of_inputs : IsOfInputs stop
@@ -75,8 +79,9 @@ pub record IsOutput (out : Option (List ℕ)) (work : List NamedFile → Work St
 
 -- the input is one of the command, and each that is read before it is accepted
 abbrev pub IsReached : Option (List NamedFile) → Command → Input → Type 0
-IsReached files c (input.File n) =
-    (n < length c.files) × IfSome files (λ fs. (ms : List Parts) × ComeTo (not c.no_debug) fs (take n c.files) (accepted ms))
+IsReached files c input.Plan = IsSome c.plan
+IsReached files c (input.File n) = (n < length c.files)
+    × IfSome files (λ fs. ((plan : Plan) × plan_in fs c.plan (gives plan)) × ((ms : List Parts) × ComeTo (not c.no_debug) fs (take n c.files) (accepted ms)))
 
 -- ---- what was put out
 
@@ -167,28 +172,38 @@ IsForced call outcome.NoMemory = Unit {0}
 -- What the words and the files come to is the answer, unless it is forced.
 abbrev pub IsComplete : List (List ℕ) → Call → Outcome → Type 0
 IsComplete words call result =
-    IfSome call.old.files (λ files. HoldBytes files → (reached : Reached Stop Output) → run_of words files reached → (result ≡ outcome_of reached) ⊎ IsForced call result)
+    IfSome call.old.files (λ files. (reached : Reached Stop Output) → run_of words files reached → (result ≡ outcome_of reached) ⊎ IsForced call result)
 
--- How many of the given number of files were opened: up to the one that the answer names, and else all; where no memory was found, any number.
-abbrev pub IsOpenedCount : ℕ → Outcome → ℕ → Type 0
-IsOpenedCount files (outcome.Refused (refusal.Read n r)) count = count ≡ n + 1
-IsOpenedCount files (outcome.Refused (refusal.InputLimit n)) count = count ≡ n + 1
-IsOpenedCount files (outcome.ReadFault (input.File n)) count = count ≡ n + 1
-IsOpenedCount files outcome.NoMemory count = Unit {0}
-IsOpenedCount files _ count = count ≡ files
+-- the names of the inputs, in the order in which they are read
+abbrev pub inputs_of : Command → List (List ℕ)
+inputs_of c = option_to_list c.plan ++ c.files
 
--- a prefix of the files was opened, in their order
-pub record OpensPrefix (names : List (List ℕ)) (call : Call) (result : Outcome) : Type 0 where
+-- how many inputs are read before this one
+abbrev pub input_place : Command → Input → ℕ
+input_place c input.Plan = 0
+input_place c (input.File n) = length (option_to_list c.plan) + n
+
+-- How many inputs were opened: up to the one that the answer names, and else all; where no memory was found, any number.
+abbrev pub IsOpenedCount : Command → Outcome → ℕ → Type 0
+IsOpenedCount c (outcome.Refused (refusal.Plan r)) count = count ≡ input_place c input.Plan + 1
+IsOpenedCount c (outcome.Refused (refusal.Read n r)) count = count ≡ input_place c (input.File n) + 1
+IsOpenedCount c (outcome.Refused (refusal.InputLimit n)) count = count ≡ input_place c (input.File n) + 1
+IsOpenedCount c (outcome.ReadFault at) count = count ≡ input_place c at + 1
+IsOpenedCount c outcome.NoMemory count = Unit {0}
+IsOpenedCount c _ count = count ≡ length (inputs_of c)
+
+-- the first of the inputs were opened, in their order
+pub record OpensInputs (c : Command) (call : Call) (result : Outcome) : Type 0 where
   pub count : ℕ
-  pub exact : IsOpenedCount (length names) result count
-  pub within : count ≤ length names
-  pub opened : OnSome call.new.opened (GrowsBy call.old.opened call.new.opened (take count names))
+  pub exact : IsOpenedCount c result count
+  pub within : count ≤ length (inputs_of c)
+  pub opened : OnSome call.new.opened (GrowsBy call.old.opened call.new.opened (take count (inputs_of c)))
 
 abbrev pub OpensBy : Result Command WordsStop → Call → Outcome → Type 0
-OpensBy (Ok c) call result = OpensPrefix c.files call result
+OpensBy (Ok c) call result = OpensInputs c call result
 OpensBy (Err s) call result = call.new.opened ≡ call.old.opened
 
--- The files of the command were opened in their order, and nothing else was.
+-- The inputs of the command, its plan and then its files, were opened in their order, and nothing else was.
 abbrev pub Opens : List (List ℕ) → Call → Outcome → Type 0
 Opens words call result = OpensBy (answer_of words) call result
 
@@ -222,7 +237,7 @@ IsPrintedAs answer result = (result ≡ answer) ⊎ ((result ≡ outcome.NoMemor
 -- What a call that does the work of a command has done, before its error line is printed.
 pub record Does (c : Command) (work : List NamedFile → Work Stop Output) (call : Call) (result : Outcome) : Type 0 where
   pub answers : AnswersFor c work call result
-  pub opens : OpensPrefix c.files call result
+  pub opens : OpensInputs c call result
   pub err : call.new.err ≡ call.old.err
   pub counts : NoneFalls call
 

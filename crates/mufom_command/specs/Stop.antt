@@ -1,12 +1,16 @@
 -- What ends a run before it has an output.
 use Rattle.std.specs.Prelude.{ℕ}
 use Rattle.mufom_words.specs.declared.stop.WordsStop.{WordsStop}
+use Rattle.mufom_plan.specs.declared.refusal.PlanRefusal.{PlanRefusal}
 use Rattle.mufom_read.specs.declared.refusal.ReadRefusal.{ReadRefusal}
-use Rattle.mufom_meaning.specs.Facts.{LinkFact}
+use Rattle.mufom_meaning.specs.Facts.{LinkFact, LocateFact}
 
--- The words; a file, by its number, whose bytes are refused, or in which the files have too many bytes; or a link fact.
+-- The words; the bytes of the plan's file; a file, by its number, whose bytes are refused, or in which the files have too many bytes; a
+-- link fact; or a locate fact, with the number of bytes of an address.
 pub data Stop : Type 0 where
   words_refused : WordsStop → Stop
+  plan_refused : PlanRefusal → Stop
   file_refused : ℕ → ReadRefusal → Stop
   past_limit : ℕ → Stop
   link_fact : LinkFact → Stop
+  locate_fact : ℕ → LocateFact → Stop

@@ -1,16 +1,19 @@
 //! The error line of each outcome but `Done`.
 
-ghost use Rattle.std.specs.Prelude.{◌≡◌, IfOk};
+ghost use Rattle.std.specs.Prelude.{◌≡◌, ◌++◌, IfOk, OnOk};
 ghost use Rattle.std.specs.String.{string_bytes};
 ghost use Rattle.mufom_text.specs.Show.{order_letter};
-ghost use Rattle.mufom_command.specs.Complaint.{complaint, reason_text};
+ghost use Rattle.mufom_command.specs.Complaint.{complaint, field_text, plan_text, reason_text};
 
 use crate::lines::quoted;
+use crate::locate_text::{push_locate, push_region};
 use crate::outcome::{Input, Outcome, Refusal};
+use mufom_image::LocateRefusal;
 use mufom_link::LinkRefusal;
 use mufom_meaning::Descriptor;
 use mufom_module::Order;
 use mufom_numbers::{Bytes, NoMemory, Reason};
+use mufom_plan::{PlanField, PlanRefusal};
 use mufom_read::ReadRefusal;
 use mufom_words::UsageFault;
 use std::alloc::Global;
@@ -153,6 +156,62 @@ fn link_line(alloc: Global, refusal: &LinkRefusal) -> Result<Vec<u8>, NoMemory>
     }
 }
 
+// The word of a part of a plan.
+fn field_name(field: PlanField) -> &'static str
+    ensures { result.now ≡ field_text field }
+{
+    match field {
+        PlanField::Region => "region",
+        PlanField::Extra => "extra",
+        PlanField::Name => "name",
+        PlanField::Base => "base",
+        PlanField::Size => "size",
+        PlanField::Sections => "sections",
+        PlanField::Common => "common",
+    }
+}
+
+// Adds why bytes are no plan.
+fn push_plan(alloc: Global, text: &mut Vec<u8>, refusal: PlanRefusal) -> Result<(), NoMemory>
+    ensures { OnOk result (text.new.items ≡ text.old.items ++ plan_text refusal) }
+{
+    match refusal {
+        PlanRefusal::Syntax => text.extend_from_slice(b"Syntax")?,
+        PlanRefusal::Shape { region, field } => {
+            text.extend_from_slice(b"Shape")?;
+            push_region(alloc, text, region)?;
+            text.push(b' ')?;
+            text.extend_from_slice(field_name(field).as_bytes())?;
+        }
+        PlanRefusal::Beyond(region) => {
+            text.extend_from_slice(format!(in alloc; "Beyond region {region}")?.as_bytes())?;
+        }
+        PlanRefusal::TooLong => text.extend_from_slice(b"TooLong")?,
+        PlanRefusal::NoMemory => return Err(NoMemory),
+    }
+    Ok(())
+}
+
+// The line of bytes that are no plan.
+fn plan_line(alloc: Global, refusal: PlanRefusal) -> Result<Vec<u8>, NoMemory>
+    ensures { IfOk result (λ text. text.items ≡ complaint (Outcome.Refused (Refusal.Plan refusal))) }
+{
+    let mut line = Vec::from_slice(alloc, b"refused: plan: ")?;
+    push_plan(alloc, &mut line, refusal)?;
+    line.push(b'\n')?;
+    Ok(line)
+}
+
+// The line of modules that can't be located.
+fn locate_line(alloc: Global, refusal: &LocateRefusal, maus: u8) -> Result<Vec<u8>, NoMemory>
+    ensures { IfOk result (λ text. text.items ≡ complaint (Outcome.Refused (Refusal.Locate refusal.now maus))) }
+{
+    let mut line = Vec::from_slice(alloc, b"refused: locate: ")?;
+    push_locate(alloc, &mut line, maus, refusal)?;
+    line.push(b'\n')?;
+    Ok(line)
+}
+
 /// The line of a refusal.
 pub(crate) fn refusal_line(alloc: Global, refusal: &Refusal) -> Result<Vec<u8>, NoMemory>
     ensures { IfOk result (λ text. text.items ≡ complaint (Outcome.Refused refusal.now)) }
@@ -162,7 +221,9 @@ pub(crate) fn refusal_line(alloc: Global, refusal: &Refusal) -> Result<Vec<u8>, 
         Refusal::InputLimit(file) => Ok(limit_line(alloc, *file)?.into_bytes()),
         Refusal::TooManyFiles(count) => Ok(count_line(alloc, *count)?.into_bytes()),
         Refusal::TooDeep(depth) => Ok(depth_line(alloc, *depth)?.into_bytes()),
+        Refusal::Plan(refusal) => plan_line(alloc, *refusal),
         Refusal::Link(refusal) => link_line(alloc, refusal),
+        Refusal::Locate(refusal, maus) => locate_line(alloc, refusal, *maus),
     }
 }
 
@@ -170,6 +231,8 @@ pub(crate) fn refusal_line(alloc: Global, refusal: &Refusal) -> Result<Vec<u8>, 
 pub(crate) fn fault_line(alloc: Global, input: Input) -> Result<String, NoMemory>
     ensures { IfOk result (λ text. string_bytes text ≡ complaint (Outcome.ReadFault input)) }
 {
-    let Input::File(file) = input;
-    Ok(format!(in alloc; "read fault: file {file}\n")?)
+    match input {
+        Input::Plan => Ok(format!(in alloc; "read fault: plan\n")?),
+        Input::File(file) => Ok(format!(in alloc; "read fault: file {file}\n")?),
+    }
 }

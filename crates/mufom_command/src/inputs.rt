@@ -1,21 +1,26 @@
-//! Reading the module files of a run, in their order.
+//! Reading the inputs of a run: its plan, and then its module files in their order.
 
-ghost use Rattle.std.specs.Prelude.{◌≡◌, ◌*◌, ◌<◌, ◌≤◌, ◌^◌, ◌∷◌, [], length, not, IfErr, IfOk, IfSome, OnSome};
+ghost use Rattle.std.specs.Prelude.{◌≡◌, ◌*◌, ◌<◌, ◌≤◌, ◌^◌, ◌∷◌, [], length, IfErr, IfOk, IfSome, OnSome};
 ghost use Rattle.mufom_module.specs.Defects.{IsValid};
 ghost use Rattle.mufom_module.specs.Written.{weight};
 ghost use Rattle.mufom_meaning.specs.Staging.{AreValid};
 ghost use Rattle.mufom_meaning.specs.StagingLaws.{total_weight};
 ghost use Rattle.mufom_host.specs.World.{GrowsBy, OnlyOpens};
-ghost use Rattle.mufom_command.specs.FilesRead.{FileHas, FileStops, FilesStop, HasModule, outcome_of_source_stop};
-ghost use Rattle.mufom_command.specs.Inputs.{ComeTo, accepted, most_input_bytes};
+ghost use Rattle.mufom_image.specs.Placements.{IsSoundPlan};
 ghost use Rattle.mufom_groups.specs.Groups.{most_weight};
-ghost use Rattle.mufom_command.specs.Run.{call_of, OpensPrefix};
+ghost use Rattle.mufom_groups.specs.Work.{gives};
+ghost use Rattle.mufom_command.specs.FilesRead.{FileHas, FileStops, FilesStop, HasModule, OpensFiles, outcome_of_source_stop};
+ghost use Rattle.mufom_command.specs.Inputs.{ComeTo, accepted, most_input_bytes};
+ghost use Rattle.mufom_command.specs.InputsRead.{inputs_in, InputsStop};
+ghost use Rattle.mufom_command.specs.Run.{call_of, inputs_of, OpensInputs};
 
 use crate::outcome::{Input, Outcome, Refusal};
+use crate::plan_file::command_plan;
 use mufom_host::{Failed, Host};
 use mufom_module::Module;
 use mufom_numbers::limits::MOST_FILE_BYTES;
 use mufom_numbers::{List, NoMemory, Text};
+use mufom_plan::Plan;
 use mufom_read::{SourceStop, read_module};
 use mufom_words::Command;
 use std::alloc::Global;
@@ -80,7 +85,7 @@ fn read_files<H: Host>(
     ensures valid { IfOk result AreValid }
     ensures light { IfOk result (λ modules. total_weight modules ≤ most_weight) }
     ensures stops { IfErr result (λ stop. FilesStop reads_debug names.now (call_of H.meaning H.faults host.old host.new) stop) }
-    ensures opened { IfErr result (λ stop. OpensPrefix names.now (call_of H.meaning H.faults host.old host.new) stop) }
+    ensures opened { IfErr result (λ stop. OpensFiles names.now (call_of H.meaning H.faults host.old host.new) stop) }
     ensures only { OnlyOpens (H.meaning host.old) (H.meaning host.new) (H.faults host.old) (H.faults host.new) }
 {
     let mut modules = List::new(alloc);
@@ -107,23 +112,39 @@ fn read_files<H: Host>(
     Ok(modules)
 }
 
-/// Reads the modules of the files of a command.
-pub(crate) fn read_modules<H: Host>(
+/// The inputs of a command.
+#[derive(Drop)]
+pub(crate) struct Inputs {
+    /// The plan; the one without regions where the command names none.
+    pub plan: Plan,
+    /// The modules of the files.
+    pub modules: List<Module>,
+}
+
+/// Reads the inputs of a command.
+pub(crate) fn read_inputs<H: Host>(
     alloc: Global,
     command: &Command,
     host: &mut H,
-) -> Result<List<Module>, Outcome>
+) -> Result<Inputs, Outcome>
     requires { length command.now.files < 2 ^ 32 }
-    ensures read { IfOk result (λ modules. IfSome (H.meaning host.old).files
-        (λ files. ComeTo (not command.now.no_debug) files command.now.files (accepted modules))) }
-    ensures count { IfOk result (λ modules. length modules ≡ length command.now.files) }
-    ensures all { IfOk result (λ modules. GrowsBy (H.meaning host.old).opened (H.meaning host.new).opened command.now.files) }
-    ensures valid { IfOk result AreValid }
-    ensures light { IfOk result (λ modules. total_weight modules ≤ most_weight) }
-    ensures stops { IfErr result (λ stop. FilesStop (not command.now.no_debug) command.now.files
-        (call_of H.meaning H.faults host.old host.new) stop) }
-    ensures opened { IfErr result (λ stop. OpensPrefix command.now.files (call_of H.meaning H.faults host.old host.new) stop) }
+    ensures read { IfOk result (λ inputs. IfSome (H.meaning host.old).files
+        (λ files. inputs_in files command.now (gives (inputs.plan, inputs.modules)))) }
+    ensures sound { IfOk result (λ inputs. IsSoundPlan inputs.plan) }
+    ensures count { IfOk result (λ inputs. length inputs.modules ≡ length command.now.files) }
+    ensures all { IfOk result (λ inputs. GrowsBy (H.meaning host.old).opened (H.meaning host.new).opened (inputs_of command.now)) }
+    ensures valid { IfOk result (λ inputs. AreValid inputs.modules) }
+    ensures light { IfOk result (λ inputs. total_weight inputs.modules ≤ most_weight) }
+    ensures stops { IfErr result (λ stop. InputsStop command.now (call_of H.meaning H.faults host.old host.new) stop) }
+    ensures opened { IfErr result (λ stop. OpensInputs command.now (call_of H.meaning H.faults host.old host.new) stop) }
     ensures only { OnlyOpens (H.meaning host.old) (H.meaning host.new) (H.faults host.old) (H.faults host.new) }
 {
-    read_files(alloc, command.files.as_slice(), !command.no_debug, host)
+    let plan = match command_plan(alloc, command, host) {
+        Ok(plan) => plan,
+        Err(stop) => return Err(stop),
+    };
+    match read_files(alloc, command.files.as_slice(), !command.no_debug, host) {
+        Ok(modules) => Ok(Inputs { plan, modules }),
+        Err(stop) => Err(stop),
+    }
 }

@@ -1,20 +1,49 @@
-//! That the judgment of files is one, as the contract of a function that does nothing.
+//! Laws of runs, each the contract of a function that does nothing.
 
-ghost use Rattle.std.specs.Prelude.{◌≡◌, ℕ, List};
-ghost use Rattle.mufom_read.specs.Laws.{HasOneJudgment};
 ghost use Rattle.mufom_command.specs.Inputs.{HaveOneVerdict};
-ghost use Rattle.mufom_command.specs.Plain.{Image, IsPlainModule, Refuses};
+ghost use Rattle.mufom_command.specs.RunLaws.{AbsoluteFilesStand, AnswersAreDetermined, LinkedFilesStand, LocatingIsDone, RunsAreSingle, RunsOfStages, StagesMakeNoDifference};
 
-use mufom_read::ReadRefusal;
+/// Files that are read in order come to one verdict, where they hold bytes.
+pub fn files_have_one_verdict()
+    ensures { HaveOneVerdict }
+{}
 
-/// A file is not both a plain module and refused; it has one image, or one place and reason. Files
-/// that are read in order come to one verdict, where each stream has one judgment.
-///
-/// So where no fault rose and memory was found, the answer of [`run`](crate::run) to its files is
-/// the only one that its contract allows.
-pub fn judgments_exclude()
-    ensures not_both { (bytes : List ℕ) (image : Image) (refusal : ReadRefusal) → IsPlainModule image bytes → Refuses bytes refusal → ⊥ }
-    ensures one_image { (bytes : List ℕ) (image other : Image) → IsPlainModule image bytes → IsPlainModule other bytes → image ≡ other }
-    ensures one_refusal { (bytes : List ℕ) (refusal other : ReadRefusal) → Refuses bytes refusal → Refuses bytes other → refusal ≡ other }
-    ensures one_verdict { HasOneJudgment → HaveOneVerdict }
+/// A run comes to one output, or to one end, at most.
+pub fn runs_are_single()
+    ensures { RunsAreSingle }
+{}
+
+/// Where no call failed and memory was found, the answer of a run is the one that its words and files
+/// come to.
+pub fn answers_are_determined()
+    ensures { AnswersAreDetermined }
+{}
+
+/// Where no call failed and memory was found, locating accepted files is done exactly where no fact
+/// stands against their flat list, by any plan and wherever the files have their groups.
+pub fn locating_is_done()
+    ensures { LocatingIsDone }
+{}
+
+/// A list that earlier runs linked in stages is put out as the list that the stages began with: its
+/// link, its absolute module and its image.
+pub fn stages_make_no_difference()
+    ensures { StagesMakeNoDifference }
+{}
+
+/// A command whose files were linked in stages comes to what is put out of the list that the stages
+/// began with.
+pub fn runs_of_stages()
+    ensures { RunsOfStages }
+{}
+
+/// What a link puts out is the file of a module that stands for the flat list, in every context.
+pub fn linked_files_stand()
+    ensures { LinkedFilesStand }
+{}
+
+/// What locating puts out is the file of an absolute module that, located alone by the plan without
+/// regions, is located as itself.
+pub fn absolute_files_stand()
+    ensures { AbsoluteFilesStand }
 {}

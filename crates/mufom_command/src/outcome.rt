@@ -1,13 +1,17 @@
 ghost use Rattle.std.specs.Prelude.{◌≡◌};
 ghost use Rattle.mufom_command.specs.Complaint.{status_of};
 
+use mufom_image::LocateRefusal;
 use mufom_link::LinkRefusal;
+use mufom_plan::PlanRefusal;
 use mufom_read::ReadRefusal;
 use mufom_words::UsageFault;
 
 /// An input of a run.
 #[derive(Clone, Copy, Debug, PartialEq, Eq)]
 pub enum Input {
+    /// The file of the plan.
+    Plan,
     /// The file with this number, from 0 in the order of the words.
     File(u32),
 }
@@ -23,8 +27,12 @@ pub enum Refusal {
     TooManyFiles(u32),
     /// This number of groups is open at once, more than a run may have.
     TooDeep(u32),
+    /// The bytes of the plan's file are no plan.
+    Plan(PlanRefusal),
     /// The files, or those of a group, can't be linked.
     Link(LinkRefusal),
+    /// The files can't be located; an address of theirs has this number of units.
+    Locate(LocateRefusal, u8),
 }
 
 /// How a run ended.

@@ -26,13 +26,13 @@ flat_list-single tree ms flat other (chosen, is_chosen, is_flat) (again, is_agai
     let same : chosen ≡ again = selection_is_single (roots tree ms) (members tree ms) chosen again is_chosen is_again in
     is_flat ∙ (ap (λ (l : List ℕ). roots tree ms ++ members_at (members tree ms) l) same ∙ sym is_other)
 
-linked-single : (tree : Forest) (ms : List Parts) → IsSingle (linked tree ms)
+pub linked-single : (tree : Forest) (ms : List Parts) → IsSingle (linked tree ms)
 linked-single tree ms =
     then-single (links (tree_links tree ms)) (λ _. one_with (IsFlatList tree ms) >>= λ flat. links (flat ∷ []) >>= λ _. sure flat) (links-single (tree_links tree ms)) λ _.
     then-single (one_with (IsFlatList tree ms)) (λ flat. links (flat ∷ []) >>= λ _. sure flat) (one_with-single (IsFlatList tree ms) (flat_list-single tree ms)) λ flat.
     then-single (links (flat ∷ [])) (λ _. sure flat) (links-single (flat ∷ [])) λ _. sure-single flat
 
-joined-single : (name : Option (List ℕ)) (ms : List Parts) → IsSingle (joined name ms)
+pub joined-single : (name : Option (List ℕ)) (ms : List Parts) → IsSingle (joined name ms)
 joined-single name ms = one_with-single (λ M. IsJoined M ms (unwrap_or name (first_name ms))) (λ M N. joined_is_single M N ms (unwrap_or name (first_name ms)))
 
 pub linked_module-single : (c : Command) (ms : List Parts) → IsSingle (linked_module c ms)

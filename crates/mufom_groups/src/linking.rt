@@ -4,6 +4,7 @@
 ghost use Rattle.std.specs.Prelude.{◌≡◌, ◌+◌, ◌++◌, ◌<◌, ◌≤◌, ◌^◌, [], ◌∷◌, length, map, drop, slice_get, unwrap_or, None, IfOk, IfErr, IfSome, OnOk};
 ghost use Rattle.std.specs.Vec.Iter.{into_iter_items};
 ghost use Rattle.mufom_module.specs.Defects.{IsValid};
+ghost use Rattle.mufom_module.specs.Written.{weight};
 ghost use Rattle.mufom_place.specs.Facts.{first_some};
 ghost use Rattle.mufom_meaning.specs.Joined.{IsJoined};
 ghost use Rattle.mufom_meaning.specs.LinkAnswer.{link_answer};
@@ -226,6 +227,7 @@ fn link_flat(alloc: Global, command: &Command, flat: &[Module]) -> Result<Module
     requires light { total_weight flat.now ≤ most_weight }
     ensures joined { IfOk result (λ M. IsJoined M flat.now (unwrap_or command.now.name (first_name flat.now))) }
     ensures linkable { IfOk result (λ _. link_answer flat.now ≡ None) }
+    ensures light { IfOk result (λ M. weight M < most_weight + 2 ^ 16) }
     ensures refused { IfErr result (λ e. IsRefusalOf flat.now e) }
 {
     match &command.name {
@@ -265,6 +267,8 @@ pub fn link_modules(
     requires valid { AreValid modules }
     requires light { total_weight modules ≤ most_weight }
     ensures ok { IfOk result (λ M. linked_module command.now modules (gives M)) }
+    // It weighs little more than the modules of a run do together at most.
+    ensures light { IfOk result (λ M. weight M < most_weight + 2 ^ 16) }
     ensures refused { IfErr result (λ e. StopsWork (linked_module command.now modules) e) }
 {
     let marks = command.marks.as_slice();

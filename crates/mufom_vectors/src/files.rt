@@ -9,7 +9,7 @@ use std::alloc::Global;
 use std::process::Abort;
 use std::test::Fail;
 
-const ROOM: usize = 1_048_576;
+pub(crate) const ROOM: usize = 1_048_576;
 
 /// An absolute section of four bytes at 1000, loaded whole, with its start address.
 pub(crate) const ABSOLUTE: [u8; 120] = [

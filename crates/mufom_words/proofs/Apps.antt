@@ -12,7 +12,6 @@ app_for-simple form.Check = refl
 app_for-simple form.Link = refl
 app_for-simple form.Locate = refl
 app_for-simple form.Dump = refl
-app_for-simple form.PlainDump = refl
 app_for-simple form.Make = refl
 
 pub app_for-free : (f : Form) → is_simple_and_free (app_for f) ≡ true
@@ -21,5 +20,4 @@ app_for-free form.Check = refl
 app_for-free form.Link = refl
 app_for-free form.Locate = refl
 app_for-free form.Dump = refl
-app_for-free form.PlainDump = refl
 app_for-free form.Make = refl

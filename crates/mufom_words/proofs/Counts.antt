@@ -405,7 +405,6 @@ app_for-mild form.Check = (inl refl, (inr (refl, refl, refl, refl), tt))
 app_for-mild form.Link = (inl refl, (inl refl, (inl refl, (inr (refl, refl, refl, refl), tt))))
 app_for-mild form.Locate = (inl refl, (inl refl, (inl refl, (inr (refl, refl, refl, refl), tt))))
 app_for-mild form.Dump = (inl refl, (inl refl, (inr (refl, refl, refl, refl), tt)))
-app_for-mild form.PlainDump = (inr (refl, refl, refl, refl), tt)
 app_for-mild form.Make = (inr (refl, refl, refl, refl), tt)
 
 app_for-words : (f : Form) (words : List Text) → argument_words (app_for f) words ≡ drop 1 words
@@ -414,7 +413,6 @@ app_for-words form.Check words = refl
 app_for-words form.Link words = refl
 app_for-words form.Locate words = refl
 app_for-words form.Dump words = refl
-app_for-words form.PlainDump words = refl
 app_for-words form.Make words = refl
 
 pub operands-within : (f : Form) (words : List Text) → length (given f words).operands ≤ length words

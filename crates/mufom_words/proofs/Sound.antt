@@ -22,10 +22,10 @@ use Rattle.mufom_words.specs.declared.options.Setting.TheVariants as setting
 use Rattle.mufom_words.specs.declared.stop.UsageFault.{UsageFault}
 use Rattle.mufom_words.specs.declared.stop.UsageFault.TheVariants as fault
 use Rattle.mufom_words.specs.declared.stop.WordsStop.{WordsStop}
-use Rattle.mufom_words.specs.Options.{Text, Usage, Given, usage_of, app_for, form_of, takes, id_of, given_by, makes_file, makes_modules, reads_plan, is_obeyed, takes_one_file}
+use Rattle.mufom_words.specs.Options.{Text, Usage, Given, usage_of, app_for, form_of, takes, id_of, given_by, makes_file, makes_modules, names_module, reads_plan, is_obeyed, takes_one_file}
 use Rattle.mufom_words.specs.Operands.{word_of, file_words, is_name, names_in, operands_fault, number_fault, count_fault, count_of, is_digit, decimal_number, most_modules, number_of, files_of, marks_of, depth_of}
 use Rattle.mufom_words.specs.Tree.{tree_of, leaves}
-use Rattle.mufom_words.specs.Answer.{◌or_else◌, most_files, longest_name, options_fault, name_fault, out_fault, usage_fault, limit_stop, limit_stop_by, usage, words_stop, command_by, unless_stopped, answer_for, given}
+use Rattle.mufom_words.specs.Answer.{◌or_else◌, most_files, longest_name, options_fault, name_fault, out_fault, usage_fault, limit_stop, limit_stop_by, usage, words_stop, command_by, unless_stopped, answer_for, answer_of, given}
 use Rattle.mufom_words.specs.Sound.{numbers_from, IsSound, IsObeyed, CommandsAreSound}
 use Rattle.mufom_words.proofs.TreeOfWords.{tree_count, count-some, count-some-plain, length-numbers_from, IsTreeOf, tree-of-words, tree-of-plain}
 
@@ -172,7 +172,6 @@ takes-out form.Check = refl
 takes-out form.Link = refl
 takes-out form.Locate = refl
 takes-out form.Dump = refl
-takes-out form.PlainDump = refl
 takes-out form.Make = refl
 
 takes-no-plan : (f : Form) → reads_plan (usage_of f).verb ≡ false → takes (usage_of f).settings setting.Plan ≡ false
@@ -181,8 +180,15 @@ takes-no-plan form.Check e = refl
 takes-no-plan form.Link e = refl
 takes-no-plan form.Locate e = absurd cc
 takes-no-plan form.Dump e = absurd cc
-takes-no-plan form.PlainDump e = absurd cc
 takes-no-plan form.Make e = refl
+
+takes-no-name : (f : Form) → names_module (usage_of f).verb ≡ false → takes (usage_of f).settings setting.Name ≡ false
+takes-no-name form.Show e = refl
+takes-no-name form.Check e = refl
+takes-no-name form.Link e = absurd cc
+takes-no-name form.Locate e = refl
+takes-no-name form.Dump e = refl
+takes-no-name form.Make e = refl
 
 takes-files : (f : Form) → makes_modules (usage_of f).verb ≡ false → (usage_of f).operands ≢ OneCount
 takes-files form.Show e = λ same. cc
@@ -190,7 +196,6 @@ takes-files form.Check e = λ same. cc
 takes-files form.Link e = λ same. cc
 takes-files form.Locate e = λ same. cc
 takes-files form.Dump e = λ same. cc
-takes-files form.PlainDump e = λ same. cc
 takes-files form.Make e = absurd cc
 
 takes-count : (f : Form) → makes_modules (usage_of f).verb ≡ true → (usage_of f).operands ≡ OneCount
@@ -199,7 +204,6 @@ takes-count form.Check e = absurd cc
 takes-count form.Link e = absurd cc
 takes-count form.Locate e = absurd cc
 takes-count form.Dump e = absurd cc
-takes-count form.PlainDump e = absurd cc
 takes-count form.Make e = refl
 
 -- ---- the command
@@ -221,6 +225,7 @@ sound_by f rows is =
         out = λ makes. out-given (takes (usage_of f).settings setting.Out) (given_by f rows).out is.out (takes-out f ∙ makes);
         no_out = λ makes. not-taken (takes (usage_of f).settings setting.Out) (first_of (id_of setting.Out) rows) (takes-out f ∙ makes);
         no_plan = λ reads. not-taken (takes (usage_of f).settings setting.Plan) (first_of (id_of setting.Plan) rows) (takes-no-plan f reads);
+        no_name = λ names. not-taken (takes (usage_of f).settings setting.Name) (first_of (id_of setting.Name) rows) (takes-no-name f names);
         short = name-short (given_by f rows).name is.name;
         count = λ makes. count-bounds o words is.count (takes-count f makes);
       };
@@ -232,6 +237,15 @@ commands-sound f words c e =
     let fine = accepted (words_stop (usage_of f) (fault_of (app_for f) words) (given f words)) (command_by (usage_of f) (given f words)) c e in
     subst IsSound fine.1 (sound_by f (matches_of (app_for f) words) (accepted_by (usage_of f) (fault_of (app_for f) words) (given f words) fine.0))
 
+sound-by : (words : List Text) (f : Option Form) (c : Command) → answer_for f words ≡ Ok c → IsSound c
+sound-by words None c named = absurd cc
+sound-by words (Some f) c named = commands-sound f words c named
+
+-- so is the command of words
+pub words-sound : (words : List Text) (c : Command) → answer_of words ≡ Ok c → IsSound c
+words-sound [] c named = absurd cc
+words-sound (word ∷ words) c named = sound-by (word ∷ words) (form_of word) c named
+
 -- ---- the obeyed ones
 
 record IsObeyedForm (f : Form) : Type 0 where
@@ -240,13 +254,17 @@ record IsObeyedForm (f : Form) : Type 0 where
   one : takes_one_file (usage_of f).verb ≡ true → (usage_of f).operands ≡ OneFile
 
 form_of-obeyed : (word : Text) (f : Form) → Some f ≡ form_of word → IsObeyedForm f
-form_of-obeyed word f is = by_name (bytes_eq word (codes "show")) (bytes_eq word (codes "check")) (bytes_eq word (codes "link")) (bytes_eq word (codes "dump")) is where
-  by_name : (a b c d : Bool) → Some f ≡ cond a (Some form.Show) (cond b (Some form.Check) (cond c (Some form.Link) (cond d (Some form.PlainDump) None))) → IsObeyedForm f
-  by_name true b c d e = let same : form.Show ≡ f = cc in subst IsObeyedForm same (record { verb = refl; files = λ bad. cc; one = λ _. refl })
-  by_name false true c d e = let same : form.Check ≡ f = cc in subst IsObeyedForm same (record { verb = refl; files = λ bad. cc; one = λ bad. absurd cc })
-  by_name false false true d e = let same : form.Link ≡ f = cc in subst IsObeyedForm same (record { verb = refl; files = λ bad. cc; one = λ bad. absurd cc })
-  by_name false false false true e = let same : form.PlainDump ≡ f = cc in subst IsObeyedForm same (record { verb = refl; files = λ bad. cc; one = λ _. refl })
-  by_name false false false false e = absurd cc
+form_of-obeyed word f is =
+    by_name (bytes_eq word (codes "show")) (bytes_eq word (codes "check")) (bytes_eq word (codes "link")) (bytes_eq word (codes "locate")) (bytes_eq word (codes "dump")) is
+  where
+    by_name : (a b c d e : Bool)
+        → Some f ≡ cond a (Some form.Show) (cond b (Some form.Check) (cond c (Some form.Link) (cond d (Some form.Locate) (cond e (Some form.Dump) None)))) → IsObeyedForm f
+    by_name true b c d e is = let same : form.Show ≡ f = cc in subst IsObeyedForm same (record { verb = refl; files = λ bad. cc; one = λ _. refl })
+    by_name false true c d e is = let same : form.Check ≡ f = cc in subst IsObeyedForm same (record { verb = refl; files = λ bad. cc; one = λ bad. absurd cc })
+    by_name false false true d e is = let same : form.Link ≡ f = cc in subst IsObeyedForm same (record { verb = refl; files = λ bad. cc; one = λ bad. absurd cc })
+    by_name false false false true e is = let same : form.Locate ≡ f = cc in subst IsObeyedForm same (record { verb = refl; files = λ bad. cc; one = λ bad. absurd cc })
+    by_name false false false false true is = let same : form.Dump ≡ f = cc in subst IsObeyedForm same (record { verb = refl; files = λ bad. cc; one = λ bad. absurd cc })
+    by_name false false false false false is = absurd cc
 
 command-obeyed : (f : Form) (words : List Text) (c : Command) → IsObeyedForm f → answer_for (Some f) words ≡ Ok c → IsObeyed c
 command-obeyed f words c o e =

@@ -92,9 +92,17 @@ twice : answer_of (codes "show" ∷ codes "--no-debug" ∷ codes "--no-debug" �
 unfolding clap_on_literals
 twice = refl
 
-dump_has_no_option : answer_of (codes "dump" ∷ codes "--no-debug" ∷ codes "a" ∷ []) ≡ Err (stop.Usage fault.BadWords)
+dump_has_no_output : answer_of (codes "dump" ∷ codes "-oc" ∷ codes "a" ∷ []) ≡ Err (stop.Usage fault.BadWords)
 unfolding clap_on_literals
-dump_has_no_option = refl
+dump_has_no_output = refl
+
+locate_without_output : answer_of (codes "locate" ∷ codes "a" ∷ []) ≡ Err (stop.Usage fault.BadWords)
+unfolding clap_on_literals
+locate_without_output = refl
+
+locate_has_no_name : answer_of (codes "locate" ∷ codes "--name=n" ∷ codes "-oc" ∷ codes "a" ∷ []) ≡ Err (stop.Usage fault.BadWords)
+unfolding clap_on_literals
+locate_has_no_name = refl
 
 -- ---- files
 
@@ -114,15 +122,11 @@ show_two_files : answer_of (codes "show" ∷ codes "a" ∷ codes "b" ∷ []) ≡
 unfolding clap_on_literals
 show_two_files = refl
 
-dump_two_files : answer_of (codes "dump" ∷ codes "a" ∷ codes "a" ∷ []) ≡ Err (stop.Usage fault.FileCount)
-unfolding clap_on_literals
-dump_two_files = refl
-
 bracket : answer_of (codes "show" ∷ codes "]" ∷ []) ≡ Err (stop.Usage fault.StrayBracket)
 unfolding clap_on_literals
 bracket = refl
 
-open_bracket : answer_of (codes "dump" ∷ codes "[" ∷ codes "a" ∷ codes "]" ∷ []) ≡ Err (stop.Usage fault.StrayBracket)
+open_bracket : answer_of (codes "show" ∷ codes "[" ∷ codes "a" ∷ codes "]" ∷ []) ≡ Err (stop.Usage fault.StrayBracket)
 unfolding clap_on_literals
 open_bracket = refl
 

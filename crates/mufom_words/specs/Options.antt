@@ -34,12 +34,11 @@ usage_of form.Link =
 usage_of form.Locate =
     record { verb = verb.Locate; name = codes "locate"; settings = setting.NoDebug ∷ setting.Plan ∷ setting.Out ∷ []; operands = operands.GroupedFiles }
 usage_of form.Dump = record { verb = verb.Dump; name = codes "dump"; settings = setting.NoDebug ∷ setting.Plan ∷ []; operands = operands.GroupedFiles }
-usage_of form.PlainDump = record { verb = verb.Dump; name = codes "dump"; settings = []; operands = operands.OneFile }
 usage_of form.Make = record { verb = verb.Make; name = codes "make"; settings = []; operands = operands.OneCount }
 
 -- the commands that the program obeys so far
 abbrev pub obeyed : List Form
-obeyed = form.Show ∷ form.Check ∷ form.Link ∷ form.PlainDump ∷ []
+obeyed = form.Show ∷ form.Check ∷ form.Link ∷ form.Locate ∷ form.Dump ∷ []
 
 -- the one that a word names
 abbrev pub form_of : Text → Option Form
@@ -50,7 +49,7 @@ abbrev pub is_obeyed : Verb → Bool
 is_obeyed verb.Show = true
 is_obeyed verb.Check = true
 is_obeyed verb.Link = true
-is_obeyed verb.Locate = false
+is_obeyed verb.Locate = true
 is_obeyed verb.Dump = true
 is_obeyed verb.Make = false
 
@@ -71,10 +70,14 @@ abbrev pub makes_modules : Verb → Bool
 makes_modules verb.Make = true
 makes_modules _ = false
 
--- of the obeyed commands, this one is for one file alone
+-- the command may name the module that it makes
+abbrev pub names_module : Verb → Bool
+names_module verb.Link = true
+names_module _ = false
+
+-- the command is for one file alone
 abbrev pub takes_one_file : Verb → Bool
 takes_one_file verb.Show = true
-takes_one_file verb.Dump = true
 takes_one_file _ = false
 
 -- ---- the table of options

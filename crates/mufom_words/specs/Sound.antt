@@ -2,7 +2,7 @@
 use Rattle.std.specs.Prelude.{◌≡◌, ℕ, zero, suc, ◌≤◌, List, [], ◌∷◌, length, true, false, Some, None, Ok, IfSome, IsSome}
 use Rattle.mufom_words.specs.declared.command.Command.{Command}
 use Rattle.mufom_words.specs.declared.form.Form.{Form}
-use Rattle.mufom_words.specs.Options.{Text, is_obeyed, makes_file, makes_modules, reads_plan, takes_one_file}
+use Rattle.mufom_words.specs.Options.{Text, is_obeyed, makes_file, makes_modules, names_module, reads_plan, takes_one_file}
 use Rattle.mufom_words.specs.Operands.{most_modules}
 use Rattle.mufom_words.specs.Tree.{spelling, tree_of, leaves}
 use Rattle.mufom_words.specs.Answer.{answer_for, most_files, longest_name}
@@ -23,12 +23,13 @@ pub record HasFiles (c : Command) : Type 0 where
   pub some : makes_modules c.verb ≡ false → 1 ≤ length (leaves (tree_of c.marks))
   pub few : length c.files ≤ most_files
 
--- The output has a name exactly where the command makes a file; only a command that reads a plan has the name of one; the name of a
--- module is no longer than it may be, and a count lies within its bounds.
+-- The output has a name exactly where the command makes a file; only a command that reads a plan has the name of one, and only one that
+-- may name its module gives a name, which is no longer than it may be; a count lies within its bounds.
 pub record HasOptions (c : Command) : Type 0 where
   pub out : makes_file c.verb ≡ true → IsSome c.out
   pub no_out : makes_file c.verb ≡ false → c.out ≡ None
   pub no_plan : reads_plan c.verb ≡ false → c.plan ≡ None
+  pub no_name : names_module c.verb ≡ false → c.name ≡ None
   pub count : makes_modules c.verb ≡ true → (1 ≤ c.count) × (c.count ≤ most_modules)
   pub short : IfSome c.name (λ name. length name ≤ longest_name)
 

@@ -27,8 +27,6 @@ pub(crate) enum Form {
     Link,
     Locate,
     Dump,
-    /// `dump` as the program obeys it so far: of one file in no group, without options.
-    PlainDump,
     Make,
 }
 
@@ -41,7 +39,8 @@ impl Form {
             "show" => Some(Form::Show),
             "check" => Some(Form::Check),
             "link" => Some(Form::Link),
-            "dump" => Some(Form::PlainDump),
+            "locate" => Some(Form::Locate),
+            "dump" => Some(Form::Dump),
             _ => None,
         }
     }
@@ -55,7 +54,7 @@ impl Form {
             Form::Check => Verb::Check,
             Form::Link => Verb::Link,
             Form::Locate => Verb::Locate,
-            Form::Dump | Form::PlainDump => Verb::Dump,
+            Form::Dump => Verb::Dump,
             Form::Make => Verb::Make,
         }
     }
@@ -69,7 +68,7 @@ impl Form {
             Form::Check => "check",
             Form::Link => "link",
             Form::Locate => "locate",
-            Form::Dump | Form::PlainDump => "dump",
+            Form::Dump => "dump",
             Form::Make => "make",
         }
     }
@@ -83,7 +82,7 @@ impl Form {
             Form::Link => &[Setting::NoDebug, Setting::Name, Setting::Out],
             Form::Locate => &[Setting::NoDebug, Setting::Plan, Setting::Out],
             Form::Dump => &[Setting::NoDebug, Setting::Plan],
-            Form::PlainDump | Form::Make => &[],
+            Form::Make => &[],
         }
     }
 
@@ -92,7 +91,7 @@ impl Form {
         ensures { result ≡ (usage_of self).operands }
     {
         match self {
-            Form::Show | Form::PlainDump => Operands::OneFile,
+            Form::Show => Operands::OneFile,
             Form::Check => Operands::SomeFiles,
             Form::Link | Form::Locate | Form::Dump => Operands::GroupedFiles,
             Form::Make => Operands::OneCount,

@@ -147,12 +147,7 @@ fn options_that_a_command_has_not_are_refused(rt: HostRuntime) -> Result<(), Fai
     fails(&rt, alloc, &["check", "-x"], UsageFault::BadWords)?;
     fails(&rt, alloc, &["show", "--help"], UsageFault::BadWords)?;
     fails(&rt, alloc, &["show", "-h", "a"], UsageFault::BadWords)?;
-    fails(
-        &rt,
-        alloc,
-        &["dump", "--no-debug", "a"],
-        UsageFault::BadWords,
-    )?;
+    fails(&rt, alloc, &["dump", "-o", "c", "a"], UsageFault::BadWords)?;
     fails(
         &rt,
         alloc,
@@ -175,8 +170,7 @@ fn words_that_name_no_file_are_refused(rt: HostRuntime) -> Result<(), Fail> {
     fails(&rt, alloc, &["check", "--"], UsageFault::NoFile)?;
     fails(&rt, alloc, &["show", "]"], UsageFault::StrayBracket)?;
     fails(&rt, alloc, &["check", "+"], UsageFault::BadMembers)?;
-    fails(&rt, alloc, &["show", "a", "b"], UsageFault::FileCount)?;
-    fails(&rt, alloc, &["dump", "a", "b"], UsageFault::FileCount)
+    fails(&rt, alloc, &["show", "a", "b"], UsageFault::FileCount)
 }
 
 #[test]

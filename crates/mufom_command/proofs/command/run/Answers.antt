@@ -15,6 +15,7 @@ returns-clause-answers g c =
 pub returns-clause-complete : goal.returns-clause-complete
 returns-clause-complete g c =
     answers-complete (map (λ word. string_bytes word) c.args.words.now) (call_of g.H.World.meaning g.H.World.faults c.args.host.now c.print_error_line.new.host) c.print_error_line.result
+    (g.H.World.together c.args.host.now).bytes
     (answered (answer_of (map (λ word. string_bytes word) c.args.words.now)) (g.H.World.meaning c.args.host.now) (g.H.World.meaning c.answer-outcome.new.host) (g.H.World.meaning c.print_error_line.new.host)
     (g.H.World.faults c.args.host.now) (g.H.World.faults c.answer-outcome.new.host) (g.H.World.faults c.print_error_line.new.host) c.answer-outcome.result c.print_error_line.result
     c.print_error_line.ensures.same c.print_error_line.ensures.only c.answer-outcome.ensures).answers

@@ -1,0 +1,113 @@
+-- The location of the module into which a list is linked is that of the list.
+use Rattle.std.proofs.Common.{◌≡◌, ℕ, List, [], ◌∷◌, ◌++◌, length, Option, Some, None, refl, sym, ap, subst, ◌∙◌, unwrap_or, inl, inr}
+use Rattle.std.proofs.lemmas.List.{append-nil}
+use Rattle.mufom_names.specs.Names.{AreDistinct, names_of}
+use Rattle.mufom_module.specs.declared.module.Parts.{Parts}
+use Rattle.mufom_module.specs.Defects.{IsValid}
+use Rattle.mufom_plan.specs.declared.plan.Plan.{Plan}
+use Rattle.mufom_meaning.specs.declared.located.LocatedParts.{LocatedParts}
+use Rattle.mufom_meaning.specs.FactLaws.{IsLinkable}
+use Rattle.mufom_meaning.specs.Facts.{LocateFact}
+use Rattle.mufom_meaning.specs.Flat.{public_names}
+use Rattle.mufom_meaning.specs.Joined.{IsJoined}
+use Rattle.mufom_meaning.specs.LinkAnswer.{link_answer}
+use Rattle.mufom_meaning.specs.LocateAnswer.{locate_answer}
+use Rattle.mufom_meaning.specs.Location.{Header, IsLocation, first_header}
+use Rattle.mufom_meaning.specs.Selection.{members_at}
+use Rattle.mufom_meaning.specs.Staging.{AreValid, IsStaged, linked as linked_stage, unlinked}
+use Rattle.mufom_meaning.specs.StagingLaws.{MeansTheSame}
+use Rattle.mufom_meaning.proofs.facts.AllAnswers.{answers_are_facts}
+use Rattle.mufom_meaning.proofs.facts.Linkable.{no_link_answer_is_linkable}
+use Rattle.mufom_meaning.proofs.facts.LinkFacts.{link_facts_grow}
+use Rattle.mufom_meaning.proofs.staging.Staging.{joined_stands_for}
+use Rattle.mufom_meaning.proofs.staging.Stages.{staged_means_the_same}
+use Rattle.mufom_words.specs.declared.command.Command.{Command}
+use Rattle.mufom_words.specs.Tree.{Forest, leaves, tree_of}
+use Rattle.mufom_groups.specs.Linked.{IsFlatList, first_name, linked, linked_module, members, roots}
+use Rattle.mufom_groups.specs.Work.{Reached, gives, stops, with_stops}
+use Rattle.mufom_groups.proofs.GroupsAlike.{linked-flat}
+use Rattle.mufom_groups.proofs.LinkWalk.{valid-append, valid-drop, valid-members}
+use Rattle.mufom_command.specs.Stop.{Stop, link_fact, locate_fact}
+use Rattle.mufom_command.specs.Commands.{located, located_unless, maus_of}
+use Rattle.mufom_command.specs.WorkEnds.{location_of}
+
+-- ---- two lists with the same location
+
+module _ (ms leaves : List Parts) (plan : Plan) (maus : maus_of ms ≡ maus_of leaves) (locations : (r : LocatedParts) → IsLocation ms plan r → IsLocation leaves plan r) where
+  unless-along : (o : Option LocateFact) (x : Reached Stop LocatedParts) → located_unless o plan ms x → located_unless o plan leaves x
+  unless-along None (gives r) is = locations r is
+  unless-along None (stops s) is = absurd is
+  unless-along (Some f) (gives r) is = absurd is
+  unless-along (Some f) (stops s) is = is ∙ ap (λ n. locate_fact n f) maus
+
+  -- come to the same
+  pub located-along : locate_answer ms plan ≡ locate_answer leaves plan → (x : Reached Stop LocatedParts) → located plan ms x → located plan leaves x
+  located-along answers x is = subst (λ (o : Option LocateFact). located_unless o plan leaves x) answers (unless-along (locate_answer ms plan) x is)
+
+-- how many bytes an address has, by the header of the first module
+abbrev maus_by : Option Header → ℕ
+maus_by None = 0
+maus_by (Some h) = h.2
+
+maus_of-header : (ms : List Parts) → maus_of ms ≡ maus_by (first_header ms)
+maus_of-header [] = refl
+maus_of-header (m ∷ ms) = refl
+
+pub maus-same : (ms leaves : List Parts) → MeansTheSame ms leaves → maus_of ms ≡ maus_of leaves
+maus-same ms leaves same = maus_of-header ms ∙ ap maus_by same.same_first ∙ sym (maus_of-header leaves)
+
+pub located-forth : (ms leaves : List Parts) (plan : Plan) → MeansTheSame ms leaves → (x : Reached Stop LocatedParts) → located plan ms x → located plan leaves x
+located-forth ms leaves plan same x is =
+    located-along ms leaves plan (maus-same ms leaves same) (λ r. (same.same_location plan r).0) (same.same_locate plan) x is
+
+pub located-back : (ms leaves : List Parts) (plan : Plan) → MeansTheSame ms leaves → (x : Reached Stop LocatedParts) → located plan leaves x → located plan ms x
+located-back ms leaves plan same x is =
+    located-along leaves ms plan (sym (maus-same ms leaves same)) (λ r. (same.same_location plan r).1) (sym (same.same_locate plan)) x is
+
+-- ---- the link of a list
+
+-- The link of a list under the name of its first module means what the list means.
+pub link-means : (M : Parts) (flat : List Parts) → IsValid M → AreValid flat → IsJoined M flat (first_name flat) → IsLinkable flat → MeansTheSame (M ∷ []) flat
+link-means M [] sound valid joined is = absurd joined.header
+link-means M (m ∷ ms) sound valid joined is = staged_means_the_same m (M ∷ []) (m ∷ ms) staged valid is.descriptor is.names where
+  staged : IsStaged (M ∷ []) (m ∷ ms)
+  staged = linked_stage (m ∷ ms) [] (m ∷ ms) [] M m.name (subst (λ (l : List Parts). IsStaged l (m ∷ ms)) (sym (append-nil (m ∷ ms))) (unlinked (m ∷ ms))) sound joined joined.named
+
+-- ---- the modules of a command
+
+module _ (c : Command) (ms : List Parts) (valid : AreValid ms) where
+  -- the flat list is of modules without a defect
+  pub flat-valid : (flat : List Parts) → linked (tree_of c.marks) ms (gives flat) → AreValid flat
+  flat-valid flat is =
+      let is_flat = ((linked-flat answers_are_facts link_facts_grow (tree_of c.marks) ms flat).0 is).0 in
+      subst AreValid (sym is_flat.2) (
+      valid-append (roots (tree_of c.marks) ms) (members_at (members (tree_of c.marks) ms) is_flat.0) (valid-members ms (leaves (tree_of c.marks)) valid)
+      (valid-members (members (tree_of c.marks) ms) is_flat.0 (valid-drop (length (leaves (tree_of c.marks))) ms valid)))
+
+  pub flat-linkable : (flat : List Parts) → linked (tree_of c.marks) ms (gives flat) → IsLinkable flat
+  flat-linkable flat is = (no_link_answer_is_linkable flat).0 ((linked-flat answers_are_facts link_facts_grow (tree_of c.marks) ms flat).0 is).1
+
+  -- no public name stands twice in the module into which they are linked
+  pub link-names : (M : Parts) → linked_module c ms (gives M) → AreDistinct (names_of M.names.publics)
+  link-names M (flat, is, joined) =
+      let stands = joined_stands_for M flat (unwrap_or c.name (first_name flat)) joined (flat-valid flat is) in
+      subst AreDistinct (append-nil (names_of M.names.publics)) (subst AreDistinct (sym stands.2) (flat-linkable flat is).names)
+
+  module _ (unnamed : c.name ≡ None) (M : Parts) (sound : IsValid M) (plan : Plan) where
+    named-first : (flat : List Parts) → IsJoined M flat (unwrap_or c.name (first_name flat)) → IsJoined M flat (first_name flat)
+    named-first flat joined = subst (λ (name : Option (List ℕ)). IsJoined M flat (unwrap_or name (first_name flat))) unnamed joined
+
+    -- its location is that of the flat list
+    pub link-located : linked_module c ms (gives M) → (r : LocatedParts) → located plan (M ∷ []) (gives r) → location_of c plan ms (gives r)
+    link-located (flat, is, joined) r there =
+        (flat, is, located-forth (M ∷ []) flat plan (link-means M flat sound (flat-valid flat is) (named-first flat joined) (flat-linkable flat is)) (gives r) there)
+
+    -- or its locate fact is
+    pub link-unlocated : linked_module c ms (gives M) → (s : Stop) → located plan (M ∷ []) (stops s) → location_of c plan ms (stops s)
+    link-unlocated (flat, is, joined) s there =
+        inr (flat, is, located-forth (M ∷ []) flat plan (link-means M flat sound (flat-valid flat is) (named-first flat joined) (flat-linkable flat is)) (stops s) there)
+
+  -- or it is not linked
+  pub unlinked-stops : (plan : Plan) (s : Stop) → with_stops link_fact (linked_module c ms) (stops s) → location_of c plan ms (stops s)
+  unlinked-stops plan s (f, inl ends, same) = inl (f, ends, same)
+  unlinked-stops plan s (f, inr (flat, is, never), same) = absurd never

@@ -1,0 +1,38 @@
+-- The files that are made stand for what they were made of.
+use Rattle.std.proofs.Common.{◌≡◌, ℕ, List, [], ◌∷◌, Option, Some, None, unwrap_or, refl, subst}
+use Rattle.mufom_module.specs.declared.module.Parts.{Parts}
+use Rattle.mufom_module.specs.Written.{written}
+use Rattle.mufom_meaning.specs.declared.located.LocatedParts.{LocatedParts}
+use Rattle.mufom_meaning.specs.Absolute.{absolute_of}
+use Rattle.mufom_meaning.specs.Facts.{LocateFact}
+use Rattle.mufom_meaning.specs.LocateAnswer.{locate_answer}
+use Rattle.mufom_meaning.specs.Location.{IsLocation}
+use Rattle.mufom_meaning.proofs.absolute.Located.{absolute_is_located_as_itself}
+use Rattle.mufom_meaning.proofs.staging.Staging.{joined_stands_for}
+use Rattle.mufom_plan.specs.declared.plan.Plan.{Plan}
+use Rattle.mufom_groups.specs.Linked.{first_name}
+use Rattle.mufom_groups.specs.Work.{gives}
+use Rattle.mufom_command.specs.Commands.{Output, made, located, located_unless, writes}
+use Rattle.mufom_command.specs.RunLaws.{AbsoluteFilesStand, LinkedFilesStand}
+
+-- what is written goes into the file that is named
+is-written : (out : Option (List ℕ)) (bytes : List ℕ) (output : Output) → writes out bytes (gives output) → (name : List ℕ) × (out ≡ Some name) × (output ≡ made name bytes)
+is-written None bytes output is = absurd is
+is-written (Some name) bytes output is = (name, refl, is)
+
+pub location-of : (plan : Plan) (ms : List Parts) (r : LocatedParts) → located plan ms (gives r) → IsLocation ms plan r
+location-of plan ms r is = by (locate_answer ms plan) is where
+  by : (o : Option LocateFact) → located_unless o plan ms (gives r) → IsLocation ms plan r
+  by None is = is
+  by (Some f) is = absurd is
+
+pub linked-files-stand : LinkedFilesStand
+linked-files-stand c plan flat output valid (M, joined, is) =
+    let (name, file, bytes) = is-written c.out (written M) output is in
+    record { link = M; name = name; file = file; bytes = bytes; joined = joined; stands = (joined_stands_for M flat (unwrap_or c.name (first_name flat)) joined valid).0 }
+
+pub absolute-files-stand : AbsoluteFilesStand
+absolute-files-stand c plan flat output valid (r, is_located, is) =
+    let (name, file, bytes) = is-written c.out (written (absolute_of r)) output is in
+    let there = location-of plan flat r is_located in
+    record { location = r; name = name; file = file; bytes = bytes; located = there; itself = absolute_is_located_as_itself flat plan r valid there }

@@ -1,0 +1,5 @@
+use Rattle.mufom_command.proofs.Headline.{locating-done}
+use Rattle.mufom_command.proofs.laws.locating_is_done.Goals as goal
+
+pub returns : goal.returns
+returns c = locating-done

@@ -1,0 +1,50 @@
+-- What reading the inputs of a command answers: its plan, and then the modules of its files.
+use Rattle.std.specs.Prelude.{◌≡◌, ◌⊎◌, ℕ, ◌<◌, List, ◌++◌, length, Option, Result, Err, IfSome, IsSome}
+use Rattle.mufom_host.specs.World.{NamedFile, Faults, Rose}
+use Rattle.mufom_module.specs.declared.module.Parts.{Parts}
+use Rattle.mufom_plan.specs.declared.plan.Plan.{Plan}
+use Rattle.mufom_plan.specs.declared.refusal.PlanRefusal.{PlanRefusal}
+use Rattle.mufom_words.specs.declared.command.Command.{Command}
+use Rattle.mufom_groups.specs.Work.{Work, gives, stops, ◌>>=◌, sure}
+use Rattle.mufom_command.specs.declared.outcome.Input.TheVariants as input
+use Rattle.mufom_command.specs.declared.outcome.Outcome.{Outcome}
+use Rattle.mufom_command.specs.declared.outcome.Outcome.TheVariants as outcome
+use Rattle.mufom_command.specs.declared.outcome.Refusal.TheVariants as refusal
+use Rattle.mufom_command.specs.Stop.{Stop, plan_refused}
+use Rattle.mufom_command.specs.Commands.{modules_in, plan_in}
+use Rattle.mufom_command.specs.Run.{Call, IsReached, IsStopped}
+
+-- how many bytes a plan has at most
+abbrev pub most_plan_bytes : ℕ
+most_plan_bytes = 65536
+
+-- the bytes are all there are, or the prefix of them and more than a plan has
+abbrev pub IsEnoughOf : List ℕ → List ℕ → Type 0
+IsEnoughOf all bytes = (all ≡ bytes) ⊎ ((most_plan_bytes < length bytes) × ((rest : List ℕ) × (all ≡ bytes ++ rest)))
+
+-- the plan, and the modules of the files
+abbrev pub inputs_in : List NamedFile → Command → Work Stop (Plan × List Parts)
+inputs_in files c = do
+  plan ← plan_in files c.plan
+  ms ← modules_in files c
+  sure (plan, ms)
+
+-- the answer to bytes that are no plan, or out of memory
+abbrev pub IsPlanAnswer : Result Plan PlanRefusal → Outcome → Type 0
+IsPlanAnswer plan (outcome.Refused (refusal.Plan r)) = plan ≡ Err r
+IsPlanAnswer plan outcome.NoMemory = Unit {0}
+IsPlanAnswer plan _ = ⊥
+
+-- Why the plan with this name was not read; none may be named.
+abbrev pub PlanStops : Option (List ℕ) → Call → Outcome → Type 0
+PlanStops name call (outcome.Refused (refusal.Plan r)) = IsSome name × IfSome call.old.files (λ files. plan_in files name (stops (plan_refused r)))
+PlanStops name call (outcome.ReadFault input.Plan) = IsSome name × Rose call.before.reads call.now.reads
+PlanStops name call outcome.NoMemory = Unit {0}
+PlanStops name call _ = ⊥
+
+-- Why the inputs of the command were not all read.
+abbrev pub InputsStop : Command → Call → Outcome → Type 0
+InputsStop c call (outcome.Refused r) = IsStopped (λ files. inputs_in files c) call.old.files (outcome.Refused r)
+InputsStop c call (outcome.ReadFault at) = Rose call.before.reads call.now.reads × IsReached call.old.files c at
+InputsStop c call outcome.NoMemory = Unit {0}
+InputsStop c call _ = ⊥

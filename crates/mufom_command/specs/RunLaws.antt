@@ -1,0 +1,164 @@
+-- What holds of runs: each comes to one end, which is the answer where no call failed and memory was found; files that were linked in
+-- stages are answered as the list that the stages began with; locating is done where no fact stands; and the files that are made stand
+-- for what they were made of.
+use Rattle.std.specs.Prelude.{◌≡◌, ◌≢◌, ◌↔◌, ℕ, List, [], ◌∷◌, Option, Some, None, Ok, unwrap_or}
+use Rattle.mufom_host.specs.World.{NamedFile, HoldBytes, RevealsTogether, Rose}
+use Rattle.mufom_words.specs.declared.command.Command.{Command}
+use Rattle.mufom_words.specs.declared.command.Verb.{Verb}
+use Rattle.mufom_words.specs.declared.command.Verb.TheVariants as verb
+use Rattle.mufom_words.specs.Answer.{answer_of}
+use Rattle.mufom_words.specs.Tree.{tree_of}
+use Rattle.mufom_names.specs.Names.{AreDistinct}
+use Rattle.mufom_module.specs.declared.module.Parts.{Parts}
+use Rattle.mufom_module.specs.Written.{written}
+use Rattle.mufom_plan.specs.declared.plan.Plan.{Plan}
+use Rattle.mufom_meaning.specs.declared.located.LocatedParts.{LocatedParts}
+use Rattle.mufom_meaning.specs.Absolute.{absolute_of, no_regions}
+use Rattle.mufom_meaning.specs.Flat.{public_names}
+use Rattle.mufom_meaning.specs.Joined.{IsJoined}
+use Rattle.mufom_meaning.specs.LinkAnswer.{link_answer}
+use Rattle.mufom_meaning.specs.LocateAnswer.{locate_answer}
+use Rattle.mufom_meaning.specs.Location.{IsLocation}
+use Rattle.mufom_meaning.specs.Staging.{AreValid, HaveDescriptor, IsStaged, StandsFor}
+use Rattle.mufom_groups.specs.Linked.{IsFlatList, first_name, linked}
+use Rattle.mufom_groups.specs.Work.{Reached, gives, stops, Work, nowhere, IsSingle}
+use Rattle.mufom_command.specs.declared.outcome.Outcome.{Outcome}
+use Rattle.mufom_command.specs.declared.outcome.Outcome.TheVariants as outcome
+use Rattle.mufom_command.specs.Stop.{Stop}
+use Rattle.mufom_command.specs.Commands.{Output, made, plan_in, modules_in, linked_file, absolute_file, printed_image, work_of, run_of}
+use Rattle.mufom_command.specs.Run.{Call, outcome_of, Answers}
+
+-- ---- the answer of a run
+
+-- A run comes to one output, or to one end, at most.
+abbrev pub RunsAreSingle : Type 0
+RunsAreSingle = (words : List (List ℕ)) (files : List NamedFile) → HoldBytes files → IsSingle (run_of words files)
+
+-- no read and no write failed, and no count of them stands at its last value
+pub record NoneRose (call : Call) : Type 0 where
+  pub reads : ¬ Rose call.before.reads call.now.reads
+  pub writes : ¬ Rose call.before.writes call.now.writes
+
+-- a call in which nothing failed, over known files, and which found its memory
+pub record IsUndisturbed (files : List NamedFile) (call : Call) (result : Outcome) : Type 0 where
+  pub revealed : RevealsTogether call.old
+  pub known : call.old.files ≡ Some files
+  pub none : NoneRose call
+  pub memory : result ≢ outcome.NoMemory
+
+-- Where nothing failed and memory was found, the answer is the one that the words and the files come to.
+abbrev pub AnswersAreDetermined : Type 0
+AnswersAreDetermined =
+    (words : List (List ℕ)) (files : List NamedFile) (call : Call) (result : Outcome) (reached : Reached Stop Output)
+    → Answers words call result → IsUndisturbed files call result → run_of words files reached → result ≡ outcome_of reached
+
+-- ---- facts
+
+-- the inputs of the command are accepted, and come to this plan and this flat list
+pub record Accepts (files : List NamedFile) (c : Command) (plan : Plan) (flat : List Parts) : Type 0 where
+  pub planned : plan_in files c.plan (gives plan)
+  pub modules : List Parts
+  pub read : modules_in files c (gives modules)
+  pub is_flat : IsFlatList (tree_of c.marks) modules flat
+
+-- the command locates files
+abbrev pub IsLocating : Verb → Type 0
+IsLocating verb.Locate = Unit {0}
+IsLocating verb.Dump = Unit {0}
+IsLocating _ = ⊥
+
+-- no fact stands against the list
+pub record HasNoFact (ms : List Parts) (plan : Plan) : Type 0 where
+  pub links : link_answer ms ≡ None
+  pub locates : locate_answer ms plan ≡ None
+
+-- Where nothing failed and memory was found, locating accepted files is done exactly where no fact stands against their flat list,
+-- wherever the files have their groups.
+abbrev pub LocatingIsDone : Type 0
+LocatingIsDone =
+    (words : List (List ℕ)) (files : List NamedFile) (call : Call) (result : Outcome) (c : Command) (plan : Plan) (flat : List Parts)
+    → Answers words call result → IsUndisturbed files call result → answer_of words ≡ Ok c → IsLocating c.verb → Accepts files c plan flat
+    → (result ≡ outcome.Done) ↔ HasNoFact flat plan
+
+-- ---- stages
+
+-- the work comes to the same
+abbrev pub IsSameWork : {A : Type 0} → Work Stop A → Work Stop A → Type 0
+IsSameWork {A = A} first second = (reached : Reached Stop A) → first reached ↔ second reached
+
+-- what is put out of two lists is the same
+pub record PutOutAlike (c : Command) (plan : Plan) (ms leaves : List Parts) : Type 0 where
+  pub linked : IsSameWork (linked_file c plan ms) (linked_file c plan leaves)
+  pub absolute : IsSameWork (absolute_file c plan ms) (absolute_file c plan leaves)
+  pub image : IsSameWork (printed_image c plan ms) (printed_image c plan leaves)
+
+-- the lists are the first and the last of stages of partial links, and the last is of modules without a defect that can be linked
+pub record CameByStages (ms leaves : List Parts) : Type 0 where
+  pub staged : IsStaged ms leaves
+  pub valid : AreValid leaves
+  pub descriptor : (d : Parts) × HaveDescriptor d leaves
+  pub names : AreDistinct (public_names leaves)
+
+-- A list that earlier runs linked in stages is put out as the list that the stages began with.
+abbrev pub StagesMakeNoDifference : Type 0
+StagesMakeNoDifference = (c : Command) (plan : Plan) (ms leaves : List Parts) → CameByStages ms leaves → PutOutAlike c plan ms leaves
+
+-- the inputs of the command are accepted, and lead to this plan and this flat list, which can be linked
+pub record LeadsTo (files : List NamedFile) (c : Command) (plan : Plan) (flat : List Parts) : Type 0 where
+  pub planned : plan_in files c.plan (gives plan)
+  pub modules : List Parts
+  pub read : modules_in files c (gives modules)
+  pub linked : linked (tree_of c.marks) modules (gives flat)
+
+-- the command links files
+abbrev pub IsLinking : Verb → Type 0
+IsLinking verb.Link = Unit {0}
+IsLinking verb.Locate = Unit {0}
+IsLinking verb.Dump = Unit {0}
+IsLinking _ = ⊥
+
+-- what is put out of a list by a command that links files; nothing by another
+abbrev pub put_out_of : Verb → Command → Plan → List Parts → Work Stop Output
+put_out_of verb.Link = linked_file
+put_out_of verb.Locate = absolute_file
+put_out_of verb.Dump = printed_image
+put_out_of _ = λ c plan ms. nowhere
+
+-- So a command whose files were linked in stages comes to what is put out of the list that the stages began with.
+abbrev pub RunsOfStages : Type 0
+RunsOfStages =
+    (files : List NamedFile) (c : Command) (plan : Plan) (flat leaves : List Parts)
+    → HoldBytes files → IsLinking c.verb → LeadsTo files c plan flat → CameByStages flat leaves
+    → IsSameWork (work_of c.verb files c) (put_out_of c.verb c plan leaves)
+
+-- ---- files that are made
+
+-- the output is the file of a module that stands for the list
+pub record IsFileOfLink (c : Command) (flat : List Parts) (output : Output) : Type 0 where
+  pub link : Parts
+  pub name : List ℕ
+  pub file : c.out ≡ Some name
+  pub bytes : output ≡ made name (written link)
+  pub joined : IsJoined link flat (unwrap_or c.name (first_name flat))
+  pub stands : StandsFor link flat
+
+-- What is put out by a link is the file of a module that stands for the flat list, in every context.
+abbrev pub LinkedFilesStand : Type 0
+LinkedFilesStand =
+    (c : Command) (plan : Plan) (flat : List Parts) (output : Output) → AreValid flat → linked_file c plan flat (gives output)
+    → IsFileOfLink c flat output
+
+-- the output is the file of the absolute module of a location, and that module is located as itself by the plan without regions
+pub record IsFileOfLocation (c : Command) (plan : Plan) (flat : List Parts) (output : Output) : Type 0 where
+  pub location : LocatedParts
+  pub name : List ℕ
+  pub file : c.out ≡ Some name
+  pub bytes : output ≡ made name (written (absolute_of location))
+  pub located : IsLocation flat plan location
+  pub itself : IsLocation (absolute_of location ∷ []) no_regions location
+
+-- What is put out by locating is the file of an absolute module that, located alone by the plan without regions, is located as itself.
+abbrev pub AbsoluteFilesStand : Type 0
+AbsoluteFilesStand =
+    (c : Command) (plan : Plan) (flat : List Parts) (output : Output) → AreValid flat → absolute_file c plan flat (gives output)
+    → IsFileOfLocation c plan flat output

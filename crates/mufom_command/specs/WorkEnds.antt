@@ -1,0 +1,56 @@
+-- The answer where modules are not linked or not located.
+use Rattle.std.specs.Prelude.{◌≡◌, ◌⊎◌, ℕ, ◌≤◌, List, length}
+use Rattle.mufom_image.specs.declared.refusal.LocateRefusal.{LocateRefusal}
+use Rattle.mufom_image.specs.declared.refusal.LocateRefusal.TheVariants as locate
+use Rattle.mufom_link.specs.declared.refusal.LinkRefusal.{LinkRefusal}
+use Rattle.mufom_link.specs.declared.refusal.LinkRefusal.TheVariants as link
+use Rattle.mufom_module.specs.declared.module.Parts.{Parts}
+use Rattle.mufom_plan.specs.declared.plan.Plan.{Plan}
+use Rattle.mufom_meaning.specs.declared.located.LocatedParts.{LocatedParts}
+use Rattle.mufom_meaning.specs.Staging.{AreValid}
+use Rattle.mufom_meaning.specs.StagingLaws.{total_weight}
+use Rattle.mufom_words.specs.declared.command.Command.{Command}
+use Rattle.mufom_words.specs.Sound.{IsObeyed, IsSound}
+use Rattle.mufom_words.specs.Tree.{tree_of}
+use Rattle.mufom_groups.specs.Groups.{most_weight}
+use Rattle.mufom_groups.specs.Linked.{linked}
+use Rattle.mufom_groups.specs.Work.{Work, ◌>>=◌, stops, with_stops}
+use Rattle.mufom_command.specs.Commands.{located}
+use Rattle.mufom_command.specs.declared.outcome.Outcome.{Outcome}
+use Rattle.mufom_command.specs.declared.outcome.Outcome.TheVariants as outcome
+use Rattle.mufom_command.specs.declared.outcome.Refusal.TheVariants as refusal
+use Rattle.mufom_command.specs.Stop.{Stop, link_fact, locate_fact}
+use Rattle.mufom_command.specs.Run.{stop_outcome}
+
+abbrev pub outcome_of_link : LinkRefusal → Outcome
+outcome_of_link link.NoMemory = outcome.NoMemory
+outcome_of_link r = outcome.Refused (refusal.Link r)
+
+-- an address has the given number of units
+abbrev pub outcome_of_locate : ℕ → LocateRefusal → Outcome
+outcome_of_locate maus locate.NoMemory = outcome.NoMemory
+outcome_of_locate maus r = outcome.Refused (refusal.Locate r maus)
+
+-- what linking asks of a command and of the modules of its files
+pub record AreLinkable (c : Command) (ms : List Parts) : Type 0 where
+  pub sound : IsSound c
+  pub obeyed : IsObeyed c
+  pub count : length ms ≡ length c.files
+  pub valid : AreValid ms
+  pub light : total_weight ms ≤ most_weight
+
+-- the location, by a plan, of the flat list of the modules of the files
+abbrev pub location_of : Command → Plan → List Parts → Work Stop LocatedParts
+location_of c plan ms = do
+  flat ← with_stops link_fact (linked (tree_of c.marks) ms)
+  located plan flat
+
+-- the end is a fact about the modules
+abbrev pub IsOfModules : Stop → Type 0
+IsOfModules (link_fact f) = Unit {0}
+IsOfModules (locate_fact maus f) = Unit {0}
+IsOfModules _ = ⊥
+
+-- the answer is out of memory, or that of a fact about the modules that ends the work
+abbrev pub EndsAt : {A : Type 0} → Work Stop A → Outcome → Type 0
+EndsAt work result = (result ≡ outcome.NoMemory) ⊎ ((s : Stop) × IsOfModules s × (result ≡ stop_outcome s) × work (stops s))

@@ -1,0 +1,201 @@
+//! The commands that link files, and put out what the link comes to: `link`, `locate` and `dump`.
+
+ghost use Rattle.std.specs.Prelude.{◌≡◌, ◌≤◌, ◌<◌, ◌+◌, ◌^◌, ◌∷◌, [], ℕ, length, None, Some, List as list, IfErr, IfOk, IsSome};
+ghost use Rattle.mufom_host.specs.World.{OnlyPrints};
+ghost use Rattle.mufom_names.specs.Names.{names_of, AreDistinct};
+ghost use Rattle.mufom_module.specs.Defects.{IsValid};
+ghost use Rattle.mufom_module.specs.Written.{weight, written};
+ghost use Rattle.mufom_meaning.specs.declared.located.LocatedParts.{LocatedParts};
+ghost use Rattle.mufom_meaning.specs.Absolute.{absolute_of};
+ghost use Rattle.mufom_meaning.specs.Staging.{AreValid};
+ghost use Rattle.mufom_meaning.specs.StagingLaws.{total_weight};
+ghost use Rattle.mufom_image.specs.Placements.{IsSoundPlan};
+ghost use Rattle.mufom_text.specs.Image.{image_text};
+ghost use Rattle.mufom_words.specs.Sound.{IsObeyed, IsSound};
+ghost use Rattle.mufom_groups.specs.Groups.{most_weight};
+ghost use Rattle.mufom_groups.specs.Linked.{linked_module};
+ghost use Rattle.mufom_groups.specs.Work.{gives, with_stops};
+ghost use Rattle.mufom_command.specs.Commands.{absolute_file, linked_file, linking, located, printed_image};
+ghost use Rattle.mufom_command.specs.Making.{IsMadeAlone, IsPrinted};
+ghost use Rattle.mufom_command.specs.Run.{call_of, Does};
+ghost use Rattle.mufom_command.specs.Stop.{link_fact};
+ghost use Rattle.mufom_command.specs.WorkEnds.{outcome_of_link, outcome_of_locate, AreLinkable, EndsAt, location_of};
+
+use crate::inputs::{Inputs, read_inputs};
+use crate::outcome::{Outcome, Refusal};
+use crate::writing::make_file;
+use mufom_groups::link_modules;
+use mufom_host::Host;
+use mufom_image::{LocateRefusal, Located, absolute, locate};
+use mufom_link::LinkRefusal;
+use mufom_module::Module;
+use mufom_numbers::{List, NoMemory};
+use mufom_plan::Plan;
+use mufom_text::{PrintStop, print_image};
+use mufom_words::Command;
+use std::alloc::Global;
+
+// The answer where modules are not linked.
+fn outcome_of_link(refusal: LinkRefusal) -> Outcome
+    ensures { result ≡ outcome_of_link refusal }
+{
+    match refusal {
+        LinkRefusal::NoMemory => Outcome::NoMemory,
+        refusal => Outcome::Refused(Refusal::Link(refusal)),
+    }
+}
+
+// The answer where a module whose addresses have this number of units is not located.
+fn outcome_of_locate(maus: u8, refusal: LocateRefusal) -> Outcome
+    ensures { result ≡ outcome_of_locate maus refusal }
+{
+    match refusal {
+        LocateRefusal::NoMemory => Outcome::NoMemory,
+        refusal => Outcome::Refused(Refusal::Locate(refusal, maus)),
+    }
+}
+
+// The module into which the modules of the command are linked, or the answer of the run.
+fn linked(alloc: Global, command: &Command, modules: List<Module>) -> Result<Module, Outcome>
+    requires { AreLinkable command.now modules }
+    ensures ok { IfOk result (λ M. linked_module command.now modules (gives M)) }
+    ensures valid { IfOk result (λ M. IsValid M) }
+    ensures light { IfOk result (λ M. weight M < most_weight + 2 ^ 16) }
+    ensures stops { IfErr result (EndsAt (with_stops link_fact (linked_module command.now modules))) }
+{
+    match link_modules(alloc, command, modules) {
+        Ok(entry) => {
+            let _ = entry.parts();
+            Ok(entry)
+        }
+        Err(refusal) => Err(outcome_of_link(refusal)),
+    }
+}
+
+// The location of a module by a plan, or the answer of the run.
+fn located(alloc: Global, object: &Module, plan: &Plan) -> Result<Located, Outcome>
+    requires names { AreDistinct (names_of object.now.names.publics) }
+    requires plan { IsSoundPlan plan.now }
+    requires light { weight object.now < most_weight + 2 ^ 16 }
+    ensures ok { IfOk result (λ r. located plan.now (object.now ∷ []) (gives r)) }
+    ensures light { IfOk result (λ r. weight (absolute_of r) < 2 ^ 32) }
+    ensures stops { IfErr result (EndsAt (located plan.now (object.now ∷ []))) }
+{
+    match locate(alloc, object, plan) {
+        Ok(located) => Ok(located),
+        Err(refusal) => Err(outcome_of_locate(object.parts().maus, refusal)),
+    }
+}
+
+// The location of the modules of the command, or the answer of the run.
+fn location(alloc: Global, command: &Command, inputs: Inputs) -> Result<Located, Outcome>
+    requires linkable { AreLinkable command.now inputs.modules }
+    requires unnamed { command.now.name ≡ None }
+    requires plan { IsSoundPlan inputs.plan }
+    ensures ok { IfOk result (λ r. location_of command.now inputs.plan inputs.modules (gives r)) }
+    ensures light { IfOk result (λ r. weight (absolute_of r) < 2 ^ 32) }
+    ensures stops { IfErr result (EndsAt (location_of command.now inputs.plan inputs.modules)) }
+{
+    let Inputs { plan, modules } = inputs;
+    match linked(alloc, command, modules) {
+        Ok(object) => located(alloc, &object, &plan),
+        Err(stop) => Err(stop),
+    }
+}
+
+// The absolute module of the location of the modules of the command, or the answer of the run.
+fn absolute_module(alloc: Global, command: &Command, inputs: Inputs) -> Result<Module, Outcome>
+    requires linkable { AreLinkable command.now inputs.modules }
+    requires unnamed { command.now.name ≡ None }
+    requires plan { IsSoundPlan inputs.plan }
+    ensures ok { IfOk result (λ m. (r : LocatedParts) × location_of command.now inputs.plan inputs.modules (gives r) × (m ≡ absolute_of r)) }
+    ensures stops { IfErr result (EndsAt (location_of command.now inputs.plan inputs.modules)) }
+{
+    let located = match location(alloc, command, inputs) {
+        Ok(located) => located,
+        Err(stop) => return Err(stop),
+    };
+    match absolute(alloc, &located) {
+        Ok(object) => Ok(object),
+        Err(NoMemory) => Err(Outcome::NoMemory),
+    }
+}
+
+// Makes the file that the command names, of a module.
+fn make_output<H: Host>(command: &Command, object: &Module, host: &mut H) -> Outcome
+    requires { IsSome command.now.out }
+    ensures { (name : list ℕ) → command.now.out ≡ Some name
+        → IsMadeAlone name (written object.now) (call_of H.meaning H.faults host.old host.new) result }
+{
+    match &command.out {
+        Some(name) => make_file(name.as_str(), object, host),
+        None => unreachable!(),
+    }
+}
+
+// Prints the image of a location; the answer is whose error line is not printed yet.
+fn print_located<H: Host>(alloc: Global, located: &Located, host: &mut H) -> Outcome
+    ensures answer { IsPrinted (image_text located.now) (call_of H.meaning H.faults host.old host.new) result }
+    ensures only { OnlyPrints (H.meaning host.old) (H.meaning host.new) (H.faults host.old) (H.faults host.new) }
+{
+    match print_image(alloc, host, located) {
+        Ok(()) => Outcome::Done,
+        Err(PrintStop::Fault) => Outcome::WriteFault,
+        Err(PrintStop::NoMemory) => Outcome::NoMemory,
+    }
+}
+
+/// Reads the files of the command, links their modules, and makes a file of the link.
+pub(crate) fn link<H: Host>(alloc: Global, command: &Command, host: &mut H) -> Outcome
+    requires sound { IsSound command.now }
+    requires obeyed { IsObeyed command.now }
+    requires file { IsSome command.now.out }
+    ensures { Does command.now (λ files. linking linked_file files command.now) (call_of H.meaning H.faults host.old host.new) result }
+{
+    let inputs = match read_inputs(alloc, command, host) {
+        Ok(inputs) => inputs,
+        Err(stop) => return stop,
+    };
+    match linked(alloc, command, inputs.modules) {
+        Ok(object) => make_output(command, &object, host),
+        Err(stop) => stop,
+    }
+}
+
+/// Reads the plan and the files of the command, links their modules, locates the link, and makes a file
+/// of the absolute module.
+pub(crate) fn locate_files<H: Host>(alloc: Global, command: &Command, host: &mut H) -> Outcome
+    requires sound { IsSound command.now }
+    requires obeyed { IsObeyed command.now }
+    requires unnamed { command.now.name ≡ None }
+    requires file { IsSome command.now.out }
+    ensures { Does command.now (λ files. linking absolute_file files command.now) (call_of H.meaning H.faults host.old host.new) result }
+{
+    let inputs = match read_inputs(alloc, command, host) {
+        Ok(inputs) => inputs,
+        Err(stop) => return stop,
+    };
+    match absolute_module(alloc, command, inputs) {
+        Ok(object) => make_output(command, &object, host),
+        Err(stop) => stop,
+    }
+}
+
+/// Reads the plan and the files of the command, links their modules, locates the link, and prints its
+/// image.
+pub(crate) fn dump<H: Host>(alloc: Global, command: &Command, host: &mut H) -> Outcome
+    requires sound { IsSound command.now }
+    requires obeyed { IsObeyed command.now }
+    requires unnamed { command.now.name ≡ None }
+    requires no_file { command.now.out ≡ None }
+    ensures { Does command.now (λ files. linking printed_image files command.now) (call_of H.meaning H.faults host.old host.new) result }
+{
+    let inputs = match read_inputs(alloc, command, host) {
+        Ok(inputs) => inputs,
+        Err(stop) => return stop,
+    };
+    match location(alloc, command, inputs) {
+        Ok(located) => print_located(alloc, &located, host),
+        Err(stop) => stop,
+    }
+}
