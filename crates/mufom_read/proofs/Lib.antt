@@ -24,12 +24,15 @@ pub mod FaultLaws
 pub mod PartBytes
 pub mod RawLaws
 pub mod TakeLaws
+pub mod BlockKinds
 pub mod EndedWalk
 pub mod EndedRows
 pub mod SpelledBegin
 pub mod EndedHeader
 pub mod EndedParts
 pub mod EndedChunks
+pub mod Nesting
+pub mod EndedBlocks
 pub mod EndedSliced
 pub mod EndedSlicing
 pub mod EndedNames
@@ -39,6 +42,7 @@ pub mod EndedTrees
 pub mod EndedGood
 pub mod EndedEntries
 pub mod EndedLoads
+pub mod EndedDebug
 pub mod LoadLaws
 pub mod Stable
 pub mod LoadsFold
