@@ -193,7 +193,7 @@ ordered_next (v ∷ os) w (inr test) is = let both = or_parts _ _ test in (from_
 -- ---- records that may be added
 
 header_row : (reads_debug : Bool) (prefix : List Step) (k start : ℕ) (bytes : List ℕ) (row : Record) → IsHeaderRow row → (reads_debug ≡ true → get_or (offsets_of prefix) 4 0 ≡ 0)
-    → record_fault reads_debug prefix (as_location (offset.Header k)) start (record { row = row; bytes = bytes }) ≡ None → IsAddable reads_debug prefix row
+    → record_fault prefix (as_location (offset.Header k)) start (record { row = row; bytes = bytes }) ≡ None → IsAddable reads_debug prefix row
 header_row reads_debug prefix k start bytes (r.ModuleBegin a b) is later clean = record { plain = refl; new = refl; later = λ reads. same_later (offsets_of prefix) None refl (later reads); ordered = same_order (offsets_of prefix) None refl }
 header_row reads_debug prefix k start bytes (r.Descriptor a b c) is later clean = record { plain = refl; new = refl; later = λ reads. same_later (offsets_of prefix) None refl (later reads); ordered = same_order (offsets_of prefix) None refl }
 header_row reads_debug prefix k start bytes (r.Offset n w) is later clean = record {
@@ -313,14 +313,14 @@ part_follows prefix e start p clean =
     record { new = first.0; known = second.0; once = third.0; placed = fifth.0 }
 
 -- a record at its place that has no fault keeps to the rules after those before it
-pub follows-at : (reads_debug : Bool) (prefix : List Step) (at : code.Location) (start : ℕ) (p : SpelledRecord) → IsPlacedWell at p.row → record_fault reads_debug prefix (as_location at) start p ≡ None → Follows (records_of prefix) p
+pub follows-at : (reads_debug : Bool) (prefix : List Step) (at : code.Location) (start : ℕ) (p : SpelledRecord) → IsPlacedWell at p.row → record_fault prefix (as_location at) start p ≡ None → Follows (records_of prefix) p
 follows-at reads_debug prefix (offset.Header k) start p well clean = header_follows (records_of prefix) p.row p.bytes well.0
 follows-at reads_debug prefix (offset.Part e) start p well clean = part_follows prefix (as_extent e) start p clean
 follows-at reads_debug prefix offset.End start p well clean = end_follows (records_of prefix) p.row p.bytes (not_not _ (no_fault _ _ _ clean))
 
 -- a record at its place that has no fault may be added
 pub addable : (reads_debug : Bool) (prefix : List Step) (at : code.Location) (start : ℕ) (p : SpelledRecord) → IsPlacedWell at p.row → (reads_debug ≡ true → get_or (offsets_of prefix) 4 0 ≡ 0)
-    → record_fault reads_debug prefix (as_location at) start p ≡ None → IsAddable reads_debug prefix p.row
+    → record_fault prefix (as_location at) start p ≡ None → IsAddable reads_debug prefix p.row
 addable reads_debug prefix (offset.Header k) start p well later clean = header_row reads_debug prefix k start p.bytes p.row well.0 later clean
 addable reads_debug prefix (offset.Part e) start p well later clean = part_row reads_debug prefix (as_extent e) start p well later clean
 addable reads_debug prefix offset.End start p well later clean = end_row reads_debug prefix p.row (not_not _ (no_fault _ _ _ clean)) later

@@ -52,14 +52,14 @@ debug_closes ix part before records none own closed =
 
 -- ---- ends
 
-kind_of_head : (ix : Indexes) (p : SpelledRecord) (kind : ℕ) (block : BlockTail) → FitsKind kind block → kind_number (head_by ix p kind block) ≡ kind
+pub kind_of_head : (ix : Indexes) (p : SpelledRecord) (kind : ℕ) (block : BlockTail) → FitsKind kind block → kind_number (head_by ix p kind block) ≡ kind
 kind_of_head ix p kind tail.Module fits = sym fits
 kind_of_head ix p kind (tail.Scope stack type_index offset) (inl four) = ap (λ (k : ℕ). kind_number (head_by ix p k (tail.Scope stack type_index offset))) four ∙ sym four
 kind_of_head ix p kind (tail.Scope stack type_index offset) (inr six) = ap (λ (k : ℕ). kind_number (head_by ix p k (tail.Scope stack type_index offset))) six ∙ sym six
 kind_of_head ix p kind (tail.Source ns) fits = sym fits
 kind_of_head ix p kind (tail.Section section_type section offset) fits = sym fits
 
-plain_kind : (head : BlockHead) → ends_plainly head ≡ ((kind_number head == 3) || (kind_number head == 5))
+pub plain_kind : (head : BlockHead) → ends_plainly head ≡ ((kind_number head == 3) || (kind_number head == 5))
 plain_kind heads.Module = refl
 plain_kind (heads.Global stack type_index offset) = refl
 plain_kind (heads.Source ns) = refl
@@ -71,7 +71,7 @@ swapped true None h = refl
 swapped true (Some t) h = h
 swapped false o h = refl
 
-mapped_some : {X Y : Type 0} (f : X → Y) (o : Option X) → is_some (option_map f o) ≡ is_some o
+pub mapped_some : {X Y : Type 0} (f : X → Y) (o : Option X) → is_some (option_map f o) ≡ is_some o
 mapped_some f None = refl
 mapped_some f (Some x) = refl
 

@@ -289,8 +289,8 @@ as_read : (reads_debug : Bool) (part : Part) (from to : ℕ) (all : List ℕ) (i
 as_read reads_debug part from to all items before step steps is other offset ready here rest =
     let start = size_of before in
     let p = here.spelled in
-    let fault : step_fault reads_debug before (taken (read start p) (length p.bytes)) ≡ None = subst (λ (s : Step). step_fault reads_debug before (taken s (length (step_bytes s))) ≡ None) here.is_this ready.walk.2 in
-    let facts = record_facts before (extent part from to) start p (subst (λ (q : Location). record_fault reads_debug before q start p ≡ None) offset fault) in
+    let fault : step_fault before (taken (read start p) (length p.bytes)) ≡ None = subst (λ (s : Step). step_fault before (taken s (length (step_bytes s))) ≡ None) here.is_this ready.walk.2 in
+    let facts = record_facts before (extent part from to) start p (subst (λ (q : Location). record_fault before q start p ≡ None) offset fault) in
     let a = not (size_of before == from) in
     let b = awaits_items (last_or None (records_of before)) in
     let c = begins_item (prefix_bytes (step ∷ steps)) in

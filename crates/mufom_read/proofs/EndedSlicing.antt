@@ -263,7 +263,7 @@ slice_by reads_debug prefix h (w0 ∷ w1 ∷ w2 ∷ w3 ∷ w4 ∷ w5 ∷ w6 ∷ 
     let b0 = read 0 h.begin ∷ read (length h.begin.bytes) h.descriptor ∷ h.rest.own in
     let offsets = w0 ∷ w1 ∷ w2 ∷ w3 ∷ w4 ∷ w5 ∷ w6 ∷ w7 ∷ [] in
     let facts = header_facts reads_debug prefix h in
-    let order : InOrder reads_debug [] offsets = subst (λ (ws : List ℕ). InOrder reads_debug [] ws) same h.rest.in_order in
+    let order : InOrder [] offsets = subst (λ (ws : List ℕ). InOrder [] ws) same h.rest.in_order in
     let values : offsets_in (records_of h.rest.own) ≡ offsets = h.rest.values ∙ same in
     let are : offsets_of b0 ≡ offsets = header_offsets h.begin h.descriptor (records_of h.rest.own) facts.begins facts.describes ∙ values in
     let size : size_of b0 ≡ first_present offsets = sym (h.rest.gap (omega arith) (ap length same)) ∙ ap first_present same in

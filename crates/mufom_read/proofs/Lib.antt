@@ -55,6 +55,7 @@ pub mod SpelledPlain
 pub mod SpelledEntries
 pub mod SpelledLoads
 pub mod SpelledKept
+pub mod SpelledBlocks
 pub mod SpelledOffsets
 pub mod SpelledFile
 pub mod SpelledPrefix

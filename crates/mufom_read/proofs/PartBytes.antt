@@ -288,7 +288,7 @@ none_of None b e = (refl, e)
 none_of (Some x) b e = absurd (nothing e)
 
 -- an offset without a fault leaves no gap
-closed : (reads_debug : Bool) (earlier : List ℕ) (start end : ℕ) (row : Record) (w : ℕ) → header_fault reads_debug earlier start end row ≡ None → offset_in row ≡ Some w → leaves_gap (earlier ++ w ∷ []) end ≡ false
+closed : (reads_debug : Bool) (earlier : List ℕ) (start end : ℕ) (row : Record) (w : ℕ) → header_fault earlier start end row ≡ None → offset_in row ≡ Some w → leaves_gap (earlier ++ w ∷ []) end ≡ false
 closed reads_debug earlier start end (r.Offset n v) w clean same =
     let after = none_of (fault_if (is_out_of_order earlier v) start why.OffsetOrder) _ clean in
     let last = none_of (fault_if (is_left_for_later reads_debug earlier v) start why.NotBuilt) _ after.1 in
@@ -323,7 +323,7 @@ counted os None n few count has = let first : n < 2 = leb-false 2 n (sym has) in
 counted os (Some w) n few count has = let later : 2 ≤ n = leb-true 2 n (sym has) in omega (arith, few, later, count, length-append os (w ∷ []))
 
 in-header : (reads_debug : Bool) (prefix : List Step) (p : SpelledRecord) → length prefix < 10 → length (offsets_of prefix) ≡ offset_count (length prefix) → is_some (offset_in p.row) ≡ nat_le 2 (length prefix)
-    → AreOrdered (offsets_of prefix ++ cons_option (offset_in p.row) []) → header_fault reads_debug (offsets_of prefix) (size_of prefix) (size_of prefix + length p.bytes) p.row ≡ None → KeepsBytes prefix p
+    → AreOrdered (offsets_of prefix ++ cons_option (offset_in p.row) []) → header_fault (offsets_of prefix) (size_of prefix) (size_of prefix + length p.bytes) p.row ≡ None → KeepsBytes prefix p
 in-header reads_debug prefix p few count has order clean = by_case (cases_lt (length prefix) 9) where
   next : List Step
   next = prefix ++ read (size_of prefix) p ∷ []
@@ -385,7 +385,7 @@ stands-there prefix e start p clean = not_not (stands_in e.part p.row) (no_fault
 
 -- a record without a fault leaves the bytes of both parts as they are
 pub record-bytes : (reads_debug : Bool) (prefix : List Step) (at : code.Location) (p : SpelledRecord) → length (offsets_of prefix) ≡ offset_count (length prefix) → (10 ≤ length prefix → first_present (offsets_of prefix) ≤ size_of prefix)
-    → AreOrdered (offsets_of prefix ++ cons_option (offset_in p.row) []) → IsPlacedWell at p.row → as_location at ≡ location_after prefix → record_fault reads_debug prefix (as_location at) (size_of prefix) p ≡ None → KeepsBytes prefix p
+    → AreOrdered (offsets_of prefix ++ cons_option (offset_in p.row) []) → IsPlacedWell at p.row → as_location at ≡ location_after prefix → record_fault prefix (as_location at) (size_of prefix) p ≡ None → KeepsBytes prefix p
 record-bytes reads_debug prefix (offset.Header k) p count begun order well same clean =
     let found = header-found prefix k same in
     in-header reads_debug prefix p (ltb-true (length prefix) 10 found.0) count (well.1 ∙ ap (nat_le 2) found.1) order clean

@@ -134,12 +134,12 @@ raw_sound : (reads_debug : Bool) (prefix : List Step) (e : Extent) (bytes rest :
 raw_sound reads_debug prefix e [] rest is unread within = tt
 raw_sound reads_debug prefix e (b ∷ []) rest is unread within =
     let here = raw_next reads_debug prefix e (b ∷ rest) is.header is.found unread in
-    (is.unended, ap (λ o. option_or o (step_fault reads_debug prefix (next_step reads_debug prefix (b ∷ rest)))) is.whole ∙ ap (step_fault reads_debug prefix) here, here, tt)
+    (is.unended, ap (λ o. option_or o (step_fault prefix (next_step reads_debug prefix (b ∷ rest)))) is.whole ∙ ap (step_fault prefix) here, here, tt)
 raw_sound reads_debug prefix e (b ∷ c ∷ bytes) rest is unread within =
     let here = raw_next reads_debug prefix e (b ∷ c ∷ bytes ++ rest) is.header is.found unread in
     let size : size_of (prefix ++ raw b ∷ []) ≡ size_of prefix + 1 = size-append prefix (raw b ∷ []) in (
       is.unended,
-      ap (λ o. option_or o (step_fault reads_debug prefix (next_step reads_debug prefix (b ∷ c ∷ bytes ++ rest)))) is.whole ∙ ap (step_fault reads_debug prefix) here,
+      ap (λ o. option_or o (step_fault prefix (next_step reads_debug prefix (b ∷ c ∷ bytes ++ rest)))) is.whole ∙ ap (step_fault prefix) here,
       here,
       raw_sound reads_debug (prefix ++ raw b ∷ []) e (c ∷ bytes) rest (stays_in reads_debug prefix e b is (omega (arith, within))) unread (omega (arith, within, size)),
     )

@@ -98,9 +98,9 @@ gone-by : (reads_debug : Bool) (prefix : List Step) (rest : List ℕ) (stands : 
     → HasJudged reads_debug prefix stands rest new done → IsStepTaken reads_debug prefix rest new done
 gone-by reads_debug prefix rest stands new (next.Took n) unended whole here (step, got, count, clean, some, within, is) =
     let bytes : size_of (step ∷ []) ≡ length (step_bytes step) = ap length (append-nil (step_bytes step)) in
-    (step ∷ [], is, (unended, ap (λ o. option_or o (step_fault reads_debug prefix (next_step reads_debug prefix rest))) whole ∙ ap (step_fault reads_debug prefix) here ∙ clean, here ∙ got ∙ ap (Got step) (sym count), tt), bytes ∙ count, some, within)
+    (step ∷ [], is, (unended, ap (λ o. option_or o (step_fault prefix (next_step reads_debug prefix rest))) whole ∙ ap (step_fault prefix) here ∙ clean, here ∙ got ∙ ap (Got step) (sym count), tt), bytes ∙ count, some, within)
 gone-by reads_debug prefix rest stands new next.More unended whole here (is, more) = (is, here ∙ more)
-gone-by reads_debug prefix rest stands new (next.Refused f) unended whole here fault = ap (step_fault reads_debug prefix) here ∙ fault
+gone-by reads_debug prefix rest stands new (next.Refused f) unended whole here fault = ap (step_fault prefix) here ∙ fault
 
 -- a step that is read
 pub read-gone : (reads_debug : Bool) (prefix : List Step) (at : code.Location) (rest : List ℕ) (new : Prefix) (done : Next) → is_ended prefix ≡ false → ended_part_fault prefix ≡ None → as_location at ≡ location_after prefix → IsRead reads_debug at
@@ -131,7 +131,7 @@ stepped-fault reads_debug prefix rest new n f (steps, is, sound, size, some, wit
   steps,
   sound,
   sym (unended ∙ is.ended),
-  ap (λ o. option_or o (step_fault reads_debug (prefix ++ steps) (next_step reads_debug (prefix ++ steps) (drop (size_of steps) rest)))) (sym (fault (prefix ++ steps) is)),
+  ap (λ o. option_or o (step_fault (prefix ++ steps) (next_step reads_debug (prefix ++ steps) (drop (size_of steps) rest)))) (sym (fault (prefix ++ steps) is)),
 )
 
 -- one with a fault
@@ -140,5 +140,5 @@ stepped-refused reads_debug prefix rest new f unended whole fault = (
   [],
   tt,
   subst (λ (fr : List Step). is_ended fr ≡ false) (sym (append-nil prefix)) unended,
-  ap (λ (fr : List Step). fault_after reads_debug fr rest) (append-nil prefix) ∙ ap (λ o. option_or o (step_fault reads_debug prefix (next_step reads_debug prefix rest))) whole ∙ fault,
+  ap (λ (fr : List Step). fault_after reads_debug fr rest) (append-nil prefix) ∙ ap (λ o. option_or o (step_fault prefix (next_step reads_debug prefix rest))) whole ∙ fault,
 )

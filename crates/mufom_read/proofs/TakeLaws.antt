@@ -101,7 +101,7 @@ all-wanting reads_debug before rest after f new taken gone at step unended =
       gone.within,
       inr (record {
         unended = open_;
-        faultless = ap (λ o. option_or o (step_fault reads_debug prefix (next_step reads_debug prefix (drop taken rest)))) (gone.whole open_) ∙ ap (step_fault reads_debug prefix) here;
+        faultless = ap (λ o. option_or o (step_fault prefix (next_step reads_debug prefix (drop taken rest)))) (gone.whole open_) ∙ ap (step_fault prefix) here;
         wanting = here;
       }),
     )

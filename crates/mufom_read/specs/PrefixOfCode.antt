@@ -146,10 +146,10 @@ mode_at prefix at_end rest = mode.Body
 
 -- What was done with a whole record after a prefix: it has no fault and was added, or it has this fault.
 abbrev pub HasTaken : Bool → List Step → SpelledRecord → Prefix → Next → Type 0
-HasTaken reads_debug prefix p new (next.Took n) = (n ≡ length p.bytes) × (record_fault reads_debug prefix (location_after prefix) (size_of prefix) p ≡ None)
+HasTaken reads_debug prefix p new (next.Took n) = (n ≡ length p.bytes) × (record_fault prefix (location_after prefix) (size_of prefix) p ≡ None)
     × IsPrefixOf reads_debug new (prefix ++ read (size_of prefix) p ∷ [])
 HasTaken reads_debug prefix p new next.More = ⊥
-HasTaken reads_debug prefix p new (next.Refused f) = record_fault reads_debug prefix (location_after prefix) (size_of prefix) p ≡ Some (as_fault f)
+HasTaken reads_debug prefix p new (next.Refused f) = record_fault prefix (location_after prefix) (size_of prefix) p ≡ Some (as_fault f)
 
 -- the location is in no debug part, which is not read yet
 abbrev pub IsNotDebug : code.Location → Type 0
@@ -169,10 +169,10 @@ IsRawPart reads_debug at e = (at ≡ offset.Part e) × (is_raw reads_debug (as_p
 
 -- What was done with what stands after a prefix: a step without a fault was taken; or more bytes are wanted; or there is this fault.
 abbrev pub HasJudged : Bool → List Step → Taken Step → List ℕ → Prefix → Next → Type 0
-HasJudged reads_debug prefix stands rest new (next.Took n) = (step : Step) × (stands ≡ Got step n) × (length (step_bytes step) ≡ n) × (step_fault reads_debug prefix stands ≡ None)
+HasJudged reads_debug prefix stands rest new (next.Took n) = (step : Step) × (stands ≡ Got step n) × (length (step_bytes step) ≡ n) × (step_fault prefix stands ≡ None)
     × (0 < n) × (n ≤ length rest) × IsPrefixOf reads_debug new (prefix ++ step ∷ [])
 HasJudged reads_debug prefix stands rest new next.More = IsPrefixOf reads_debug new prefix × (stands ≡ More)
-HasJudged reads_debug prefix stands rest new (next.Refused f) = step_fault reads_debug prefix stands ≡ Some (as_fault f)
+HasJudged reads_debug prefix stands rest new (next.Refused f) = step_fault prefix stands ≡ Some (as_fault f)
 
 -- of the bytes of a part, those that are of the extension
 abbrev pub extension_in : codes.Part → List ℕ → List ℕ
@@ -211,7 +211,7 @@ abbrev pub IsStepTaken : Bool → List Step → List ℕ → Prefix → Next →
 IsStepTaken reads_debug prefix rest new (next.Took n) = (steps : List Step) × IsPrefixOf reads_debug new (prefix ++ steps) × IsSoundFrom reads_debug prefix steps rest
     × (size_of steps ≡ n) × (0 < n) × (n ≤ length rest)
 IsStepTaken reads_debug prefix rest new next.More = IsPrefixOf reads_debug new prefix × (next_step reads_debug prefix rest ≡ More)
-IsStepTaken reads_debug prefix rest new (next.Refused f) = step_fault reads_debug prefix (next_step reads_debug prefix rest) ≡ Some (as_fault f)
+IsStepTaken reads_debug prefix rest new (next.Refused f) = step_fault prefix (next_step reads_debug prefix rest) ≡ Some (as_fault f)
 
 -- What a step has done after a prefix where these bytes stand: it took steps without a fault; or it found that more bytes
 -- are wanted; or it found a fault, maybe after steps without one.

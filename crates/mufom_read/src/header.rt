@@ -55,7 +55,7 @@ fn offset_fault(
     start: u64,
     end: u64,
 ) -> Option<ReadRefusal>
-    ensures { option_map as_fault result ≡ faults.offset_fault reads_debug earlier.now offset start end }
+    ensures { option_map as_fault result ≡ faults.offset_fault earlier.now offset start end }
 {
     if is_out_of_order(earlier, offset) {
         let reason = Reason::OffsetOrder;
@@ -96,7 +96,7 @@ pub(crate) fn header_fault(
     start: u64,
     end: u64,
 ) -> Option<ReadRefusal>
-    ensures { option_map as_fault result ≡ faults.header_fault reads_debug earlier.now start end «record».now }
+    ensures { option_map as_fault result ≡ faults.header_fault earlier.now start end «record».now }
 {
     if let Record::Offset(_, offset) = record {
         return offset_fault(reads_debug, earlier, *offset, start, end);

@@ -371,7 +371,7 @@ impl Prefix {
         ensures { (prefix : List prefixes.Step) → IsPrefixOf reads_debug self.now prefix
             → records.tree_of_record (record_of_kept (kept_of_seen next.now)) ≡ option_map (λ t. t.now) tree.entry
             → option_map as_fault result
-            ≡ faults.record_fault reads_debug prefix (as_location place) self.now.size (record_of_kept (kept_of_seen next.now)) }
+            ≡ faults.record_fault prefix (as_location place) self.now.size (record_of_kept (kept_of_seen next.now)) }
     {
         match place {
             Location::Header(_) => {

@@ -47,5 +47,5 @@ returns-in-More c = λ prefix is at.
 pub returns-in-Bad : goal.returns-in-Bad
 returns-in-Bad c = λ prefix is at.
     let rest = c.args.rest.now in
-    ap (λ a. step_fault c.args.reads_debug prefix (as_step (size_of prefix) rest a)) (sym (c.in-Bad.ensures.exact ∙ ap (λ (m : Mode). record_at m rest) (c.mode.ensures c.args.reads_debug prefix is)))
+    ap (λ a. step_fault prefix (as_step (size_of prefix) rest a)) (sym (c.in-Bad.ensures.exact ∙ ap (λ (m : Mode). record_at m rest) (c.mode.ensures c.args.reads_debug prefix is)))
     ∙ ap (λ n. Some (n + c.in-Bad.offset, c.in-Bad.reason)) (sym is.size)

@@ -35,9 +35,9 @@ returns-in_ok-add-in-None c = λ prefix is at.
     let fits = addable c.args.reads_debug prefix c.args.place c.args.self.now.size p c.requires.placed is.later clean in
     let follows = follows-at c.args.reads_debug prefix c.args.place c.args.self.now.size p c.requires.placed clean in
     let next = next-of c.args.reads_debug c.args.self.now prefix p is follows in
-    let here : record_fault c.args.reads_debug prefix (as_location c.args.place) (size_of prefix) p ≡ None = ap (λ n. record_fault c.args.reads_debug prefix (as_location c.args.place) n p) (sym is.size) ∙ clean in (
+    let here : record_fault prefix (as_location c.args.place) (size_of prefix) p ≡ None = ap (λ n. record_fault prefix (as_location c.args.place) n p) (sym is.size) ∙ clean in (
       refl,
-      ap (λ pl. record_fault c.args.reads_debug prefix pl (size_of prefix) p) (sym at) ∙ here,
+      ap (λ pl. record_fault prefix pl (size_of prefix) p) (sym at) ∙ here,
       subst (λ (f : Prefix). IsPrefixOf c.args.reads_debug f (prefix ++ read (size_of prefix) p ∷ [])) (sym c.in_ok-add-in-None.ensures.added)
           (prefix-add c.args.reads_debug c.args.self.now prefix k c.add.new.self is c.requires.own c.requires.some c.requires.start c.in_ok-add-in-None.ensures.location
           (c.in_ok-add-in-None.ensures.publics (offset_records_of prefix) next) (c.in_ok-add-in-None.ensures.references (offset_records_of prefix) next) fits follows

@@ -5,7 +5,7 @@ use Rattle.mufom_read.specs.Prefixes.{size_of, is_ended}
 use Rattle.mufom_read.specs.PrefixOfCode.{IsPrefixOf}
 use Rattle.mufom_read.specs.Judging.{IsModule}
 use Rattle.mufom_read.specs.Reader.{IsReading, Knows, HasRead}
-use Rattle.mufom_read.proofs.FinishLaws.{is-whole, finish-stopped, finish-cut, finish-whole, finish-module, finish-file}
+use Rattle.mufom_read.proofs.FinishLaws.{is-whole, finish-stopped, finish-cut, finish-whole, finish-file}
 use Rattle.mufom_read.proofs.WeighFiles.{modules_weigh}
 use Rattle.mufom_read.proofs.reader.Reader.finish.Goals as goal
 
@@ -40,7 +40,7 @@ returns-in-Ok-clause-ok c = λ stream given_.
     let has = subst (λ (s : State). HasRead s stream) (sym c.self.view_is) given_ in
     let is : IsReading it stream = subst (λ (o : Option ReadStop). Knows it stream o) c.in_default.is has.1 in
     let ended : is_ended is.prefix ≡ true = sym (c.is_ended.ensures.prefix it.reads_debug is.prefix is.kept) ∙ c.if-not-is_ended.false in
-    subst (λ (s : State). IsModule s.reads_debug stream c.in-Ok.module) c.self.view_is (finish-module it stream c.in-Ok.module is (c.in-Ok.ensures it.reads_debug is.prefix stream (is-whole it stream is has.0 ended)))
+    subst (λ (s : State). IsModule s.reads_debug stream c.in-Ok.module) c.self.view_is (c.in-Ok.ensures it.reads_debug is.prefix stream (is-whole it stream is has.0 ended))
 
 pub returns-in-Ok-clause-refused : goal.returns-in-Ok-clause-refused
 returns-in-Ok-clause-refused c = λ place reason stream has memory.
