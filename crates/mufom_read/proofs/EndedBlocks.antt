@@ -17,7 +17,8 @@ use Rattle.mufom_module.specs.RecordParts.{Part}
 use Rattle.mufom_module.specs.Gathered.{head_by, mark_by, marks}
 use Rattle.mufom_module.specs.Defects.{ends_plainly, has_bad_end}
 use Rattle.mufom_read.proofs.BlockKinds.{kinds_after, kinds_from, open_kinds, ends_badly_in, is_too_deep_in, kinds-append, kinds-next, NestFrom}
-use Rattle.mufom_read.proofs.EndedRows.{FitsKind, IsShort}
+use Rattle.mufom_read.specs.DebugSoFar.{FitsKind}
+use Rattle.mufom_read.proofs.EndedRows.{IsShort}
 use Rattle.mufom_read.proofs.EndedParts.{KeptFrom}
 use Rattle.mufom_read.proofs.Nesting.{ends_badly_from, rebuilt-ends}
 

@@ -4,13 +4,12 @@ use Rattle.std.proofs.lemmas.Bool.{and_parts, both_ways, cases_eq}
 use Rattle.mufom_numbers.specs.declared.taken.Span.{Span}
 use Rattle.mufom_numbers.specs.Spelling.{IsStringLead}
 use Rattle.mufom_records.specs.declared.record.Mode.TheVariants as mode
-use Rattle.mufom_records.specs.declared.record.BlockTail.{BlockTail}
-use Rattle.mufom_records.specs.declared.record.BlockTail.TheVariants as tail
 use Rattle.mufom_records.specs.declared.record.Record.{Record}
 use Rattle.mufom_records.specs.declared.record.Record.TheVariants as r
 use Rattle.mufom_records.specs.Fields.{Field, ValueOf, byte, number, string, run, letter, optional_number, numbers, expression, optional_expression, is_one_of, SpellsField, first_of}
 use Rattle.mufom_records.specs.Layouts
 use Rattle.mufom_read.specs.Prefixes.{is_module_end}
+use Rattle.mufom_read.specs.DebugSoFar.{FitsKind, HasKind}
 
 abbrev Layout : Type 0
 Layout = Layouts.Layout
@@ -107,13 +106,6 @@ offset_row k it bytes next is = promised (IsOffset k) (Layouts.layout_of (mode.O
 abbrev pub IsFieldSize : Option ℕ → Type 0
 IsFieldSize None = Unit {0}
 IsFieldSize (Some n) = (1 ≤ n) × (n ≤ 8)
-
--- the kind of a block is one with what it adds
-abbrev pub FitsKind : ℕ → BlockTail → Type 0
-FitsKind kind tail.Module = kind ≡ 3
-FitsKind kind (tail.Scope stack type_index offset) = (kind ≡ 4) ⊎ (kind ≡ 6)
-FitsKind kind (tail.Source ns) = kind ≡ 5
-FitsKind kind (tail.Section section_type section offset) = kind ≡ 11
 
 -- Strings and literal bytes are short, a block has what its kind adds, the attribute of a debug note is one of the format, and it is
 -- not the end.
@@ -244,3 +236,14 @@ end_bytes row bytes next ends is = elim (end_or_short row bytes next is) [ inl e
 
 pub items_short : (row : Record) (bytes : List ℕ) (next : Option ℕ) → Layouts.IsWholeRecord mode.Items row bytes next → IsShort row
 items_short it bytes next is = promised IsShort Layouts.item it 0 bytes next is item_short
+
+kind_of_short : (row : Record) → IsShort row → HasKind row
+kind_of_short (r.BlockBegin kind n name block) short = short.1
+kind_of_short row short = tt
+
+-- the kind of a block that was read is one with what it adds
+pub body_kind : (row : Record) (bytes : List ℕ) (next : Option ℕ) → Layouts.IsWholeRecord mode.Body row bytes next → HasKind row
+body_kind row bytes next is = elim (end_or_short row bytes next is) [ inl end ↦ subst HasKind (sym end.0) tt | inr short ↦ kind_of_short row short ]
+
+pub items_kind : (row : Record) (bytes : List ℕ) (next : Option ℕ) → Layouts.IsWholeRecord mode.Items row bytes next → HasKind row
+items_kind row bytes next is = kind_of_short row (items_short row bytes next is)

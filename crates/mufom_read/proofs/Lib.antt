@@ -47,6 +47,7 @@ pub mod LoadLaws
 pub mod Stable
 pub mod LoadsFold
 pub mod LoadsWhole
+pub mod DebugSteps
 pub mod KeptRecords
 pub mod SpelledWalk
 pub mod SpelledHeader

@@ -10,6 +10,7 @@
 #![tactic(auto)]
 
 mod build;
+mod debug;
 mod header;
 mod kept;
 mod laws;
