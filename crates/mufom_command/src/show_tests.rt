@@ -70,6 +70,6 @@ fn a_debug_part_is_passed_over_where_the_words_say_so(rt: HostRuntime) -> Result
     file[76] = 0x78;
     let line = ["show", "--no-debug", "a"];
     shows(&rt, rt.alloc(), &line, &file, &[], (0, TEXT, b""))?;
-    let line = b"refused: file 0 at 45: NotBuilt\n";
+    let line = b"refused: file 0 at 100: BadRecord\n";
     shows(&rt, rt.alloc(), &["show", "a"], &file, &[], (1, b"", line))
 }

@@ -14,7 +14,7 @@ use Rattle.mufom_read.specs.declared.prefix.Prefix.{Prefix}
 use Rattle.mufom_read.specs.declared.prefix.Location as code
 use Rattle.mufom_read.specs.declared.prefix.Location.TheVariants as offset
 use Rattle.mufom_read.specs.Prefixes.{Step, Extent, records_of, offset_records_of, offsets_of, record_of}
-use Rattle.mufom_read.specs.Faults.{Fault, fault_if, fault_for, OpenBlock, open_blocks, ends_badly, record_fault, part_record_fault, rule_broken, has_bad_alignment, is_out_of_order}
+use Rattle.mufom_read.specs.Faults.{Fault, fault_if, fault_for, OpenBlock, open_blocks, ends_badly, is_too_deep, misplaces_counter, record_fault, part_record_fault, rule_broken, has_bad_alignment, is_out_of_order}
 use Rattle.mufom_read.specs.PartsOfCode.{as_extent}
 use Rattle.mufom_read.specs.Kept.{as_record, tables_of, is_new, statements, alignment_stated, size_stated, base_stated, value_stated, weakness_stated, HasRoom}
 use Rattle.mufom_read.specs.DebugSoFar.{HasKind}
@@ -167,12 +167,12 @@ part_row prefix e start p kind clean =
     let stands : stands_in e.part p.row ≡ true = not_not _ (no_fault _ _ _ more.0) in
     let unbroken = no_reason start _ more.1 in
     let first = no_first (declares_again (records_of prefix) p.row) _ _ unbroken in
-    let second = no_first _ _ _ first.1 in
+    let second = no_first (names_unknown (records_of prefix) p) _ _ first.1 in
     let third = no_first (states_again (records_of prefix) p.row) _ _ second.1 in
-    let fourth = no_first _ _ _ third.1 in
-    let fifth = no_first _ _ _ fourth.1 in
-    let sixth = no_first _ _ _ fifth.1 in
-    let seventh = no_first (ends_badly (open_blocks (offset_records_of prefix)) p.row) _ _ sixth.1 in
+    let fourth = no_first (has_bad_alignment p.row) _ _ third.1 in
+    let fifth = no_first (has_no_section (records_of prefix) p.row) _ _ fourth.1 in
+    let sixth = no_first (misplaces_counter (records_of prefix) p) _ _ fifth.1 in
+    let seventh = no_first (ends_badly (open_blocks (offset_records_of prefix)) p.row) why.BlockNesting (cond (is_too_deep (open_blocks (offset_records_of prefix)) p.row) (Some why.Depth) None) sixth.1 in
     record {
       new = both_new _ _ (declares (records_of prefix) p.row ∙ first.0) (states (records_of prefix) p.row ∙ third.0);
       kind = kind;

@@ -4,6 +4,7 @@ use Rattle.std.proofs.lemmas.Bool.{and_parts, leb-true}
 use Rattle.std.specs.List.{cons_option}
 use Rattle.mufom_debug.specs.Marks.{joined, marks_of}
 use Rattle.mufom_debug.proofs.Rebuilt.{same_items}
+use Rattle.mufom_expr.specs.Spelled.{Indexes}
 use Rattle.mufom_expr.specs.Tree.{Tree}
 use Rattle.mufom_records.specs.declared.record.Record.{Record}
 use Rattle.mufom_module.specs.declared.module.Parts.{Parts}
@@ -24,8 +25,7 @@ use Rattle.mufom_read.specs.DebugSoFar.{opened, marks_to_block, marks_so_far}
 use Rattle.mufom_read.specs.PrefixOfCode.{IsPrefixOf}
 use Rattle.mufom_read.specs.Stated.{indexes_in}
 use Rattle.mufom_read.specs.Built.{IsStatedByKept, IsWhole}
-use Rattle.mufom_read.proofs.BlockKinds.{kinds_from, open_kinds, kinds_of, kinds-open, kinds-append, kinds-other}
-use Rattle.mufom_read.proofs.DebugSteps.{stacked-none, marks-whole}
+use Rattle.mufom_read.proofs.DebugKept.{debug-kept}
 use Rattle.mufom_read.proofs.EndedSliced.{Sliced}
 use Rattle.mufom_read.proofs.EndedStated.{stated_by, states, units_of, stand_parts, sorted, same_ix, is_stated}
 use Rattle.mufom_read.proofs.EndedRows.{IsBegin, IsDescriptor}
@@ -68,35 +68,6 @@ has_header : (reads_debug : Bool) (f : Prefix) (prefix : List Step) → IsPrefix
 has_header reads_debug f prefix is s =
     let eight : length (offsets_of prefix) ≡ 8 = ap length s.offsets ∙ stand_count (offsets_in s.f.offsets) (length (bytes_of (header_of s.f))) (parts_of s.f) s.stand in
     omega (arith, eight, is.count)
-
--- no block is open after an ended prefix
-all-closed : (reads_debug : Bool) (prefix : List Step) (s : Sliced reads_debug prefix) → open_kinds (records_of prefix) ≡ []
-all-closed reads_debug prefix s =
-    let are = sorted reads_debug prefix s in
-    let before = ((header_of s.f ++ s.f.sections) ++ s.f.externals) ++ s.f.debug in
-    ap (λ (l : List SpelledRecord). open_kinds l) s.records
-    ∙ kinds-append [] ((before ++ s.f.loads) ++ s.f.trailer) (s.end ∷ [])
-    ∙ ap (λ (k : List ℕ). kinds_from k (s.end ∷ []))
-    (kinds-append [] (before ++ s.f.loads) s.f.trailer
-    ∙ ap (λ (k : List ℕ). kinds_from k s.f.trailer)
-    (kinds-append [] before s.f.loads ∙ ap (λ (k : List ℕ). kinds_from k s.f.loads) s.closed ∙ kinds-other data_part [] s.f.loads refl are.loads)
-    ∙ kinds-other trailer_part [] s.f.trailer refl are.trailer)
-    ∙ kinds-other end_part [] (s.end ∷ []) refl (end_alone s.end s.ends)
-
--- the debug items that are kept are those of the module
-debug-kept : (reads_debug : Bool) (f : Prefix) (prefix : List Step) → IsPrefixOf f prefix → (s : Sliced reads_debug prefix) → (stated_by reads_debug prefix s).debug ≡ f.debug.items
-debug-kept reads_debug f prefix is s =
-    let all = records_of prefix in
-    let opened_none : kinds_of (opened f.debug) ≡ [] = ap (λ (l : List OpenBlock). kinds_of l) is.debug.blocks ∙ kinds-open prefix ∙ all-closed reads_debug prefix s in
-    let none : f.debug.blocks ≡ [] = stacked-none f.debug.blocks (no_kinds (opened f.debug) opened_none) in
-    let kept : marks_of f.debug.items ≡ marks (indexes_in all) all =
-    ap (λ (l : List code.OpenBlock). joined (map marks_to_block l) ++ marks_of f.debug.items) (sym none)
-    ∙ is.debug.marks ∙ ap marks_so_far (sym (records-placed prefix)) ∙ marks-whole all is.follow in
-    same_items _ f.debug.items ((is_stated reads_debug prefix s).debug ∙ sym kept)
-  where
-    no_kinds : (blocks : List OpenBlock) → kinds_of blocks ≡ [] → blocks ≡ []
-    no_kinds [] h = refl
-    no_kinds (b ∷ blocks) h = cc
 
 stated_of : (reads_debug : Bool) (f : Prefix) (prefix : List Step) (bytes : List ℕ) → IsWhole reads_debug f prefix bytes → (s : Sliced reads_debug prefix) → IsStatedByKept f (stated_by reads_debug prefix s)
 stated_of reads_debug f prefix bytes is s =

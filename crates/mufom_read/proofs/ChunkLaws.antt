@@ -164,7 +164,7 @@ still-reading r stream chunk prefix n rest new gone same is waits short left non
     let all = gone.count in
     record {
       prefix = prefix;
-      kept = subst (λ (b : Bool). IsPrefixOf b new.prefix prefix) (sym same) is;
+      kept = is;
       sound = subst (λ (b : Bool). IsSoundPrefix b prefix (stream ++ chunk)) (sym same) (subst (λ (l : List ℕ). IsSoundPrefix r.reads_debug prefix l) whole gone.sound);
       within = omega (arith, gone.long, gone.room, few);
       inside = omega (arith, gone.long, gone.inside, all, few);
@@ -229,7 +229,7 @@ pub known-chunk : (r added new : State) (stream chunk : List ℕ) (longer_ : Boo
     → ((before : List Step) → IsPrefixOf added.prefix before → (is_ended before ≡ false → ended_part_fault before ≡ None) → HasJudgedRest added.reads_debug before added.rest.items longer_ new result)
     → Knows new (stream ++ chunk) result
 known-chunk r added new stream chunk longer_ result is bytes prefix flag rest test same judged =
-    let kept : IsPrefixOf added.prefix is.prefix = subst (λ (b : Bool). IsPrefixOf b added.prefix is.prefix) (sym flag) (subst (λ (f : Prefix). IsPrefixOf f is.prefix) (sym prefix) is.kept) in
+    let kept : IsPrefixOf added.prefix is.prefix = subst (λ (f : Prefix). IsPrefixOf f is.prefix) (sym prefix) is.kept in
     let here = subst (λ (b : Bool). HasJudgedRest b is.prefix added.rest.items longer_ new result) flag (judged is.prefix kept (whole-prefix r stream is)) in
     knows-judged r stream chunk is longer_ new result bytes test (same ∙ flag) (subst (λ (l : List ℕ). HasJudgedRest r.reads_debug is.prefix l longer_ new result) rest here)
 

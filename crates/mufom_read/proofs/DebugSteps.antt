@@ -1,5 +1,5 @@
 -- What a record of the debug part does to the debug items so far: their marks are those of one more record.
-use Rattle.std.proofs.Common.{◌≡◌, ◌≢◌, ℕ, suc, ◌+◌, ◌≤◌, ◌==◌, nat_le, Bool, true, false, cond, arith, List, [], ◌∷◌, ◌++◌, length, map, drop, Option, Some, None, option_map, option_to_list, refl, sym, ap, subst, ◌∙◌, append_assoc, append-nil, Result, Ok, Err, OnOk}
+use Rattle.std.proofs.Common.{◌≡◌, ◌≢◌, ℕ, zero, suc, ◌+◌, ◌≤◌, ◌==◌, ◌&&◌, ◌||◌, nat_le, Bool, true, false, cond, arith, List, [], ◌∷◌, ◌++◌, length, map, drop, get_or, is_some, Option, Some, None, option_map, option_to_list, refl, sym, ap, subst, ◌∙◌, append_assoc, append-nil, Result, Ok, Err, OnOk}
 use Rattle.std.specs.List.{cons_option}
 use Rattle.std.proofs.lemmas.List.{map-append}
 use Rattle.mufom_numbers.specs.declared.taken.Span.{Span}
@@ -12,7 +12,7 @@ use Rattle.mufom_records.specs.declared.record.Record.TheVariants as r
 use Rattle.mufom_debug.specs.declared.item.BlockHead.{BlockHead}
 use Rattle.mufom_debug.specs.declared.item.BlockHead.TheVariants as heads
 use Rattle.mufom_debug.specs.declared.item.DebugItem.{DebugItem}
-use Rattle.mufom_debug.specs.Marks.{DebugMark, block_begin, block_end, note_mark, value_mark, joined, marks_of, marks_of_item}
+use Rattle.mufom_debug.specs.Marks.{DebugMark, block_begin, block_end, note_mark, value_mark, joined, marks_of, marks_of_item, kind_number}
 use Rattle.mufom_debug.proofs.MarksLemmas.{joined-append}
 use Rattle.mufom_debug.proofs.Closed.{marks_of-one}
 use Rattle.mufom_module.specs.SpelledRecords.{SpelledRecord, section, debug_name, text_in, tree_in, positioned}
@@ -20,7 +20,7 @@ use Rattle.mufom_module.specs.Gathered.{mark_by, marks, note_of}
 use Rattle.mufom_module.specs.Grammar.{names_unknown, FollowFrom}
 use Rattle.mufom_read.specs.declared.debug.OpenBlock.{OpenBlock}
 use Rattle.mufom_read.specs.Prefixes.{OffsetRecord}
-use Rattle.mufom_read.specs.Faults.{OpenBlock as Opened, opened_after, open_from, open_blocks}
+use Rattle.mufom_read.specs.Faults.{OpenBlock as Opened, ends_badly, opened_after, open_from, open_blocks}
 use Rattle.mufom_read.specs.Stated.{indexes_in}
 use Rattle.mufom_read.specs.Kept.{tables_of, indexes_by, as_record}
 use Rattle.mufom_read.specs.DebugSoFar.{as_opened, stacked, marks_to_block, marks_from, marks_so_far}
@@ -45,6 +45,19 @@ stacked-length outer (x ∷ blocks) = let rest = stacked-length (as_opened x ∷
 pub stacked-none : (blocks : List OpenBlock) → stacked [] blocks ≡ [] → blocks ≡ []
 stacked-none [] h = refl
 stacked-none (b ∷ blocks) h = let count = ap length h in let all = stacked-length [] (b ∷ blocks) in absurd (omega (arith, count, all))
+
+-- the innermost is the last one
+pub innermost : (outer : List Opened) (blocks : List OpenBlock) (k : ℕ) (b : OpenBlock) → length blocks ≡ suc k → b ≡ get_or blocks k b → (inner : List Opened) × (stacked outer blocks ≡ as_opened b ∷ inner)
+innermost outer [] k b count is = absurd (omega (arith, count))
+innermost outer (x ∷ []) zero b count is = (outer, ap (λ (y : OpenBlock). as_opened y ∷ outer) (sym is))
+innermost outer (x ∷ []) (suc k) b count is = absurd (omega (arith, count))
+innermost outer (x ∷ (y ∷ blocks)) zero b count is = absurd (omega (arith, count))
+innermost outer (x ∷ (y ∷ blocks)) (suc k) b count is = innermost (as_opened x ∷ outer) (y ∷ blocks) k b (omega (arith, count)) is
+
+-- BE where this is the innermost open block
+pub end-within : (blocks inner : List Opened) (b : OpenBlock) (row : Record) (value : Option Span) → blocks ≡ as_opened b ∷ inner → row ≡ r.BlockEnd value
+    → ends_badly blocks row ≡ (is_some value && ((kind_number b.head == 3) || (kind_number b.head == 5)))
+end-within blocks inner b row value same is = (λ k. ends_badly (same k) (is k))
 
 -- the blocks around the innermost
 pub stacked-inner : (blocks : List OpenBlock) (b : OpenBlock) → stacked [] blocks ≡ drop 1 (stacked [] (blocks ++ b ∷ []))

@@ -71,6 +71,7 @@ pub mod WeighEntries
 pub mod WeighNames
 pub mod WeighLoads
 pub mod WeighFiles
+pub mod DebugKept
 pub mod BuildLaws
 pub mod SpelledJudged
 mod Worked
