@@ -64,4 +64,4 @@ returns-in-Ok-clause-module c = λ stream m has is memory.
     finish-file c.args.self.reads_debug stream m (Ok c.in-Ok.module) has.0 (returns-in-Ok-clause-ok c stream has) (λ place reason. (returns-in-Ok-clause-refused c place reason stream has memory).0) is memory
 
 pub returns-in-Ok-clause-weighs : goal.returns-in-Ok-clause-weighs
-returns-in-Ok-clause-weighs c = λ stream has. modules_weigh c.args.self.reads_debug stream c.in-Ok.module has.0 (returns-in-Ok-clause-ok c stream has).0
+returns-in-Ok-clause-weighs c = λ stream has. modules_weigh c.args.self.reads_debug stream c.in-Ok.module has.0 (returns-in-Ok-clause-ok c stream has)
