@@ -1,5 +1,5 @@
 -- A record without a fault may be added after a prefix.
-use Rattle.std.proofs.Common.{◌≡◌, ◌≢◌, ℕ, zero, suc, ◌+◌, ◌≤◌, ◌==◌, ◌&&◌, Bool, true, false, not, true≢false, nat_lt, List, [], ◌∷◌, ◌++◌, length, filter_map, Option, Some, None, is_some, cond, get_or, refl, sym, ap, subst, ◌∙◌, arith, append-nil, le-ltb, ne_eqb, ltb-false, ◌⊎◌, inl, inr}
+use Rattle.std.proofs.Common.{◌≡◌, ℕ, suc, ◌+◌, ◌≤◌, ◌==◌, ◌&&◌, Bool, true, false, not, true≢false, nat_lt, List, [], ◌∷◌, ◌++◌, length, filter_map, Option, Some, None, is_some, cond, refl, sym, ap, subst, ◌∙◌, arith, append-nil, le-ltb, ne_eqb, ltb-false, ◌⊎◌, inl, inr}
 use Rattle.std.specs.List.{list_any, cons_option}
 use Rattle.std.specs.Option.{option_or}
 use Rattle.std.proofs.lemmas.Bool.{or_parts, cases_eq}

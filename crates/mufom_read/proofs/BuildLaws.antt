@@ -2,26 +2,22 @@
 use Rattle.std.proofs.Common.{◌≡◌, ℕ, ◌<◌, ◌≤◌, nat_le, Bool, true, false, min, List, [], ◌∷◌, ◌++◌, map, refl, sym, ap, subst, ◌∙◌, arith, slice_get, Option, Some, None, option_to_list, is_some, drop, get_or, ◌+◌, length}
 use Rattle.std.proofs.lemmas.Bool.{and_parts, leb-true}
 use Rattle.std.specs.List.{cons_option}
-use Rattle.mufom_debug.specs.Marks.{joined, marks_of}
-use Rattle.mufom_debug.proofs.Rebuilt.{same_items}
 use Rattle.mufom_expr.specs.Spelled.{Indexes}
 use Rattle.mufom_expr.specs.Tree.{Tree}
 use Rattle.mufom_records.specs.declared.record.Record.{Record}
 use Rattle.mufom_module.specs.declared.module.Parts.{Parts}
 use Rattle.mufom_module.specs.Defects.{is_unit_count}
 use Rattle.mufom_module.specs.SpelledRecords.{SpelledRecord, bytes_of}
-use Rattle.mufom_module.specs.Gathered.{sections_of, publics_of, marks, loads_of, start_by, starts_of}
-use Rattle.mufom_module.specs.RecordParts.{extension_part, environment_part, section_part, external_part, debug_part, data_part, trailer_part, end_part}
+use Rattle.mufom_module.specs.Gathered.{sections_of, publics_of, loads_of, start_by, starts_of}
+use Rattle.mufom_module.specs.RecordParts.{extension_part, environment_part, section_part, external_part, debug_part, trailer_part, end_part}
 use Rattle.mufom_module.specs.Grammar.{SpellsModule, NamesModule, Describes, header_of, indexes_of, parts_of, offsets_in, StandAt}
 use Rattle.mufom_read.specs.declared.prefix.Prefix.{Prefix}
 use Rattle.mufom_read.specs.declared.kept.KeptRecord.{KeptRecord}
 use Rattle.mufom_read.specs.Prefixes.{Step, records_of, offset_records_of, offsets_of}
-use Rattle.mufom_read.specs.Faults.{is_bad_descriptor, OpenBlock}
+use Rattle.mufom_read.specs.Faults.{is_bad_descriptor}
 use Rattle.mufom_read.specs.Kept.{record_of_kept, kept_records, indexes_by}
 use Rattle.mufom_read.specs.LoadsSoFar.{units_after, units_from, units_in, loads_so_far}
 use Rattle.mufom_read.specs.declared.loads.Loads.{Loads}
-use Rattle.mufom_read.specs.declared.debug.OpenBlock as code
-use Rattle.mufom_read.specs.DebugSoFar.{opened, marks_to_block, marks_so_far}
 use Rattle.mufom_read.specs.PrefixOfCode.{IsPrefixOf}
 use Rattle.mufom_read.specs.Stated.{indexes_in}
 use Rattle.mufom_read.specs.Built.{IsStatedByKept, IsWhole}

@@ -3,7 +3,6 @@ use Rattle.std.proofs.Common.{◌≡◌, ℕ, Bool, List, [], ◌∷◌, ◌++�
 use Rattle.mufom_debug.specs.Marks.{DebugMark, joined, marks_of}
 use Rattle.mufom_debug.specs.declared.item.DebugItem.{DebugItem}
 use Rattle.mufom_debug.proofs.Rebuilt.{same_items}
-use Rattle.mufom_module.specs.declared.module.Parts.{Parts}
 use Rattle.mufom_module.specs.SpelledRecords.{SpelledRecord}
 use Rattle.mufom_module.specs.Gathered.{marks}
 use Rattle.mufom_module.specs.RecordParts.{data_part, trailer_part, end_part}
@@ -53,4 +52,3 @@ debug-kept reads_debug f prefix is s =
     no_kinds : (blocks : List OpenBlock) → kinds_of blocks ≡ [] → blocks ≡ []
     no_kinds [] h = refl
     no_kinds (b ∷ blocks) h = cc
-

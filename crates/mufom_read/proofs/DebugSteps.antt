@@ -1,21 +1,19 @@
 -- What a record of the debug part does to the debug items so far: their marks are those of one more record.
-use Rattle.std.proofs.Common.{◌≡◌, ◌≢◌, ℕ, zero, suc, ◌+◌, ◌≤◌, ◌==◌, ◌&&◌, ◌||◌, nat_le, Bool, true, false, cond, arith, List, [], ◌∷◌, ◌++◌, length, map, drop, get_or, is_some, Option, Some, None, option_map, option_to_list, refl, sym, ap, subst, ◌∙◌, append_assoc, append-nil, Result, Ok, Err, OnOk}
+use Rattle.std.proofs.Common.{◌≡◌, ℕ, zero, suc, ◌+◌, ◌==◌, ◌&&◌, ◌||◌, false, cond, arith, List, [], ◌∷◌, ◌++◌, length, map, drop, get_or, is_some, Option, Some, None, option_map, refl, sym, ap, ◌∙◌, append_assoc, append-nil, Result, Ok, Err, OnOk}
 use Rattle.std.specs.List.{cons_option}
 use Rattle.std.proofs.lemmas.List.{map-append}
 use Rattle.mufom_numbers.specs.declared.taken.Span.{Span}
 use Rattle.mufom_expr.specs.Tree.{Tree}
-use Rattle.mufom_expr.specs.Spelled.{Indexes}
 use Rattle.mufom_records.specs.declared.record.BlockTail.{BlockTail}
 use Rattle.mufom_records.specs.declared.record.BlockTail.TheVariants as tail
 use Rattle.mufom_records.specs.declared.record.Record.{Record}
 use Rattle.mufom_records.specs.declared.record.Record.TheVariants as r
-use Rattle.mufom_debug.specs.declared.item.BlockHead.{BlockHead}
 use Rattle.mufom_debug.specs.declared.item.BlockHead.TheVariants as heads
 use Rattle.mufom_debug.specs.declared.item.DebugItem.{DebugItem}
-use Rattle.mufom_debug.specs.Marks.{DebugMark, block_begin, block_end, note_mark, value_mark, joined, marks_of, marks_of_item, kind_number}
+use Rattle.mufom_debug.specs.Marks.{block_begin, block_end, note_mark, value_mark, joined, marks_of, marks_of_item, kind_number}
 use Rattle.mufom_debug.proofs.MarksLemmas.{joined-append}
 use Rattle.mufom_debug.proofs.Closed.{marks_of-one}
-use Rattle.mufom_module.specs.SpelledRecords.{SpelledRecord, section, debug_name, text_in, tree_in, positioned}
+use Rattle.mufom_module.specs.SpelledRecords.{SpelledRecord, section, debug_name, text_in, tree_in}
 use Rattle.mufom_module.specs.Gathered.{mark_by, marks, note_of}
 use Rattle.mufom_module.specs.Grammar.{names_unknown, FollowFrom}
 use Rattle.mufom_read.specs.declared.debug.OpenBlock.{OpenBlock}

@@ -1,5 +1,5 @@
 -- The debug items that an ended prefix states have no defect.
-use Rattle.std.proofs.Common.{◌≡◌, ℕ, ◌+◌, ◌<◌, Bool, true, false, cond, not, ◌==◌, ◌||◌, nat_lt, nat_le, List, [], ◌∷◌, ◌++◌, length, Option, Some, None, IfSome, is_none, option_map, refl, sym, ap, subst, ◌∙◌, arith, append_assoc, lt-ltb, length-append, filter_map}
+use Rattle.std.proofs.Common.{◌≡◌, ℕ, ◌+◌, ◌<◌, Bool, true, false, cond, ◌==◌, nat_lt, List, [], ◌∷◌, ◌++◌, length, Option, Some, None, IfSome, is_none, option_map, refl, sym, ap, subst, ◌∙◌, arith, append_assoc, lt-ltb, length-append}
 use Rattle.std.specs.Prelude.{option_and_then}
 use Rattle.std.specs.List.{list_any, cons_option, AllByRecursion}
 use Rattle.std.proofs.lemmas.Bool.{or_from, not_from_true}

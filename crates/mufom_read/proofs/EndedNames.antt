@@ -1,5 +1,5 @@
 -- The parts of an ended prefix are cut as a file is, and have its names.
-use Rattle.std.proofs.Common.{◌≡◌, ℕ, ◌≤◌, Bool, true, false, not, ◌&&◌, ◌||◌, List, [], ◌∷◌, ◌++◌, length, map, Option, Some, None, is_none, option_map, option_to_list, ◌==◌, MatchBool, refl, sym, ap, subst, ◌∙◌, append_assoc, append-nil, filter_map}
+use Rattle.std.proofs.Common.{◌≡◌, ℕ, ◌≤◌, Bool, true, false, not, ◌&&◌, ◌||◌, List, [], ◌∷◌, ◌++◌, length, map, Option, Some, None, is_none, option_map, option_to_list, ◌==◌, refl, sym, ap, subst, ◌∙◌, append_assoc, append-nil, filter_map}
 use Rattle.std.specs.List.{list_all, list_any, cons_option, AllByRecursion}
 use Rattle.std.proofs.lemmas.Bool.{and_parts, and_from, or_from, not-false}
 use Rattle.std.proofs.lemmas.List.Elements.{filter_map-append}
@@ -12,7 +12,7 @@ use Rattle.mufom_records.specs.declared.record.Record.TheVariants as r
 use Rattle.mufom_module.specs.Contents.{any_of}
 use Rattle.mufom_module.specs.SpelledRecords.{SpelledRecord, Kind, public, FileIndex, declared_by, of_kind, declared, is_declared, named_in_expression, named_at_once, index_of_variable, expression_of, tree_in, is_public_value, Once, value_of_public, is_same_statement, assigned_by, is_assigned}
 use Rattle.mufom_module.specs.RecordParts.{Part, section_part, external_part, debug_part, data_part, trailer_part, part_of, stands_in, is_set_section, is_loading}
-use Rattle.mufom_module.specs.Grammar.{header_of, from_loads, IsPart, file_limit, IsCutInto, Follows, FollowFrom, HasNames}
+use Rattle.mufom_module.specs.Grammar.{header_of, file_limit, IsCutInto, Follows, FollowFrom, HasNames}
 use Rattle.mufom_read.specs.Prefixes.{Step, prefix_bytes}
 use Rattle.mufom_read.specs.Faults.{public_declared, has_unknown_variable}
 use Rattle.mufom_read.proofs.EndedParts.{IsKept, KeptFrom, own_of}

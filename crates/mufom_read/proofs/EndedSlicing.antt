@@ -1,5 +1,5 @@
 -- Seven parts after a header, and the record after them, make the parts of a file.
-use Rattle.std.proofs.Common.{◌≡◌, ◌⊎◌, ℕ, ◌+◌, Bool, true, false, not, ◌==◌, ◌&&◌, List, [], ◌∷◌, ◌++◌, length, drop, Option, None, is_none, refl, sym, ap, subst, ◌∙◌, arith, append_assoc, append-nil, filter_map}
+use Rattle.std.proofs.Common.{◌≡◌, ◌⊎◌, ℕ, ◌+◌, Bool, true, false, ◌&&◌, List, [], ◌∷◌, ◌++◌, length, drop, Option, None, is_none, refl, sym, ap, subst, ◌∙◌, arith, append_assoc, append-nil, filter_map}
 use Rattle.std.specs.List.{list_all, AllByRecursion}
 use Rattle.mufom_records.specs.declared.record.Mode.TheVariants as mode
 use Rattle.mufom_records.specs.Fields.{first_of}

@@ -18,7 +18,7 @@ use Rattle.mufom_module.specs.declared.module.Order.TheVariants.{Least, Most}
 use Rattle.mufom_module.specs.declared.module.Parts.{Parts}
 use Rattle.mufom_module.specs.Contents.{any_of}
 use Rattle.mufom_module.specs.Defects.{is_unit_count}
-use Rattle.mufom_module.specs.SpelledRecords.{SpelledRecord, bytes_of, text_in, declared, section, public, reference, debug_name, start_address, is_same_statement, assigned_by, is_assigned}
+use Rattle.mufom_module.specs.SpelledRecords.{SpelledRecord, bytes_of, text_in, start_address, is_same_statement, assigned_by, is_assigned}
 use Rattle.mufom_module.specs.RecordParts.{section_part, external_part, debug_part, data_part, trailer_part, stands_in}
 use Rattle.mufom_module.specs.Gathered.{sections_of, publics_of, references_of, marks, loads_of, start_by, starts_of}
 use Rattle.mufom_module.specs.Grammar.{FileParts, header_of, parts_of, after_header, from_sections, indexes_of, offsets_in, StandAt, IsLetterOf, NamesModule, Describes, States}

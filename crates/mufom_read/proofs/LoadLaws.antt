@@ -1,5 +1,5 @@
 -- The loads so far, record by record.
-use Rattle.std.proofs.Common.{◌≡◌, ℕ, suc, ◌+◌, ◌<◌, true, false, true≢false, List, [], ◌∷◌, ◌++◌, length, map, drop, get_or, refl, sym, ap, ◌∙◌, arith, append-nil, append_assoc, Result, Ok, Err, OnOk, Option, Some, option_map}
+use Rattle.std.proofs.Common.{◌≡◌, ℕ, suc, ◌+◌, ◌<◌, true, true≢false, List, [], ◌∷◌, ◌++◌, length, map, drop, get_or, refl, sym, ap, ◌∙◌, arith, append-nil, append_assoc, Result, Ok, Err, OnOk, Option, Some, option_map}
 use Rattle.std.proofs.Math.Seq.{drop-cons}
 use Rattle.std.specs.Prelude.{unwrap_or}
 use Rattle.mufom_numbers.specs.declared.taken.Span.{Span}

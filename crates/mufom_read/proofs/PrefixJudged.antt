@@ -17,10 +17,10 @@ use Rattle.mufom_module.specs.declared.module.Parts.{Parts}
 use Rattle.mufom_module.specs.Grammar.{file_limit}
 use Rattle.mufom_read.specs.Prefixes.{Step, step_bytes, prefix_bytes, size_of, Location, in_header, in_part, at_end, location_after, header_mode, body_mode, next_step, is_ended}
 use Rattle.mufom_read.specs.Faults.{Fault, ended_part_fault, step_fault, fault_after}
-use Rattle.mufom_read.specs.Judging.{IsSoundFrom, IsSoundPrefix, within_limit, EndsAt, IsWaiting, IsRefusedAt, IsTruncated, IsModule, Judgment, module_of, refusal, IsJudged}
+use Rattle.mufom_read.specs.Judging.{IsSoundFrom, IsSoundPrefix, within_limit, EndsAt, IsWaiting, IsTruncated, IsModule, Judgment, module_of, refusal, IsJudged}
 use Rattle.mufom_read.specs.Laws.{EndedPrefixIsModule, ModuleIsEndedPrefix, JudgmentsExcludeEachOther, HasJudgment, HasOneJudgment, PrefixesOfModulesAreCutOff}
 use Rattle.mufom_read.proofs.EndedWalk.{IsRead, IsNextAt, taken, next_at, next_prefix, size-append, prefix_first}
-use Rattle.mufom_read.proofs.PrefixesOne.{fault_not_ended, refusal_is_single, not_cut}
+use Rattle.mufom_read.proofs.PrefixesOne.{refusal_is_single, not_cut}
 use Rattle.mufom_read.proofs.StayLaws.{AreBytes-drop, AreBytes-take, AreBytes-prefix, end_goes_on, refusal_stays}
 
 -- ---- a step takes a byte at least

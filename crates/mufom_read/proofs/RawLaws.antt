@@ -1,5 +1,5 @@
 -- Bytes of a part that are not read, as the code takes them.
-use Rattle.std.proofs.Common.{◌≡◌, ℕ, suc, ◌+◌, ◌-◌, ◌<◌, ◌≤◌, Bool, true, false, true≢false, nat_lt, List, [], ◌∷◌, ◌++◌, length, take, drop, map, Some, None, is_some, cond, get_or, refl, sym, ap, subst, ◌∙◌, arith, append-nil, length-append, le-ltb, ltb-false, ne_eqb}
+use Rattle.std.proofs.Common.{◌≡◌, ℕ, suc, ◌+◌, ◌-◌, ◌<◌, ◌≤◌, Bool, true, false, true≢false, nat_lt, List, [], ◌∷◌, ◌++◌, length, take, drop, map, Some, None, is_some, cond, refl, sym, ap, subst, ◌∙◌, arith, append-nil, length-append, le-ltb, ltb-false, ne_eqb}
 use Rattle.std.specs.Option.{option_or}
 use Rattle.std.specs.List.{last_or}
 use Rattle.std.proofs.lemmas.List.Elements.{filter_map-append}

@@ -1,5 +1,5 @@
 -- The rules for a record, read off the tables, are the rules after a prefix.
-use Rattle.std.proofs.Common.{◌≡◌, ℕ, ◌&&◌, ◌||◌, Bool, true, false, not, true≢false, List, [], ◌∷◌, Option, Some, None, is_none, filter_map, map, option_to_list, cond, refl, sym, ap, ◌∙◌, append-nil}
+use Rattle.std.proofs.Common.{◌≡◌, ℕ, ◌&&◌, ◌||◌, Bool, true, false, not, List, [], ◌∷◌, Option, Some, None, is_none, filter_map, map, option_to_list, cond, refl, sym, ap, ◌∙◌, append-nil}
 use Rattle.std.specs.List.{list_any, list_all, last_or}
 use Rattle.std.proofs.lemmas.List.Folds.{list_all-append}
 use Rattle.mufom_numbers.specs.declared.reason.Reason.{Reason}

@@ -1,7 +1,7 @@
 -- What holds of the offsets of a file, and the header of a module's file as a sound prefix.
-use Rattle.std.proofs.Common.{◌≡◌, ◌⊎◌, ℕ, zero, suc, ◌+◌, ◌≤◌, Bool, true, false, not, ◌==◌, ◌&&◌, ◌||◌, nat_lt, List, [], ◌∷◌, ◌++◌, length, Option, None, MatchBool, is_none, refl, sym, ap, subst, ◌∙◌, inl, inr, arith, append_assoc, append-nil, eqb-true, ne_eqb, length-append}
+use Rattle.std.proofs.Common.{◌≡◌, ◌⊎◌, ℕ, zero, suc, ◌+◌, ◌≤◌, Bool, true, false, not, ◌==◌, ◌&&◌, ◌||◌, nat_lt, List, [], ◌∷◌, ◌++◌, length, Option, None, is_none, refl, sym, ap, subst, ◌∙◌, inl, inr, arith, append_assoc, append-nil, ne_eqb, length-append}
 use Rattle.std.specs.List.{list_any, cons_option, AllByRecursion}
-use Rattle.std.proofs.lemmas.Bool.{and_parts, or_from, not-false}
+use Rattle.std.proofs.lemmas.Bool.{and_parts, or_from}
 use Rattle.mufom_records.specs.declared.record.Mode.TheVariants as mode
 use Rattle.mufom_records.specs.declared.record.Record.{Record}
 use Rattle.mufom_records.specs.declared.record.Record.TheVariants as r
@@ -9,8 +9,8 @@ use Rattle.mufom_records.specs.Fields.{first_of}
 use Rattle.mufom_records.specs.Layouts.{IsWholeRecord}
 use Rattle.mufom_module.specs.SpelledRecords.{SpelledRecord, bytes_of}
 use Rattle.mufom_module.specs.RecordParts.{part_of}
-use Rattle.mufom_module.specs.Grammar.{FileParts, header_of, parts_of, AreOfModes, header_modes, AreWhole, offset_in, offsets_in, StandAt}
-use Rattle.mufom_read.specs.Prefixes.{Step, read, step_bytes, size_of, offsets_of, is_module_end, is_ended}
+use Rattle.mufom_module.specs.Grammar.{FileParts, header_of, parts_of, AreOfModes, header_modes, offset_in, offsets_in, StandAt}
+use Rattle.mufom_read.specs.Prefixes.{Step, read, size_of, offsets_of, is_module_end, is_ended}
 use Rattle.mufom_read.specs.Faults.{is_bad_descriptor, is_out_of_order, header_fault, fault_if}
 use Rattle.mufom_numbers.specs.declared.reason.Reason.TheVariants as why
 use Rattle.mufom_read.specs.Judging.{IsSoundFrom}
@@ -20,7 +20,7 @@ use Rattle.mufom_read.proofs.EndedNames.{IsSilent}
 use Rattle.mufom_read.proofs.EndedStated.{first_at}
 use Rattle.mufom_read.proofs.SpelledWalk.{steps_of, steps_bytes, steps_records, IsStep, sound_step, Beyond, none_ended}
 use Rattle.mufom_read.proofs.SpelledHeader.{header_is_step, AreOrdered, Standing, offset_walk}
-use Rattle.mufom_read.proofs.SpelledParts.{Joint, no_records}
+use Rattle.mufom_read.proofs.SpelledParts.{Joint}
 
 -- ---- offsets
 

@@ -2,11 +2,9 @@
 use Rattle.std.proofs.Common.{◌≡◌, ◌⊎◌, ℕ, zero, suc, ◌+◌, ◌-◌, ◌<◌, ◌≤◌, Bool, true, false, cond, not, ◌==◌, ◌&&◌, nat_lt, List, [], ◌∷◌, ◌++◌, length, Option, Some, None, refl, sym, ap, subst, ◌∙◌, inl, inr, arith, append_assoc, append-nil, filter_map, eq-eqb, ne_eqb, length-append}
 use Rattle.std.specs.List.{last_or, cons_option}
 use Rattle.std.specs.Option.{option_or}
-use Rattle.std.proofs.lemmas.Bool.{both_ways, not_from_true, not_from_false}
+use Rattle.std.proofs.lemmas.Bool.{not_from_true, not_from_false}
 use Rattle.mufom_numbers.specs.declared.reason.Reason.TheVariants as why
 use Rattle.mufom_records.specs.declared.record.Mode.TheVariants as mode
-use Rattle.mufom_records.specs.declared.record.Record.{Record}
-use Rattle.mufom_records.specs.declared.record.Record.TheVariants as r
 use Rattle.mufom_records.specs.Fields.{first_of}
 use Rattle.mufom_records.specs.Layouts.{IsWholeRecord}
 use Rattle.mufom_records.specs.Reading.{record_at}
@@ -14,7 +12,7 @@ use Rattle.mufom_debug.specs.Marks.{joined}
 use Rattle.mufom_module.specs.SpelledRecords.{SpelledRecord, bytes_of}
 use Rattle.mufom_module.specs.RecordParts.{Part, number_of, stands_in, opens_items, begins_item, mode_of}
 use Rattle.mufom_module.specs.Grammar.{offsets_in, StandAt, AreWhole}
-use Rattle.mufom_read.specs.Prefixes.{Step, raw, read, prefix_bytes, size_of, records_of, offset_records_of, offsets_of, Extent, Location, in_part, at_end, first_present, part_among, parts_in_order, part_at, location_by, location_after, is_raw, awaits_items, body_mode, as_step, raw_step, step_at, is_module_end, is_ended}
+use Rattle.mufom_read.specs.Prefixes.{Step, raw, read, prefix_bytes, size_of, records_of, offsets_of, Extent, Location, in_part, at_end, first_present, part_among, parts_in_order, part_at, location_by, location_after, is_raw, awaits_items, body_mode, as_step, raw_step, step_at, is_module_end, is_ended}
 use Rattle.mufom_read.specs.Faults.{Fault, fault_if, fault_for, rule_broken, part_record_fault, record_fault, whole_fault, ended_fault, ended_part_fault}
 use Rattle.mufom_read.specs.Judging.{IsSoundFrom}
 use Rattle.mufom_read.proofs.BlockKinds.{ends-kinds, deep-kinds}

@@ -1,18 +1,17 @@
 -- A module's file is one sound prefix, which ends with the stream and states the module.
-use Rattle.std.proofs.Common.{◌≡◌, ℕ, ◌≤◌, Bool, true, false, List, [], ◌∷◌, ◌++◌, length, map, drop, None, MatchBool, refl, sym, ap, subst, ◌∙◌, inl, inr, arith, append_assoc, append-nil}
+use Rattle.std.proofs.Common.{◌≡◌, ℕ, ◌≤◌, Bool, true, false, List, [], ◌∷◌, ◌++◌, length, map, drop, None, MatchBool, refl, sym, ap, subst, ◌∙◌, arith, append_assoc, append-nil}
 use Rattle.std.specs.List.{list_any}
 use Rattle.std.proofs.lemmas.List.{take_all}
-use Rattle.mufom_numbers.specs.declared.reason.Reason.TheVariants as why
 use Rattle.mufom_records.specs.declared.record.Mode.TheVariants as mode
 use Rattle.mufom_records.specs.declared.record.Record.TheVariants as r
 use Rattle.mufom_records.specs.Layouts.{IsWholeRecord}
 use Rattle.mufom_debug.specs.Marks.{joined}
 use Rattle.mufom_module.specs.declared.module.Parts.{Parts}
 use Rattle.mufom_module.specs.Defects as d
-use Rattle.mufom_module.specs.SpelledRecords.{SpelledRecord, bytes_of, section, public, reference, debug_name, declared}
-use Rattle.mufom_module.specs.RecordParts.{Part, extension_part, environment_part, section_part, external_part, debug_part, data_part, trailer_part}
+use Rattle.mufom_module.specs.SpelledRecords.{SpelledRecord, bytes_of}
+use Rattle.mufom_module.specs.RecordParts.{extension_part, environment_part, section_part, external_part, debug_part, data_part, trailer_part}
 use Rattle.mufom_module.specs.Gathered.{sections_of, publics_of, references_of, marks, loads_of, starts_of}
-use Rattle.mufom_module.specs.Grammar.{file_limit, FileParts, header_of, debug_bytes, parts_of, module_end, from_trailer, from_loads, from_debug, from_externals, after_header, AreWhole, offsets_in, StandAt, IsCutInto, indexes_of, HasNames, States}
+use Rattle.mufom_module.specs.Grammar.{file_limit, FileParts, header_of, debug_bytes, module_end, from_trailer, from_loads, from_debug, from_externals, after_header, AreWhole, offsets_in, StandAt, IsCutInto, indexes_of, HasNames, States}
 use Rattle.mufom_read.specs.Prefixes.{Step, read, prefix_bytes, size_of, records_of, offsets_of, Location, at_end, location_after, parts_in_order, is_ended}
 use Rattle.mufom_read.specs.Faults.{record_fault, whole_fault}
 use Rattle.mufom_read.specs.Judging.{IsSoundFrom, within_limit}

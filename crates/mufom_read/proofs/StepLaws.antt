@@ -1,5 +1,5 @@
 -- Steps after a prefix, as the code takes them.
-use Rattle.std.proofs.Common.{◌≡◌, ◌≢◌, ℕ, ◌<◌, ◌==◌, ◌&&◌, Bool, true, false, not, true≢false, nat_lt, nat_le, List, [], ◌∷◌, ◌++◌, length, drop, Option, Some, None, is_some, cond, get_or, refl, sym, ap, subst, ◌∙◌, append-nil, ◌⊎◌, inl, inr}
+use Rattle.std.proofs.Common.{◌≡◌, ℕ, ◌<◌, Bool, true, false, true≢false, List, [], ◌∷◌, ◌++◌, length, drop, Some, None, is_some, cond, refl, sym, ap, subst, ◌∙◌, append-nil}
 use Rattle.std.specs.Option.{option_or}
 use Rattle.mufom_numbers.specs.declared.taken.Taken.{Taken}
 use Rattle.mufom_numbers.specs.declared.taken.Taken.TheVariants.{Got}
@@ -11,9 +11,9 @@ use Rattle.mufom_read.specs.declared.prefix.Next.{Next}
 use Rattle.mufom_read.specs.declared.prefix.Next.TheVariants as next
 use Rattle.mufom_read.specs.declared.part.Extent as extents
 use Rattle.mufom_read.specs.declared.refusal.ReadRefusal.{ReadRefusal}
-use Rattle.mufom_read.specs.Prefixes.{Step, step_bytes, size_of, offsets_of, Extent, in_part, first_present, part_among, parts_in_order, location_after, is_raw, raw_step, as_step, step_at, next_step, is_ended}
+use Rattle.mufom_read.specs.Prefixes.{Step, step_bytes, size_of, offsets_of, in_part, parts_in_order, location_after, raw_step, as_step, step_at, next_step, is_ended}
 use Rattle.mufom_read.specs.Faults.{step_fault, ended_part_fault, fault_after}
-use Rattle.mufom_read.specs.PartsOfCode.{as_part, as_extent}
+use Rattle.mufom_read.specs.PartsOfCode.{as_extent}
 use Rattle.mufom_read.specs.Kept.{as_fault}
 use Rattle.mufom_read.specs.PrefixOfCode.{IsPrefixOf, IsRead, as_location, mode_at, HasJudged, IsStepTaken, HasAdvanced}
 use Rattle.mufom_read.proofs.PlaceLaws.{part-found}

@@ -190,7 +190,7 @@ debug_name_declared_twice = refl
 value_of_an_unknown_debug_name : judged (with_debug (0xE2 ∷ 0xCE ∷ 0x20 ∷ 0x00 ∷ [])) ≡ fault (100, why.UnknownIndex)
 value_of_an_unknown_debug_name = refl
 
-note_of_an_unknown_debug_name : judged (with_debug (0xF1 ∷ 0xCE ∷ 0x20 ∷ 0x0F ∷ 0x13 ∷ 0x01 ∷ [])) ≡ fault (100, why.UnknownIndex)
+note_of_an_unknown_debug_name : judged (with_debug (0xF1 ∷ 0xCE ∷ 0x20 ∷ 0x0F ∷ 0x07 ∷ [])) ≡ fault (100, why.UnknownIndex)
 note_of_an_unknown_debug_name = refl
 
 counter_in_a_debug_value : judged (with_debug (0xF0 ∷ 0x20 ∷ 0x01 ∷ 0x61 ∷ 0xE2 ∷ 0xCE ∷ 0x20 ∷ 0xD0 ∷ 0x01 ∷ [])) ≡ fault (104, why.BadP)

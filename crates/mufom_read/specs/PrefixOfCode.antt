@@ -1,5 +1,5 @@
 -- What the code keeps of a prefix, and which prefix that is.
-use Rattle.std.specs.Prelude.{◌≡◌, ◌≢◌, ◌⊎◌, ℕ, ◌+◌, ◌-◌, ◌<◌, ◌≤◌, nat_lt, nat_le, min, Bool, true, false, List, [], ◌∷◌, ◌++◌, length, map, take, drop, All, None, Some, is_some, if◌then◌else◌}
+use Rattle.std.specs.Prelude.{◌≡◌, ◌⊎◌, ℕ, ◌+◌, ◌-◌, ◌<◌, ◌≤◌, nat_lt, nat_le, min, Bool, true, false, List, [], ◌∷◌, ◌++◌, length, map, take, drop, All, None, Some, is_some, if◌then◌else◌}
 use Rattle.std.specs.List.{last_or, cons_option}
 use Rattle.mufom_records.specs.declared.record.Mode.{Mode}
 use Rattle.mufom_records.specs.declared.record.Mode.TheVariants as mode
@@ -8,7 +8,7 @@ use Rattle.mufom_records.specs.declared.record.Record.TheVariants as r
 use Rattle.mufom_module.specs.SpelledRecords.{SpelledRecord}
 use Rattle.mufom_numbers.specs.declared.taken.Taken.{Taken}
 use Rattle.mufom_numbers.specs.declared.taken.Taken.TheVariants.{Got, More}
-use Rattle.mufom_module.specs.RecordParts.{Part, extension_part, environment_part, debug_part, stands_in, opens_items}
+use Rattle.mufom_module.specs.RecordParts.{Part, extension_part, environment_part, opens_items}
 use Rattle.mufom_module.specs.Grammar.{offset_in, FollowFrom}
 use Rattle.mufom_module.specs.Gathered.{references_of}
 use Rattle.mufom_read.specs.declared.kept.KeptRecord.{KeptRecord}

@@ -121,7 +121,9 @@ fn head_of(
     match block {
         BlockTail::Module => Ok(BlockHead::Module),
         BlockTail::Scope {
-            stack, type_index, ..
+            stack,
+            type_index,
+            ..
         } => Ok(scope_head(kind, *stack, *type_index, stated(offset))),
         BlockTail::Source(numbers) => Ok(BlockHead::Source {
             numbers: numbers.clone()?,
@@ -239,7 +241,10 @@ impl Debugs {
             None => unreachable!(),
             Some(block) => {
                 let OpenBlock {
-                    head, name, before, ..
+                    head,
+                    name,
+                    before,
+                    ..
                 } = block;
                 let items = mem::replace(&mut self.items, before);
                 self.items.push(block_item(head, name, items, end))

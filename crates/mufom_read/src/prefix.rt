@@ -457,12 +457,7 @@ impl Prefix {
     }
 
     // Judges the record that begins after the prefix, and adds it.
-    fn take(
-        &mut self,
-        alloc: Global,
-        place: Location,
-        next: SeenRecord,
-    ) -> Result<Next, NoMemory>
+    fn take(&mut self, alloc: Global, place: Location, next: SeenRecord) -> Result<Next, NoMemory>
         requires known { (prefix : List prefixes.Step) × IsPrefixOf self.old prefix
             × (as_location place ≡ prefixes.location_after prefix) }
         requires own { HasOwnParts (kept_of_seen next) }
@@ -486,12 +481,7 @@ impl Prefix {
     }
 
     // Takes the record at the start of the rest.
-    fn read(
-        &mut self,
-        alloc: Global,
-        place: Location,
-        rest: &[u8],
-    ) -> Result<Next, NoMemory>
+    fn read(&mut self, alloc: Global, place: Location, rest: &[u8]) -> Result<Next, NoMemory>
         requires known { (prefix : List prefixes.Step) × IsPrefixOf self.old prefix
             × (as_location place ≡ prefixes.location_after prefix) }
         requires fits { self.old.size + length rest.now ≤ file_limit }

@@ -1,4 +1,4 @@
-use Rattle.std.proofs.Common.{◌≡◌, ◌==◌, ◌&&◌, ◌||◌, ◌-◌, [], Bool, length, arith, sym, ap, ◌∙◌}
+use Rattle.std.proofs.Common.{◌==◌, ◌&&◌, ◌||◌, ◌-◌, [], Bool, length, arith, sym, ap, ◌∙◌}
 use Rattle.mufom_debug.specs.Marks.{kind_number}
 use Rattle.mufom_read.specs.DebugSoFar.{stacked}
 use Rattle.mufom_read.proofs.DebugSteps.{innermost, end-within}

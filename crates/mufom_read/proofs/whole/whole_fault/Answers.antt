@@ -26,5 +26,5 @@ returns-in-External c = λ f prefix is tables publics blocks kept.
     ∙ sym (ap (λ p. whole_fault (as_part p) prefix) c.in-External.is)
 
 pub returns-in-Debug : goal.returns-in-Debug
-returns-in-Debug c = λ f prefix is tables publics blocks kept. 
+returns-in-Debug c = λ f prefix is tables publics blocks kept.
     c.open_fault.ensures ∙ ap (λ bs. open_fault (stacked [] bs)) blocks ∙ debug-fault f prefix is ∙ sym (ap (λ p. whole_fault (as_part p) prefix) c.in-Debug.is)
