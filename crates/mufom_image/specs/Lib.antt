@@ -1,3 +1,5 @@
 pub mod Placements
 pub mod Refusals
 pub mod Rooms
+pub mod Stages
+pub mod Entries

@@ -1,7 +1,8 @@
 -- The sections and commons of a module, placed by a plan.
-use Rattle.std.specs.Prelude.{◌≡◌, ◌<◌, ◌^◌, ℕ, List, [], ◌∷◌, length, Option, None}
+use Rattle.std.specs.Prelude.{◌≡◌, ◌<◌, ◌^◌, ℕ, List, [], ◌∷◌, length, take, drop, Option, None}
 use Rattle.mufom_sections.specs.declared.section.Section.{Section}
 use Rattle.mufom_module.specs.declared.module.Parts.{Parts}
+use Rattle.mufom_module.specs.Defects.{IsValid}
 use Rattle.mufom_plan.specs.declared.plan.Plan.{Plan}
 use Rattle.mufom_plan.specs.Names.{AreDistinctNames, listed_names}
 use Rattle.mufom_plan.specs.Commons.{HasAtMostOneCommon}
@@ -9,6 +10,8 @@ use Rattle.mufom_place.specs.declared.refusal.PlaceRefusal.{PlaceRefusal}
 use Rattle.mufom_place.specs.Facts.{place_refusal}
 use Rattle.mufom_meaning.specs.Flat.{flat_sections, width}
 use Rattle.mufom_meaning.specs.Placed.{placed_commons, extended_sections, base_list}
+use Rattle.mufom_image_values.specs.declared.meetings.Meeting.{Meeting}
+use Rattle.mufom_image_values.specs.declared.values.PlacedModule.{PlacedModule}
 
 -- what every plan that is read has: no section name stands twice, fewer than 2^32 regions, at most one of them for the commons
 pub record IsSoundPlan (plan : Plan) : Type 0 where
@@ -25,3 +28,12 @@ pub record ArePlaced (m : Parts) (plan : Plan) (placed : List Section) (at : Lis
   pub none : placing_refusal m plan ≡ None
   pub sections : placed ≡ extended_sections (m ∷ []) plan
   pub bases : at ≡ base_list (m ∷ []) plan
+
+-- a module without a defect, with what its references stand for: the first of the bases are those of its sections, the others those of
+-- its commons
+pub record StandsAt (m : Parts) (met : List Meeting) (all : List ℕ) (placed : PlacedModule) : Type 0 where
+  pub valid : IsValid placed.graph.parts.now
+  pub parts : placed.graph.parts.now ≡ m
+  pub meetings : placed.graph.meetings.now ≡ met
+  pub bases : placed.bases.now ≡ take (length m.sections) all
+  pub commons : placed.commons.now ≡ drop (length m.sections) all

@@ -21,7 +21,7 @@ module _ (s : Setting) (m : Parts) where
   abbrev pub HaveValues : List Tree → Type 0
   HaveValues trees = (t : Tree) → In t trees → value s (alone m) None t ≢ None
 
-  has-value : (t : Tree) → value s (alone m) None t ≢ None → value s (alone m) None t ≡ Some (or_zero t)
+  pub has-value : (t : Tree) → value s (alone m) None t ≢ None → value s (alone m) None t ≡ Some (or_zero t)
   has-value t some = by_case (value s (alone m) None t) refl where
     by_case : (o : Option ℕ) → value s (alone m) None t ≡ o → o ≡ Some (unwrap_or o 0)
     by_case None e = absurd (some e)

@@ -1,0 +1,15 @@
+use Rattle.std.proofs.Common.{sym, subst}
+use Rattle.mufom_image.specs.Refusals.{IsMet}
+use Rattle.mufom_image.specs.Stages.{bases_of}
+use Rattle.mufom_image.proofs.walk.runs_of.Goals as goal
+
+pub returns-in-Ok-clause-passed : goal.returns-in-Ok-clause-passed
+returns-in-Ok-clause-passed c = (c.in-Ok.ensures.image (bases_of c.args.valued.now.placed.now) c.requires.ready).0
+
+pub returns-in-Ok-clause-rows : goal.returns-in-Ok-clause-rows
+returns-in-Ok-clause-rows c = (c.in-Ok.ensures.image (bases_of c.args.valued.now.placed.now) c.requires.ready).1
+
+pub returns-in-Err-Stopped-clause-refused : goal.returns-in-Err-Stopped-clause-refused
+returns-in-Err-Stopped-clause-refused c =
+    let there = rw c.in-Err-Stopped.field-0-is at c.in-Err-Stopped.ensures.refusal in
+    subst (λ met. IsMet met c.refusal_of.result) (sym (there (bases_of c.args.valued.now.placed.now) c.requires.ready)) c.refusal_of.ensures

@@ -1,0 +1,99 @@
+//! The location of a module.
+
+ghost use Rattle.std.specs.Prelude.{◌≡◌, ◌≤◌, ◌∷◌, [], length, IfOk, IfErr};
+ghost use Rattle.mufom_names.specs.Names.{names_of, AreDistinct};
+ghost use Rattle.mufom_module.specs.Written.{weight};
+ghost use Rattle.mufom_meaning.specs.Absolute.{absolute_of};
+ghost use Rattle.mufom_meaning.specs.LocateAnswer.{locate_answer};
+ghost use Rattle.mufom_meaning.specs.Location.{IsLocation};
+ghost use Rattle.mufom_image_values.specs.Meetings.{meetings_of};
+ghost use Rattle.mufom_located.specs.Located.{IsLocated};
+ghost use Rattle.mufom_image.specs.Placements.{IsSoundPlan, StandsAt};
+ghost use Rattle.mufom_image.specs.Refusals.{IsMet};
+ghost use Rattle.mufom_image.specs.Stages.{most_weight};
+
+use crate::entries::located_parts;
+use crate::names::judged;
+use crate::placing::{Placement, placed_sections, placing};
+use crate::refusal::LocateRefusal;
+use crate::walk::walked;
+use mufom_image_entries::ValuedModule;
+use mufom_image_values::{Graph, Meeting, PlacedModule, resolve_references};
+use mufom_located::Located;
+use mufom_meaning::{LocatedParts, absolute_weighs};
+use mufom_module::Module;
+use mufom_plan::Plan;
+use std::alloc::Global;
+
+// The module with the bases of its sections, after which the bases of its commons stand.
+fn placed_module<'a>(
+    module: &'a Module,
+    meetings: &'a [Meeting],
+    bases: &'a [u64],
+) -> PlacedModule<'a>
+    requires { length «module».now.sections ≤ length bases.now }
+    ensures { StandsAt «module».now meetings.now bases.now result }
+{
+    let parts = module.parts();
+    let (bases, commons) = bases.split_at(parts.sections.len());
+    PlacedModule {
+        graph: Graph { parts, meetings },
+        bases,
+        commons,
+    }
+}
+
+// The parts of the location of a module whose references stand for these.
+fn located(
+    alloc: Global,
+    module: &Module,
+    meetings: &[Meeting],
+    plan: &Plan,
+) -> Result<LocatedParts, LocateRefusal>
+    requires met { meetings.now ≡ meetings_of «module».now }
+    requires names { AreDistinct (names_of «module».now.names.publics) }
+    requires plan { IsSoundPlan plan.now }
+    ensures sound { IfOk result IsLocated }
+    ensures located { IfOk result (IsLocation («module».now ∷ []) plan.now) }
+    ensures light { IfOk result (λ parts. weight (absolute_of parts) ≤ most_weight «module».now) }
+    ensures refused { IfErr result (IsMet (locate_answer («module».now ∷ []) plan.now)) }
+{
+    absolute_weighs();
+    let Placement { sections, bases } = placing(alloc, module, meetings, plan)?;
+    let placed = placed_module(module, meetings, bases.as_slice());
+    let components = judged(alloc, module, &placed.graph, plan)?;
+    let values = placed.settled(alloc, &components)?;
+    let valued = ValuedModule {
+        placed: &placed,
+        values: values.as_slice(),
+    };
+    let runs = walked(alloc, &valued)?;
+    let sections = placed_sections(sections, bases.as_slice());
+    Ok(located_parts(alloc, &valued, sections, runs)?)
+}
+
+/// The location of a module by a plan: the sections and commons at their bases, each public, start
+/// and debug expression its value, and the loaded bytes as rows of addresses.
+///
+/// No public name may stand twice in the module. The plan has fewer than 2^32 regions, no section name
+/// twice and at most one region for the commons, as [`read_plan`](mufom_plan::read_plan) gives it. Both
+/// stay. What keeps the module from being located is looked for in this order: the placement, a
+/// strong reference without a meaning, a common without room, a public that leads back to itself,
+/// more than 67,108,864 loaded bytes; then, expression by expression, in the publics, the loads, the
+/// start and the debug items, a divisor of 0, a byte outside its section, one on another, and a
+/// value that does not fit its field.
+pub fn locate(alloc: Global, module: &Module, plan: &Plan) -> Result<Located, LocateRefusal>
+    requires names { AreDistinct (names_of «module».now.names.publics) }
+    requires plan { IsSoundPlan plan.now }
+
+    // What is answered is the location, and nothing keeps the module from having one.
+    ensures located { IfOk result (IsLocation («module».now ∷ []) plan.now) }
+    // Its absolute module weighs little more than the module.
+    ensures light { IfOk result (λ located. weight (absolute_of located) ≤ most_weight «module».now) }
+    // A refusal is the first thing that keeps the module from being located, or there was no memory.
+    ensures refused { IfErr result (IsMet (locate_answer («module».now ∷ []) plan.now)) }
+{
+    let meetings = resolve_references(alloc, module)?;
+    let parts = located(alloc, module, meetings.as_slice(), plan)?;
+    Ok(Located::sound(parts))
+}

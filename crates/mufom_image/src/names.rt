@@ -1,0 +1,103 @@
+//! Names and counts that keep a module from being located.
+
+ghost use Rattle.std.specs.Prelude.{◌≡◌, ◌∷◌, [], None, IfErr, OnOk};
+ghost use Rattle.mufom_image_values.specs.Evaluated.{IsGraph};
+ghost use Rattle.mufom_image_values.specs.Meetings.{meetings_of};
+ghost use Rattle.mufom_image.specs.Refusals.{IsMet};
+ghost use Rattle.mufom_image.specs.Stages.{unmet, roomless, circular, oversized, judged as judgment, IsJudged};
+
+use crate::commons::has_common;
+use crate::refusal::LocateRefusal;
+use mufom_copies::copy_bytes;
+use mufom_image_values::{
+    Components, Graph, Meeting, first_common, first_on_cycle, first_undefined, groups_of,
+};
+use mufom_loads::loaded_bytes;
+use mufom_module::{Module, items_are_within_the_weight};
+use mufom_numbers::limits::MOST_IMAGE_BYTES;
+use mufom_plan::Plan;
+use std::alloc::Global;
+
+// No strong reference is without a public and a common, or the first one is named.
+fn check_undefined(
+    alloc: Global,
+    module: &Module,
+    meetings: &[Meeting],
+) -> Result<(), LocateRefusal>
+    requires { meetings.now ≡ meetings_of «module».now }
+    ensures ok { OnOk result (unmet «module».now ≡ None) }
+    ensures refused { IfErr result (IsMet (unmet «module».now)) }
+{
+    match first_undefined(module, meetings) {
+        Some(reference) => Err(LocateRefusal::Undefined(copy_bytes(alloc, &reference.name)?)),
+        None => Ok(()),
+    }
+}
+
+// A region takes the commons, or there are none, or the first one is named.
+fn check_commons(
+    alloc: Global,
+    module: &Module,
+    meetings: &[Meeting],
+    plan: &Plan,
+) -> Result<(), LocateRefusal>
+    requires { meetings.now ≡ meetings_of «module».now }
+    ensures ok { OnOk result (roomless «module».now plan.now ≡ None) }
+    ensures refused { IfErr result (IsMet (roomless «module».now plan.now)) }
+{
+    if has_common(plan.regions.as_slice()) {
+        return Ok(());
+    }
+    match first_common(module, meetings) {
+        Some(reference) => Err(LocateRefusal::CommonUnplaced(copy_bytes(alloc, &reference.name)?)),
+        None => Ok(()),
+    }
+}
+
+// The groups of publics, where no public's expression leads back to itself; or the first such public
+// is named.
+fn acyclic_groups(alloc: Global, graph: &Graph<'_>) -> Result<Components, LocateRefusal>
+    requires { IsGraph graph.now }
+    ensures ok { OnOk result (circular graph.now.parts.now ≡ None) }
+    ensures refused { IfErr result (IsMet (circular graph.now.parts.now)) }
+{
+    let components = groups_of(alloc, graph)?;
+    match first_on_cycle(alloc, graph, &components)? {
+        Some(public) => Err(LocateRefusal::Cycle(copy_bytes(alloc, &public.name)?)),
+        None => Ok(components),
+    }
+}
+
+// The loads have no more bytes than an image, or their count is named.
+fn check_limit(module: &Module) -> Result<(), LocateRefusal>
+    ensures ok { OnOk result (oversized «module».now ≡ None) }
+    ensures refused { IfErr result (IsMet (oversized «module».now)) }
+{
+    items_are_within_the_weight();
+    let count = loaded_bytes(module.parts().loads.as_slice());
+    if count > MOST_IMAGE_BYTES as u128 {
+        return Err(LocateRefusal::ImageLimit(count));
+    }
+    Ok(())
+}
+
+/// The groups of the publics, where nothing keeps the module from being located before its
+/// expressions are looked at, its placement aside; or the first thing that does: a reference without
+/// a meaning, a common without room, a public that leads back to itself, too many loaded bytes.
+pub(crate) fn judged(
+    alloc: Global,
+    module: &Module,
+    graph: &Graph<'_>,
+    plan: &Plan,
+) -> Result<Components, LocateRefusal>
+    requires parts { graph.now.parts.now ≡ «module».now }
+    requires graph { IsGraph graph.now }
+    ensures ok { OnOk result (IsJudged «module».now plan.now) }
+    ensures refused { IfErr result (IsMet (judgment «module».now plan.now)) }
+{
+    check_undefined(alloc, module, graph.meetings)?;
+    check_commons(alloc, module, graph.meetings, plan)?;
+    let components = acyclic_groups(alloc, graph)?;
+    check_limit(module)?;
+    Ok(components)
+}
