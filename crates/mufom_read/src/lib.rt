@@ -27,8 +27,6 @@ mod sections;
 mod source;
 mod state;
 mod tables;
-#[cfg(test)]
-mod tests;
 mod weight_laws;
 mod whole;
 

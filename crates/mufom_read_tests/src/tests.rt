@@ -1,9 +1,11 @@
+//! Streams that are read, whole and byte by byte, and each reason with its offset.
+
 ghost use Rattle.std.specs.Prelude.{◌<◌};
 
-use crate::{ReadRefusal, ReadStop, Reader, SourceStop, read_module};
 use mufom_host::{Host, MemHost};
 use mufom_module::Module;
 use mufom_numbers::{Bytes, List, Reason, Text};
+use mufom_read::{ReadRefusal, ReadStop, Reader, SourceStop, read_module};
 use std::alloc::Global;
 use std::test::Fail;
 
