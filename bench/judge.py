@@ -415,8 +415,6 @@ class Judge:
             value, place = header_record(self.data, start, 0xE2, number)
             if value and any(value < earlier for earlier in offsets) or number == 7 and not value:
                 raise Fault(start, "OffsetOrder")
-            if number == 4 and value and self.reads_debug:
-                raise Fault(start, "NotBuilt")
             offsets.append(value)
         if next(filter(None, offsets)) != place:
             raise Fault(place, "PartGap")

@@ -123,6 +123,45 @@ class Maker:
             self.choose(b"\xE1", b"\xF7\x02\xE5", b"\xE0\x01a\x01b"),
         )
 
+    def block_begin(self):
+        scope = self.number(self.choose(0, 2)) + self.number(3) + self.expression()
+        numbers = b"".join(self.number(5) for _ in range(self.choose(0, 1, 6)))
+        return b"\xF8" + self.choose(
+            b"\x03" + self.number(0) + self.name(),
+            b"\x05" + self.number(9) + self.name() + numbers,
+            self.choose(b"\x04", b"\x06") + self.number(0) + self.name() + scope,
+            b"\x0B\x00" + self.name() + self.number(1) + self.index(1) + self.expression(),
+            self.choose(b"\x03", b"\x04", b"\x07", b"\x0A") + b"\x00\x01a",
+        )
+
+    def block_end(self, kind):
+        """The end of a block, most often one that its kind may have."""
+        plain = kind in (3, 5) if self.chance(0.9) else self.chance(0.5)
+        return b"\xF9" + (b"" if plain else self.expression())
+
+    def debug_record(self):
+        return self.choose(
+            b"\xF0" + self.index(32) + self.name(),
+            b"\xE2\xCE" + self.index(32) + self.expression(),
+            self.note(b"\xF1\xCE", 32),
+            self.choose(b"\xE1", b"\xE5\x01", b"\xF9", b"\xF8\x03\x00\x00" * 31) if self.chance(0.1) else b"",
+        )
+
+    def debug_part(self):
+        part, kinds = b"\xF0\x20\x01n" if self.chance(0.4) else b"", []
+        for _ in range(self.choose(0, 0, 1, 2, 4, 8)):
+            if kinds and self.chance(0.3):
+                part += self.block_end(kinds.pop())
+            elif self.chance(0.4):
+                begin = self.block_begin()
+                kinds.append(begin[1])
+                part += begin
+            else:
+                part += self.debug_record()
+        while kinds and self.chance(0.9):
+            part += self.block_end(kinds.pop())
+        return part
+
     def trailer_record(self):
         start = self.choose(self.expression(), b"\xBE" + self.expression() + b"\xBF")
         return b"\xE2\xC7" + start if self.chance(0.9) else self.choose(b"\xE5\x01", b"\xE1")
@@ -131,6 +170,8 @@ class Maker:
         return b"".join(make() for _ in range(self.choose(*counts)))
 
     def parts(self):
+        if self.chance(0.2):  # a debug part of some length is judged only where nothing before it is refused
+            return [b"", b"", b"\xE6\x01\xC3\xD0\x01a", b"", self.debug_part(), b"", b""]
         sections = self.records(self.section_record, 0, 1, 2, 3, 4)
         externals = self.records(self.external_record, 0, 0, 1, 2, 4)
         data = self.records(self.data_record, 0, 1, 2, 3, 5)
@@ -140,7 +181,7 @@ class Maker:
                 externals = b"\xE8\x20\x01p\xE2\xC9\x20\x05\xE9\x0B\x01q" + externals
             if self.chance(0.7):
                 data = b"\xE5\x01" + data
-        debug = bytes(self.random.choice(MARKS) for _ in range(4)) if self.chance(0.1) else b""
+        debug = bytes(self.random.choice(MARKS) for _ in range(4)) if self.chance(0.1) else self.debug_part()
         raw = self.choose(b"", b"", bytes([self.random.choice(MARKS)]) * 3)
         return [raw, self.choose(b"", b"", b"\xF1"), sections, externals, debug, data,
                 self.records(self.trailer_record, 0, 0, 1, 1, 2)]

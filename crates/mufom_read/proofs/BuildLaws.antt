@@ -7,20 +7,21 @@ use Rattle.mufom_expr.specs.Tree.{Tree}
 use Rattle.mufom_records.specs.declared.record.Record.{Record}
 use Rattle.mufom_module.specs.declared.module.Parts.{Parts}
 use Rattle.mufom_module.specs.Defects.{is_unit_count}
-use Rattle.mufom_module.specs.SpelledRecords.{SpelledRecord, bytes_of, declared, section, public, reference, debug_name}
+use Rattle.mufom_module.specs.SpelledRecords.{SpelledRecord, bytes_of}
 use Rattle.mufom_module.specs.Gathered.{sections_of, publics_of, loads_of, start_by, starts_of}
-use Rattle.mufom_module.specs.RecordParts.{extension_part, environment_part, section_part, external_part, trailer_part, end_part}
+use Rattle.mufom_module.specs.RecordParts.{extension_part, environment_part, section_part, external_part, debug_part, trailer_part, end_part}
 use Rattle.mufom_module.specs.Grammar.{SpellsModule, NamesModule, Describes, header_of, indexes_of, parts_of, offsets_in, StandAt}
 use Rattle.mufom_read.specs.declared.prefix.Prefix.{Prefix}
 use Rattle.mufom_read.specs.declared.kept.KeptRecord.{KeptRecord}
 use Rattle.mufom_read.specs.Prefixes.{Step, records_of, offset_records_of, offsets_of}
 use Rattle.mufom_read.specs.Faults.{is_bad_descriptor}
-use Rattle.mufom_read.specs.Kept.{record_of_kept, tables_of, kept_records, indexes_by}
+use Rattle.mufom_read.specs.Kept.{record_of_kept, kept_records, indexes_by}
 use Rattle.mufom_read.specs.LoadsSoFar.{units_after, units_from, units_in, loads_so_far}
 use Rattle.mufom_read.specs.declared.loads.Loads.{Loads}
 use Rattle.mufom_read.specs.PrefixOfCode.{IsPrefixOf}
 use Rattle.mufom_read.specs.Stated.{indexes_in}
 use Rattle.mufom_read.specs.Built.{IsStatedByKept, IsWhole}
+use Rattle.mufom_read.proofs.DebugKept.{debug-kept}
 use Rattle.mufom_read.proofs.EndedSliced.{Sliced}
 use Rattle.mufom_read.proofs.EndedStated.{stated_by, states, units_of, stand_parts, sorted, same_ix, is_stated}
 use Rattle.mufom_read.proofs.EndedRows.{IsBegin, IsDescriptor}
@@ -37,12 +38,6 @@ use Rattle.mufom_read.proofs.WeighFiles.{files_weigh}
 
 few_units : (n : ℕ) → is_unit_count n ≡ true → n ≤ 8
 few_units n h = leb-true n 8 (and_parts (nat_le 1 n) (nat_le n 8) h).1
-
--- the index lists of the tables are those of the records
-tables_ix : (reads_debug : Bool) (prefix : List Step) (s : Sliced reads_debug prefix) → indexes_in (records_of prefix) ≡ indexes_by (tables_of (records_of prefix))
-tables_ix reads_debug prefix s =
-    let none = ap (λ (ix : Indexes). ix.debug_names) (same_ix reads_debug prefix s) ∙ ap (declared debug_name) s.no_debug in
-    (λ k. record { sections = declared section (records_of prefix); publics = declared public (records_of prefix); references = declared reference (records_of prefix); debug_names = none k })
 
 -- ---- the units of an address
 
@@ -65,7 +60,7 @@ stand_count offsets at [] h = ap length h
 stand_count [] at (x ∷ parts) h = absurd h
 stand_count (w ∷ offsets) at (x ∷ parts) h = let rest = stand_count offsets (at + length x) parts (stand_parts w offsets at x parts h).1 in omega (arith, rest)
 
-has_header : (reads_debug : Bool) (f : Prefix) (prefix : List Step) → IsPrefixOf reads_debug f prefix → (s : Sliced reads_debug prefix) → 10 ≤ length prefix
+has_header : (reads_debug : Bool) (f : Prefix) (prefix : List Step) → IsPrefixOf f prefix → (s : Sliced reads_debug prefix) → 10 ≤ length prefix
 has_header reads_debug f prefix is s =
     let eight : length (offsets_of prefix) ≡ 8 = ap length s.offsets ∙ stand_count (offsets_in s.f.offsets) (length (bytes_of (header_of s.f))) (parts_of s.f) s.stand in
     omega (arith, eight, is.count)
@@ -79,40 +74,43 @@ stated_of reads_debug f prefix bytes is s =
     let quiet = silent-other (header_of s.f) s.silent in
     let sections = others-other section_part refl s.f.sections ordered.sections in
     let externals = others-other external_part refl s.f.externals ordered.externals in
+    let debugged = others-other debug_part refl s.f.debug ordered.debug in
     let trailer = others-other trailer_part refl s.f.trailer ordered.trailer in
     let end = (others-other end_part refl (s.end ∷ []) (end_alone s.end s.ends)).0 in
-    let rest : AreSorted (header_of s.f) s.f.sections [] [] s.f.trailer s.end =
-    record { header = ordered.header; sections = ordered.sections; externals = refl; loads = refl; trailer = ordered.trailer; end_ = ordered.end_ } in
-    let kept : map record_of_kept f.kept ≡ all_records (header_of s.f) s.f.sections [] [] s.f.trailer s.end =
-    kept-records reads_debug f prefix is.kept ∙ ap kept_records s.records
-    ∙ kept-file (header_of s.f) s.f.sections s.f.externals s.f.loads s.f.trailer s.end (silent-kept (header_of s.f) s.silent) (others-kept section_part refl refl s.f.sections ordered.sections) ordered.externals ordered.loads
-    (others-kept trailer_part refl refl s.f.trailer ordered.trailer) (others-kept end_part refl refl (s.end ∷ []) (end_alone s.end s.ends)).0 in
-    let all_ix : indexes_in (records_of prefix) ≡ indexes_by f.tables = tables_ix reads_debug prefix s ∙ ap indexes_by (sym is.kept.tables) in
+    let rest : AreSorted (header_of s.f) s.f.sections [] [] [] s.f.trailer s.end =
+    record { header = ordered.header; sections = ordered.sections; externals = refl; debug = refl; loads = refl; trailer = ordered.trailer; end_ = ordered.end_ } in
+    let kept : map record_of_kept f.kept ≡ all_records (header_of s.f) s.f.sections [] [] [] s.f.trailer s.end =
+    kept-records f prefix is.kept ∙ ap kept_records s.records
+    ∙ kept-file (header_of s.f) s.f.sections s.f.externals s.f.debug s.f.loads s.f.trailer s.end (silent-kept (header_of s.f) s.silent) (others-kept section_part refl refl refl s.f.sections ordered.sections)
+    ordered.externals ordered.debug ordered.loads
+    (others-kept trailer_part refl refl refl s.f.trailer ordered.trailer) (others-kept end_part refl refl refl (s.end ∷ []) (end_alone s.end s.ends)).0 in
+    let all_ix : indexes_in (records_of prefix) ≡ indexes_by f.tables = ap indexes_by (sym is.kept.tables) in
     let ix : indexes_of s.f ≡ indexes_by f.tables = sym (same_ix reads_debug prefix s) ∙ all_ix in
     let many = has_header reads_debug f prefix is.kept s in
     let counted = units_of s.describes.0 s.describes.1 s.describes.2 (subst (λ (row : Record). is_bad_descriptor row ≡ false) s.describes.3 s.no_bad) in
-    let before = (header_of s.f ++ s.f.sections) ++ s.f.externals in
-    let given : units_in before ≡ Some maus = first-units s.f.begin s.f.descriptor ((s.f.offsets ++ s.f.sections) ++ s.f.externals) maus s.begins s.describes refl counted.1 in
+    let before = ((header_of s.f ++ s.f.sections) ++ s.f.externals) ++ s.f.debug in
+    let given : units_in before ≡ Some maus = first-units s.f.begin s.f.descriptor (((s.f.offsets ++ s.f.sections) ++ s.f.externals) ++ s.f.debug) maus s.begins s.describes refl counted.1 in
     let loads : (loads_so_far (records_of prefix)).loads ≡ loads_of (indexes_of s.f) maus s.f.loads =
     ap (λ (ps : List SpelledRecord). (loads_so_far ps).loads) s.records
-    ∙ loads-whole maus (indexes_of s.f) before s.f.loads s.f.trailer s.end (other-append (header_of s.f ++ s.f.sections) s.f.externals (other-append (header_of s.f) s.f.sections quiet sections) externals) trailer end
+    ∙ loads-whole maus (indexes_of s.f) before s.f.loads s.f.trailer s.end (other-append ((header_of s.f ++ s.f.sections) ++ s.f.externals) s.f.debug
+    (other-append (header_of s.f ++ s.f.sections) s.f.externals (other-append (header_of s.f) s.f.sections quiet sections) externals) debugged) trailer end
     (ap indexes_in (sym s.records) ∙ same_ix reads_debug prefix s) given s.keep_loads in
     record {
       begin = s.f.begin;
       descriptor = s.f.descriptor;
-      after = (((s.f.offsets ++ s.f.sections) ++ []) ++ []) ++ s.f.trailer ++ s.end ∷ [];
+      after = ((((s.f.offsets ++ s.f.sections) ++ []) ++ []) ++ []) ++ s.f.trailer ++ s.end ∷ [];
       records = kept;
       begins = its.begin;
       describes = its.descriptor;
       small = (let few = few_units maus counted.1 in omega (arith, few));
       extension = stated.extension ∙ sym (is.kept.extension ∙ so-far extension_part prefix many);
       environment = stated.environment ∙ sym (is.kept.environment ∙ so-far environment_part prefix many);
-      sections = its.sections ∙ sym (ap sections_of kept ∙ same_sections (header_of s.f) s.f.sections [] [] s.f.trailer s.end rest);
+      sections = its.sections ∙ sym (ap sections_of kept ∙ same_sections (header_of s.f) s.f.sections [] [] [] s.f.trailer s.end rest);
       publics = stated.publics ∙ (λ k. publics_of (all_ix k) (records-placed prefix k)) ∙ publics-placed (indexes_by f.tables) (records_in (offset_records_of prefix)) ∙ ap (map (placed_public (indexes_by f.tables))) (sym is.kept.publics.list);
       references = stated.references ∙ sym is.kept.references;
-      debug = refl;
+      debug = debug-kept reads_debug f prefix is.kept s;
       loads = its.loads ∙ sym (ap (λ (l : Loads). l.loads) is.kept.loads ∙ loads);
-      start = its.start ∙ sym (same_starts (indexes_of s.f) (header_of s.f) s.f.sections [] [] s.f.trailer s.end rest) ∙ (λ k. starts_of (ix k) (sym kept k));
+      start = its.start ∙ sym (same_starts (indexes_of s.f) (header_of s.f) s.f.sections [] [] [] s.f.trailer s.end rest) ∙ (λ k. starts_of (ix k) (sym kept k));
     }
 
 sliced-stated : (reads_debug : Bool) (f : Prefix) (prefix : List Step) (bytes : List ℕ) → IsWhole reads_debug f prefix bytes → (s : Sliced reads_debug prefix) → SpellsModule (stated_by reads_debug prefix s) bytes reads_debug
@@ -161,7 +159,7 @@ describes-here f m stated k e = subst (λ (p : SpelledRecord). Describes m p.row
 -- parts that are as the records and the bytes state are those of the module
 pub the-parts : (f : Prefix) (m p : Parts) → IsStatedByKept f m → (p.processor ≡ m.processor) × (p.name ≡ m.name) → (p.maus ≡ m.maus) × (p.order ≡ m.order) → p.ext ≡ f.extension.items → p.env ≡ f.environment.items
     → p.sections ≡ sections_of (map record_of_kept f.kept) → p.names.publics ≡ map (placed_public (indexes_by f.tables)) f.publics.list.items → p.names.references ≡ f.references.items
-    → p.debug ≡ [] → p.loads ≡ f.loads.loads → p.start ≡ slice_get (starts_of (indexes_by f.tables) (map record_of_kept f.kept)) 0 → p ≡ m
+    → p.debug ≡ f.debug.items → p.loads ≡ f.loads.loads → p.start ≡ slice_get (starts_of (indexes_by f.tables) (map record_of_kept f.kept)) 0 → p ≡ m
 the-parts f m p stated names layout ext env sections publics references debug loads start =
     let processor = names.0 in
     let name = names.1 in

@@ -72,14 +72,14 @@ chunk-refused r stream chunk w is new f bytes cut (steps, sound, unended, fault)
 
 -- steps were taken, and judged at their end
 pub rest-taken : (reads_debug : Bool) (before : List Step) (given rest : List ℕ) (n : ℕ) (longer : Bool) (prefix : Prefix) (new : State) (result : Option ReadStop) → given ≡ rest → new.prefix ≡ prefix
-    → HasTakenAll reads_debug before given prefix (Ok n) → ((steps : List Step) → IsPrefixOf reads_debug prefix steps → HasEndedChunk (is_ended steps) prefix.size longer (drop n rest) new result)
+    → HasTakenAll reads_debug before given prefix (Ok n) → ((steps : List Step) → IsPrefixOf prefix steps → HasEndedChunk (is_ended steps) prefix.size longer (drop n rest) new result)
     → HasJudgedRest reads_debug before rest longer new result
 rest-taken reads_debug before given rest n longer prefix new result same kept taken ended =
     let all : HasTakenAll reads_debug before rest prefix (Ok n) = subst (λ (l : List ℕ). HasTakenAll reads_debug before l prefix (Ok n)) same taken in
     inr (inr (
       n,
       all.0,
-      subst (λ (f : Prefix). IsPrefixOf reads_debug f (before ++ all.0)) (sym kept) all.1,
+      subst (λ (f : Prefix). IsPrefixOf f (before ++ all.0)) (sym kept) all.1,
       all.2,
       all.3,
       all.4,
@@ -156,7 +156,7 @@ Waits reads_debug prefix after = (is_ended prefix ≡ true) ⊎ IsIncomplete rea
 
 -- nothing is stated: the whole stream was read
 still-reading : (r : State) (stream chunk : List ℕ) (prefix : List Step) (n : ℕ) (rest : List ℕ) (new : State) → HasGoneAfter r stream chunk prefix n rest → new.reads_debug ≡ r.reads_debug
-    → IsPrefixOf r.reads_debug new.prefix prefix → Waits r.reads_debug prefix (drop n rest) → nat_lt (room_of r) (length chunk) ≡ false → new.rest.items ≡ drop n rest → (is_ended prefix ≡ true → drop n rest ≡ [])
+    → IsPrefixOf new.prefix prefix → Waits r.reads_debug prefix (drop n rest) → nat_lt (room_of r) (length chunk) ≡ false → new.rest.items ≡ drop n rest → (is_ended prefix ≡ true → drop n rest ≡ [])
     → IsReading new (stream ++ chunk)
 still-reading r stream chunk prefix n rest new gone same is waits short left none =
     let few : length chunk ≤ room_of r = ltb-false (room_of r) (length chunk) short in
@@ -164,7 +164,7 @@ still-reading r stream chunk prefix n rest new gone same is waits short left non
     let all = gone.count in
     record {
       prefix = prefix;
-      kept = subst (λ (b : Bool). IsPrefixOf b new.prefix prefix) (sym same) is;
+      kept = is;
       sound = subst (λ (b : Bool). IsSoundPrefix b prefix (stream ++ chunk)) (sym same) (subst (λ (l : List ℕ). IsSoundPrefix r.reads_debug prefix l) whole gone.sound);
       within = omega (arith, gone.long, gone.room, few);
       inside = omega (arith, gone.long, gone.inside, all, few);
@@ -198,7 +198,7 @@ too-long r stream chunk prefix n rest offset reason gone unended here for_ long 
 
 -- what is stated after the steps
 knows-ended : (r : State) (stream chunk : List ℕ) (prefix : List Step) (n : ℕ) (rest : List ℕ) (longer_ : Bool) (new : State) (result : Option ReadStop) → HasGoneAfter r stream chunk prefix n rest → new.reads_debug ≡ r.reads_debug
-    → longer_ ≡ nat_lt (room_of r) (length chunk) → IsPrefixOf r.reads_debug new.prefix prefix → Waits r.reads_debug prefix (drop n rest) → HasEndedChunk (is_ended prefix) new.prefix.size longer_ (drop n rest) new result
+    → longer_ ≡ nat_lt (room_of r) (length chunk) → IsPrefixOf new.prefix prefix → Waits r.reads_debug prefix (drop n rest) → HasEndedChunk (is_ended prefix) new.prefix.size longer_ (drop n rest) new result
     → Knows new (stream ++ chunk) result
 knows-ended r stream chunk prefix n rest longer_ new None gone same test is waits (left, short, none) = still-reading r stream chunk prefix n rest new gone same is waits (sym test ∙ short) left none
 knows-ended r stream chunk prefix n rest longer_ new (Some (stop.Refused f)) gone same test is waits (inl (end, fault, more)) =
@@ -226,10 +226,10 @@ knows-judged r stream chunk is longer_ new result bytes test same (inr (inr (n, 
 -- what a chunk makes known, where its bytes were added to those after the prefix
 pub known-chunk : (r added new : State) (stream chunk : List ℕ) (longer_ : Bool) (result : Option ReadStop) → IsReading r stream → AreBytes (stream ++ chunk) → added.prefix ≡ r.prefix → added.reads_debug ≡ r.reads_debug
     → added.rest.items ≡ r.rest.items ++ take (file_limit - (r.prefix.size + length r.rest.items)) chunk → longer_ ≡ nat_lt (file_limit - (r.prefix.size + length r.rest.items)) (length chunk) → new.reads_debug ≡ added.reads_debug
-    → ((before : List Step) → IsPrefixOf added.reads_debug added.prefix before → (is_ended before ≡ false → ended_part_fault before ≡ None) → HasJudgedRest added.reads_debug before added.rest.items longer_ new result)
+    → ((before : List Step) → IsPrefixOf added.prefix before → (is_ended before ≡ false → ended_part_fault before ≡ None) → HasJudgedRest added.reads_debug before added.rest.items longer_ new result)
     → Knows new (stream ++ chunk) result
 known-chunk r added new stream chunk longer_ result is bytes prefix flag rest test same judged =
-    let kept : IsPrefixOf added.reads_debug added.prefix is.prefix = subst (λ (b : Bool). IsPrefixOf b added.prefix is.prefix) (sym flag) (subst (λ (f : Prefix). IsPrefixOf r.reads_debug f is.prefix) (sym prefix) is.kept) in
+    let kept : IsPrefixOf added.prefix is.prefix = subst (λ (f : Prefix). IsPrefixOf f is.prefix) (sym prefix) is.kept in
     let here = subst (λ (b : Bool). HasJudgedRest b is.prefix added.rest.items longer_ new result) flag (judged is.prefix kept (whole-prefix r stream is)) in
     knows-judged r stream chunk is longer_ new result bytes test (same ∙ flag) (subst (λ (l : List ℕ). HasJudgedRest r.reads_debug is.prefix l longer_ new result) rest here)
 

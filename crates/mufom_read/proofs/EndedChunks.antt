@@ -47,13 +47,13 @@ last_present earlier count h =
     let parts = or_parts (not (0 == 0) && list_any (λ e. nat_lt 0 e) earlier) ((length earlier == 7) && (0 == 0)) h in
     both-false (length earlier == 7) (0 == 0) (eq-eqb (length earlier) 7 count) refl parts.1
 
-bounded : (reads_debug : Bool) (earlier offsets : List ℕ) → InOrder reads_debug earlier offsets → length earlier + length offsets ≡ 8 → 1 ≤ length offsets → AllByRecursion (λ e. e ≤ first_present offsets) earlier
-bounded reads_debug earlier [] order count some = absurd (omega arith)
-bounded reads_debug earlier (zero ∷ []) order count some = absurd (last_present earlier (omega arith) order.0)
-bounded reads_debug earlier (zero ∷ w ∷ offsets) order count some =
+bounded : (earlier offsets : List ℕ) → InOrder earlier offsets → length earlier + length offsets ≡ 8 → 1 ≤ length offsets → AllByRecursion (λ e. e ≤ first_present offsets) earlier
+bounded earlier [] order count some = absurd (omega arith)
+bounded earlier (zero ∷ []) order count some = absurd (last_present earlier (omega arith) order.0)
+bounded earlier (zero ∷ w ∷ offsets) order count some =
     let long = length-append earlier (0 ∷ []) in
-    all_prefix (λ e. e ≤ first_present (w ∷ offsets)) earlier 0 (bounded reads_debug (earlier ++ 0 ∷ []) (w ∷ offsets) order.2 (omega arith) (omega arith))
-bounded reads_debug earlier (suc v ∷ offsets) order count some =
+    all_prefix (λ e. e ≤ first_present (w ∷ offsets)) earlier 0 (bounded (earlier ++ 0 ∷ []) (w ∷ offsets) order.1 (omega arith) (omega arith))
+bounded earlier (suc v ∷ offsets) order count some =
     let parts = or_parts (not (suc v == 0) && list_any (λ e. nat_lt (suc v) e) earlier) ((length earlier == 7) && (suc v == 0)) order.0 in
     none_above (suc v) earlier (no_such (suc v == 0) (list_any (λ e. nat_lt (suc v) e) earlier) (not_from_false (suc v == 0) (not_zero v)) parts.0)
 
@@ -83,7 +83,7 @@ Chunks reads_debug (part ∷ parts) (w ∷ offsets) before steps = (c : Chunk re
 record Begun (reads_debug : Bool) (all : List ℕ) (parts : List Part) (earlier offsets : List ℕ) (before steps : List Step) : Type 0 where
   count : length offsets ≡ suc (length parts)
   own : list_all (λ p. not (number_of p == 7)) parts ≡ true
-  order : InOrder reads_debug earlier offsets
+  order : InOrder earlier offsets
   eight : length earlier + length offsets ≡ 8
   offsets_named : (at : ℕ) → size_of before ≤ at → part_among parts_in_order all at ≡ part_among parts offsets at
   here : size_of before ≡ first_present offsets
@@ -99,11 +99,11 @@ pub is_end : (row : Record) → stands_in end_part row ≡ true → is_module_en
 is_end r.ModuleEnd h = refl
 is_end row h = cc
 
-end_offset : (reads_debug : Bool) (earlier offsets : List ℕ) (n : ℕ) → length offsets ≡ 1 → length earlier + length offsets ≡ 8 → InOrder reads_debug earlier offsets → n ≡ first_present offsets → offsets ≡ n ∷ []
-end_offset reads_debug earlier [] n count eight order here = absurd (omega arith)
-end_offset reads_debug earlier (zero ∷ []) n count eight order here = absurd (last_present earlier (omega arith) order.0)
-end_offset reads_debug earlier (suc w ∷ []) n count eight order here = ap (λ (k : ℕ). k ∷ []) (sym here)
-end_offset reads_debug earlier (w ∷ v ∷ offsets) n count eight order here = absurd (omega arith)
+end_offset : (earlier offsets : List ℕ) (n : ℕ) → length offsets ≡ 1 → length earlier + length offsets ≡ 8 → InOrder earlier offsets → n ≡ first_present offsets → offsets ≡ n ∷ []
+end_offset earlier [] n count eight order here = absurd (omega arith)
+end_offset earlier (zero ∷ []) n count eight order here = absurd (last_present earlier (omega arith) order.0)
+end_offset earlier (suc w ∷ []) n count eight order here = ap (λ (k : ℕ). k ∷ []) (sym here)
+end_offset earlier (w ∷ v ∷ offsets) n count eight order here = absurd (omega arith)
 
 nothing_after : (reads_debug : Bool) (prefix steps : List Step) → is_ended prefix ≡ true → IsWalk reads_debug prefix steps → steps ≡ []
 nothing_after reads_debug prefix [] ends walk = refl
@@ -117,13 +117,13 @@ the_end reads_debug all earlier offsets before (step ∷ steps) begun =
     let fault_offset : location_after before ≡ at_end = after_header before begun.many ∙ ap (λ ws. location_by (part_among parts_in_order ws start)) begun.offsets_are ∙ ap location_by (begun.offsets_named start (omega arith)) in
     let here = read_here mode.Body before step steps (subst (λ (p : Location). IsNextAt reads_debug before p (prefix_bytes (step ∷ steps)) step (length (step_bytes step))) fault_offset begun.walk.3) in
     let p = here.spelled in
-    let fault : step_fault reads_debug before (taken (read start p) (length p.bytes)) ≡ None = subst (λ (s : Step). step_fault reads_debug before (taken s (length (step_bytes s))) ≡ None) here.is_this begun.walk.2 in
-    let at_it : record_fault reads_debug before at_end start p ≡ None = subst (λ (q : Location). record_fault reads_debug before q start p ≡ None) fault_offset fault in
+    let fault : step_fault before (taken (read start p) (length p.bytes)) ≡ None = subst (λ (s : Step). step_fault before (taken s (length (step_bytes s))) ≡ None) here.is_this begun.walk.2 in
+    let at_it : record_fault before at_end start p ≡ None = subst (λ (q : Location). record_fault before q start p ≡ None) fault_offset fault in
     let own = not-false (stands_in end_part p.row) (no_fault_if (not (stands_in end_part p.row)) start _ at_it) in
     let ended : is_ended (before ++ read start p ∷ []) ≡ true = ended-read before start p ∙ is_end p.row own in
     let last = nothing_after reads_debug (before ++ read start p ∷ []) steps ended (subst (λ (s : Step). IsWalk reads_debug (before ++ s ∷ []) steps) here.is_this begun.walk.4) in
     record {
-      offset = end_offset reads_debug earlier offsets start begun.count begun.eight begun.order begun.here;
+      offset = end_offset earlier offsets start begun.count begun.eight begun.order begun.here;
       spelled = p;
       is_last = (λ i. here.is_this i ∷ last i);
       is_whole = subst (λ (l : List Step). IsWholeRecord mode.Body p.row p.bytes (first_of (prefix_bytes l) None)) last here.is_whole;
@@ -216,7 +216,7 @@ chunk_of reads_debug all part parts earlier zero offsets before steps begun = em
 chunk_of reads_debug all part parts earlier (suc v) offsets before steps begun =
     let to = first_present offsets in
     let long = length-append earlier (suc v ∷ []) in
-    let low : suc v ≤ to = all_last (λ e. e ≤ to) earlier (suc v) (bounded reads_debug (earlier ++ suc v ∷ []) offsets begun.order.2 (omega (arith, begun.eight)) (omega (arith, begun.count))) in
+    let low : suc v ≤ to = all_last (λ e. e ≤ to) earlier (suc v) (bounded (earlier ++ suc v ∷ []) offsets begun.order.1 (omega (arith, begun.eight)) (omega (arith, begun.count))) in
     let within : AllInside part (suc v) to all = λ at x y. begun.offsets_named at (omega (arith, begun.here))
     ∙ ap (λ b. cond b (Some (record { part = part; from = suc v; to = to })) (part_among parts offsets at)) (is_within (suc v) at to (λ h. omega arith) x y) in
     elim (cases_eq (suc v) to) [
@@ -241,7 +241,7 @@ next_begun reads_debug all part parts earlier w offsets before steps begun c =
     record {
       count = omega (arith, begun.count);
       own = (and_parts _ _ begun.own).1;
-      order = begun.order.2;
+      order = begun.order.1;
       eight = omega (arith, begun.eight, length-append earlier (w ∷ []));
       offsets_named = later_places all part parts w offsets (size_of before) (size_of (before ++ c.cut.own)) (omega arith) (sym c.cut.size) begun.offsets_named;
       here = c.cut.size;
@@ -260,7 +260,7 @@ walk_parts reads_debug all (part ∷ parts) earlier (w ∷ offsets) before steps
     (c, walk_parts reads_debug all parts (earlier ++ w ∷ []) offsets (before ++ c.cut.own) c.cut.later (next_begun reads_debug all part parts earlier w offsets before steps begun c))
 
 -- after the header
-pub chunks_of : (reads_debug : Bool) (offsets : List ℕ) (before steps : List Step) → length offsets ≡ 8 → InOrder reads_debug [] offsets → size_of before ≡ first_present offsets → 10 ≤ length before → offsets_of before ≡ offsets
+pub chunks_of : (reads_debug : Bool) (offsets : List ℕ) (before steps : List Step) → length offsets ≡ 8 → InOrder [] offsets → size_of before ≡ first_present offsets → 10 ≤ length before → offsets_of before ≡ offsets
     → is_ended before ≡ false → is_ended (before ++ steps) ≡ true → IsWalk reads_debug before steps → Chunks reads_debug parts_in_order offsets before steps
 chunks_of reads_debug offsets before steps count order here many are open_ ends walk = walk_parts reads_debug offsets parts_in_order [] offsets before steps (record {
   count = count;

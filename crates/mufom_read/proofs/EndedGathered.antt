@@ -44,69 +44,75 @@ not_silent part ask only (p ∷ records) h =
 -- ---- all records of a file
 
 -- records of the header, and of the parts that are read
-pub record AreSorted (h s e l t : List SpelledRecord) (end : SpelledRecord) : Type 0 where
+pub record AreSorted (h s e d l t : List SpelledRecord) (end : SpelledRecord) : Type 0 where
   pub header : IsSilent h
   pub sections : list_all (λ p. stands_in section_part p.row) s ≡ true
   pub externals : list_all (λ p. stands_in external_part p.row) e ≡ true
+  pub debug : list_all (λ p. stands_in debug_part p.row) d ≡ true
   pub loads : list_all (λ p. stands_in data_part p.row) l ≡ true
   pub trailer : list_all (λ p. stands_in trailer_part p.row) t ≡ true
   pub end_ : stands_in end_part end.row ≡ true
 
 -- all of them
-abbrev pub all_records : List SpelledRecord → List SpelledRecord → List SpelledRecord → List SpelledRecord → List SpelledRecord → SpelledRecord → List SpelledRecord
-all_records h s e l t end = ((((h ++ s) ++ e) ++ l) ++ t) ++ end ∷ []
+abbrev pub all_records : List SpelledRecord → List SpelledRecord → List SpelledRecord → List SpelledRecord → List SpelledRecord → List SpelledRecord → SpelledRecord → List SpelledRecord
+all_records h s e d l t end = (((((h ++ s) ++ e) ++ d) ++ l) ++ t) ++ end ∷ []
 
-gathered : {X : Type 0} (ask : SpelledRecord → Option X) (h s e l t : List SpelledRecord) (end : SpelledRecord) → filter_map ask (all_records h s e l t end)
-    ≡ ((((filter_map ask h ++ filter_map ask s) ++ filter_map ask e) ++ filter_map ask l) ++ filter_map ask t) ++ filter_map ask (end ∷ [])
-gathered ask h s e l t end =
-    filter_map-append ask ((((h ++ s) ++ e) ++ l) ++ t) (end ∷ [])
-    ∙ ap (λ k. k ++ filter_map ask (end ∷ [])) (filter_map-append ask (((h ++ s) ++ e) ++ l) t
-    ∙ ap (λ k. k ++ filter_map ask t) (filter_map-append ask ((h ++ s) ++ e) l
-    ∙ ap (λ k. k ++ filter_map ask l) (filter_map-append ask (h ++ s) e
-    ∙ ap (λ k. k ++ filter_map ask e) (filter_map-append ask h s))))
+gathered : {X : Type 0} (ask : SpelledRecord → Option X) (h s e d l t : List SpelledRecord) (end : SpelledRecord) → filter_map ask (all_records h s e d l t end)
+    ≡ (((((filter_map ask h ++ filter_map ask s) ++ filter_map ask e) ++ filter_map ask d) ++ filter_map ask l) ++ filter_map ask t) ++ filter_map ask (end ∷ [])
+gathered ask h s e d l t end =
+    filter_map-append ask (((((h ++ s) ++ e) ++ d) ++ l) ++ t) (end ∷ [])
+    ∙ ap (λ k. k ++ filter_map ask (end ∷ [])) (filter_map-append ask ((((h ++ s) ++ e) ++ d) ++ l) t
+    ∙ ap (λ k. k ++ filter_map ask t) (filter_map-append ask (((h ++ s) ++ e) ++ d) l
+    ∙ ap (λ k. k ++ filter_map ask l) (filter_map-append ask ((h ++ s) ++ e) d
+    ∙ ap (λ k. k ++ filter_map ask d) (filter_map-append ask (h ++ s) e
+    ∙ ap (λ k. k ++ filter_map ask e) (filter_map-append ask h s)))))
 
 pub end_alone : (end : SpelledRecord) → stands_in end_part end.row ≡ true → list_all (λ p. stands_in end_part p.row) (end ∷ []) ≡ true
 end_alone end h = ap (λ b. b && true) h
 
-pub only_sections : {X : Type 0} (ask : SpelledRecord → Option X) → IsAskedOf section_part ask → (h s e l t : List SpelledRecord) (end : SpelledRecord) → AreSorted h s e l t end → filter_map ask (all_records h s e l t end) ≡ filter_map ask s
-only_sections ask only h s e l t end are =
+pub only_sections : {X : Type 0} (ask : SpelledRecord → Option X) → IsAskedOf section_part ask → (h s e d l t : List SpelledRecord) (end : SpelledRecord) → AreSorted h s e d l t end → filter_map ask (all_records h s e d l t end) ≡ filter_map ask s
+only_sections ask only h s e d l t end are =
     let none_h = not_silent section_part ask only h are.header in
     let none_e = not_asked section_part external_part ask only refl e are.externals in
+    let none_d = not_asked section_part debug_part ask only refl d are.debug in
     let none_l = not_asked section_part data_part ask only refl l are.loads in
     let none_t = not_asked section_part trailer_part ask only refl t are.trailer in
     let none_end = not_asked section_part end_part ask only refl (end ∷ []) (end_alone end are.end_) in
-    gathered ask h s e l t end ∙ (λ i. ((((none_h i ++ filter_map ask s) ++ none_e i) ++ none_l i) ++ none_t i) ++ none_end i)
+    gathered ask h s e d l t end ∙ (λ i. (((((none_h i ++ filter_map ask s) ++ none_e i) ++ none_d i) ++ none_l i) ++ none_t i) ++ none_end i)
     ∙ simp append-nil refl
 
-pub only_externals : {X : Type 0} (ask : SpelledRecord → Option X) → IsAskedOf external_part ask → (h s e l t : List SpelledRecord) (end : SpelledRecord) → AreSorted h s e l t end → filter_map ask (all_records h s e l t end) ≡ filter_map ask e
-only_externals ask only h s e l t end are =
+pub only_externals : {X : Type 0} (ask : SpelledRecord → Option X) → IsAskedOf external_part ask → (h s e d l t : List SpelledRecord) (end : SpelledRecord) → AreSorted h s e d l t end → filter_map ask (all_records h s e d l t end) ≡ filter_map ask e
+only_externals ask only h s e d l t end are =
     let none_h = not_silent external_part ask only h are.header in
     let none_s = not_asked external_part section_part ask only refl s are.sections in
+    let none_d = not_asked external_part debug_part ask only refl d are.debug in
     let none_l = not_asked external_part data_part ask only refl l are.loads in
     let none_t = not_asked external_part trailer_part ask only refl t are.trailer in
     let none_end = not_asked external_part end_part ask only refl (end ∷ []) (end_alone end are.end_) in
-    gathered ask h s e l t end ∙ (λ i. ((((none_h i ++ none_s i) ++ filter_map ask e) ++ none_l i) ++ none_t i) ++ none_end i)
+    gathered ask h s e d l t end ∙ (λ i. (((((none_h i ++ none_s i) ++ filter_map ask e) ++ none_d i) ++ none_l i) ++ none_t i) ++ none_end i)
     ∙ simp append-nil refl
 
-pub only_trailer : {X : Type 0} (ask : SpelledRecord → Option X) → IsAskedOf trailer_part ask → (h s e l t : List SpelledRecord) (end : SpelledRecord) → AreSorted h s e l t end → filter_map ask (all_records h s e l t end) ≡ filter_map ask t
-only_trailer ask only h s e l t end are =
+pub only_trailer : {X : Type 0} (ask : SpelledRecord → Option X) → IsAskedOf trailer_part ask → (h s e d l t : List SpelledRecord) (end : SpelledRecord) → AreSorted h s e d l t end → filter_map ask (all_records h s e d l t end) ≡ filter_map ask t
+only_trailer ask only h s e d l t end are =
     let none_h = not_silent trailer_part ask only h are.header in
     let none_s = not_asked trailer_part section_part ask only refl s are.sections in
     let none_e = not_asked trailer_part external_part ask only refl e are.externals in
+    let none_d = not_asked trailer_part debug_part ask only refl d are.debug in
     let none_l = not_asked trailer_part data_part ask only refl l are.loads in
     let none_end = not_asked trailer_part end_part ask only refl (end ∷ []) (end_alone end are.end_) in
-    gathered ask h s e l t end ∙ (λ i. ((((none_h i ++ none_s i) ++ none_e i) ++ none_l i) ++ filter_map ask t) ++ none_end i)
+    gathered ask h s e d l t end ∙ (λ i. (((((none_h i ++ none_s i) ++ none_e i) ++ none_d i) ++ none_l i) ++ filter_map ask t) ++ none_end i)
     ∙ simp append-nil refl
 
-pub only_debug : {X : Type 0} (ask : SpelledRecord → Option X) → IsAskedOf debug_part ask → (h s e l t : List SpelledRecord) (end : SpelledRecord) → AreSorted h s e l t end → filter_map ask (all_records h s e l t end) ≡ []
-only_debug ask only h s e l t end are =
+pub only_debug : {X : Type 0} (ask : SpelledRecord → Option X) → IsAskedOf debug_part ask → (h s e d l t : List SpelledRecord) (end : SpelledRecord) → AreSorted h s e d l t end → filter_map ask (all_records h s e d l t end) ≡ filter_map ask d
+only_debug ask only h s e d l t end are =
     let none_h = not_silent debug_part ask only h are.header in
     let none_s = not_asked debug_part section_part ask only refl s are.sections in
     let none_e = not_asked debug_part external_part ask only refl e are.externals in
     let none_l = not_asked debug_part data_part ask only refl l are.loads in
     let none_t = not_asked debug_part trailer_part ask only refl t are.trailer in
     let none_end = not_asked debug_part end_part ask only refl (end ∷ []) (end_alone end are.end_) in
-    gathered ask h s e l t end ∙ (λ i. ((((none_h i ++ none_s i) ++ none_e i) ++ none_l i) ++ none_t i) ++ none_end i)
+    gathered ask h s e d l t end ∙ (λ i. (((((none_h i ++ none_s i) ++ none_e i) ++ filter_map ask d) ++ none_l i) ++ none_t i) ++ none_end i)
+    ∙ simp append-nil refl
 
 -- ---- sections
 
@@ -138,12 +144,12 @@ section_same all s sizes alignments bases p (r.SectionType i absolute letter nam
 }))
 section_same all s sizes alignments bases p row = refl
 
-pub same_sections : (h s e l t : List SpelledRecord) (end : SpelledRecord) → AreSorted h s e l t end → sections_of (all_records h s e l t end) ≡ sections_of s
-same_sections h s e l t end are =
-    let all = all_records h s e l t end in
-    let same = section_same all s (λ i. only_sections (λ p. size_for i p.row) (λ p x. size_asked i p.row x) h s e l t end are) (λ i. only_sections (λ p. alignment_for i p.row) (λ p x. alignment_asked i p.row x) h s e l t end are)
-    (λ i. only_sections (λ p. base_for i p.row) (λ p x. base_asked i p.row x) h s e l t end are) in
-    only_sections (λ p. section_by all p p.row) (λ p x. section_asked all p p.row x) h s e l t end are ∙ (λ k. filter_map (λ p. same p p.row k) s)
+pub same_sections : (h s e d l t : List SpelledRecord) (end : SpelledRecord) → AreSorted h s e d l t end → sections_of (all_records h s e d l t end) ≡ sections_of s
+same_sections h s e d l t end are =
+    let all = all_records h s e d l t end in
+    let same = section_same all s (λ i. only_sections (λ p. size_for i p.row) (λ p x. size_asked i p.row x) h s e d l t end are) (λ i. only_sections (λ p. alignment_for i p.row) (λ p x. alignment_asked i p.row x) h s e d l t end are)
+    (λ i. only_sections (λ p. base_for i p.row) (λ p x. base_asked i p.row x) h s e d l t end are) in
+    only_sections (λ p. section_by all p p.row) (λ p x. section_asked all p p.row x) h s e d l t end are ∙ (λ k. filter_map (λ p. same p p.row k) s)
 
 -- ---- indexes
 
@@ -159,18 +165,18 @@ pub reference_declared : (row : Record) → stands_in external_part row ≡ fals
 reference_declared (r.ReferenceName i name) h = cc
 reference_declared row h = refl
 
-debug_declared : (row : Record) → stands_in debug_part row ≡ false → of_kind debug_name (declared_by row) ≡ None
+pub debug_declared : (row : Record) → stands_in debug_part row ≡ false → of_kind debug_name (declared_by row) ≡ None
 debug_declared (r.DebugName i name) h = cc
 debug_declared row h = refl
 
-pub same_indexes : (h s e l t : List SpelledRecord) (end : SpelledRecord) → AreSorted h s e l t end
-    → indexes_in (all_records h s e l t end) ≡ record { sections = declared section s; publics = declared public e; references = declared reference e; debug_names = [] }
-same_indexes h s e l t end are =
-    let a = only_sections (λ p. of_kind section (declared_by p.row)) (λ p x. section_declared p.row x) h s e l t end are in
-    let b = only_externals (λ p. of_kind public (declared_by p.row)) (λ p x. public_declared p.row x) h s e l t end are in
-    let c = only_externals (λ p. of_kind reference (declared_by p.row)) (λ p x. reference_declared p.row x) h s e l t end are in
-    let d = only_debug (λ p. of_kind debug_name (declared_by p.row)) (λ p x. debug_declared p.row x) h s e l t end are in
-    (λ k. record { sections = a k; publics = b k; references = c k; debug_names = d k })
+pub same_indexes : (h s e d l t : List SpelledRecord) (end : SpelledRecord) → AreSorted h s e d l t end
+    → indexes_in (all_records h s e d l t end) ≡ record { sections = declared section s; publics = declared public e; references = declared reference e; debug_names = declared debug_name d }
+same_indexes h s e d l t end are =
+    let a = only_sections (λ p. of_kind section (declared_by p.row)) (λ p x. section_declared p.row x) h s e d l t end are in
+    let b = only_externals (λ p. of_kind public (declared_by p.row)) (λ p x. public_declared p.row x) h s e d l t end are in
+    let c = only_externals (λ p. of_kind reference (declared_by p.row)) (λ p x. reference_declared p.row x) h s e d l t end are in
+    let names = only_debug (λ p. of_kind debug_name (declared_by p.row)) (λ p x. debug_declared p.row x) h s e d l t end are in
+    (λ k. record { sections = a k; publics = b k; references = c k; debug_names = names k })
 
 -- ---- names
 
@@ -208,17 +214,17 @@ reference_same : (all e : List SpelledRecord) → ((i : ℕ) → answers (weak_f
 reference_same all e weaks notes p (r.ReferenceName i name) = (λ k. Some (record { name = text_in p name; weak = slice_get (weaks i k) 0; notes = notes i k }))
 reference_same all e weaks notes p row = refl
 
-pub same_publics : (ix : Indexes) (h s e l t : List SpelledRecord) (end : SpelledRecord) → AreSorted h s e l t end → publics_of ix (all_records h s e l t end) ≡ publics_of ix e
-same_publics ix h s e l t end are =
-    let all = all_records h s e l t end in
-    let same = public_same ix all e (λ i. only_externals (λ p. value_for i p p.row) (λ p x. value_asked i p p.row x) h s e l t end are) (λ i. only_externals (λ p. public_note_for i p.row) (λ p x. public_note_asked i p.row x) h s e l t end are) in
-    only_externals (λ p. public_by ix all p p.row) (λ p x. public_asked ix all p p.row x) h s e l t end are ∙ (λ k. filter_map (λ p. same p p.row k) e)
+pub same_publics : (ix : Indexes) (h s e d l t : List SpelledRecord) (end : SpelledRecord) → AreSorted h s e d l t end → publics_of ix (all_records h s e d l t end) ≡ publics_of ix e
+same_publics ix h s e d l t end are =
+    let all = all_records h s e d l t end in
+    let same = public_same ix all e (λ i. only_externals (λ p. value_for i p p.row) (λ p x. value_asked i p p.row x) h s e d l t end are) (λ i. only_externals (λ p. public_note_for i p.row) (λ p x. public_note_asked i p.row x) h s e d l t end are) in
+    only_externals (λ p. public_by ix all p p.row) (λ p x. public_asked ix all p p.row x) h s e d l t end are ∙ (λ k. filter_map (λ p. same p p.row k) e)
 
-pub same_references : (h s e l t : List SpelledRecord) (end : SpelledRecord) → AreSorted h s e l t end → references_of (all_records h s e l t end) ≡ references_of e
-same_references h s e l t end are =
-    let all = all_records h s e l t end in
-    let same = reference_same all e (λ i. only_externals (λ p. weak_for i p.row) (λ p x. weak_asked i p.row x) h s e l t end are) (λ i. only_externals (λ p. reference_note_for i p.row) (λ p x. reference_note_asked i p.row x) h s e l t end are) in
-    only_externals (λ p. reference_by all p p.row) (λ p x. reference_asked all p p.row x) h s e l t end are ∙ (λ k. filter_map (λ p. same p p.row k) e)
+pub same_references : (h s e d l t : List SpelledRecord) (end : SpelledRecord) → AreSorted h s e d l t end → references_of (all_records h s e d l t end) ≡ references_of e
+same_references h s e d l t end are =
+    let all = all_records h s e d l t end in
+    let same = reference_same all e (λ i. only_externals (λ p. weak_for i p.row) (λ p x. weak_asked i p.row x) h s e d l t end are) (λ i. only_externals (λ p. reference_note_for i p.row) (λ p x. reference_note_asked i p.row x) h s e d l t end are) in
+    only_externals (λ p. reference_by all p p.row) (λ p x. reference_asked all p p.row x) h s e d l t end are ∙ (λ k. filter_map (λ p. same p p.row k) e)
 
 -- ---- debug items and the start
 
@@ -234,11 +240,11 @@ start_asked : (ix : Indexes) (p : SpelledRecord) (row : Record) → stands_in tr
 start_asked ix p (r.Start value) h = cc
 start_asked ix p row h = refl
 
-pub no_marks : (ix : Indexes) (h s e l t : List SpelledRecord) (end : SpelledRecord) → AreSorted h s e l t end → marks ix (all_records h s e l t end) ≡ []
-no_marks ix h s e l t end are = only_debug (λ p. mark_by ix p p.row) (λ p x. mark_asked ix p p.row x) h s e l t end are
+pub same_marks : (ix : Indexes) (h s e d l t : List SpelledRecord) (end : SpelledRecord) → AreSorted h s e d l t end → marks ix (all_records h s e d l t end) ≡ marks ix d
+same_marks ix h s e d l t end are = only_debug (λ p. mark_by ix p p.row) (λ p x. mark_asked ix p p.row x) h s e d l t end are
 
-pub same_starts : (ix : Indexes) (h s e l t : List SpelledRecord) (end : SpelledRecord) → AreSorted h s e l t end → starts_of ix (all_records h s e l t end) ≡ starts_of ix t
-same_starts ix h s e l t end are = only_trailer (λ p. start_by ix p p.row) (λ p x. start_asked ix p p.row x) h s e l t end are
+pub same_starts : (ix : Indexes) (h s e d l t : List SpelledRecord) (end : SpelledRecord) → AreSorted h s e d l t end → starts_of ix (all_records h s e d l t end) ≡ starts_of ix t
+same_starts ix h s e d l t end are = only_trailer (λ p. start_by ix p p.row) (λ p x. start_asked ix p p.row x) h s e d l t end are
 
 -- ---- loads
 
@@ -304,9 +310,10 @@ no_loads-append : (a b : List SpelledRecord) → NoLoads a → NoLoads b → NoL
 no_loads-append [] b x y = y
 no_loads-append (p ∷ a) b x y = let both = and_parts (not (stands_in data_part p.row)) _ x in (λ i. both.0 i && no_loads-append a b both.1 y i)
 
-pub same_loads : (ix : Indexes) (maus : ℕ) (h s e l t : List SpelledRecord) (end : SpelledRecord) → AreSorted h s e l t end → loads_of ix maus (all_records h s e l t end) ≡ loads_of ix maus l
-same_loads ix maus h s e l t end are =
-    let prefix = no_loads-append (h ++ s) e (no_loads-append h s (none_silent h are.header) (none_of section_part refl s are.sections)) (none_of external_part refl e are.externals) in
+pub same_loads : (ix : Indexes) (maus : ℕ) (h s e d l t : List SpelledRecord) (end : SpelledRecord) → AreSorted h s e d l t end → loads_of ix maus (all_records h s e d l t end) ≡ loads_of ix maus l
+same_loads ix maus h s e d l t end are =
+    let named = no_loads-append (h ++ s) e (no_loads-append h s (none_silent h are.header) (none_of section_part refl s are.sections)) (none_of external_part refl e are.externals) in
+    let prefix = no_loads-append ((h ++ s) ++ e) d named (none_of debug_part refl d are.debug) in
     let back = none_of trailer_part refl t are.trailer in
     let last = none_of end_part refl (end ∷ []) (end_alone end are.end_) in
-    loads_before ix maus ((((h ++ s) ++ e) ++ l) ++ t) (end ∷ []) last ∙ loads_before ix maus (((h ++ s) ++ e) ++ l) t back ∙ before_loads ix maus ((h ++ s) ++ e) l prefix
+    loads_before ix maus (((((h ++ s) ++ e) ++ d) ++ l) ++ t) (end ∷ []) last ∙ loads_before ix maus ((((h ++ s) ++ e) ++ d) ++ l) t back ∙ before_loads ix maus (((h ++ s) ++ e) ++ d) l prefix

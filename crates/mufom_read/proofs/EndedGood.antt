@@ -1,7 +1,7 @@
 -- What a record of an ended prefix brings to a module without a defect.
 use Rattle.std.proofs.Common.{◌≡◌, ℕ, ◌+◌, ◌-◌, ◌<◌, Bool, true, false, cond, ◌==◌, ◌&&◌, nat_lt, List, [], ◌∷◌, ◌++◌, length, drop, slice_get, Option, Some, None, IfSome, unwrap_or, refl, sym, ap, subst, ◌∙◌, arith, append_assoc, length-take, filter_map}
-use Rattle.std.specs.List.{list_any, cons_option, AllByRecursion}
-use Rattle.std.proofs.lemmas.Bool.{or_from}
+use Rattle.std.specs.List.{list_all, list_any, cons_option, AllByRecursion}
+use Rattle.std.proofs.lemmas.Bool.{and_parts, or_from}
 use Rattle.mufom_numbers.specs.declared.taken.Span.{Span}
 use Rattle.mufom_expr.specs.Tree.{Tree}
 use Rattle.mufom_expr.specs.Spelled.{Indexes}
@@ -12,14 +12,14 @@ use Rattle.mufom_module.specs.declared.module.Parts.{Parts}
 use Rattle.mufom_module.specs.Contents.{any_of}
 use Rattle.mufom_module.specs.Defects.{is_long, counts_of, names_outside, has_other_counter}
 use Rattle.mufom_module.specs.SpelledRecords.{SpelledRecord, bytes_of, text_in, section, named_by, expression_of, tree_in, is_public_value, position_in, positioned}
-use Rattle.mufom_module.specs.RecordParts.{Part, number_of, opens_items, begins_item}
+use Rattle.mufom_module.specs.RecordParts.{Part, number_of, stands_in, opens_items, begins_item}
 use Rattle.mufom_module.specs.Gathered.{for_index}
 use Rattle.mufom_module.specs.Grammar.{AreWhole, has_no_section, names_unknown}
 use Rattle.mufom_read.specs.Prefixes.{is_module_end}
 use Rattle.mufom_read.specs.Faults.{counter_allowed}
 use Rattle.mufom_read.specs.Stated.{indexes_in}
 use Rattle.mufom_read.proofs.EndedRows.{IsShort, body_short, items_short}
-use Rattle.mufom_read.proofs.EndedParts.{IsKept, KeptFrom, not_end}
+use Rattle.mufom_read.proofs.EndedParts.{IsKept, KeptFrom, own_of, not_end}
 use Rattle.mufom_read.proofs.EndedTrees.{IsKnown, AreCounts, inside, placed_section, own_counter, known-append, named_known, tree_known, tree_counter, declared_below}
 
 -- ---- trees
@@ -49,11 +49,16 @@ short_here : (test : Bool) (p : SpelledRecord) (after : List ℕ) → is_module_
 short_here false p after other is = body_short p.row p.bytes (first_of after None) other is
 short_here true p after other is = items_short p.row p.bytes (first_of after None) is
 
+-- whole records of a part are short
+pub part_short : (part : Part) (items : Bool) (records : List SpelledRecord) (after : List ℕ) → (number_of part == 7) ≡ false → list_all (λ p. stands_in part p.row) records ≡ true → AreWhole items records after → AllByRecursion (λ p. IsShort p.row) records
+part_short part items [] after other own are = tt
+part_short part items (p ∷ records) after other own are =
+    let both = and_parts (stands_in part p.row) _ own in
+    (short_here (items && begins_item p.bytes) p (bytes_of records ++ after) (not_end part p.row other both.0) are.0, part_short part (opens_items p.row) records after other both.1 are.1)
+
 -- the records of a part are short
 pub all_short : (part : Part) (before : List SpelledRecord) (items : Bool) (records : List SpelledRecord) (after : List ℕ) → (number_of part == 7) ≡ false → KeptFrom part before records → AreWhole items records after → AllByRecursion (λ p. IsShort p.row) records
-all_short part before items [] after other own are = tt
-all_short part before items (p ∷ records) after other own are =
-    (short_here (items && begins_item p.bytes) p (bytes_of records ++ after) (not_end part p.row other own.0) are.0, all_short part (before ++ p ∷ []) (opens_items p.row) records after other own.2 are.1)
+all_short part before items records after other own are = part_short part items records after other (own_of part before records own) are
 
 good : (m : Parts) (all : List SpelledRecord) (ix : Indexes) → indexes_in all ≡ ix → AreCounts m (indexes_in all) → (before after : List SpelledRecord) (p : SpelledRecord) → before ++ p ∷ after ≡ all → IsShort p.row → IsKept before p → IsGood m ix before p
 good m all ix same are before after p whole short keeps =

@@ -15,7 +15,7 @@ use Rattle.mufom_module.specs.SpelledRecords.{SpelledRecord, bytes_of}
 use Rattle.mufom_module.specs.RecordParts.{part_of}
 use Rattle.mufom_module.specs.Grammar.{AreOfModes, offset_in, offsets_in}
 use Rattle.mufom_read.specs.Prefixes.{Step, raw, read, step_bytes, prefix_bytes, size_of, records_of, offsets_of, Location, in_header, first_present, location_by, part_at, location_after, header_mode, is_module_end, ends_with, is_ended}
-use Rattle.mufom_read.specs.Faults.{fault_if, is_bad_descriptor, is_out_of_order, is_left_for_later, leaves_gap, offset_fault, header_fault, record_fault, step_fault}
+use Rattle.mufom_read.specs.Faults.{fault_if, is_bad_descriptor, is_out_of_order, leaves_gap, offset_fault, header_fault, record_fault, step_fault}
 use Rattle.mufom_read.proofs.EndedWalk.{bytes-append, size-append, records-append, IsRead, IsNextAt, IsWalk, taken, no_fault}
 use Rattle.mufom_read.proofs.EndedRows.{IsDescriptor, begin_row, descriptor_row, offset_row}
 
@@ -75,7 +75,7 @@ pub record HeaderStep (reads_debug : Bool) (k : ℕ) (before steps : List Step) 
   pub later : List Step
   pub split : steps ≡ read (size_of before) spelled ∷ later
   pub is_whole : IsWholeRecord (header_mode k) spelled.row spelled.bytes (first_of (prefix_bytes later) None)
-  pub faultless : header_fault reads_debug (offsets_of before) (size_of before) (size_of before + length spelled.bytes) spelled.row ≡ None
+  pub faultless : header_fault (offsets_of before) (size_of before) (size_of before + length spelled.bytes) spelled.row ≡ None
   pub walk : IsWalk reads_debug (before ++ read (size_of before) spelled ∷ []) later
   pub ends : is_ended ((before ++ read (size_of before) spelled ∷ []) ++ later) ≡ true
 
@@ -87,23 +87,23 @@ header_step reads_debug k before (step ∷ later) count few open_ ends walk =
     let here = read_here (header_mode k) before step later (subst (λ (p : Location). IsNextAt reads_debug before p (prefix_bytes (step ∷ later)) step (length (step_bytes step))) offset walk.3) in
     let n = length here.spelled.bytes in
     let it = read (size_of before) here.spelled in
-    let fault : step_fault reads_debug before (taken it n) ≡ None = subst (λ (s : Step). step_fault reads_debug before (taken s (length (step_bytes s))) ≡ None) here.is_this walk.2 in
+    let fault : step_fault before (taken it n) ≡ None = subst (λ (s : Step). step_fault before (taken s (length (step_bytes s))) ≡ None) here.is_this walk.2 in
     record {
       spelled = here.spelled;
       later = later;
       split = ap (λ s. s ∷ later) here.is_this;
       is_whole = here.is_whole;
-      faultless = subst (λ (p : Location). record_fault reads_debug before p (size_of before) here.spelled ≡ None) offset fault;
+      faultless = subst (λ (p : Location). record_fault before p (size_of before) here.spelled ≡ None) offset fault;
       walk = subst (λ (s : Step). IsWalk reads_debug (before ++ s ∷ []) later) here.is_this walk.4;
       ends = ap (λ l. is_ended l) (append_assoc before (it ∷ []) later) ∙ ap (λ s. is_ended (before ++ s ∷ later)) (sym here.is_this) ∙ ends;
     }
 
 -- ---- the offsets
 
--- no offset is out of order after those before it, and none is left for later
-abbrev pub InOrder : Bool → List ℕ → List ℕ → Type 0
-InOrder reads_debug earlier [] = Unit {0}
-InOrder reads_debug earlier (w ∷ offsets) = (is_out_of_order earlier w ≡ false) × (is_left_for_later reads_debug earlier w ≡ false) × InOrder reads_debug (earlier ++ w ∷ []) offsets
+-- no offset is out of order after those before it
+abbrev pub InOrder : List ℕ → List ℕ → Type 0
+InOrder earlier [] = Unit {0}
+InOrder earlier (w ∷ offsets) = (is_out_of_order earlier w ≡ false) × InOrder (earlier ++ w ∷ []) offsets
 
 abbrev pub modes_from : ℕ → ℕ → List Mode
 modes_from k zero = []
@@ -120,7 +120,7 @@ pub record OffsetRun (reads_debug : Bool) (n k : ℕ) (earlier : List ℕ) (befo
   pub bytes : bytes_of (records_of own) ≡ prefix_bytes own
   pub values : offsets_in (records_of own) ≡ offsets
   pub many : length offsets ≡ n
-  pub in_order : InOrder reads_debug earlier offsets
+  pub in_order : InOrder earlier offsets
   pub gap : 0 < n → length (earlier ++ offsets) ≡ 8 → first_present (earlier ++ offsets) ≡ size_of (before ++ own)
   pub silent : list_all (λ p. is_none (part_of p.row)) (records_of own) ≡ true
   pub walk : IsWalk reads_debug (before ++ own) later
@@ -155,19 +155,16 @@ offset_run_none reads_debug k earlier before steps open_ ends walk =
     }
 
 -- what the checks of an offset record state
-record OffsetFacts (reads_debug : Bool) (earlier : List ℕ) (w end : ℕ) : Type 0 where
+record OffsetFacts (earlier : List ℕ) (w end : ℕ) : Type 0 where
   order : is_out_of_order earlier w ≡ false
-  now : is_left_for_later reads_debug earlier w ≡ false
   gap : leaves_gap (earlier ++ w ∷ []) end ≡ false
 
-offset_facts : (reads_debug : Bool) (earlier : List ℕ) (w start end : ℕ) → offset_fault reads_debug earlier w start end ≡ None → OffsetFacts reads_debug earlier w end
-offset_facts reads_debug earlier w start end h =
+offset_facts : (earlier : List ℕ) (w start end : ℕ) → offset_fault earlier w start end ≡ None → OffsetFacts earlier w end
+offset_facts earlier w start end h =
     let first = no_fault (fault_if (is_out_of_order earlier w) start _) _ h in
-    let second = no_fault (fault_if (is_left_for_later reads_debug earlier w) start _) _ first.1 in
     record {
       order = no_fault_if (is_out_of_order earlier w) start _ first.0;
-      now = no_fault_if (is_left_for_later reads_debug earlier w) start _ second.0;
-      gap = no_fault_if (leaves_gap (earlier ++ w ∷ []) end) end _ second.1;
+      gap = no_fault_if (leaves_gap (earlier ++ w ∷ []) end) end _ first.1;
     }
 
 -- the gap is judged after the last offset
@@ -192,9 +189,9 @@ offset_run (suc n) k reads_debug earlier before steps at all are open_ ends walk
     let row = offset_row k next.spelled.row next.spelled.bytes (first_of (prefix_bytes next.later) None) next.is_whole in
     let w = row.0 in
     let end = size_of before + length next.spelled.bytes in
-    let facts = offset_facts reads_debug earlier w (size_of before) end
-    (subst (λ (l : List ℕ). offset_fault reads_debug l w (size_of before) end ≡ None) are
-    (subst (λ (s : Record). header_fault reads_debug (offsets_of before) (size_of before) end s ≡ None) row.1 next.faultless)) in
+    let facts = offset_facts earlier w (size_of before) end
+    (subst (λ (l : List ℕ). offset_fault l w (size_of before) end ≡ None) are
+    (subst (λ (s : Record). header_fault (offsets_of before) (size_of before) end s ≡ None) row.1 next.faultless)) in
     let long : length prefix ≡ suc (suc (suc k)) = length-append before (it ∷ []) ∙ omega arith in
     let value : offsets_of (it ∷ []) ≡ w ∷ [] = ap (λ (s : Record). offsets_in (record { row = s; bytes = next.spelled.bytes } ∷ [])) row.1 in
     let grown : offsets_of prefix ≡ earlier ++ w ∷ [] = offsets-append before (it ∷ []) ∙ (λ i. are i ++ value i) in
@@ -212,7 +209,7 @@ offset_run (suc n) k reads_debug earlier before steps at all are open_ ends walk
       bytes = ap (λ l. next.spelled.bytes ++ l) rec.bytes;
       values = filter_map-append (λ p. offset_in p.row) (next.spelled ∷ []) (records_of rec.own) ∙ (λ i. value i ++ rec.values i);
       many = ap suc rec.many;
-      in_order = (facts.order, facts.now, rec.in_order);
+      in_order = (facts.order, rec.in_order);
       gap = gap_of n earlier w rec.offsets end before it rec.own rec.many rec.count facts.gap size rec.gap;
       silent = subst (λ (s : Record). (is_none (part_of s) && list_all (λ p. is_none (part_of p.row)) (records_of rec.own)) ≡ true) (sym row.1) rec.silent;
       walk = subst (λ (l : List Step). IsWalk reads_debug l rec.later) (append_assoc before (it ∷ []) rec.own) rec.walk;
@@ -232,10 +229,10 @@ pub record HeaderRun (reads_debug : Bool) (steps : List Step) : Type 0 where
   pub describes : IsWholeRecord mode.Descriptor descriptor.row descriptor.bytes (first_of (prefix_bytes (drop 2 steps)) None)
   pub no_bad : is_bad_descriptor descriptor.row ≡ false
 
-descriptor_kept : (reads_debug : Bool) (start end : ℕ) (row : Record) → IsDescriptor row → header_fault reads_debug [] start end row ≡ None → is_bad_descriptor row ≡ false
+descriptor_kept : (reads_debug : Bool) (start end : ℕ) (row : Record) → IsDescriptor row → header_fault [] start end row ≡ None → is_bad_descriptor row ≡ false
 descriptor_kept reads_debug start end row is h =
     let its = r.Descriptor is.0 is.1 is.2 in
-    let fault : header_fault reads_debug [] start end its ≡ None = subst (λ (s : Record). header_fault reads_debug [] start end s ≡ None) is.3 h in
+    let fault : header_fault [] start end its ≡ None = subst (λ (s : Record). header_fault [] start end s ≡ None) is.3 h in
     ap is_bad_descriptor is.3 ∙ no_fault_if (is_bad_descriptor its) start _ fault
 
 pub header_run : (reads_debug : Bool) (steps : List Step) → is_ended steps ≡ true → IsWalk reads_debug [] steps → HeaderRun reads_debug steps
@@ -263,5 +260,5 @@ header_run reads_debug steps ends walk =
       split = split ∙ ap (λ l. a ∷ b ∷ l) (sym left);
       begins = subst (λ (l : List ℕ). IsWholeRecord mode.Begin one.spelled.row one.spelled.bytes (first_of l None)) (ap prefix_bytes (two.split ∙ (λ i. same i ∷ sym left i))) one.is_whole;
       describes = subst (λ (l : List Step). IsWholeRecord mode.Descriptor two.spelled.row two.spelled.bytes (first_of (prefix_bytes l) None)) (sym left) two.is_whole;
-      no_bad = descriptor_kept reads_debug (size_of (a ∷ [])) (size_of (a ∷ []) + length two.spelled.bytes) two.spelled.row second (subst (λ (l : List ℕ). header_fault reads_debug l (size_of (a ∷ [])) (size_of (a ∷ []) + length two.spelled.bytes) two.spelled.row ≡ None) none two.faultless);
+      no_bad = descriptor_kept reads_debug (size_of (a ∷ [])) (size_of (a ∷ []) + length two.spelled.bytes) two.spelled.row second (subst (λ (l : List ℕ). header_fault l (size_of (a ∷ [])) (size_of (a ∷ []) + length two.spelled.bytes) two.spelled.row ≡ None) none two.faultless);
     }

@@ -129,11 +129,11 @@ sized : (maus : ℕ) (o : Option ℕ) → d.is_unit_count maus ≡ true → IsFi
 sized maus (Some n) units h = within_size n h.0 h.1
 sized maus None units h = let both = and_parts (nat_le 1 maus) (nat_le maus 8) units in within_size maus (leb-true 1 maus both.0) (leb-true maus 8 both.1)
 
-below_test : (n position : ℕ) → position < n → nat_le n position ≡ false
+pub below_test : (n position : ℕ) → position < n → nat_le n position ≡ false
 below_test n position h = grind arith
 
 -- the tree of a record, where it may name this section's counter
-its_tree : (m : Parts) (ix : Indexes) (before : List SpelledRecord) (p : SpelledRecord) (row : Record) (span : Span) → p.row ≡ row → IsGood m ix before p → expression_of row ≡ Some span → is_public_value row ≡ false → IsGoodTree m ix (counter_allowed before row) (tree_in p span)
+pub its_tree : (m : Parts) (ix : Indexes) (before : List SpelledRecord) (p : SpelledRecord) (row : Record) (span : Span) → p.row ≡ row → IsGood m ix before p → expression_of row ≡ Some span → is_public_value row ≡ false → IsGoodTree m ix (counter_allowed before row) (tree_in p span)
 its_tree m ix before p row span e is has other =
     subst (λ (it : Record). IsGoodTree m ix (counter_allowed before it) (tree_in p span)) e (is.tree span (ap expression_of e ∙ has) (ap is_public_value e ∙ other))
 

@@ -1,5 +1,5 @@
 -- The parts of an ended prefix are cut as a file is, and have its names.
-use Rattle.std.proofs.Common.{◌≡◌, ℕ, ◌≤◌, Bool, true, false, not, ◌&&◌, ◌||◌, List, [], ◌∷◌, ◌++◌, length, map, Option, Some, None, is_none, option_map, option_to_list, ◌==◌, MatchBool, refl, sym, ap, subst, ◌∙◌, append_assoc, append-nil, filter_map}
+use Rattle.std.proofs.Common.{◌≡◌, ℕ, ◌≤◌, Bool, true, false, not, ◌&&◌, ◌||◌, List, [], ◌∷◌, ◌++◌, length, map, Option, Some, None, is_none, option_map, option_to_list, ◌==◌, refl, sym, ap, subst, ◌∙◌, append_assoc, append-nil, filter_map}
 use Rattle.std.specs.List.{list_all, list_any, cons_option, AllByRecursion}
 use Rattle.std.proofs.lemmas.Bool.{and_parts, and_from, or_from, not-false}
 use Rattle.std.proofs.lemmas.List.Elements.{filter_map-append}
@@ -12,24 +12,13 @@ use Rattle.mufom_records.specs.declared.record.Record.TheVariants as r
 use Rattle.mufom_module.specs.Contents.{any_of}
 use Rattle.mufom_module.specs.SpelledRecords.{SpelledRecord, Kind, public, FileIndex, declared_by, of_kind, declared, is_declared, named_in_expression, named_at_once, index_of_variable, expression_of, tree_in, is_public_value, Once, value_of_public, is_same_statement, assigned_by, is_assigned}
 use Rattle.mufom_module.specs.RecordParts.{Part, section_part, external_part, debug_part, data_part, trailer_part, part_of, stands_in, is_set_section, is_loading}
-use Rattle.mufom_module.specs.Grammar.{header_of, from_loads, IsPart, file_limit, IsCutInto, Follows, FollowFrom, HasNames}
+use Rattle.mufom_module.specs.Grammar.{header_of, file_limit, IsCutInto, Follows, FollowFrom, HasNames}
 use Rattle.mufom_read.specs.Prefixes.{Step, prefix_bytes}
 use Rattle.mufom_read.specs.Faults.{public_declared, has_unknown_variable}
-use Rattle.mufom_read.proofs.EndedParts.{IsKept, KeptFrom}
+use Rattle.mufom_read.proofs.EndedParts.{IsKept, KeptFrom, own_of}
 use Rattle.mufom_read.proofs.EndedSliced.{IsGiven, Sliced}
 
 -- ---- cut
-
-pub own_of : (part : Part) (before records : List SpelledRecord) → KeptFrom part before records → list_all (λ p. stands_in part p.row) records ≡ true
-own_of part before [] h = refl
-own_of part before (p ∷ records) h = and_from (stands_in part p.row) _ h.0 (own_of part (before ++ p ∷ []) records h.2)
-
-by_debug : (reads_debug : Bool) (P Q : Type 0) → (reads_debug ≡ true → P) → Q → MatchBool reads_debug P Q
-by_debug true P Q p q = p refl
-by_debug false P Q p q = q
-
-empty_part : (records : List SpelledRecord) (after : List ℕ) → records ≡ [] → IsPart debug_part records after
-empty_part records after none = subst (λ (l : List SpelledRecord). IsPart debug_part l after) (sym none) (record { are_whole = tt; own = refl })
 
 pub cut_into : (reads_debug : Bool) (prefix : List Step) (s : Sliced reads_debug prefix) → length (prefix_bytes prefix) ≤ file_limit → IsCutInto (prefix_bytes prefix) reads_debug s.f
 cut_into reads_debug prefix s limit = record {
@@ -39,8 +28,8 @@ cut_into reads_debug prefix s limit = record {
   offsets = s.stand;
   sections = record { are_whole = s.sections; own = own_of section_part (header_of s.f) s.f.sections s.keep_sections };
   externals = record { are_whole = s.externals; own = own_of external_part _ s.f.externals s.keep_externals };
-  debug = empty_part s.f.debug (from_loads s.f) s.no_debug;
-  debug_read = by_debug reads_debug (s.f.skipped ≡ []) (s.f.debug ≡ []) s.skipped s.no_debug;
+  debug = record { are_whole = s.debug; own = own_of debug_part _ s.f.debug s.keep_debug };
+  debug_read = s.debug_read;
   loads = record { are_whole = s.loads; own = own_of data_part _ s.f.loads s.keep_loads };
   trailer = record { are_whole = s.trailer; own = own_of trailer_part _ s.f.trailer s.keep_trailer };
 }
@@ -177,16 +166,18 @@ has_names reads_debug prefix s =
     let header = header_of f in
     let all = (header ++ f.sections) ++ f.externals in
     let same : all ≡ header ++ (f.sections ++ f.externals) = append_assoc header f.sections f.externals in
-    let loads_at : all ++ f.loads ≡ header ++ ((f.sections ++ f.externals) ++ f.loads) = ap (λ l. l ++ f.loads) same ∙ append_assoc header (f.sections ++ f.externals) f.loads in
+    let before = f.sections ++ f.externals in
+    let debug_at : all ++ f.debug ≡ header ++ (before ++ f.debug) = ap (λ l. l ++ f.debug) same ∙ append_assoc header before f.debug in
+    let loads_at : (all ++ f.debug) ++ f.loads ≡ header ++ ((before ++ f.debug) ++ f.loads) = ap (λ l. l ++ f.loads) debug_at ∙ append_assoc header (before ++ f.debug) f.loads in
     let sections = follow_part section_part header [] f.sections s.silent (subst (λ (l : List SpelledRecord). KeptFrom section_part l f.sections) (sym (append-nil header)) s.keep_sections) in
     let externals = follow_part external_part header f.sections f.externals s.silent s.keep_externals in
-    let loads = follow_part data_part header (f.sections ++ f.externals) f.loads s.silent (subst (λ (l : List SpelledRecord). KeptFrom data_part l f.loads) same s.keep_loads) in
-    let trailer = follow_part trailer_part header ((f.sections ++ f.externals) ++ f.loads) f.trailer s.silent (subst (λ (l : List SpelledRecord). KeptFrom trailer_part l f.trailer) loads_at s.keep_trailer) in
-    let last = follow-append (f.sections ++ f.externals) f.loads f.trailer loads trailer in
-    let no_debug : f.loads ++ f.trailer ≡ f.debug ++ (f.loads ++ f.trailer) = ap (λ l. l ++ (f.loads ++ f.trailer)) (sym s.no_debug) in
+    let debug = follow_part debug_part header before f.debug s.silent (subst (λ (l : List SpelledRecord). KeptFrom debug_part l f.debug) same s.keep_debug) in
+    let loads = follow_part data_part header (before ++ f.debug) f.loads s.silent (subst (λ (l : List SpelledRecord). KeptFrom data_part l f.loads) debug_at s.keep_loads) in
+    let trailer = follow_part trailer_part header ((before ++ f.debug) ++ f.loads) f.trailer s.silent (subst (λ (l : List SpelledRecord). KeptFrom trailer_part l f.trailer) loads_at s.keep_trailer) in
+    let last = follow-append before f.debug (f.loads ++ f.trailer) debug (follow-append (before ++ f.debug) f.loads f.trailer loads trailer) in
     record {
       follow = follow-append [] f.sections (f.externals ++ (f.debug ++ (f.loads ++ f.trailer))) sections
-          (follow-append f.sections f.externals (f.debug ++ (f.loads ++ f.trailer)) externals (subst (λ (l : List SpelledRecord). FollowFrom (f.sections ++ f.externals) l) no_debug last));
+          (follow-append f.sections f.externals (f.debug ++ (f.loads ++ f.trailer)) externals last);
       values = ap (λ test. list_all (λ p. list_all test (named_in_expression p)) f.externals) (sym (ap (λ l. is_declared l) same ∙ declared_after header (f.sections ++ f.externals) s.silent))
           ∙ all_named all (header ++ f.sections) f.externals s.keep_externals s.given;
       valued = sym (λ k. list_all (λ i. only_there header f.sections f.externals i s.silent s.keep_sections k) (declared public f.externals)) ∙ all_valued all f.externals s.given;

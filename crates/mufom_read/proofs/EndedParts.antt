@@ -1,6 +1,6 @@
 -- One part of a walk: the steps up to the part's end all lie in it.
 use Rattle.std.proofs.Common.{◌≡◌, ◌⊎◌, ℕ, ◌+◌, ◌<◌, ◌≤◌, Bool, true, false, cond, not, ◌==◌, ◌&&◌, nat_lt, List, [], ◌∷◌, ◌++◌, length, Option, Some, None, refl, sym, ap, subst, ◌∙◌, inl, inr, arith, append_assoc, append-nil, ltb-false, filter_map, length-append}
-use Rattle.std.specs.List.{last_or}
+use Rattle.std.specs.List.{last_or, list_all}
 use Rattle.std.proofs.lemmas.Bool.{and_parts, and_from, not-false, both_ways, cases_eq, cases_lt}
 use Rattle.mufom_numbers.specs.declared.reason.Reason.{Reason}
 use Rattle.mufom_numbers.specs.declared.reason.Reason.TheVariants as why
@@ -14,6 +14,7 @@ use Rattle.mufom_module.specs.RecordParts.{Part, number_of, stands_in, opens_ite
 use Rattle.mufom_module.specs.Grammar.{offset_in, AreWhole, declares_again, states_again, names_unknown, has_no_section}
 use Rattle.mufom_read.specs.Prefixes.{Step, raw, read, step_bytes, prefix_bytes, size_of, records_of, offset_records_of, offsets_of, Extent, Location, in_part, part_among, parts_in_order, location_by, location_after, is_raw, awaits_items, body_mode, is_module_end, is_ended}
 use Rattle.mufom_read.specs.Faults.{fault_if, fault_for, has_bad_alignment, misplaces_counter, breaks, rule_broken, part_record_fault, record_fault, step_fault}
+use Rattle.mufom_read.proofs.BlockKinds.{open_kinds, ends_badly_in, is_too_deep_in, ends-kinds, deep-kinds}
 use Rattle.mufom_read.proofs.EndedWalk.{bytes-append, size-append, records-append, IsRaw, IsNextAt, IsWalk, taken, no_fault}
 use Rattle.mufom_read.proofs.SpelledBegin.{body_begins, items_begin}
 use Rattle.mufom_read.proofs.EndedHeader.{last-append, ended-read, ended-raw, offsets-append, no_fault_if, IsHere, read_here, after_header}
@@ -28,11 +29,18 @@ pub record IsKept (before : List SpelledRecord) (p : SpelledRecord) : Type 0 whe
   pub aligned : has_bad_alignment p.row ≡ false
   pub placed : has_no_section before p.row ≡ false
   pub counter : misplaces_counter before p ≡ false
+  pub nested : ends_badly_in (open_kinds before) p.row ≡ false
+  pub shallow : is_too_deep_in (open_kinds before) p.row ≡ false
 
 -- records of a part, each of which keeps to them
 abbrev pub KeptFrom : Part → List SpelledRecord → List SpelledRecord → Type 0
 KeptFrom part before [] = Unit {0}
 KeptFrom part before (p ∷ records) = (stands_in part p.row ≡ true) × IsKept before p × KeptFrom part (before ++ p ∷ []) records
+
+-- they are records of the part
+pub own_of : (part : Part) (before records : List SpelledRecord) → KeptFrom part before records → list_all (λ p. stands_in part p.row) records ≡ true
+own_of part before [] h = refl
+own_of part before (p ∷ records) h = and_from (stands_in part p.row) _ h.0 (own_of part (before ++ p ∷ []) records h.2)
 
 pub cond_none : {X : Type 0} (b : Bool) (x : X) (o : Option X) → cond b (Some x) o ≡ None → (b ≡ false) × (o ≡ None)
 cond_none true x o h = absurd cc
@@ -51,7 +59,18 @@ kept prefix p h =
     let d = cond_none (test why.BadAlignment) _ _ c.1 in
     let e = cond_none (test why.NoSection) _ _ d.1 in
     let f = cond_none (test why.BadP) _ _ e.1 in
-    record { new = a.0; known = b.0; once = c.0; aligned = d.0; placed = e.0; counter = f.0 }
+    let g = cond_none (test why.BlockNesting) _ _ f.1 in
+    let last = cond_none (test why.Depth) _ _ g.1 in
+    record {
+      new = a.0;
+      known = b.0;
+      once = c.0;
+      aligned = d.0;
+      placed = e.0;
+      counter = f.0;
+      nested = sym (ends-kinds prefix p.row) ∙ g.0;
+      shallow = sym (deep-kinds prefix p.row) ∙ last.0;
+    }
 
 -- what the checks of a record in its part state
 record RecordFacts (prefix : List Step) (e : Extent) (start : ℕ) (p : SpelledRecord) : Type 0 where
@@ -270,8 +289,8 @@ as_read : (reads_debug : Bool) (part : Part) (from to : ℕ) (all : List ℕ) (i
 as_read reads_debug part from to all items before step steps is other offset ready here rest =
     let start = size_of before in
     let p = here.spelled in
-    let fault : step_fault reads_debug before (taken (read start p) (length p.bytes)) ≡ None = subst (λ (s : Step). step_fault reads_debug before (taken s (length (step_bytes s))) ≡ None) here.is_this ready.walk.2 in
-    let facts = record_facts before (extent part from to) start p (subst (λ (q : Location). record_fault reads_debug before q start p ≡ None) offset fault) in
+    let fault : step_fault before (taken (read start p) (length p.bytes)) ≡ None = subst (λ (s : Step). step_fault before (taken s (length (step_bytes s))) ≡ None) here.is_this ready.walk.2 in
+    let facts = record_facts before (extent part from to) start p (subst (λ (q : Location). record_fault before q start p ≡ None) offset fault) in
     let a = not (size_of before == from) in
     let b = awaits_items (last_or None (records_of before)) in
     let c = begins_item (prefix_bytes (step ∷ steps)) in

@@ -1,6 +1,6 @@
 -- What the records of the header are, and that strings and runs of literal bytes are short.
-use Rattle.std.proofs.Common.{◌≡◌, ◌⊎◌, inl, inr, ℕ, ◌+◌, ◌<◌, ◌≤◌, Bool, true, false, cond, ◌==◌, ◌&&◌, nat_lt, nat_le, List, [], ◌∷◌, ◌++◌, length, Option, Some, None, refl, sym, ap, subst, ◌∙◌, arith, eqb-true, ltb-true, leb-true}
-use Rattle.std.proofs.lemmas.Bool.{and_parts, both_ways}
+use Rattle.std.proofs.Common.{◌≡◌, ◌⊎◌, inl, inr, ℕ, ◌+◌, ◌<◌, ◌≤◌, Bool, true, false, cond, ◌==◌, ◌&&◌, ◌||◌, nat_lt, nat_le, List, [], ◌∷◌, ◌++◌, length, Option, Some, None, refl, sym, ap, subst, ◌∙◌, arith, eqb-true, eq-eqb, ne_eqb, ltb-true, leb-true}
+use Rattle.std.proofs.lemmas.Bool.{and_parts, both_ways, cases_eq}
 use Rattle.mufom_numbers.specs.declared.taken.Span.{Span}
 use Rattle.mufom_numbers.specs.Spelling.{IsStringLead}
 use Rattle.mufom_records.specs.declared.record.Mode.TheVariants as mode
@@ -9,6 +9,7 @@ use Rattle.mufom_records.specs.declared.record.Record.TheVariants as r
 use Rattle.mufom_records.specs.Fields.{Field, ValueOf, byte, number, string, run, letter, optional_number, numbers, expression, optional_expression, is_one_of, SpellsField, first_of}
 use Rattle.mufom_records.specs.Layouts
 use Rattle.mufom_read.specs.Prefixes.{is_module_end}
+use Rattle.mufom_read.specs.DebugSoFar.{FitsKind, HasKind}
 
 abbrev Layout : Type 0
 Layout = Layouts.Layout
@@ -106,7 +107,8 @@ abbrev pub IsFieldSize : Option ℕ → Type 0
 IsFieldSize None = Unit {0}
 IsFieldSize (Some n) = (1 ≤ n) × (n ≤ 8)
 
--- strings and literal bytes are short, and it is not the end
+-- Strings and literal bytes are short, a block has what its kind adds, the attribute of a debug note is one of the format, and it is
+-- not the end.
 abbrev pub IsShort : Record → Type 0
 IsShort (r.SectionType i absolute purpose name a b c) = name.len < 65536
 IsShort (r.PublicName i name) = name.len < 65536
@@ -115,6 +117,9 @@ IsShort (r.Constant bytes) = bytes.len < 65536
 IsShort (r.ConstantItem bytes) = bytes.len < 65536
 IsShort (r.RepeatConstant times bytes) = bytes.len < 65536
 IsShort (r.FieldItem kind value n) = IsFieldSize n
+IsShort (r.BlockBegin kind n name block) = (name.len < 65536) × FitsKind kind block
+IsShort (r.DebugName i name) = name.len < 65536
+IsShort (r.DebugNote i type_index attribute ns) = is_one_of Layouts.debug_attributes attribute ≡ true
 IsShort r.ModuleEnd = ⊥
 IsShort _ = Unit {0}
 
@@ -150,11 +155,26 @@ bracket_short (Some b) = λ (v : Span) _ (c : Option ℕ) _. comma_short b v c
 item_short : Promises IsShort Layouts.item
 item_short = λ (o : Option ℕ) _. bracket_short o
 
+turned : (a b : ℕ) → (a == b) ≡ false → (b == a) ≡ false
+turned a b h = elim (cases_eq b a) [ inl is ↦ absurd (both_ways (a == b) h (eq-eqb a b (sym is))) | inr differ ↦ ne_eqb b a differ ]
+
+-- the kinds that are neither 3 nor 5 nor 11
+scope_kind : (kind : ℕ) → is_one_of Layouts.block_kinds kind ≡ true → (kind == 3) ≡ false → (kind == 5) ≡ false → (kind == 11) ≡ false → (kind ≡ 4) ⊎ (kind ≡ 6)
+scope_kind kind known no_3 no_5 no_11 = elim (cases_eq kind 4) [
+  | inl is ↦ inl is
+  | inr no_4 ↦ elim (cases_eq kind 6) [
+    | inl is ↦ inr is
+    | inr no_6 ↦ absurd (both_ways (is_one_of Layouts.block_kinds kind) (λ i. turned kind 3 no_3 i
+        || (ne_eqb 4 kind (λ e. no_4 (sym e)) i || (turned kind 5 no_5 i || (ne_eqb 6 kind (λ e. no_6 (sym e)) i || (turned kind 11 no_11 i || false))))) known)
+  ]
+]
+
 block_short : Promises IsShort Layouts.block_begin
-block_short = λ (kind : ℕ) _ (n : ℕ) _ (name : Span) _.
-    by_test IsShort (kind == 3) _ _ (λ _. tt)
-    (λ _. by_test IsShort (kind == 5) (Layouts.source_begin kind n name) _ (λ _ _ _. tt)
-    (λ _. by_test IsShort (kind == 11) (Layouts.section_begin kind n name) _ (λ _ _ _ _ _ _ _. tt) (λ _ _ _ _ _ _ _. tt)))
+block_short = λ (kind : ℕ) known (n : ℕ) _ (name : Span) short.
+    by_test IsShort (kind == 3) _ _ (λ is. (short, eqb-true kind 3 is))
+    (λ no_3. by_test IsShort (kind == 5) (Layouts.source_begin kind n name) _ (λ is. λ _ _. (short, eqb-true kind 5 is))
+    (λ no_5. by_test IsShort (kind == 11) (Layouts.section_begin kind n name) _ (λ is. λ _ _ _ _ _ _. (short, eqb-true kind 11 is))
+    (λ no_11. λ _ _ _ _ _ _. (short, scope_kind kind known no_3 no_5 no_11))))
 
 assignment_short : (b : ℕ) → Promises IsShort (Layouts.assignment b)
 assignment_short b =
@@ -171,7 +191,7 @@ noted_short : (b : ℕ) → Promises IsShort (Layouts.noted b)
 noted_short b =
     by_test IsShort (b == 0xC9) (Layouts.note r.PublicNote) _ (λ _ _ _ _ _ _ _ _ _. tt)
     (λ _. by_test IsShort (b == 0xD8) (Layouts.note r.ReferenceNote) _ (λ _ _ _ _ _ _ _ _ _. tt)
-    (λ _. by_test IsShort (b == 0xCE) Layouts.debug_note _ (λ _ _ _ _ _ _ _ _ _. tt) (λ _. tt)))
+    (λ _. by_test IsShort (b == 0xCE) Layouts.debug_note _ (λ _. λ (i : ℕ) _ (type_index : ℕ) _ (attribute : ℕ) known ns _. known) (λ _. tt)))
 
 coded_short : (b : ℕ) → (b == 0xE1) ≡ false → Promises IsShort (Layouts.coded b)
 coded_short b other =
@@ -186,7 +206,7 @@ coded_short b other =
     (λ _. by_test IsShort (b == 0xE9) (Layouts.index_and_string r.ReferenceName) _ (λ _ _ _ (name : Span) x. x)
     (λ _. by_test IsShort (b == 0xEC) Layouts.descriptor _ (λ _ _ _ _ _ _ _. tt)
     (λ _. by_test IsShort (b == 0xED) (Layouts.constant r.Constant) _ (λ _ (n : ℕ) small (span : Span) its. run_short n span small its)
-    (λ _. by_test IsShort (b == 0xF0) (Layouts.index_and_string r.DebugName) _ (λ _ _ _ _ _. tt)
+    (λ _. by_test IsShort (b == 0xF0) (Layouts.index_and_string r.DebugName) _ (λ _ _ _ (name : Span) x. x)
     (λ _. by_test IsShort (b == 0xF1) Layouts.any_note _ (λ _ (c : ℕ) _. noted_short c)
     (λ _. by_test IsShort (b == 0xF2) _ _ (λ _. tt)
     (λ _. by_test IsShort (b == 0xF4) Layouts.weak_reference _ (λ _ _ _ _ _ _ _. tt)
@@ -216,3 +236,14 @@ end_bytes row bytes next ends is = elim (end_or_short row bytes next is) [ inl e
 
 pub items_short : (row : Record) (bytes : List ℕ) (next : Option ℕ) → Layouts.IsWholeRecord mode.Items row bytes next → IsShort row
 items_short it bytes next is = promised IsShort Layouts.item it 0 bytes next is item_short
+
+kind_of_short : (row : Record) → IsShort row → HasKind row
+kind_of_short (r.BlockBegin kind n name block) short = short.1
+kind_of_short row short = tt
+
+-- the kind of a block that was read is one with what it adds
+pub body_kind : (row : Record) (bytes : List ℕ) (next : Option ℕ) → Layouts.IsWholeRecord mode.Body row bytes next → HasKind row
+body_kind row bytes next is = elim (end_or_short row bytes next is) [ inl end ↦ subst HasKind (sym end.0) tt | inr short ↦ kind_of_short row short ]
+
+pub items_kind : (row : Record) (bytes : List ℕ) (next : Option ℕ) → Layouts.IsWholeRecord mode.Items row bytes next → HasKind row
+items_kind row bytes next is = kind_of_short row (items_short row bytes next is)

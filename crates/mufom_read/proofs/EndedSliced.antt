@@ -1,12 +1,13 @@
 -- A sound prefix that has ended, as the parts of a file, with what its checks state of the records in them.
-use Rattle.std.proofs.Common.{◌≡◌, ◌⊎◌, ℕ, Bool, true, false, not, ◌==◌, ◌&&◌, List, [], ◌∷◌, ◌++◌, length, Option, None, is_none, refl, sym, ap, subst, ◌∙◌, inl, inr, append_assoc, eqb-true}
+use Rattle.std.proofs.Common.{◌≡◌, ◌⊎◌, ℕ, Bool, true, false, List, [], ◌∷◌, ◌++◌, length, Option, None, is_none, MatchBool, refl, sym, ap, subst, ◌∙◌, inl, inr, append_assoc, append-nil}
 use Rattle.std.specs.List.{list_all, AllByRecursion}
-use Rattle.std.proofs.lemmas.Bool.{both_ways, not-false, true≢false}
+use Rattle.std.proofs.lemmas.Bool.{both_ways}
 use Rattle.mufom_module.specs.SpelledRecords.{SpelledRecord, bytes_of}
 use Rattle.mufom_module.specs.RecordParts.{Part, section_part, external_part, debug_part, data_part, trailer_part, end_part, part_of, stands_in}
-use Rattle.mufom_module.specs.Grammar.{FileParts, header_of, parts_of, module_end, from_trailer, from_debug, from_externals, after_header, AreOfModes, header_modes, AreWhole, offsets_in, StandAt}
+use Rattle.mufom_module.specs.Grammar.{FileParts, header_of, parts_of, module_end, from_trailer, from_loads, from_debug, from_externals, after_header, AreOfModes, header_modes, AreWhole, offsets_in, StandAt}
 use Rattle.mufom_read.specs.Prefixes.{Step, raw, read, prefix_bytes, records_of, offset_records_of, OffsetRecord, offsets_of, is_raw}
-use Rattle.mufom_read.specs.Faults.{Fault, fault_if, is_bad_descriptor, first_fault, section_fault, lacks_base, external_fault, has_unknown_variable, lacks_value, whole_fault}
+use Rattle.mufom_read.specs.Faults.{Fault, fault_if, is_bad_descriptor, first_fault, section_fault, lacks_base, external_fault, has_unknown_variable, lacks_value, OpenBlock, open_blocks, open_fault, whole_fault}
+use Rattle.mufom_read.proofs.BlockKinds.{kinds_of, open_kinds, kinds-open}
 use Rattle.mufom_read.proofs.EndedWalk.{no_fault}
 use Rattle.mufom_read.proofs.EndedRows.{IsBegin, IsDescriptor}
 use Rattle.mufom_read.proofs.EndedHeader.{no_fault_if}
@@ -66,20 +67,39 @@ pub read_records : (reads_debug : Bool) (part : Part) (before : List SpelledReco
 read_records reads_debug part before own after is (inl its) = absurd (both_ways (is_raw reads_debug part) is its.0)
 read_records reads_debug part before own after is (inr its) = record { bytes = its.1; are_whole = its.2; keeps = its.3 }
 
--- a part that is left for later is empty
-left_out : (w n : ℕ) (own : List Step) → (true && not (w == 0)) ≡ false → ((w ≡ n) × (w ≡ 0 → ⊥)) ⊎ ((w ≡ 0) × (own ≡ [])) → own ≡ []
-left_out w n own h (inl there) = absurd (there.1 (eqb-true w 0 (not-false (w == 0) h)))
-left_out w n own h (inr none) = none.1
+-- the debug part: its records where it is read, and else the bytes that are passed over
+pub record DebugPart (reads_debug : Bool) (before : List SpelledRecord) (own : List Step) (after skipped : List ℕ) : Type 0 where
+  pub bytes : bytes_of (records_of own) ++ skipped ≡ prefix_bytes own
+  pub are_whole : AreWhole false (records_of own) after
+  pub keeps : KeptFrom debug_part before (records_of own)
+  pub read : MatchBool reads_debug (skipped ≡ []) (records_of own ≡ [])
 
--- the debug part is not read
-pub record NoDebug (reads_debug : Bool) (own : List Step) : Type 0 where
-  pub records : records_of own ≡ []
-  pub bytes : reads_debug ≡ true → prefix_bytes own ≡ []
+-- the bytes that are passed over
+abbrev pub skipped_of : Bool → List Step → List ℕ
+skipped_of true own = []
+skipped_of false own = prefix_bytes own
 
-pub no_debug : (reads_debug : Bool) (w n : ℕ) (own : List Step) (before : List SpelledRecord) (after : List ℕ) → (reads_debug && (true && not (w == 0))) ≡ false → ((w ≡ n) × (w ≡ 0 → ⊥)) ⊎ ((w ≡ 0) × (own ≡ []))
-    → IsOwn reads_debug debug_part false before own after → NoDebug reads_debug own
-no_debug false w n own before after h stands is = record { records = raw_records false debug_part before own after refl is; bytes = λ e. absurd (true≢false (sym e)) }
-no_debug true w n own before after h stands is = let none = left_out w n own h stands in record { records = ap records_of none; bytes = λ _. ap prefix_bytes none }
+pub debug_records : (reads_debug : Bool) (before : List SpelledRecord) (own : List Step) (after : List ℕ) → IsOwn reads_debug debug_part false before own after → DebugPart reads_debug before own after (skipped_of reads_debug own)
+debug_records true before own after is =
+    let its = read_records true debug_part before own after refl is in
+    record { bytes = append-nil (bytes_of (records_of own)) ∙ its.bytes; are_whole = its.are_whole; keeps = its.keeps; read = refl }
+debug_records false before own after is =
+    let none = raw_records false debug_part before own after refl is in
+    record {
+      bytes = ap (λ (l : List SpelledRecord). bytes_of l ++ prefix_bytes own) none;
+      are_whole = subst (λ (l : List SpelledRecord). AreWhole false l after) (sym none) tt;
+      keeps = subst (λ (l : List SpelledRecord). KeptFrom debug_part before l) (sym none) tt;
+      read = none;
+    }
+
+no_open : (blocks : List OpenBlock) → open_fault blocks ≡ None → blocks ≡ []
+no_open [] h = refl
+no_open (b ∷ blocks) h = absurd cc
+
+-- no block is open after it
+pub debug_closed : (before own : List Step) → open_kinds (records_of before) ≡ [] → (own ≡ []) ⊎ (whole_fault debug_part (before ++ own) ≡ None) → open_kinds (records_of (before ++ own)) ≡ []
+debug_closed before own none (inl empty) = ap (λ (l : List Step). open_kinds (records_of (before ++ l))) empty ∙ ap (λ (l : List Step). open_kinds (records_of l)) (append-nil before) ∙ none
+debug_closed before own none (inr h) = sym (kinds-open (before ++ own)) ∙ ap (λ (l : List OpenBlock). kinds_of l) (no_open (open_blocks (offset_records_of (before ++ own))) h)
 
 -- ---- the file
 
@@ -94,12 +114,14 @@ pub record Sliced (reads_debug : Bool) (prefix : List Step) : Type 0 where
   pub externals : AreWhole false f.externals (from_debug f)
   pub loads : AreWhole false f.loads (from_trailer f)
   pub trailer : AreWhole false f.trailer module_end
-  pub no_debug : f.debug ≡ []
-  pub skipped : reads_debug ≡ true → f.skipped ≡ []
+  pub debug : AreWhole false f.debug (from_loads f)
+  pub debug_read : MatchBool reads_debug (f.skipped ≡ []) (f.debug ≡ [])
   pub keep_sections : KeptFrom section_part (header_of f) f.sections
   pub keep_externals : KeptFrom external_part (header_of f ++ f.sections) f.externals
-  pub keep_loads : KeptFrom data_part ((header_of f ++ f.sections) ++ f.externals) f.loads
-  pub keep_trailer : KeptFrom trailer_part (((header_of f ++ f.sections) ++ f.externals) ++ f.loads) f.trailer
+  pub keep_debug : KeptFrom debug_part ((header_of f ++ f.sections) ++ f.externals) f.debug
+  pub keep_loads : KeptFrom data_part (((header_of f ++ f.sections) ++ f.externals) ++ f.debug) f.loads
+  pub keep_trailer : KeptFrom trailer_part ((((header_of f ++ f.sections) ++ f.externals) ++ f.debug) ++ f.loads) f.trailer
+  pub closed : open_kinds (((header_of f ++ f.sections) ++ f.externals) ++ f.debug) ≡ []
   pub based : AllByRecursion (λ p. lacks_base (header_of f ++ f.sections) p.row ≡ false) f.sections
   pub given : AllByRecursion (IsGiven ((header_of f ++ f.sections) ++ f.externals)) f.externals
   pub silent : list_all (λ p. is_none (part_of p.row)) (header_of f) ≡ true
@@ -107,7 +129,7 @@ pub record Sliced (reads_debug : Bool) (prefix : List Step) : Type 0 where
   pub describes : IsDescriptor f.descriptor.row
   pub no_bad : is_bad_descriptor f.descriptor.row ≡ false
   pub ends : stands_in end_part end.row ≡ true
-  pub records : records_of prefix ≡ ((((header_of f ++ f.sections) ++ f.externals) ++ f.loads) ++ f.trailer) ++ end ∷ []
+  pub records : records_of prefix ≡ (((((header_of f ++ f.sections) ++ f.externals) ++ f.debug) ++ f.loads) ++ f.trailer) ++ end ∷ []
   pub offsets : offsets_of prefix ≡ offsets_in f.offsets
 
 -- the place of a part, or none where it is empty

@@ -6,6 +6,9 @@ use Rattle.std.proofs.lemmas.List.{take_at, drop_at}
 use Rattle.mufom_numbers.specs.declared.taken.Span.{Span}
 use Rattle.mufom_expr.specs.Tree.{Tree}
 use Rattle.mufom_expr.specs.Spelled.{Indexes}
+use Rattle.mufom_debug.specs.Marks.{marks_of}
+use Rattle.mufom_debug.proofs.Rebuilt.{rebuilt}
+use Rattle.mufom_debug.proofs.Closed.{rebuilt-marks}
 use Rattle.mufom_records.specs.declared.record.Mode.TheVariants as mode
 use Rattle.mufom_records.specs.declared.record.Record.{Record}
 use Rattle.mufom_records.specs.declared.record.Record.TheVariants as r
@@ -15,18 +18,20 @@ use Rattle.mufom_module.specs.declared.module.Order.TheVariants.{Least, Most}
 use Rattle.mufom_module.specs.declared.module.Parts.{Parts}
 use Rattle.mufom_module.specs.Contents.{any_of}
 use Rattle.mufom_module.specs.Defects.{is_unit_count}
-use Rattle.mufom_module.specs.SpelledRecords.{SpelledRecord, bytes_of, text_in, declared, section, public, reference, debug_name, start_address, is_same_statement, assigned_by, is_assigned}
-use Rattle.mufom_module.specs.RecordParts.{section_part, external_part, data_part, trailer_part, stands_in}
+use Rattle.mufom_module.specs.SpelledRecords.{SpelledRecord, bytes_of, text_in, start_address, is_same_statement, assigned_by, is_assigned}
+use Rattle.mufom_module.specs.RecordParts.{section_part, external_part, debug_part, data_part, trailer_part, stands_in}
 use Rattle.mufom_module.specs.Gathered.{sections_of, publics_of, references_of, marks, loads_of, start_by, starts_of}
 use Rattle.mufom_module.specs.Grammar.{FileParts, header_of, parts_of, after_header, from_sections, indexes_of, offsets_in, StandAt, IsLetterOf, NamesModule, Describes, States}
 use Rattle.mufom_read.specs.Prefixes.{Step, prefix_bytes, records_of, first_present}
 use Rattle.mufom_read.specs.Faults.{is_bad_descriptor}
 use Rattle.mufom_read.specs.Stated.{indexes_in, bytes_between, IsStatedBy}
 use Rattle.mufom_read.proofs.EndedRows.{IsOrder}
-use Rattle.mufom_read.proofs.EndedParts.{KeptFrom}
+use Rattle.mufom_read.proofs.BlockKinds.{none_before}
+use Rattle.mufom_read.proofs.EndedParts.{KeptFrom, own_of}
 use Rattle.mufom_read.proofs.EndedSliced.{Sliced}
-use Rattle.mufom_read.proofs.EndedNames.{own_of, assigned-append}
-use Rattle.mufom_read.proofs.EndedGathered.{AreSorted, same_sections, same_indexes, same_publics, same_references, no_marks, same_loads, same_starts}
+use Rattle.mufom_read.proofs.EndedNames.{assigned-append}
+use Rattle.mufom_read.proofs.EndedBlocks.{debug_closes}
+use Rattle.mufom_read.proofs.EndedGathered.{AreSorted, same_sections, same_indexes, same_publics, same_references, same_marks, same_loads, same_starts}
 
 -- ---- the order of bytes
 
@@ -81,7 +86,7 @@ module_by f processor name maus letter = record {
   env = f.environment;
   sections = sections_of f.sections;
   names = record { publics = publics_of (indexes_of f) f.externals; references = references_of f.externals };
-  debug = [];
+  debug = rebuilt (marks (indexes_of f) f.debug) [] [];
   loads = loads_of (indexes_of f) maus f.loads;
   start = slice_get (starts_of (indexes_of f) f.trailer) 0;
 }
@@ -92,6 +97,11 @@ stated_by reads_debug prefix s = module_by s.f s.begins.0 s.begins.1 s.describes
 -- what a descriptor without a fault states
 pub units_of : (bits maus : ℕ) (letter : Option ℕ) → is_bad_descriptor (r.Descriptor bits maus letter) ≡ false → (bits ≡ 8) × (is_unit_count maus ≡ true)
 units_of bits maus letter h = let both = and_parts (bits == 8) (is_unit_count maus) (not-false ((bits == 8) && is_unit_count maus) h) in (eqb-true bits 8 both.0, both.1)
+
+-- its debug items have the marks of the records
+pub its_marks : (reads_debug : Bool) (prefix : List Step) (s : Sliced reads_debug prefix) → marks_of (stated_by reads_debug prefix s).debug ≡ marks (indexes_of s.f) s.f.debug
+its_marks reads_debug prefix s = rebuilt-marks (marks (indexes_of s.f) s.f.debug) [] [] (debug_closes (indexes_of s.f) debug_part ((header_of s.f ++ s.f.sections) ++ s.f.externals) s.f.debug
+    (none_before (header_of s.f) s.f.sections s.f.externals s.silent (own_of section_part _ s.f.sections s.keep_sections) (own_of external_part _ s.f.externals s.keep_externals)) s.keep_debug s.closed)
 
 named : (reads_debug : Bool) (prefix : List Step) (s : Sliced reads_debug prefix) → NamesModule (stated_by reads_debug prefix s) s.f.begin s.f.begin.row
 named reads_debug prefix s = subst (λ (row : Record). NamesModule (stated_by reads_debug prefix s) s.f.begin row) (sym s.begins.2) (refl, refl)
@@ -110,7 +120,7 @@ states reads_debug prefix s = record {
   sections = refl;
   publics = refl;
   references = refl;
-  debug = ap (λ (l : List SpelledRecord). marks (indexes_of s.f) l) (sym s.no_debug);
+  debug = its_marks reads_debug prefix s;
   loads = refl;
   start = one_start (indexes_of s.f) _ s.f.trailer s.keep_trailer;
 }
@@ -164,11 +174,12 @@ begun row bytes next is = let e = ap length is.5 ∙ length-append is.1 is.2 in 
 
 -- ---- the prefix states the module
 
-pub sorted : (reads_debug : Bool) (prefix : List Step) (s : Sliced reads_debug prefix) → AreSorted (header_of s.f) s.f.sections s.f.externals s.f.loads s.f.trailer s.end
+pub sorted : (reads_debug : Bool) (prefix : List Step) (s : Sliced reads_debug prefix) → AreSorted (header_of s.f) s.f.sections s.f.externals s.f.debug s.f.loads s.f.trailer s.end
 sorted reads_debug prefix s = record {
   header = s.silent;
   sections = own_of section_part _ s.f.sections s.keep_sections;
   externals = own_of external_part _ s.f.externals s.keep_externals;
+  debug = own_of debug_part _ s.f.debug s.keep_debug;
   loads = own_of data_part _ s.f.loads s.keep_loads;
   trailer = own_of trailer_part _ s.f.trailer s.keep_trailer;
   end_ = s.ends;
@@ -177,8 +188,7 @@ sorted reads_debug prefix s = record {
 -- the index lists of the file
 pub same_ix : (reads_debug : Bool) (prefix : List Step) (s : Sliced reads_debug prefix) → indexes_in (records_of prefix) ≡ indexes_of s.f
 same_ix reads_debug prefix s =
-    ap (λ l. indexes_in l) s.records ∙ same_indexes (header_of s.f) s.f.sections s.f.externals s.f.loads s.f.trailer s.end (sorted reads_debug prefix s)
-    ∙ (λ i. record { sections = declared section s.f.sections; publics = declared public s.f.externals; references = declared reference s.f.externals; debug_names = declared debug_name (sym s.no_debug i) })
+    ap (λ l. indexes_in l) s.records ∙ same_indexes (header_of s.f) s.f.sections s.f.externals s.f.debug s.f.loads s.f.trailer s.end (sorted reads_debug prefix s)
 
 pub is_stated : (reads_debug : Bool) (prefix : List Step) (s : Sliced reads_debug prefix) → IsStatedBy prefix (stated_by reads_debug prefix s)
 is_stated reads_debug prefix s =
@@ -190,16 +200,16 @@ is_stated reads_debug prefix s =
     record {
       begin = f.begin;
       descriptor = f.descriptor;
-      after = ((((f.offsets ++ f.sections) ++ f.externals) ++ f.loads) ++ f.trailer) ++ s.end ∷ [];
+      after = (((((f.offsets ++ f.sections) ++ f.externals) ++ f.debug) ++ f.loads) ++ f.trailer) ++ s.end ∷ [];
       records = s.records;
       begins = named reads_debug prefix s;
       describes = described reads_debug prefix s;
       extension = extension_between f (offsets_in f.offsets) (prefix_bytes prefix) s.bytes some s.stand ∙ ap (λ ws. bytes_between ws (prefix_bytes prefix)) (sym s.offsets);
       environment = environment_between f (offsets_in f.offsets) (prefix_bytes prefix) s.bytes some s.stand ∙ ap (λ ws. bytes_between (drop 1 ws) (prefix_bytes prefix)) (sym s.offsets);
-      sections = sym (ap (λ l. sections_of l) s.records ∙ same_sections h f.sections f.externals f.loads f.trailer s.end are);
-      publics = sym ((λ i. publics_of (ix i) (s.records i)) ∙ same_publics (indexes_of f) h f.sections f.externals f.loads f.trailer s.end are);
-      references = sym (ap (λ l. references_of l) s.records ∙ same_references h f.sections f.externals f.loads f.trailer s.end are);
-      debug = sym (ap (λ l. marks (indexes_in (records_of prefix)) l) s.records ∙ no_marks (indexes_in (records_of prefix)) h f.sections f.externals f.loads f.trailer s.end are);
-      loads = sym ((λ i. loads_of (ix i) s.describes.1 (s.records i)) ∙ same_loads (indexes_of f) s.describes.1 h f.sections f.externals f.loads f.trailer s.end are);
-      start = one_start (indexes_of f) _ f.trailer s.keep_trailer ∙ sym ((λ i. starts_of (ix i) (s.records i)) ∙ same_starts (indexes_of f) h f.sections f.externals f.loads f.trailer s.end are);
+      sections = sym (ap (λ l. sections_of l) s.records ∙ same_sections h f.sections f.externals f.debug f.loads f.trailer s.end are);
+      publics = sym ((λ i. publics_of (ix i) (s.records i)) ∙ same_publics (indexes_of f) h f.sections f.externals f.debug f.loads f.trailer s.end are);
+      references = sym (ap (λ l. references_of l) s.records ∙ same_references h f.sections f.externals f.debug f.loads f.trailer s.end are);
+      debug = its_marks reads_debug prefix s ∙ sym ((λ i. marks (ix i) (s.records i)) ∙ same_marks (indexes_of f) h f.sections f.externals f.debug f.loads f.trailer s.end are);
+      loads = sym ((λ i. loads_of (ix i) s.describes.1 (s.records i)) ∙ same_loads (indexes_of f) s.describes.1 h f.sections f.externals f.debug f.loads f.trailer s.end are);
+      start = one_start (indexes_of f) _ f.trailer s.keep_trailer ∙ sym ((λ i. starts_of (ix i) (s.records i)) ∙ same_starts (indexes_of f) h f.sections f.externals f.debug f.loads f.trailer s.end are);
     }

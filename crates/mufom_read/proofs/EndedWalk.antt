@@ -120,7 +120,7 @@ no_fault (Some fault) b h = absurd cc
 -- has not ended before it.
 abbrev pub IsWalk : Bool → List Step → List Step → Type 0
 IsWalk reads_debug before [] = Unit {0}
-IsWalk reads_debug before (step ∷ steps) = (is_ended before ≡ false) × (ended_part_fault before ≡ None) × (step_fault reads_debug before (taken step (length (step_bytes step))) ≡ None)
+IsWalk reads_debug before (step ∷ steps) = (is_ended before ≡ false) × (ended_part_fault before ≡ None) × (step_fault before (taken step (length (step_bytes step))) ≡ None)
     × IsNextAt reads_debug before (location_after before) (prefix_bytes (step ∷ steps)) step (length (step_bytes step)) × IsWalk reads_debug (before ++ step ∷ []) steps
 
 AreBytes-drop : (n : ℕ) (bytes : List ℕ) → AreBytes bytes → AreBytes (drop n bytes)
@@ -144,10 +144,10 @@ walk_of reads_debug before (step ∷ steps) fits sound =
     let n = length (step_bytes step) in
     let rest = prefix_bytes (step ∷ steps) in
     let back : drop n rest ≡ prefix_bytes steps = drop_at (step_bytes step) (prefix_bytes steps) n refl in
-    let faults = no_fault (ended_part_fault before) (step_fault reads_debug before (next_step reads_debug before rest)) sound.1 in (
+    let faults = no_fault (ended_part_fault before) (step_fault before (next_step reads_debug before rest)) sound.1 in (
       sound.0,
       faults.0,
-      subst (λ (t : Taken Step). step_fault reads_debug before t ≡ None) sound.2 faults.1,
+      subst (λ (t : Taken Step). step_fault before t ≡ None) sound.2 faults.1,
       next_at reads_debug before (location_after before) rest step n fits sound.2,
       walk_of reads_debug (before ++ step ∷ []) steps (subst (λ (l : List ℕ). AreBytes l) back (AreBytes-drop n rest fits))
           (subst (λ (l : List ℕ). IsSoundFrom reads_debug (before ++ step ∷ []) steps l) back sound.3),

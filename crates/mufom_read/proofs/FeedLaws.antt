@@ -18,7 +18,7 @@ abbrev pub the_refusal : ℕ → Reason → ReadRefusal
 the_refusal offset reason = record { place = offset; reason = reason }
 
 -- a reader that goes on, and that has no byte and no record, has read nothing
-pub none-read : (r : State) → IsPrefixOf r.reads_debug r.prefix [] → r.rest.items ≡ [] → r.stop ≡ None → HasRead r []
+pub none-read : (r : State) → IsPrefixOf r.prefix [] → r.rest.items ≡ [] → r.stop ≡ None → HasRead r []
 none-read r prefix none going = (
   tt,
   subst (λ (s : Option ReadStop). Knows r [] s) (sym going) (record {

@@ -5,7 +5,6 @@ use Rattle.mufom_numbers.specs.declared.reason.Reason.{Reason}
 use Rattle.mufom_numbers.specs.declared.reason.Reason.TheVariants as why
 use Rattle.mufom_numbers.specs.Spelling.{AreBytes}
 use Rattle.mufom_module.specs.declared.module.Parts.{Parts}
-use Rattle.mufom_module.specs.Grammar.{SpellsModule}
 use Rattle.mufom_read.specs.declared.state.State.{State}
 use Rattle.mufom_read.specs.declared.refusal.ReadRefusal.{ReadRefusal}
 use Rattle.mufom_read.specs.declared.refusal.ReadStop.{ReadStop}
@@ -88,14 +87,11 @@ finish-whole {M} r stream is m offset reason ended = (λ e. absurd (ok_err e), b
   back (inl refused) = absurd (reading-not-refused r stream offset reason is refused)
   back (inr cut) = let truncated = cut.2 in absurd (ended_not_waiting r.reads_debug stream truncated.1 (size_of is.prefix) ends truncated.2)
 
-pub finish-module : (r : State) (stream : List ℕ) (m : Parts) → IsReading r stream → SpellsModule m stream r.reads_debug → IsModule r.reads_debug stream m
-finish-module r stream m is spells = (spells, λ offset refused. reading-not-refused r stream offset why.NotBuilt is refused)
-
 -- a stream that is a module's is answered as that module, unless memory ran out
 pub finish-file : (reads_debug : Bool) (stream : List ℕ) (m : Parts) (result : Result Parts ReadStop) → AreBytes stream → IfOk result (λ n. IsModule reads_debug stream n)
     → ((offset : ℕ) (reason : Reason) → result ≡ Err (stop.Refused (the_refusal offset reason)) → IsJudged reads_debug stream (refusal offset reason)) → IsModule reads_debug stream m → result ≢ Err stop.NoMemory
     → result ≡ Ok m
-finish-file reads_debug stream m (Ok n) bytes ok refused is memory = ap (λ x. Ok x) (one_module n m stream reads_debug ok.0 is.0)
+finish-file reads_debug stream m (Ok n) bytes ok refused is memory = ap (λ x. Ok x) (one_module n m stream reads_debug ok is)
 finish-file reads_debug stream m (Err (stop.Refused f)) bytes ok refused is memory = absurd (excluded (refused f.place f.reason refl)) where
   excluded : IsJudged reads_debug stream (refusal f.place f.reason) → ⊥
   excluded (inl here) = (judgments_exclude_each_other reads_debug stream bytes).not_module m f.place f.reason is here

@@ -1,5 +1,5 @@
 -- What was done with a record is what was done with what stands after a prefix.
-use Rattle.std.proofs.Common.{◌≡◌, ℕ, ◌<◌, ◌≤◌, Bool, List, length, take, sym, ap, subst, ◌∙◌, arith, length-take}
+use Rattle.std.proofs.Common.{◌≡◌, ℕ, ◌<◌, ◌≤◌, List, length, take, sym, ap, subst, ◌∙◌, arith, length-take}
 use Rattle.mufom_numbers.specs.declared.taken.Taken.{Taken}
 use Rattle.mufom_numbers.specs.declared.taken.Taken.TheVariants.{Got}
 use Rattle.mufom_records.specs.declared.record.Record.{Record}
@@ -18,18 +18,18 @@ the_record row bytes = record { row = row; bytes = bytes }
 pub taken_length : (n : ℕ) (rest : List ℕ) → n ≤ length rest → length (take n rest) ≡ n
 taken_length n rest within = length-take n rest ∙ omega (arith, within)
 
-judged : (reads_debug : Bool) (prefix : List Step) (rest : List ℕ) (row : Record) (n start : ℕ) (new : Prefix) (done : Next) → n ≤ length rest → 0 < n → start ≡ size_of prefix
-    → HasTaken reads_debug prefix (record_of_kept (kept_record start row (take n rest))) new done → HasJudged reads_debug prefix (as_step (size_of prefix) rest (Got row n)) rest new done
-judged reads_debug prefix rest row n start new (next.Took m) within some at (count, clean, is) =
+judged : (prefix : List Step) (rest : List ℕ) (row : Record) (n start : ℕ) (new : Prefix) (done : Next) → n ≤ length rest → 0 < n → start ≡ size_of prefix
+    → HasTaken prefix (record_of_kept (kept_record start row (take n rest))) new done → HasJudged prefix (as_step (size_of prefix) rest (Got row n)) rest new done
+judged prefix rest row n start new (next.Took m) within some at (count, clean, is) =
     let same : m ≡ n = count ∙ taken_length n rest within in
     let step : Step = read (size_of prefix) (record { row = row; bytes = take n rest }) in
     (step, ap (λ k. Got step k) (sym same), taken_length n rest within ∙ sym same, clean, subst (λ k. 0 < k) (sym same) some, subst (λ k. k ≤ length rest) (sym same) within, is)
-judged reads_debug prefix rest row n start new next.More within some at taken = absurd taken
-judged reads_debug prefix rest row n start new (next.Refused f) within some at fault = fault
+judged prefix rest row n start new next.More within some at taken = absurd taken
+judged prefix rest row n start new (next.Refused f) within some at fault = fault
 
 -- a record that was got
-pub taken-judged : (reads_debug : Bool) (prefix : List Step) (rest : List ℕ) (answer : Taken Record) (row : Record) (n start : ℕ) (kept : KeptRecord) (new : Prefix) (done : Next) → answer ≡ Got row n → n ≤ length rest → 0 < n
-    → start ≡ size_of prefix → kept ≡ kept_record start row (take n rest) → HasTaken reads_debug prefix (record_of_kept kept) new done → HasJudged reads_debug prefix (as_step (size_of prefix) rest answer) rest new done
-taken-judged reads_debug prefix rest answer row n start kept new done got within some at same taken =
-    subst (λ a. HasJudged reads_debug prefix (as_step (size_of prefix) rest a) rest new done) (sym got)
-    (judged reads_debug prefix rest row n start new done within some at (subst (λ k. HasTaken reads_debug prefix (record_of_kept k) new done) same taken))
+pub taken-judged : (prefix : List Step) (rest : List ℕ) (answer : Taken Record) (row : Record) (n start : ℕ) (kept : KeptRecord) (new : Prefix) (done : Next) → answer ≡ Got row n → n ≤ length rest → 0 < n
+    → start ≡ size_of prefix → kept ≡ kept_record start row (take n rest) → HasTaken prefix (record_of_kept kept) new done → HasJudged prefix (as_step (size_of prefix) rest answer) rest new done
+taken-judged prefix rest answer row n start kept new done got within some at same taken =
+    subst (λ a. HasJudged prefix (as_step (size_of prefix) rest a) rest new done) (sym got)
+    (judged prefix rest row n start new done within some at (subst (λ k. HasTaken prefix (record_of_kept k) new done) same taken))

@@ -6,7 +6,7 @@ use Rattle.std.proofs.lemmas.List.Elements.{filter-append}
 use Rattle.mufom_records.specs.declared.record.Record.{Record}
 use Rattle.mufom_records.specs.declared.record.Record.TheVariants as r
 use Rattle.mufom_module.specs.SpelledRecords.{SpelledRecord, Once, assigned_by}
-use Rattle.mufom_module.specs.RecordParts.{Part, number_of, external_part, data_part, part_of, stands_in}
+use Rattle.mufom_module.specs.RecordParts.{Part, number_of, external_part, debug_part, data_part, part_of, stands_in}
 use Rattle.mufom_read.specs.declared.kept.KeptRecord.{KeptRecord}
 use Rattle.mufom_read.specs.declared.prefix.Prefix.{Prefix}
 use Rattle.mufom_read.specs.Prefixes.{Step, records_of, OffsetRecord, offset_records_of}
@@ -31,8 +31,8 @@ kept_map (p ∷ all) = by_case (is_kept p.1.row) (kept_map all) where
   by_case true rest = ap (λ ps. p.1 ∷ ps) rest
   by_case false rest = rest
 
-pub kept-records : (reads_debug : Bool) (f : Prefix) (prefix : List Step) → IsPrefixOf reads_debug f prefix → map record_of_kept f.kept ≡ kept_records (records_of prefix)
-kept-records reads_debug f prefix is =
+pub kept-records : (f : Prefix) (prefix : List Step) → IsPrefixOf f prefix → map record_of_kept f.kept ≡ kept_records (records_of prefix)
+kept-records f prefix is =
     sym (same_records f.kept) ∙ ap (map (λ (p : OffsetRecord). p.1)) is.kept ∙ kept_map (offset_records_of prefix) ∙ ap kept_records (sym (records-placed prefix))
 
 -- ---- of all records of a file
@@ -41,19 +41,22 @@ kept-records reads_debug f prefix is =
 abbrev pub AreKept : List SpelledRecord → Type 0
 AreKept records = AllByRecursion (λ p. is_kept p.row ≡ true) records
 
--- records of a part that is neither of both are kept
-pub others-kept : (part : Part) → (number_of external_part == number_of part) ≡ false → (number_of data_part == number_of part) ≡ false → (records : List SpelledRecord) → list_all (λ p. stands_in part p.row) records ≡ true → AreKept records
-others-kept part external data_ [] h = tt
-others-kept part external data_ (p ∷ records) h =
-    let both = and_parts (stands_in part p.row) _ h in
-    ((λ k. not (other_part external_part part (part_of p.row) external both.0 k) && not (other_part data_part part (part_of p.row) data_ both.0 k)), others-kept part external data_ records both.1)
+-- records of a part that is none of the three are kept
+pub others-kept : (part : Part) → (number_of external_part == number_of part) ≡ false → (number_of debug_part == number_of part) ≡ false → (number_of data_part == number_of part) ≡ false
+    → (records : List SpelledRecord) → list_all (λ p. stands_in part p.row) records ≡ true → AreKept records
+others-kept part external debug data_ [] h = tt
+others-kept part external debug data_ (p ∷ records) h =
+    let both = and_parts (stands_in part p.row) _ h in (
+      (λ k. not (other_part external_part part (part_of p.row) external both.0 k) && (not (other_part debug_part part (part_of p.row) debug both.0 k) && not (other_part data_part part (part_of p.row) data_ both.0 k))),
+      others-kept part external debug data_ records both.1,
+    )
 
 -- and those of the header
 pub silent-kept : (records : List SpelledRecord) → IsSilent records → AreKept records
 silent-kept [] h = tt
 silent-kept (p ∷ records) h =
     let both = and_parts (is_none (part_of p.row)) _ h in
-    ((λ k. not (unplaced external_part (part_of p.row) both.0 k) && not (unplaced data_part (part_of p.row) both.0 k)), silent-kept records both.1)
+    ((λ k. not (unplaced external_part (part_of p.row) both.0 k) && (not (unplaced debug_part (part_of p.row) both.0 k) && not (unplaced data_part (part_of p.row) both.0 k))), silent-kept records both.1)
 
 all_kept : (ps : List SpelledRecord) → AreKept ps → kept_records ps ≡ ps
 all_kept [] all = refl
@@ -61,21 +64,32 @@ all_kept (p ∷ ps) all = (λ k. cond (all.0 k) (p ∷ all_kept ps all.1 k) (all
 
 no_externals : (ps : List SpelledRecord) → list_all (λ p. stands_in external_part p.row) ps ≡ true → kept_records ps ≡ []
 no_externals [] own = refl
-no_externals (p ∷ ps) own = let both = and_parts (stands_in external_part p.row) _ own in (λ k. cond (not (both.0 k) && not (stands_in data_part p.row)) (p ∷ no_externals ps both.1 k) (no_externals ps both.1 k))
+no_externals (p ∷ ps) own = let both = and_parts (stands_in external_part p.row) _ own in (λ k. cond (not (both.0 k) && (not (stands_in debug_part p.row) && not (stands_in data_part p.row))) (p ∷ no_externals ps both.1 k) (no_externals ps both.1 k))
+
+no_debug : (ps : List SpelledRecord) → list_all (λ p. stands_in debug_part p.row) ps ≡ true → kept_records ps ≡ []
+no_debug [] own = refl
+no_debug (p ∷ ps) own =
+    let both = and_parts (stands_in debug_part p.row) _ own in
+    (λ k. cond (not_kept (stands_in external_part p.row) (stands_in debug_part p.row) (stands_in data_part p.row) both.0 k) (p ∷ no_debug ps both.1 k) (no_debug ps both.1 k))
+  where
+    not_kept : (a b c : Bool) → b ≡ true → (not a && (not b && not c)) ≡ false
+    not_kept true b c e = refl
+    not_kept false b c e = ap (λ x. not x && not c) e
 
 no_loads : (ps : List SpelledRecord) → list_all (λ p. stands_in data_part p.row) ps ≡ true → kept_records ps ≡ []
 no_loads [] own = refl
 no_loads (p ∷ ps) own =
     let both = and_parts (stands_in data_part p.row) _ own in
-    (λ k. cond (not_kept (stands_in external_part p.row) (stands_in data_part p.row) both.0 k) (p ∷ no_loads ps both.1 k) (no_loads ps both.1 k))
+    (λ k. cond (not_kept (stands_in external_part p.row) (stands_in debug_part p.row) (stands_in data_part p.row) both.0 k) (p ∷ no_loads ps both.1 k) (no_loads ps both.1 k))
   where
-    not_kept : (a b : Bool) → b ≡ true → (not a && not b) ≡ false
-    not_kept true b e = refl
-    not_kept false b e = ap not e
+    not_kept : (a b c : Bool) → c ≡ true → (not a && (not b && not c)) ≡ false
+    not_kept true b c e = refl
+    not_kept false true c e = refl
+    not_kept false false c e = ap not e
 
-pub kept-file : (h s e l t : List SpelledRecord) (end : SpelledRecord) → AreKept h → AreKept s → list_all (λ p. stands_in external_part p.row) e ≡ true → list_all (λ p. stands_in data_part p.row) l ≡ true → AreKept t → is_kept end.row ≡ true
-    → kept_records (all_records h s e l t end) ≡ all_records h s [] [] t end
-kept-file h s e l t end a b c d f g = split ((((h ++ s) ++ e) ++ l) ++ t) (end ∷ []) ∙ (λ k. to_trailer k ++ all_kept (end ∷ []) (g, tt) k) where
+pub kept-file : (h s e d l t : List SpelledRecord) (end : SpelledRecord) → AreKept h → AreKept s → list_all (λ p. stands_in external_part p.row) e ≡ true → list_all (λ p. stands_in debug_part p.row) d ≡ true
+    → list_all (λ p. stands_in data_part p.row) l ≡ true → AreKept t → is_kept end.row ≡ true → kept_records (all_records h s e d l t end) ≡ all_records h s [] [] [] t end
+kept-file h s e d l t end a b c n m f g = split (((((h ++ s) ++ e) ++ d) ++ l) ++ t) (end ∷ []) ∙ (λ k. to_trailer k ++ all_kept (end ∷ []) (g, tt) k) where
   split : (xs ys : List SpelledRecord) → kept_records (xs ++ ys) ≡ kept_records xs ++ kept_records ys
   split xs ys = filter-append (λ (p : SpelledRecord). is_kept p.row) xs ys
 
@@ -85,11 +99,14 @@ kept-file h s e l t end a b c d f g = split ((((h ++ s) ++ e) ++ l) ++ t) (end �
   to_externals : kept_records ((h ++ s) ++ e) ≡ (h ++ s) ++ []
   to_externals = split (h ++ s) e ∙ (λ k. to_sections k ++ no_externals e c k)
 
-  to_loads : kept_records (((h ++ s) ++ e) ++ l) ≡ ((h ++ s) ++ []) ++ []
-  to_loads = split ((h ++ s) ++ e) l ∙ (λ k. to_externals k ++ no_loads l d k)
+  to_debug : kept_records (((h ++ s) ++ e) ++ d) ≡ ((h ++ s) ++ []) ++ []
+  to_debug = split ((h ++ s) ++ e) d ∙ (λ k. to_externals k ++ no_debug d n k)
 
-  to_trailer : kept_records ((((h ++ s) ++ e) ++ l) ++ t) ≡ (((h ++ s) ++ []) ++ []) ++ t
-  to_trailer = split (((h ++ s) ++ e) ++ l) t ∙ (λ k. to_loads k ++ all_kept t f k)
+  to_loads : kept_records ((((h ++ s) ++ e) ++ d) ++ l) ≡ (((h ++ s) ++ []) ++ []) ++ []
+  to_loads = split (((h ++ s) ++ e) ++ d) l ∙ (λ k. to_debug k ++ no_loads l m k)
+
+  to_trailer : kept_records (((((h ++ s) ++ e) ++ d) ++ l) ++ t) ≡ ((((h ++ s) ++ []) ++ []) ++ []) ++ t
+  to_trailer = split ((((h ++ s) ++ e) ++ d) ++ l) t ∙ (λ k. to_loads k ++ all_kept t f k)
 
 -- ---- what they state of sections
 

@@ -24,12 +24,15 @@ pub mod FaultLaws
 pub mod PartBytes
 pub mod RawLaws
 pub mod TakeLaws
+pub mod BlockKinds
 pub mod EndedWalk
 pub mod EndedRows
 pub mod SpelledBegin
 pub mod EndedHeader
 pub mod EndedParts
 pub mod EndedChunks
+pub mod Nesting
+pub mod EndedBlocks
 pub mod EndedSliced
 pub mod EndedSlicing
 pub mod EndedNames
@@ -39,10 +42,12 @@ pub mod EndedTrees
 pub mod EndedGood
 pub mod EndedEntries
 pub mod EndedLoads
+pub mod EndedDebug
 pub mod LoadLaws
 pub mod Stable
 pub mod LoadsFold
 pub mod LoadsWhole
+pub mod DebugSteps
 pub mod KeptRecords
 pub mod SpelledWalk
 pub mod SpelledHeader
@@ -51,6 +56,7 @@ pub mod SpelledPlain
 pub mod SpelledEntries
 pub mod SpelledLoads
 pub mod SpelledKept
+pub mod SpelledBlocks
 pub mod SpelledOffsets
 pub mod SpelledFile
 pub mod SpelledPrefix
@@ -65,6 +71,7 @@ pub mod WeighEntries
 pub mod WeighNames
 pub mod WeighLoads
 pub mod WeighFiles
+pub mod DebugKept
 pub mod BuildLaws
 pub mod SpelledJudged
 mod Worked

@@ -1,5 +1,5 @@
 -- The loads so far, record by record.
-use Rattle.std.proofs.Common.{◌≡◌, ℕ, suc, ◌+◌, ◌<◌, true, false, true≢false, List, [], ◌∷◌, ◌++◌, length, map, drop, get_or, refl, sym, ap, ◌∙◌, arith, append-nil, append_assoc, Result, Ok, Err, OnOk, Option, Some, option_map}
+use Rattle.std.proofs.Common.{◌≡◌, ℕ, suc, ◌+◌, ◌<◌, true, true≢false, List, [], ◌∷◌, ◌++◌, length, map, drop, get_or, refl, sym, ap, ◌∙◌, arith, append-nil, append_assoc, Result, Ok, Err, OnOk, Option, Some, option_map}
 use Rattle.std.proofs.Math.Seq.{drop-cons}
 use Rattle.std.specs.Prelude.{unwrap_or}
 use Rattle.mufom_numbers.specs.declared.taken.Span.{Span}
@@ -9,7 +9,8 @@ use Rattle.mufom_expr.specs.Spelled.{Indexes}
 use Rattle.mufom_records.specs.declared.record.Record.{Record}
 use Rattle.mufom_records.specs.declared.record.Record.TheVariants as r
 use Rattle.mufom_loads.specs.declared.load.Item.TheVariants.{Field}
-use Rattle.mufom_module.specs.SpelledRecords.{SpelledRecord, is_public_value, expression_of, tree_in, tree_of_record, positioned}
+use Rattle.mufom_module.specs.SpelledRecords.{SpelledRecord, expression_of, tree_in, tree_of_record, positioned}
+use Rattle.mufom_module.specs.RecordParts.{data_part, stands_in}
 use Rattle.mufom_module.specs.Gathered.{item_by}
 use Rattle.mufom_read.specs.declared.kept.KeptRecord.{KeptRecord}
 use Rattle.mufom_read.specs.declared.loads.Loads.{Loads}
@@ -70,10 +71,11 @@ module _ (ix : Indexes) (p : SpelledRecord) where
       let same : v ≡ positioned ix (tree_in p span) = ap (λ (o : Option Tree). unwrap_or o v) (value ∙ field-valued kind span size is) in
       ap (item_by ix maus p) is ∙ (λ k. Some (Field kind (sym same k) (sym count k)))
 
--- an item is no value of a public
-pub item-plain : (row : Record) → is_item row ≡ true → is_public_value row ≡ false
-item-plain (r.PublicValue i value) h = absurd (true≢false (sym h))
-item-plain row h = refl
+-- an item is a record of the data part
+pub item-own : (row : Record) → is_item row ≡ true → stands_in data_part row ≡ true
+item-own (r.ConstantItem run) h = refl
+item-own (r.FieldItem kind value size) h = refl
+item-own row h = absurd (true≢false (sym h))
 
 pub stepped : {A E : Type 0} (r : Result A E) (a b c : Loads) → b ≡ c → OnOk r (a ≡ b) → OnOk r (a ≡ c)
 stepped (Ok x) a b c e h = h ∙ e

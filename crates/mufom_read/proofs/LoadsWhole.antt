@@ -100,7 +100,7 @@ from_append before s (p ∷ a) b =
 
 -- ---- indexes that are declared before
 
-kind_stays : (kind : Kind) (before more : List SpelledRecord) (i : ℕ) → is_declared before (kind, i) ≡ true → position_in (declared kind before) i ≡ position_in (declared kind (before ++ more)) i
+pub kind_stays : (kind : Kind) (before more : List SpelledRecord) (i : ℕ) → is_declared before (kind, i) ≡ true → position_in (declared kind before) i ≡ position_in (declared kind (before ++ more)) i
 kind_stays kind before more i h =
     sym (ap (λ (l : List ℕ). position_in l i) (filter_map-append (λ (q : SpelledRecord). of_kind kind (declared_by q.row)) before more) ∙ position-stays (declared kind before) (declared kind more) i h)
 
@@ -121,7 +121,7 @@ variables_stay before more (v ∷ vs) h =
     let both = and_parts (is_declared before (index_of_variable v)) _ h in
     (variable_stays before more v.0 v.1 both.0, variables_stay before more vs both.1)
 
-tree_stays : (before more : List SpelledRecord) (tree : Tree) → IsKnown before tree → positioned (indexes_by (tables_of before)) tree ≡ positioned (indexes_in (before ++ more)) tree
+pub tree_stays : (before more : List SpelledRecord) (tree : Tree) → IsKnown before tree → positioned (indexes_by (tables_of before)) tree ≡ positioned (indexes_in (before ++ more)) tree
 tree_stays before more tree known =
     with_variables-agrees_on (positioned_variable (indexes_by (tables_of before))) (positioned_variable (indexes_in (before ++ more))) tree (variables_stay before more (variables_of tree) known)
 

@@ -19,7 +19,7 @@ use Rattle.mufom_read.specs.declared.part.Part as codes
 use Rattle.mufom_read.specs.declared.part.Part.TheVariants as part_of_code
 use Rattle.mufom_read.specs.declared.part.Extent as extents
 use Rattle.mufom_read.specs.Prefixes.{Step, raw, read, step_bytes, prefix_bytes, size_of, record_of, records_of, offsets_of, Extent, first_present, part_among, parts_in_order, part_at, location_after}
-use Rattle.mufom_read.specs.Faults.{fault_if, header_fault, record_fault, part_record_fault, is_out_of_order, is_left_for_later, leaves_gap}
+use Rattle.mufom_read.specs.Faults.{fault_if, header_fault, record_fault, part_record_fault, is_out_of_order, leaves_gap}
 use Rattle.mufom_read.specs.Stated.{bytes_between, part_bytes}
 use Rattle.mufom_read.specs.PartsOfCode.{as_part, as_extent}
 use Rattle.mufom_read.specs.PrefixOfCode.{AreOrdered, IsPlacedWell, as_location, offset_count, bytes_so_far, extension_in, environment_in}
@@ -288,13 +288,12 @@ none_of None b e = (refl, e)
 none_of (Some x) b e = absurd (nothing e)
 
 -- an offset without a fault leaves no gap
-closed : (reads_debug : Bool) (earlier : List ℕ) (start end : ℕ) (row : Record) (w : ℕ) → header_fault reads_debug earlier start end row ≡ None → offset_in row ≡ Some w → leaves_gap (earlier ++ w ∷ []) end ≡ false
-closed reads_debug earlier start end (r.Offset n v) w clean same =
+closed : (earlier : List ℕ) (start end : ℕ) (row : Record) (w : ℕ) → header_fault earlier start end row ≡ None → offset_in row ≡ Some w → leaves_gap (earlier ++ w ∷ []) end ≡ false
+closed earlier start end (r.Offset n v) w clean same =
     let after = none_of (fault_if (is_out_of_order earlier v) start why.OffsetOrder) _ clean in
-    let last = none_of (fault_if (is_left_for_later reads_debug earlier v) start why.NotBuilt) _ after.1 in
     let value : v ≡ w = cc in
-    subst (λ (x : ℕ). leaves_gap (earlier ++ x ∷ []) end ≡ false) value (no_fault (leaves_gap (earlier ++ v ∷ []) end) end why.PartGap last.1)
-closed reads_debug earlier start end row w clean same = absurd cc
+    subst (λ (x : ℕ). leaves_gap (earlier ++ x ∷ []) end ≡ false) value (no_fault (leaves_gap (earlier ++ v ∷ []) end) end why.PartGap after.1)
+closed earlier start end row w clean same = absurd cc
 
 -- so the eighth leaves the first part to begin after the header
 begins_there : (os : List ℕ) (end : ℕ) → length os ≡ 8 → leaves_gap os end ≡ false → first_present os ≡ end
@@ -322,9 +321,9 @@ counted : (os : List ℕ) (o : Option ℕ) (n : ℕ) → n < 10 → length os �
 counted os None n few count has = let first : n < 2 = leb-false 2 n (sym has) in ap length (append-nil os) ∙ omega (arith, first, count)
 counted os (Some w) n few count has = let later : 2 ≤ n = leb-true 2 n (sym has) in omega (arith, few, later, count, length-append os (w ∷ []))
 
-in-header : (reads_debug : Bool) (prefix : List Step) (p : SpelledRecord) → length prefix < 10 → length (offsets_of prefix) ≡ offset_count (length prefix) → is_some (offset_in p.row) ≡ nat_le 2 (length prefix)
-    → AreOrdered (offsets_of prefix ++ cons_option (offset_in p.row) []) → header_fault reads_debug (offsets_of prefix) (size_of prefix) (size_of prefix + length p.bytes) p.row ≡ None → KeepsBytes prefix p
-in-header reads_debug prefix p few count has order clean = by_case (cases_lt (length prefix) 9) where
+in-header : (prefix : List Step) (p : SpelledRecord) → length prefix < 10 → length (offsets_of prefix) ≡ offset_count (length prefix) → is_some (offset_in p.row) ≡ nat_le 2 (length prefix)
+    → AreOrdered (offsets_of prefix ++ cons_option (offset_in p.row) []) → header_fault (offsets_of prefix) (size_of prefix) (size_of prefix + length p.bytes) p.row ≡ None → KeepsBytes prefix p
+in-header prefix p few count has order clean = by_case (cases_lt (length prefix) 9) where
   next : List Step
   next = prefix ++ read (size_of prefix) p ∷ []
 
@@ -339,7 +338,7 @@ in-header reads_debug prefix p few count has order clean = by_case (cases_lt (le
 
   the_first : (o : Option ℕ) → offset_in p.row ≡ o → is_some o ≡ nat_le 2 (length prefix) → 9 ≤ length prefix → length (offsets_of prefix ++ cons_option o []) ≡ offset_count (length prefix + 1) → first_present (offsets_of prefix ++ cons_option o []) ≡ size_of prefix + length p.bytes
   the_first None same some last long = absurd (true≢false (sym (le-leb 2 (length prefix) (omega (arith, last))) ∙ sym some))
-  the_first (Some w) same some last long = begins_there (offsets_of prefix ++ w ∷ []) (size_of prefix + length p.bytes) (omega (arith, last, few, long)) (closed reads_debug (offsets_of prefix) (size_of prefix) (size_of prefix + length p.bytes) p.row w clean same)
+  the_first (Some w) same some last long = begins_there (offsets_of prefix ++ w ∷ []) (size_of prefix + length p.bytes) (omega (arith, last, few, long)) (closed (offsets_of prefix) (size_of prefix) (size_of prefix + length p.bytes) p.row w clean same)
 
   by_case : ((length prefix < 9) ⊎ (9 ≤ length prefix)) → KeepsBytes prefix p
   by_case (inl before) = record {
@@ -384,19 +383,19 @@ stands-there prefix e start p clean = not_not (stands_in e.part p.row) (no_fault
   not_not false e = absurd (true≢false e)
 
 -- a record without a fault leaves the bytes of both parts as they are
-pub record-bytes : (reads_debug : Bool) (prefix : List Step) (at : code.Location) (p : SpelledRecord) → length (offsets_of prefix) ≡ offset_count (length prefix) → (10 ≤ length prefix → first_present (offsets_of prefix) ≤ size_of prefix)
-    → AreOrdered (offsets_of prefix ++ cons_option (offset_in p.row) []) → IsPlacedWell at p.row → as_location at ≡ location_after prefix → record_fault reads_debug prefix (as_location at) (size_of prefix) p ≡ None → KeepsBytes prefix p
-record-bytes reads_debug prefix (offset.Header k) p count begun order well same clean =
+pub record-bytes : (prefix : List Step) (at : code.Location) (p : SpelledRecord) → length (offsets_of prefix) ≡ offset_count (length prefix) → (10 ≤ length prefix → first_present (offsets_of prefix) ≤ size_of prefix)
+    → AreOrdered (offsets_of prefix ++ cons_option (offset_in p.row) []) → IsPlacedWell at p.row → as_location at ≡ location_after prefix → record_fault prefix (as_location at) (size_of prefix) p ≡ None → KeepsBytes prefix p
+record-bytes prefix (offset.Header k) p count begun order well same clean =
     let found = header-found prefix k same in
-    in-header reads_debug prefix p (ltb-true (length prefix) 10 found.0) count (well.1 ∙ ap (nat_le 2) found.1) order clean
-record-bytes reads_debug prefix (offset.Part e) p count begun order well same clean =
+    in-header prefix p (ltb-true (length prefix) 10 found.0) count (well.1 ∙ ap (nat_le 2) found.1) order clean
+record-bytes prefix (offset.Part e) p count begun order well same clean =
     let found = part-found prefix (offset.Part e) e refl same in
     let many : 10 ≤ length prefix = ltb-false (length prefix) 10 found.0 in
     let stands = stands-there prefix (as_extent e) (size_of prefix) p clean in
     after_header prefix p (Some (as_extent e)) many count (begun many) (no_offset (as_part e.part) p.row stands) found.1
     (λ x is own. true≢false (sym stands ∙ ap (λ q. stands_in q p.row) (part_of_some (as_extent e) x is ∙ own) ∙ not_in_extension p.row))
     (λ x is own. true≢false (sym stands ∙ ap (λ q. stands_in q p.row) (part_of_some (as_extent e) x is ∙ own) ∙ not_in_environment p.row))
-record-bytes reads_debug prefix offset.End p count begun order well same clean =
+record-bytes prefix offset.End p count begun order well same clean =
     let found = end-found prefix same in
     let many : 10 ≤ length prefix = ltb-false (length prefix) 10 found.0 in
     after_header prefix p None many count (begun many) (end_row (stands_in end_part p.row) refl clean) found.1 (no_part extension_part) (no_part environment_part) where

@@ -17,10 +17,10 @@ use Rattle.mufom_module.specs.declared.module.Parts.{Parts}
 use Rattle.mufom_module.specs.Grammar.{file_limit}
 use Rattle.mufom_read.specs.Prefixes.{Step, step_bytes, prefix_bytes, size_of, Location, in_header, in_part, at_end, location_after, header_mode, body_mode, next_step, is_ended}
 use Rattle.mufom_read.specs.Faults.{Fault, ended_part_fault, step_fault, fault_after}
-use Rattle.mufom_read.specs.Judging.{IsSoundFrom, IsSoundPrefix, within_limit, EndsAt, IsWaiting, IsRefusedAt, IsTruncated, IsModule, Judgment, module_of, refusal, IsJudged}
+use Rattle.mufom_read.specs.Judging.{IsSoundFrom, IsSoundPrefix, within_limit, EndsAt, IsWaiting, IsTruncated, IsModule, Judgment, module_of, refusal, IsJudged}
 use Rattle.mufom_read.specs.Laws.{EndedPrefixIsModule, ModuleIsEndedPrefix, JudgmentsExcludeEachOther, HasJudgment, HasOneJudgment, PrefixesOfModulesAreCutOff}
 use Rattle.mufom_read.proofs.EndedWalk.{IsRead, IsNextAt, taken, next_at, next_prefix, size-append, prefix_first}
-use Rattle.mufom_read.proofs.PrefixesOne.{fault_not_ended, refusal_is_single, not_cut}
+use Rattle.mufom_read.proofs.PrefixesOne.{refusal_is_single, not_cut}
 use Rattle.mufom_read.proofs.StayLaws.{AreBytes-drop, AreBytes-take, AreBytes-prefix, end_goes_on, refusal_stays}
 
 -- ---- a step takes a byte at least
@@ -89,7 +89,7 @@ sound-append reads_debug before (t ∷ a) s rest sound open_ none next =
     )
 
 bad_fault : (reads_debug : Bool) (prefix : List Step) (rest : List ℕ) (offset : ℕ) (reason : Reason) → fault_after reads_debug prefix rest ≡ None → next_step reads_debug prefix rest ≡ Bad offset reason → ⊥
-bad_fault reads_debug prefix rest offset reason none next = by_part (ended_part_fault prefix) (subst (λ (a : Taken Step). option_or (ended_part_fault prefix) (step_fault reads_debug prefix a) ≡ None) next none) where
+bad_fault reads_debug prefix rest offset reason none next = by_part (ended_part_fault prefix) (subst (λ (a : Taken Step). option_or (ended_part_fault prefix) (step_fault prefix a) ≡ None) next none) where
   by_part : (o : Option Fault) → option_or o (Some (size_of prefix + offset, reason)) ≡ None → ⊥
   by_part None h = cc
   by_part (Some fault) h = cc
@@ -145,29 +145,23 @@ longest reads_debug judged fits = longest_from (length judged) reads_debug judge
 within_length : (bytes : List ℕ) → length (within_limit bytes) ≡ min file_limit (length bytes)
 within_length bytes = length-take file_limit bytes
 
--- a stream that is a module's is not refused for what is left for later
-pub not_refused : (reads_debug : Bool) (bytes : List ℕ) (fault_offset other : ℕ) → EndsAt reads_debug bytes other → IsRefusedAt reads_debug bytes fault_offset why.NotBuilt → ⊥
-not_refused reads_debug bytes fault_offset other ends (inl h) = fault_not_ended reads_debug bytes fault_offset other why.NotBuilt h ends
-not_refused reads_debug bytes fault_offset other ends (inr (inl h)) = let e : why.NotBuilt ≡ why.AfterEnd = h.0 in cc
-not_refused reads_debug bytes fault_offset other ends (inr (inr h)) = let e : why.NotBuilt ≡ why.FileLimit = h.0 in cc
-
 judged_end : EndedPrefixIsModule → (reads_debug : Bool) (bytes : List ℕ) (prefix : List Step) → AreBytes bytes → IsSoundPrefix reads_debug prefix (within_limit bytes) → is_ended prefix ≡ true → (judgment : Judgment) × IsJudged reads_debug bytes judgment
 judged_end law reads_debug bytes prefix fits sound ended =
     let there = inside_prefix reads_debug prefix (within_limit bytes) (AreBytes-take file_limit bytes fits) sound in
     let ends : EndsAt reads_debug bytes (size_of prefix) = record { prefix = prefix; sound = sound; ended = ended; here = refl } in
     elim (cases_lt (size_of prefix) (length bytes)) [
       | inl before ↦ (refusal (size_of prefix) why.AfterEnd, inl (inr (inl (refl, ends, before))))
-      | inr all ↦ whole ends there all
+      | inr all ↦ whole there all
     ]
   where
-    whole : EndsAt reads_debug bytes (size_of prefix) → size_of prefix ≤ length (within_limit bytes) → length bytes ≤ size_of prefix → (judgment : Judgment) × IsJudged reads_debug bytes judgment
-    whole ends there all =
+    whole : size_of prefix ≤ length (within_limit bytes) → length bytes ≤ size_of prefix → (judgment : Judgment) × IsJudged reads_debug bytes judgment
+    whole there all =
         let cut = within_length bytes in
         let limit : length bytes ≤ file_limit = omega arith in
         let same : within_limit bytes ≡ bytes = take_all file_limit bytes limit in
         let size : size_of prefix ≡ length bytes = omega arith in
         let found = law reads_debug prefix bytes fits limit (subst (λ (l : List ℕ). IsSoundPrefix reads_debug prefix l) same sound) ended size in
-        (module_of found.0, (found.1, λ fault_offset h. not_refused reads_debug bytes fault_offset (size_of prefix) ends h))
+        (module_of found.0, found.1)
 
 waiting_judged : (reads_debug : Bool) (bytes pending : List ℕ) → IsWaiting reads_debug bytes pending → (judgment : Judgment) × IsJudged reads_debug bytes judgment
 waiting_judged reads_debug bytes pending h = elim (cases_lt file_limit (length bytes)) [
@@ -212,7 +206,7 @@ has_one_judgment law reads_debug bytes (refusal fault_offset reason) (refusal ot
 ends_there : ModuleIsEndedPrefix → (reads_debug : Bool) (bytes : List ℕ) (m : Parts) → AreBytes bytes → IsModule reads_debug bytes m → EndsAt reads_debug bytes (length bytes)
 ends_there law reads_debug bytes m fits is =
     let found = law reads_debug bytes m fits is in
-    let limit = is.0.1.limit in
+    let limit = is.1.limit in
     record { prefix = found.0; sound = subst (λ (l : List ℕ). IsSoundPrefix reads_debug found.0 l) (sym (take_all file_limit bytes limit)) found.1; ended = found.2; here = found.3 }
 
 some_length : (more : List ℕ) → more ≢ [] → 1 ≤ length more

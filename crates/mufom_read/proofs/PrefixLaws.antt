@@ -1,5 +1,5 @@
 -- A prefix with one more record, as the code keeps it.
-use Rattle.std.proofs.Common.{◌≡◌, ℕ, zero, suc, ◌+◌, ◌<◌, ◌≤◌, ◌==◌, ◌&&◌, ◌||◌, Bool, true, false, not, true≢false, List, [], ◌∷◌, ◌++◌, length, map, filter_map, Option, Some, None, cond, get_or, refl, sym, ap, subst, ◌∙◌, arith, append-nil, append_assoc, length-append}
+use Rattle.std.proofs.Common.{◌≡◌, ℕ, zero, suc, ◌+◌, ◌<◌, ◌≤◌, ◌==◌, ◌&&◌, ◌||◌, Bool, true, false, not, List, [], ◌∷◌, ◌++◌, length, map, filter_map, Option, Some, None, cond, get_or, refl, sym, ap, subst, ◌∙◌, arith, append-nil, append_assoc, length-append}
 use Rattle.std.specs.List.{list_any, last_or, cons_option}
 use Rattle.std.specs.Prelude.{All}
 use Rattle.std.proofs.lemmas.List.Elements.{All-append}
@@ -7,22 +7,24 @@ use Rattle.std.proofs.lemmas.List.Elements.{filter-append, filter_map-append}
 use Rattle.std.proofs.lemmas.List.Folds.{list_any-append}
 use Rattle.mufom_records.specs.declared.record.Record.{Record}
 use Rattle.mufom_records.specs.declared.record.Record.TheVariants as r
-use Rattle.mufom_module.specs.SpelledRecords.{SpelledRecord, section, public, reference, declared, of_kind, declared_by, Once, start_address, is_same_statement, assigned_by}
-use Rattle.mufom_module.specs.RecordParts.{debug_part, stands_in, begins_item}
+use Rattle.mufom_module.specs.SpelledRecords.{SpelledRecord, section, public, reference, debug_name, declared, of_kind, declared_by, Once, start_address, is_same_statement, assigned_by}
+use Rattle.mufom_module.specs.RecordParts.{begins_item}
 use Rattle.mufom_module.specs.Grammar.{offset_in, Follows, FollowFrom}
-use Rattle.mufom_module.specs.Gathered.{references_of}
+use Rattle.mufom_module.specs.Gathered.{references_of, mark_by}
 use Rattle.mufom_read.specs.declared.prefix.Prefix.{Prefix}
 use Rattle.mufom_read.specs.declared.kept.KeptRecord.{KeptRecord}
 use Rattle.mufom_read.specs.declared.tables.Tables.{Tables}
 use Rattle.mufom_read.specs.Prefixes.{Step, raw, read, step_bytes, prefix_bytes, size_of, record_of, records_of, offset_record, offset_records_of, offsets_of, first_present, OffsetRecord, awaits_items, ends_with}
-use Rattle.mufom_read.specs.Faults.{set_by, OpenBlock, opened_after, open_from, open_blocks}
+use Rattle.mufom_read.specs.Faults.{set_by, opened_after}
 use Rattle.mufom_read.specs.Kept.{tables_of, with_row, statements, alignment_stated, size_stated, base_stated, value_stated, weakness_stated, indexes_by, record_of_kept, placed, is_kept, kept_of, kept_alone, HasOwnParts}
 use Rattle.mufom_read.specs.NamesSoFar.{records_in, ArePublicsOf, AreRising}
 use Rattle.mufom_read.specs.LoadsSoFar.{with_load, units_after, units_in, units_or, loads_so_far}
+use Rattle.mufom_read.specs.DebugSoFar.{opened, marks_kept, marks_so_far, AreDebugOf}
 use Rattle.mufom_read.specs.PrefixOfCode.{AreOrdered, offset_count, IsPrefixOf, with_record, as_location, next_location, IsNext, IsAddable}
 use Rattle.mufom_read.proofs.LocationMoves.{offsets-stay, location-moves}
 use Rattle.mufom_read.proofs.FollowLaws.{follow-more, rising-more}
 use Rattle.mufom_read.proofs.PartBytes.{KeepsBytes}
+use Rattle.mufom_read.proofs.DebugSteps.{marks-more, open-more}
 use Rattle.mufom_read.proofs.LoadLaws.{units-more, loads-more}
 
 -- ---- lists with one more
@@ -44,8 +46,8 @@ size-append a b = ap length (bytes-append a b) ∙ length-append (prefix_bytes a
 
 -- ---- tables with one more record
 
-made : (a b c d e f g h : List ℕ) → Option ℕ → Bool → Tables
-made a b c d e f g h i j = record { sections = a; publics = b; references = c; alignments = d; sizes = e; bases = f; values = g; weaknesses = h; current = i; has_start = j }
+made : (a b c n d e f g h : List ℕ) → Option ℕ → Bool → Tables
+made a b c n d e f g h i j = record { sections = a; publics = b; references = c; debug_names = n; alignments = d; sizes = e; bases = f; values = g; weaknesses = h; current = i; has_start = j }
 
 -- the tables with the entries of one more record, each at the end of its list
 grown : Tables → Record → Tables
@@ -53,6 +55,7 @@ grown t row = record {
   sections = t.sections ++ cons_option (of_kind section (declared_by row)) [];
   publics = t.publics ++ cons_option (of_kind public (declared_by row)) [];
   references = t.references ++ cons_option (of_kind reference (declared_by row)) [];
+  debug_names = t.debug_names ++ cons_option (of_kind debug_name (declared_by row)) [];
   alignments = t.alignments ++ filter_map alignment_stated (cons_option (assigned_by row) []);
   sizes = t.sizes ++ filter_map size_stated (cons_option (assigned_by row) []);
   bases = t.bases ++ filter_map base_stated (cons_option (assigned_by row) []);
@@ -62,20 +65,21 @@ grown t row = record {
   has_start = t.has_start || list_any (is_same_statement start_address) (cons_option (assigned_by row) []);
 }
 
-pub same_tables : (t u : Tables) → t.sections ≡ u.sections → t.publics ≡ u.publics → t.references ≡ u.references → t.alignments ≡ u.alignments → t.sizes ≡ u.sizes → t.bases ≡ u.bases
-    → t.values ≡ u.values → t.weaknesses ≡ u.weaknesses → t.current ≡ u.current → t.has_start ≡ u.has_start → t ≡ u
+pub same_tables : (t u : Tables) → t.sections ≡ u.sections → t.publics ≡ u.publics → t.references ≡ u.references → t.debug_names ≡ u.debug_names → t.alignments ≡ u.alignments
+    → t.sizes ≡ u.sizes → t.bases ≡ u.bases → t.values ≡ u.values → t.weaknesses ≡ u.weaknesses → t.current ≡ u.current → t.has_start ≡ u.has_start → t ≡ u
 unfolding made
-same_tables t u a b c d e f g h i j =
-    ap (λ x. made x t.publics t.references t.alignments t.sizes t.bases t.values t.weaknesses t.current t.has_start) a
-    ∙ ap (λ x. made u.sections x t.references t.alignments t.sizes t.bases t.values t.weaknesses t.current t.has_start) b
-    ∙ ap (λ x. made u.sections u.publics x t.alignments t.sizes t.bases t.values t.weaknesses t.current t.has_start) c
-    ∙ ap (λ x. made u.sections u.publics u.references x t.sizes t.bases t.values t.weaknesses t.current t.has_start) d
-    ∙ ap (λ x. made u.sections u.publics u.references u.alignments x t.bases t.values t.weaknesses t.current t.has_start) e
-    ∙ ap (λ x. made u.sections u.publics u.references u.alignments u.sizes x t.values t.weaknesses t.current t.has_start) f
-    ∙ ap (λ x. made u.sections u.publics u.references u.alignments u.sizes u.bases x t.weaknesses t.current t.has_start) g
-    ∙ ap (λ x. made u.sections u.publics u.references u.alignments u.sizes u.bases u.values x t.current t.has_start) h
-    ∙ ap (λ x. made u.sections u.publics u.references u.alignments u.sizes u.bases u.values u.weaknesses x t.has_start) i
-    ∙ ap (λ x. made u.sections u.publics u.references u.alignments u.sizes u.bases u.values u.weaknesses u.current x) j
+same_tables t u a b c n d e f g h i j =
+    ap (λ x. made x t.publics t.references t.debug_names t.alignments t.sizes t.bases t.values t.weaknesses t.current t.has_start) a
+    ∙ ap (λ x. made u.sections x t.references t.debug_names t.alignments t.sizes t.bases t.values t.weaknesses t.current t.has_start) b
+    ∙ ap (λ x. made u.sections u.publics x t.debug_names t.alignments t.sizes t.bases t.values t.weaknesses t.current t.has_start) c
+    ∙ ap (λ x. made u.sections u.publics u.references x t.alignments t.sizes t.bases t.values t.weaknesses t.current t.has_start) n
+    ∙ ap (λ x. made u.sections u.publics u.references u.debug_names x t.sizes t.bases t.values t.weaknesses t.current t.has_start) d
+    ∙ ap (λ x. made u.sections u.publics u.references u.debug_names u.alignments x t.bases t.values t.weaknesses t.current t.has_start) e
+    ∙ ap (λ x. made u.sections u.publics u.references u.debug_names u.alignments u.sizes x t.values t.weaknesses t.current t.has_start) f
+    ∙ ap (λ x. made u.sections u.publics u.references u.debug_names u.alignments u.sizes u.bases x t.weaknesses t.current t.has_start) g
+    ∙ ap (λ x. made u.sections u.publics u.references u.debug_names u.alignments u.sizes u.bases u.values x t.current t.has_start) h
+    ∙ ap (λ x. made u.sections u.publics u.references u.debug_names u.alignments u.sizes u.bases u.values u.weaknesses x t.has_start) i
+    ∙ ap (λ x. made u.sections u.publics u.references u.debug_names u.alignments u.sizes u.bases u.values u.weaknesses u.current x) j
 
 or_false : (b : Bool) → b ≡ (b || false)
 or_false true = refl
@@ -97,6 +101,7 @@ tables-append ps p = same_tables (tables_of (ps ++ p ∷ [])) (grown (tables_of 
     (filter_map-append (λ q. of_kind section (declared_by q.row)) ps (p ∷ []))
     (filter_map-append (λ q. of_kind public (declared_by q.row)) ps (p ∷ []))
     (filter_map-append (λ q. of_kind reference (declared_by q.row)) ps (p ∷ []))
+    (filter_map-append (λ q. of_kind debug_name (declared_by q.row)) ps (p ∷ []))
     (stated alignment_stated ps p)
     (stated size_stated ps p)
     (stated base_stated ps p)
@@ -107,70 +112,34 @@ tables-append ps p = same_tables (tables_of (ps ++ p ∷ [])) (grown (tables_of 
 
 with-grown : (t : Tables) (row : Record) → with_row t row ≡ grown t row
 unfolding grown
-with-grown t (r.ModuleBegin a b) = same_tables (with_row t (r.ModuleBegin a b)) (grown t (r.ModuleBegin a b)) (sym (append-nil t.sections)) (sym (append-nil t.publics)) (sym (append-nil t.references)) (sym (append-nil t.alignments)) (sym (append-nil t.sizes)) (sym (append-nil t.bases)) (sym (append-nil t.values)) (sym (append-nil t.weaknesses)) refl (or_false t.has_start)
-with-grown t (r.Descriptor a b c) = same_tables (with_row t (r.Descriptor a b c)) (grown t (r.Descriptor a b c)) (sym (append-nil t.sections)) (sym (append-nil t.publics)) (sym (append-nil t.references)) (sym (append-nil t.alignments)) (sym (append-nil t.sizes)) (sym (append-nil t.bases)) (sym (append-nil t.values)) (sym (append-nil t.weaknesses)) refl (or_false t.has_start)
-with-grown t (r.Offset a b) = same_tables (with_row t (r.Offset a b)) (grown t (r.Offset a b)) (sym (append-nil t.sections)) (sym (append-nil t.publics)) (sym (append-nil t.references)) (sym (append-nil t.alignments)) (sym (append-nil t.sizes)) (sym (append-nil t.bases)) (sym (append-nil t.values)) (sym (append-nil t.weaknesses)) refl (or_false t.has_start)
-with-grown t r.ModuleEnd = same_tables (with_row t r.ModuleEnd) (grown t r.ModuleEnd) (sym (append-nil t.sections)) (sym (append-nil t.publics)) (sym (append-nil t.references)) (sym (append-nil t.alignments)) (sym (append-nil t.sizes)) (sym (append-nil t.bases)) (sym (append-nil t.values)) (sym (append-nil t.weaknesses)) refl (or_false t.has_start)
-with-grown t (r.SectionType a b c d e f g) = same_tables (with_row t (r.SectionType a b c d e f g)) (grown t (r.SectionType a b c d e f g)) refl (sym (append-nil t.publics)) (sym (append-nil t.references)) (sym (append-nil t.alignments)) (sym (append-nil t.sizes)) (sym (append-nil t.bases)) (sym (append-nil t.values)) (sym (append-nil t.weaknesses)) refl (or_false t.has_start)
-with-grown t (r.Alignment a b c) = same_tables (with_row t (r.Alignment a b c)) (grown t (r.Alignment a b c)) (sym (append-nil t.sections)) (sym (append-nil t.publics)) (sym (append-nil t.references)) refl (sym (append-nil t.sizes)) (sym (append-nil t.bases)) (sym (append-nil t.values)) (sym (append-nil t.weaknesses)) refl (or_false t.has_start)
-with-grown t (r.SectionSize a b) = same_tables (with_row t (r.SectionSize a b)) (grown t (r.SectionSize a b)) (sym (append-nil t.sections)) (sym (append-nil t.publics)) (sym (append-nil t.references)) (sym (append-nil t.alignments)) refl (sym (append-nil t.bases)) (sym (append-nil t.values)) (sym (append-nil t.weaknesses)) refl (or_false t.has_start)
-with-grown t (r.SectionBase a b) = same_tables (with_row t (r.SectionBase a b)) (grown t (r.SectionBase a b)) (sym (append-nil t.sections)) (sym (append-nil t.publics)) (sym (append-nil t.references)) (sym (append-nil t.alignments)) (sym (append-nil t.sizes)) refl (sym (append-nil t.values)) (sym (append-nil t.weaknesses)) refl (or_false t.has_start)
-with-grown t (r.PublicName a b) = same_tables (with_row t (r.PublicName a b)) (grown t (r.PublicName a b)) (sym (append-nil t.sections)) refl (sym (append-nil t.references)) (sym (append-nil t.alignments)) (sym (append-nil t.sizes)) (sym (append-nil t.bases)) (sym (append-nil t.values)) (sym (append-nil t.weaknesses)) refl (or_false t.has_start)
-with-grown t (r.PublicValue a b) = same_tables (with_row t (r.PublicValue a b)) (grown t (r.PublicValue a b)) (sym (append-nil t.sections)) (sym (append-nil t.publics)) (sym (append-nil t.references)) (sym (append-nil t.alignments)) (sym (append-nil t.sizes)) (sym (append-nil t.bases)) refl (sym (append-nil t.weaknesses)) refl (or_false t.has_start)
-with-grown t (r.PublicNote a b c d) = same_tables (with_row t (r.PublicNote a b c d)) (grown t (r.PublicNote a b c d)) (sym (append-nil t.sections)) (sym (append-nil t.publics)) (sym (append-nil t.references)) (sym (append-nil t.alignments)) (sym (append-nil t.sizes)) (sym (append-nil t.bases)) (sym (append-nil t.values)) (sym (append-nil t.weaknesses)) refl (or_false t.has_start)
-with-grown t (r.ReferenceName a b) = same_tables (with_row t (r.ReferenceName a b)) (grown t (r.ReferenceName a b)) (sym (append-nil t.sections)) (sym (append-nil t.publics)) refl (sym (append-nil t.alignments)) (sym (append-nil t.sizes)) (sym (append-nil t.bases)) (sym (append-nil t.values)) (sym (append-nil t.weaknesses)) refl (or_false t.has_start)
-with-grown t (r.WeakReference a b c) = same_tables (with_row t (r.WeakReference a b c)) (grown t (r.WeakReference a b c)) (sym (append-nil t.sections)) (sym (append-nil t.publics)) (sym (append-nil t.references)) (sym (append-nil t.alignments)) (sym (append-nil t.sizes)) (sym (append-nil t.bases)) (sym (append-nil t.values)) refl refl (or_false t.has_start)
-with-grown t (r.ReferenceNote a b c d) = same_tables (with_row t (r.ReferenceNote a b c d)) (grown t (r.ReferenceNote a b c d)) (sym (append-nil t.sections)) (sym (append-nil t.publics)) (sym (append-nil t.references)) (sym (append-nil t.alignments)) (sym (append-nil t.sizes)) (sym (append-nil t.bases)) (sym (append-nil t.values)) (sym (append-nil t.weaknesses)) refl (or_false t.has_start)
-with-grown t (r.BlockBegin a b c d) = same_tables (with_row t (r.BlockBegin a b c d)) (grown t (r.BlockBegin a b c d)) (sym (append-nil t.sections)) (sym (append-nil t.publics)) (sym (append-nil t.references)) (sym (append-nil t.alignments)) (sym (append-nil t.sizes)) (sym (append-nil t.bases)) (sym (append-nil t.values)) (sym (append-nil t.weaknesses)) refl (or_false t.has_start)
-with-grown t (r.BlockEnd a) = same_tables (with_row t (r.BlockEnd a)) (grown t (r.BlockEnd a)) (sym (append-nil t.sections)) (sym (append-nil t.publics)) (sym (append-nil t.references)) (sym (append-nil t.alignments)) (sym (append-nil t.sizes)) (sym (append-nil t.bases)) (sym (append-nil t.values)) (sym (append-nil t.weaknesses)) refl (or_false t.has_start)
-with-grown t (r.DebugName a b) = same_tables (with_row t (r.DebugName a b)) (grown t (r.DebugName a b)) (sym (append-nil t.sections)) (sym (append-nil t.publics)) (sym (append-nil t.references)) (sym (append-nil t.alignments)) (sym (append-nil t.sizes)) (sym (append-nil t.bases)) (sym (append-nil t.values)) (sym (append-nil t.weaknesses)) refl (or_false t.has_start)
-with-grown t (r.DebugValue a b) = same_tables (with_row t (r.DebugValue a b)) (grown t (r.DebugValue a b)) (sym (append-nil t.sections)) (sym (append-nil t.publics)) (sym (append-nil t.references)) (sym (append-nil t.alignments)) (sym (append-nil t.sizes)) (sym (append-nil t.bases)) (sym (append-nil t.values)) (sym (append-nil t.weaknesses)) refl (or_false t.has_start)
-with-grown t (r.DebugNote a b c d) = same_tables (with_row t (r.DebugNote a b c d)) (grown t (r.DebugNote a b c d)) (sym (append-nil t.sections)) (sym (append-nil t.publics)) (sym (append-nil t.references)) (sym (append-nil t.alignments)) (sym (append-nil t.sizes)) (sym (append-nil t.bases)) (sym (append-nil t.values)) (sym (append-nil t.weaknesses)) refl (or_false t.has_start)
-with-grown t (r.SetSection a) = same_tables (with_row t (r.SetSection a)) (grown t (r.SetSection a)) (sym (append-nil t.sections)) (sym (append-nil t.publics)) (sym (append-nil t.references)) (sym (append-nil t.alignments)) (sym (append-nil t.sizes)) (sym (append-nil t.bases)) (sym (append-nil t.values)) (sym (append-nil t.weaknesses)) refl (or_false t.has_start)
-with-grown t (r.SetPc a b) = same_tables (with_row t (r.SetPc a b)) (grown t (r.SetPc a b)) (sym (append-nil t.sections)) (sym (append-nil t.publics)) (sym (append-nil t.references)) (sym (append-nil t.alignments)) (sym (append-nil t.sizes)) (sym (append-nil t.bases)) (sym (append-nil t.values)) (sym (append-nil t.weaknesses)) refl (or_false t.has_start)
-with-grown t (r.Constant a) = same_tables (with_row t (r.Constant a)) (grown t (r.Constant a)) (sym (append-nil t.sections)) (sym (append-nil t.publics)) (sym (append-nil t.references)) (sym (append-nil t.alignments)) (sym (append-nil t.sizes)) (sym (append-nil t.bases)) (sym (append-nil t.values)) (sym (append-nil t.weaknesses)) refl (or_false t.has_start)
-with-grown t r.Relocate = same_tables (with_row t r.Relocate) (grown t r.Relocate) (sym (append-nil t.sections)) (sym (append-nil t.publics)) (sym (append-nil t.references)) (sym (append-nil t.alignments)) (sym (append-nil t.sizes)) (sym (append-nil t.bases)) (sym (append-nil t.values)) (sym (append-nil t.weaknesses)) refl (or_false t.has_start)
-with-grown t (r.ConstantItem a) = same_tables (with_row t (r.ConstantItem a)) (grown t (r.ConstantItem a)) (sym (append-nil t.sections)) (sym (append-nil t.publics)) (sym (append-nil t.references)) (sym (append-nil t.alignments)) (sym (append-nil t.sizes)) (sym (append-nil t.bases)) (sym (append-nil t.values)) (sym (append-nil t.weaknesses)) refl (or_false t.has_start)
-with-grown t (r.FieldItem a b c) = same_tables (with_row t (r.FieldItem a b c)) (grown t (r.FieldItem a b c)) (sym (append-nil t.sections)) (sym (append-nil t.publics)) (sym (append-nil t.references)) (sym (append-nil t.alignments)) (sym (append-nil t.sizes)) (sym (append-nil t.bases)) (sym (append-nil t.values)) (sym (append-nil t.weaknesses)) refl (or_false t.has_start)
-with-grown t (r.RepeatConstant a b) = same_tables (with_row t (r.RepeatConstant a b)) (grown t (r.RepeatConstant a b)) (sym (append-nil t.sections)) (sym (append-nil t.publics)) (sym (append-nil t.references)) (sym (append-nil t.alignments)) (sym (append-nil t.sizes)) (sym (append-nil t.bases)) (sym (append-nil t.values)) (sym (append-nil t.weaknesses)) refl (or_false t.has_start)
-with-grown t (r.RepeatRelocate a) = same_tables (with_row t (r.RepeatRelocate a)) (grown t (r.RepeatRelocate a)) (sym (append-nil t.sections)) (sym (append-nil t.publics)) (sym (append-nil t.references)) (sym (append-nil t.alignments)) (sym (append-nil t.sizes)) (sym (append-nil t.bases)) (sym (append-nil t.values)) (sym (append-nil t.weaknesses)) refl (or_false t.has_start)
-with-grown t (r.Start a) = same_tables (with_row t (r.Start a)) (grown t (r.Start a)) (sym (append-nil t.sections)) (sym (append-nil t.publics)) (sym (append-nil t.references)) (sym (append-nil t.alignments)) (sym (append-nil t.sizes)) (sym (append-nil t.bases)) (sym (append-nil t.values)) (sym (append-nil t.weaknesses)) refl (or_true t.has_start)
-
--- ---- open blocks
-
-open-append : (blocks : List OpenBlock) (a b : List OffsetRecord) → open_from blocks (a ++ b) ≡ open_from (open_from blocks a) b
-open-append blocks [] b = refl
-open-append blocks (p ∷ a) b = open-append (opened_after blocks p.0 p.1.row) a b
-
-none-opened : (start : ℕ) (row : Record) → stands_in debug_part row ≡ false → opened_after [] start row ≡ []
-none-opened start (r.ModuleBegin a b) plain = refl
-none-opened start (r.Descriptor a b c) plain = refl
-none-opened start (r.Offset a b) plain = refl
-none-opened start r.ModuleEnd plain = refl
-none-opened start (r.SectionType a b c d e f g) plain = refl
-none-opened start (r.Alignment a b c) plain = refl
-none-opened start (r.SectionSize a b) plain = refl
-none-opened start (r.SectionBase a b) plain = refl
-none-opened start (r.PublicName a b) plain = refl
-none-opened start (r.PublicValue a b) plain = refl
-none-opened start (r.PublicNote a b c d) plain = refl
-none-opened start (r.ReferenceName a b) plain = refl
-none-opened start (r.WeakReference a b c) plain = refl
-none-opened start (r.ReferenceNote a b c d) plain = refl
-none-opened start (r.BlockBegin a b c d) plain = absurd (true≢false plain)
-none-opened start (r.BlockEnd a) plain = refl
-none-opened start (r.DebugName a b) plain = refl
-none-opened start (r.DebugValue a b) plain = refl
-none-opened start (r.DebugNote a b c d) plain = refl
-none-opened start (r.SetSection a) plain = refl
-none-opened start (r.SetPc a b) plain = refl
-none-opened start (r.Constant a) plain = refl
-none-opened start r.Relocate plain = refl
-none-opened start (r.ConstantItem a) plain = refl
-none-opened start (r.FieldItem a b c) plain = refl
-none-opened start (r.RepeatConstant a b) plain = refl
-none-opened start (r.RepeatRelocate a) plain = refl
-none-opened start (r.Start a) plain = refl
+with-grown t (r.ModuleBegin a b) = same_tables (with_row t (r.ModuleBegin a b)) (grown t (r.ModuleBegin a b)) (sym (append-nil t.sections)) (sym (append-nil t.publics)) (sym (append-nil t.references)) (sym (append-nil t.debug_names)) (sym (append-nil t.alignments)) (sym (append-nil t.sizes)) (sym (append-nil t.bases)) (sym (append-nil t.values)) (sym (append-nil t.weaknesses)) refl (or_false t.has_start)
+with-grown t (r.Descriptor a b c) = same_tables (with_row t (r.Descriptor a b c)) (grown t (r.Descriptor a b c)) (sym (append-nil t.sections)) (sym (append-nil t.publics)) (sym (append-nil t.references)) (sym (append-nil t.debug_names)) (sym (append-nil t.alignments)) (sym (append-nil t.sizes)) (sym (append-nil t.bases)) (sym (append-nil t.values)) (sym (append-nil t.weaknesses)) refl (or_false t.has_start)
+with-grown t (r.Offset a b) = same_tables (with_row t (r.Offset a b)) (grown t (r.Offset a b)) (sym (append-nil t.sections)) (sym (append-nil t.publics)) (sym (append-nil t.references)) (sym (append-nil t.debug_names)) (sym (append-nil t.alignments)) (sym (append-nil t.sizes)) (sym (append-nil t.bases)) (sym (append-nil t.values)) (sym (append-nil t.weaknesses)) refl (or_false t.has_start)
+with-grown t r.ModuleEnd = same_tables (with_row t r.ModuleEnd) (grown t r.ModuleEnd) (sym (append-nil t.sections)) (sym (append-nil t.publics)) (sym (append-nil t.references)) (sym (append-nil t.debug_names)) (sym (append-nil t.alignments)) (sym (append-nil t.sizes)) (sym (append-nil t.bases)) (sym (append-nil t.values)) (sym (append-nil t.weaknesses)) refl (or_false t.has_start)
+with-grown t (r.SectionType a b c d e f g) = same_tables (with_row t (r.SectionType a b c d e f g)) (grown t (r.SectionType a b c d e f g)) refl (sym (append-nil t.publics)) (sym (append-nil t.references)) (sym (append-nil t.debug_names)) (sym (append-nil t.alignments)) (sym (append-nil t.sizes)) (sym (append-nil t.bases)) (sym (append-nil t.values)) (sym (append-nil t.weaknesses)) refl (or_false t.has_start)
+with-grown t (r.Alignment a b c) = same_tables (with_row t (r.Alignment a b c)) (grown t (r.Alignment a b c)) (sym (append-nil t.sections)) (sym (append-nil t.publics)) (sym (append-nil t.references)) (sym (append-nil t.debug_names)) refl (sym (append-nil t.sizes)) (sym (append-nil t.bases)) (sym (append-nil t.values)) (sym (append-nil t.weaknesses)) refl (or_false t.has_start)
+with-grown t (r.SectionSize a b) = same_tables (with_row t (r.SectionSize a b)) (grown t (r.SectionSize a b)) (sym (append-nil t.sections)) (sym (append-nil t.publics)) (sym (append-nil t.references)) (sym (append-nil t.debug_names)) (sym (append-nil t.alignments)) refl (sym (append-nil t.bases)) (sym (append-nil t.values)) (sym (append-nil t.weaknesses)) refl (or_false t.has_start)
+with-grown t (r.SectionBase a b) = same_tables (with_row t (r.SectionBase a b)) (grown t (r.SectionBase a b)) (sym (append-nil t.sections)) (sym (append-nil t.publics)) (sym (append-nil t.references)) (sym (append-nil t.debug_names)) (sym (append-nil t.alignments)) (sym (append-nil t.sizes)) refl (sym (append-nil t.values)) (sym (append-nil t.weaknesses)) refl (or_false t.has_start)
+with-grown t (r.PublicName a b) = same_tables (with_row t (r.PublicName a b)) (grown t (r.PublicName a b)) (sym (append-nil t.sections)) refl (sym (append-nil t.references)) (sym (append-nil t.debug_names)) (sym (append-nil t.alignments)) (sym (append-nil t.sizes)) (sym (append-nil t.bases)) (sym (append-nil t.values)) (sym (append-nil t.weaknesses)) refl (or_false t.has_start)
+with-grown t (r.PublicValue a b) = same_tables (with_row t (r.PublicValue a b)) (grown t (r.PublicValue a b)) (sym (append-nil t.sections)) (sym (append-nil t.publics)) (sym (append-nil t.references)) (sym (append-nil t.debug_names)) (sym (append-nil t.alignments)) (sym (append-nil t.sizes)) (sym (append-nil t.bases)) refl (sym (append-nil t.weaknesses)) refl (or_false t.has_start)
+with-grown t (r.PublicNote a b c d) = same_tables (with_row t (r.PublicNote a b c d)) (grown t (r.PublicNote a b c d)) (sym (append-nil t.sections)) (sym (append-nil t.publics)) (sym (append-nil t.references)) (sym (append-nil t.debug_names)) (sym (append-nil t.alignments)) (sym (append-nil t.sizes)) (sym (append-nil t.bases)) (sym (append-nil t.values)) (sym (append-nil t.weaknesses)) refl (or_false t.has_start)
+with-grown t (r.ReferenceName a b) = same_tables (with_row t (r.ReferenceName a b)) (grown t (r.ReferenceName a b)) (sym (append-nil t.sections)) (sym (append-nil t.publics)) refl (sym (append-nil t.debug_names)) (sym (append-nil t.alignments)) (sym (append-nil t.sizes)) (sym (append-nil t.bases)) (sym (append-nil t.values)) (sym (append-nil t.weaknesses)) refl (or_false t.has_start)
+with-grown t (r.WeakReference a b c) = same_tables (with_row t (r.WeakReference a b c)) (grown t (r.WeakReference a b c)) (sym (append-nil t.sections)) (sym (append-nil t.publics)) (sym (append-nil t.references)) (sym (append-nil t.debug_names)) (sym (append-nil t.alignments)) (sym (append-nil t.sizes)) (sym (append-nil t.bases)) (sym (append-nil t.values)) refl refl (or_false t.has_start)
+with-grown t (r.ReferenceNote a b c d) = same_tables (with_row t (r.ReferenceNote a b c d)) (grown t (r.ReferenceNote a b c d)) (sym (append-nil t.sections)) (sym (append-nil t.publics)) (sym (append-nil t.references)) (sym (append-nil t.debug_names)) (sym (append-nil t.alignments)) (sym (append-nil t.sizes)) (sym (append-nil t.bases)) (sym (append-nil t.values)) (sym (append-nil t.weaknesses)) refl (or_false t.has_start)
+with-grown t (r.BlockBegin a b c d) = same_tables (with_row t (r.BlockBegin a b c d)) (grown t (r.BlockBegin a b c d)) (sym (append-nil t.sections)) (sym (append-nil t.publics)) (sym (append-nil t.references)) (sym (append-nil t.debug_names)) (sym (append-nil t.alignments)) (sym (append-nil t.sizes)) (sym (append-nil t.bases)) (sym (append-nil t.values)) (sym (append-nil t.weaknesses)) refl (or_false t.has_start)
+with-grown t (r.BlockEnd a) = same_tables (with_row t (r.BlockEnd a)) (grown t (r.BlockEnd a)) (sym (append-nil t.sections)) (sym (append-nil t.publics)) (sym (append-nil t.references)) (sym (append-nil t.debug_names)) (sym (append-nil t.alignments)) (sym (append-nil t.sizes)) (sym (append-nil t.bases)) (sym (append-nil t.values)) (sym (append-nil t.weaknesses)) refl (or_false t.has_start)
+with-grown t (r.DebugName a b) = same_tables (with_row t (r.DebugName a b)) (grown t (r.DebugName a b)) (sym (append-nil t.sections)) (sym (append-nil t.publics)) (sym (append-nil t.references)) refl (sym (append-nil t.alignments)) (sym (append-nil t.sizes)) (sym (append-nil t.bases)) (sym (append-nil t.values)) (sym (append-nil t.weaknesses)) refl (or_false t.has_start)
+with-grown t (r.DebugValue a b) = same_tables (with_row t (r.DebugValue a b)) (grown t (r.DebugValue a b)) (sym (append-nil t.sections)) (sym (append-nil t.publics)) (sym (append-nil t.references)) (sym (append-nil t.debug_names)) (sym (append-nil t.alignments)) (sym (append-nil t.sizes)) (sym (append-nil t.bases)) (sym (append-nil t.values)) (sym (append-nil t.weaknesses)) refl (or_false t.has_start)
+with-grown t (r.DebugNote a b c d) = same_tables (with_row t (r.DebugNote a b c d)) (grown t (r.DebugNote a b c d)) (sym (append-nil t.sections)) (sym (append-nil t.publics)) (sym (append-nil t.references)) (sym (append-nil t.debug_names)) (sym (append-nil t.alignments)) (sym (append-nil t.sizes)) (sym (append-nil t.bases)) (sym (append-nil t.values)) (sym (append-nil t.weaknesses)) refl (or_false t.has_start)
+with-grown t (r.SetSection a) = same_tables (with_row t (r.SetSection a)) (grown t (r.SetSection a)) (sym (append-nil t.sections)) (sym (append-nil t.publics)) (sym (append-nil t.references)) (sym (append-nil t.debug_names)) (sym (append-nil t.alignments)) (sym (append-nil t.sizes)) (sym (append-nil t.bases)) (sym (append-nil t.values)) (sym (append-nil t.weaknesses)) refl (or_false t.has_start)
+with-grown t (r.SetPc a b) = same_tables (with_row t (r.SetPc a b)) (grown t (r.SetPc a b)) (sym (append-nil t.sections)) (sym (append-nil t.publics)) (sym (append-nil t.references)) (sym (append-nil t.debug_names)) (sym (append-nil t.alignments)) (sym (append-nil t.sizes)) (sym (append-nil t.bases)) (sym (append-nil t.values)) (sym (append-nil t.weaknesses)) refl (or_false t.has_start)
+with-grown t (r.Constant a) = same_tables (with_row t (r.Constant a)) (grown t (r.Constant a)) (sym (append-nil t.sections)) (sym (append-nil t.publics)) (sym (append-nil t.references)) (sym (append-nil t.debug_names)) (sym (append-nil t.alignments)) (sym (append-nil t.sizes)) (sym (append-nil t.bases)) (sym (append-nil t.values)) (sym (append-nil t.weaknesses)) refl (or_false t.has_start)
+with-grown t r.Relocate = same_tables (with_row t r.Relocate) (grown t r.Relocate) (sym (append-nil t.sections)) (sym (append-nil t.publics)) (sym (append-nil t.references)) (sym (append-nil t.debug_names)) (sym (append-nil t.alignments)) (sym (append-nil t.sizes)) (sym (append-nil t.bases)) (sym (append-nil t.values)) (sym (append-nil t.weaknesses)) refl (or_false t.has_start)
+with-grown t (r.ConstantItem a) = same_tables (with_row t (r.ConstantItem a)) (grown t (r.ConstantItem a)) (sym (append-nil t.sections)) (sym (append-nil t.publics)) (sym (append-nil t.references)) (sym (append-nil t.debug_names)) (sym (append-nil t.alignments)) (sym (append-nil t.sizes)) (sym (append-nil t.bases)) (sym (append-nil t.values)) (sym (append-nil t.weaknesses)) refl (or_false t.has_start)
+with-grown t (r.FieldItem a b c) = same_tables (with_row t (r.FieldItem a b c)) (grown t (r.FieldItem a b c)) (sym (append-nil t.sections)) (sym (append-nil t.publics)) (sym (append-nil t.references)) (sym (append-nil t.debug_names)) (sym (append-nil t.alignments)) (sym (append-nil t.sizes)) (sym (append-nil t.bases)) (sym (append-nil t.values)) (sym (append-nil t.weaknesses)) refl (or_false t.has_start)
+with-grown t (r.RepeatConstant a b) = same_tables (with_row t (r.RepeatConstant a b)) (grown t (r.RepeatConstant a b)) (sym (append-nil t.sections)) (sym (append-nil t.publics)) (sym (append-nil t.references)) (sym (append-nil t.debug_names)) (sym (append-nil t.alignments)) (sym (append-nil t.sizes)) (sym (append-nil t.bases)) (sym (append-nil t.values)) (sym (append-nil t.weaknesses)) refl (or_false t.has_start)
+with-grown t (r.RepeatRelocate a) = same_tables (with_row t (r.RepeatRelocate a)) (grown t (r.RepeatRelocate a)) (sym (append-nil t.sections)) (sym (append-nil t.publics)) (sym (append-nil t.references)) (sym (append-nil t.debug_names)) (sym (append-nil t.alignments)) (sym (append-nil t.sizes)) (sym (append-nil t.bases)) (sym (append-nil t.values)) (sym (append-nil t.weaknesses)) refl (or_false t.has_start)
+with-grown t (r.Start a) = same_tables (with_row t (r.Start a)) (grown t (r.Start a)) (sym (append-nil t.sections)) (sym (append-nil t.publics)) (sym (append-nil t.references)) (sym (append-nil t.debug_names)) (sym (append-nil t.alignments)) (sym (append-nil t.sizes)) (sym (append-nil t.bases)) (sym (append-nil t.values)) (sym (append-nil t.weaknesses)) refl (or_true t.has_start)
 
 -- ---- the prefix
 
@@ -202,8 +171,8 @@ records-placed (raw b ∷ prefix) = records-placed prefix
 records-placed (read start p ∷ prefix) = ap (λ ps. p ∷ ps) (records-placed prefix)
 
 -- what is known of the publics and the references before a record that keeps to the rules
-pub next-of : (reads_debug : Bool) (f : Prefix) (prefix : List Step) (p : SpelledRecord) → IsPrefixOf reads_debug f prefix → Follows (records_of prefix) p → IsNext f (offset_records_of prefix) p
-next-of reads_debug f prefix p is follows =
+pub next-of : (f : Prefix) (prefix : List Step) (p : SpelledRecord) → IsPrefixOf f prefix → Follows (records_of prefix) p → IsNext f (offset_records_of prefix) p
+next-of f prefix p is follows =
     let same = records-placed prefix in (
       record {
         publics = is.publics;
@@ -219,12 +188,28 @@ next-of reads_debug f prefix p is follows =
       },
     )
 
+-- what is known of the debug items after a record
+abbrev AreDebugAfter : Prefix → KeptRecord → Prefix → Type 0
+AreDebugAfter f k new = (marks_kept new.debug ≡ marks_kept f.debug ++ cons_option (mark_by (indexes_by f.tables) (record_of_kept k) k.row) [])
+    × (opened new.debug ≡ opened_after (opened f.debug) k.start k.row)
+
+debug-add : (f : Prefix) (prefix : List Step) (k : KeptRecord) (new : Prefix) → IsPrefixOf f prefix → AreDebugAfter f k new → AreDebugOf new.debug (offset_records_of prefix ++ placed k ∷ [])
+debug-add f prefix k new is after =
+    let p = record_of_kept k in
+    let all = offset_records_of prefix in
+    let same = records-placed prefix in
+    let tables = is.tables ∙ ap tables_of same in
+    record {
+      marks = after.0 ∙ (λ j. is.debug.marks j ++ cons_option (mark_by (indexes_by (tables j)) p k.row) []) ∙ sym (marks-more (records_in all) p) ∙ ap marks_so_far (sym (map-append (λ (q : OffsetRecord). q.1) all (placed k ∷ [])));
+      blocks = after.1 ∙ ap (λ bs. opened_after bs k.start k.row) is.debug.blocks ∙ sym (open-more all k.start p);
+    }
+
 -- a record is added after a prefix
-pub prefix-add : (reads_debug : Bool) (f : Prefix) (prefix : List Step) (k : KeptRecord) (new : Prefix) → IsPrefixOf reads_debug f prefix → HasOwnParts k → 0 < length k.bytes → k.start ≡ f.size
+pub prefix-add : (f : Prefix) (prefix : List Step) (k : KeptRecord) (new : Prefix) → IsPrefixOf f prefix → HasOwnParts k → 0 < length k.bytes → k.start ≡ f.size
     → as_location new.location ≡ next_location (as_location f.location) (f.offsets ++ cons_option (offset_in k.row) []) (f.size + length k.bytes)
     → ArePublicsOf new.publics (offset_records_of prefix ++ placed k ∷ []) → new.references.items ≡ references_of (records_in (offset_records_of prefix) ++ record_of_kept k ∷ [])
-    → IsAddable reads_debug prefix k.row → Follows (records_of prefix) (record_of_kept k) → KeepsBytes prefix (record_of_kept k) → IsPrefixOf reads_debug (with_record f k new) (prefix ++ read (size_of prefix) (record_of_kept k) ∷ [])
-prefix-add reads_debug f prefix k new is own some start moved publics references fits follows keeps =
+    → AreDebugAfter f k new → IsAddable prefix k.row → Follows (records_of prefix) (record_of_kept k) → KeepsBytes prefix (record_of_kept k) → IsPrefixOf (with_record f k new) (prefix ++ read (size_of prefix) (record_of_kept k) ∷ [])
+prefix-add f prefix k new is own some start moved publics references debug fits follows keeps =
     let p = record_of_kept k in
     let more : List Step = read (size_of prefix) p ∷ [] in
     let records : records_of (prefix ++ more) ≡ records_of prefix ++ p ∷ [] = filter_map-append record_of prefix more in
@@ -246,6 +231,7 @@ prefix-add reads_debug f prefix k new is own some start moved publics references
       awaits = sym (ap awaits_items last);
       ended = sym (ap ends_with last);
       publics = subst (ArePublicsOf new.publics) ((λ j. offset_records_of prefix ++ ((start ∙ is.size) j, p) ∷ []) ∙ sym offsets_named) publics;
+      debug = subst (AreDebugOf new.debug) ((λ j. offset_records_of prefix ++ ((start ∙ is.size) j, p) ∷ []) ∙ sym offsets_named) (debug-add f prefix k new is debug);
       references = references ∙ ap (λ ps. references_of (ps ++ p ∷ [])) (sym (records-placed prefix)) ∙ ap references_of (sym records);
       own = All-append HasOwnParts f.kept (kept_alone k) is.own (alone-own k own);
       tables = ap (λ t. with_row t k.row) is.tables ∙ with-grown (tables_of (records_of prefix)) k.row ∙ sym (tables-append (records_of prefix) p) ∙ ap tables_of (sym records);
@@ -255,8 +241,6 @@ prefix-add reads_debug f prefix k new is own some start moved publics references
       size = new_size;
       location = moved ∙ (λ j. next_location (is.location j) (new_offsets j) (new_size j)) ∙ sym moves;
       few = omega (arith, is.few, some, size, length-append prefix more);
-      blocks = ap open_blocks offsets_named ∙ open-append [] (offset_records_of prefix) ((size_of prefix, p) ∷ []) ∙ ap (λ bs. opened_after bs (size_of prefix) k.row) is.blocks ∙ none-opened (size_of prefix) k.row fits.plain;
-      later = λ reads. subst (λ os. get_or os 4 0 ≡ 0) (sym offsets) (fits.later reads);
       ordered = subst AreOrdered (sym offsets) (fits.ordered is.ordered);
       count = ap length offsets ∙ keeps.count ∙ ap offset_count (sym (length-append prefix more));
       begun = λ many. subst (λ (os : List ℕ). first_present os ≤ size_of (prefix ++ more)) (sym offsets) (omega (arith, size, keeps.begun (omega (arith, many, length-append prefix more))));
@@ -267,8 +251,8 @@ prefix-add reads_debug f prefix k new is own some start moved publics references
 -- ---- the last record
 
 -- whether items may stand
-pub items-prefix : (reads_debug : Bool) (f : Prefix) (prefix : List Step) (from : ℕ) (rest : List ℕ) → IsPrefixOf reads_debug f prefix
+pub items-prefix : (f : Prefix) (prefix : List Step) (from : ℕ) (rest : List ℕ) → IsPrefixOf f prefix
     → (not (f.size == from) && (f.awaits_items && begins_item rest)) ≡ (not (size_of prefix == from) && (awaits_items (last_or None (records_of prefix)) && begins_item rest))
-items-prefix reads_debug f prefix from rest is =
+items-prefix f prefix from rest is =
     ap (λ n. not (n == from) && (f.awaits_items && begins_item rest)) is.size
     ∙ ap (λ b. not (size_of prefix == from) && (b && begins_item rest)) is.awaits

@@ -1,5 +1,5 @@
 -- Bytes of a part that are not read, as the code takes them.
-use Rattle.std.proofs.Common.{◌≡◌, ℕ, suc, ◌+◌, ◌-◌, ◌<◌, ◌≤◌, Bool, true, false, true≢false, nat_lt, List, [], ◌∷◌, ◌++◌, length, take, drop, map, Some, None, is_some, cond, get_or, refl, sym, ap, subst, ◌∙◌, arith, append-nil, length-append, le-ltb, ltb-false, ne_eqb}
+use Rattle.std.proofs.Common.{◌≡◌, ℕ, suc, ◌+◌, ◌-◌, ◌<◌, ◌≤◌, Bool, true, false, true≢false, nat_lt, List, [], ◌∷◌, ◌++◌, length, take, drop, map, Some, None, is_some, cond, refl, sym, ap, subst, ◌∙◌, arith, append-nil, length-append, le-ltb, ltb-false, ne_eqb}
 use Rattle.std.specs.Option.{option_or}
 use Rattle.std.specs.List.{last_or}
 use Rattle.std.proofs.lemmas.List.Elements.{filter_map-append}
@@ -19,9 +19,11 @@ use Rattle.mufom_read.specs.declared.prefix.Next.{Next}
 use Rattle.mufom_read.specs.declared.prefix.Next.TheVariants as next
 use Rattle.mufom_read.specs.declared.part.Extent as extents
 use Rattle.mufom_read.specs.Prefixes.{Step, raw, size_of, record_of, records_of, offset_record, offset_records_of, offsets_of, Extent, in_header, in_part, first_present, part_among, parts_in_order, part_at, location_by, location_after, is_raw, raw_step, as_step, step_at, body_mode, next_step, awaits_items, ends_with, is_ended}
-use Rattle.mufom_read.specs.Faults.{open_blocks, whole_fault, step_fault, ended_fault, ended_part_fault}
+use Rattle.mufom_read.specs.Faults.{whole_fault, step_fault, ended_fault, ended_part_fault}
 use Rattle.mufom_read.specs.Judging.{IsSoundFrom}
 use Rattle.mufom_read.specs.PartsOfCode.{as_part, as_extent}
+use Rattle.mufom_read.specs.declared.debug.Debugs.{Debugs}
+use Rattle.mufom_read.specs.DebugSoFar.{AreDebugOf}
 use Rattle.mufom_read.specs.PrefixOfCode.{AreOrdered, IsPrefixOf, as_location, extension_in, environment_in, next_location, HasRaw, HasSkipped, IsStepTaken}
 use Rattle.mufom_read.proofs.PrefixLaws.{size-append}
 use Rattle.mufom_read.proofs.PartBytes.{raw-bytes}
@@ -58,9 +60,9 @@ raw_steps [] = refl
 raw_steps (b ∷ bytes) = ap suc (raw_steps bytes)
 
 -- the prefix with more bytes of a part that are not read
-pub raw-prefix : (reads_debug : Bool) (old new : Prefix) (prefix : List Step) (e : extents.Extent) (bytes : List ℕ) → IsPrefixOf reads_debug old prefix → nat_lt (length prefix) 10 ≡ false → part_at prefix (size_of prefix) ≡ Some (as_extent e)
-    → size_of prefix + length bytes ≤ e.to → HasRaw old e.part bytes new → IsPrefixOf reads_debug new (prefix ++ map raw bytes)
-raw-prefix reads_debug old new prefix e bytes is header found within more =
+pub raw-prefix : (old new : Prefix) (prefix : List Step) (e : extents.Extent) (bytes : List ℕ) → IsPrefixOf old prefix → nat_lt (length prefix) 10 ≡ false → part_at prefix (size_of prefix) ≡ Some (as_extent e)
+    → size_of prefix + length bytes ≤ e.to → HasRaw old e.part bytes new → IsPrefixOf new (prefix ++ map raw bytes)
+raw-prefix old new prefix e bytes is header found within more =
     let records = records_same prefix bytes in
     let begun = is.begun (ltb-false (length prefix) 10 header) in
     let kept = raw-bytes prefix e bytes header is.count begun (ap offsets_in records) found within in
@@ -77,6 +79,7 @@ raw-prefix reads_debug old new prefix e bytes is header found within more =
       awaits = more.awaits ∙ is.awaits ∙ ap (λ (ps : List SpelledRecord). awaits_items (last_or None ps)) (sym records);
       ended = more.ended ∙ is.ended ∙ ap (λ (ps : List SpelledRecord). ends_with (last_or None ps)) (sym records);
       publics = subst (λ (n : Publics). ArePublicsOf n (offset_records_of (prefix ++ map raw bytes))) (sym more.publics) (subst (ArePublicsOf old.publics) (sym (places_same prefix bytes)) is.publics);
+      debug = subst (λ (d : Debugs). AreDebugOf d (offset_records_of (prefix ++ map raw bytes))) (sym more.debug) (subst (AreDebugOf old.debug) (sym (places_same prefix bytes)) is.debug);
       references = more.references ∙ is.references ∙ ap references_of (sym records);
       own = subst (All HasOwnParts) (sym more.kept) is.own;
       tables = more.tables ∙ is.tables ∙ ap tables_of (sym records);
@@ -86,8 +89,6 @@ raw-prefix reads_debug old new prefix e bytes is header found within more =
       size = more.size ∙ ap (λ n. n + length bytes) is.size ∙ sym size;
       location = more.location ∙ (λ j. next_location (is.location j) (old_offsets j) (old_size j)) ∙ sym moves;
       few = omega (arith, is.few, size, steps);
-      blocks = ap open_blocks (places_same prefix bytes) ∙ is.blocks;
-      later = λ reads. subst (λ (ps : List SpelledRecord). get_or (offsets_in ps) 4 0 ≡ 0) (sym records) (is.later reads);
       ordered = subst (λ (ps : List SpelledRecord). AreOrdered (offsets_in ps)) (sym records) is.ordered;
       count = ap (λ (ps : List SpelledRecord). length (offsets_in ps)) records ∙ is.count ∙ omega (arith, ltb-false (length prefix) 10 header, steps);
       begun = λ many. subst (λ (ps : List SpelledRecord). first_present (offsets_in ps) ≤ size_of (prefix ++ map raw bytes)) (sym records) (omega (arith, begun, size));
@@ -134,18 +135,18 @@ raw_sound : (reads_debug : Bool) (prefix : List Step) (e : Extent) (bytes rest :
 raw_sound reads_debug prefix e [] rest is unread within = tt
 raw_sound reads_debug prefix e (b ∷ []) rest is unread within =
     let here = raw_next reads_debug prefix e (b ∷ rest) is.header is.found unread in
-    (is.unended, ap (λ o. option_or o (step_fault reads_debug prefix (next_step reads_debug prefix (b ∷ rest)))) is.whole ∙ ap (step_fault reads_debug prefix) here, here, tt)
+    (is.unended, ap (λ o. option_or o (step_fault prefix (next_step reads_debug prefix (b ∷ rest)))) is.whole ∙ ap (step_fault prefix) here, here, tt)
 raw_sound reads_debug prefix e (b ∷ c ∷ bytes) rest is unread within =
     let here = raw_next reads_debug prefix e (b ∷ c ∷ bytes ++ rest) is.header is.found unread in
     let size : size_of (prefix ++ raw b ∷ []) ≡ size_of prefix + 1 = size-append prefix (raw b ∷ []) in (
       is.unended,
-      ap (λ o. option_or o (step_fault reads_debug prefix (next_step reads_debug prefix (b ∷ c ∷ bytes ++ rest)))) is.whole ∙ ap (step_fault reads_debug prefix) here,
+      ap (λ o. option_or o (step_fault prefix (next_step reads_debug prefix (b ∷ c ∷ bytes ++ rest)))) is.whole ∙ ap (step_fault prefix) here,
       here,
       raw_sound reads_debug (prefix ++ raw b ∷ []) e (c ∷ bytes) rest (stays_in reads_debug prefix e b is (omega (arith, within))) unread (omega (arith, within, size)),
     )
 
 -- bytes that are not read
-pub skip-gone : (reads_debug : Bool) (old : Prefix) (prefix : List Step) (e : extents.Extent) (at : code.Location) (rest : List ℕ) (new : Prefix) (done : Next) → IsPrefixOf reads_debug old prefix → is_ended prefix ≡ false → ended_part_fault prefix ≡ None
+pub skip-gone : (reads_debug : Bool) (old : Prefix) (prefix : List Step) (e : extents.Extent) (at : code.Location) (rest : List ℕ) (new : Prefix) (done : Next) → IsPrefixOf old prefix → is_ended prefix ≡ false → ended_part_fault prefix ≡ None
     → at ≡ offset.Part e → as_location at ≡ location_after prefix → is_raw reads_debug (as_part e.part) ≡ true → HasSkipped old e.part (e.to - old.size) rest new done → IsStepTaken reads_debug prefix rest new done
 skip-gone reads_debug old prefix e at rest new done is unended whole here same unread skipped = by_done done skipped where
   found : (nat_lt (length prefix) 10 ≡ false) × (part_at prefix (size_of prefix) ≡ Some (as_extent e))
@@ -162,7 +163,7 @@ skip-gone reads_debug old prefix e at rest new done is unended whole here same u
       let long : length (take n rest) ≡ n = taken_length n rest (omega (arith, count)) in
       let size = is.size in (
         map raw (take n rest),
-        raw-prefix reads_debug old new prefix e (take n rest) is found.0 found.1 (omega (arith, long, count, before, size)) more,
+        raw-prefix old new prefix e (take n rest) is found.0 found.1 (omega (arith, long, count, before, size)) more,
         subst (λ (r : List ℕ). IsSoundFrom reads_debug prefix (map raw (take n rest)) r) (take-append-drop n rest)
             (raw_sound reads_debug prefix (as_extent e) (take n rest) (drop n rest) stays unread (omega (arith, long, count, before, size))),
         raw_size (take n rest) ∙ long,
@@ -170,7 +171,7 @@ skip-gone reads_debug old prefix e at rest new done is unended whole here same u
         omega (arith, count),
       )
   by_done next.More (none, same_) = (
-    subst (λ (f : Prefix). IsPrefixOf reads_debug f prefix) (sym same_) is,
+    subst (λ (f : Prefix). IsPrefixOf f prefix) (sym same_) is,
     raw_next reads_debug prefix (as_extent e) rest found.0 found.1 unread ∙ ap raw_step none,
   )
   by_done (next.Refused f) skipped = absurd skipped

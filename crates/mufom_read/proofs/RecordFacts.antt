@@ -1,10 +1,10 @@
 -- What holds of a record that was got, and of a fault.
-use Rattle.std.proofs.Common.{◌≡◌, ℕ, zero, suc, ◌+◌, ◌<◌, List, [], ◌∷◌, ◌++◌, length, Option, Some, None, is_some, nat_le, le-leb, sym, ap, subst, ◌∙◌, arith, length-append}
+use Rattle.std.proofs.Common.{◌≡◌, ℕ, zero, suc, ◌+◌, ◌<◌, Bool, true, false, cond, List, [], ◌∷◌, ◌++◌, length, Option, Some, None, is_some, nat_le, le-leb, sym, ap, subst, ◌∙◌, arith, length-append}
 use Rattle.mufom_numbers.specs.Spelling.{SpellsNumber}
 use Rattle.mufom_records.specs.declared.record.Mode.TheVariants as mode
 use Rattle.mufom_records.specs.declared.record.Record.TheVariants as r
 use Rattle.mufom_records.specs.Layouts
-use Rattle.mufom_read.proofs.EndedRows.{begin_row, descriptor_row, offset_row}
+use Rattle.mufom_read.proofs.EndedRows.{begin_row, descriptor_row, offset_row, body_kind, items_kind}
 use Rattle.mufom_read.proofs.OwnParts.{body_owned, item_owned, begin_owned}
 use Rattle.mufom_records.specs.declared.record.Mode.{Mode}
 use Rattle.mufom_records.specs.declared.record.Record.{Record}
@@ -13,7 +13,8 @@ use Rattle.mufom_module.specs.Grammar.{offset_in}
 use Rattle.mufom_read.specs.declared.prefix.Location as code
 use Rattle.mufom_read.specs.declared.prefix.Location.TheVariants as fault_offset
 use Rattle.mufom_read.specs.Prefixes.{Step, header_mode}
-use Rattle.mufom_read.specs.PrefixOfCode.{IsHeaderRow, IsPlacedWell, IsNotDebug, as_location, mode_at}
+use Rattle.mufom_read.specs.PrefixOfCode.{IsHeaderRow, IsPlacedWell, as_location, mode_at}
+use Rattle.mufom_read.specs.DebugSoFar.{HasKind}
 
 number_some : (n : ℕ) (bytes : List ℕ) → SpellsNumber n bytes → 0 < length bytes
 number_some n [] is = absurd is
@@ -54,7 +55,12 @@ got-offset zero row bytes after is = let b = begin_row row bytes after is in ap 
 got-offset (suc zero) row bytes after is = let d = descriptor_row row bytes after is in ap (λ x. is_some (offset_in x)) d.3
 got-offset (suc (suc k)) row bytes after is = let o = offset_row k row bytes after is in ap (λ x. is_some (offset_in x)) o.1 ∙ sym (le-leb 2 (suc (suc k)) (omega arith))
 
-pub got-placed : (prefix : List Step) (at : code.Location) (rest : List ℕ) (row : Record) (bytes : List ℕ) (after : Option ℕ) → IsNotDebug at → Layouts.IsWholeRecord (mode_at prefix (as_location at) rest) row bytes after → IsPlacedWell at row
-got-placed prefix (fault_offset.Header k) rest row bytes after other is = (got-header k row bytes after is, got-offset k row bytes after is)
-got-placed prefix (fault_offset.Part e) rest row bytes after other is = other
-got-placed prefix fault_offset.End rest row bytes after other is = tt
+-- the kind of a block is one with what it adds
+got-kind : (items : Bool) (row : Record) (bytes : List ℕ) (after : Option ℕ) → Layouts.IsWholeRecord (cond items mode.Items mode.Body) row bytes after → HasKind row
+got-kind true row bytes after is = items_kind row bytes after is
+got-kind false row bytes after is = body_kind row bytes after is
+
+pub got-placed : (prefix : List Step) (at : code.Location) (rest : List ℕ) (row : Record) (bytes : List ℕ) (after : Option ℕ) → Layouts.IsWholeRecord (mode_at prefix (as_location at) rest) row bytes after → IsPlacedWell at row
+got-placed prefix (fault_offset.Header k) rest row bytes after is = (got-header k row bytes after is, got-offset k row bytes after is)
+got-placed prefix (fault_offset.Part e) rest row bytes after is = got-kind _ row bytes after is
+got-placed prefix fault_offset.End rest row bytes after is = tt

@@ -1,5 +1,5 @@
 -- The rules for a record, read off the tables, are the rules after a prefix.
-use Rattle.std.proofs.Common.{◌≡◌, ℕ, ◌&&◌, ◌||◌, Bool, true, false, not, true≢false, List, [], ◌∷◌, Option, Some, None, is_none, filter_map, map, option_to_list, cond, refl, sym, ap, ◌∙◌, append-nil}
+use Rattle.std.proofs.Common.{◌≡◌, ℕ, ◌&&◌, ◌||◌, Bool, true, false, not, List, [], ◌∷◌, Option, Some, None, is_none, filter_map, map, option_to_list, cond, refl, sym, ap, ◌∙◌, append-nil}
 use Rattle.std.specs.List.{list_any, list_all, last_or}
 use Rattle.std.proofs.lemmas.List.Folds.{list_all-append}
 use Rattle.mufom_numbers.specs.declared.reason.Reason.{Reason}
@@ -8,6 +8,7 @@ use Rattle.mufom_expr.specs.declared.token.Letter.{Letter}
 use Rattle.mufom_expr.specs.declared.token.Letter.TheVariants.{I, L, P, R, S, X}
 use Rattle.mufom_expr.specs.Tree.{Tree}
 use Rattle.mufom_expr.specs.Value.{variables_of}
+use Rattle.mufom_records.specs.declared.record.BlockTail.TheVariants as tail
 use Rattle.mufom_records.specs.declared.record.Record.{Record}
 use Rattle.mufom_records.specs.declared.record.Record.TheVariants as r
 use Rattle.std.specs.List.{cons_option}
@@ -15,42 +16,42 @@ use Rattle.mufom_debug.specs.Marks.{joined}
 use Rattle.mufom_module.specs.Contents.{any_of}
 use Rattle.mufom_module.specs.Defects.{has_other_counter}
 use Rattle.mufom_module.specs.SpelledRecords.{SpelledRecord, FileIndex, is_declared, named_by, named_in_expression, is_public_value, index_of_variable, tree_of_record}
-use Rattle.mufom_module.specs.RecordParts.{debug_part, stands_in, is_loading, is_set_section}
+use Rattle.mufom_module.specs.RecordParts.{is_loading, is_set_section}
 use Rattle.mufom_module.specs.Grammar.{declares_again, states_again, names_unknown, has_no_section}
 use Rattle.mufom_read.specs.Prefixes.{Step, records_of, offset_records_of}
-use Rattle.mufom_read.specs.Faults.{set_by, counter_allowed, misplaces_counter, OpenBlock, open_blocks, ends_badly, is_too_deep, has_bad_alignment, rule_broken}
+use Rattle.mufom_read.specs.Faults.{set_by, counter_allowed, misplaces_counter, open_blocks, ends_badly, is_too_deep, has_bad_alignment, rule_broken}
 use Rattle.mufom_read.specs.Kept.{tables_of, statements, declares_again_in, states_again_in, is_declared_in, is_unknown, names_unknown_in, has_no_section_in, counter_allowed_in, misplaces_counter_in, rule_broken_in}
 use Rattle.mufom_read.proofs.TableLaws.{alignment-has, size-has, base-has, value-has, weakness-has}
 
-pub declares : (ps : List SpelledRecord) (row : Record) → stands_in debug_part row ≡ false → declares_again_in (tables_of ps) row ≡ declares_again ps row
-declares ps (r.ModuleBegin a b) plain = refl
-declares ps (r.Descriptor a b c) plain = refl
-declares ps (r.Offset a b) plain = refl
-declares ps r.ModuleEnd plain = refl
-declares ps (r.SectionType a b c d e f g) plain = refl
-declares ps (r.Alignment a b c) plain = refl
-declares ps (r.SectionSize a b) plain = refl
-declares ps (r.SectionBase a b) plain = refl
-declares ps (r.PublicName a b) plain = refl
-declares ps (r.PublicValue a b) plain = refl
-declares ps (r.PublicNote a b c d) plain = refl
-declares ps (r.ReferenceName a b) plain = refl
-declares ps (r.WeakReference a b c) plain = refl
-declares ps (r.ReferenceNote a b c d) plain = refl
-declares ps (r.BlockBegin a b c d) plain = absurd (true≢false plain)
-declares ps (r.BlockEnd a) plain = absurd (true≢false plain)
-declares ps (r.DebugName a b) plain = absurd (true≢false plain)
-declares ps (r.DebugValue a b) plain = absurd (true≢false plain)
-declares ps (r.DebugNote a b c d) plain = absurd (true≢false plain)
-declares ps (r.SetSection a) plain = refl
-declares ps (r.SetPc a b) plain = refl
-declares ps (r.Constant a) plain = refl
-declares ps r.Relocate plain = refl
-declares ps (r.ConstantItem a) plain = refl
-declares ps (r.FieldItem a b c) plain = refl
-declares ps (r.RepeatConstant a b) plain = refl
-declares ps (r.RepeatRelocate a) plain = refl
-declares ps (r.Start a) plain = refl
+pub declares : (ps : List SpelledRecord) (row : Record) → declares_again_in (tables_of ps) row ≡ declares_again ps row
+declares ps (r.ModuleBegin a b) = refl
+declares ps (r.Descriptor a b c) = refl
+declares ps (r.Offset a b) = refl
+declares ps r.ModuleEnd = refl
+declares ps (r.SectionType a b c d e f g) = refl
+declares ps (r.Alignment a b c) = refl
+declares ps (r.SectionSize a b) = refl
+declares ps (r.SectionBase a b) = refl
+declares ps (r.PublicName a b) = refl
+declares ps (r.PublicValue a b) = refl
+declares ps (r.PublicNote a b c d) = refl
+declares ps (r.ReferenceName a b) = refl
+declares ps (r.WeakReference a b c) = refl
+declares ps (r.ReferenceNote a b c d) = refl
+declares ps (r.BlockBegin a b c d) = refl
+declares ps (r.BlockEnd a) = refl
+declares ps (r.DebugName a b) = refl
+declares ps (r.DebugValue a b) = refl
+declares ps (r.DebugNote a b c d) = refl
+declares ps (r.SetSection a) = refl
+declares ps (r.SetPc a b) = refl
+declares ps (r.Constant a) = refl
+declares ps r.Relocate = refl
+declares ps (r.ConstantItem a) = refl
+declares ps (r.FieldItem a b c) = refl
+declares ps (r.RepeatConstant a b) = refl
+declares ps (r.RepeatRelocate a) = refl
+declares ps (r.Start a) = refl
 
 pub states : (ps : List SpelledRecord) (row : Record) → states_again_in (tables_of ps) row ≡ states_again ps row
 states ps (r.ModuleBegin a b) = refl
@@ -84,35 +85,38 @@ states ps (r.Start a) = refl
 
 -- ---- indexes that are named
 
-named-entry : (ps : List SpelledRecord) (row : Record) → stands_in debug_part row ≡ false → list_all (is_declared_in (tables_of ps)) (option_to_list (named_by row)) ≡ list_all (is_declared ps) (option_to_list (named_by row))
-named-entry ps (r.ModuleBegin a b) plain = refl
-named-entry ps (r.Descriptor a b c) plain = refl
-named-entry ps (r.Offset a b) plain = refl
-named-entry ps r.ModuleEnd plain = refl
-named-entry ps (r.SectionType a b c d e f g) plain = refl
-named-entry ps (r.Alignment a b c) plain = refl
-named-entry ps (r.SectionSize a b) plain = refl
-named-entry ps (r.SectionBase a b) plain = refl
-named-entry ps (r.PublicName a b) plain = refl
-named-entry ps (r.PublicValue a b) plain = refl
-named-entry ps (r.PublicNote a b c d) plain = refl
-named-entry ps (r.ReferenceName a b) plain = refl
-named-entry ps (r.WeakReference a b c) plain = refl
-named-entry ps (r.ReferenceNote a b c d) plain = refl
-named-entry ps (r.BlockBegin a b c d) plain = absurd (true≢false plain)
-named-entry ps (r.BlockEnd a) plain = absurd (true≢false plain)
-named-entry ps (r.DebugName a b) plain = absurd (true≢false plain)
-named-entry ps (r.DebugValue a b) plain = absurd (true≢false plain)
-named-entry ps (r.DebugNote a b c d) plain = absurd (true≢false plain)
-named-entry ps (r.SetSection a) plain = refl
-named-entry ps (r.SetPc a b) plain = refl
-named-entry ps (r.Constant a) plain = refl
-named-entry ps r.Relocate plain = refl
-named-entry ps (r.ConstantItem a) plain = refl
-named-entry ps (r.FieldItem a b c) plain = refl
-named-entry ps (r.RepeatConstant a b) plain = refl
-named-entry ps (r.RepeatRelocate a) plain = refl
-named-entry ps (r.Start a) plain = refl
+named-entry : (ps : List SpelledRecord) (row : Record) → list_all (is_declared_in (tables_of ps)) (option_to_list (named_by row)) ≡ list_all (is_declared ps) (option_to_list (named_by row))
+named-entry ps (r.ModuleBegin a b) = refl
+named-entry ps (r.Descriptor a b c) = refl
+named-entry ps (r.Offset a b) = refl
+named-entry ps r.ModuleEnd = refl
+named-entry ps (r.SectionType a b c d e f g) = refl
+named-entry ps (r.Alignment a b c) = refl
+named-entry ps (r.SectionSize a b) = refl
+named-entry ps (r.SectionBase a b) = refl
+named-entry ps (r.PublicName a b) = refl
+named-entry ps (r.PublicValue a b) = refl
+named-entry ps (r.PublicNote a b c d) = refl
+named-entry ps (r.ReferenceName a b) = refl
+named-entry ps (r.WeakReference a b c) = refl
+named-entry ps (r.ReferenceNote a b c d) = refl
+named-entry ps (r.BlockBegin a b c tail.Module) = refl
+named-entry ps (r.BlockBegin a b c (tail.Scope d e f)) = refl
+named-entry ps (r.BlockBegin a b c (tail.Source d)) = refl
+named-entry ps (r.BlockBegin a b c (tail.Section d e f)) = refl
+named-entry ps (r.BlockEnd a) = refl
+named-entry ps (r.DebugName a b) = refl
+named-entry ps (r.DebugValue a b) = refl
+named-entry ps (r.DebugNote a b c d) = refl
+named-entry ps (r.SetSection a) = refl
+named-entry ps (r.SetPc a b) = refl
+named-entry ps (r.Constant a) = refl
+named-entry ps r.Relocate = refl
+named-entry ps (r.ConstantItem a) = refl
+named-entry ps (r.FieldItem a b c) = refl
+named-entry ps (r.RepeatConstant a b) = refl
+named-entry ps (r.RepeatRelocate a) = refl
+named-entry ps (r.Start a) = refl
 
 declared-variable : (ps : List SpelledRecord) (v : Letter × ℕ) → is_declared_in (tables_of ps) (index_of_variable v) ≡ is_declared ps (index_of_variable v)
 declared-variable ps (I, i) = refl
@@ -137,9 +141,9 @@ pub known-tree : (ps : List SpelledRecord) (tree : Option Tree) → any_of (λ t
 known-tree ps None = refl
 known-tree ps (Some t) = known-variables ps (variables_of t) ∙ ap (λ vs. not (list_all (is_declared ps) (map index_of_variable vs))) (sym (append-nil (variables_of t)))
 
-unknown : (ps : List SpelledRecord) (p : SpelledRecord) → stands_in debug_part p.row ≡ false → names_unknown_in (tables_of ps) p.row (tree_of_record p) ≡ names_unknown ps p
-unknown ps p plain =
-    ap (λ b. not b || (not (is_public_value p.row) && any_of (λ t. list_any (is_unknown (tables_of ps)) (variables_of t)) (tree_of_record p))) (named-entry ps p.row plain)
+unknown : (ps : List SpelledRecord) (p : SpelledRecord) → names_unknown_in (tables_of ps) p.row (tree_of_record p) ≡ names_unknown ps p
+unknown ps p =
+    ap (λ b. not b || (not (is_public_value p.row) && any_of (λ t. list_any (is_unknown (tables_of ps)) (variables_of t)) (tree_of_record p))) (named-entry ps p.row)
     ∙ ap (λ b. not (entry) || (not (is_public_value p.row) && b)) (known-tree ps (tree_of_record p))
     ∙ by_case entry (is_public_value p.row)
     ∙ ap not (sym (list_all-append (is_declared ps) (option_to_list (named_by p.row)) (if_waits (is_public_value p.row)))) where
@@ -230,96 +234,6 @@ allowed ps (r.Start a) = refl
 misplaced : (ps : List SpelledRecord) (p : SpelledRecord) → misplaces_counter_in (tables_of ps) p.row (tree_of_record p) ≡ misplaces_counter ps p
 misplaced ps p = ap (λ o. any_of (has_other_counter o) (tree_of_record p)) (allowed ps p.row)
 
--- ---- debug blocks
-
-no-nesting : (blocks : List OpenBlock) (row : Record) → stands_in debug_part row ≡ false → ends_badly blocks row ≡ false
-no-nesting [] (r.ModuleBegin a b) plain = refl
-no-nesting (m ∷ bs) (r.ModuleBegin a b) plain = refl
-no-nesting [] (r.Descriptor a b c) plain = refl
-no-nesting (m ∷ bs) (r.Descriptor a b c) plain = refl
-no-nesting [] (r.Offset a b) plain = refl
-no-nesting (m ∷ bs) (r.Offset a b) plain = refl
-no-nesting [] r.ModuleEnd plain = refl
-no-nesting (m ∷ bs) r.ModuleEnd plain = refl
-no-nesting [] (r.SectionType a b c d e f g) plain = refl
-no-nesting (m ∷ bs) (r.SectionType a b c d e f g) plain = refl
-no-nesting [] (r.Alignment a b c) plain = refl
-no-nesting (m ∷ bs) (r.Alignment a b c) plain = refl
-no-nesting [] (r.SectionSize a b) plain = refl
-no-nesting (m ∷ bs) (r.SectionSize a b) plain = refl
-no-nesting [] (r.SectionBase a b) plain = refl
-no-nesting (m ∷ bs) (r.SectionBase a b) plain = refl
-no-nesting [] (r.PublicName a b) plain = refl
-no-nesting (m ∷ bs) (r.PublicName a b) plain = refl
-no-nesting [] (r.PublicValue a b) plain = refl
-no-nesting (m ∷ bs) (r.PublicValue a b) plain = refl
-no-nesting [] (r.PublicNote a b c d) plain = refl
-no-nesting (m ∷ bs) (r.PublicNote a b c d) plain = refl
-no-nesting [] (r.ReferenceName a b) plain = refl
-no-nesting (m ∷ bs) (r.ReferenceName a b) plain = refl
-no-nesting [] (r.WeakReference a b c) plain = refl
-no-nesting (m ∷ bs) (r.WeakReference a b c) plain = refl
-no-nesting [] (r.ReferenceNote a b c d) plain = refl
-no-nesting (m ∷ bs) (r.ReferenceNote a b c d) plain = refl
-no-nesting [] (r.BlockBegin a b c d) plain = absurd (true≢false plain)
-no-nesting (m ∷ bs) (r.BlockBegin a b c d) plain = absurd (true≢false plain)
-no-nesting [] (r.BlockEnd a) plain = absurd (true≢false plain)
-no-nesting (m ∷ bs) (r.BlockEnd a) plain = absurd (true≢false plain)
-no-nesting [] (r.DebugName a b) plain = absurd (true≢false plain)
-no-nesting (m ∷ bs) (r.DebugName a b) plain = absurd (true≢false plain)
-no-nesting [] (r.DebugValue a b) plain = absurd (true≢false plain)
-no-nesting (m ∷ bs) (r.DebugValue a b) plain = absurd (true≢false plain)
-no-nesting [] (r.DebugNote a b c d) plain = absurd (true≢false plain)
-no-nesting (m ∷ bs) (r.DebugNote a b c d) plain = absurd (true≢false plain)
-no-nesting [] (r.SetSection a) plain = refl
-no-nesting (m ∷ bs) (r.SetSection a) plain = refl
-no-nesting [] (r.SetPc a b) plain = refl
-no-nesting (m ∷ bs) (r.SetPc a b) plain = refl
-no-nesting [] (r.Constant a) plain = refl
-no-nesting (m ∷ bs) (r.Constant a) plain = refl
-no-nesting [] r.Relocate plain = refl
-no-nesting (m ∷ bs) r.Relocate plain = refl
-no-nesting [] (r.ConstantItem a) plain = refl
-no-nesting (m ∷ bs) (r.ConstantItem a) plain = refl
-no-nesting [] (r.FieldItem a b c) plain = refl
-no-nesting (m ∷ bs) (r.FieldItem a b c) plain = refl
-no-nesting [] (r.RepeatConstant a b) plain = refl
-no-nesting (m ∷ bs) (r.RepeatConstant a b) plain = refl
-no-nesting [] (r.RepeatRelocate a) plain = refl
-no-nesting (m ∷ bs) (r.RepeatRelocate a) plain = refl
-no-nesting [] (r.Start a) plain = refl
-no-nesting (m ∷ bs) (r.Start a) plain = refl
-
-no-depth : (blocks : List OpenBlock) (row : Record) → stands_in debug_part row ≡ false → is_too_deep blocks row ≡ false
-no-depth blocks (r.ModuleBegin a b) plain = refl
-no-depth blocks (r.Descriptor a b c) plain = refl
-no-depth blocks (r.Offset a b) plain = refl
-no-depth blocks r.ModuleEnd plain = refl
-no-depth blocks (r.SectionType a b c d e f g) plain = refl
-no-depth blocks (r.Alignment a b c) plain = refl
-no-depth blocks (r.SectionSize a b) plain = refl
-no-depth blocks (r.SectionBase a b) plain = refl
-no-depth blocks (r.PublicName a b) plain = refl
-no-depth blocks (r.PublicValue a b) plain = refl
-no-depth blocks (r.PublicNote a b c d) plain = refl
-no-depth blocks (r.ReferenceName a b) plain = refl
-no-depth blocks (r.WeakReference a b c) plain = refl
-no-depth blocks (r.ReferenceNote a b c d) plain = refl
-no-depth blocks (r.BlockBegin a b c d) plain = absurd (true≢false plain)
-no-depth blocks (r.BlockEnd a) plain = absurd (true≢false plain)
-no-depth blocks (r.DebugName a b) plain = absurd (true≢false plain)
-no-depth blocks (r.DebugValue a b) plain = absurd (true≢false plain)
-no-depth blocks (r.DebugNote a b c d) plain = absurd (true≢false plain)
-no-depth blocks (r.SetSection a) plain = refl
-no-depth blocks (r.SetPc a b) plain = refl
-no-depth blocks (r.Constant a) plain = refl
-no-depth blocks r.Relocate plain = refl
-no-depth blocks (r.ConstantItem a) plain = refl
-no-depth blocks (r.FieldItem a b c) plain = refl
-no-depth blocks (r.RepeatConstant a b) plain = refl
-no-depth blocks (r.RepeatRelocate a) plain = refl
-no-depth blocks (r.Start a) plain = refl
-
 -- ---- all of them
 
 -- the first of eight rules that is broken
@@ -328,16 +242,15 @@ first_broken a b c d e f g h = cond a (Some why.DuplicateIndex) (cond b (Some wh
     (cond e (Some why.NoSection) (cond f (Some why.BadP) (cond g (Some why.BlockNesting) (cond h (Some why.Depth) None)))))))
 
 -- The rule that the tables show to be broken is the first that the record breaks.
-pub rule_broken-tables : (prefix : List Step) (p : SpelledRecord) → stands_in debug_part p.row ≡ false → rule_broken_in (tables_of (records_of prefix)) p.row (tree_of_record p) ≡ rule_broken prefix p
-rule_broken-tables prefix p plain =
+pub rule_broken-tables : (prefix : List Step) (p : SpelledRecord) → rule_broken_in (tables_of (records_of prefix)) (open_blocks (offset_records_of prefix)) p.row (tree_of_record p) ≡ rule_broken prefix p
+rule_broken-tables prefix p =
     let ps = records_of prefix in
     let t = tables_of ps in
-    let blocks = open_blocks (offset_records_of prefix) in
     let row = p.row in
-    ap (λ x. first_broken x (names_unknown_in t row (tree_of_record p)) (states_again_in t row) (has_bad_alignment row) (has_no_section_in t row) (misplaces_counter_in t row (tree_of_record p)) false false) (declares ps row plain)
-    ∙ ap (λ x. first_broken (declares_again ps row) x (states_again_in t row) (has_bad_alignment row) (has_no_section_in t row) (misplaces_counter_in t row (tree_of_record p)) false false) (unknown ps p plain)
-    ∙ ap (λ x. first_broken (declares_again ps row) (names_unknown ps p) x (has_bad_alignment row) (has_no_section_in t row) (misplaces_counter_in t row (tree_of_record p)) false false) (states ps row)
-    ∙ ap (λ x. first_broken (declares_again ps row) (names_unknown ps p) (states_again ps row) (has_bad_alignment row) x (misplaces_counter_in t row (tree_of_record p)) false false) (no-section ps row)
-    ∙ ap (λ x. first_broken (declares_again ps row) (names_unknown ps p) (states_again ps row) (has_bad_alignment row) (has_no_section ps row) x false false) (misplaced ps p)
-    ∙ ap (λ x. first_broken (declares_again ps row) (names_unknown ps p) (states_again ps row) (has_bad_alignment row) (has_no_section ps row) (misplaces_counter ps p) x false) (sym (no-nesting blocks row plain))
-    ∙ ap (λ x. first_broken (declares_again ps row) (names_unknown ps p) (states_again ps row) (has_bad_alignment row) (has_no_section ps row) (misplaces_counter ps p) (ends_badly blocks row) x) (sym (no-depth blocks row plain))
+    let g = ends_badly (open_blocks (offset_records_of prefix)) row in
+    let h = is_too_deep (open_blocks (offset_records_of prefix)) row in
+    ap (λ x. first_broken x (names_unknown_in t row (tree_of_record p)) (states_again_in t row) (has_bad_alignment row) (has_no_section_in t row) (misplaces_counter_in t row (tree_of_record p)) g h) (declares ps row)
+    ∙ ap (λ x. first_broken (declares_again ps row) x (states_again_in t row) (has_bad_alignment row) (has_no_section_in t row) (misplaces_counter_in t row (tree_of_record p)) g h) (unknown ps p)
+    ∙ ap (λ x. first_broken (declares_again ps row) (names_unknown ps p) x (has_bad_alignment row) (has_no_section_in t row) (misplaces_counter_in t row (tree_of_record p)) g h) (states ps row)
+    ∙ ap (λ x. first_broken (declares_again ps row) (names_unknown ps p) (states_again ps row) (has_bad_alignment row) x (misplaces_counter_in t row (tree_of_record p)) g h) (no-section ps row)
+    ∙ ap (λ x. first_broken (declares_again ps row) (names_unknown ps p) (states_again ps row) (has_bad_alignment row) (has_no_section ps row) x g h) (misplaced ps p)

@@ -1,22 +1,18 @@
 -- A module's file is not refused and not cut off, and is the file of one module.
-use Rattle.std.proofs.Common.{◌≡◌, ℕ, ◌<◌, ◌≤◌, Bool, List, [], length, refl, sym, subst, inl, inr, arith}
+use Rattle.std.proofs.Common.{◌≡◌, ℕ, ◌<◌, ◌≤◌, Bool, List, length, sym, subst, inl, inr, arith}
 use Rattle.mufom_numbers.specs.declared.reason.Reason.{Reason}
 use Rattle.mufom_numbers.specs.Spelling.{AreBytes}
 use Rattle.mufom_module.specs.declared.module.Parts.{Parts}
-use Rattle.mufom_module.specs.Defects.{IsValid}
-use Rattle.mufom_module.specs.Grammar.{file_limit, FileParts, offsets_in, IsCutInto, HasNames, States, indexes_of}
+use Rattle.mufom_module.specs.Grammar.{file_limit}
 use Rattle.mufom_module.proofs.OneModule.{one_module}
-use Rattle.mufom_read.specs.Prefixes.{size_of}
 use Rattle.mufom_read.specs.Judging.{IsSoundPrefix, EndsAt, IsRefusedAt, IsModule}
 use Rattle.mufom_read.specs.Laws.{JudgmentsExcludeEachOther}
 use Rattle.mufom_read.proofs.PrefixesOne.{one_end, fault_not_ended, ended_not_waiting, not_cut}
-use Rattle.mufom_read.proofs.PrefixJudged.{not_refused as not_left}
-use Rattle.mufom_read.proofs.SpelledHeader.{AreNow}
-use Rattle.mufom_read.proofs.SpelledPrefix.{within, module_is_ended_prefix, file_is_ended_prefix}
+use Rattle.mufom_read.proofs.SpelledPrefix.{within, module_is_ended_prefix}
 
 -- a module's file is no longer than a file may be
 short : (reads_debug : Bool) (bytes : List ℕ) (m : Parts) → IsModule reads_debug bytes m → length bytes ≤ file_limit
-short reads_debug bytes m ((f, cut, names, states, valid), now) = cut.limit
+short reads_debug bytes m (f, cut, names, states, valid) = cut.limit
 
 -- the module ends where its file does
 ends_there : (reads_debug : Bool) (bytes : List ℕ) (m : Parts) → AreBytes bytes → IsModule reads_debug bytes m → EndsAt reads_debug bytes (length bytes)
@@ -45,17 +41,5 @@ judgments_exclude_each_other reads_debug bytes fits = record {
   not_module = λ m offset reason is refused. not_refused reads_debug bytes m offset reason fits is refused;
   not_cut = λ offset reason cut refused. not_cut reads_debug bytes offset reason cut refused;
   whole = λ m is cut. ended_not_waiting reads_debug bytes cut.1 (length bytes) (ends_there reads_debug bytes m fits is) cut.2;
-  one_module = λ m n one other. one_module m n bytes reads_debug one.0 other.0;
+  one_module = λ m n one other. one_module m n bytes reads_debug one other;
 }
-
--- a file none of whose offsets is left for later is a module's stream
-pub file_is_module : (bytes : List ℕ) (reads_debug : Bool) (f : FileParts) (m : Parts) → IsCutInto bytes reads_debug f → HasNames f → States f (indexes_of f) m → IsValid m → AreNow reads_debug [] (offsets_in f.offsets) → IsModule reads_debug bytes m
-file_is_module bytes reads_debug f m cut names states valid now =
-    let its = file_is_ended_prefix bytes reads_debug f m cut names states valid now in
-    let ends : EndsAt reads_debug bytes (size_of its.0) = record {
-      prefix = its.0;
-      sound = subst (λ (l : List ℕ). IsSoundPrefix reads_debug its.0 l) (sym (within bytes cut.limit)) its.1;
-      ended = its.2;
-      here = refl;
-    } in
-    ((f, cut, names, states, valid), λ offset refused. not_left reads_debug bytes offset (size_of its.0) ends refused)

@@ -1,26 +1,32 @@
 -- The records of a valid module's file keep to the rules of their parts, and so do the parts as wholes.
-use Rattle.std.proofs.Common.{◌≡◌, ℕ, Bool, true, false, not, ◌==◌, ◌&&◌, List, [], ◌∷◌, ◌++◌, Option, Some, None, is_none, refl, sym, ap, subst, ◌∙◌, append_assoc, append-nil}
+use Rattle.std.proofs.Common.{◌≡◌, ℕ, Bool, true, false, cond, not, ◌==◌, ◌&&◌, List, [], ◌∷◌, ◌++◌, Option, Some, None, is_none, option_map, refl, sym, ap, subst, ◌∙◌, append_assoc, append-nil}
 use Rattle.std.specs.List.{list_all, list_any, last_or, cons_option, AllByRecursion}
 use Rattle.std.specs.Option.{option_or}
 use Rattle.std.proofs.lemmas.Bool.{and_parts, or_right, both_ways, not_from_true}
 use Rattle.mufom_numbers.specs.declared.reason.Reason.TheVariants as why
+use Rattle.mufom_numbers.specs.declared.taken.Span.{Span}
+use Rattle.mufom_expr.specs.Tree.{Tree}
 use Rattle.mufom_expr.specs.Spelled.{Indexes}
+use Rattle.mufom_records.specs.declared.record.BlockTail.{BlockTail}
+use Rattle.mufom_records.specs.declared.record.BlockTail.TheVariants as tail
 use Rattle.mufom_records.specs.declared.record.Record.{Record}
 use Rattle.mufom_records.specs.declared.record.Record.TheVariants as r
 use Rattle.mufom_names.specs.declared.name.Public.{Public}
-use Rattle.mufom_module.specs.Contents.{any_of}
+use Rattle.mufom_debug.specs.declared.item.BlockHead.TheVariants as heads
+use Rattle.mufom_debug.specs.Marks.{offset_of}
+use Rattle.mufom_module.specs.Contents.{any_of, any_expression}
 use Rattle.mufom_module.specs.Defects as d
-use Rattle.mufom_module.specs.SpelledRecords.{SpelledRecord, public, declared_by, declared, is_declared, named_at_once, named_in_expression, is_public_value, tree_of_record, value_of_public, assigned_by, is_assigned}
+use Rattle.mufom_module.specs.SpelledRecords.{SpelledRecord, public, declared_by, declared, is_declared, named_at_once, named_in_expression, is_public_value, offset_of_block, expression_of, tree_in, tree_of_record, positioned, value_of_public, assigned_by, is_assigned}
 use Rattle.mufom_module.specs.RecordParts.{Part, section_part, external_part, debug_part, trailer_part, number_of, part_of, stands_in, is_loading}
-use Rattle.mufom_module.specs.Gathered.{sections_of, publics_of, start_by, starts_of}
+use Rattle.mufom_module.specs.Gathered.{sections_of, publics_of, head_by, mark_by, marks, start_by, starts_of}
 use Rattle.mufom_module.specs.Grammar.{Follows, FollowFrom}
 use Rattle.mufom_read.specs.Prefixes.{Step, raw, read, records_of, OffsetRecord, offset_records_of}
-use Rattle.mufom_read.specs.Faults.{Fault, fault_if, has_bad_alignment, set_by, counter_allowed, misplaces_counter, public_declared, lacks_value, external_fault, lacks_base, section_fault, first_fault, OpenBlock, opened_after, open_from, open_fault, whole_fault}
+use Rattle.mufom_read.specs.Faults.{Fault, fault_if, has_bad_alignment, set_by, counter_allowed, misplaces_counter, public_declared, lacks_value, external_fault, lacks_base, section_fault, first_fault, OpenBlock, open_blocks, open_fault, whole_fault}
+use Rattle.mufom_read.proofs.BlockKinds.{kinds_from, open_kinds, ends_badly_in, is_too_deep_in, kinds_of, kinds-open, kinds-append, kinds-next, kinds-silent, NestFrom}
 use Rattle.mufom_read.proofs.EndedParts.{IsKept, KeptFrom}
 use Rattle.mufom_read.proofs.EndedSliced.{IsGiven}
 use Rattle.mufom_read.proofs.EndedNames.{IsSilent, after_silent, declared_after, assigned_after, set_after, declares_public, assigned-append}
-use Rattle.mufom_read.proofs.EndedGathered.{other_part, unplaced}
-use Rattle.mufom_read.proofs.SpelledEntries.{aligned, all_have_bases, public_counter, section_counter, start_counter, none_each}
+use Rattle.mufom_read.proofs.SpelledEntries.{aligned, all_have_bases, public_counter, section_counter, start_counter, none_each, none_tree_back}
 use Rattle.mufom_read.proofs.SpelledLoads.{CounterFrom}
 
 -- ---- records in order
@@ -42,25 +48,32 @@ same_allowed header before (r.FieldItem kind value n) quiet = ap (last_or None) 
 same_allowed header before (r.SetPc i value) quiet = refl
 same_allowed header before row quiet = refl
 
-kept_one : (header before : List SpelledRecord) (p : SpelledRecord) → IsSilent header → Follows before p → has_bad_alignment p.row ≡ false → misplaces_counter before p ≡ false → IsKept (header ++ before) p
-kept_one header before p quiet h fits counter = record {
+same_kinds : (header before : List SpelledRecord) → IsSilent header → open_kinds (header ++ before) ≡ open_kinds before
+same_kinds header before quiet = kinds-append [] header before ∙ ap (λ (k : List ℕ). kinds_from k before) (kinds-silent [] header quiet)
+
+kept_one : (header before : List SpelledRecord) (p : SpelledRecord) → IsSilent header → Follows before p → has_bad_alignment p.row ≡ false → misplaces_counter before p ≡ false → ends_badly_in (open_kinds before) p.row ≡ false
+    → is_too_deep_in (open_kinds before) p.row ≡ false → IsKept (header ++ before) p
+kept_one header before p quiet h fits counter nested shallow = record {
   new = ap (λ test. any_of test (declared_by p.row)) (declared_after header before quiet) ∙ h.new;
   known = ap (λ test. not (list_all test (named_at_once p))) (declared_after header before quiet) ∙ h.known;
   once = ap (λ test. any_of test (assigned_by p.row)) (assigned_after header before quiet) ∙ h.once;
   aligned = fits;
   placed = ap (λ b. is_loading p.row && not b) (set_after header before quiet) ∙ h.placed;
   counter = ap (λ o. any_of (d.has_other_counter o) (tree_of_record p)) (same_allowed header before p.row quiet) ∙ counter;
+  nested = ap (λ (k : List ℕ). ends_badly_in k p.row) (same_kinds header before quiet) ∙ nested;
+  shallow = ap (λ (k : List ℕ). is_too_deep_in k p.row) (same_kinds header before quiet) ∙ shallow;
 }
 
 -- the records of a part keep to the rules
 pub keep_part : (part : Part) (header before records : List SpelledRecord) → IsSilent header → list_all (λ p. stands_in part p.row) records ≡ true → FollowFrom before records → AllByRecursion (λ p. has_bad_alignment p.row ≡ false) records → CounterFrom before records
-    → KeptFrom part (header ++ before) records
-keep_part part header before [] quiet own follow fit counters = tt
-keep_part part header before (p ∷ records) quiet own follow fit counters =
+    → NestFrom (open_kinds before) records → KeptFrom part (header ++ before) records
+keep_part part header before [] quiet own follow fit counters nest = tt
+keep_part part header before (p ∷ records) quiet own follow fit counters nest =
     let both = and_parts (stands_in part p.row) _ own in (
       both.0,
-      kept_one header before p quiet follow.0 fit.0 counters.0,
-      subst (λ (l : List SpelledRecord). KeptFrom part l records) (sym (append_assoc header before (p ∷ []))) (keep_part part header (before ++ p ∷ []) records quiet both.1 follow.1 fit.1 counters.1),
+      kept_one header before p quiet follow.0 fit.0 counters.0 nest.0 nest.1,
+      subst (λ (l : List SpelledRecord). KeptFrom part l records) (sym (append_assoc header before (p ∷ []))) (keep_part part header (before ++ p ∷ []) records quiet both.1 follow.1 fit.1 counters.1
+          (subst (λ (k : List ℕ). NestFrom k records) (sym (kinds-next before p)) nest.2)),
     )
 
 -- ---- alignments
@@ -101,6 +114,37 @@ start_counters_by ix before (p ∷ records) own all = let both = and_parts (stan
 
 pub start_counters : (ix : Indexes) (before records : List SpelledRecord) → list_all (λ p. stands_in trailer_part p.row) records ≡ true → list_any (d.has_other_counter None) (starts_of ix records) ≡ false → CounterFrom before records
 start_counters ix before records own good = start_counters_by ix before records own (none_each (d.has_other_counter None) (λ p. start_by ix p p.row) records good)
+
+scope_counter : (test : Bool) (stack type_index : ℕ) (value : Tree) → any_of (d.has_other_counter None) (offset_of (cond test (heads.Global stack type_index value) (heads.Local stack type_index value))) ≡ false
+    → d.has_other_counter None value ≡ false
+scope_counter true stack type_index value h = h
+scope_counter false stack type_index value h = h
+
+block_counter : (ix : Indexes) (p : SpelledRecord) (kind : ℕ) (block : BlockTail) → any_of (d.has_other_counter None) (offset_of (head_by ix p kind block)) ≡ false → any_of (d.has_other_counter None) (option_map (tree_in p) (offset_of_block block)) ≡ false
+block_counter ix p kind tail.Module h = refl
+block_counter ix p kind (tail.Scope stack type_index offset) h = none_tree_back ix (tree_in p offset) (scope_counter (kind == 4) stack type_index (positioned ix (tree_in p offset)) h)
+block_counter ix p kind (tail.Source ns) h = refl
+block_counter ix p kind (tail.Section section_type section offset) h = none_tree_back ix (tree_in p offset) h
+
+end_counter : (ix : Indexes) (p : SpelledRecord) (value : Option Span) → any_of (d.has_other_counter None) (option_map (λ span. positioned ix (tree_in p span)) value) ≡ false → any_of (d.has_other_counter None) (option_map (tree_in p) value) ≡ false
+end_counter ix p None h = refl
+end_counter ix p (Some span) h = none_tree_back ix (tree_in p span) h
+
+debug_row : (ix : Indexes) (before : List SpelledRecord) (p : SpelledRecord) (row : Record) → stands_in debug_part row ≡ true → any_of (any_expression (d.has_other_counter None)) (mark_by ix p row) ≡ false
+    → any_of (d.has_other_counter (counter_allowed before row)) (option_map (tree_in p) (expression_of row)) ≡ false
+debug_row ix before p (r.BlockBegin kind n name block) own h = block_counter ix p kind block h
+debug_row ix before p (r.BlockEnd value) own h = end_counter ix p value h
+debug_row ix before p (r.DebugName i name) own h = refl
+debug_row ix before p (r.DebugValue i value) own h = none_tree_back ix (tree_in p value) h
+debug_row ix before p (r.DebugNote i type_index attribute ns) own h = refl
+debug_row ix before p row own h = cc
+
+debug_counters_by : (ix : Indexes) (before records : List SpelledRecord) → list_all (λ p. stands_in debug_part p.row) records ≡ true → AllByRecursion (λ p. any_of (any_expression (d.has_other_counter None)) (mark_by ix p p.row) ≡ false) records → CounterFrom before records
+debug_counters_by ix before [] own all = tt
+debug_counters_by ix before (p ∷ records) own all = let both = and_parts (stands_in debug_part p.row) _ own in (debug_row ix before p p.row both.0 all.0, debug_counters_by ix (before ++ p ∷ []) records both.1 all.1)
+
+pub debug_counters : (ix : Indexes) (before records : List SpelledRecord) → list_all (λ p. stands_in debug_part p.row) records ≡ true → list_any (any_expression (d.has_other_counter None)) (marks ix records) ≡ false → CounterFrom before records
+debug_counters ix before records own good = debug_counters_by ix before records own (none_each (any_expression (d.has_other_counter None)) (λ p. mark_by ix p p.row) records good)
 
 -- ---- parts as wholes
 
@@ -191,20 +235,9 @@ external_whole prefix header sections externals are quiet own values valued =
 
 -- debug blocks
 
-none_opened : (start : ℕ) (row : Record) → stands_in debug_part row ≡ false → opened_after [] start row ≡ []
-none_opened start (r.BlockBegin kind n name block) h = cc
-none_opened start (r.BlockEnd value) h = refl
-none_opened start row h = refl
+no_blocks : (blocks : List OpenBlock) → kinds_of blocks ≡ [] → open_fault blocks ≡ None
+no_blocks [] h = refl
+no_blocks (b ∷ blocks) h = absurd cc
 
-none_open : (prefix : List Step) → AllByRecursion (λ p. stands_in debug_part p.row ≡ false) (records_of prefix) → open_from [] (offset_records_of prefix) ≡ []
-none_open [] all = refl
-none_open (raw b ∷ prefix) all = none_open prefix all
-none_open (read start p ∷ prefix) all = ap (λ (l : List OpenBlock). open_from l (offset_records_of prefix)) (none_opened start p.row all.0) ∙ none_open prefix all.1
-
-pub debug_whole : (prefix : List Step) (header sections externals : List SpelledRecord) → records_of prefix ≡ (header ++ sections) ++ externals → IsSilent header → list_all (λ p. stands_in section_part p.row) sections ≡ true
-    → list_all (λ p. stands_in external_part p.row) externals ≡ true → whole_fault debug_part prefix ≡ None
-debug_whole prefix header sections externals are quiet own_sections own_externals =
-    let Q : SpelledRecord → Type 0 = λ p. stands_in debug_part p.row ≡ false in
-    let every = all-append Q (header ++ sections) externals (all-append Q header sections (all_silent Q (λ p h. unplaced debug_part (part_of p.row) h) header quiet)
-    (all_own section_part Q (λ p h. other_part debug_part section_part (part_of p.row) refl h) sections own_sections)) (all_own external_part Q (λ p h. other_part debug_part external_part (part_of p.row) refl h) externals own_externals) in
-    ap (λ (l : List OpenBlock). open_fault l) (none_open prefix (subst (λ (l : List SpelledRecord). AllByRecursion Q l) (sym are) every))
+pub debug_whole : (prefix : List Step) → open_kinds (records_of prefix) ≡ [] → whole_fault debug_part prefix ≡ None
+debug_whole prefix none = no_blocks (open_blocks (offset_records_of prefix)) (kinds-open prefix ∙ none)

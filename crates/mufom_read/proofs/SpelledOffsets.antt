@@ -1,7 +1,7 @@
 -- What holds of the offsets of a file, and the header of a module's file as a sound prefix.
-use Rattle.std.proofs.Common.{◌≡◌, ◌⊎◌, ℕ, zero, suc, ◌+◌, ◌≤◌, Bool, true, false, not, ◌==◌, ◌&&◌, ◌||◌, nat_lt, List, [], ◌∷◌, ◌++◌, length, Option, None, MatchBool, is_none, refl, sym, ap, subst, ◌∙◌, inl, inr, arith, append_assoc, append-nil, eqb-true, ne_eqb, length-append}
+use Rattle.std.proofs.Common.{◌≡◌, ◌⊎◌, ℕ, zero, suc, ◌+◌, ◌≤◌, Bool, true, false, not, ◌==◌, ◌&&◌, ◌||◌, nat_lt, List, [], ◌∷◌, ◌++◌, length, Option, None, is_none, refl, sym, ap, subst, ◌∙◌, inl, inr, arith, append_assoc, append-nil, ne_eqb, length-append}
 use Rattle.std.specs.List.{list_any, cons_option, AllByRecursion}
-use Rattle.std.proofs.lemmas.Bool.{and_parts, or_from, not-false}
+use Rattle.std.proofs.lemmas.Bool.{and_parts, or_from}
 use Rattle.mufom_records.specs.declared.record.Mode.TheVariants as mode
 use Rattle.mufom_records.specs.declared.record.Record.{Record}
 use Rattle.mufom_records.specs.declared.record.Record.TheVariants as r
@@ -9,8 +9,8 @@ use Rattle.mufom_records.specs.Fields.{first_of}
 use Rattle.mufom_records.specs.Layouts.{IsWholeRecord}
 use Rattle.mufom_module.specs.SpelledRecords.{SpelledRecord, bytes_of}
 use Rattle.mufom_module.specs.RecordParts.{part_of}
-use Rattle.mufom_module.specs.Grammar.{FileParts, header_of, parts_of, AreOfModes, header_modes, AreWhole, offset_in, offsets_in, StandAt}
-use Rattle.mufom_read.specs.Prefixes.{Step, read, step_bytes, size_of, offsets_of, is_module_end, is_ended}
+use Rattle.mufom_module.specs.Grammar.{FileParts, header_of, parts_of, AreOfModes, header_modes, offset_in, offsets_in, StandAt}
+use Rattle.mufom_read.specs.Prefixes.{Step, read, size_of, offsets_of, is_module_end, is_ended}
 use Rattle.mufom_read.specs.Faults.{is_bad_descriptor, is_out_of_order, header_fault, fault_if}
 use Rattle.mufom_numbers.specs.declared.reason.Reason.TheVariants as why
 use Rattle.mufom_read.specs.Judging.{IsSoundFrom}
@@ -19,8 +19,8 @@ use Rattle.mufom_read.proofs.EndedHeader.{ended-read, offsets-append, modes_from
 use Rattle.mufom_read.proofs.EndedNames.{IsSilent}
 use Rattle.mufom_read.proofs.EndedStated.{first_at}
 use Rattle.mufom_read.proofs.SpelledWalk.{steps_of, steps_bytes, steps_records, IsStep, sound_step, Beyond, none_ended}
-use Rattle.mufom_read.proofs.SpelledHeader.{header_is_step, AreOrdered, AreNow, IsLeft, Standing, offset_walk, left_after}
-use Rattle.mufom_read.proofs.SpelledParts.{Joint, no_records}
+use Rattle.mufom_read.proofs.SpelledHeader.{header_is_step, AreOrdered, Standing, offset_walk}
+use Rattle.mufom_read.proofs.SpelledParts.{Joint}
 
 -- ---- offsets
 
@@ -76,25 +76,6 @@ stand_ordered (w ∷ offsets) earlier at (x ∷ parts) some all eight stand =
     low (inl here) = omega arith
     low (inr none) = omega (arith, none.0)
 
--- ---- no debug records
-
-absent : (w at : ℕ) (bytes : List ℕ) → 1 ≤ at → not (w == 0) ≡ false → (w ≡ at) ⊎ ((w ≡ 0) × (bytes ≡ [])) → bytes ≡ []
-absent w at bytes some now (inl here) = absurd (let none = eqb-true w 0 (not-false (w == 0) now) in omega arith)
-absent w at bytes some now (inr none) = none.1
-
--- no debug part is left for later
-pub debug_none : (reads_debug : Bool) (f : FileParts) (offsets : List ℕ) (n : ℕ) (after : List ℕ) → 1 ≤ n → AreNow reads_debug [] offsets → StandAt offsets n (parts_of f) → MatchBool reads_debug (f.skipped ≡ []) (f.debug ≡ []) → AreWhole false f.debug after → f.debug ≡ []
-debug_none false f offsets n after some now stand is are = is
-debug_none true f [] n after some now stand is are = absurd stand
-debug_none true f (w0 ∷ []) n after some now stand is are = absurd stand.1
-debug_none true f (w0 ∷ w1 ∷ []) n after some now stand is are = absurd stand.1.1
-debug_none true f (w0 ∷ w1 ∷ w2 ∷ []) n after some now stand is are = absurd stand.1.1.1
-debug_none true f (w0 ∷ w1 ∷ w2 ∷ w3 ∷ []) n after some now stand is are = absurd stand.1.1.1.1
-debug_none true f (w0 ∷ w1 ∷ w2 ∷ w3 ∷ w4 ∷ offsets) n after some now stand is are =
-    let none = absent w4 _ (bytes_of f.debug ++ f.skipped) (omega arith) now.1.1.1.1.0 stand.1.1.1.1.0 in
-    let count = ap length none in
-    no_records false f.debug after are (omega (arith, count, length-append (bytes_of f.debug) f.skipped))
-
 -- ---- records of the header
 
 offsets_silent : (n k : ℕ) (records : List SpelledRecord) (after : List ℕ) → AreOfModes (modes_from k n) records after → IsSilent records
@@ -148,11 +129,6 @@ header_rows f after are =
 
 -- ---- the header as a prefix
 
--- the header is sound, and no part is left for later
-pub record HeaderSound (reads_debug : Bool) (f : FileParts) (after : List ℕ) : Type 0 where
-  pub sound : IsSoundFrom reads_debug [] (steps_of 0 (header_of f)) (bytes_of (header_of f) ++ after)
-  pub now : AreNow reads_debug [] (offsets_in f.offsets)
-
 positive : (row : Record) (bytes : List ℕ) (next : Option ℕ) → IsWholeRecord mode.Begin row bytes next → 1 ≤ length bytes
 positive row bytes next is = let e = ap length is.5 ∙ length-append is.1 is.2 in let one = ap length is.3 in omega arith
 
@@ -179,13 +155,9 @@ offsets_standing f after before are rows stand two none open_ size =
       first = first_at (offsets_in f.offsets) end (parts_of f) some stand;
     }
 
--- a step that is no offset
-left_past : (f : FileParts) (reads_debug : Bool) (before : List Step) (step : Step) (after : List ℕ) → IsStep reads_debug before step after
-    → IsLeft reads_debug [] (offsets_in f.offsets) (before ++ step ∷ []) after → IsLeft reads_debug [] (offsets_in f.offsets) before (step_bytes step ++ after)
-left_past f reads_debug before step after is left = left_after reads_debug [] [] (offsets_in f.offsets) (offsets_in f.offsets) before step after (λ now. now) is left
-
+-- the header is sound
 pub header_prefix : (reads_debug : Bool) (f : FileParts) (after : List ℕ) → AreOfModes header_modes (header_of f) after → HeaderRows f → is_bad_descriptor f.descriptor.row ≡ false → StandAt (offsets_in f.offsets) (length (bytes_of (header_of f))) (parts_of f)
-    → IsLeft reads_debug [] (offsets_in f.offsets) [] (bytes_of (header_of f) ++ after) ⊎ HeaderSound reads_debug f after
+    → IsSoundFrom reads_debug [] (steps_of 0 (header_of f)) (bytes_of (header_of f) ++ after)
 header_prefix reads_debug f after are rows good stand =
     let a = read 0 f.begin in
     let n = length f.begin.bytes in
@@ -196,28 +168,23 @@ header_prefix reads_debug f after are rows good stand =
     let split : bytes_of (header_of f) ++ after ≡ f.begin.bytes ++ rest = append_assoc f.begin.bytes (bytes_of (f.descriptor ∷ f.offsets)) after ∙ ap (λ l. f.begin.bytes ++ l) split_rest in
     let first : IsStep reads_debug [] a rest = header_is_step reads_debug 0 [] f.begin rest refl (omega arith) refl refl
     (subst (λ (l : List ℕ). IsWholeRecord mode.Begin f.begin.row f.begin.bytes (first_of l None)) split_rest are.0)
-    (ap (λ (row : Record). header_fault reads_debug [] 0 (0 + n) row) rows.begins.2) in
+    (ap (λ (row : Record). header_fault [] 0 (0 + n) row) rows.begins.2) in
     let none : offsets_of (a ∷ []) ≡ [] = ap (λ (row : Record). offsets_in (record { row = row; bytes = f.begin.bytes } ∷ [])) rows.begins.2 in
     let size : size_of (a ∷ []) ≡ 0 + n = ap length (append-nil f.begin.bytes) ∙ omega arith in
     let second : IsStep reads_debug (a ∷ []) b later = subst (λ (k : ℕ). IsStep reads_debug (a ∷ []) (read k f.descriptor) later) size
     (header_is_step reads_debug 1 (a ∷ []) f.descriptor later refl (omega arith) (ap is_module_end rows.begins.2)
     (none_ended (a ∷ []) (suc n) (subst (λ (l : List ℕ). Beyond (suc n) l) (sym none) tt) (omega (arith, size)) (omega arith)) are.1.0
-    ((λ i. header_fault reads_debug (none i) (size_of (a ∷ [])) (size_of (a ∷ []) + length f.descriptor.bytes) (rows.describes.3 i))
+    ((λ i. header_fault (none i) (size_of (a ∷ [])) (size_of (a ∷ []) + length f.descriptor.bytes) (rows.describes.3 i))
     ∙ ap (λ t. fault_if t (size_of (a ∷ [])) why.BadDescriptor) (sym (ap is_bad_descriptor rows.describes.3) ∙ good))) in
     let prefix = a ∷ b ∷ [] in
     let two_size : size_of prefix ≡ 0 + n + length f.descriptor.bytes = ap (λ (l : List ℕ). length (f.begin.bytes ++ l)) (append-nil f.descriptor.bytes) ∙ length-append f.begin.bytes f.descriptor.bytes ∙ omega arith in
     let none_two : offsets_of prefix ≡ [] = offsets-append (a ∷ []) (b ∷ []) ∙ (λ i. none i ++ offsets_in (record { row = rows.describes.3 i; bytes = f.descriptor.bytes } ∷ [])) in
     let standing = offsets_standing f after prefix are rows stand refl none_two (ap is_module_end rows.describes.3) (two_size ∙ omega arith) in
-    elim (offset_walk 8 0 reads_debug (length (bytes_of (header_of f))) [] (offsets_in f.offsets) prefix f.offsets after standing are.1.1 refl) [
-      | inl left ↦ inl (subst (λ (l : List ℕ). IsLeft reads_debug [] (offsets_in f.offsets) [] l) (sym split) (left_past f reads_debug [] a rest first (left_past f reads_debug (a ∷ []) b later second left)))
-      | inr on ↦ inr (record {
-        sound = subst (λ (l : List ℕ). IsSoundFrom reads_debug [] (steps_of 0 (header_of f)) l) (sym split)
-            (sound_step reads_debug [] a (b ∷ steps_of (0 + n + length f.descriptor.bytes) f.offsets) rest first
-            (sound_step reads_debug (a ∷ []) b (steps_of (0 + n + length f.descriptor.bytes) f.offsets) later second
-            (subst (λ (k : ℕ). IsSoundFrom reads_debug prefix (steps_of k f.offsets) later) two_size on.sound)));
-        now = on.now;
-      })
-    ]
+    let on = offset_walk 8 0 reads_debug (length (bytes_of (header_of f))) [] (offsets_in f.offsets) prefix f.offsets after standing are.1.1 refl in
+    subst (λ (l : List ℕ). IsSoundFrom reads_debug [] (steps_of 0 (header_of f)) l) (sym split)
+    (sound_step reads_debug [] a (b ∷ steps_of (0 + n + length f.descriptor.bytes) f.offsets) rest first
+    (sound_step reads_debug (a ∷ []) b (steps_of (0 + n + length f.descriptor.bytes) f.offsets) later second
+    (subst (λ (k : ℕ). IsSoundFrom reads_debug prefix (steps_of k f.offsets) later) two_size on)))
 
 -- after the header the parts begin
 pub header_joint : (f : FileParts) (after : List ℕ) → AreOfModes header_modes (header_of f) after → HeaderRows f → StandAt (offsets_in f.offsets) (length (bytes_of (header_of f))) (parts_of f) → Joint (offsets_in f.offsets) (steps_of 0 (header_of f))

@@ -2,11 +2,9 @@
 use Rattle.std.proofs.Common.{◌≡◌, ◌⊎◌, ℕ, zero, suc, ◌+◌, ◌-◌, ◌<◌, ◌≤◌, Bool, true, false, cond, not, ◌==◌, ◌&&◌, nat_lt, List, [], ◌∷◌, ◌++◌, length, Option, Some, None, refl, sym, ap, subst, ◌∙◌, inl, inr, arith, append_assoc, append-nil, filter_map, eq-eqb, ne_eqb, length-append}
 use Rattle.std.specs.List.{last_or, cons_option}
 use Rattle.std.specs.Option.{option_or}
-use Rattle.std.proofs.lemmas.Bool.{both_ways, not_from_true, not_from_false}
+use Rattle.std.proofs.lemmas.Bool.{not_from_true, not_from_false}
 use Rattle.mufom_numbers.specs.declared.reason.Reason.TheVariants as why
 use Rattle.mufom_records.specs.declared.record.Mode.TheVariants as mode
-use Rattle.mufom_records.specs.declared.record.Record.{Record}
-use Rattle.mufom_records.specs.declared.record.Record.TheVariants as r
 use Rattle.mufom_records.specs.Fields.{first_of}
 use Rattle.mufom_records.specs.Layouts.{IsWholeRecord}
 use Rattle.mufom_records.specs.Reading.{record_at}
@@ -14,9 +12,10 @@ use Rattle.mufom_debug.specs.Marks.{joined}
 use Rattle.mufom_module.specs.SpelledRecords.{SpelledRecord, bytes_of}
 use Rattle.mufom_module.specs.RecordParts.{Part, number_of, stands_in, opens_items, begins_item, mode_of}
 use Rattle.mufom_module.specs.Grammar.{offsets_in, StandAt, AreWhole}
-use Rattle.mufom_read.specs.Prefixes.{Step, raw, read, prefix_bytes, size_of, records_of, offset_records_of, offsets_of, Extent, Location, in_part, at_end, first_present, part_among, parts_in_order, part_at, location_by, location_after, is_raw, awaits_items, body_mode, as_step, raw_step, step_at, is_module_end, is_ended}
-use Rattle.mufom_read.specs.Faults.{Fault, fault_if, fault_for, OpenBlock, open_blocks, ends_badly, is_too_deep, rule_broken, part_record_fault, record_fault, whole_fault, ended_fault, ended_part_fault}
+use Rattle.mufom_read.specs.Prefixes.{Step, raw, read, prefix_bytes, size_of, records_of, offsets_of, Extent, Location, in_part, at_end, first_present, part_among, parts_in_order, part_at, location_by, location_after, is_raw, awaits_items, body_mode, as_step, raw_step, step_at, is_module_end, is_ended}
+use Rattle.mufom_read.specs.Faults.{Fault, fault_if, fault_for, rule_broken, part_record_fault, record_fault, whole_fault, ended_fault, ended_part_fault}
 use Rattle.mufom_read.specs.Judging.{IsSoundFrom}
+use Rattle.mufom_read.proofs.BlockKinds.{ends-kinds, deep-kinds}
 use Rattle.mufom_read.proofs.EndedWalk.{bytes-append, size-append, records-append}
 use Rattle.mufom_read.proofs.EndedHeader.{last-append, ended-read, ended-raw, offsets-append, after_header}
 use Rattle.mufom_read.proofs.EndedParts.{IsKept, KeptFrom, AllInside, location_inside, extent, not_end, no_offset}
@@ -79,35 +78,25 @@ raw_sound reads_debug part from to all before (b ∷ bytes) after within is at t
 
 -- ---- records
 
--- records of this part are no debug blocks, and they do not end the module
-pub record IsPlain (part : Part) : Type 0 where
-  pub no_end : (number_of part == 7) ≡ false
-  pub no_debug : (number_of part == 4) ≡ false
+-- records of this part do not end the module
+abbrev pub IsPlain : Part → Type 0
+IsPlain part = (number_of part == 7) ≡ false
 
-no_bad_end : (part : Part) (blocks : List OpenBlock) (row : Record) → (number_of part == 4) ≡ false → stands_in part row ≡ true → ends_badly blocks row ≡ false
-no_bad_end part blocks (r.BlockEnd value) other own = absurd (both_ways (number_of part == 4) other own)
-no_bad_end part [] row other own = refl
-no_bad_end part (b ∷ blocks) row other own = refl
-
-not_deep : (part : Part) (blocks : List OpenBlock) (row : Record) → (number_of part == 4) ≡ false → stands_in part row ≡ true → is_too_deep blocks row ≡ false
-not_deep part blocks (r.BlockBegin kind n name block) other own = absurd (both_ways (number_of part == 4) other own)
-not_deep part blocks row other own = refl
-
-no_rule : (part : Part) (prefix : List Step) (p : SpelledRecord) → IsPlain part → stands_in part p.row ≡ true → IsKept (records_of prefix) p → rule_broken prefix p ≡ None
-no_rule part prefix p plain own keeps =
-    let nested = no_bad_end part (open_blocks (offset_records_of prefix)) p.row plain.no_debug own in
-    let deep = not_deep part (open_blocks (offset_records_of prefix)) p.row plain.no_debug own in
+no_rule : (prefix : List Step) (p : SpelledRecord) → IsKept (records_of prefix) p → rule_broken prefix p ≡ None
+no_rule prefix p keeps =
+    let nested = ends-kinds prefix p.row ∙ keeps.nested in
+    let deep = deep-kinds prefix p.row ∙ keeps.shallow in
     (λ i. cond (keeps.new i) (Some why.DuplicateIndex) (cond (keeps.known i) (Some why.UnknownIndex) (cond (keeps.once i) (Some why.DuplicateValue)
     (cond (keeps.aligned i) (Some why.BadAlignment) (cond (keeps.placed i) (Some why.NoSection) (cond (keeps.counter i) (Some why.BadP)
     (cond (nested i) (Some why.BlockNesting) (cond (deep i) (Some why.Depth) None))))))))
 
-no_fault_here : (part : Part) (from to : ℕ) (before : List Step) (p : SpelledRecord) → IsPlain part → size_of before + length p.bytes ≤ to → stands_in part p.row ≡ true → IsKept (records_of before) p
+no_fault_here : (part : Part) (from to : ℕ) (before : List Step) (p : SpelledRecord) → size_of before + length p.bytes ≤ to → stands_in part p.row ≡ true → IsKept (records_of before) p
     → part_record_fault before (extent part from to) (size_of before) p ≡ None
-no_fault_here part from to before p plain below own keeps =
+no_fault_here part from to before p below own keeps =
     let start = size_of before in
     let short : nat_lt to (start + length p.bytes) ≡ false = not_above to (start + length p.bytes) below in
     let its : not (stands_in part p.row) ≡ false = not_from_true (stands_in part p.row) own in
-    let kept = no_rule part before p plain own keeps in
+    let kept = no_rule before p keeps in
     (λ i. option_or (fault_if (short i) start why.PartGap) (option_or (fault_if (its i) start why.WrongPart) (fault_for start (kept i))))
   where
     not_above : (a b : ℕ) → b ≤ a → nat_lt a b ≡ false
@@ -141,7 +130,7 @@ read_is_step reads_debug part from to all items before p after within is plain a
     record {
       unended = at.unended;
       whole = at.whole below;
-      own = ap (λ (q : Location). record_fault reads_debug before q (size_of before) p) offset ∙ no_fault_here part from to before p plain inside own keeps;
+      own = ap (λ (q : Location). record_fault before q (size_of before) p) offset ∙ no_fault_here part from to before p inside own keeps;
       next = next_read reads_debug before (in_part e) m p after offset
           (ap (λ t. cond t (raw_step rest) (as_step (size_of before) rest (record_at m rest))) is)
           (mode_here items (not (size_of before == from)) (awaits_items (last_or None (records_of before))) p after (first_of after None) flag whole_p);
@@ -159,7 +148,7 @@ read_inside part from to all before p within plain at own some =
       many = omega (arith, at.many, length-append before (it ∷ []));
       offsets = offsets;
       begun = omega (arith, at.begun, size);
-      unended = ended-read before (size_of before) p ∙ not_end part p.row plain.no_end own;
+      unended = ended-read before (size_of before) p ∙ not_end part p.row plain own;
       whole = λ below. none_inside part from to all prefix within offsets (omega (arith, at.begun, size)) below;
     }
 
@@ -248,7 +237,7 @@ ended-reads : (part : Part) (before : List Step) (at : ℕ) (earlier records : L
 ended-reads part before at earlier [] plain own open_ = ap (λ l. is_ended l) (append-nil before) ∙ open_
 ended-reads part before at earlier (p ∷ records) plain own open_ =
     ap (λ l. is_ended l) (sym (append_assoc before (read at p ∷ []) (steps_of (at + length p.bytes) records)))
-    ∙ ended-reads part (before ++ read at p ∷ []) (at + length p.bytes) (earlier ++ p ∷ []) records plain own.2 (ended-read before at p ∙ not_end part p.row plain.no_end own.0)
+    ∙ ended-reads part (before ++ read at p ∷ []) (at + length p.bytes) (earlier ++ p ∷ []) records plain own.2 (ended-read before at p ∙ not_end part p.row plain own.0)
 
 pub read_content : (reads_debug : Bool) (part : Part) (before : List Step) (records : List SpelledRecord) (after : List ℕ) → is_raw reads_debug part ≡ false → IsPlain part → AreWhole false records after → KeptFrom part (records_of before) records
     → whole_fault part (before ++ steps_of (size_of before) records) ≡ None → Content reads_debug part before (steps_of (size_of before) records) (bytes_of records) after

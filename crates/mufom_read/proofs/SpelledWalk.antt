@@ -48,14 +48,14 @@ raw_none (b ∷ bytes) = raw_none bytes
 pub record IsStep (reads_debug : Bool) (before : List Step) (step : Step) (after : List ℕ) : Type 0 where
   pub unended : is_ended before ≡ false
   pub whole : ended_part_fault before ≡ None
-  pub own : step_fault reads_debug before (taken step (length (step_bytes step))) ≡ None
+  pub own : step_fault before (taken step (length (step_bytes step))) ≡ None
   pub next : next_step reads_debug before (step_bytes step ++ after) ≡ taken step (length (step_bytes step))
 
 pub sound_step : (reads_debug : Bool) (before : List Step) (step : Step) (steps : List Step) (after : List ℕ) → IsStep reads_debug before step after → IsSoundFrom reads_debug (before ++ step ∷ []) steps after
     → IsSoundFrom reads_debug before (step ∷ steps) (step_bytes step ++ after)
 sound_step reads_debug before step steps after is later = (
   is.unended,
-  (λ i. option_or (is.whole i) (step_fault reads_debug before (is.next i))) ∙ is.own,
+  (λ i. option_or (is.whole i) (step_fault before (is.next i))) ∙ is.own,
   is.next,
   subst (λ (l : List ℕ). IsSoundFrom reads_debug (before ++ step ∷ []) steps l) (sym (drop_at (step_bytes step) after (length (step_bytes step)) refl)) later,
 )

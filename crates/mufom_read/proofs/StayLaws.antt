@@ -98,8 +98,8 @@ got_no_more (Got t k) s n x y = let wrong : taken t k ≡ wanting = y in cc
 got_no_more More s n x y = let wrong : wanting ≡ taken s n = x in cc
 got_no_more (Bad offset reason) s n x y = cc
 
-some_fault : (reads_debug : Bool) (prefix : List Step) (answer : Taken Step) (fault : Fault) → step_fault reads_debug prefix answer ≡ Some fault → answer ≡ wanting → ⊥
-some_fault reads_debug prefix answer fault h more = wrong (sym (ap (step_fault reads_debug prefix) more) ∙ h) where
+some_fault : (reads_debug : Bool) (prefix : List Step) (answer : Taken Step) (fault : Fault) → step_fault prefix answer ≡ Some fault → answer ≡ wanting → ⊥
+some_fault reads_debug prefix answer fault h more = wrong (sym (ap (step_fault prefix) more) ∙ h) where
   wrong : None ≡ Some fault → ⊥
   wrong e = cc
 
@@ -112,7 +112,7 @@ sound_stays reads_debug before (s ∷ steps) rest more fits sound =
     let first = prefix_first reads_debug before (s ∷ steps) rest fits sound in
     let inside : n ≤ length rest = omega (arith, ap length first.1, length-append (step_bytes s ++ prefix_bytes steps) first.0, length-append (step_bytes s) (prefix_bytes steps)) in (
       sound.0,
-      ap (λ a. option_or (ended_part_fault before) (step_fault reads_debug before a)) same ∙ sound.1,
+      ap (λ a. option_or (ended_part_fault before) (step_fault before a)) same ∙ sound.1,
       same ∙ sound.2,
       subst (λ (l : List ℕ). IsSoundFrom reads_debug (before ++ s ∷ []) steps l) (sym (drop-append-le n rest more inside))
           (sound_stays reads_debug (before ++ s ∷ []) steps (drop n rest) more (AreBytes-drop n rest fits) sound.3),
@@ -121,9 +121,9 @@ sound_stays reads_debug before (s ∷ steps) rest more fits sound =
 -- a fault after a prefix stays
 pub fault_stays : (reads_debug : Bool) (prefix : List Step) (rest more : List ℕ) (fault : Fault) → AreBytes rest → fault_after reads_debug prefix rest ≡ Some fault → fault_after reads_debug prefix (rest ++ more) ≡ Some fault
 fault_stays reads_debug prefix rest more fault fits h = by_part (ended_part_fault prefix) h where
-  by_part : (o : Option Fault) → option_or o (step_fault reads_debug prefix (next_step reads_debug prefix rest)) ≡ Some fault → option_or o (step_fault reads_debug prefix (next_step reads_debug prefix (rest ++ more))) ≡ Some fault
+  by_part : (o : Option Fault) → option_or o (step_fault prefix (next_step reads_debug prefix rest)) ≡ Some fault → option_or o (step_fault prefix (next_step reads_debug prefix (rest ++ more))) ≡ Some fault
   by_part (Some it) e = e
-  by_part None e = ap (step_fault reads_debug prefix) (next_stays reads_debug prefix rest more fits (some_fault reads_debug prefix (next_step reads_debug prefix rest) fault e)) ∙ e
+  by_part None e = ap (step_fault prefix) (next_stays reads_debug prefix rest more fits (some_fault reads_debug prefix (next_step reads_debug prefix rest) fault e)) ∙ e
 
 -- ---- the limit
 

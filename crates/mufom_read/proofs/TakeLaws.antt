@@ -16,7 +16,7 @@ use Rattle.mufom_read.proofs.PrefixLaws.{size-append}
 -- the given number of bytes after a prefix were taken, without a fault
 pub record HasGoneOn (reads_debug : Bool) (before : List Step) (rest : List ℕ) (now : Prefix) (taken : ℕ) : Type 0 where
   pub steps : List Step
-  pub is : IsPrefixOf reads_debug now (before ++ steps)
+  pub is : IsPrefixOf now (before ++ steps)
   pub sound : IsSoundFrom reads_debug before steps rest
   pub size : size_of steps ≡ taken
   pub within : taken ≤ length rest
@@ -51,10 +51,10 @@ sound-append reads_debug before (s ∷ steps) more rest (unended, clean, got, so
     )
 
 -- none yet
-pub gone-none : (reads_debug : Bool) (before : List Step) (rest : List ℕ) (f : Prefix) → IsPrefixOf reads_debug f before → (is_ended before ≡ false → ended_part_fault before ≡ None) → HasGoneOn reads_debug before rest f 0
+pub gone-none : (reads_debug : Bool) (before : List Step) (rest : List ℕ) (f : Prefix) → IsPrefixOf f before → (is_ended before ≡ false → ended_part_fault before ≡ None) → HasGoneOn reads_debug before rest f 0
 gone-none reads_debug before rest f is whole = record {
   steps = [];
-  is = subst (λ (prefix : List Step). IsPrefixOf reads_debug f prefix) (sym (append-nil before)) is;
+  is = subst (λ (prefix : List Step). IsPrefixOf f prefix) (sym (append-nil before)) is;
   sound = tt;
   size = refl;
   within = omega arith;
@@ -63,8 +63,8 @@ gone-none reads_debug before rest f is whole = record {
 
 -- and some more
 pub gone-more : (reads_debug : Bool) (before : List Step) (rest after : List ℕ) (f new : Prefix) (taken n : ℕ) → HasGoneOn reads_debug before rest f taken → after ≡ drop taken rest
-    → ((prefix : List Step) → IsPrefixOf reads_debug f prefix → is_ended prefix ≡ false → ended_part_fault prefix ≡ None → HasAdvanced reads_debug prefix after new (next.Took n))
-    → ((prefix : List Step) → IsPrefixOf reads_debug f prefix → is_ended prefix ≡ false) → HasGoneOn reads_debug before rest new (taken + n)
+    → ((prefix : List Step) → IsPrefixOf f prefix → is_ended prefix ≡ false → ended_part_fault prefix ≡ None → HasAdvanced reads_debug prefix after new (next.Took n))
+    → ((prefix : List Step) → IsPrefixOf f prefix → is_ended prefix ≡ false) → HasGoneOn reads_debug before rest new (taken + n)
 gone-more reads_debug before rest after f new taken n gone at step unended =
     let prefix = before ++ gone.steps in
     let open_ = unended prefix gone.is in
@@ -73,7 +73,7 @@ gone-more reads_debug before rest after f new taken n gone at step unended =
     let left : length (drop taken rest) ≡ length rest - taken = length-drop taken rest in
     record {
       steps = gone.steps ++ more.0;
-      is = subst (λ (fr : List Step). IsPrefixOf reads_debug new fr) same more.1;
+      is = subst (λ (fr : List Step). IsPrefixOf new fr) same more.1;
       sound = sound-append reads_debug before gone.steps more.0 rest gone.sound (subst (λ (r : List ℕ). IsSoundFrom reads_debug prefix more.0 r) (at ∙ ap (λ k. drop k rest) (sym gone.size)) more.2);
       size = size-append gone.steps more.0 ∙ ap (λ k. k + size_of more.0) gone.size ∙ ap (λ k. taken + k) more.3;
       within = omega (arith, gone.within, more.5, ap length at, left);
@@ -81,14 +81,14 @@ gone-more reads_debug before rest after f new taken n gone at step unended =
     }
 
 -- the module has ended
-pub all-ended : (reads_debug : Bool) (before : List Step) (rest : List ℕ) (f : Prefix) (taken : ℕ) → HasGoneOn reads_debug before rest f taken → ((prefix : List Step) → IsPrefixOf reads_debug f prefix → is_ended prefix ≡ true)
+pub all-ended : (reads_debug : Bool) (before : List Step) (rest : List ℕ) (f : Prefix) (taken : ℕ) → HasGoneOn reads_debug before rest f taken → ((prefix : List Step) → IsPrefixOf f prefix → is_ended prefix ≡ true)
     → HasTakenAll reads_debug before rest f (Ok taken)
 all-ended reads_debug before rest f taken gone ended = (gone.steps, gone.is, gone.sound, gone.size, gone.within, inl (ended (before ++ gone.steps) gone.is))
 
 -- more bytes are wanted
 pub all-wanting : (reads_debug : Bool) (before : List Step) (rest after : List ℕ) (f new : Prefix) (taken : ℕ) → HasGoneOn reads_debug before rest f taken → after ≡ drop taken rest
-    → ((prefix : List Step) → IsPrefixOf reads_debug f prefix → is_ended prefix ≡ false → ended_part_fault prefix ≡ None → HasAdvanced reads_debug prefix after new next.More)
-    → ((prefix : List Step) → IsPrefixOf reads_debug f prefix → is_ended prefix ≡ false) → HasTakenAll reads_debug before rest new (Ok taken)
+    → ((prefix : List Step) → IsPrefixOf f prefix → is_ended prefix ≡ false → ended_part_fault prefix ≡ None → HasAdvanced reads_debug prefix after new next.More)
+    → ((prefix : List Step) → IsPrefixOf f prefix → is_ended prefix ≡ false) → HasTakenAll reads_debug before rest new (Ok taken)
 all-wanting reads_debug before rest after f new taken gone at step unended =
     let prefix = before ++ gone.steps in
     let open_ = unended prefix gone.is in
@@ -101,15 +101,15 @@ all-wanting reads_debug before rest after f new taken gone at step unended =
       gone.within,
       inr (record {
         unended = open_;
-        faultless = ap (λ o. option_or o (step_fault reads_debug prefix (next_step reads_debug prefix (drop taken rest)))) (gone.whole open_) ∙ ap (step_fault reads_debug prefix) here;
+        faultless = ap (λ o. option_or o (step_fault prefix (next_step reads_debug prefix (drop taken rest)))) (gone.whole open_) ∙ ap (step_fault prefix) here;
         wanting = here;
       }),
     )
 
 -- there is a fault
 pub all-refused : (reads_debug : Bool) (before : List Step) (rest after : List ℕ) (f new : Prefix) (taken : ℕ) (fault : ReadRefusal) → HasGoneOn reads_debug before rest f taken → after ≡ drop taken rest
-    → ((prefix : List Step) → IsPrefixOf reads_debug f prefix → is_ended prefix ≡ false → ended_part_fault prefix ≡ None → HasAdvanced reads_debug prefix after new (next.Refused fault))
-    → ((prefix : List Step) → IsPrefixOf reads_debug f prefix → is_ended prefix ≡ false) → HasTakenAll reads_debug before rest new (Err (stop.Refused fault))
+    → ((prefix : List Step) → IsPrefixOf f prefix → is_ended prefix ≡ false → ended_part_fault prefix ≡ None → HasAdvanced reads_debug prefix after new (next.Refused fault))
+    → ((prefix : List Step) → IsPrefixOf f prefix → is_ended prefix ≡ false) → HasTakenAll reads_debug before rest new (Err (stop.Refused fault))
 all-refused reads_debug before rest after f new taken fault gone at step unended =
     let prefix = before ++ gone.steps in
     let open_ = unended prefix gone.is in

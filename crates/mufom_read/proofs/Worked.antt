@@ -160,8 +160,61 @@ two_starts = refl
 base_missing : judged (patched 60 0 (patched 68 0 (patched 76 0x5E (take 94 small))) ++ 0xE1 ∷ []) ≡ fault (77, why.MissingBase)
 base_missing = refl
 
-debug_part_left_for_later : judged (with_debug (0xF9 ∷ [])) ≡ fault (45, why.NotBuilt)
-debug_part_left_for_later = refl
+block_ended : judged (with_debug (0xF8 ∷ 0x03 ∷ 0x00 ∷ 0x01 ∷ 0x61 ∷ 0xF9 ∷ [])) ≡ ended 107
+block_ended = refl
+
+scope_ended : judged (with_debug (0xF8 ∷ 0x04 ∷ 0x00 ∷ 0x01 ∷ 0x66 ∷ 0x00 ∷ 0x00 ∷ 0xD2 ∷ 0x01 ∷ 0xF9 ∷ 0xD2 ∷ 0x01 ∷ [])) ≡ ended 113
+scope_ended = refl
+
+end_without_a_block : judged (with_debug (0xF9 ∷ [])) ≡ fault (100, why.BlockNesting)
+end_without_a_block = refl
+
+expression_after_a_module : judged (with_debug (0xF8 ∷ 0x03 ∷ 0x00 ∷ 0x01 ∷ 0x61 ∷ 0xF9 ∷ 0x00 ∷ [])) ≡ fault (105, why.BlockNesting)
+expression_after_a_module = refl
+
+expression_after_a_source : judged (with_debug (0xF8 ∷ 0x05 ∷ 0x00 ∷ 0x01 ∷ 0x61 ∷ 0xF9 ∷ 0x00 ∷ [])) ≡ fault (105, why.BlockNesting)
+expression_after_a_source = refl
+
+blocks_left_open : judged (with_debug (0xF8 ∷ 0x03 ∷ 0x00 ∷ 0x01 ∷ 0x61 ∷ 0xF8 ∷ 0x03 ∷ 0x00 ∷ 0x01 ∷ 0x62 ∷ [])) ≡ fault (105, why.BlockNesting)
+blocks_left_open = refl
+
+unknown_variable_of_an_end_without_a_block : judged (with_debug (0xF9 ∷ 0xD2 ∷ 0x02 ∷ [])) ≡ fault (100, why.UnknownIndex)
+unknown_variable_of_an_end_without_a_block = refl
+
+block_of_an_unknown_section : judged (with_debug (0xF8 ∷ 0x0B ∷ 0x00 ∷ 0x00 ∷ 0x00 ∷ 0x02 ∷ 0x00 ∷ [])) ≡ fault (100, why.UnknownIndex)
+block_of_an_unknown_section = refl
+
+debug_name_declared_twice : judged (with_debug (0xF0 ∷ 0x20 ∷ 0x01 ∷ 0x61 ∷ 0xF0 ∷ 0x20 ∷ 0x01 ∷ 0x62 ∷ [])) ≡ fault (104, why.DuplicateIndex)
+debug_name_declared_twice = refl
+
+value_of_an_unknown_debug_name : judged (with_debug (0xE2 ∷ 0xCE ∷ 0x20 ∷ 0x00 ∷ [])) ≡ fault (100, why.UnknownIndex)
+value_of_an_unknown_debug_name = refl
+
+note_of_an_unknown_debug_name : judged (with_debug (0xF1 ∷ 0xCE ∷ 0x20 ∷ 0x0F ∷ 0x07 ∷ [])) ≡ fault (100, why.UnknownIndex)
+note_of_an_unknown_debug_name = refl
+
+counter_in_a_debug_value : judged (with_debug (0xF0 ∷ 0x20 ∷ 0x01 ∷ 0x61 ∷ 0xE2 ∷ 0xCE ∷ 0x20 ∷ 0xD0 ∷ 0x01 ∷ [])) ≡ fault (104, why.BadP)
+counter_in_a_debug_value = refl
+
+public_in_the_debug_part : judged (with_debug (0xE8 ∷ 0x20 ∷ 0x01 ∷ 0x61 ∷ [])) ≡ fault (100, why.WrongPart)
+public_in_the_debug_part = refl
+
+unsupported_block : judged (with_debug (0xF8 ∷ 0x07 ∷ 0x00 ∷ 0x01 ∷ 0x61 ∷ [])) ≡ fault (101, why.UnsupportedBlock)
+unsupported_block = refl
+
+unsupported_debug_attribute : judged (with_debug (0xF1 ∷ 0xCE ∷ 0x20 ∷ 0x00 ∷ 0x06 ∷ [])) ≡ fault (104, why.UnsupportedAttribute)
+unsupported_debug_attribute = refl
+
+-- so many blocks of the kind 3, each within the one before it
+abbrev begun : ℕ → List ℕ
+begun zero = []
+begun (suc k) = 0xF8 ∷ 0x03 ∷ 0x00 ∷ 0x00 ∷ begun k
+
+deepest_block : judged (with_debug (begun 32)) ≡ fault (224, why.BlockNesting)
+deepest_block = refl
+
+block_too_deep : judged (with_debug (begun 33)) ≡ fault (228, why.Depth)
+block_too_deep = refl
 
 debug_part_passed_over : judged_without_debug (with_debug (0xF2 ∷ 0x20 ∷ 0xCE ∷ 0x01 ∷ [])) ≡ ended 105
 debug_part_passed_over = refl

@@ -63,13 +63,13 @@ pub record IsStatedByKept (f : Prefix) (m : Parts) : Type 0 where
   pub sections : m.sections ≡ sections_of (map record_of_kept f.kept)
   pub publics : m.names.publics ≡ map (placed_public (indexes_by f.tables)) f.publics.list.items
   pub references : m.names.references ≡ f.references.items
-  pub debug : m.debug ≡ []
+  pub debug : m.debug ≡ f.debug.items
   pub loads : m.loads ≡ f.loads.loads
   pub start : option_to_list m.start ≡ starts_of (indexes_by f.tables) (map record_of_kept f.kept)
 
 -- The code keeps this prefix; it is sound, ends with the stream of these bytes, and is the whole of it.
 pub record IsWhole (reads_debug : Bool) (f : Prefix) (prefix : List Step) (bytes : List ℕ) : Type 0 where
-  pub kept : IsPrefixOf reads_debug f prefix
+  pub kept : IsPrefixOf f prefix
   pub fits : AreBytes bytes
   pub limit : length bytes ≤ file_limit
   pub sound : IsSoundPrefix reads_debug prefix bytes

@@ -41,23 +41,18 @@ is_bad_descriptor _ = false
 abbrev pub is_out_of_order : List ℕ → ℕ → Bool
 is_out_of_order earlier w = (not (w == 0) && list_any (λ e. nat_lt w e) earlier) || ((length earlier == 7) && (w == 0))
 
--- the offset of a debug part that is to be read, which this release leaves for later
-abbrev pub is_left_for_later : Bool → List ℕ → ℕ → Bool
-is_left_for_later reads_debug earlier w = reads_debug && ((length earlier == 4) && not (w == 0))
-
 -- the first offset that is not 0 is not that of the byte after the eight records
 abbrev pub leaves_gap : List ℕ → ℕ → Bool
 leaves_gap offsets end = (length offsets == 8) && not (first_present offsets == end)
 
 -- the fault of an offset after earlier ones, in the record from one offset of the file to another
-abbrev pub offset_fault : Bool → List ℕ → ℕ → ℕ → ℕ → Option Fault
-offset_fault reads_debug earlier w start end = option_or (fault_if (is_out_of_order earlier w) start why.OffsetOrder)
-    (option_or (fault_if (is_left_for_later reads_debug earlier w) start why.NotBuilt)
-    (fault_if (leaves_gap (earlier ++ w ∷ []) end) end why.PartGap))
+abbrev pub offset_fault : List ℕ → ℕ → ℕ → ℕ → Option Fault
+offset_fault earlier w start end = option_or (fault_if (is_out_of_order earlier w) start why.OffsetOrder)
+    (fault_if (leaves_gap (earlier ++ w ∷ []) end) end why.PartGap)
 
-abbrev pub header_fault : Bool → List ℕ → ℕ → ℕ → Record → Option Fault
-header_fault reads_debug earlier start end (r.Offset n w) = offset_fault reads_debug earlier w start end
-header_fault reads_debug earlier start end row = fault_if (is_bad_descriptor row) start why.BadDescriptor
+abbrev pub header_fault : List ℕ → ℕ → ℕ → Record → Option Fault
+header_fault earlier start end (r.Offset n w) = offset_fault earlier w start end
+header_fault earlier start end row = fault_if (is_bad_descriptor row) start why.BadDescriptor
 
 -- ---- whole records of the parts
 
@@ -142,17 +137,17 @@ part_record_fault prefix extent start p = option_or (fault_if (nat_lt extent.to 
     (fault_for start (rule_broken prefix p)))
 
 -- the fault of a whole record in its location; where the module must end any record but its end stands in the wrong part
-abbrev pub record_fault : Bool → List Step → Location → ℕ → SpelledRecord → Option Fault
-record_fault reads_debug prefix (in_header k) start p = header_fault reads_debug (offsets_of prefix) start (start + length p.bytes) p.row
-record_fault reads_debug prefix (in_part extent) start p = part_record_fault prefix extent start p
-record_fault reads_debug prefix at_end start p = fault_if (not (stands_in end_part p.row)) start why.WrongPart
+abbrev pub record_fault : List Step → Location → ℕ → SpelledRecord → Option Fault
+record_fault prefix (in_header k) start p = header_fault (offsets_of prefix) start (start + length p.bytes) p.row
+record_fault prefix (in_part extent) start p = part_record_fault prefix extent start p
+record_fault prefix at_end start p = fault_if (not (stands_in end_part p.row)) start why.WrongPart
 
 -- the fault of what stands after a prefix, which may be one of its fields
-abbrev pub step_fault : Bool → List Step → Taken Step → Option Fault
-step_fault reads_debug prefix (Got (raw b) used) = None
-step_fault reads_debug prefix (Got (read start p) used) = record_fault reads_debug prefix (location_after prefix) start p
-step_fault reads_debug prefix More = None
-step_fault reads_debug prefix (Bad offset reason) = Some (size_of prefix + offset, reason)
+abbrev pub step_fault : List Step → Taken Step → Option Fault
+step_fault prefix (Got (raw b) used) = None
+step_fault prefix (Got (read start p) used) = record_fault prefix (location_after prefix) start p
+step_fault prefix More = None
+step_fault prefix (Bad offset reason) = Some (size_of prefix + offset, reason)
 
 -- ---- parts as wholes
 
@@ -214,4 +209,4 @@ ended_part_fault prefix = ended_fault prefix (part_at prefix (size_of prefix - 1
 
 -- The first fault after a prefix, in the order of judging: of the part that ended, and then of what stands next.
 abbrev pub fault_after : Bool → List Step → List ℕ → Option Fault
-fault_after reads_debug prefix rest = option_or (ended_part_fault prefix) (step_fault reads_debug prefix (next_step reads_debug prefix rest))
+fault_after reads_debug prefix rest = option_or (ended_part_fault prefix) (step_fault prefix (next_step reads_debug prefix rest))

@@ -67,9 +67,9 @@ pub data Judgment : Type 0 where
   module_of : Parts → Judgment
   refusal : ℕ → Reason → Judgment
 
--- The stream is the file of a module, and has no debug part that this release leaves for later.
+-- the stream is the file of a module
 abbrev pub IsModule : Bool → List ℕ → Parts → Type 0
-IsModule reads_debug bytes m = SpellsModule m bytes reads_debug × ((offset : ℕ) → ¬ IsRefusedAt reads_debug bytes offset why.NotBuilt)
+IsModule reads_debug bytes m = SpellsModule m bytes reads_debug
 
 abbrev pub IsJudged : Bool → List ℕ → Judgment → Type 0
 IsJudged reads_debug bytes (module_of m) = IsModule reads_debug bytes m

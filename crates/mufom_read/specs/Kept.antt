@@ -11,7 +11,7 @@ use Rattle.mufom_records.specs.declared.record.Record.{Record}
 use Rattle.mufom_records.specs.declared.record.Record.TheVariants as r
 use Rattle.mufom_module.specs.Contents.{any_of}
 use Rattle.mufom_module.specs.Defects.{has_other_counter}
-use Rattle.mufom_module.specs.RecordParts.{external_part, data_part, stands_in, is_loading}
+use Rattle.mufom_module.specs.RecordParts.{external_part, debug_part, data_part, stands_in, is_loading}
 use Rattle.mufom_module.specs.SpelledRecords.{SpelledRecord, Kind, FileIndex, section, public, reference, debug_name, declared, named_by, is_public_value, tree_of_record, index_of_variable, Once, value_of_public, weakness, alignment, section_size, section_base, start_address, assigned_by, is_assigned}
 use Rattle.mufom_read.specs.declared.tables.Tables.{Tables}
 use Rattle.std.specs.Option.{option_or}
@@ -20,7 +20,7 @@ use Rattle.mufom_read.specs.declared.kept.KeptRecord.{KeptRecord}
 use Rattle.mufom_read.specs.declared.kept.SeenRecord.{SeenRecord}
 use Rattle.mufom_read.specs.declared.refusal.ReadRefusal.{ReadRefusal}
 use Rattle.mufom_read.specs.Prefixes.{OffsetRecord}
-use Rattle.mufom_read.specs.Faults.{Fault, fault_if, current_section, has_bad_alignment, absolute_declared, public_declared}
+use Rattle.mufom_read.specs.Faults.{Fault, fault_if, OpenBlock, ends_badly, is_too_deep, current_section, has_bad_alignment, absolute_declared, public_declared}
 
 -- ---- what records state once
 
@@ -57,6 +57,7 @@ tables_of records = record {
   sections = declared section records;
   publics = declared public records;
   references = declared reference records;
+  debug_names = declared debug_name records;
   alignments = filter_map alignment_stated (statements records);
   sizes = filter_map size_stated (statements records);
   bases = filter_map base_stated (statements records);
@@ -68,7 +69,7 @@ tables_of records = record {
 
 -- the index lists of the tables
 abbrev pub indexes_by : Tables → Indexes
-indexes_by t = record { sections = t.sections; publics = t.publics; references = t.references; debug_names = [] }
+indexes_by t = record { sections = t.sections; publics = t.publics; references = t.references; debug_names = t.debug_names }
 
 -- the tables have what these records state of sections
 pub record AreSectionTables (t : Tables) (records : List SpelledRecord) : Type 0 where
@@ -81,6 +82,7 @@ abbrev pub with_row : Tables → Record → Tables
 with_row t (r.SectionType i _ _ _ _ _ _) = record t { sections = t.sections ++ i ∷ [] }
 with_row t (r.PublicName i _) = record t { publics = t.publics ++ i ∷ [] }
 with_row t (r.ReferenceName i _) = record t { references = t.references ++ i ∷ [] }
+with_row t (r.DebugName i _) = record t { debug_names = t.debug_names ++ i ∷ [] }
 with_row t (r.Alignment i _ _) = record t { alignments = t.alignments ++ i ∷ [] }
 with_row t (r.SectionSize i _) = record t { sizes = t.sizes ++ i ∷ [] }
 with_row t (r.SectionBase i _) = record t { bases = t.bases ++ i ∷ [] }
@@ -98,6 +100,7 @@ abbrev pub declares_again_in : Tables → Record → Bool
 declares_again_in t (r.SectionType i _ _ _ _ _ _) = has t.sections i
 declares_again_in t (r.PublicName i _) = has t.publics i
 declares_again_in t (r.ReferenceName i _) = has t.references i
+declares_again_in t (r.DebugName i _) = has t.debug_names i
 declares_again_in t _ = false
 
 -- the record states for an index what the tables have it state
@@ -115,12 +118,12 @@ is_new t row = not (declares_again_in t row) && not (states_again_in t row)
 
 -- ---- the rules, read off the tables
 
--- the indexes of a kind; debug names have no table yet
+-- the indexes of a kind
 abbrev pub entries_in : Tables → Kind → List ℕ
 entries_in t section = t.sections
 entries_in t public = t.publics
 entries_in t reference = t.references
-entries_in t debug_name = []
+entries_in t debug_name = t.debug_names
 
 -- the index is declared
 abbrev pub is_declared_in : Tables → FileIndex → Bool
@@ -148,14 +151,16 @@ counter_allowed_in t _ = None
 abbrev pub misplaces_counter_in : Tables → Record → Option Tree → Bool
 misplaces_counter_in t row tree = any_of (has_other_counter (counter_allowed_in t row)) tree
 
--- the first rule that the record, with this expression, breaks
-abbrev pub rule_broken_in : Tables → Record → Option Tree → Option Reason
-rule_broken_in t row tree = if declares_again_in t row then Some why.DuplicateIndex
+-- the first rule that the record, with this expression, breaks, where these blocks are open
+abbrev pub rule_broken_in : Tables → List OpenBlock → Record → Option Tree → Option Reason
+rule_broken_in t blocks row tree = if declares_again_in t row then Some why.DuplicateIndex
     else (if names_unknown_in t row tree then Some why.UnknownIndex
     else (if states_again_in t row then Some why.DuplicateValue
     else (if has_bad_alignment row then Some why.BadAlignment
     else (if has_no_section_in t row then Some why.NoSection
-    else (if misplaces_counter_in t row tree then Some why.BadP else None)))))
+    else (if misplaces_counter_in t row tree then Some why.BadP
+    else (if ends_badly blocks row then Some why.BlockNesting
+    else (if is_too_deep blocks row then Some why.Depth else None)))))))
 
 -- ---- parts as wholes, read off the tables
 
@@ -195,9 +200,10 @@ kept_of_seen s = kept_record s.start s.row s.bytes.now
 abbrev pub placed : KeptRecord → OffsetRecord
 placed k = (k.start, record_of_kept k)
 
--- Records of the data part become loads at once, and those of the external part publics and references; the code keeps the others.
+-- Records of the data part become loads at once, those of the external part publics and references, and those of the debug part
+-- debug items; the code keeps the others.
 abbrev pub is_kept : Record → Bool
-is_kept row = not (stands_in external_part row) && not (stands_in data_part row)
+is_kept row = not (stands_in external_part row) && (not (stands_in debug_part row) && not (stands_in data_part row))
 
 -- of records with their offsets, those that are kept
 abbrev pub kept_of : List OffsetRecord → List OffsetRecord
@@ -228,6 +234,7 @@ pub record HasRoom (t : Tables) : Type 0 where
   pub sections : length t.sections < 2 ^ 32 - 1
   pub publics : length t.publics < 2 ^ 32 - 1
   pub references : length t.references < 2 ^ 32 - 1
+  pub debug_names : length t.debug_names < 2 ^ 32 - 1
   pub alignments : length t.alignments < 2 ^ 32 - 1
   pub sizes : length t.sizes < 2 ^ 32 - 1
   pub bases : length t.bases < 2 ^ 32 - 1

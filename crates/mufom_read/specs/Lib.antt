@@ -10,4 +10,5 @@ pub mod Reader
 pub mod Built
 pub mod Source
 pub mod LoadsSoFar
+pub mod DebugSoFar
 pub mod NamesSoFar

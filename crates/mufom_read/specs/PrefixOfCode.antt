@@ -1,7 +1,6 @@
 -- What the code keeps of a prefix, and which prefix that is.
-use Rattle.std.specs.Prelude.{◌≡◌, ◌≢◌, ◌⊎◌, ℕ, ◌+◌, ◌-◌, ◌<◌, ◌≤◌, nat_lt, nat_le, min, Bool, true, false, List, [], ◌∷◌, ◌++◌, length, map, take, drop, All, None, Some, is_some, if◌then◌else◌}
+use Rattle.std.specs.Prelude.{◌≡◌, ◌⊎◌, ℕ, ◌+◌, ◌-◌, ◌<◌, ◌≤◌, nat_lt, nat_le, min, Bool, true, false, List, [], ◌∷◌, ◌++◌, length, map, take, drop, All, None, Some, is_some, if◌then◌else◌}
 use Rattle.std.specs.List.{last_or, cons_option}
-use Rattle.std.specs.Prelude.{slice_index_or as get_or}
 use Rattle.mufom_records.specs.declared.record.Mode.{Mode}
 use Rattle.mufom_records.specs.declared.record.Mode.TheVariants as mode
 use Rattle.mufom_records.specs.declared.record.Record.{Record}
@@ -9,7 +8,7 @@ use Rattle.mufom_records.specs.declared.record.Record.TheVariants as r
 use Rattle.mufom_module.specs.SpelledRecords.{SpelledRecord}
 use Rattle.mufom_numbers.specs.declared.taken.Taken.{Taken}
 use Rattle.mufom_numbers.specs.declared.taken.Taken.TheVariants.{Got, More}
-use Rattle.mufom_module.specs.RecordParts.{Part, extension_part, environment_part, debug_part, stands_in, opens_items}
+use Rattle.mufom_module.specs.RecordParts.{Part, extension_part, environment_part, opens_items}
 use Rattle.mufom_module.specs.Grammar.{offset_in, FollowFrom}
 use Rattle.mufom_module.specs.Gathered.{references_of}
 use Rattle.mufom_read.specs.declared.kept.KeptRecord.{KeptRecord}
@@ -22,12 +21,13 @@ use Rattle.mufom_read.specs.declared.part.Extent as extents
 use Rattle.mufom_read.specs.declared.prefix.Next.{Next}
 use Rattle.mufom_read.specs.declared.prefix.Next.TheVariants as next
 use Rattle.mufom_read.specs.Prefixes.{OffsetRecord, Step, step_bytes, read, header_mode, body_mode, is_raw, part_among, parts_in_order, location_by, location_after, size_of, records_of, offset_records_of, offsets_of, first_present, header_count, Location, in_header, in_part, at_end, next_step, awaits_items, is_module_end, is_ended}
-use Rattle.mufom_read.specs.Faults.{open_blocks, record_fault, step_fault, ended_part_fault, fault_after}
+use Rattle.mufom_read.specs.Faults.{open_blocks, ends_badly, record_fault, step_fault, ended_part_fault, fault_after}
 use Rattle.mufom_read.specs.Judging.{IsSoundFrom}
 use Rattle.mufom_read.specs.Stated.{part_bytes}
 use Rattle.mufom_read.specs.PartsOfCode.{as_part, as_extent}
 use Rattle.mufom_read.specs.Kept.{tables_of, with_row, indexes_by, is_new, placed, record_of_kept, kept_of, kept_alone, HasOwnParts, as_fault}
 use Rattle.mufom_read.specs.NamesSoFar.{records_in, ArePublicsOf, IsBefore, AreBefore, AreRising}
+use Rattle.mufom_read.specs.DebugSoFar.{HasKind, AreDebugOf}
 use Rattle.mufom_read.specs.LoadsSoFar.{with_load, units_after, units_in, units_or, loads_so_far}
 
 -- where the next byte stands
@@ -67,11 +67,11 @@ offset_count n = min (n - 2) 8
 abbrev pub bytes_so_far : Part → List Step → List ℕ
 bytes_so_far part prefix = if nat_lt (length prefix) header_count then [] else part_bytes part prefix
 
--- The code keeps this prefix: its records but those of the data part, and the loads that these give; what the records declare
--- and state once, the units of an address, the offsets of the header, the bytes of the extension and of the environment, how
--- many bytes there are, and where the next one stands. No debug block is open, and a debug part that would be read is absent. After the header
--- the first part has begun.
-pub record IsPrefixOf (reads_debug : Bool) (f : Prefix) (prefix : List Step) : Type 0 where
+-- The code keeps this prefix: its records but those of the external, the debug and the data part; the publics, the references, the
+-- debug items and the loads that these give; what the records declare and state once, the units of an address, the offsets of the
+-- header, the bytes of the extension and of the environment, how many bytes there are, and where the next one stands. After the
+-- header the first part has begun.
+pub record IsPrefixOf (f : Prefix) (prefix : List Step) : Type 0 where
   pub kept : map placed f.kept ≡ kept_of (offset_records_of prefix)
   pub loads : f.loads ≡ loads_so_far (records_of prefix)
   pub maus : f.maus ≡ units_in (records_of prefix)
@@ -79,6 +79,7 @@ pub record IsPrefixOf (reads_debug : Bool) (f : Prefix) (prefix : List Step) : T
   pub ended : f.ended ≡ is_ended prefix
   pub publics : ArePublicsOf f.publics (offset_records_of prefix)
   pub references : f.references.items ≡ references_of (records_of prefix)
+  pub debug : AreDebugOf f.debug (offset_records_of prefix)
   pub own : All HasOwnParts f.kept
   pub tables : f.tables ≡ tables_of (records_of prefix)
   pub offsets : f.offsets ≡ offsets_of prefix
@@ -87,15 +88,13 @@ pub record IsPrefixOf (reads_debug : Bool) (f : Prefix) (prefix : List Step) : T
   pub size : f.size ≡ size_of prefix
   pub location : as_location f.location ≡ location_after prefix
   pub few : length prefix ≤ size_of prefix
-  pub blocks : open_blocks (offset_records_of prefix) ≡ []
-  pub later : reads_debug ≡ true → get_or (offsets_of prefix) 4 0 ≡ 0
   pub ordered : AreOrdered (offsets_of prefix)
   pub count : length (offsets_of prefix) ≡ offset_count (length prefix)
   pub begun : 10 ≤ length prefix → first_present (offsets_of prefix) ≤ size_of prefix
   pub follow : FollowFrom [] (records_of prefix)
   pub rising : AreRising 0 (offset_records_of prefix) (size_of prefix)
 
--- the prefix with one more record, with the publics, the references and the location that stand after it
+-- the prefix with one more record, with the publics, the references, the debug items and the location that stand after it
 abbrev pub with_record : Prefix → KeptRecord → Prefix → Prefix
 with_record f k new = record {
   kept = f.kept ++ kept_alone k;
@@ -111,6 +110,7 @@ with_record f k new = record {
   location = new.location;
   publics = new.publics;
   references = new.references;
+  debug = new.debug;
 }
 
 -- what is known of the publics and the references before a record
@@ -118,10 +118,10 @@ abbrev pub IsNext : Prefix → List OffsetRecord → SpelledRecord → Type 0
 IsNext f all p = IsBefore f.publics f.tables.publics all p × AreBefore f.references.items f.tables.references (records_in all) p
 
 -- what the record must be to be added after a prefix
-pub record IsAddable (reads_debug : Bool) (prefix : List Step) (row : Record) : Type 0 where
-  pub plain : stands_in debug_part row ≡ false
+pub record IsAddable (prefix : List Step) (row : Record) : Type 0 where
   pub new : is_new (tables_of (records_of prefix)) row ≡ true
-  pub later : reads_debug ≡ true → get_or (offsets_of prefix ++ cons_option (offset_in row) []) 4 0 ≡ 0
+  pub kind : HasKind row
+  pub nested : ends_badly (open_blocks (offset_records_of prefix)) row ≡ false
   pub ordered : AreOrdered (offsets_of prefix) → AreOrdered (offsets_of prefix ++ cons_option (offset_in row) [])
 
 -- a record of the header: MB, AD and ASW
@@ -131,11 +131,10 @@ IsHeaderRow (r.Descriptor _ _ _) = Unit {0}
 IsHeaderRow (r.Offset _ _) = Unit {0}
 IsHeaderRow _ = ⊥
 
--- a record in its location: one of the header in it, which has an offset after the first two, and none in a debug part, which
--- is not read yet
+-- a record in its location: one of the header in it, which has an offset after the first two; a block in a part has its kind
 abbrev pub IsPlacedWell : code.Location → Record → Type 0
 IsPlacedWell (offset.Header k) row = IsHeaderRow row × (is_some (offset_in row) ≡ nat_le 2 k)
-IsPlacedWell (offset.Part e) row = as_part e.part ≢ debug_part
+IsPlacedWell (offset.Part e) row = HasKind row
 IsPlacedWell offset.End row = Unit {0}
 
 -- what must stand in a location, where these bytes stand
@@ -145,17 +144,11 @@ mode_at prefix (in_part e) rest = body_mode prefix e rest
 mode_at prefix at_end rest = mode.Body
 
 -- What was done with a whole record after a prefix: it has no fault and was added, or it has this fault.
-abbrev pub HasTaken : Bool → List Step → SpelledRecord → Prefix → Next → Type 0
-HasTaken reads_debug prefix p new (next.Took n) = (n ≡ length p.bytes) × (record_fault reads_debug prefix (location_after prefix) (size_of prefix) p ≡ None)
-    × IsPrefixOf reads_debug new (prefix ++ read (size_of prefix) p ∷ [])
-HasTaken reads_debug prefix p new next.More = ⊥
-HasTaken reads_debug prefix p new (next.Refused f) = record_fault reads_debug prefix (location_after prefix) (size_of prefix) p ≡ Some (as_fault f)
-
--- the location is in no debug part, which is not read yet
-abbrev pub IsNotDebug : code.Location → Type 0
-IsNotDebug (offset.Header k) = Unit {0}
-IsNotDebug (offset.Part e) = as_part e.part ≢ debug_part
-IsNotDebug offset.End = Unit {0}
+abbrev pub HasTaken : List Step → SpelledRecord → Prefix → Next → Type 0
+HasTaken prefix p new (next.Took n) = (n ≡ length p.bytes) × (record_fault prefix (location_after prefix) (size_of prefix) p ≡ None)
+    × IsPrefixOf new (prefix ++ read (size_of prefix) p ∷ [])
+HasTaken prefix p new next.More = ⊥
+HasTaken prefix p new (next.Refused f) = record_fault prefix (location_after prefix) (size_of prefix) p ≡ Some (as_fault f)
 
 -- what stands in the location is read
 abbrev pub IsRead : Bool → code.Location → Type 0
@@ -168,11 +161,11 @@ abbrev pub IsRawPart : Bool → code.Location → extents.Extent → Type 0
 IsRawPart reads_debug at e = (at ≡ offset.Part e) × (is_raw reads_debug (as_part e.part) ≡ true)
 
 -- What was done with what stands after a prefix: a step without a fault was taken; or more bytes are wanted; or there is this fault.
-abbrev pub HasJudged : Bool → List Step → Taken Step → List ℕ → Prefix → Next → Type 0
-HasJudged reads_debug prefix stands rest new (next.Took n) = (step : Step) × (stands ≡ Got step n) × (length (step_bytes step) ≡ n) × (step_fault reads_debug prefix stands ≡ None)
-    × (0 < n) × (n ≤ length rest) × IsPrefixOf reads_debug new (prefix ++ step ∷ [])
-HasJudged reads_debug prefix stands rest new next.More = IsPrefixOf reads_debug new prefix × (stands ≡ More)
-HasJudged reads_debug prefix stands rest new (next.Refused f) = step_fault reads_debug prefix stands ≡ Some (as_fault f)
+abbrev pub HasJudged : List Step → Taken Step → List ℕ → Prefix → Next → Type 0
+HasJudged prefix stands rest new (next.Took n) = (step : Step) × (stands ≡ Got step n) × (length (step_bytes step) ≡ n) × (step_fault prefix stands ≡ None)
+    × (0 < n) × (n ≤ length rest) × IsPrefixOf new (prefix ++ step ∷ [])
+HasJudged prefix stands rest new next.More = IsPrefixOf new prefix × (stands ≡ More)
+HasJudged prefix stands rest new (next.Refused f) = step_fault prefix stands ≡ Some (as_fault f)
 
 -- of the bytes of a part, those that are of the extension
 abbrev pub extension_in : codes.Part → List ℕ → List ℕ
@@ -191,6 +184,7 @@ pub record HasRaw (old : Prefix) (part : codes.Part) (bytes : List ℕ) (new : P
   pub loads : new.loads ≡ old.loads
   pub publics : new.publics ≡ old.publics
   pub references : new.references.items ≡ old.references.items
+  pub debug : new.debug ≡ old.debug
   pub maus : new.maus ≡ old.maus
   pub awaits : new.awaits_items ≡ old.awaits_items
   pub ended : new.ended ≡ old.ended
@@ -208,16 +202,16 @@ HasSkipped old part most rest new (next.Refused f) = ⊥
 
 -- What was done with the next step after a prefix: steps without a fault were taken; or more bytes are wanted; or there is this fault.
 abbrev pub IsStepTaken : Bool → List Step → List ℕ → Prefix → Next → Type 0
-IsStepTaken reads_debug prefix rest new (next.Took n) = (steps : List Step) × IsPrefixOf reads_debug new (prefix ++ steps) × IsSoundFrom reads_debug prefix steps rest
+IsStepTaken reads_debug prefix rest new (next.Took n) = (steps : List Step) × IsPrefixOf new (prefix ++ steps) × IsSoundFrom reads_debug prefix steps rest
     × (size_of steps ≡ n) × (0 < n) × (n ≤ length rest)
-IsStepTaken reads_debug prefix rest new next.More = IsPrefixOf reads_debug new prefix × (next_step reads_debug prefix rest ≡ More)
-IsStepTaken reads_debug prefix rest new (next.Refused f) = step_fault reads_debug prefix (next_step reads_debug prefix rest) ≡ Some (as_fault f)
+IsStepTaken reads_debug prefix rest new next.More = IsPrefixOf new prefix × (next_step reads_debug prefix rest ≡ More)
+IsStepTaken reads_debug prefix rest new (next.Refused f) = step_fault prefix (next_step reads_debug prefix rest) ≡ Some (as_fault f)
 
 -- What a step has done after a prefix where these bytes stand: it took steps without a fault; or it found that more bytes
 -- are wanted; or it found a fault, maybe after steps without one.
 abbrev pub HasAdvanced : Bool → List Step → List ℕ → Prefix → Next → Type 0
-HasAdvanced reads_debug prefix rest new (next.Took n) = (steps : List Step) × IsPrefixOf reads_debug new (prefix ++ steps) × IsSoundFrom reads_debug prefix steps rest
+HasAdvanced reads_debug prefix rest new (next.Took n) = (steps : List Step) × IsPrefixOf new (prefix ++ steps) × IsSoundFrom reads_debug prefix steps rest
     × (size_of steps ≡ n) × (0 < n) × (n ≤ length rest) × (is_ended (prefix ++ steps) ≡ false → ended_part_fault (prefix ++ steps) ≡ None)
-HasAdvanced reads_debug prefix rest new next.More = IsPrefixOf reads_debug new prefix × (next_step reads_debug prefix rest ≡ More)
+HasAdvanced reads_debug prefix rest new next.More = IsPrefixOf new prefix × (next_step reads_debug prefix rest ≡ More)
 HasAdvanced reads_debug prefix rest new (next.Refused f) = (steps : List Step) × IsSoundFrom reads_debug prefix steps rest × (is_ended (prefix ++ steps) ≡ false)
     × (fault_after reads_debug (prefix ++ steps) (drop (size_of steps) rest) ≡ Some (as_fault f))

@@ -24,7 +24,7 @@ pub record IsIncomplete (reads_debug : Bool) (prefix : List Step) (rest : List �
 -- What all that the bytes after a prefix have was taken is: a prefix without a fault, after which the module has ended or more
 -- bytes are wanted; or a fault after one.
 abbrev pub HasTakenAll : Bool → List Step → List ℕ → Prefix → Result ℕ ReadStop → Type 0
-HasTakenAll reads_debug before rest new (Ok n) = (steps : List Step) × IsPrefixOf reads_debug new (before ++ steps) × IsSoundFrom reads_debug before steps rest × (size_of steps ≡ n) × (n ≤ length rest)
+HasTakenAll reads_debug before rest new (Ok n) = (steps : List Step) × IsPrefixOf new (before ++ steps) × IsSoundFrom reads_debug before steps rest × (size_of steps ≡ n) × (n ≤ length rest)
     × ((is_ended (before ++ steps) ≡ true) ⊎ IsIncomplete reads_debug (before ++ steps) (drop n rest))
 HasTakenAll reads_debug before rest new (Err (stop.Refused f)) = (steps : List Step) × IsSoundFrom reads_debug before steps rest × (is_ended (before ++ steps) ≡ false)
     × (fault_after reads_debug (before ++ steps) (drop (size_of steps) rest) ≡ Some (as_fault f))
@@ -44,14 +44,14 @@ HasEndedChunk ended size longer rest new (Some stop.NoMemory) = Unit {0}
 abbrev pub HasJudgedRest : Bool → List Step → List ℕ → Bool → State → Option ReadStop → Type 0
 HasJudgedRest reads_debug before rest longer new result = ((f : ReadRefusal) × (result ≡ Some (stop.Refused f)) × HasTakenAll reads_debug before rest new.prefix (Err (stop.Refused f)))
     ⊎ ((result ≡ Some stop.NoMemory)
-    ⊎ ((n : ℕ) × (steps : List Step) × IsPrefixOf reads_debug new.prefix (before ++ steps) × IsSoundFrom reads_debug before steps rest × (size_of steps ≡ n) × (n ≤ length rest)
+    ⊎ ((n : ℕ) × (steps : List Step) × IsPrefixOf new.prefix (before ++ steps) × IsSoundFrom reads_debug before steps rest × (size_of steps ≡ n) × (n ≤ length rest)
     × ((is_ended (before ++ steps) ≡ true) ⊎ IsIncomplete reads_debug (before ++ steps) (drop n rest))
     × HasEndedChunk (is_ended (before ++ steps)) new.prefix.size longer (drop n rest) new result))
 
 -- the reader keeps the longest sound prefix of the stream, and the bytes after it
 pub record IsReading (reader : State) (stream : List ℕ) : Type 0 where
   pub prefix : List Step
-  pub kept : IsPrefixOf reader.reads_debug reader.prefix prefix
+  pub kept : IsPrefixOf reader.prefix prefix
   pub sound : IsSoundPrefix reader.reads_debug prefix stream
   pub within : length stream ≤ file_limit
   pub inside : size_of prefix ≤ length stream

@@ -10,6 +10,7 @@ ghost use Rattle.mufom_read.specs.Prefixes.{Step};
 ghost use Rattle.mufom_read.specs.Kept.{record_of_kept, AreSectionTables, HasOwnParts, indexes_by};
 ghost use Rattle.mufom_read.specs.Built.{IsStatedByKept, IsWhole};
 
+use crate::debug::Debugs;
 use crate::kept::KeptRecord;
 use crate::loads::Loads;
 use crate::positions::value_in;
@@ -135,12 +136,14 @@ fn parts_of(alloc: Global, prefix: Prefix) -> Result<Parts, NoMemory>
         kept,
         publics,
         references,
+        debug,
         tables,
         loads,
         extension,
         environment,
         ..
     } = prefix;
+    let Debugs { items, .. } = debug;
     let Loads { loads, .. } = loads;
     let records = kept.as_slice();
     let (processor, name) = names_of(alloc, begin_of(records))?;
@@ -160,7 +163,7 @@ fn parts_of(alloc: Global, prefix: Prefix) -> Result<Parts, NoMemory>
         env: List::from_vec(environment),
         sections,
         names,
-        debug: List::new(alloc),
+        debug: items,
         loads,
         start,
     })

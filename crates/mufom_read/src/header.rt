@@ -23,13 +23,6 @@ fn is_out_of_order(earlier: &[u64], offset: u64) -> bool
     offset != 0 && is_below_any(earlier, offset) || earlier.len() == 7 && offset == 0
 }
 
-// Whether it is that of a debug part that is to be read, which this release leaves for later.
-fn is_left_for_later(reads_debug: bool, earlier: &[u64], offset: u64) -> bool
-    ensures { result ≡ faults.is_left_for_later reads_debug earlier.now offset }
-{
-    reads_debug && earlier.len() == 4 && offset != 0
-}
-
 // The first of the two that is not 0.
 fn first_or(first: u64, second: u64) -> u64
     ensures { result ≡ first_or first second }
@@ -48,24 +41,11 @@ fn leaves_gap(earlier: &[u64], offset: u64, end: u64) -> bool
 }
 
 // The fault of an offset after earlier ones, in the record between these two offsets of the file.
-fn offset_fault(
-    reads_debug: bool,
-    earlier: &[u64],
-    offset: u64,
-    start: u64,
-    end: u64,
-) -> Option<ReadRefusal>
-    ensures { option_map as_fault result ≡ faults.offset_fault reads_debug earlier.now offset start end }
+fn offset_fault(earlier: &[u64], offset: u64, start: u64, end: u64) -> Option<ReadRefusal>
+    ensures { option_map as_fault result ≡ faults.offset_fault earlier.now offset start end }
 {
     if is_out_of_order(earlier, offset) {
         let reason = Reason::OffsetOrder;
-        return Some(ReadRefusal {
-            place: start,
-            reason,
-        });
-    }
-    if is_left_for_later(reads_debug, earlier, offset) {
-        let reason = Reason::NotBuilt;
         return Some(ReadRefusal {
             place: start,
             reason,
@@ -90,16 +70,15 @@ fn is_bad_descriptor(record: &Record) -> bool
 
 /// The fault of a record of the header, between these two offsets of the file.
 pub(crate) fn header_fault(
-    reads_debug: bool,
     earlier: &[u64],
     record: &Record,
     start: u64,
     end: u64,
 ) -> Option<ReadRefusal>
-    ensures { option_map as_fault result ≡ faults.header_fault reads_debug earlier.now start end «record».now }
+    ensures { option_map as_fault result ≡ faults.header_fault earlier.now start end «record».now }
 {
     if let Record::Offset(_, offset) = record {
-        return offset_fault(reads_debug, earlier, *offset, start, end);
+        return offset_fault(earlier, *offset, start, end);
     }
     if is_bad_descriptor(record) {
         let reason = Reason::BadDescriptor;

@@ -4,6 +4,7 @@ ghost use Rattle.std.specs.Prelude.{◌≡◌, [], ◌∷◌, ◌++◌, IfOk, On
 ghost use Rattle.mufom_expr.specs.Tree.{Tree};
 ghost use Rattle.mufom_expr.specs.Spelled.{Indexes};
 ghost use Rattle.mufom_module.specs.SpelledRecords as records;
+ghost use Rattle.mufom_module.specs.RecordParts as parts;
 ghost use Rattle.mufom_module.specs.Gathered as gathered;
 ghost use Rattle.mufom_read.specs.Kept.{indexes_by, record_of_kept, kept_of_seen, HasOwnParts};
 ghost use Rattle.mufom_read.specs.LoadsSoFar.{loads_and, no_loads, closed, with_item, opened_by, is_item, loads_at_once, with_load};
@@ -123,7 +124,7 @@ fn add_loads(
     value: Option<Postfix>,
 ) -> Result<(), NoMemory>
     requires own { HasOwnParts (kept_of_seen «record».now) }
-    requires value { records.is_public_value «record».now.row ≡ false → value
+    requires value { parts.stands_in parts.data_part «record».now.row ≡ true → value
         ≡ option_map (records.positioned (indexes_by tables.now)) (records.tree_of_record (record_of_kept (kept_of_seen «record».now))) }
     ensures { OnOk result (loads.new ≡ loads.old
         ++ loads_at_once (indexes_by tables.now) (record_of_kept (kept_of_seen «record».now)) «record».now.row) }
@@ -191,7 +192,7 @@ impl Loads {
         value: Option<Postfix>,
     ) -> Result<(), NoMemory>
         requires own { HasOwnParts (kept_of_seen «record».now) }
-        requires value { records.is_public_value «record».now.row ≡ false → value
+        requires value { parts.stands_in parts.data_part «record».now.row ≡ true → value
             ≡ option_map (records.positioned (indexes_by tables.now)) (records.tree_of_record (record_of_kept (kept_of_seen «record».now))) }
         ensures { OnOk result (self.new ≡ loads_and
             (closed self.old ++ loads_at_once (indexes_by tables.now) (record_of_kept (kept_of_seen «record».now)) «record».now.row)
@@ -202,8 +203,8 @@ impl Loads {
         add_loads(alloc, tables, &mut self.loads, record, value)
     }
 
-    /// Takes the next record, with its expression over the indexes of the file unless it is the value of a public, by the
-    /// indexes that those before it declare and with these units in an address.
+    /// Takes the next record, with its expression over the indexes of the file where it is of the data part, by the indexes
+    /// that those before it declare and with these units in an address.
     pub(crate) fn take(
         &mut self,
         alloc: Global,
@@ -213,7 +214,7 @@ impl Loads {
         tree: Option<Postfix>,
     ) -> Result<(), NoMemory>
         requires own { HasOwnParts (kept_of_seen «record».now) }
-        requires tree { records.is_public_value «record».now.row ≡ false
+        requires tree { parts.stands_in parts.data_part «record».now.row ≡ true
             → tree ≡ records.tree_of_record (record_of_kept (kept_of_seen «record».now)) }
         ensures { OnOk result (self.new ≡ with_load (indexes_by tables.now) maus self.old (record_of_kept (kept_of_seen «record».now))) }
     {

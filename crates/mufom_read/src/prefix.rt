@@ -7,24 +7,26 @@ ghost use Rattle.mufom_module.specs.RecordParts as parts;
 ghost use Rattle.mufom_read.specs.Prefixes as prefixes;
 ghost use Rattle.mufom_read.specs.Faults as faults;
 ghost use Rattle.mufom_read.specs.PartsOfCode.{as_part, as_extent};
-ghost use Rattle.mufom_read.specs.Kept.{record_of_kept, kept_of_seen, kept_alone, placed, HasOwnParts, HasRoom, is_new, as_fault};
+ghost use Rattle.mufom_read.specs.Kept.{indexes_by, record_of_kept, kept_of_seen, kept_alone, placed, HasOwnParts, HasRoom, is_new, as_fault};
 ghost use Rattle.mufom_read.specs.NamesSoFar.{ArePublicsOf, records_in};
+ghost use Rattle.mufom_read.specs.DebugSoFar.{HasKind, opened, marks_kept};
 ghost use Rattle.mufom_module.specs.Gathered as gathered;
 ghost use Rattle.mufom_read.specs.LoadsSoFar.{units_after};
-ghost use Rattle.mufom_read.specs.PrefixOfCode.{IsPrefixOf, IsNext, IsRead, IsRawPart, IsNotDebug, HasJudged, HasRaw, HasSkipped, IsPlacedWell, with_record, as_location, next_location, is_inside, mode_at, HasTaken, IsStepTaken, HasAdvanced};
+ghost use Rattle.mufom_read.specs.PrefixOfCode.{IsPrefixOf, IsNext, IsRead, IsRawPart, HasJudged, HasRaw, HasSkipped, IsPlacedWell, with_record, as_location, next_location, is_inside, mode_at, HasTaken, IsStepTaken, HasAdvanced};
 ghost use Rattle.mufom_read.specs.declared.prefix.Next.TheVariants as nexts;
 ghost use Rattle.mufom_records.specs.Reading.{record_at};
 ghost use Rattle.mufom_records.specs.declared.record.Mode.TheVariants as modes;
 ghost use Rattle.mufom_module.specs.Grammar.{offset_in, file_limit};
 
+use crate::debug::Debugs;
 use crate::header::header_fault;
 use crate::kept::{KeptRecord, SeenRecord};
 use crate::loads::Loads;
-use crate::part::{Extent, Part, is_raw, part_at, stands_in};
+use crate::part::{Extent, Part, is_raw, part_at, part_of, stands_in};
 use crate::publics::Publics;
 use crate::references::take as take_reference;
 use crate::refusal::ReadRefusal;
-use crate::rules::{is_public_value, rule_broken};
+use crate::rules::rule_broken;
 use crate::tables::Tables;
 use crate::whole::whole_fault;
 use mufom_expr::Postfix;
@@ -42,10 +44,11 @@ const MOST_UNITS: u64 = 8;
 /// What was judged of a stream so far, and has no fault.
 #[derive(Debug, Drop)]
 pub(crate) struct Prefix {
-    /// The records but those of the external and the data part.
+    /// The records but those of the external, the debug and the data part.
     pub kept: List<KeptRecord>,
     pub publics: Publics,
     pub references: Vec<Reference>,
+    pub debug: Debugs,
     pub tables: Tables,
     /// What the records of the data part give.
     pub loads: Loads,
@@ -176,16 +179,33 @@ fn at_most(bytes: &[u8], count: u64) -> &[u8]
     }
 }
 
-// The expression of the value of a public, or else of another record.
-fn value_and_rest(record: &Record, tree: Option<Postfix>) -> (Option<Postfix>, Option<Postfix>)
-    ensures value { records.is_public_value «record».now ≡ true → result.0 ≡ tree }
-    ensures rest { records.is_public_value «record».now ≡ false → result.1 ≡ tree }
+/// The expression of a record, by what takes it.
+struct Shares {
+    /// That of the value of a public.
+    value: Option<Postfix>,
+    /// That of a record of the debug part.
+    debug: Option<Postfix>,
+    /// That of another record.
+    rest: Option<Postfix>,
+}
+
+// Gives the expression of the record to what takes it.
+fn shared(record: &Record, tree: Option<Postfix>) -> Shares
+    ensures value { records.is_public_value «record».now ≡ true → result.value ≡ tree }
+    ensures debug { parts.stands_in parts.debug_part «record».now ≡ true → result.debug ≡ tree }
+    ensures rest { parts.stands_in parts.data_part «record».now ≡ true → result.rest ≡ tree }
 {
-    if is_public_value(record) {
-        (tree, None)
-    } else {
-        (None, tree)
+    let mut shares = Shares {
+        value: None,
+        debug: None,
+        rest: None,
+    };
+    match part_of(record) {
+        Some(Part::External) => shares.value = tree,
+        Some(Part::Debug) => shares.debug = tree,
+        _ => shares.rest = tree,
     }
+    shares
 }
 
 // The units of an address: those of the first descriptor.
@@ -205,11 +225,14 @@ fn is_module_end(record: &Record) -> bool
     matches!(record, Record::ModuleEnd)
 }
 
-// Keeps the record, unless it is one of the external part or of the data part: what these state is kept elsewhere.
+// Keeps the record, unless it is one of the external, the debug or the data part: what these state is kept elsewhere.
 fn keep_last(alloc: Global, kept: &mut List<KeptRecord>, next: SeenRecord) -> Result<(), NoMemory>
     ensures { OnOk result (kept.new ≡ kept.old ++ kept_alone (kept_of_seen next.entry)) }
 {
-    if stands_in(Part::External, &next.row) || stands_in(Part::Data, &next.row) {
+    if stands_in(Part::External, &next.row)
+        || stands_in(Part::Debug, &next.row)
+        || stands_in(Part::Data, &next.row)
+    {
         Ok(())
     } else {
         let record = next.into_kept(alloc)?;
@@ -220,12 +243,13 @@ fn keep_last(alloc: Global, kept: &mut List<KeptRecord>, next: SeenRecord) -> Re
 impl Prefix {
     /// The prefix of no bytes. Takes no memory.
     pub(crate) fn new(alloc: Global) -> Prefix
-        ensures { (reads_debug : Bool) → IsPrefixOf reads_debug result [] }
+        ensures { IsPrefixOf result [] }
     {
         Prefix {
             kept: List::new(alloc),
             publics: Publics::new(alloc),
             references: Vec::new(alloc),
+            debug: Debugs::new(alloc),
             tables: Tables::new(alloc),
             loads: Loads::new(alloc),
             maus: None,
@@ -287,7 +311,7 @@ impl Prefix {
     /// Whether the end of the module was read.
     pub(crate) fn is_ended(&self) -> bool
         ensures kept { result ≡ self.now.ended }
-        ensures prefix { (reads_debug : Bool) (prefix : List prefixes.Step) → IsPrefixOf reads_debug self.now prefix
+        ensures prefix { (prefix : List prefixes.Step) → IsPrefixOf self.now prefix
             → result ≡ prefixes.is_ended prefix }
     {
         self.ended
@@ -302,7 +326,7 @@ impl Prefix {
 
     // What must stand in a location, where these bytes stand.
     fn mode(&self, place: Location, rest: &[u8]) -> Mode
-        ensures { (reads_debug : Bool) (prefix : List prefixes.Step) → IsPrefixOf reads_debug self.now prefix
+        ensures { (prefix : List prefixes.Step) → IsPrefixOf self.now prefix
             → result ≡ mode_at prefix (as_location place) rest.now }
     {
         match place {
@@ -324,12 +348,11 @@ impl Prefix {
 
     // The fault of a whole record in its part, with this expression, by the rules.
     fn rule_fault(&self, record: &Record, tree: Option<&Postfix>) -> Option<ReadRefusal>
-        requires { parts.stands_in parts.debug_part «record».now ≡ false }
-        ensures { (reads_debug : Bool) (prefix : List prefixes.Step) (p : records.SpelledRecord) → IsPrefixOf reads_debug self.now prefix
+        ensures { (prefix : List prefixes.Step) (p : records.SpelledRecord) → IsPrefixOf self.now prefix
             → p.row ≡ «record».now → records.tree_of_record p ≡ option_map (λ t. t.now) tree.entry
             → option_map as_fault result ≡ faults.fault_for self.now.size (faults.rule_broken prefix p) }
     {
-        match rule_broken(&self.tables, record, tree) {
+        match rule_broken(&self.tables, self.debug.blocks.as_slice(), record, tree) {
             None => None,
             Some(reason) => self.refused(reason),
         }
@@ -343,8 +366,7 @@ impl Prefix {
         tree: Option<&Postfix>,
     ) -> Option<ReadRefusal>
         requires fits { self.now.size + length next.now.bytes.now ≤ file_limit }
-        requires other { as_part extent.part ≢ parts.debug_part }
-        ensures { (reads_debug : Bool) (prefix : List prefixes.Step) → IsPrefixOf reads_debug self.now prefix
+        ensures { (prefix : List prefixes.Step) → IsPrefixOf self.now prefix
             → records.tree_of_record (record_of_kept (kept_of_seen next.now)) ≡ option_map (λ t. t.now) tree.entry
             → option_map as_fault result
             ≡ faults.part_record_fault prefix (as_extent extent) self.now.size (record_of_kept (kept_of_seen next.now)) }
@@ -361,23 +383,22 @@ impl Prefix {
     // The fault of a whole record in its location, with this expression.
     fn record_fault(
         &self,
-        reads_debug: bool,
         place: Location,
         next: &SeenRecord,
         tree: Option<&Postfix>,
     ) -> Option<ReadRefusal>
         requires fits { self.now.size + length next.now.bytes.now ≤ file_limit }
         requires placed { IsPlacedWell place next.now.row }
-        ensures { (prefix : List prefixes.Step) → IsPrefixOf reads_debug self.now prefix
+        ensures { (prefix : List prefixes.Step) → IsPrefixOf self.now prefix
             → records.tree_of_record (record_of_kept (kept_of_seen next.now)) ≡ option_map (λ t. t.now) tree.entry
             → option_map as_fault result
-            ≡ faults.record_fault reads_debug prefix (as_location place) self.now.size (record_of_kept (kept_of_seen next.now)) }
+            ≡ faults.record_fault prefix (as_location place) self.now.size (record_of_kept (kept_of_seen next.now)) }
     {
         match place {
             Location::Header(_) => {
                 let end = self.size + next.bytes.len() as u64;
                 let earlier = self.offsets.as_slice();
-                header_fault(reads_debug, earlier, &next.row, self.size, end)
+                header_fault(earlier, &next.row, self.size, end)
             }
             Location::Part(extent) => self.part_fault(extent, next, tree),
             Location::End => {
@@ -404,21 +425,27 @@ impl Prefix {
         requires fits { self.old.size + length next.bytes.now ≤ file_limit }
         requires start { next.start ≡ self.old.size }
         requires known { (all : List prefixes.OffsetRecord) × IsNext self.old all (record_of_kept (kept_of_seen next)) }
+        requires kind { HasKind next.row }
+        requires nested { faults.ends_badly (opened self.old.debug) next.row ≡ false }
         ensures added { OnOk result (self.new ≡ with_record self.old (kept_of_seen next.entry) self.new) }
         ensures publics { OnOk result ((all : List prefixes.OffsetRecord) → IsNext self.old all (record_of_kept (kept_of_seen next.entry))
             → ArePublicsOf self.new.publics (all ++ placed (kept_of_seen next.entry) ∷ [])) }
         ensures references { OnOk result ((all : List prefixes.OffsetRecord) → IsNext self.old all (record_of_kept (kept_of_seen next.entry))
             → self.new.references.items ≡ gathered.references_of (records_in all ++ record_of_kept (kept_of_seen next.entry) ∷ [])) }
+        ensures marks { OnOk result (marks_kept self.new.debug ≡ marks_kept self.old.debug
+            ++ cons_option (gathered.mark_by (indexes_by self.old.tables) (record_of_kept (kept_of_seen next.entry)) next.entry.row) []) }
+        ensures blocks { OnOk result (opened self.new.debug ≡ faults.opened_after (opened self.old.debug) next.entry.start next.entry.row) }
         ensures location { OnOk result (as_location self.new.location
             ≡ next_location (as_location self.old.location) (self.old.offsets ++ cons_option (offset_in next.entry.row) [])
             (self.old.size + length next.entry.bytes.now)) }
     {
-        let (value, tree) = value_and_rest(&next.row, tree);
+        let Shares { value, debug, rest } = shared(&next.row, tree);
         self.publics
             .take(alloc, &self.tables.publics, &next, value)?;
         take_reference(alloc, &mut self.references, &self.tables.references, &next)?;
+        self.debug.take(alloc, &self.tables, &next, debug)?;
         let maus = self.maus.unwrap_or(2);
-        self.loads.take(alloc, &self.tables, maus, &next, tree)?;
+        self.loads.take(alloc, &self.tables, maus, &next, rest)?;
         self.maus = units_after(self.maus, &next.row);
         self.tables.add(&next.row)?;
         add_offset(&mut self.offsets, &next.row)?;
@@ -430,27 +457,21 @@ impl Prefix {
     }
 
     // Judges the record that begins after the prefix, and adds it.
-    fn take(
-        &mut self,
-        alloc: Global,
-        reads_debug: bool,
-        place: Location,
-        next: SeenRecord,
-    ) -> Result<Next, NoMemory>
-        requires known { (prefix : List prefixes.Step) × IsPrefixOf reads_debug self.old prefix
+    fn take(&mut self, alloc: Global, place: Location, next: SeenRecord) -> Result<Next, NoMemory>
+        requires known { (prefix : List prefixes.Step) × IsPrefixOf self.old prefix
             × (as_location place ≡ prefixes.location_after prefix) }
         requires own { HasOwnParts (kept_of_seen next) }
         requires some { 0 < length next.bytes.now }
         requires start { next.start ≡ self.old.size }
         requires fits { self.old.size + length next.bytes.now ≤ file_limit }
         requires placed { IsPlacedWell place next.row }
-        ensures { IfOk result (λ done. (prefix : List prefixes.Step) → IsPrefixOf reads_debug self.old prefix
+        ensures { IfOk result (λ done. (prefix : List prefixes.Step) → IsPrefixOf self.old prefix
             → as_location place ≡ prefixes.location_after prefix
-            → HasTaken reads_debug prefix (record_of_kept (kept_of_seen next.entry)) self.new done) }
+            → HasTaken prefix (record_of_kept (kept_of_seen next.entry)) self.new done) }
     {
         let used = next.bytes.len();
         let tree = next.expression(alloc)?;
-        match self.record_fault(reads_debug, place, &next, tree.as_ref()) {
+        match self.record_fault(place, &next, tree.as_ref()) {
             Some(refusal) => Ok(Next::Refused(refusal)),
             None => {
                 self.add(alloc, next, tree)?;
@@ -460,20 +481,13 @@ impl Prefix {
     }
 
     // Takes the record at the start of the rest.
-    fn read(
-        &mut self,
-        alloc: Global,
-        reads_debug: bool,
-        place: Location,
-        rest: &[u8],
-    ) -> Result<Next, NoMemory>
-        requires known { (prefix : List prefixes.Step) × IsPrefixOf reads_debug self.old prefix
+    fn read(&mut self, alloc: Global, place: Location, rest: &[u8]) -> Result<Next, NoMemory>
+        requires known { (prefix : List prefixes.Step) × IsPrefixOf self.old prefix
             × (as_location place ≡ prefixes.location_after prefix) }
         requires fits { self.old.size + length rest.now ≤ file_limit }
-        requires other { IsNotDebug place }
-        ensures { IfOk result (λ next. (prefix : List prefixes.Step) → IsPrefixOf reads_debug self.old prefix
+        ensures { IfOk result (λ next. (prefix : List prefixes.Step) → IsPrefixOf self.old prefix
             → as_location place ≡ prefixes.location_after prefix
-            → HasJudged reads_debug prefix
+            → HasJudged prefix
             (prefixes.as_step (prefixes.size_of prefix) rest.now
             (record_at (mode_at prefix (as_location place) rest.now) rest.now)) rest.now self.new next) }
     {
@@ -484,7 +498,7 @@ impl Prefix {
                     row,
                     bytes: prefix_of(rest, used),
                 };
-                self.take(alloc, reads_debug, place, next)
+                self.take(alloc, place, next)
             }
             Taken::More => Ok(Next::More),
             Taken::Bad { offset, reason } => Ok(Next::Refused(ReadRefusal {
@@ -526,7 +540,7 @@ impl Prefix {
     /// The fault of the part that ends where the prefix does, as a whole, if one ends there.
     fn ended_fault(&self) -> Option<ReadRefusal>
         requires { length self.now.publics.list.items ≡ length self.now.publics.marks.items }
-        ensures { (reads_debug : Bool) (prefix : List prefixes.Step) → IsPrefixOf reads_debug self.now prefix
+        ensures { (prefix : List prefixes.Step) → IsPrefixOf self.now prefix
             → option_map as_fault result ≡ faults.ended_part_fault prefix }
     {
         if self.is_inside() {
@@ -540,6 +554,7 @@ impl Prefix {
                         extent.part,
                         &self.tables,
                         &self.publics,
+                        self.debug.blocks.as_slice(),
                         self.kept.as_slice(),
                     )
                 } else {
@@ -551,16 +566,16 @@ impl Prefix {
 
     // Takes what stands after the prefix.
     fn step(&mut self, alloc: Global, reads_debug: bool, rest: &[u8]) -> Result<Next, NoMemory>
-        requires known { (prefix : List prefixes.Step) × IsPrefixOf reads_debug self.old prefix }
+        requires known { (prefix : List prefixes.Step) × IsPrefixOf self.old prefix }
         requires fits { self.old.size + length rest.now ≤ file_limit }
-        ensures { IfOk result (λ next. (prefix : List prefixes.Step) → IsPrefixOf reads_debug self.old prefix
+        ensures { IfOk result (λ next. (prefix : List prefixes.Step) → IsPrefixOf self.old prefix
             → prefixes.is_ended prefix ≡ false → faults.ended_part_fault prefix ≡ None
             → IsStepTaken reads_debug prefix rest.now self.new next) }
     {
         let place = self.location;
         match raw_part(reads_debug, place) {
             Some(extent) => self.skip(extent, rest),
-            None => self.read(alloc, reads_debug, place, rest),
+            None => self.read(alloc, place, rest),
         }
     }
 
@@ -571,10 +586,10 @@ impl Prefix {
         reads_debug: bool,
         rest: &[u8],
     ) -> Result<Next, NoMemory>
-        requires known { (prefix : List prefixes.Step) × IsPrefixOf reads_debug self.old prefix × (prefixes.is_ended prefix ≡ false)
+        requires known { (prefix : List prefixes.Step) × IsPrefixOf self.old prefix × (prefixes.is_ended prefix ≡ false)
             × (faults.ended_part_fault prefix ≡ None) }
         requires fits { self.old.size + length rest.now ≤ file_limit }
-        ensures { IfOk result (λ next. (prefix : List prefixes.Step) → IsPrefixOf reads_debug self.old prefix
+        ensures { IfOk result (λ next. (prefix : List prefixes.Step) → IsPrefixOf self.old prefix
             → prefixes.is_ended prefix ≡ false → faults.ended_part_fault prefix ≡ None
             → HasAdvanced reads_debug prefix rest.now self.new next) }
     {

@@ -250,8 +250,8 @@ pub(crate) fn declared_position(table: &IndexTable, index: u32) -> usize
     }
 }
 
-// The value that is stated.
-fn stated(value: Option<Postfix>) -> Postfix
+/// The expression, which is there.
+pub(crate) fn stated(value: Option<Postfix>) -> Postfix
     requires { (tree : Tree) × (value ≡ Some tree) }
     ensures { value ≡ Some result }
 {

@@ -32,8 +32,9 @@ impl Model for Reader {
 
     ghost use Rattle.std.specs.Coded.{codes};
     ghost use Rattle.mufom_expr.specs.TreeCode.{tree_code};
+    ghost use Rattle.mufom_debug.specs.contracts.item.DebugItem as debug_item;
 
-    ghost coded = { Prim.hlevel (codes, tree_code) };
+    ghost coded = { Prim.hlevel (codes, tree_code, debug_item.the_row.coded) };
 
     ghost view = { λ r. r.state };
 

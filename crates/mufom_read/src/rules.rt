@@ -1,22 +1,24 @@
 //! The rules for a whole record in its part, after the records before it.
 
-ghost use Rattle.std.specs.Prelude.{◌≡◌, ◌∷◌, [], ◌&&◌, not, false, option_map, List};
-ghost use Rattle.std.specs.List.{list_any};
+ghost use Rattle.std.specs.Prelude.{◌≡◌, ◌∷◌, [], ◌&&◌, not, option_map, option_to_list, List};
+ghost use Rattle.std.specs.List.{list_any, list_all};
 ghost use Rattle.mufom_expr.specs.Mentions.{variables_in};
 ghost use Rattle.mufom_expr.specs.Value.{variables_of};
 ghost use Rattle.mufom_module.specs.Contents.{any_of};
 ghost use Rattle.mufom_module.specs.Defects as defects;
 ghost use Rattle.mufom_module.specs.SpelledRecords as records;
 ghost use Rattle.mufom_module.specs.RecordParts as parts;
-ghost use Rattle.mufom_read.specs.Prefixes.{Step, records_of};
+ghost use Rattle.mufom_read.specs.Prefixes.{Step, records_of, offset_records_of};
 ghost use Rattle.mufom_read.specs.Faults as faults;
-ghost use Rattle.mufom_read.specs.Kept.{tables_of, declares_again_in, states_again_in, entries_in, is_unknown, names_unknown_entry_in, names_unknown_in, has_no_section_in, counter_allowed_in, misplaces_counter_in, rule_broken_in};
+ghost use Rattle.mufom_read.specs.DebugSoFar.{stacked};
+ghost use Rattle.mufom_read.specs.Kept.{tables_of, declares_again_in, states_again_in, entries_in, is_declared_in, is_unknown, names_unknown_entry_in, names_unknown_in, has_no_section_in, counter_allowed_in, misplaces_counter_in, rule_broken_in};
 
+use crate::debug::{OpenBlock, ends_badly, is_too_deep};
 use crate::tables::{Tables, has};
 use mufom_expr::{Letter, Postfix, Token};
 use mufom_numbers::Reason;
 use mufom_numbers::limits::MOST_ALIGNMENT;
-use mufom_records::Record;
+use mufom_records::{BlockTail, Record};
 use mufom_sections::IndexTable;
 
 // ---- indexes
@@ -43,13 +45,23 @@ fn declares_again(tables: &Tables, record: &Record) -> bool
         Record::SectionType(i, ..) => has(&tables.sections, *i),
         Record::PublicName(i, _) => has(&tables.publics, *i),
         Record::ReferenceName(i, _) => has(&tables.references, *i),
+        Record::DebugName(i, _) => has(&tables.debug_names, *i),
+        _ => false,
+    }
+}
+
+// Whether the section of a block of kind 11 is not declared.
+fn names_unknown_section(tables: &Tables, block: &BlockTail) -> bool
+    ensures { result ≡ not (list_all (is_declared_in tables.now) (option_to_list (records.section_of_block block.now))) }
+{
+    match block {
+        BlockTail::Section { section, .. } => !has(&tables.sections, *section),
         _ => false,
     }
 }
 
 // Whether the index that the record speaks of, and does not declare, is not declared.
 fn names_unknown_entry(tables: &Tables, record: &Record) -> bool
-    requires { parts.stands_in parts.debug_part «record».now ≡ false }
     ensures { result ≡ names_unknown_entry_in tables.now «record».now }
 {
     match record {
@@ -60,6 +72,9 @@ fn names_unknown_entry(tables: &Tables, record: &Record) -> bool
         Record::PublicNote(i, ..) => !has(&tables.publics, *i),
         Record::WeakReference(i, ..) => !has(&tables.references, *i),
         Record::ReferenceNote(i, ..) => !has(&tables.references, *i),
+        Record::BlockBegin(_, _, _, block) => names_unknown_section(tables, block),
+        Record::DebugValue(i, _) => !has(&tables.debug_names, *i),
+        Record::DebugNote(i, ..) => !has(&tables.debug_names, *i),
         Record::SetSection(i) => !has(&tables.sections, *i),
         Record::SetPc(i, _) => !has(&tables.sections, *i),
         _ => false,
@@ -111,7 +126,6 @@ fn has_unknown_variable_now(tables: &Tables, record: &Record, tree: Option<&Post
 
 // Whether the record names an index that is not declared.
 fn names_unknown(tables: &Tables, record: &Record, tree: Option<&Postfix>) -> bool
-    requires { parts.stands_in parts.debug_part «record».now ≡ false }
     ensures { result ≡ names_unknown_in tables.now «record».now (option_map (λ t. t.now) tree.entry) }
 {
     names_unknown_entry(tables, record) || has_unknown_variable_now(tables, record, tree)
@@ -209,10 +223,14 @@ fn misplaces_counter(tables: &Tables, record: &Record, tree: Option<&Postfix>) -
     }
 }
 
-// The first rule that the record, with this expression, breaks.
-fn first_broken(tables: &Tables, record: &Record, tree: Option<&Postfix>) -> Option<Reason>
-    requires { parts.stands_in parts.debug_part «record».now ≡ false }
-    ensures { result ≡ rule_broken_in tables.now «record».now (option_map (λ t. t.now) tree.entry) }
+// The first rule that the record, with this expression, breaks, where these blocks are open.
+fn first_broken(
+    tables: &Tables,
+    blocks: &[OpenBlock],
+    record: &Record,
+    tree: Option<&Postfix>,
+) -> Option<Reason>
+    ensures { result ≡ rule_broken_in tables.now (stacked [] blocks.now) «record».now (option_map (λ t. t.now) tree.entry) }
 {
     if declares_again(tables, record) {
         Some(Reason::DuplicateIndex)
@@ -226,20 +244,25 @@ fn first_broken(tables: &Tables, record: &Record, tree: Option<&Postfix>) -> Opt
         Some(Reason::NoSection)
     } else if misplaces_counter(tables, record, tree) {
         Some(Reason::BadP)
+    } else if ends_badly(blocks, record) {
+        Some(Reason::BlockNesting)
+    } else if is_too_deep(blocks, record) {
+        Some(Reason::Depth)
     } else {
         None
     }
 }
 
-/// The first rule that the record, with this expression, breaks after those before it.
+/// The first rule that the record, with this expression, breaks after those before it, where these blocks are open.
 pub(crate) fn rule_broken(
     tables: &Tables,
+    blocks: &[OpenBlock],
     record: &Record,
     tree: Option<&Postfix>,
 ) -> Option<Reason>
-    requires { parts.stands_in parts.debug_part «record».now ≡ false }
-    ensures { (prefix : List Step) (p : records.SpelledRecord) → tables.now ≡ tables_of (records_of prefix) → p.row ≡ «record».now
+    ensures { (prefix : List Step) (p : records.SpelledRecord) → tables.now ≡ tables_of (records_of prefix)
+        → stacked [] blocks.now ≡ faults.open_blocks (offset_records_of prefix) → p.row ≡ «record».now
         → records.tree_of_record p ≡ option_map (λ t. t.now) tree.entry → result ≡ faults.rule_broken prefix p }
 {
-    first_broken(tables, record, tree)
+    first_broken(tables, blocks, record, tree)
 }

@@ -69,9 +69,9 @@ fn take_all(
     prefix: &mut Prefix,
     rest: &[u8],
 ) -> Result<usize, ReadStop>
-    requires known { (before : List Step) × IsPrefixOf reads_debug prefix.old before × (is_ended before ≡ false → ended_part_fault before ≡ None) }
+    requires known { (before : List Step) × IsPrefixOf prefix.old before × (is_ended before ≡ false → ended_part_fault before ≡ None) }
     requires fits { prefix.old.size + length rest.now ≤ file_limit }
-    ensures { (before : List Step) → IsPrefixOf reads_debug prefix.old before → (is_ended before ≡ false → ended_part_fault before ≡ None)
+    ensures { (before : List Step) → IsPrefixOf prefix.old before → (is_ended before ≡ false → ended_part_fault before ≡ None)
         → HasTakenAll reads_debug before rest.now prefix.new result }
 {
     let mut taken = 0;
@@ -124,7 +124,7 @@ impl State {
 
     // What is to be stated where all steps were taken: that a byte stands after the end, or that the stream is too long.
     fn final_stop(&self, is_longer: bool) -> Option<ReadStop>
-        ensures { (reads_debug : Bool) (prefix : List Step) → IsPrefixOf reads_debug self.now.prefix prefix
+        ensures { (prefix : List Step) → IsPrefixOf self.now.prefix prefix
             → HasEndedChunk (is_ended prefix) self.now.prefix.size is_longer self.now.rest.items self.now result }
     {
         if self.prefix.is_ended() {
@@ -141,7 +141,7 @@ impl State {
         requires { taken ≤ length self.old.rest.items }
         ensures prefix { self.new.prefix ≡ self.old.prefix }
         ensures reads_debug { self.new.reads_debug ≡ self.old.reads_debug }
-        ensures ended { (reads_debug : Bool) (prefix : List Step) → IsPrefixOf reads_debug self.old.prefix prefix
+        ensures ended { (prefix : List Step) → IsPrefixOf self.old.prefix prefix
             → HasEndedChunk (is_ended prefix) self.old.prefix.size is_longer (drop taken self.old.rest.items) self.new result }
     {
         match self.keep_after(taken) {
@@ -167,10 +167,10 @@ impl State {
 
     // Takes all that the bytes after the prefix have, and judges what stands after them.
     fn judge_rest(&mut self, is_longer: bool) -> Option<ReadStop>
-        requires known { (before : List Step) × IsPrefixOf self.old.reads_debug self.old.prefix before × (is_ended before ≡ false
+        requires known { (before : List Step) × IsPrefixOf self.old.prefix before × (is_ended before ≡ false
             → ended_part_fault before ≡ None) }
         requires fits { self.old.prefix.size + length self.old.rest.items ≤ file_limit }
-        ensures judged { (before : List Step) → IsPrefixOf self.old.reads_debug self.old.prefix before
+        ensures judged { (before : List Step) → IsPrefixOf self.old.prefix before
             → (is_ended before ≡ false → ended_part_fault before ≡ None)
             → HasJudgedRest self.old.reads_debug before self.old.rest.items is_longer self.new result }
         ensures reads_debug { self.new.reads_debug ≡ self.old.reads_debug }

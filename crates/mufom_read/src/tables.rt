@@ -15,6 +15,7 @@ pub(crate) struct Tables {
     pub sections: IndexTable,
     pub publics: IndexTable,
     pub references: IndexTable,
+    pub debug_names: IndexTable,
     /// The sections that have an alignment, a size and a base.
     pub alignments: IndexTable,
     pub sizes: IndexTable,
@@ -56,6 +57,7 @@ impl Tables {
             sections: IndexTable::new(alloc),
             publics: IndexTable::new(alloc),
             references: IndexTable::new(alloc),
+            debug_names: IndexTable::new(alloc),
             alignments: IndexTable::new(alloc),
             sizes: IndexTable::new(alloc),
             bases: IndexTable::new(alloc),
@@ -76,6 +78,7 @@ impl Tables {
             Record::SectionType(i, ..) => add(&mut self.sections, *i),
             Record::PublicName(i, _) => add(&mut self.publics, *i),
             Record::ReferenceName(i, _) => add(&mut self.references, *i),
+            Record::DebugName(i, _) => add(&mut self.debug_names, *i),
             Record::Alignment(i, ..) => add(&mut self.alignments, *i),
             Record::SectionSize(i, _) => add(&mut self.sizes, *i),
             Record::SectionBase(i, _) => add(&mut self.bases, *i),

@@ -8,6 +8,7 @@ ghost use Rattle.mufom_read.specs.Faults as faults;
 ghost use Rattle.mufom_read.specs.PartsOfCode.{as_part};
 ghost use Rattle.mufom_read.specs.Kept.{placed, as_fault, lacks_base_in, section_fault_in};
 
+use crate::debug::{OpenBlock, open_fault};
 use crate::kept::KeptRecord;
 use crate::part::Part;
 use crate::publics::Publics;
@@ -46,11 +47,12 @@ pub(crate) fn whole_fault(
     part: Part,
     tables: &Tables,
     publics: &Publics,
+    blocks: &[OpenBlock],
     kept: &[KeptRecord],
 ) -> Option<ReadRefusal>
     requires { length publics.now.list.items ≡ length publics.now.marks.items }
-    ensures { (reads_debug : Bool) (f : Prefix) (prefix : List Step) → IsPrefixOf reads_debug f prefix
-        → tables.now ≡ f.tables → publics.now ≡ f.publics → kept.now ≡ f.kept
+    ensures { (f : Prefix) (prefix : List Step) → IsPrefixOf f prefix
+        → tables.now ≡ f.tables → publics.now ≡ f.publics → blocks.now ≡ f.debug.blocks → kept.now ≡ f.kept
         → option_map as_fault result ≡ faults.whole_fault (as_part part) prefix }
 {
     match part {
@@ -58,7 +60,7 @@ pub(crate) fn whole_fault(
         Part::External => publics.fault(tables),
         Part::Extension => None,
         Part::Environment => None,
-        Part::Debug => None,
+        Part::Debug => open_fault(blocks),
         Part::Data => None,
         Part::Trailer => None,
         Part::End => None,

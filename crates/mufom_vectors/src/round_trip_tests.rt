@@ -1,4 +1,4 @@
-use crate::files::{ABSOLUTE, EMPTY, EVERY_KIND, LIBRARY, RELOCATABLE, host};
+use crate::files::{ABSOLUTE, BLOCKS, EMPTY, EVERY_KIND, LIBRARY, RELOCATABLE, host};
 use crate::show::{ABSOLUTE_TEXT, RELOCATABLE_TEXT, shows};
 use mufom_host::{Host, MemHost};
 use mufom_module::Module;
@@ -40,6 +40,24 @@ const EVERY_KIND_TEXT: &[u8] = b"\
       \x20\x20bytes 1 09\n\
       repeat 0\n\
       start = R0\n";
+
+const BLOCKS_TEXT: &[u8] = b"\
+      module \"d\" processor \"P\" maus 4 order M\n\
+      section 0 \"c\" CP size 16 align 1\n\
+      name 0 \"x\"\n\
+      note 0 type 15 attribute 7 1\n\
+      block 3 \"m\"\n\
+      \x20\x20block 5 \"s\" 1 2\n\
+      \x20\x20\x20\x20block 4 \"f\" stack 0 type 15 offset R0\n\
+      \x20\x20\x20\x20\x20\x20block 6 \"g\" stack 2 type 0 offset (R0 + 4)\n\
+      \x20\x20\x20\x20\x20\x20\x20\x20value 0 = R0\n\
+      \x20\x20\x20\x20\x20\x20end = (R0 + 8)\n\
+      \x20\x20\x20\x20end = (R0 + 12)\n\
+      \x20\x20end\n\
+      \x20\x20block 11 \"c\" section-type 1 section 0 offset R0\n\
+      \x20\x20end = 16\n\
+      end\n\
+      value 0 = 1\n";
 
 // The module of a file that comes in these chunks.
 fn read(rt: &impl Abort, alloc: Global, fed: &[&[u8]]) -> Result<Module, Fail> {
@@ -105,6 +123,14 @@ fn a_module_with_every_kind_of_record_is_read_back(rt: HostRuntime) -> Result<()
         rewritten(&rt, alloc, &[&EVERY_KIND])?.as_slice(),
         EVERY_KIND.as_slice()
     );
+    Ok(())
+}
+
+#[test]
+fn a_module_with_blocks_of_every_kind_is_read_back(rt: HostRuntime) -> Result<(), Fail> {
+    let alloc = rt.alloc();
+    returns(&rt, alloc, &BLOCKS, BLOCKS_TEXT)?;
+    assert_eq!(rt; rewritten(&rt, alloc, &[&BLOCKS])?.as_slice(), BLOCKS.as_slice());
     Ok(())
 }
 

@@ -13,7 +13,7 @@ pub parts_of-requires-clause-tables : goal.parts_of-requires-clause-tables
 parts_of-requires-clause-tables c =
     let is = c.requires.3 in
     subst (λ (t : Tables). AreSectionTables t (map record_of_kept c.args.prefix.kept)) (sym is.kept.tables)
-    (subst (AreSectionTables (tables_of (records_of c.requires.1))) (sym (kept-records c.requires.0 c.args.prefix c.requires.1 is.kept)) (section-tables (records_of c.requires.1)))
+    (subst (AreSectionTables (tables_of (records_of c.requires.1))) (sym (kept-records c.args.prefix c.requires.1 is.kept)) (section-tables (records_of c.requires.1)))
 
 pub parts_of-requires-clause-stated : goal.parts_of-requires-clause-stated
 parts_of-requires-clause-stated c = let stated = whole-stated c.requires.0 c.args.prefix c.requires.1 c.requires.2 c.requires.3 in (stated.0, stated.2)

@@ -33,6 +33,6 @@ returns c = λ m stated.
     (c.in_ok-sections.ensures ∙ ap sections_of ps)
     c.into_placed.ensures
     c.from_vec.ensures
-    c.new.ensures
+    refl
     refl
     (c.in_ok-start.ensures ∙ ap (λ l. slice_get (starts_of ix l) 0) ps)

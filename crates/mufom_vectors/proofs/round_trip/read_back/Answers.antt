@@ -7,5 +7,5 @@ use Rattle.mufom_vectors.proofs.round_trip.read_back.Goals as goal
 pub returns : goal.returns
 returns c = λ memory.
     let m = c.args.module.now in
-    let is = written-is-module m c.parts.ensures.valid c.parts.ensures.made c.requires.short c.requires.plain in
+    let is = written-is-module m c.parts.ensures.valid c.parts.ensures.made c.requires.short in
     c.finish.ensures.module (written m) m c.requires.read (subst (λ (b : Bool). IsModule b (written m) m) (sym c.requires.reads_debug) is) memory

@@ -8,8 +8,8 @@ returns-then-is_ended c = λ reads_debug prefix rest gone. stepped-end reads_deb
 
 pub returns-in-None : goal.returns-in-None
 returns-in-None c = λ reads_debug prefix rest gone. stepped-whole reads_debug prefix rest c.args.self.now c.args.count gone
-    (λ steps is. ap (option_map as_fault) (sym c.in-None.is) ∙ c.ended_fault.ensures reads_debug steps is)
+    (λ steps is. ap (option_map as_fault) (sym c.in-None.is) ∙ c.ended_fault.ensures steps is)
 
 pub returns-in-Some : goal.returns-in-Some
 returns-in-Some c = λ reads_debug prefix rest gone. stepped-fault reads_debug prefix rest c.args.self.now c.args.count c.in-Some.refusal gone (sym c.if-is_ended.false ∙ c.is_ended.ensures.kept)
-    (λ steps is. ap (option_map as_fault) (sym c.in-Some.is) ∙ c.ended_fault.ensures reads_debug steps is)
+    (λ steps is. ap (option_map as_fault) (sym c.in-Some.is) ∙ c.ended_fault.ensures steps is)

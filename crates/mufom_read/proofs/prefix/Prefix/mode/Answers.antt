@@ -5,7 +5,7 @@ use Rattle.mufom_read.proofs.PrefixLaws.{items-prefix}
 use Rattle.mufom_read.proofs.prefix.Prefix.mode.Goals as goal
 
 pub returns-in-Part : goal.returns-in-Part
-returns-in-Part c = λ reads_debug prefix is.
+returns-in-Part c = λ prefix is.
     c.body_mode.ensures
-    ∙ ap (λ b. cond b modes.Items modes.Body) (c.may_go_on.ensures ∙ items-prefix reads_debug c.args.self.now prefix c.in-Part.extent.from c.args.rest.now is)
+    ∙ ap (λ b. cond b modes.Items modes.Body) (c.may_go_on.ensures ∙ items-prefix c.args.self.now prefix c.in-Part.extent.from c.args.rest.now is)
     ∙ sym (ap (λ pl. mode_at prefix (as_location pl) c.args.rest.now) c.in-Part.is)

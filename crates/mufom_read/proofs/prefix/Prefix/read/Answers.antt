@@ -21,8 +21,8 @@ pub take-requires-clause-placed : goal.take-requires-clause-placed
 take-requires-clause-placed c =
     let prefix = c.requires.known.0 in
     let rest = c.args.rest.now in
-    got-placed prefix c.args.place rest _ _ _ c.requires.other
-    (subst (λ (m : Mode). IsWholeRecord m c.in-Got.row (take c.in-Got.used rest) (first_of (drop c.in-Got.used rest) None)) (c.mode.ensures c.args.reads_debug prefix c.requires.known.1) c.in-Got.ensures.got.1)
+    got-placed prefix c.args.place rest _ _ _
+    (subst (λ (m : Mode). IsWholeRecord m c.in-Got.row (take c.in-Got.used rest) (first_of (drop c.in-Got.used rest) None)) (c.mode.ensures prefix c.requires.known.1) c.in-Got.ensures.got.1)
 
 pub overflow_add-result : goal.overflow_add-result
 overflow_add-result c = let within = bad-within c.mode.result c.args.rest.now c.in-Bad.offset c.in-Bad.reason ((c.in-Bad.ensures.bad c.in-Bad.offset c.in-Bad.reason).0 refl) in omega (arith, within, c.requires.fits)
@@ -31,8 +31,8 @@ pub returns-in-Got : goal.returns-in-Got
 returns-in-Got c = if_ok _ _ c.take.result (λ done taken. λ prefix is at.
     let rest = c.args.rest.now in
     let within = c.in-Got.ensures.got.0 in
-    taken-judged c.args.reads_debug prefix rest (record_at (mode_at prefix (as_location c.args.place) rest) rest) c.in-Got.row c.in-Got.used c.args.self.now.size _ _ done
-    (sym (c.in-Got.ensures.exact ∙ ap (λ (m : Mode). record_at m rest) (c.mode.ensures c.args.reads_debug prefix is)))
+    taken-judged prefix rest (record_at (mode_at prefix (as_location c.args.place) rest) rest) c.in-Got.row c.in-Got.used c.args.self.now.size _ _ done
+    (sym (c.in-Got.ensures.exact ∙ ap (λ (m : Mode). record_at m rest) (c.mode.ensures prefix is)))
     within
     (subst (λ k. 0 < k) (taken_length c.in-Got.used rest within) (got-some _ _ _ _ c.in-Got.ensures.got.1))
     is.size
@@ -42,10 +42,10 @@ returns-in-Got c = if_ok _ _ c.take.result (λ done taken. λ prefix is at.
 pub returns-in-More : goal.returns-in-More
 returns-in-More c = λ prefix is at.
     let rest = c.args.rest.now in
-    (is, ap (as_step (size_of prefix) rest) (sym (c.in-More.ensures.exact ∙ ap (λ (m : Mode). record_at m rest) (c.mode.ensures c.args.reads_debug prefix is))))
+    (is, ap (as_step (size_of prefix) rest) (sym (c.in-More.ensures.exact ∙ ap (λ (m : Mode). record_at m rest) (c.mode.ensures prefix is))))
 
 pub returns-in-Bad : goal.returns-in-Bad
 returns-in-Bad c = λ prefix is at.
     let rest = c.args.rest.now in
-    ap (λ a. step_fault c.args.reads_debug prefix (as_step (size_of prefix) rest a)) (sym (c.in-Bad.ensures.exact ∙ ap (λ (m : Mode). record_at m rest) (c.mode.ensures c.args.reads_debug prefix is)))
+    ap (λ a. step_fault prefix (as_step (size_of prefix) rest a)) (sym (c.in-Bad.ensures.exact ∙ ap (λ (m : Mode). record_at m rest) (c.mode.ensures prefix is)))
     ∙ ap (λ n. Some (n + c.in-Bad.offset, c.in-Bad.reason)) (sym is.size)

@@ -6,5 +6,5 @@ use Rattle.mufom_read.proofs.prefix.Prefix.record_fault.Goals as goal
 
 pub returns-in-Part : goal.returns-in-Part
 returns-in-Part c = λ prefix is tree.
-    c.part_fault.ensures c.args.reads_debug prefix is tree
-    ∙ sym (ap (λ pl. record_fault c.args.reads_debug prefix (as_location pl) c.args.self.now.size (record_of_kept (kept_of_seen c.args.next.now))) c.in-Part.is)
+    c.part_fault.ensures prefix is tree
+    ∙ sym (ap (λ pl. record_fault prefix (as_location pl) c.args.self.now.size (record_of_kept (kept_of_seen c.args.next.now))) c.in-Part.is)

@@ -1,6 +1,6 @@
 use Rattle.std.proofs.Common.{◌<◌, sym, subst}
 use Rattle.mufom_read.proofs.WholeLaws.{if_ok}
-use Rattle.mufom_read.proofs.StepLaws.{part-within, not-debug-at, read-gone}
+use Rattle.mufom_read.proofs.StepLaws.{part-within, read-gone}
 use Rattle.mufom_read.proofs.RawLaws.{skip-gone}
 use Rattle.mufom_read.proofs.prefix.Prefix.step.Goals as goal
 
@@ -16,9 +16,6 @@ returns-in-Some c = if_ok _ _ c.skip.result (λ done skipped. λ prefix is unend
 
 pub read-requires-clause-known : goal.read-requires-clause-known
 read-requires-clause-known c = (c.requires.known.0, c.requires.known.1, c.requires.known.1.location)
-
-pub read-requires-clause-other : goal.read-requires-clause-other
-read-requires-clause-other c = not-debug-at c.args.reads_debug c.args.self.now c.requires.known.0 c.args.self.now.location c.requires.known.1 c.requires.known.1.location c.in-None.ensures
 
 pub returns-in-None : goal.returns-in-None
 returns-in-None c = if_ok _ _ c.read.result (λ done judged. λ prefix is unended whole.

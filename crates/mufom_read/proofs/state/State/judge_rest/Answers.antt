@@ -4,7 +4,7 @@ use Rattle.mufom_read.proofs.state.State.judge_rest.Goals as goal
 pub returns-in-Ok-clause-judged : goal.returns-in-Ok-clause-judged
 returns-in-Ok-clause-judged c = λ before is whole.
     rest-taken c.args.self.now.reads_debug before _ _ c.in-Ok.taken c.args.is_longer c.take_all.new.prefix c.end_chunk.new.self c.end_chunk.result c.deref.ensures.value c.end_chunk.ensures.prefix
-    (c.in-Ok.ensures before is whole) (c.end_chunk.ensures.ended c.args.self.now.reads_debug)
+    (c.in-Ok.ensures before is whole) (c.end_chunk.ensures.ended)
 
 pub returns-in-Err-clause-judged : goal.returns-in-Err-clause-judged
 returns-in-Err-clause-judged c = λ before is whole.

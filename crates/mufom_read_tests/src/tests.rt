@@ -1,9 +1,11 @@
+//! Streams that are read, whole and byte by byte, and each reason with its offset.
+
 ghost use Rattle.std.specs.Prelude.{◌<◌};
 
-use crate::{ReadRefusal, ReadStop, Reader, SourceStop, read_module};
 use mufom_host::{Host, MemHost};
 use mufom_module::Module;
 use mufom_numbers::{Bytes, List, Reason, Text};
+use mufom_read::{ReadRefusal, ReadStop, Reader, SourceStop, read_module};
 use std::alloc::Global;
 use std::test::Fail;
 
@@ -63,6 +65,32 @@ const PROGRAM_TEXT: &str =
     Fun(Minus)] }, size: 4 })] }, start: Some(Postfix { tokens: [Var(R, 0), Number(4), \
     Fun(Plus)] }) }";
 
+// Blocks of each kind, a name, its note and its values.
+const BLOCKS: [u8; 74] = [
+    0xF0, 0x20, 0x01, 0x78, 0xF1, 0xCE, 0x20, 0x0F, 0x07, 0x01, 0xF8, 0x03, 0x00, 0x01, 0x6D, 0xF8,
+    0x05, 0x00, 0x01, 0x73, 0x01, 0x02, 0xF8, 0x04, 0x00, 0x01, 0x66, 0x00, 0x0F, 0xD2, 0x01, 0xF8,
+    0x06, 0x00, 0x01, 0x67, 0x02, 0x00, 0xD2, 0x01, 0x04, 0xA5, 0xE2, 0xCE, 0x20, 0xD2, 0x01, 0xF9,
+    0xD2, 0x01, 0x08, 0xA5, 0xF9, 0xD2, 0x01, 0x0C, 0xA5, 0xF9, 0xF8, 0x0B, 0x00, 0x01, 0x63, 0x01,
+    0x01, 0xD2, 0x01, 0xF9, 0x10, 0xF9, 0xE2, 0xCE, 0x20, 0x01,
+];
+
+// What these state.
+const BLOCKS_TEXT: &str =
+    "List { items: [Name(List { items: [120] }), Note { name: 0, note: Note { \
+    type_index: 15, attribute: 7, numbers: [1] } }, Block(Block { head: Module, name: \
+    List { items: [109] }, items: List { items: [Block(Block { head: Source { numbers: \
+    [1, 2] }, name: List { items: [115] }, items: List { items: [Block(Block { head: \
+    Global { stack: 0, type_index: 15, offset: Postfix { tokens: [Var(R, 0)] } }, name: \
+    List { items: [102] }, items: List { items: [Block(Block { head: Local { stack: 2, \
+    type_index: 0, offset: Postfix { tokens: [Var(R, 0), Number(4), Fun(Plus)] } }, \
+    name: List { items: [103] }, items: List { items: [Value { name: 0, value: Postfix \
+    { tokens: [Var(R, 0)] } }] }, end: Some(Postfix { tokens: [Var(R, 0), Number(8), \
+    Fun(Plus)] }) })] }, end: Some(Postfix { tokens: [Var(R, 0), Number(12), Fun(Plus)] \
+    }) })] }, end: None }), Block(Block { head: Section { section_type: 1, section: 0, \
+    offset: Postfix { tokens: [Var(R, 0)] } }, name: List { items: [99] }, items: List \
+    { items: [] }, end: Some(Postfix { tokens: [Number(16)] }) })] }, end: None }), \
+    Value { name: 0, value: Postfix { tokens: [Number(1)] } }] }";
+
 // Where a row's bytes go: in place of a byte of the plain module; or as its data, debug or external part.
 #[derive(Clone, Copy)]
 enum Row {
@@ -75,7 +103,7 @@ enum Row {
 // A row, the offset at which it is refused, and why.
 type Refused = (Row, u64, Reason);
 
-const REFUSED: [Refused; 55] = [
+const REFUSED: [Refused; 66] = [
     (Row::Byte(0, 0xE1), 0, Reason::BadHeader),
     (Row::Byte(9, 0xE2), 9, Reason::BadHeader),
     (Row::Byte(15, 0x01), 13, Reason::BadHeader),
@@ -93,7 +121,7 @@ const REFUSED: [Refused; 55] = [
     (Row::Byte(108, 0xE0), 114, Reason::BadId),
     (Row::Byte(79, 0xC2), 79, Reason::BadSectionType),
     (Row::Byte(52, 0x01), 45, Reason::OffsetOrder),
-    (Row::Byte(52, 0x4E), 45, Reason::NotBuilt),
+    (Row::Byte(52, 0x4E), 77, Reason::PartGap),
     (Row::Byte(119, 0xE4), 119, Reason::WrongPart),
     (Row::Data(&[0xE5, 0x89]), 101, Reason::BadNumber),
     (Row::Data(&[0xE2, 0xAA]), 101, Reason::BadRecord),
@@ -159,7 +187,58 @@ const REFUSED: [Refused; 55] = [
         104,
         Reason::UnsupportedAttribute,
     ),
-    (Row::Debug(&[0xF9]), 45, Reason::NotBuilt),
+    (Row::Debug(&[0xF9]), 100, Reason::BlockNesting),
+    (
+        Row::Debug(&[0xF8, 0x03, 0x00, 0x01, 0x61, 0xF9, 0x00]),
+        105,
+        Reason::BlockNesting,
+    ),
+    (
+        Row::Debug(&[0xF8, 0x05, 0x00, 0x01, 0x61, 0xF9, 0x00]),
+        105,
+        Reason::BlockNesting,
+    ),
+    (
+        Row::Debug(&[0xF8, 0x03, 0x00, 0x01, 0x61, 0xF8, 0x03, 0x00, 0x01, 0x62]),
+        105,
+        Reason::BlockNesting,
+    ),
+    (Row::Debug(&[0xF9, 0xD2, 0x02]), 100, Reason::UnknownIndex),
+    (
+        Row::Debug(&[0xF8, 0x0B, 0x00, 0x00, 0x00, 0x02, 0x00]),
+        100,
+        Reason::UnknownIndex,
+    ),
+    (
+        Row::Debug(&[0xF0, 0x20, 0x01, 0x61, 0xF0, 0x20, 0x01, 0x62]),
+        104,
+        Reason::DuplicateIndex,
+    ),
+    (
+        Row::Debug(&[0xE2, 0xCE, 0x20, 0x00]),
+        100,
+        Reason::UnknownIndex,
+    ),
+    (
+        Row::Debug(&[0xF0, 0x20, 0x01, 0x61, 0xE2, 0xCE, 0x20, 0xD0, 0x01]),
+        104,
+        Reason::BadP,
+    ),
+    (
+        Row::Debug(&[0xE8, 0x20, 0x01, 0x61]),
+        100,
+        Reason::WrongPart,
+    ),
+    (
+        Row::Debug(&[0xF8, 0x07, 0x00, 0x01, 0x61]),
+        101,
+        Reason::UnsupportedBlock,
+    ),
+    (
+        Row::Debug(&[0xF1, 0xCE, 0x20, 0x00, 0x06]),
+        104,
+        Reason::UnsupportedAttribute,
+    ),
     (
         Row::External(&[0xE8, 0x20, 0x01, 0x61]),
         100,
@@ -501,7 +580,7 @@ fn a_debug_part_is_passed_over(rt: HostRuntime) -> Result<(), Fail> {
     assert_eq!(rt; stop(alloc, &stream, 1, false)?, None);
     assert_eq!(rt;
         stop(alloc, &stream, 1, true)?,
-        refused(45, Reason::NotBuilt)
+        refused(100, Reason::BadRecord)
     );
     Ok(())
 }
@@ -528,6 +607,15 @@ fn what_the_records_say_is_what_the_module_has(rt: HostRuntime) -> Result<(), Fa
     let module = read(rt.alloc(), &PROGRAM, 5, true)?.expect(&rt, "a module");
     let parts = format!(in rt.alloc(); "{:?}", module.parts())?;
     assert_eq!(rt; parts.as_str(), PROGRAM_TEXT);
+    Ok(())
+}
+
+#[test]
+fn blocks_of_each_kind_are_the_debug_items(rt: HostRuntime) -> Result<(), Fail> {
+    let stream = stream(rt.alloc(), Row::Debug(&BLOCKS))?;
+    let module = read(rt.alloc(), &stream, 5, true)?.expect(&rt, "a module");
+    let items = format!(in rt.alloc(); "{:?}", module.parts().debug)?;
+    assert_eq!(rt; items.as_str(), BLOCKS_TEXT);
     Ok(())
 }
 

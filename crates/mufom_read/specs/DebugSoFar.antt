@@ -1,0 +1,67 @@
+-- The debug items so far, and the blocks that are open, as the code keeps them.
+use Rattle.std.specs.Prelude.{◌≡◌, ◌⊎◌, ℕ, List, [], ◌∷◌, ◌++◌, map}
+use Rattle.std.specs.List.{cons_option}
+use Rattle.mufom_records.specs.declared.record.BlockTail.{BlockTail}
+use Rattle.mufom_records.specs.declared.record.BlockTail.TheVariants as tail
+use Rattle.mufom_records.specs.declared.record.Record.{Record}
+use Rattle.mufom_records.specs.declared.record.Record.TheVariants as r
+use Rattle.mufom_debug.specs.Marks.{DebugMark, block_begin, joined, marks_of, kind_number}
+use Rattle.mufom_module.specs.SpelledRecords.{SpelledRecord}
+use Rattle.mufom_module.specs.Gathered.{mark_by}
+use Rattle.mufom_read.specs.declared.debug.OpenBlock as code
+use Rattle.mufom_read.specs.declared.debug.Debugs.{Debugs}
+use Rattle.mufom_read.specs.Prefixes.{OffsetRecord}
+use Rattle.mufom_read.specs.Faults.{OpenBlock, open_blocks}
+use Rattle.mufom_read.specs.Kept.{tables_of, indexes_by}
+use Rattle.mufom_read.specs.NamesSoFar.{records_in}
+
+-- ---- blocks
+
+-- the kind of a block is one with what it adds
+abbrev pub FitsKind : ℕ → BlockTail → Type 0
+FitsKind kind tail.Module = kind ≡ 3
+FitsKind kind (tail.Scope stack type_index offset) = (kind ≡ 4) ⊎ (kind ≡ 6)
+FitsKind kind (tail.Source ns) = kind ≡ 5
+FitsKind kind (tail.Section section_type section offset) = kind ≡ 11
+
+-- that of a block which the record begins
+abbrev pub HasKind : Record → Type 0
+HasKind (r.BlockBegin kind n name block) = FitsKind kind block
+HasKind _ = Unit {0}
+
+-- the open block as judging names it
+abbrev pub as_opened : code.OpenBlock → OpenBlock
+as_opened b = (b.start, kind_number b.head)
+
+-- the open blocks, the innermost first, where the code has it last; these stand around them
+abbrev pub stacked : List OpenBlock → List code.OpenBlock → List OpenBlock
+stacked outer [] = outer
+stacked outer (b ∷ blocks) = stacked (as_opened b ∷ outer) blocks
+
+-- the blocks that are open
+abbrev pub opened : Debugs → List OpenBlock
+opened d = stacked [] d.blocks
+
+-- ---- marks
+
+-- the marks of what stands before an open block at its level, and of its begin
+abbrev pub marks_to_block : code.OpenBlock → List DebugMark
+marks_to_block b = marks_of b.before ++ block_begin b.head b.name ∷ []
+
+-- The marks so far: of each open block those before its items, the innermost last, and then those of the items in that one.
+abbrev pub marks_kept : Debugs → List DebugMark
+marks_kept d = joined (map marks_to_block d.blocks) ++ marks_of d.items
+
+-- the marks of further records, each by the indexes of those before it
+abbrev pub marks_from : List SpelledRecord → List SpelledRecord → List DebugMark
+marks_from before [] = []
+marks_from before (p ∷ records) = cons_option (mark_by (indexes_by (tables_of before)) p p.row) (marks_from (before ++ p ∷ []) records)
+
+-- the marks that these records give
+abbrev pub marks_so_far : List SpelledRecord → List DebugMark
+marks_so_far records = marks_from [] records
+
+-- The code keeps the debug items of these records, and the blocks that are open after them.
+pub record AreDebugOf (d : Debugs) (all : List OffsetRecord) : Type 0 where
+  pub marks : marks_kept d ≡ marks_so_far (records_in all)
+  pub blocks : opened d ≡ open_blocks all
