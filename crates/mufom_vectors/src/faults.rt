@@ -74,7 +74,8 @@ fn a_plan_that_is_not_there_is_a_read_fault_of_the_plan(rt: HostRuntime) -> Resu
     let words = words(rt.alloc(), &["dump", "--plan", "p", "a"])?;
     let outcome = run(rt.alloc(), words.as_slice(), &mut host);
     assert_eq!(rt; outcome.status(), 3);
-    assert_eq!(rt; host.err(), b"read fault: plan\n");
+    let line: &[u8] = b"read fault: plan\n";
+    assert_eq!(rt; host.err(), line);
     Ok(())
 }
 
