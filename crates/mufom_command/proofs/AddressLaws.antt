@@ -1,5 +1,5 @@
 -- The bytes of an address, and the texts that have them.
-use Rattle.std.proofs.Common.{◌≡◌, ℕ, zero, suc, ◌<◌, ◌≤◌, ◌^◌, ◌/◌, ◌%◌, List, [], ◌∷◌, ◌++◌, length, codes, Result, Ok, Err, OnOk, refl, sym, ap, subst, ◌∙◌, arith, append_assoc, lt_of_lt_of_le}
+use Rattle.std.proofs.Common.{◌≡◌, ℕ, zero, suc, ◌<◌, ◌≤◌, ◌^◌, ◌/◌, ◌%◌, List, [], ◌∷◌, ◌++◌, codes, Result, Ok, Err, OnOk, sym, ap, subst, ◌∙◌, arith, append_assoc, lt_of_lt_of_le}
 use Rattle.std.specs.Int.{byte_at, bytes_high_first}
 use Rattle.mufom_text.specs.Words.{Text}
 use native.Mathlib.Nat.{div-eq_of_lt, pow-le-pow_right}

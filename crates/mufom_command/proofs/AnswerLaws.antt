@@ -1,14 +1,12 @@
 -- The error line after the work of a command: the answer keeps its cause. And the answer is complete, since a run comes to one end.
-use Rattle.std.proofs.Common.{◌≡◌, ◌≢◌, ◌⊎◌, ℕ, ◌≤◌, List, [], Option, Some, None, Result, Ok, Err, OnSome, take, refl, sym, ap, subst, ◌∙◌, inl, inr, arith}
+use Rattle.std.proofs.Common.{◌≡◌, ◌≢◌, ◌⊎◌, ℕ, ◌≤◌, List, Option, Some, None, Result, Ok, Err, OnSome, take, refl, sym, ap, subst, ◌∙◌, inl, inr, arith}
 use Rattle.std.proofs.lemmas.List.{append-nil}
 use Rattle.mufom_host.specs.World.{Faults, Meaning, NamedFile, GrowsBy, GrowsByPrefix, OnlyPrintsErrors}
 use Rattle.mufom_words.specs.declared.command.Command.{Command}
 use Rattle.mufom_words.specs.declared.stop.WordsStop.{WordsStop}
 use Rattle.mufom_words.specs.declared.stop.WordsStop.TheVariants as words_stop
-use Rattle.mufom_command.specs.declared.outcome.Input.TheVariants as input
 use Rattle.mufom_command.specs.declared.outcome.Outcome.{Outcome}
 use Rattle.mufom_command.specs.declared.outcome.Outcome.TheVariants as outcome
-use Rattle.mufom_command.specs.declared.outcome.Refusal.TheVariants as refusal
 use Rattle.mufom_groups.specs.Work.{Work}
 use Rattle.mufom_command.specs.Stop.{Stop}
 use Rattle.mufom_command.specs.Commands.{Output, printed, made, work_of}

@@ -1,14 +1,11 @@
 -- Where nothing failed and memory was found, the answer is the one that the words and the files come to.
-use Rattle.std.proofs.Common.{◌≡◌, ◌⊎◌, List, Option, Some, None, IfSome, refl, sym, subst, inl, inr}
-use Rattle.mufom_host.specs.World.{HoldBytes, NamedFile}
+use Rattle.std.proofs.Common.{◌≡◌, ◌⊎◌, refl, sym, inl, inr}
+use Rattle.mufom_host.specs.World.{HoldBytes}
 use Rattle.mufom_words.specs.Answer.{answer_of}
-use Rattle.mufom_groups.specs.Work.{Reached}
 use Rattle.mufom_command.specs.declared.outcome.Outcome.{Outcome}
 use Rattle.mufom_command.specs.declared.outcome.Outcome.TheVariants as outcome
-use Rattle.mufom_command.specs.Stop.{Stop}
-use Rattle.mufom_command.specs.Commands.{Output}
 use Rattle.mufom_command.specs.Run.{IsForced, outcome_of}
-use Rattle.mufom_command.specs.RunLaws.{AnswersAreDetermined, IsUndisturbed}
+use Rattle.mufom_command.specs.RunLaws.{AnswersAreDetermined}
 use Rattle.mufom_command.proofs.Runs.{complete-by, of-files}
 
 pub answers-determined : AnswersAreDetermined

@@ -1,19 +1,16 @@
 -- What a command has done that read its inputs: it was stopped, its work came to an end, or something was put out.
-use Rattle.std.proofs.Common.{◌≡◌, ◌⊎◌, ℕ, ◌≤◌, List, [], ◌∷◌, ◌++◌, length, take, Option, Some, None, IfSome, IsSome, OnSome, refl, sym, ap, subst, ◌∙◌, inl, inr, arith}
+use Rattle.std.proofs.Common.{◌≡◌, ◌⊎◌, ℕ, ◌≤◌, List, [], ◌∷◌, ◌++◌, length, take, Option, Some, None, IfSome, IsSome, OnSome, refl, sym, ap, subst, ◌∙◌, arith}
 use Rattle.std.proofs.lemmas.List.{take_all}
 use Rattle.mufom_host.specs.World.{Faults, Meaning, NamedFile, GrowsBy, GrowsByPrefix, KeepsAllButFile, KeepsAllButOut, KeepsAllButWrites, OnlyOpens, Rose}
 use Rattle.mufom_words.specs.declared.command.Command.{Command}
-use Rattle.mufom_command.specs.declared.outcome.Input.TheVariants as input
 use Rattle.mufom_command.specs.declared.outcome.Outcome.{Outcome}
 use Rattle.mufom_command.specs.declared.outcome.Outcome.TheVariants as outcome
-use Rattle.mufom_command.specs.declared.outcome.Refusal.{Refusal}
-use Rattle.mufom_command.specs.declared.outcome.Refusal.TheVariants as refusal
 use Rattle.mufom_groups.specs.Work.{Work, gives, stops}
 use Rattle.mufom_command.specs.Stop.{Stop, words_refused, plan_refused, file_refused, past_limit, link_fact, locate_fact}
 use Rattle.mufom_command.specs.Commands.{Output, printed, made}
 use Rattle.mufom_command.specs.InputsRead.{InputsStop, inputs_in}
 use Rattle.mufom_command.specs.Making.{IsMade, IsMadeAlone, IsPrinted}
-use Rattle.mufom_command.specs.Run.{AnswersFor, BeginsFile, Does, IsOfInputs, IsOpenedCount, MakesFile, NoneFalls, OpensInputs, PutsOutNothing, inputs_of, stop_outcome}
+use Rattle.mufom_command.specs.Run.{AnswersFor, BeginsFile, Does, IsOpenedCount, MakesFile, NoneFalls, OpensInputs, PutsOutNothing, inputs_of, stop_outcome}
 use Rattle.mufom_command.specs.WorkEnds.{IsOfModules}
 use Rattle.mufom_command.proofs.InputLaws.{call_between}
 use Rattle.mufom_command.proofs.InputsLaws.{known-map}

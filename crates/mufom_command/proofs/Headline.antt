@@ -1,5 +1,5 @@
 -- Locating accepted files is done exactly where no fact stands against their flat list.
-use Rattle.std.proofs.Common.{◌≡◌, ◌≢◌, ◌↔◌, ◌⊎◌, ℕ, zero, suc, ◌≤◌, Bool, true, false, List, [], ◌∷◌, ◌++◌, length, not, Option, Some, None, Result, Ok, Err, IfSome, IsSome, refl, sym, ap, subst, ◌∙◌, inl, inr, arith}
+use Rattle.std.proofs.Common.{◌≡◌, ◌≢◌, ◌↔◌, ℕ, zero, suc, ◌≤◌, Bool, false, List, [], ◌∷◌, ◌++◌, length, not, Option, Some, None, Result, Ok, IsSome, refl, sym, ap, subst, arith}
 use Rattle.mufom_host.specs.World.{HoldBytes, NamedFile}
 use Rattle.mufom_words.specs.declared.command.Command.{Command}
 use Rattle.mufom_words.specs.declared.command.Verb.{Verb}
@@ -25,7 +25,7 @@ use Rattle.mufom_meaning.proofs.facts.AllAnswers.{answers_are_facts}
 use Rattle.mufom_meaning.proofs.facts.LinkFacts.{link_facts_grow}
 use Rattle.mufom_meaning.proofs.locations.Exists.{locations_exist}
 use Rattle.mufom_groups.specs.Linked.{IsFlatList, linked, members, roots}
-use Rattle.mufom_groups.specs.Work.{Reached, gives, stops, Work, ◌>>=◌, with_stops}
+use Rattle.mufom_groups.specs.Work.{gives, Work, ◌>>=◌, with_stops}
 use Rattle.mufom_groups.proofs.GroupsAlike.{linked-flat}
 use Rattle.mufom_groups.proofs.LinkWalk.{valid-append, valid-drop, valid-members}
 use Rattle.mufom_groups.proofs.Singles.{flat_list-single}
@@ -33,9 +33,9 @@ use Rattle.mufom_command.specs.declared.outcome.Outcome.{Outcome}
 use Rattle.mufom_command.specs.declared.outcome.Outcome.TheVariants as outcome
 use Rattle.mufom_command.specs.Stop.{Stop, link_fact}
 use Rattle.mufom_command.specs.Inputs.{AreModules, HaveBytes}
-use Rattle.mufom_command.specs.Commands.{Output, printed, made, prints, writes, plan_in, modules_in, located, located_unless, absolute_file, printed_image, linking, work_of, work_by, run_of}
+use Rattle.mufom_command.specs.Commands.{Output, printed, made, prints, writes, plan_in, modules_in, located, located_unless, absolute_file, printed_image, linking, work_of, work_by}
 use Rattle.mufom_command.specs.Run.{Answers, AnswersBy, Call}
-use Rattle.mufom_command.specs.RunLaws.{Accepts, HasNoFact, IsLocating, IsSameWork, IsUndisturbed, LocatingIsDone}
+use Rattle.mufom_command.specs.RunLaws.{Accepts, HasNoFact, IsLocating, IsSameWork, LocatingIsDone}
 use Rattle.mufom_command.proofs.Determined.{answers-determined}
 use Rattle.mufom_command.proofs.MadeLaws.{location-of}
 use Rattle.mufom_command.proofs.Runs.{modules_in-single, of-files, plan_in-single}

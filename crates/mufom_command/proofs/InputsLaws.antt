@@ -1,11 +1,9 @@
 -- The plan and then the files: what was read, and why not all was.
-use Rattle.std.proofs.Common.{◌≡◌, ℕ, suc, ◌+◌, ◌<◌, ◌≤◌, List, [], ◌∷◌, ◌++◌, length, take, not, Option, Some, None, IfSome, IsSome, OnSome, option_to_list, refl, sym, ap, subst, ◌∙◌, inl, inr, arith}
-use Rattle.std.proofs.lemmas.List.{append-nil, length-append, take_all}
-use Rattle.mufom_host.specs.World.{Faults, Meaning, NamedFile, GrowsBy, KeepsAllButOpened, KeepsAllButReads, OnlyOpens, Rose}
+use Rattle.std.proofs.Common.{◌≡◌, ℕ, suc, ◌+◌, List, [], ◌∷◌, ◌++◌, length, take, not, Option, Some, None, IfSome, IsSome, OnSome, option_to_list, refl, sym, ap, subst, ◌∙◌, inl, inr, arith}
+use Rattle.std.proofs.lemmas.List.{append-nil, length-append}
+use Rattle.mufom_host.specs.World.{Faults, Meaning, NamedFile, GrowsBy, OnlyOpens}
 use Rattle.mufom_module.specs.declared.module.Parts.{Parts}
 use Rattle.mufom_plan.specs.declared.plan.Plan.{Plan}
-use Rattle.mufom_plan.specs.declared.refusal.PlanRefusal.{PlanRefusal}
-use Rattle.mufom_read.specs.declared.refusal.ReadRefusal.{ReadRefusal}
 use Rattle.mufom_words.specs.declared.command.Command.{Command}
 use Rattle.mufom_groups.specs.Work.{gives, stops}
 use Rattle.mufom_command.specs.declared.outcome.Input.TheVariants as input
@@ -13,11 +11,11 @@ use Rattle.mufom_command.specs.declared.outcome.Outcome.{Outcome}
 use Rattle.mufom_command.specs.declared.outcome.Outcome.TheVariants as outcome
 use Rattle.mufom_command.specs.declared.outcome.Refusal.TheVariants as refusal
 use Rattle.mufom_command.specs.Stop.{Stop, plan_refused, file_refused, past_limit}
-use Rattle.mufom_command.specs.Inputs.{ComeTo, accepted, refused, past_limit as past}
+use Rattle.mufom_command.specs.Inputs.{ComeTo, accepted}
 use Rattle.mufom_command.specs.Commands.{modules_in, plan_in}
 use Rattle.mufom_command.specs.FilesRead.{FilesStop, IsFileCount, OpensFiles}
 use Rattle.mufom_command.specs.InputsRead.{InputsStop, PlanStops, inputs_in}
-use Rattle.mufom_command.specs.Run.{IsOpenedCount, IsReached, OpensInputs, inputs_of}
+use Rattle.mufom_command.specs.Run.{IsOpenedCount, OpensInputs, inputs_of}
 use Rattle.mufom_command.proofs.InputLaws.{call_between, grows_by_both, grows_then}
 
 pub known-map : {A : Type 0} (P Q : A → Type 0) (o : Option A) → ((a : A) → P a → Q a) → IfSome o P → IfSome o Q
@@ -131,10 +129,13 @@ module _ (c : Command) (old mid : Meaning) (before between : Faults) (only : Onl
     files-stops (outcome.Refused (refusal.InputLimit n)) why opens = record { stop = past_limit n; is = refl; of_inputs = tt; cause = at-files (past_limit n) why }
     files-stops (outcome.ReadFault (input.File n)) (rose, them) opens = (
       (let same = ap (λ (f : Faults). f.reads) only.1 in let later = only.2 in omega (arith, rose, later)),
-      ((let exact = opens.exact in let within = opens.within in omega (arith, exact, within)), known-map (λ fs. plan_in fs c.plan (gives plan) × ((ms : List Parts) × ComeTo (not c.no_debug) fs (take n c.files) (accepted ms)))
-      (λ fs. ((p : Plan) × plan_in fs c.plan (gives p)) × ((ms : List Parts) × ComeTo (not c.no_debug) fs (take n c.files) (accepted ms))) old.files (λ fs both. ((plan, both.0), both.1))
-      (known-both (λ fs. plan_in fs c.plan (gives plan)) (λ fs. (ms : List Parts) × ComeTo (not c.no_debug) fs (take n c.files) (accepted ms)) old.files is_planned
-      (subst (λ (o : Option (List NamedFile)). IfSome o (λ fs. (ms : List Parts) × ComeTo (not c.no_debug) fs (take n c.files) (accepted ms))) files-same them))),
+      (
+        (let exact = opens.exact in let within = opens.within in omega (arith, exact, within)),
+        known-map (λ fs. plan_in fs c.plan (gives plan) × ((ms : List Parts) × ComeTo (not c.no_debug) fs (take n c.files) (accepted ms)))
+            (λ fs. ((p : Plan) × plan_in fs c.plan (gives p)) × ((ms : List Parts) × ComeTo (not c.no_debug) fs (take n c.files) (accepted ms))) old.files (λ fs both. ((plan, both.0), both.1))
+            (known-both (λ fs. plan_in fs c.plan (gives plan)) (λ fs. (ms : List Parts) × ComeTo (not c.no_debug) fs (take n c.files) (accepted ms)) old.files is_planned
+            (subst (λ (o : Option (List NamedFile)). IfSome o (λ fs. (ms : List Parts) × ComeTo (not c.no_debug) fs (take n c.files) (accepted ms))) files-same them)),
+      ),
     )
     files-stops (outcome.ReadFault input.Plan) why opens = absurd why
     files-stops (outcome.Refused (refusal.Plan r)) why opens = absurd why

@@ -5,7 +5,7 @@ use Rattle.mufom_numbers.specs.declared.limits.TheConstants.{MOST_IMAGE_BYTES}
 use Rattle.mufom_sections.specs.declared.section.Section.{Section}
 use Rattle.mufom_loads.specs.Lengths.{lengths_loaded}
 use Rattle.mufom_module.specs.declared.module.Parts.{Parts}
-use Rattle.mufom_module.specs.Weights.{reference_weight, section_weight}
+use Rattle.mufom_module.specs.Weights.{section_weight}
 use Rattle.mufom_module.specs.Written.{weight}
 use Rattle.mufom_module.proofs.WeightLaws.{weight-sum}
 use Rattle.mufom_plan.specs.declared.plan.Plan.{Plan}

@@ -1,5 +1,5 @@
 -- The location of the module into which a list is linked is that of the list.
-use Rattle.std.proofs.Common.{◌≡◌, ℕ, List, [], ◌∷◌, ◌++◌, length, Option, Some, None, refl, sym, ap, subst, ◌∙◌, unwrap_or, inl, inr}
+use Rattle.std.proofs.Common.{◌≡◌, ℕ, List, [], ◌∷◌, length, Option, Some, None, refl, sym, ap, subst, ◌∙◌, unwrap_or, inl, inr}
 use Rattle.std.proofs.lemmas.List.{append-nil}
 use Rattle.mufom_names.specs.Names.{AreDistinct, names_of}
 use Rattle.mufom_module.specs.declared.module.Parts.{Parts}
@@ -8,9 +8,7 @@ use Rattle.mufom_plan.specs.declared.plan.Plan.{Plan}
 use Rattle.mufom_meaning.specs.declared.located.LocatedParts.{LocatedParts}
 use Rattle.mufom_meaning.specs.FactLaws.{IsLinkable}
 use Rattle.mufom_meaning.specs.Facts.{LocateFact}
-use Rattle.mufom_meaning.specs.Flat.{public_names}
 use Rattle.mufom_meaning.specs.Joined.{IsJoined}
-use Rattle.mufom_meaning.specs.LinkAnswer.{link_answer}
 use Rattle.mufom_meaning.specs.LocateAnswer.{locate_answer}
 use Rattle.mufom_meaning.specs.Location.{Header, IsLocation, first_header}
 use Rattle.mufom_meaning.specs.Selection.{members_at}
@@ -22,8 +20,8 @@ use Rattle.mufom_meaning.proofs.facts.LinkFacts.{link_facts_grow}
 use Rattle.mufom_meaning.proofs.staging.Staging.{joined_stands_for}
 use Rattle.mufom_meaning.proofs.staging.Stages.{staged_means_the_same}
 use Rattle.mufom_words.specs.declared.command.Command.{Command}
-use Rattle.mufom_words.specs.Tree.{Forest, leaves, tree_of}
-use Rattle.mufom_groups.specs.Linked.{IsFlatList, first_name, linked, linked_module, members, roots}
+use Rattle.mufom_words.specs.Tree.{leaves, tree_of}
+use Rattle.mufom_groups.specs.Linked.{first_name, linked, linked_module, members, roots}
 use Rattle.mufom_groups.specs.Work.{Reached, gives, stops, with_stops}
 use Rattle.mufom_groups.proofs.GroupsAlike.{linked-flat}
 use Rattle.mufom_groups.proofs.LinkWalk.{valid-append, valid-drop, valid-members}

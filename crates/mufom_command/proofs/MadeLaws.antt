@@ -1,5 +1,5 @@
 -- The files that are made stand for what they were made of.
-use Rattle.std.proofs.Common.{◌≡◌, ℕ, List, [], ◌∷◌, Option, Some, None, unwrap_or, refl, subst}
+use Rattle.std.proofs.Common.{◌≡◌, ℕ, List, Option, Some, None, unwrap_or, refl}
 use Rattle.mufom_module.specs.declared.module.Parts.{Parts}
 use Rattle.mufom_module.specs.Written.{written}
 use Rattle.mufom_meaning.specs.declared.located.LocatedParts.{LocatedParts}

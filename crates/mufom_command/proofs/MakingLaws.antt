@@ -1,10 +1,9 @@
 -- A file that was created and written, and whose finish failed or was done.
-use Rattle.std.proofs.Common.{◌≡◌, ◌⊎◌, ℕ, ◌≤◌, List, [], ◌∷◌, ◌++◌, length, take, Option, Some, None, Ok, Err, IfSome, IsSome, OnSome, refl, sym, ap, subst, ◌∙◌, inl, inr, arith}
+use Rattle.std.proofs.Common.{◌≡◌, ◌⊎◌, ℕ, ◌≤◌, List, [], ◌∷◌, length, take, Option, Some, None, Ok, IfSome, IsSome, OnSome, refl, sym, ap, subst, ◌∙◌, inl, inr, arith}
 use Rattle.std.proofs.lemmas.List.{take_all}
 use Rattle.mufom_host.specs.World.{Creates, Faults, GrowsBy, KeepsAllButCreated, KeepsAllButFile, KeepsAllButMade, KeepsAllButMaking, KeepsAllButWrites, MakingGrowsBy, Meaning, NamedFile, Rose, with_bytes}
 use Rattle.mufom_command.specs.declared.outcome.Outcome.TheVariants as outcome
 use Rattle.mufom_command.specs.Making.{IsMadeAlone}
-use Rattle.mufom_command.specs.Run.{BeginsFile}
 use Rattle.mufom_command.proofs.InputLaws.{call_between}
 
 module _ (name bytes : List ℕ) (s0 s1 s2 s3 : Meaning) (f0 f1 f2 f3 : Faults) (creates : Creates s0 s1 (Ok tt) name) (created : KeepsAllButCreated s0 s1) (counts1 : KeepsAllButWrites f0 f1) (later1 : f0.writes ≤ f1.writes)

@@ -1,5 +1,5 @@
 -- A run comes to one end at most, since each of its parts does.
-use Rattle.std.proofs.Common.{◌≡◌, ◌⊎◌, ℕ, List, [], ◌∷◌, ◌++◌, Option, Some, None, Result, Ok, Err, IfSome, not, unwrap_or, refl, sym, ap, subst, ◌∙◌, flat_map, inl, inr}
+use Rattle.std.proofs.Common.{◌≡◌, ◌⊎◌, ℕ, List, Option, Some, None, Result, Ok, Err, IfSome, not, refl, sym, ap, subst, ◌∙◌, flat_map, inl, inr}
 use Rattle.mufom_host.specs.World.{HoldBytes, NamedFile, file_named}
 use Rattle.mufom_words.specs.declared.command.Command.{Command}
 use Rattle.mufom_words.specs.declared.command.Verb.{Verb}
@@ -30,7 +30,7 @@ use Rattle.mufom_groups.proofs.Works.{sure-single, stop_at-single, one_with-sing
 use Rattle.mufom_command.specs.Stop.{Stop, words_refused, plan_refused, file_refused, past_limit, link_fact, locate_fact}
 use Rattle.mufom_command.specs.Inputs.{HaveOneVerdict, Verdict, accepted, refused, past_limit as past, ComeTo}
 use Rattle.mufom_command.specs.Text.{Text, check_text}
-use Rattle.mufom_command.specs.Commands.{Output, printed, made, prints, writes, file_in, plan_by, plan_in, modules_in, maus_of, located, located_unless, linked_file, absolute_file, printed_image, listing, linking, not_obeyed, work_of, work_by, run_of}
+use Rattle.mufom_command.specs.Commands.{Output, printed, made, prints, writes, file_in, plan_by, plan_in, modules_in, maus_of, located, located_unless, linked_file, absolute_file, printed_image, listing, linking, work_of, work_by, run_of}
 use Rattle.mufom_command.specs.Run.{AnswersBy, AnswersFor, Call, IsForced, outcome_of, stop_outcome, stop_answer}
 use Rattle.mufom_command.proofs.Verdicts.{one_verdict}
 

@@ -1,6 +1,6 @@
 -- Works that come to the same.
-use Rattle.std.proofs.Common.{◌≡◌, ◌↔◌, subst, inl, inr}
-use Rattle.mufom_groups.specs.Work.{Reached, gives, stops, Work, ◌>>=◌, one_with, with_stops, IsSingle}
+use Rattle.std.proofs.Common.{◌≡◌, subst, inl, inr}
+use Rattle.mufom_groups.specs.Work.{Reached, gives, stops, Work, ◌>>=◌, IsSingle}
 use Rattle.mufom_groups.proofs.Works.{value-same}
 use Rattle.mufom_command.specs.Stop.{Stop}
 use Rattle.mufom_command.specs.RunLaws.{IsSameWork}

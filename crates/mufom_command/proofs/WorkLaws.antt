@@ -1,5 +1,5 @@
 -- What the work of a command comes to, from what its inputs and their modules come to.
-use Rattle.std.proofs.Common.{◌≡◌, ℕ, List, Option, Some, None, refl, sym, ap, subst, ◌∙◌, inl, inr}
+use Rattle.std.proofs.Common.{◌≡◌, ℕ, List, Option, Some, None, refl, sym, ap, subst, inl, inr}
 use Rattle.mufom_host.specs.World.{NamedFile}
 use Rattle.mufom_module.specs.declared.module.Parts.{Parts}
 use Rattle.mufom_module.specs.Written.{written}
@@ -11,7 +11,7 @@ use Rattle.mufom_words.specs.declared.command.Command.{Command}
 use Rattle.mufom_groups.specs.Linked.{linked_module}
 use Rattle.mufom_groups.specs.Work.{Work, gives, stops, with_stops}
 use Rattle.mufom_command.specs.Stop.{Stop, link_fact}
-use Rattle.mufom_command.specs.Commands.{Output, printed, made, writes, plan_in, modules_in, located, linked_file, absolute_file, printed_image, listing, linking}
+use Rattle.mufom_command.specs.Commands.{Output, printed, made, writes, plan_in, modules_in, linked_file, absolute_file, printed_image, listing, linking}
 use Rattle.mufom_command.specs.InputsRead.{inputs_in}
 use Rattle.mufom_command.specs.Text.{Text}
 use Rattle.mufom_command.specs.WorkEnds.{location_of}

@@ -1,11 +1,11 @@
 -- What reading the inputs of a command answers: its plan, and then the modules of its files.
 use Rattle.std.specs.Prelude.{◌≡◌, ◌⊎◌, ℕ, ◌<◌, List, ◌++◌, length, Option, Result, Err, IfSome, IsSome}
-use Rattle.mufom_host.specs.World.{NamedFile, Faults, Rose}
+use Rattle.mufom_host.specs.World.{NamedFile, Rose}
 use Rattle.mufom_module.specs.declared.module.Parts.{Parts}
 use Rattle.mufom_plan.specs.declared.plan.Plan.{Plan}
 use Rattle.mufom_plan.specs.declared.refusal.PlanRefusal.{PlanRefusal}
 use Rattle.mufom_words.specs.declared.command.Command.{Command}
-use Rattle.mufom_groups.specs.Work.{Work, gives, stops, ◌>>=◌, sure}
+use Rattle.mufom_groups.specs.Work.{Work, stops, ◌>>=◌, sure}
 use Rattle.mufom_command.specs.declared.outcome.Input.TheVariants as input
 use Rattle.mufom_command.specs.declared.outcome.Outcome.{Outcome}
 use Rattle.mufom_command.specs.declared.outcome.Outcome.TheVariants as outcome

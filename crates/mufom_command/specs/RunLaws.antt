@@ -1,7 +1,7 @@
 -- What holds of runs: each comes to one end, which is the answer where no call failed and memory was found; files that were linked in
 -- stages are answered as the list that the stages began with; locating is done where no fact stands; and the files that are made stand
 -- for what they were made of.
-use Rattle.std.specs.Prelude.{◌≡◌, ◌≢◌, ◌↔◌, ℕ, List, [], ◌∷◌, Option, Some, None, Ok, unwrap_or}
+use Rattle.std.specs.Prelude.{◌≡◌, ◌≢◌, ◌↔◌, ℕ, List, [], ◌∷◌, Some, None, Ok, unwrap_or}
 use Rattle.mufom_host.specs.World.{NamedFile, HoldBytes, RevealsTogether, Rose}
 use Rattle.mufom_words.specs.declared.command.Command.{Command}
 use Rattle.mufom_words.specs.declared.command.Verb.{Verb}
@@ -21,7 +21,7 @@ use Rattle.mufom_meaning.specs.LocateAnswer.{locate_answer}
 use Rattle.mufom_meaning.specs.Location.{IsLocation}
 use Rattle.mufom_meaning.specs.Staging.{AreValid, HaveDescriptor, IsStaged, StandsFor}
 use Rattle.mufom_groups.specs.Linked.{IsFlatList, first_name, linked}
-use Rattle.mufom_groups.specs.Work.{Reached, gives, stops, Work, nowhere, IsSingle}
+use Rattle.mufom_groups.specs.Work.{Reached, gives, Work, nowhere, IsSingle}
 use Rattle.mufom_command.specs.declared.outcome.Outcome.{Outcome}
 use Rattle.mufom_command.specs.declared.outcome.Outcome.TheVariants as outcome
 use Rattle.mufom_command.specs.Stop.{Stop}

@@ -49,12 +49,7 @@ fn push_address(alloc: Global, text: &mut Vec<u8>, maus: u8, at: u64) -> Result<
 }
 
 // Adds words and a number.
-fn push_number(
-    alloc: Global,
-    text: &mut Vec<u8>,
-    words: &[u8],
-    number: u32,
-) -> Result<(), NoMemory>
+fn push_number(alloc: Global, text: &mut Vec<u8>, words: &[u8], number: u32) -> Result<(), NoMemory>
     ensures { OnOk result (text.new.items ≡ text.old.items ++ (words.now ++ decimal number)) }
 {
     text.extend_from_slice(words)?;
@@ -85,12 +80,7 @@ fn push_quoted(alloc: Global, text: &mut Vec<u8>, name: &Bytes) -> Result<(), No
 }
 
 // Adds words and a name in double quotes.
-fn push_named(
-    alloc: Global,
-    text: &mut Vec<u8>,
-    words: &str,
-    name: &Bytes,
-) -> Result<(), NoMemory>
+fn push_named(alloc: Global, text: &mut Vec<u8>, words: &str, name: &Bytes) -> Result<(), NoMemory>
     ensures { OnOk result (text.new.items ≡ text.old.items ++ (words.now ++ quoted_text name.now)) }
 {
     text.extend_from_slice(words.as_bytes())?;
@@ -130,12 +120,7 @@ fn push_place(alloc: Global, text: &mut Vec<u8>, refusal: PlaceRefusal) -> Resul
 }
 
 // Adds where an expression stands.
-fn push_site(
-    alloc: Global,
-    text: &mut Vec<u8>,
-    maus: u8,
-    site: &Site,
-) -> Result<(), NoMemory>
+fn push_site(alloc: Global, text: &mut Vec<u8>, maus: u8, site: &Site) -> Result<(), NoMemory>
     ensures { OnOk result (text.new.items ≡ text.old.items ++ site_text maus site.now) }
 {
     match site {
@@ -197,7 +182,13 @@ pub(crate) fn push_locate(
             push_number(alloc, text, b"LoadOutside section ", *section)?;
             push_at(alloc, text, b" at ", maus, *address)
         }
-        LocateRefusal::LoadedTwice(address) => push_at(alloc, text, b"LoadedTwice ", maus, *address),
+        LocateRefusal::LoadedTwice(address) => push_at(
+            alloc,
+            text,
+            b"LoadedTwice ",
+            maus,
+            *address,
+        ),
         LocateRefusal::ImageLimit(count) => {
             text.extend_from_slice(format!(in alloc; "ImageLimit {count}")?.as_bytes())?;
             Ok(())

@@ -45,9 +45,27 @@ fn ends(
 fn a_failed_open_or_read_is_a_read_fault(rt: HostRuntime) -> Result<(), Fail> {
     let alloc = rt.alloc();
     let line = b"read fault: file 0\n";
-    ends(&rt, alloc, host(alloc, &[0], &[])?, &["check", "a"], (3, b"", line))?;
-    ends(&rt, alloc, host(alloc, &[1], &[])?, &["dump", "a"], (3, b"", line))?;
-    ends(&rt, alloc, host(alloc, &[2], &[])?, &["show", "a"], (3, b"", line))
+    ends(
+        &rt,
+        alloc,
+        host(alloc, &[0], &[])?,
+        &["check", "a"],
+        (3, b"", line),
+    )?;
+    ends(
+        &rt,
+        alloc,
+        host(alloc, &[1], &[])?,
+        &["dump", "a"],
+        (3, b"", line),
+    )?;
+    ends(
+        &rt,
+        alloc,
+        host(alloc, &[2], &[])?,
+        &["show", "a"],
+        (3, b"", line),
+    )
 }
 
 #[test]
@@ -64,10 +82,34 @@ fn a_plan_that_is_not_there_is_a_read_fault_of_the_plan(rt: HostRuntime) -> Resu
 fn a_failed_print_is_a_write_fault(rt: HostRuntime) -> Result<(), Fail> {
     let alloc = rt.alloc();
     let line = b"write fault\n";
-    ends(&rt, alloc, host(alloc, &[], &[0])?, &["check", "a"], (4, b"", line))?;
-    ends(&rt, alloc, host(alloc, &[], &[0])?, &["dump", "a"], (4, b"", line))?;
-    ends(&rt, alloc, host(alloc, &[], &[0])?, &["show", "a"], (4, b"", line))?;
-    ends(&rt, alloc, host(alloc, &[], &[0, 1])?, &["dump", "a"], (4, b"", b""))
+    ends(
+        &rt,
+        alloc,
+        host(alloc, &[], &[0])?,
+        &["check", "a"],
+        (4, b"", line),
+    )?;
+    ends(
+        &rt,
+        alloc,
+        host(alloc, &[], &[0])?,
+        &["dump", "a"],
+        (4, b"", line),
+    )?;
+    ends(
+        &rt,
+        alloc,
+        host(alloc, &[], &[0])?,
+        &["show", "a"],
+        (4, b"", line),
+    )?;
+    ends(
+        &rt,
+        alloc,
+        host(alloc, &[], &[0, 1])?,
+        &["dump", "a"],
+        (4, b"", b""),
+    )
 }
 
 #[test]

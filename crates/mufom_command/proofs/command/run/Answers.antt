@@ -1,4 +1,4 @@
-use Rattle.std.proofs.Common.{List, map}
+use Rattle.std.proofs.Common.{map}
 use Rattle.std.specs.String.{string_bytes}
 use Rattle.mufom_words.specs.Answer.{answer_of}
 use Rattle.mufom_command.specs.Run.{call_of}

@@ -1,5 +1,3 @@
-use Rattle.mufom_module.specs.Written.{weight}
-use Rattle.mufom_meaning.specs.declared.located.LocatedParts.{LocatedParts}
 use Rattle.std.proofs.Common.{[], ◌∷◌}
 use Rattle.mufom_groups.specs.Linked.{linked_module}
 use Rattle.mufom_groups.specs.Work.{gives, with_stops}

@@ -1,7 +1,4 @@
-use Rattle.std.proofs.Common.{List, ℕ, sym, subst}
-use Rattle.mufom_command.specs.FilesRead.{FileHas}
-use Rattle.mufom_command.specs.InputsRead.{IsEnoughOf}
-use Rattle.mufom_command.proofs.PlanLaws.{no-plan, plan-read, unread-plan}
+use Rattle.mufom_command.proofs.PlanLaws.{unread-plan}
 use Rattle.mufom_command.proofs.plan_file.read_plan_file.Goals as goal
 
 pub returns-in-Err-clause-stops : goal.returns-in-Err-clause-stops
