@@ -51,7 +51,7 @@ valid-modules : (reads_debug : Bool) (contents : List (List ℕ)) (ms : List Par
 valid-modules reads_debug [] [] are = tt
 valid-modules reads_debug [] (m ∷ ms) are = absurd are
 valid-modules reads_debug (bytes ∷ contents) [] are = absurd are
-valid-modules reads_debug (bytes ∷ contents) (m ∷ ms) are = (are.0.0.4, valid-modules reads_debug contents ms are.1)
+valid-modules reads_debug (bytes ∷ contents) (m ∷ ms) are = (are.0.4, valid-modules reads_debug contents ms are.1)
 
 length-modules : (reads_debug : Bool) (contents : List (List ℕ)) (ms : List Parts) → AreModules reads_debug contents ms → length ms ≡ length contents
 length-modules reads_debug [] [] are = refl
