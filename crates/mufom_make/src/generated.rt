@@ -4,6 +4,7 @@ ghost use Rattle.std.specs.Prelude.{◌≡◌, ◌+◌, ◌<◌, ◌≤◌, ◌^
 ghost use Rattle.mufom_expr.specs.Terms.{FindsTooFew};
 ghost use Rattle.mufom_loads.specs.declared.load.Item.TheVariants.{Literal, Field};
 ghost use Rattle.mufom_expr.specs.declared.token.FieldKind.TheVariants.{Either};
+ghost use Rattle.mufom_make.specs.declared.generated.TheConstants.{MOST_MODULES};
 ghost use Rattle.mufom_make.specs.Generated.{code_section, entry_at, loads_at, made_plan, module_at, name_at, next_value, references_at};
 
 use mufom_expr::{Builder, ExprFault, FieldKind, Function, Letter, Postfix, Token};
@@ -24,13 +25,19 @@ const SECTION_SIZE: u64 = 16;
 // At which offset of its section the public of a module stands.
 const ENTRY_OFFSET: u64 = 4;
 
+// A section begins at a multiple of this.
+const SECTION_ALIGNMENT: u64 = 4;
+
+// How often the lowest byte of its number and a byte 0 are loaded by a module.
+const REPEAT_COUNT: u64 = 2;
+
 // How many units an address has.
 const ADDRESS_SIZE: u8 = 4;
 
 // Where the sections of all modules begin.
 const FIRST_BASE: u64 = 4096;
 
-// A letter, and a number in decimal after it.
+// The name that is a letter, and a number in decimal after it.
 fn name_at(alloc: Global, letter: &str, number: u32) -> Result<Bytes, NoMemory>
     ensures { IfOk result (λ name. name ≡ name_at letter.now number) }
 {
@@ -38,6 +45,7 @@ fn name_at(alloc: Global, letter: &str, number: u32) -> Result<Bytes, NoMemory>
     Ok(List::from_vec(name.into_bytes()))
 }
 
+// The one section of a module.
 fn code_section(alloc: Global) -> Result<Section, NoMemory>
     ensures { IfOk result (λ section. section ≡ code_section) }
 {
@@ -46,7 +54,7 @@ fn code_section(alloc: Global) -> Result<Section, NoMemory>
         absolute: false,
         purpose: Some(Purpose::Code),
         size: SECTION_SIZE,
-        align: 4,
+        align: SECTION_ALIGNMENT,
         base: None,
     })
 }
@@ -148,7 +156,7 @@ fn loads_at(alloc: Global, last: bool, number: u32) -> Result<List<Load>, NoMemo
     loads.push(Load::One(Item::Literal(own)))?;
     loads.push(address_load(Postfix::single(Token::Var(Letter::P, 0))))?;
     loads.push(Load::Repeat {
-        count: 2,
+        count: REPEAT_COUNT,
         items: low_bytes(alloc, number)?,
     })?;
     Ok(loads)
@@ -163,6 +171,7 @@ fn single<T: Drop>(alloc: Global, item: T) -> Result<List<T>, NoMemory>
     Ok(list)
 }
 
+// What the module with this number states.
 fn parts_at(alloc: Global, last: bool, number: u32) -> Result<Parts, NoMemory>
     requires { number < 2 ^ 31 }
     ensures { IfOk result (λ parts. parts ≡ module_at last number) }
@@ -187,7 +196,7 @@ fn parts_at(alloc: Global, last: bool, number: u32) -> Result<Parts, NoMemory>
 
 /// The module with this number of `count` generated modules.
 pub(crate) fn module_at(alloc: Global, count: u32, number: u32) -> Result<Module, NoMemory>
-    requires { number < 65536 }
+    requires { number < MOST_MODULES }
     ensures { IfOk result (λ m. m ≡ module_at (number + 1 == count) number) }
 {
     let parts = parts_at(alloc, number + 1 == count, number)?;

@@ -7,6 +7,7 @@ ghost use Rattle.mufom_meaning.specs.Joined.{IsJoined};
 ghost use Rattle.mufom_meaning.specs.LinkAnswer.{link_answer};
 ghost use Rattle.mufom_meaning.specs.Staging.{IsStaged, NameStays};
 ghost use Rattle.mufom_meaning.specs.StagingLaws.{total_weight};
+ghost use Rattle.mufom_make.specs.declared.generated.TheConstants.{MOST_MODULES};
 ghost use Rattle.mufom_make.specs.Generated.{made_modules, modules_from};
 ghost use Rattle.mufom_make.specs.Links.{IsLinkOf, most_weight};
 
@@ -27,7 +28,7 @@ fn name_of(module: &Module) -> &[u8]
 // The modules with the numbers from `first` up to `end`, of `count`.
 fn modules_between(alloc: Global, count: u32, first: u32, end: u32) -> Result<Vec<Module>, NoMemory>
     requires order { first ≤ end }
-    requires few { end ≤ 65536 }
+    requires few { end ≤ MOST_MODULES }
     ensures { IfOk result (λ modules. modules.items ≡ modules_from count (end - first) first) }
 {
     let mut modules = Vec::new(alloc);
@@ -56,7 +57,7 @@ fn linked(alloc: Global, list: &[Module]) -> Result<Module, NoMemory>
 // The link of the modules from `first` up to `end`, which are let go.
 fn linked_between(alloc: Global, count: u32, first: u32, end: u32) -> Result<Module, NoMemory>
     requires some { first < end }
-    requires few { end ≤ 65536 }
+    requires few { end ≤ MOST_MODULES }
     ensures { IfOk result (λ M. IsLinkOf M (modules_from count (end - first) first)) }
 {
     let modules = modules_between(alloc, count, first, end)?;
@@ -66,7 +67,7 @@ fn linked_between(alloc: Global, count: u32, first: u32, end: u32) -> Result<Mod
 // The links of two modules each, and of a last one alone.
 fn linked_pairs(alloc: Global, count: u32) -> Result<Vec<Module>, NoMemory>
     requires some { 1 ≤ count }
-    requires few { count ≤ 65536 }
+    requires few { count ≤ MOST_MODULES }
     ensures some { IfOk result (λ linked. 0 < length linked.items) }
     ensures staged { IfOk result (λ linked. IsStaged linked.items (made_modules count)) }
     ensures light { IfOk result (λ linked. total_weight linked.items ≤ most_weight * count) }
@@ -85,7 +86,7 @@ fn linked_pairs(alloc: Global, count: u32) -> Result<Vec<Module>, NoMemory>
 /// the pairs.
 pub(crate) fn linked_modules(alloc: Global, count: u32) -> Result<Module, NoMemory>
     requires some { 1 ≤ count }
-    requires few { count ≤ 65536 }
+    requires few { count ≤ MOST_MODULES }
     ensures { IfOk result (λ M. IsLinkOf M (made_modules count)) }
 {
     let pairs = linked_pairs(alloc, count)?;

@@ -1,4 +1,4 @@
-use Rattle.std.proofs.Common.{◌-◌, ◌∙◌, ap, arith}
+use Rattle.std.proofs.Common.{◌≤◌, ◌-◌, ◌∙◌, ap, arith}
 use Rattle.mufom_meaning.specs.LinkAnswer.{link_answer}
 use Rattle.mufom_meaning.specs.StagingLaws.{total_weight}
 use Rattle.mufom_make.proofs.ListLaws.{all-light, linkable}
@@ -8,7 +8,7 @@ use Rattle.mufom_make.proofs.linking.linked_between.Goals as goal
 pub linked-requires-clause-light : goal.linked-requires-clause-light
 linked-requires-clause-light c =
     let some = c.requires.some in
-    let few = c.requires.few in
+    let few : c.args.end ≤ 65536 = c.requires.few in
     let light = all-light c.args.count (c.args.end - c.args.first) c.args.first (omega (arith, some, few)) in
     let same = ap total_weight (c.deref.ensures.value ∙ c.in_ok-modules.ensures) in
     omega (arith, some, few, light, same)
@@ -16,12 +16,12 @@ linked-requires-clause-light c =
 pub linked-requires-clause-linkable : goal.linked-requires-clause-linkable
 linked-requires-clause-linkable c =
     let some = c.requires.some in
-    let few = c.requires.few in
+    let few : c.args.end ≤ 65536 = c.requires.few in
     ap link_answer (c.deref.ensures.value ∙ c.in_ok-modules.ensures) ∙ linkable c.args.count (c.args.end - c.args.first) c.args.first (omega (arith, some, few))
 
 pub returns : goal.returns
 returns c =
     let some = c.requires.some in
-    let few = c.requires.few in
+    let few : c.args.end ≤ 65536 = c.requires.few in
     link-found c.linked.result c.args.count (c.args.end - c.args.first) c.args.first c.deref.result.now (omega (arith, some, few)) (c.deref.ensures.value ∙ c.in_ok-modules.ensures)
     c.linked.ensures.joined c.linked.ensures.named c.linked.ensures.light
