@@ -1,5 +1,5 @@
 -- What is written of a module is the stream of that module.
-use Rattle.std.proofs.Common.{ℕ, ◌≤◌, true, length}
+use Rattle.std.proofs.Common.{◌≤◌, true, length}
 use Rattle.mufom_module.specs.declared.module.Parts.{Parts}
 use Rattle.mufom_module.specs.Written.{written}
 use Rattle.mufom_module.specs.Defects.{IsValid}

@@ -130,7 +130,10 @@ fn a_module_with_every_kind_of_record_is_read_back(rt: HostRuntime) -> Result<()
 fn a_module_with_blocks_of_every_kind_is_read_back(rt: HostRuntime) -> Result<(), Fail> {
     let alloc = rt.alloc();
     returns(&rt, alloc, &BLOCKS, BLOCKS_TEXT)?;
-    assert_eq!(rt; rewritten(&rt, alloc, &[&BLOCKS])?.as_slice(), BLOCKS.as_slice());
+    assert_eq!(rt;
+        rewritten(&rt, alloc, &[&BLOCKS])?.as_slice(),
+        BLOCKS.as_slice()
+    );
     Ok(())
 }
 
