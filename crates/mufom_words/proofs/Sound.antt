@@ -1,8 +1,7 @@
--- Each command that words give is sound, and those of the program are among the obeyed ones.
+-- Each command that words give is sound.
 use Rattle.std.proofs.Common.{◌≡◌, ◌≢◌, ◌≤◌, ℕ, Bool, cond, true, false, nat_lt, refl, ap, sym, ◌∙◌, arith, length, List, [], ◌∷◌, Option, Some, None, Ok, subst, Result}
-use Rattle.std.specs.Prelude.{IfSome, IsSome, is_none, unwrap_or, not, nat_le, ◌==◌, ◌&&◌, codes}
+use Rattle.std.specs.Prelude.{IfSome, IsSome, is_none, unwrap_or, not, nat_le, ◌==◌, ◌&&◌}
 use Rattle.std.specs.List.{list_all}
-use Rattle.std.specs.Str.{bytes_eq}
 use Rattle.std.specs.Result.{result_unwrap_or}
 use Rattle.std.proofs.lemmas.Bool.{ltb-false, leb-true}
 use Rattle.std.proofs.lemmas.List.Sums.{count_by-le-length, length-filter}
@@ -22,11 +21,11 @@ use Rattle.mufom_words.specs.declared.options.Setting.TheVariants as setting
 use Rattle.mufom_words.specs.declared.stop.UsageFault.{UsageFault}
 use Rattle.mufom_words.specs.declared.stop.UsageFault.TheVariants as fault
 use Rattle.mufom_words.specs.declared.stop.WordsStop.{WordsStop}
-use Rattle.mufom_words.specs.Options.{Text, Usage, Given, usage_of, app_for, form_of, takes, id_of, given_by, makes_file, makes_modules, names_module, reads_plan, is_obeyed, takes_one_file}
+use Rattle.mufom_words.specs.Options.{Text, Usage, Given, usage_of, app_for, form_of, takes, id_of, given_by, makes_file, makes_modules, names_module, reads_plan, takes_one_file}
 use Rattle.mufom_words.specs.Operands.{word_of, file_words, is_name, names_in, operands_fault, number_fault, count_fault, count_of, is_digit, decimal_number, most_modules, number_of, files_of, marks_of, depth_of}
 use Rattle.mufom_words.specs.Tree.{tree_of, leaves}
 use Rattle.mufom_words.specs.Answer.{◌or_else◌, most_files, longest_name, options_fault, name_fault, out_fault, usage_fault, limit_stop, limit_stop_by, usage, words_stop, command_by, unless_stopped, answer_for, answer_of, given}
-use Rattle.mufom_words.specs.Sound.{numbers_from, IsSound, IsObeyed, CommandsAreSound}
+use Rattle.mufom_words.specs.Sound.{numbers_from, IsSound, CommandsAreSound}
 use Rattle.mufom_words.proofs.TreeOfWords.{tree_count, count-some, count-some-plain, length-numbers_from, IsTreeOf, tree-of-words, tree-of-plain}
 
 -- ---- that nothing is wrong
@@ -206,6 +205,20 @@ takes-count form.Locate e = absurd cc
 takes-count form.Dump e = absurd cc
 takes-count form.Make e = refl
 
+takes-one : (f : Form) → takes_one_file (usage_of f).verb ≡ true → (usage_of f).operands ≡ OneFile
+takes-one form.Show e = refl
+takes-one form.Check e = absurd cc
+takes-one form.Link e = absurd cc
+takes-one form.Locate e = absurd cc
+takes-one form.Dump e = absurd cc
+takes-one form.Make e = absurd cc
+
+no-files : (o : Operands) (words : List Text) → o ≡ OneCount → files_of o words ≡ []
+no-files OneFile words same = absurd cc
+no-files SomeFiles words same = absurd cc
+no-files GroupedFiles words same = absurd cc
+no-files OneCount words same = refl
+
 -- ---- the command
 
 sound_by : (f : Form) (rows : List Row) → IsAccepted (usage_of f) (given_by f rows) → IsSound (command_by (usage_of f) (given_by f rows))
@@ -220,7 +233,12 @@ sound_by f rows is =
         numbered = fits.tree.numbered ∙ ap (λ (n : ℕ). numbers_from 0 n) (sym long);
         within = subst (λ (n : ℕ). n ≤ length (files_of o words)) (sym long) fits.within;
       };
-      files = record { some = λ files. subst (λ (n : ℕ). 1 ≤ n) (sym long) (fits.some (takes-files f files)); few = is.few };
+      files = record {
+        some = λ files. subst (λ (n : ℕ). 1 ≤ n) (sym long) (fits.some (takes-files f files));
+        none = λ makes. no-files o words (takes-count f makes);
+        one = λ one. one-file o words (takes-one f one) is.operand is.number;
+        few = is.few;
+      };
       options = record {
         out = λ makes. out-given (takes (usage_of f).settings setting.Out) (given_by f rows).out is.out (takes-out f ∙ makes);
         no_out = λ makes. not-taken (takes (usage_of f).settings setting.Out) (first_of (id_of setting.Out) rows) (takes-out f ∙ makes);
@@ -245,35 +263,3 @@ sound-by words (Some f) c named = commands-sound f words c named
 pub words-sound : (words : List Text) (c : Command) → answer_of words ≡ Ok c → IsSound c
 words-sound [] c named = absurd cc
 words-sound (word ∷ words) c named = sound-by (word ∷ words) (form_of word) c named
-
--- ---- the obeyed ones
-
-record IsObeyedForm (f : Form) : Type 0 where
-  verb : is_obeyed (usage_of f).verb ≡ true
-  files : (usage_of f).operands ≢ OneCount
-  one : takes_one_file (usage_of f).verb ≡ true → (usage_of f).operands ≡ OneFile
-
-form_of-obeyed : (word : Text) (f : Form) → Some f ≡ form_of word → IsObeyedForm f
-form_of-obeyed word f is =
-    by_name (bytes_eq word (codes "show")) (bytes_eq word (codes "check")) (bytes_eq word (codes "link")) (bytes_eq word (codes "locate")) (bytes_eq word (codes "dump")) is
-  where
-    by_name : (a b c d e : Bool)
-        → Some f ≡ cond a (Some form.Show) (cond b (Some form.Check) (cond c (Some form.Link) (cond d (Some form.Locate) (cond e (Some form.Dump) None)))) → IsObeyedForm f
-    by_name true b c d e is = let same : form.Show ≡ f = cc in subst IsObeyedForm same (record { verb = refl; files = λ bad. cc; one = λ _. refl })
-    by_name false true c d e is = let same : form.Check ≡ f = cc in subst IsObeyedForm same (record { verb = refl; files = λ bad. cc; one = λ bad. absurd cc })
-    by_name false false true d e is = let same : form.Link ≡ f = cc in subst IsObeyedForm same (record { verb = refl; files = λ bad. cc; one = λ bad. absurd cc })
-    by_name false false false true e is = let same : form.Locate ≡ f = cc in subst IsObeyedForm same (record { verb = refl; files = λ bad. cc; one = λ bad. absurd cc })
-    by_name false false false false true is = let same : form.Dump ≡ f = cc in subst IsObeyedForm same (record { verb = refl; files = λ bad. cc; one = λ bad. absurd cc })
-    by_name false false false false false is = absurd cc
-
-command-obeyed : (f : Form) (words : List Text) (c : Command) → IsObeyedForm f → answer_for (Some f) words ≡ Ok c → IsObeyed c
-command-obeyed f words c o e =
-    let fine = accepted (words_stop (usage_of f) (fault_of (app_for f) words) (given f words)) (command_by (usage_of f) (given f words)) c e in
-    let is = accepted_by (usage_of f) (fault_of (app_for f) words) (given f words) fine.0 in
-    let fits = fitting (usage_of f).operands (given f words).operands is.operand in
-    let least = fits.some o.files in let within = fits.within in
-    subst IsObeyed fine.1 (record { verb = o.verb; some = omega (arith, least, within); one = λ one. one-file (usage_of f).operands (given f words).operands (o.one one) is.operand is.number })
-
--- a command that a word names is obeyed
-pub commands-obeyed : (word : Text) (f : Form) (words : List Text) (c : Command) → Some f ≡ form_of word → answer_for (Some f) words ≡ Ok c → IsObeyed c
-commands-obeyed word f words c named e = command-obeyed f words c (form_of-obeyed word f named) e

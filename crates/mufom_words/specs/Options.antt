@@ -36,22 +36,13 @@ usage_of form.Locate =
 usage_of form.Dump = record { verb = verb.Dump; name = codes "dump"; settings = setting.NoDebug ∷ setting.Plan ∷ []; operands = operands.GroupedFiles }
 usage_of form.Make = record { verb = verb.Make; name = codes "make"; settings = []; operands = operands.OneCount }
 
--- the commands that the program obeys so far
-abbrev pub obeyed : List Form
-obeyed = form.Show ∷ form.Check ∷ form.Link ∷ form.Locate ∷ form.Dump ∷ []
+-- all commands
+abbrev pub forms : List Form
+forms = form.Show ∷ form.Check ∷ form.Link ∷ form.Locate ∷ form.Dump ∷ form.Make ∷ []
 
 -- the one that a word names
 abbrev pub form_of : Text → Option Form
-form_of word = find (λ f. bytes_eq word (usage_of f).name) obeyed
-
--- a command that the program obeys so far
-abbrev pub is_obeyed : Verb → Bool
-is_obeyed verb.Show = true
-is_obeyed verb.Check = true
-is_obeyed verb.Link = true
-is_obeyed verb.Locate = true
-is_obeyed verb.Dump = true
-is_obeyed verb.Make = false
+form_of word = find (λ f. bytes_eq word (usage_of f).name) forms
 
 -- the command makes a file, which `-o` names
 abbrev pub makes_file : Verb → Bool

@@ -2,7 +2,7 @@
 use Rattle.std.specs.Prelude.{◌≡◌, ℕ, zero, suc, ◌≤◌, List, [], ◌∷◌, length, true, false, Some, None, Ok, IfSome, IsSome}
 use Rattle.mufom_words.specs.declared.command.Command.{Command}
 use Rattle.mufom_words.specs.declared.form.Form.{Form}
-use Rattle.mufom_words.specs.Options.{Text, is_obeyed, makes_file, makes_modules, names_module, reads_plan, takes_one_file}
+use Rattle.mufom_words.specs.Options.{Text, makes_file, makes_modules, names_module, reads_plan, takes_one_file}
 use Rattle.mufom_words.specs.Operands.{most_modules}
 use Rattle.mufom_words.specs.Tree.{spelling, tree_of, leaves}
 use Rattle.mufom_words.specs.Answer.{answer_for, most_files, longest_name}
@@ -18,9 +18,12 @@ pub record HasTree (c : Command) : Type 0 where
   pub numbered : leaves (tree_of c.marks) ≡ numbers_from 0 (length (leaves (tree_of c.marks)))
   pub within : length (leaves (tree_of c.marks)) ≤ length c.files
 
--- There is a file in the tree, but where modules are generated, and there are no more files than a run may have.
+-- There is a file in the tree, but where modules are generated, which has none; one that takes one file has one; and there are no more
+-- files than a run may have.
 pub record HasFiles (c : Command) : Type 0 where
   pub some : makes_modules c.verb ≡ false → 1 ≤ length (leaves (tree_of c.marks))
+  pub none : makes_modules c.verb ≡ true → c.files ≡ []
+  pub one : takes_one_file c.verb ≡ true → length c.files ≡ 1
   pub few : length c.files ≤ most_files
 
 -- The output has a name exactly where the command makes a file; only a command that reads a plan has the name of one, and only one that
@@ -37,12 +40,6 @@ pub record IsSound (c : Command) : Type 0 where
   pub tree : HasTree c
   pub files : HasFiles c
   pub options : HasOptions c
-
--- The command is one that the program obeys so far. It has a file.
-pub record IsObeyed (c : Command) : Type 0 where
-  pub verb : is_obeyed c.verb ≡ true
-  pub some : 1 ≤ length c.files
-  pub one : takes_one_file c.verb ≡ true → length c.files ≡ 1
 
 -- Each command that words give is sound, whichever row of the table they are read by.
 abbrev pub CommandsAreSound : Type 0

@@ -31,7 +31,7 @@ pub(crate) enum Form {
 }
 
 impl Form {
-    /// The row that a word names, among those that the program obeys so far.
+    /// The row that a word names.
     pub(crate) fn from_name(word: &str) -> Option<Form>
         ensures { result ≡ form_of word.now }
     {
@@ -41,6 +41,7 @@ impl Form {
             "link" => Some(Form::Link),
             "locate" => Some(Form::Locate),
             "dump" => Some(Form::Dump),
+            "make" => Some(Form::Make),
             _ => None,
         }
     }

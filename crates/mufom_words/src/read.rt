@@ -7,7 +7,7 @@ ghost use Rattle.clap.specs.Values.{kind_of};
 ghost use Rattle.clap.specs.Walk.{rows_of};
 ghost use Rattle.mufom_words.specs.Answer.{answer_for, answer_of, command_by, given_stop, limit_stop as limited, name_fault as name_wrong, stop_by, unless_stopped, usage_fault as first_fault};
 ghost use Rattle.mufom_words.specs.Options.{given_by, operands_of, usage_of};
-ghost use Rattle.mufom_words.specs.Sound.{IsObeyed, IsSound};
+ghost use Rattle.mufom_words.specs.Sound.{IsSound};
 
 use crate::command::Command;
 use crate::form::{Form, Operands};
@@ -198,8 +198,6 @@ pub fn read_words(alloc: Global, words: &[String]) -> Result<Command, WordsStop>
     ensures refused { IfErr result (λ stop. stop ≢ WordsStop.NoMemory → answer_of (map (λ word. string_bytes word) words.now) ≡ Err stop) }
     // Its marks are those of a tree over the first files, its options are those of its verb, and the limits hold.
     ensures sound { IfOk result IsSound }
-    // It is a command that the program obeys so far.
-    ensures obeyed { IfOk result IsObeyed }
 {
     let Some(first) = words.first() else {
         return Err(WordsStop::Usage(UsageFault::NoCommand));

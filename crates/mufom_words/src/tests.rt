@@ -199,7 +199,7 @@ fn files_are_at_most_1024(rt: HostRuntime) -> Result<(), Fail> {
     fails(&rt, alloc, &line, UsageFault::FileCount)
 }
 
-// ---- by a row of the table, whether the program obeys it so far or not
+// ---- by a row of the table
 
 fn parsed(alloc: Global, form: Form, line: &[&str]) -> Result<Command, Fail>
     requires { length line.now < 2 ^ 32 }
