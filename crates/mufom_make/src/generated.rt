@@ -1,6 +1,6 @@
 //! One of the generated modules, and the plan for all of them.
 
-ghost use Rattle.std.specs.Prelude.{◌≡◌, ◌+◌, ◌<◌, ◌≤◌, ◌^◌, ◌==◌, ◌∷◌, [], ◌++◌, ◌%◌, length, IfOk, OnOk};
+ghost use Rattle.std.specs.Prelude.{◌≡◌, ◌+◌, ◌<◌, ◌^◌, ◌==◌, ◌∷◌, [], ◌++◌, ◌%◌, length, IfOk, OnOk};
 ghost use Rattle.mufom_expr.specs.Terms.{FindsTooFew};
 ghost use Rattle.mufom_loads.specs.declared.load.Item.TheVariants.{Literal, Field};
 ghost use Rattle.mufom_expr.specs.declared.token.FieldKind.TheVariants.{Either};
