@@ -19,7 +19,7 @@ use Rattle.mufom_command.specs.declared.outcome.Outcome.{Outcome}
 use Rattle.mufom_command.specs.declared.outcome.Outcome.TheVariants as outcome
 use Rattle.mufom_command.specs.declared.outcome.Refusal.TheVariants as refusal
 use Rattle.mufom_command.specs.Stop.{Stop, link_fact, locate_fact}
-use Rattle.mufom_command.specs.Commands.{Output, located, located_unless}
+use Rattle.mufom_command.specs.Commands.{Output, located, located_unless, maus_of}
 use Rattle.mufom_command.specs.InputsRead.{inputs_in}
 use Rattle.mufom_command.specs.Run.{Does, inputs_of}
 use Rattle.mufom_command.specs.WorkEnds.{EndsAt, outcome_of_link, outcome_of_locate}
@@ -37,25 +37,25 @@ link-ends work link.DuplicateStart (f, is, ends) = inr (link_fact f, tt, ap (λ 
 
 -- ---- a locate fact
 
-module _ (m : Parts) (plan : Plan) where
-  pub is-located : (r : LocatedParts) → IsLocation (m ∷ []) plan r → located plan (m ∷ []) (gives r)
-  is-located r is = subst (λ (o : Option LocateFact). located_unless o plan (m ∷ []) (gives r)) (sym is.locates) is
+module _ (ms : List Parts) (plan : Plan) where
+  pub is-located : (r : LocatedParts) → IsLocation ms plan r → located plan ms (gives r)
+  is-located r is = subst (λ (o : Option LocateFact). located_unless o plan ms (gives r)) (sym is.locates) is
 
-  pub is-unlocated : (f : LocateFact) → locate_answer (m ∷ []) plan ≡ Some f → located plan (m ∷ []) (stops (locate_fact m.maus f))
-  is-unlocated f met = subst (λ (o : Option LocateFact). located_unless o plan (m ∷ []) (stops (locate_fact m.maus f))) (sym met) refl
+  pub is-unlocated : (f : LocateFact) → locate_answer ms plan ≡ Some f → located plan ms (stops (locate_fact (maus_of ms) f))
+  is-unlocated f met = subst (λ (o : Option LocateFact). located_unless o plan ms (stops (locate_fact (maus_of ms) f))) (sym met) refl
 
-  pub locate-ends : (r : LocateRefusal) → IsMet (locate_answer (m ∷ []) plan) r → EndsAt (located plan (m ∷ [])) (outcome_of_locate m.maus r)
+  pub locate-ends : (r : LocateRefusal) → IsMet (locate_answer ms plan) r → EndsAt (located plan ms) (outcome_of_locate (maus_of ms) r)
   locate-ends locate.NoMemory met = inl refl
-  locate-ends (locate.Place p) met = inr (locate_fact m.maus (placement p), tt, refl, is-unlocated (placement p) met)
-  locate-ends (locate.Undefined name) met = inr (locate_fact m.maus (undefined name), tt, refl, is-unlocated (undefined name) met)
-  locate-ends (locate.CommonUnplaced name) met = inr (locate_fact m.maus (common_unplaced name), tt, refl, is-unlocated (common_unplaced name) met)
-  locate-ends (locate.Cycle name) met = inr (locate_fact m.maus (cycle name), tt, refl, is-unlocated (cycle name) met)
-  locate-ends (locate.DivideByZero s) met = inr (locate_fact m.maus (zero_divisor s), tt, refl, is-unlocated (zero_divisor s) met)
+  locate-ends (locate.Place p) met = inr (locate_fact (maus_of ms) (placement p), tt, refl, is-unlocated (placement p) met)
+  locate-ends (locate.Undefined name) met = inr (locate_fact (maus_of ms) (undefined name), tt, refl, is-unlocated (undefined name) met)
+  locate-ends (locate.CommonUnplaced name) met = inr (locate_fact (maus_of ms) (common_unplaced name), tt, refl, is-unlocated (common_unplaced name) met)
+  locate-ends (locate.Cycle name) met = inr (locate_fact (maus_of ms) (cycle name), tt, refl, is-unlocated (cycle name) met)
+  locate-ends (locate.DivideByZero s) met = inr (locate_fact (maus_of ms) (zero_divisor s), tt, refl, is-unlocated (zero_divisor s) met)
   locate-ends (locate.Overflow section address kind size value) met =
-      inr (locate_fact m.maus (overflow section address kind size value), tt, refl, is-unlocated (overflow section address kind size value) met)
-  locate-ends (locate.LoadOutside section address) met = inr (locate_fact m.maus (load_outside section address), tt, refl, is-unlocated (load_outside section address) met)
-  locate-ends (locate.LoadedTwice address) met = inr (locate_fact m.maus (loaded_twice address), tt, refl, is-unlocated (loaded_twice address) met)
-  locate-ends (locate.ImageLimit count) met = inr (locate_fact m.maus (image_limit count), tt, refl, is-unlocated (image_limit count) met)
+      inr (locate_fact (maus_of ms) (overflow section address kind size value), tt, refl, is-unlocated (overflow section address kind size value) met)
+  locate-ends (locate.LoadOutside section address) met = inr (locate_fact (maus_of ms) (load_outside section address), tt, refl, is-unlocated (load_outside section address) met)
+  locate-ends (locate.LoadedTwice address) met = inr (locate_fact (maus_of ms) (loaded_twice address), tt, refl, is-unlocated (loaded_twice address) met)
+  locate-ends (locate.ImageLimit count) met = inr (locate_fact (maus_of ms) (image_limit count), tt, refl, is-unlocated (image_limit count) met)
 
 pub if-ok-map : {A E : Type 0} (r : Result A E) (P Q : A → Type 0) → ((a : A) → P a → Q a) → IfOk r P → IfOk r Q
 if-ok-map (Ok a) P Q along is = along a is

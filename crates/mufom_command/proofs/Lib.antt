@@ -17,3 +17,4 @@ pub mod MadeLaws
 pub mod Determined
 pub mod Headline
 pub mod AddressLaws
+pub mod MakeLaws

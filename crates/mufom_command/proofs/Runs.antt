@@ -12,6 +12,7 @@ use Rattle.mufom_read.proofs.PrefixJudged.{has_one_judgment}
 use Rattle.mufom_read.proofs.SpelledJudged.{judgments_exclude_each_other}
 use Rattle.mufom_text.specs.Image.{image_text}
 use Rattle.mufom_text.specs.Show.{module_text}
+use Rattle.mufom_make.specs.Generated.{made_modules, made_plan, summary}
 use Rattle.mufom_plan.specs.declared.plan.Plan.{Plan}
 use Rattle.mufom_plan.specs.declared.refusal.PlanRefusal.{PlanRefusal}
 use Rattle.mufom_plan.specs.PlanText.{plan_of_text}
@@ -120,7 +121,7 @@ module _ (files : List NamedFile) (bytes : HoldBytes files) (c : Command) where
   work_of-single verb.Link = linking-single linked_file (linked_file-single c)
   work_of-single verb.Locate = linking-single absolute_file (absolute_file-single c)
   work_of-single verb.Dump = linking-single printed_image (printed_image-single c)
-  work_of-single verb.Make = nowhere-single
+  work_of-single verb.Make = then-single (located (made_plan c.count) (made_modules c.count)) (λ r. prints (summary c.count r)) (located-single (made_plan c.count) (made_modules c.count)) (λ r. sure-single (printed (summary c.count r)))
 
 -- A run comes to one end at most.
 pub run_of-single : (words : List (List ℕ)) (files : List NamedFile) → HoldBytes files → IsSingle (run_of words files)

@@ -20,6 +20,7 @@ use Rattle.mufom_meaning.specs.Absolute.{absolute_of, no_regions}
 use Rattle.mufom_meaning.specs.Facts.{LocateFact}
 use Rattle.mufom_meaning.specs.LocateAnswer.{locate_answer}
 use Rattle.mufom_meaning.specs.Location.{IsLocation}
+use Rattle.mufom_make.specs.Generated.{made_modules, made_plan, summary}
 use Rattle.mufom_groups.specs.Work.{gives, stops, Work, ◌>>=◌, sure, one_with, stop_at, nowhere, with_stops}
 use Rattle.mufom_groups.specs.Linked.{joined, linked}
 use Rattle.mufom_command.specs.Stop.{Stop, words_refused, plan_refused, file_refused, past_limit, link_fact, locate_fact}
@@ -117,9 +118,11 @@ linking output files c = do
   flat ← with_stops link_fact (linked (tree_of c.marks) ms)
   output c plan flat
 
--- a command that is not obeyed yet; no words give it
-abbrev pub not_obeyed : List NamedFile → Command → Work Stop Output
-not_obeyed files c = nowhere
+-- The generated modules are located, and the summary of their location is printed. No file is read.
+abbrev pub making : List NamedFile → Command → Work Stop Output
+making files c = do
+  r ← located (made_plan c.count) (made_modules c.count)
+  prints (summary c.count r)
 
 -- The work of each command.
 abbrev pub work_of : Verb → List NamedFile → Command → Work Stop Output
@@ -128,7 +131,7 @@ work_of verb.Check = listing check_text
 work_of verb.Link = linking linked_file
 work_of verb.Locate = linking absolute_file
 work_of verb.Dump = linking printed_image
-work_of verb.Make = not_obeyed
+work_of verb.Make = making
 
 -- the work of the words that give this
 abbrev pub work_by : Result Command WordsStop → List NamedFile → Work Stop Output

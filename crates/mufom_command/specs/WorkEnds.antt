@@ -1,5 +1,5 @@
 -- The answer where modules are not linked or not located.
-use Rattle.std.specs.Prelude.{◌≡◌, ◌⊎◌, ℕ, ◌≤◌, List, length}
+use Rattle.std.specs.Prelude.{◌≡◌, ◌⊎◌, ℕ, ◌≤◌, List, length, false}
 use Rattle.mufom_image.specs.declared.refusal.LocateRefusal.{LocateRefusal}
 use Rattle.mufom_image.specs.declared.refusal.LocateRefusal.TheVariants as locate
 use Rattle.mufom_link.specs.declared.refusal.LinkRefusal.{LinkRefusal}
@@ -10,7 +10,8 @@ use Rattle.mufom_meaning.specs.declared.located.LocatedParts.{LocatedParts}
 use Rattle.mufom_meaning.specs.Staging.{AreValid}
 use Rattle.mufom_meaning.specs.StagingLaws.{total_weight}
 use Rattle.mufom_words.specs.declared.command.Command.{Command}
-use Rattle.mufom_words.specs.Sound.{IsObeyed, IsSound}
+use Rattle.mufom_words.specs.Options.{makes_modules}
+use Rattle.mufom_words.specs.Sound.{IsSound}
 use Rattle.mufom_words.specs.Tree.{tree_of}
 use Rattle.mufom_groups.specs.Groups.{most_weight}
 use Rattle.mufom_groups.specs.Linked.{linked}
@@ -34,7 +35,7 @@ outcome_of_locate maus r = outcome.Refused (refusal.Locate r maus)
 -- what linking asks of a command and of the modules of its files
 pub record AreLinkable (c : Command) (ms : List Parts) : Type 0 where
   pub sound : IsSound c
-  pub obeyed : IsObeyed c
+  pub of_files : makes_modules c.verb ≡ false
   pub count : length ms ≡ length c.files
   pub valid : AreValid ms
   pub light : total_weight ms ≤ most_weight

@@ -2,16 +2,17 @@
 
 ghost use Rattle.std.specs.Prelude.{◌≡◌, ◌<◌, ◌^◌, length, map};
 ghost use Rattle.std.specs.String.{string_bytes};
-ghost use Rattle.mufom_words.specs.Sound.{IsObeyed, IsSound};
+ghost use Rattle.mufom_words.specs.Sound.{IsSound};
 ghost use Rattle.mufom_command.specs.Commands.{work_of};
 ghost use Rattle.mufom_command.specs.Run.{call_of, Answers, Does, DoesWords, IsComplete, NoneFalls, Opens, PrintsErrorLine, stop_answer};
 
 use crate::error_line::print_error_line;
 use crate::linking::{dump, link, locate_files};
 use crate::listing::{check, show};
+use crate::making::make;
 use crate::outcome::{Outcome, Refusal};
 use mufom_host::Host;
-use mufom_words::{Command, UsageFault, Verb, WordsStop, read_words};
+use mufom_words::{Command, Verb, WordsStop, read_words};
 use std::alloc::Global;
 
 // The answer to words that are no command.
@@ -29,7 +30,6 @@ fn outcome_of_stop(stop: WordsStop) -> Outcome
 // The command is done; the answer is whose error line is not printed yet.
 fn run_command<H: Host>(alloc: Global, command: &Command, host: &mut H) -> Outcome
     requires sound { IsSound command.now }
-    requires obeyed { IsObeyed command.now }
     ensures { Does command.now (λ files. work_of command.now.verb files command.now) (call_of H.meaning H.faults host.old host.new) result }
 {
     match command.verb {
@@ -38,8 +38,7 @@ fn run_command<H: Host>(alloc: Global, command: &Command, host: &mut H) -> Outco
         Verb::Link => link(alloc, command, host),
         Verb::Locate => locate_files(alloc, command, host),
         Verb::Dump => dump(alloc, command, host),
-        // No words give it yet.
-        Verb::Make => Outcome::Usage(UsageFault::NoCommand),
+        Verb::Make => make(alloc, command, host),
     }
 }
 
@@ -55,7 +54,7 @@ fn answer<H: Host>(alloc: Global, words: &[String], host: &mut H) -> Outcome
 }
 
 /// Runs the command that the words name: `show FILE`, `check FILE ...`, `link -o OUT FILES`,
-/// `locate -o OUT FILES` or `dump FILES`, each with its options.
+/// `locate -o OUT FILES`, `dump FILES` or `make COUNT`, each with its options.
 ///
 /// `words` are the command line's words without the program's name, fewer than 2^32. The plan is
 /// read first, where one is named, and then the files. Every outcome but `Done` prints one error line;

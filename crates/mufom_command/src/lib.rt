@@ -3,7 +3,8 @@
 //!
 //! `show FILE` prints the text of a module, and `check FILE ...` a line for each module. `link`
 //! makes a file of the module into which modules are linked, with groups and members; `locate` makes a
-//! file of the absolute module of its location by a plan, and `dump` prints the image. The main clause
+//! file of the absolute module of its location by a plan, and `dump` prints the image. `make` generates
+//! modules, locates them and prints a summary. The main clause
 //! is the contract of [`run`]: each answer has its cause in the words, the files or the counts of
 //! faults, and what was put out, printed as errors and opened is stated exactly.
 #![tactic(auto)]
@@ -17,6 +18,7 @@ mod lines;
 mod linking;
 mod listing;
 mod locate_text;
+mod making;
 mod outcome;
 mod plan_file;
 mod writing;

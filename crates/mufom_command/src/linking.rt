@@ -1,6 +1,6 @@
 //! The commands that link files, and put out what the link comes to: `link`, `locate` and `dump`.
 
-ghost use Rattle.std.specs.Prelude.{◌≡◌, ◌≤◌, ◌<◌, ◌+◌, ◌^◌, ◌∷◌, [], ℕ, length, None, Some, List as list, IfErr, IfOk, IsSome};
+ghost use Rattle.std.specs.Prelude.{◌≡◌, ◌≤◌, ◌<◌, ◌+◌, ◌^◌, ◌∷◌, [], ℕ, length, None, Some, List as list, IfErr, IfOk, IsSome, false};
 ghost use Rattle.mufom_host.specs.World.{OnlyPrints};
 ghost use Rattle.mufom_names.specs.Names.{names_of, AreDistinct};
 ghost use Rattle.mufom_module.specs.Defects.{IsValid};
@@ -11,7 +11,8 @@ ghost use Rattle.mufom_meaning.specs.Staging.{AreValid};
 ghost use Rattle.mufom_meaning.specs.StagingLaws.{total_weight};
 ghost use Rattle.mufom_image.specs.Placements.{IsSoundPlan};
 ghost use Rattle.mufom_text.specs.Image.{image_text};
-ghost use Rattle.mufom_words.specs.Sound.{IsObeyed, IsSound};
+ghost use Rattle.mufom_words.specs.Options.{makes_modules};
+ghost use Rattle.mufom_words.specs.Sound.{IsSound};
 ghost use Rattle.mufom_groups.specs.Groups.{most_weight};
 ghost use Rattle.mufom_groups.specs.Linked.{linked_module};
 ghost use Rattle.mufom_groups.specs.Work.{gives, with_stops};
@@ -45,8 +46,8 @@ fn outcome_of_link(refusal: LinkRefusal) -> Outcome
     }
 }
 
-// The answer where a module whose addresses have this number of units is not located.
-fn outcome_of_locate(maus: u8, refusal: LocateRefusal) -> Outcome
+/// The answer where modules whose addresses have this number of units are not located.
+pub(crate) fn outcome_of_locate(maus: u8, refusal: LocateRefusal) -> Outcome
     ensures { result ≡ outcome_of_locate maus refusal }
 {
     match refusal {
@@ -148,7 +149,7 @@ fn print_located<H: Host>(alloc: Global, located: &Located, host: &mut H) -> Out
 /// Reads the files of the command, links their modules, and makes a file of the link.
 pub(crate) fn link<H: Host>(alloc: Global, command: &Command, host: &mut H) -> Outcome
     requires sound { IsSound command.now }
-    requires obeyed { IsObeyed command.now }
+    requires of_files { makes_modules command.now.verb ≡ false }
     requires file { IsSome command.now.out }
     ensures { Does command.now (λ files. linking linked_file files command.now) (call_of H.meaning H.faults host.old host.new) result }
 {
@@ -166,7 +167,7 @@ pub(crate) fn link<H: Host>(alloc: Global, command: &Command, host: &mut H) -> O
 /// of the absolute module.
 pub(crate) fn locate_files<H: Host>(alloc: Global, command: &Command, host: &mut H) -> Outcome
     requires sound { IsSound command.now }
-    requires obeyed { IsObeyed command.now }
+    requires of_files { makes_modules command.now.verb ≡ false }
     requires unnamed { command.now.name ≡ None }
     requires file { IsSome command.now.out }
     ensures { Does command.now (λ files. linking absolute_file files command.now) (call_of H.meaning H.faults host.old host.new) result }
@@ -185,7 +186,7 @@ pub(crate) fn locate_files<H: Host>(alloc: Global, command: &Command, host: &mut
 /// image.
 pub(crate) fn dump<H: Host>(alloc: Global, command: &Command, host: &mut H) -> Outcome
     requires sound { IsSound command.now }
-    requires obeyed { IsObeyed command.now }
+    requires of_files { makes_modules command.now.verb ≡ false }
     requires unnamed { command.now.name ≡ None }
     requires no_file { command.now.out ≡ None }
     ensures { Does command.now (λ files. linking printed_image files command.now) (call_of H.meaning H.faults host.old host.new) result }
