@@ -1,5 +1,5 @@
 -- The answer where modules are not linked or not located.
-use Rattle.std.proofs.Common.{◌≡◌, List, [], ◌∷◌, Option, Some, Result, Ok, Err, IfSome, IfOk, IfErr, refl, sym, ap, subst, inl, inr}
+use Rattle.std.proofs.Common.{◌≡◌, List, Option, Some, Result, Ok, Err, IfSome, IfOk, IfErr, refl, sym, ap, subst, inl, inr}
 use Rattle.mufom_host.specs.World.{Faults, Meaning, NamedFile, GrowsBy, OnlyOpens}
 use Rattle.mufom_module.specs.declared.module.Parts.{Parts}
 use Rattle.mufom_plan.specs.declared.plan.Plan.{Plan}

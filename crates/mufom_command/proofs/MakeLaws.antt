@@ -1,5 +1,5 @@
 -- What `make` has done: it reads no input.
-use Rattle.std.proofs.Common.{◌≡◌, ℕ, zero, suc, ◌≤◌, List, [], ◌++◌, Option, Some, None, IfSome, refl, sym, ap, subst, ◌∙◌, arith, inl, inr}
+use Rattle.std.proofs.Common.{◌≡◌, ℕ, zero, suc, ◌≤◌, List, [], ◌++◌, Option, Some, None, IfSome, refl, sym, subst, arith, inl, inr}
 use Rattle.std.specs.Prelude.{option_to_list}
 use Rattle.mufom_host.specs.World.{Faults, Meaning, NamedFile, GrowsBy, KeepsAllButOut, KeepsAllButWrites, OnlyOpens}
 use Rattle.mufom_host.proofs.Composing.{GrowsBy-refl}
@@ -8,7 +8,6 @@ use Rattle.mufom_make.specs.Generated.{made_modules, made_plan, summary}
 use Rattle.mufom_words.specs.declared.command.Command.{Command}
 use Rattle.mufom_groups.specs.Work.{gives, stops}
 use Rattle.mufom_command.specs.declared.outcome.Outcome.{Outcome}
-use Rattle.mufom_command.specs.Stop.{Stop}
 use Rattle.mufom_command.specs.Commands.{located, making, maus_of, printed}
 use Rattle.mufom_command.specs.Making.{IsPrinted}
 use Rattle.mufom_command.specs.Run.{Does, inputs_of}
