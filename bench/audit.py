@@ -12,6 +12,8 @@ import os, re, sys
 
 # The functions whose clauses are what there is to trust: file of the crate, and name (None: each in the file).
 ROOTS = [("mufom_command/src/command.rt", "run"), ("mufom_command/src/laws.rt", None), ("mufom_groups/src/laws.rt", None)]
+# The crates whose definitions are those of the format.
+FORMAT = {"mufom_numbers", "mufom_expr", "mufom_records", "mufom_sections", "mufom_names", "mufom_loads", "mufom_debug", "mufom_module", "mufom_read"}
 PAGE = "docs/AUDIT.md"
 WORD = re.compile(r"[^\s(){}\[\],;:.λ→×⊎∷≡]+")
 # A line that begins a definition: all other lines go on with the one before.
@@ -139,14 +141,17 @@ def main():
             "## The clauses", "", "| function | lines | file |", "|---|---|---|"]
     page += [f"| `{name}` | {count} | `crates/{path}` |" for path, name, count in lines]
     page += ["", "## The definitions, in the order in which they are reached", "", "| file | definitions | lines |", "|---|---|---|"]
-    total = 0
+    total, of_format = 0, 0
     for place in order:
         numbers = reached.get(place, ())
         count = sum(len(specs[place].blocks[it]["lines"]) for it in numbers)
         total += count
+        of_format += count if place.split("/")[1] in FORMAT else 0
         page.append(f"| `{place}` | {len(numbers)} | {count} |")
     page += ["", f"{len(order)} files, {sum(len(it) for it in reached.values())} definitions, {total} lines with their comments. They speak of"
-             f" {len(types)} types that Rust declares, and of {len(library)} definitions of the toolchain's library.", ""]
+             f" {len(types)} types that Rust declares, and of {len(library)} definitions of the toolchain's library.", "",
+             f"{of_format} of the lines are the format alone: how numbers, expressions and records are spelled, which bytes are the file of a module, and",
+             "the faults of reading and of modules. What is stated of linking, locating and runs is the rest.", ""]
     text = "\n".join(page)
     if "--check" in sys.argv:
         same = os.path.isfile(PAGE) and read(PAGE) == text
