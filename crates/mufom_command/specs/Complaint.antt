@@ -72,7 +72,6 @@ reason_text why.BlockNesting = codes "BlockNesting"
 reason_text why.Depth = codes "Depth"
 reason_text why.AfterEnd = codes "AfterEnd"
 reason_text why.FileLimit = codes "FileLimit"
-reason_text why.NotBuilt = codes "NotBuilt"
 
 abbrev pub usage_text : UsageFault → Text
 usage_text usage.NoCommand = codes "no command"

@@ -57,7 +57,6 @@ fn reason_name(reason: Reason) -> &'static str
         Reason::Depth => "Depth",
         Reason::AfterEnd => "AfterEnd",
         Reason::FileLimit => "FileLimit",
-        Reason::NotBuilt => "NotBuilt",
     }
 }
 

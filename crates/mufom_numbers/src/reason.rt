@@ -70,6 +70,4 @@ pub enum Reason {
     AfterEnd,
     /// The stream is longer than 67,108,864 bytes.
     FileLimit,
-    /// The bytes may be a module, of a kind that this release does not read yet.
-    NotBuilt,
 }

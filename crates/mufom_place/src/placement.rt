@@ -75,7 +75,8 @@ pub fn place(
     ensures placed { OnOk result (place_refusal width plan.now (sections_before commons sections.now) (last_sections commons sections.now) ≡ None) }
 
     // A refusal is the first thing that keeps them, or there was no memory.
-    ensures refused { IfErr result (IsAnswer (place_refusal width plan.now (sections_before commons sections.now) (last_sections commons sections.now))) }
+    ensures refused { IfErr result
+        (IsAnswer (place_refusal width plan.now (sections_before commons sections.now) (last_sections commons sections.now))) }
 {
     let (plain, last) = sections.split_at(sections.len() - commons as usize);
     let placings = regional(alloc, plain, last, plan)?;

@@ -261,7 +261,8 @@ impl Debugs {
         tree: Option<Postfix>,
     ) -> Result<(), NoMemory>
         requires own { HasOwnParts (kept_of_seen seen.now) }
-        requires tree { parts.stands_in parts.debug_part seen.now.row ≡ true → tree ≡ records.tree_of_record (record_of_kept (kept_of_seen seen.now)) }
+        requires tree { parts.stands_in parts.debug_part seen.now.row ≡ true
+            → tree ≡ records.tree_of_record (record_of_kept (kept_of_seen seen.now)) }
         requires kind { HasKind seen.now.row }
         requires nested { faults.ends_badly (opened self.old) seen.now.row ≡ false }
         ensures marks { OnOk result (marks_kept self.new ≡ marks_kept self.old
