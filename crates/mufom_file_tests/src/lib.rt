@@ -6,6 +6,8 @@
 #[cfg(test)]
 mod entries;
 #[cfg(test)]
+mod every_kind;
+#[cfg(test)]
 mod show;
 #[cfg(test)]
 mod write;

@@ -44,9 +44,9 @@ flag : answer_of (codes "show" ∷ codes "--no-debug" ∷ codes "a" ∷ []) ≡ 
 unfolding clap_on_literals
 flag = refl
 
-flag_behind_files : answer_of (codes "check" ∷ codes "a" ∷ codes "b" ∷ codes "--no-debug" ∷ []) ≡ Ok (of_files verb.Check true (codes "a" ∷ codes "b" ∷ []))
+flag_after_files : answer_of (codes "check" ∷ codes "a" ∷ codes "b" ∷ codes "--no-debug" ∷ []) ≡ Ok (of_files verb.Check true (codes "a" ∷ codes "b" ∷ []))
 unfolding clap_on_literals
-flag_behind_files = refl
+flag_after_files = refl
 
 flag_between_files : answer_of (codes "check" ∷ codes "a" ∷ codes "--no-debug" ∷ codes "b" ∷ []) ≡ Ok (of_files verb.Check true (codes "a" ∷ codes "b" ∷ []))
 unfolding clap_on_literals
@@ -156,9 +156,9 @@ bracket_before_count : answer_of (codes "show" ∷ codes "a" ∷ codes "b" ∷ c
 unfolding clap_on_literals
 bracket_before_count = refl
 
-bracket_behind_options_end : answer_of (codes "check" ∷ codes "--" ∷ codes "[" ∷ []) ≡ Err (stop.Usage fault.StrayBracket)
+bracket_after_options_end : answer_of (codes "check" ∷ codes "--" ∷ codes "[" ∷ []) ≡ Err (stop.Usage fault.StrayBracket)
 unfolding clap_on_literals
-bracket_behind_options_end = refl
+bracket_after_options_end = refl
 
 -- ---- the limit
 

@@ -81,7 +81,7 @@ fn commands_have_their_files_in_order(rt: HostRuntime) -> Result<(), Fail> {
 }
 
 #[test]
-fn an_option_stands_before_between_and_behind_files(rt: HostRuntime) -> Result<(), Fail> {
+fn an_option_stands_before_between_and_after_files(rt: HostRuntime) -> Result<(), Fail> {
     let alloc = rt.alloc();
     gives(
         &rt,
