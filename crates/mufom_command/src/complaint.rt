@@ -5,7 +5,6 @@ ghost use Rattle.std.specs.String.{string_bytes};
 ghost use Rattle.mufom_text.specs.Show.{order_letter};
 ghost use Rattle.mufom_command.specs.Complaint.{complaint, field_text, plan_text, reason_text};
 
-use crate::lines::quoted;
 use crate::locate_text::{push_locate, push_region};
 use crate::outcome::{Input, Outcome, Refusal};
 use mufom_image::LocateRefusal;
@@ -15,6 +14,7 @@ use mufom_module::Order;
 use mufom_numbers::{Bytes, NoMemory, Reason};
 use mufom_plan::{PlanField, PlanRefusal};
 use mufom_read::ReadRefusal;
+use mufom_text::quoted_name;
 use mufom_words::UsageFault;
 use std::alloc::Global;
 
@@ -134,7 +134,7 @@ fn duplicate_line(alloc: Global, name: &Bytes) -> Result<Vec<u8>, NoMemory>
     ensures { IfOk result (λ text. text.items ≡ complaint (Outcome.Refused (Refusal.Link (LinkRefusal.Duplicate name.now)))) }
 {
     let mut line = Vec::from_slice(alloc, b"refused: link: Duplicate ")?;
-    line.extend_from_slice(quoted(alloc, name.as_slice())?.as_slice())?;
+    line.extend_from_slice(quoted_name(alloc, name.as_slice())?.as_slice())?;
     line.push(b'\n')?;
     Ok(line)
 }

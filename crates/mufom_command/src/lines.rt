@@ -4,11 +4,12 @@ ghost use Rattle.std.specs.Prelude.{◌≡◌, ◌<◌, ◌^◌, ◌++◌, lengt
 ghost use Rattle.std.specs.String.{string_bytes};
 ghost use Rattle.mufom_debug.specs.Marks.{marks_of, marks_of_item};
 ghost use Rattle.mufom_module.specs.Weights.{capped};
-ghost use Rattle.mufom_command.specs.Text.{check_line, check_text, counts_text, item_count, line, quoted, quoted_byte};
+ghost use Rattle.mufom_command.specs.Text.{check_line, check_text, counts_text, item_count, line};
 
 use mufom_debug::DebugItem;
 use mufom_module::Module;
 use mufom_numbers::NoMemory;
+use mufom_text::quoted_name;
 use std::alloc::Global;
 
 // How many items an item is, with those inside of it. Counts stop at the greatest of 64 bits.
@@ -42,31 +43,6 @@ fn debug_total(object: &Module) -> u64
     items_total(object.parts().debug.as_slice())
 }
 
-fn push_quoted_byte(alloc: Global, text: &mut Vec<u8>, byte: u8) -> Result<(), NoMemory>
-    ensures { OnOk result (text.new.items ≡ text.old.items ++ quoted_byte byte) }
-{
-    if (0x20..=0x7E).contains(&byte) && byte != b'"' && byte != b'\\' {
-        text.push(byte)?;
-    } else {
-        text.extend_from_slice(b"\\x")?;
-        text.extend_from_slice(hex::encode_upper(alloc, [byte])?.as_bytes())?;
-    }
-    Ok(())
-}
-
-/// A name in double quotes.
-pub(crate) fn quoted(alloc: Global, name: &[u8]) -> Result<Vec<u8>, NoMemory>
-    ensures { IfOk result (λ text. text.items ≡ quoted name.now) }
-{
-    let mut text = Vec::new(alloc);
-    text.push(b'"')?;
-    for byte in name {
-        push_quoted_byte(alloc, &mut text, *byte)?;
-    }
-    text.push(b'"')?;
-    Ok(text)
-}
-
 // The part of a line after the name.
 fn counts_text(alloc: Global, object: &Module) -> Result<String, NoMemory>
     ensures { IfOk result (λ text. string_bytes text ≡ line (counts_text object.now)) }
@@ -93,7 +69,7 @@ fn push_line(
 {
     let prefix = format!(in alloc; "file {number} ")?;
     text.extend_from_slice(prefix.as_bytes())?;
-    text.extend_from_slice(quoted(alloc, object.parts().name.as_slice())?.as_slice())?;
+    text.extend_from_slice(quoted_name(alloc, object.parts().name.as_slice())?.as_slice())?;
     text.extend_from_slice(counts_text(alloc, object)?.as_bytes())?;
     Ok(())
 }

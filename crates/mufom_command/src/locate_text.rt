@@ -8,12 +8,12 @@ ghost use Rattle.mufom_text.specs.Show.{kind_text};
 ghost use Rattle.mufom_text.specs.Words.{quoted as quoted_text};
 ghost use Rattle.mufom_command.specs.Complaint.{locate_text, place_text, region_text, site_text};
 
-use crate::lines::quoted;
 use mufom_expr::FieldKind;
 use mufom_image::LocateRefusal;
 use mufom_meaning::Site;
 use mufom_numbers::{Bytes, NoMemory};
 use mufom_place::PlaceRefusal;
+use mufom_text::quoted_name;
 use std::alloc::Global;
 
 // The byte at a place of a number, the least significant at 0.
@@ -75,7 +75,7 @@ fn push_at(
 fn push_quoted(alloc: Global, text: &mut Vec<u8>, name: &Bytes) -> Result<(), NoMemory>
     ensures { OnOk result (text.new.items ≡ text.old.items ++ quoted_text name.now) }
 {
-    text.extend_from_slice(quoted(alloc, name.as_slice())?.as_slice())?;
+    text.extend_from_slice(quoted_name(alloc, name.as_slice())?.as_slice())?;
     Ok(())
 }
 

@@ -2,7 +2,7 @@
 //! `dump` prints it, with the loaded bytes, the start, the publics and the debug addresses.
 //!
 //! It stands on the crates of a module's entries, `mufom_module`, `mufom_host`, `mufom_meaning` and `mufom_located` for what
-//! a location is, `itoa` and `thiserror`, and its definitions on `hex`. All lines are put by functions over one
+//! a location is, `itoa`, `hex` and `thiserror`. All lines are put by functions over one
 //! trait, and a page of a fixed size implements it: the text goes through the page to a host, so that
 //! no text is ever held whole. Its main clauses are those of [`print_module`] and [`print_image`]: the output
 //! grows by exactly the text, or a print failed, its count of faults rose, and the output grew
@@ -19,10 +19,12 @@ mod names;
 mod output;
 mod page;
 mod print;
+mod quoting;
 mod sections;
 mod show;
 mod words;
 
 pub use image_lines::print_image;
 pub use print::PrintStop;
+pub use quoting::quoted_name;
 pub use show::print_module;

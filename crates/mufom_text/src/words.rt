@@ -6,6 +6,7 @@ ghost use Rattle.hex.specs.Hex.{encode_upper};
 ghost use Rattle.mufom_text.specs.Words.{quoted, quoted_byte, spaced_numbers, hex_bytes, indent};
 
 use crate::output::Output;
+use crate::quoting::stands_for_itself;
 use itoa::Buffer;
 
 // The upper-case hexadecimal digits.
@@ -73,7 +74,7 @@ fn escaped_byte<K: Output>(out: &mut K, byte: u8)
 fn quoted_byte<K: Output>(out: &mut K, byte: u8)
     ensures { K.takes out.old out.new (quoted_byte byte) }
 {
-    if (0x20..=0x7E).contains(&byte) && byte != b'"' && byte != b'\\' {
+    if stands_for_itself(byte) {
         out.put(&[byte]);
     } else {
         escaped_byte(out, byte);
