@@ -2,8 +2,6 @@
 use Rattle.std.proofs.Common.{◌≡◌, ◌<◌, ◌≤◌, List, [], ◌∷◌, length, Some, None, option_map, refl, sym, ◌∙◌, arith, Ok, subst, ℕ}
 use Rattle.mufom_expr.specs.Tree.{Tree}
 use Rattle.mufom_module.specs.declared.module.Parts.{Parts}
-use Rattle.mufom_module.specs.Defects.{IsValid, first_defect}
-use Rattle.mufom_module.specs.declared.module.Defect.{Defect}
 use Rattle.mufom_place.specs.Facts.{◌or_else◌}
 use Rattle.mufom_names.specs.Index.{Entry}
 use Rattle.mufom_meaning.specs.Flat.{flat_sections, flat_starts, public_names}
@@ -57,11 +55,7 @@ linkable ms index count alike new counted few = nothing-refused ms (sym alike) (
 
 -- what the laws state of the link of such a list
 pub stands : (ms : List Parts) (M parts : Parts) (name : List ℕ) → JoinedStandsFor → NoLinkAnswerIsLinkable → link_answer ms ≡ None
-    → M ≡ parts → IsValid M → IsJoined parts ms name → AreValid ms
+    → M ≡ parts → IsJoined parts ms name → AreValid ms
     → StandsFor M ms × (M.sections ≡ flat_sections ms) × (public_names (M ∷ []) ≡ public_names ms) × HasSettledReferences M
-stands ms M parts name law answer none same valid link all =
+stands ms M parts name law answer none same link all =
     law M ms name (subst (λ (m : Parts). IsJoined m ms name) (sym same) link) all
-
--- parts without a defect have no first one
-pub no_first_defect : (m : Parts) (d : Defect) → IsValid m → first_defect m ≡ Some d → ⊥
-no_first_defect m d valid e = let clash : None ≡ Some d = sym valid ∙ e in cc

@@ -17,7 +17,7 @@ use crate::references::References;
 use crate::refusal::LinkRefusal;
 use mufom_copies::copy_bytes;
 use mufom_meaning::{joined_is_valid, joined_stands_for, no_link_answer_is_linkable};
-use mufom_module::{Module, Parts, assemble};
+use mufom_module::{Module, Parts};
 use mufom_names::{NameIndex, NameTable, Reference};
 use mufom_numbers::{Bytes, List, NoMemory};
 use std::alloc::Global;
@@ -119,8 +119,5 @@ pub fn link(alloc: Global, list: &[Module], name: &[u8]) -> Result<Module, LinkR
     }
     let parts = join(alloc, list, name, &publics)?;
     laws();
-    match assemble(parts) {
-        Ok(module) => Ok(module),
-        Err(_) => unreachable!(),
-    }
+    Ok(Module::sound(parts))
 }

@@ -5,7 +5,7 @@ use Rattle.mufom_meaning.specs.Joined.{IsJoined}
 use Rattle.mufom_link.specs.Refusals.{IsRefusalOf}
 use Rattle.mufom_link.proofs.CountLaws.{all-public-names}
 use Rattle.mufom_link.proofs.PublicsLaws.{indexed-all}
-use Rattle.mufom_link.proofs.RefusalLaws.{names-refused, starts-refused, linkable, stands, no_first_defect}
+use Rattle.mufom_link.proofs.RefusalLaws.{names-refused, starts-refused, linkable, stands}
 use Rattle.mufom_link.proofs.linking.link.Goals as goal
 
 pub index_publics-requires : goal.index_publics-requires
@@ -28,11 +28,8 @@ returns-then-start_count-gt1-clause-refused c =
 pub join-requires-clause-publics : goal.join-requires-clause-publics
 join-requires-clause-publics c = (indexed-all (public_names c.args.list.now) c.in_ok-publics.publics c.in_ok-publics.ensures).1
 
-pub unreachable-requires : goal.unreachable-requires
-unreachable-requires c =
-    let parts = c.in_ok-parts.parts in
-    let sound = c.laws.ensures.valid parts c.args.list.now c.args.name.now c.in_ok-parts.ensures.joined c.in_ok-parts.ensures.valid in
-    no_first_defect parts c.in-Err.field-0.1 (sound.valid c.requires.short c.requires.light) c.in-Err.ensures.first
+pub sound-requires : goal.sound-requires
+sound-requires c = (c.laws.ensures.valid c.in_ok-parts.parts c.args.list.now c.args.name.now c.in_ok-parts.ensures.joined c.in_ok-parts.ensures.valid).valid c.requires.short c.requires.light
 
 pub returns-clause-linkable : goal.returns-clause-linkable
 returns-clause-linkable c =
@@ -41,22 +38,22 @@ returns-clause-linkable c =
 pub returns-clause-stands : goal.returns-clause-stands
 returns-clause-stands c =
     let none = linkable c.args.list.now c.in_ok-publics.publics c.start_count.result c.in_default.ensures c.in_ok-publics.ensures c.start_count.ensures c.if-start_count-gt1.false in
-    (stands c.args.list.now c.in-Ok.module c.in_ok-parts.parts c.args.name.now c.laws.ensures.stands c.laws.ensures.linkable none
-    c.in-Ok.ensures.same c.in-Ok.ensures.valid c.in_ok-parts.ensures.joined c.in_ok-parts.ensures.valid).0
+    (stands c.args.list.now c.sound.result c.in_ok-parts.parts c.args.name.now c.laws.ensures.stands c.laws.ensures.linkable none
+    c.sound.ensures.same c.in_ok-parts.ensures.joined c.in_ok-parts.ensures.valid).0
 
 pub returns-clause-names : goal.returns-clause-names
 returns-clause-names c =
     let none = linkable c.args.list.now c.in_ok-publics.publics c.start_count.result c.in_default.ensures c.in_ok-publics.ensures c.start_count.ensures c.if-start_count-gt1.false in
-    (stands c.args.list.now c.in-Ok.module c.in_ok-parts.parts c.args.name.now c.laws.ensures.stands c.laws.ensures.linkable none
-    c.in-Ok.ensures.same c.in-Ok.ensures.valid c.in_ok-parts.ensures.joined c.in_ok-parts.ensures.valid).2
+    (stands c.args.list.now c.sound.result c.in_ok-parts.parts c.args.name.now c.laws.ensures.stands c.laws.ensures.linkable none
+    c.sound.ensures.same c.in_ok-parts.ensures.joined c.in_ok-parts.ensures.valid).2
 
 pub returns-clause-settled : goal.returns-clause-settled
 returns-clause-settled c =
     let none = linkable c.args.list.now c.in_ok-publics.publics c.start_count.result c.in_default.ensures c.in_ok-publics.ensures c.start_count.ensures c.if-start_count-gt1.false in
-    (stands c.args.list.now c.in-Ok.module c.in_ok-parts.parts c.args.name.now c.laws.ensures.stands c.laws.ensures.linkable none
-    c.in-Ok.ensures.same c.in-Ok.ensures.valid c.in_ok-parts.ensures.joined c.in_ok-parts.ensures.valid).3
+    (stands c.args.list.now c.sound.result c.in_ok-parts.parts c.args.name.now c.laws.ensures.stands c.laws.ensures.linkable none
+    c.sound.ensures.same c.in_ok-parts.ensures.joined c.in_ok-parts.ensures.valid).3
 
 pub returns-clause-weighs : goal.returns-clause-weighs
 returns-clause-weighs c =
-    let linked = subst (λ (M : Parts). IsJoined M c.args.list.now c.args.name.now) (sym c.in-Ok.ensures.same) c.in_ok-parts.ensures.joined in
-    (c.laws.ensures.valid c.in-Ok.module c.args.list.now c.args.name.now linked c.in_ok-parts.ensures.valid).weighs
+    let linked = subst (λ (M : Parts). IsJoined M c.args.list.now c.args.name.now) (sym c.sound.ensures.same) c.in_ok-parts.ensures.joined in
+    (c.laws.ensures.valid c.sound.result c.args.list.now c.args.name.now linked c.in_ok-parts.ensures.valid).weighs
