@@ -64,12 +64,15 @@ fn resolved(
     Ok(all)
 }
 
-/// What each reference of a module stands for, in order.
+/// What each reference of a module stands for, in order. No name is looked at where there is no reference.
 pub fn resolve_references(alloc: Global, module: &Module) -> Result<List<Meeting>, NoMemory>
     ensures { IfOk result (λ meetings. meetings ≡ meetings_of «module».now) }
 {
     let names = &module.parts().names;
     let references = names.references.as_slice();
+    if references.is_empty() {
+        return Ok(List::new(alloc));
+    }
     let publics = index_of_publics(alloc, names.publics.as_slice())?;
     let commons = index_of_commons(alloc, &publics, references)?;
     let meetings = resolved(alloc, &publics, &commons, references)?;
