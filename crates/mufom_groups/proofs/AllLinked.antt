@@ -1,17 +1,19 @@
 -- The parts of the link of a command's modules, as the calls that do them answer.
-use Rattle.std.proofs.Common.{◌≡◌, ℕ, ◌≤◌, List, [], ◌∷◌, length, take, drop, None, Result, Ok, Err, IfOk, IfErr, unwrap_or, sym, ◌∙◌, ap, subst, arith}
+use Rattle.std.proofs.Common.{◌≡◌, ℕ, ◌+◌, ◌≤◌, ◌<◌, ◌^◌, List, [], ◌∷◌, ◌++◌, length, take, drop, None, Result, Ok, Err, IfOk, IfErr, unwrap_or, sym, ◌∙◌, ap, subst, arith}
 use Rattle.mufom_module.specs.declared.module.Parts.{Parts}
+use Rattle.mufom_module.specs.Written.{weight}
 use Rattle.mufom_link.specs.declared.refusal.LinkRefusal.{LinkRefusal}
 use Rattle.mufom_link.specs.Refusals.{IsRefusalOf}
 use Rattle.mufom_meaning.specs.Joined.{IsJoined}
 use Rattle.mufom_meaning.specs.LinkAnswer.{link_answer}
+use Rattle.mufom_meaning.specs.Selection.{members_at}
 use Rattle.mufom_meaning.specs.Staging.{AreValid}
 use Rattle.mufom_meaning.specs.StagingLaws.{total_weight}
 use Rattle.mufom_words.specs.declared.command.Command.{Command}
 use Rattle.mufom_words.specs.declared.command.Mark.{Mark}
 use Rattle.mufom_words.specs.Sound.{HasTree, numbers_from}
 use Rattle.mufom_words.specs.Tree.{leaves, tree_of}
-use Rattle.mufom_groups.specs.Groups.{AreRootsLinked, HasSelected, StopsWork, most_weight}
+use Rattle.mufom_groups.specs.Groups.{AreRootsLinked, BeginsWithLink, HasSelected, IsOwnLink, StopsWork, most_weight}
 use Rattle.mufom_groups.specs.Linked.{first_name, linked_module, links, members, tree_links}
 use Rattle.mufom_groups.specs.Work.{gives}
 use Rattle.mufom_groups.proofs.LinkWalk.{weight-append, weight-split}
@@ -57,3 +59,29 @@ flat-light ms light k marks rs others two flat read is_roots is_members first ha
     let own = first.light in
     let flat_light = has.light in
     omega (arith, light, split, roots, rest, all, one, sum, own, flat_light)
+
+-- the flat list begins with the link of the roots
+pub begins-with-link : (marks : List Mark) (rs others two flat : List Parts) → AreRootsLinked marks rs two → HasSelected two others flat → BeginsWithLink flat
+begins-with-link marks rs others two flat first has = record {
+  first = first.link;
+  others = members_at others has.chosen;
+  list = has.flat_list ∙ ap (λ (l : List Parts). l ++ members_at others has.chosen) first.new_list;
+  own = first.own;
+}
+
+-- alone it is its own link
+module _ (flat : List Parts) (M : Parts) (begins : BeginsWithLink flat) (one : flat ≡ M ∷ []) where
+  own-link : IsOwnLink M
+  own-link =
+      let list = begins.list in
+      let same : begins.first ≡ M = cc in
+      subst IsOwnLink same begins.own
+
+  pub joined-alone : IsJoined M flat (first_name flat)
+  joined-alone = subst (λ (l : List Parts). IsJoined M l (first_name l)) (sym one) own-link.joined
+
+  pub linkable-alone : link_answer flat ≡ None
+  linkable-alone = ap link_answer one ∙ own-link.linkable
+
+  pub light-alone : total_weight flat ≤ most_weight → weight M < most_weight + 2 ^ 16
+  light-alone light = let same : total_weight flat ≡ 0 + weight M = ap total_weight one in omega (arith, light, same)

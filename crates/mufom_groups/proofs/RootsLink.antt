@@ -17,6 +17,7 @@ use Rattle.mufom_groups.specs.Linked.{links, roots, tree_links, unless_fact}
 use Rattle.mufom_groups.specs.Work.{Work, stops}
 use Rattle.mufom_groups.proofs.GroupWalk.{files-of-elements, files_in}
 use Rattle.mufom_groups.proofs.LinkSteps.{link-placed, own-answer}
+use Rattle.mufom_groups.proofs.Stages.{in-place-valid, link-alone}
 use Rattle.mufom_groups.proofs.LinkWalk.{IsFactOf, first-after, first-found, first-none, links-stop, placed-length, refusal-fact, stops-by}
 
 -- ---- ends of the work
@@ -84,9 +85,12 @@ module _ (marks : List Mark) (rs linked : List Parts) (valid : AreValid rs) (pla
     roots-linked new lighter light is = record {
       link = is.link;
       new_list = is.new_list;
-      in_place = subst (λ (l : List Parts). IsInPlaceOf is.link l) same-roots (link-placed rs linked (elements (tree_of marks)) 0 valid placed new (omega (arith, lighter, light)) is);
+      own = link-alone is.link linked (in-place-valid linked (map (members_at rs) (elements (tree_of marks))) placed) all-placed.valid is.linkable is.joined;
+      in_place = subst (λ (l : List Parts). IsInPlaceOf is.link l) same-roots all-placed;
       linkable =
           first-after (map (members_at rs) (groups (tree_of marks))) (roots (tree_of marks) rs ∷ []) no_fact
           ∙ first-none (roots (tree_of marks) rs) [] (sym roots-answer ∙ is.linkable);
       light = let own = is.light in omega (arith, own, lighter);
-    }
+    } where
+      all-placed : IsInPlaceOf is.link (members_at rs (files_in (elements (tree_of marks))))
+      all-placed = link-placed rs linked (elements (tree_of marks)) 0 valid placed new (omega (arith, lighter, light)) is

@@ -12,7 +12,7 @@ use Rattle.mufom_meaning.proofs.facts.GroupLaws.{groups_answer}
 use Rattle.mufom_meaning.proofs.facts.Linkable.{no_link_answer_is_linkable}
 use Rattle.mufom_meaning.proofs.staging.Stages.{staged_means_the_same}
 use Rattle.mufom_groups.specs.Linked.{first_name}
-use Rattle.mufom_groups.specs.Groups.{AreInPlaceOf, IsInPlaceOf}
+use Rattle.mufom_groups.specs.Groups.{AreInPlaceOf, IsInPlaceOf, IsOwnLink}
 
 -- the modules of all groups
 abbrev pub all_of : List (List Parts) → List Parts
@@ -151,4 +151,16 @@ module _ (Ms : List Parts) (groups : List (List Parts)) (are : AreInPlaceOf Ms g
       link = a_link M (all_of groups) (first_name Ms) (joined-of-all (first_name Ms) j) none-of-all;
       name = j.named ∙ first-of-all;
       valid = is_valid;
+    }
+
+-- a link is its own link
+pub link-alone : (M : Parts) (ms : List Parts) → AreValid ms → IsValid M → link_answer ms ≡ None → IsJoined M ms (first_name ms) → IsOwnLink M
+link-alone M ms valid is_valid none j =
+    let placed : AreInPlaceOf (M ∷ []) (ms ∷ []) = (record { link = a_link M ms (first_name ms) j none; name = j.named; valid = is_valid }, tt) in
+    let alone : link_answer (M ∷ []) ≡ None = same-answer (M ∷ []) (ms ∷ []) placed ∙ ap link_answer (append-nil ms) ∙ none in
+    let means = means-all (M ∷ []) (ms ∷ []) placed M (subst AreValid (sym (append-nil ms)) valid) alone in
+    let joined : IsJoined M (M ∷ []) (first_name ms)
+    = (means.same_joined M (first_name ms)).1 (subst (λ (l : List Parts). IsJoined M l (first_name ms)) (sym (append-nil ms)) j) in record {
+      joined = subst (λ (n : List ℕ). IsJoined M (M ∷ []) n) (sym j.named) joined;
+      linkable = alone;
     }

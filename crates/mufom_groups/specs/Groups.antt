@@ -100,13 +100,26 @@ IsRefusedMark Open begun old e = e ≡ NoMemory
 IsRefusedMark (File n) begun old e = e ≡ NoMemory
 IsRefusedMark Close begun old e = IsRefusalOf (drop (last_of begun) old) e
 
--- The roots were linked into one module, which stands in their place, and no list before that had a link fact.
+-- A module is its own link: linked alone, under its own name, it stays as it is.
+pub record IsOwnLink (M : Parts) : Type 0 where
+  pub joined : IsJoined M (M ∷ []) M.name
+  pub linkable : link_answer (M ∷ []) ≡ None
+
+-- The roots were linked into one module, which stands in their place and is its own link, and no list before that had a link fact.
 pub record AreRootsLinked (marks : List Mark) (ms new : List Parts) : Type 0 where
   pub link : Parts
   pub new_list : new ≡ link ∷ []
+  pub own : IsOwnLink link
   pub in_place : IsInPlaceOf link (roots (tree_of marks) ms)
   pub linkable : first_some link_answer (tree_links (tree_of marks) ms) ≡ None
   pub light : weight link ≤ total_weight ms
+
+-- The list begins with a module that is its own link.
+pub record BeginsWithLink (flat : List Parts) : Type 0 where
+  pub first : Parts
+  pub others : List Parts
+  pub list : flat ≡ first ∷ others
+  pub own : IsOwnLink first
 
 -- The roots are followed by the members that are selected for them.
 pub record HasSelected (roots members flat : List Parts) : Type 0 where

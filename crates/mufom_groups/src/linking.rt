@@ -16,7 +16,7 @@ ghost use Rattle.mufom_words.specs.Sound.{numbers_from, HasTree};
 ghost use Rattle.mufom_words.specs.Tree.{groups, leaves, spelling, tree_of};
 ghost use Rattle.mufom_groups.specs.Linked.{first_name, linked_module, links, tree_links};
 ghost use Rattle.mufom_groups.specs.Work.{gives};
-ghost use Rattle.mufom_groups.specs.Groups.{elements, files_of, last_of, most_weight, AreInPlaceOf, AreRootsLinked, HasSelected, StopsWork};
+ghost use Rattle.mufom_groups.specs.Groups.{elements, files_of, last_of, most_weight, AreInPlaceOf, AreRootsLinked, BeginsWithLink, HasSelected, StopsWork};
 ghost use Rattle.mufom_groups.specs.Groups.{HasRoot, IsClosed, IsLinkedFrom, IsNextOf, IsRefusedMark, IsTaken};
 
 use mufom_link::{LinkRefusal, link};
@@ -220,19 +220,45 @@ fn add_members(
     Ok(())
 }
 
-// The link of the flat list, under the name that the command gives or that of the first module.
-fn link_flat(alloc: Global, command: &Command, flat: &[Module]) -> Result<Module, LinkRefusal>
-    requires some { 0 < length flat.now }
-    requires short { IfSome command.now.name (λ name. length name < 2 ^ 16) }
-    requires light { total_weight flat.now ≤ most_weight }
-    ensures joined { IfOk result (λ M. IsJoined M flat.now (unwrap_or command.now.name (first_name flat.now))) }
-    ensures linkable { IfOk result (λ _. link_answer flat.now ≡ None) }
+// The one module of a list.
+fn only_of(list: Vec<Module>) -> Module
+    requires { length list.items ≡ 1 }
+    ensures { list.items ≡ result ∷ [] }
+{
+    next_module(&mut list.into_iter())
+}
+
+// The link of the flat list under the name of its first module. That is its own link, so alone it is not linked again.
+fn link_unnamed(alloc: Global, flat: Vec<Module>) -> Result<Module, LinkRefusal>
+    requires begins { BeginsWithLink flat.items }
+    requires some { 0 < length flat.items }
+    requires light { total_weight flat.items ≤ most_weight }
+    ensures joined { IfOk result (λ M. IsJoined M flat.items (first_name flat.items)) }
+    ensures linkable { IfOk result (λ _. link_answer flat.items ≡ None) }
     ensures light { IfOk result (λ M. weight M < most_weight + 2 ^ 16) }
-    ensures refused { IfErr result (λ e. IsRefusalOf flat.now e) }
+    ensures refused { IfErr result (λ e. IsRefusalOf flat.items e) }
+{
+    if flat.len() == 1 {
+        Ok(only_of(flat))
+    } else {
+        link(alloc, &flat, name_of(&flat[0]))
+    }
+}
+
+// The link of the flat list, under the name that the command gives or that of the first module.
+fn link_flat(alloc: Global, command: &Command, flat: Vec<Module>) -> Result<Module, LinkRefusal>
+    requires begins { BeginsWithLink flat.items }
+    requires some { 0 < length flat.items }
+    requires short { IfSome command.now.name (λ name. length name < 2 ^ 16) }
+    requires light { total_weight flat.items ≤ most_weight }
+    ensures joined { IfOk result (λ M. IsJoined M flat.items (unwrap_or command.now.name (first_name flat.items))) }
+    ensures linkable { IfOk result (λ _. link_answer flat.items ≡ None) }
+    ensures light { IfOk result (λ M. weight M < most_weight + 2 ^ 16) }
+    ensures refused { IfErr result (λ e. IsRefusalOf flat.items e) }
 {
     match &command.name {
-        Some(name) => link(alloc, flat, name.as_slice()),
-        None => link(alloc, flat, name_of(&flat[0])),
+        Some(name) => link(alloc, &flat, name.as_slice()),
+        None => link_unnamed(alloc, flat),
     }
 }
 
@@ -278,5 +304,5 @@ pub fn link_modules(
     };
     let mut linked = link_roots(alloc, marks, modules)?;
     add_members(alloc, &mut linked, members)?;
-    link_flat(alloc, command, &linked)
+    link_flat(alloc, command, linked)
 }

@@ -1,4 +1,4 @@
-use Rattle.std.proofs.Common.{◌≡◌, List, length, take, drop, sym, ap, subst, ◌∙◌, rules, arith}
+use Rattle.std.proofs.Common.{◌≡◌, List, length, take, drop, sym, ap, refl, subst, ◌∙◌, rules, arith}
 use Rattle.mufom_module.specs.declared.module.Parts.{Parts}
 use Rattle.mufom_words.specs.declared.command.Mark.{Mark}
 use Rattle.mufom_words.specs.Sound.{numbers_from}
@@ -8,7 +8,7 @@ use Rattle.mufom_groups.specs.Groups.{StopsWork, files_of}
 use Rattle.mufom_groups.specs.Linked.{linked_module}
 use Rattle.mufom_groups.proofs.LinkWalk.{valid-take}
 use Rattle.mufom_groups.proofs.WholeLink.{files-of-marks, roots-numbered}
-use Rattle.mufom_groups.proofs.AllLinked.{all-linked, all-refused, first-stop, flat-light}
+use Rattle.mufom_groups.proofs.AllLinked.{all-linked, all-refused, begins-with-link, first-stop, flat-light}
 use Rattle.mufom_groups.proofs.linking.link_modules.Goals as goal
 
 pub split_off-requires : goal.split_off-requires
@@ -37,25 +37,28 @@ returns-in_err-linked-clause-refused c =
     = first-stop c.args.command.now c.requires.tree c.args.modules c.requires.valid c.file_count.result count c.as_slice-marks.result.now c.split_off.new.self.items c.as_slice-marks.ensures roots c.in_err-linked.field-0.0 c.in_err-linked.ensures.refused in
     search (rules, refused)
 
+pub link_flat-requires-clause-begins : goal.link_flat-requires-clause-begins
+link_flat-requires-clause-begins c = begins-with-link c.as_slice-marks.result.now c.split_off.new.self.items c.in-Ok.members.items c.in_ok-linked.linked.items c.add_members.new.roots.items c.in_ok-linked.ensures.ok c.in_ok-add_members.ensures.ok
+
 pub link_flat-requires-clause-light : goal.link_flat-requires-clause-light
 link_flat-requires-clause-light c =
     let roots = c.in-Ok.ensures.items ∙ ap (λ (l : List Parts). take c.file_count.result l) c.into_vec-modules.ensures in
     let members = c.in-Ok.ensures.tail ∙ ap (λ (l : List Parts). drop c.file_count.result l) c.into_vec-modules.ensures in
-    flat-light c.args.modules c.requires.light c.file_count.result c.as_slice-marks.result.now c.split_off.new.self.items c.in-Ok.members.items c.in_ok-linked.linked.items c.add_members.new.roots.items c.deref.result.now
-    roots members c.in_ok-linked.ensures.ok c.in_ok-add_members.ensures.ok c.deref.ensures.value
+    flat-light c.args.modules c.requires.light c.file_count.result c.as_slice-marks.result.now c.split_off.new.self.items c.in-Ok.members.items c.in_ok-linked.linked.items c.add_members.new.roots.items c.add_members.new.roots.items
+    roots members c.in_ok-linked.ensures.ok c.in_ok-add_members.ensures.ok refl
 
 pub returns-clause-ok : goal.returns-clause-ok
 returns-clause-ok c =
     let count = c.file_count.ensures ∙ ap (λ (l : List Mark). length (files_of l)) c.as_slice-marks.ensures ∙ ap length (files-of-marks c.args.command.now c.requires.tree) in
     let roots = c.in-Ok.ensures.items ∙ ap (λ (l : List Parts). take c.file_count.result l) c.into_vec-modules.ensures in
     let members = c.in-Ok.ensures.tail ∙ ap (λ (l : List Parts). drop c.file_count.result l) c.into_vec-modules.ensures in
-    all-linked c.args.command.now c.requires.tree c.args.modules c.requires.valid c.file_count.result count c.as_slice-marks.result.now c.split_off.new.self.items c.in-Ok.members.items c.in_ok-linked.linked.items c.add_members.new.roots.items c.deref.result.now
-    c.as_slice-marks.ensures roots members c.in_ok-linked.ensures.ok c.in_ok-add_members.ensures.ok c.deref.ensures.value c.link_flat.result c.link_flat.ensures.joined c.link_flat.ensures.linkable
+    all-linked c.args.command.now c.requires.tree c.args.modules c.requires.valid c.file_count.result count c.as_slice-marks.result.now c.split_off.new.self.items c.in-Ok.members.items c.in_ok-linked.linked.items c.add_members.new.roots.items c.add_members.new.roots.items
+    c.as_slice-marks.ensures roots members c.in_ok-linked.ensures.ok c.in_ok-add_members.ensures.ok refl c.link_flat.result c.link_flat.ensures.joined c.link_flat.ensures.linkable
 
 pub returns-clause-refused : goal.returns-clause-refused
 returns-clause-refused c =
     let count = c.file_count.ensures ∙ ap (λ (l : List Mark). length (files_of l)) c.as_slice-marks.ensures ∙ ap length (files-of-marks c.args.command.now c.requires.tree) in
     let roots = c.in-Ok.ensures.items ∙ ap (λ (l : List Parts). take c.file_count.result l) c.into_vec-modules.ensures in
     let members = c.in-Ok.ensures.tail ∙ ap (λ (l : List Parts). drop c.file_count.result l) c.into_vec-modules.ensures in
-    all-refused c.args.command.now c.requires.tree c.args.modules c.requires.valid c.file_count.result count c.as_slice-marks.result.now c.split_off.new.self.items c.in-Ok.members.items c.in_ok-linked.linked.items c.add_members.new.roots.items c.deref.result.now
-    c.as_slice-marks.ensures roots members c.in_ok-linked.ensures.ok c.in_ok-add_members.ensures.ok c.deref.ensures.value c.link_flat.result c.link_flat.ensures.refused
+    all-refused c.args.command.now c.requires.tree c.args.modules c.requires.valid c.file_count.result count c.as_slice-marks.result.now c.split_off.new.self.items c.in-Ok.members.items c.in_ok-linked.linked.items c.add_members.new.roots.items c.add_members.new.roots.items
+    c.as_slice-marks.ensures roots members c.in_ok-linked.ensures.ok c.in_ok-add_members.ensures.ok refl c.link_flat.result c.link_flat.ensures.refused
