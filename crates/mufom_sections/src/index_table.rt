@@ -1,6 +1,7 @@
 ghost use Rattle.std.specs.Prelude.{◌≡◌, ◌+◌, ◌-◌, ◌^◌, ◌<◌, ◌↔◌, ◌==◌, [], ◌∷◌, ◌++◌, length, position, slice_get, nat_eq, Contains, IsSome, IfSome, IfOk, OnOk, OnErr};
 ghost use Rattle.std.specs.List.{IsDistinct};
 
+use crate::row::Row;
 use indexmap::IndexSet;
 use std::alloc::Global;
 use std::marker::Model;
@@ -17,20 +18,25 @@ pub enum AddFault {
 
 /// The indexes that a file gives to its entries, in the order of their declarations. Contracts see
 /// it as the list of these indexes, and none stands twice.
+///
+/// Files mostly declare indexes in a row, as 1, 2, 3. The table keeps such a row as two numbers, and
+/// hashes only the indexes from the first that does not continue it.
 #[derive(Debug, Drop)]
 pub struct IndexTable {
-    indexes: IndexSet<u32>,
+    row: Row,
+    // Those after the row.
+    others: IndexSet<u32>,
 }
 
 impl Model for IndexTable {
-    ghost use Rattle.std.specs.Prelude.{List, ℕ, length, nat_eq, ◌<◌, ◌^◌};
+    ghost use Rattle.std.specs.Prelude.{List, ℕ, length, nat_eq, ◌<◌, ◌^◌, ◌++◌};
     ghost use Rattle.std.specs.List.{IsDistinct};
 
     ghost Value = { List ℕ };
 
-    ghost view = { λ table. table.indexes.keys };
+    ghost view = { λ table. table.row ++ table.others.keys };
 
-    ghost invariant = { λ table. (length table.indexes.keys < 2 ^ 32) × IsDistinct nat_eq table.indexes.keys };
+    ghost invariant = { λ table. (length (table.row ++ table.others.keys) < 2 ^ 32) × IsDistinct nat_eq (table.row ++ table.others.keys) };
 }
 
 impl IndexTable {
@@ -39,7 +45,8 @@ impl IndexTable {
         ensures { result ≡ [] }
     {
         IndexTable {
-            indexes: IndexSet::new(alloc),
+            row: Row::new(),
+            others: IndexSet::new(alloc),
         }
     }
 
@@ -53,13 +60,23 @@ impl IndexTable {
         ensures duplicate { (result ≡ Err AddFault.Duplicate) ↔ Contains self.old index }
         ensures err { OnErr result (self.new ≡ self.old) }
     {
-        let Ok((place, is_new)) = self.indexes.insert_full(index) else {
+        if self.others.is_empty() {
+            if let Some(longer) = self.row.followed_by(index) {
+                let place = self.row.len();
+                self.row = longer;
+                return Ok(place);
+            }
+        }
+        if self.row.position(index).is_some() {
+            return Err(AddFault::Duplicate);
+        }
+        let Ok((place, is_new)) = self.others.insert_full(index) else {
             return Err(AddFault::NoMemory);
         };
         if !is_new {
             return Err(AddFault::Duplicate);
         }
-        Ok(place as u32)
+        Ok(self.row.len() + place as u32)
     }
 
     /// The position of an index, from 0, and `None` where it is not declared. Takes no memory.
@@ -69,8 +86,11 @@ impl IndexTable {
         ensures value { result ≡ position (λ other. other == index) self.now }
         ensures distinct { IsDistinct nat_eq self.now }
     {
-        let place = self.indexes.get_index_of(&index)?;
-        Some(place as u32)
+        if let Some(place) = self.row.position(index) {
+            return Some(place);
+        }
+        let place = self.others.get_index_of(&index)?;
+        Some(self.row.len() + place as u32)
     }
 }
 
@@ -87,5 +107,29 @@ mod tests {
         assert_eq!(rt; table.position(7), Some(0));
         assert_eq!(rt; table.position(3), Some(1));
         assert_eq!(rt; table.position(4), None);
+    }
+
+    #[test]
+    fn a_gap_ends_the_row(rt: HostRuntime) {
+        let mut table = IndexTable::new(rt.alloc());
+        assert_eq!(rt; table.add(7), Ok(0));
+        assert_eq!(rt; table.add(8), Ok(1));
+        assert_eq!(rt; table.add(9), Ok(2));
+        assert_eq!(rt; table.add(3), Ok(3));
+        assert_eq!(rt; table.add(10), Ok(4));
+        assert_eq!(rt; table.add(8), Err(AddFault::Duplicate));
+        assert_eq!(rt; table.add(10), Err(AddFault::Duplicate));
+        assert_eq!(rt; table.position(9), Some(2));
+        assert_eq!(rt; table.position(3), Some(3));
+        assert_eq!(rt; table.position(10), Some(4));
+    }
+
+    #[test]
+    fn the_largest_index_ends_the_row(rt: HostRuntime) {
+        let mut table = IndexTable::new(rt.alloc());
+        assert_eq!(rt; table.add(u32::MAX), Ok(0));
+        assert_eq!(rt; table.add(0), Ok(1));
+        assert_eq!(rt; table.position(u32::MAX), Some(0));
+        assert_eq!(rt; table.position(0), Some(1));
     }
 }

@@ -8,6 +8,7 @@
 #![tactic(auto)]
 
 mod index_table;
+mod row;
 mod section;
 
 pub use index_table::{AddFault, IndexTable};

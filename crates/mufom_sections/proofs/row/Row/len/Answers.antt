@@ -1,0 +1,6 @@
+use Rattle.std.proofs.Common.{◌∙◌, ap, sym, length}
+use Rattle.std.proofs.lemmas.List.FromFn.{length-range_with_len}
+use Rattle.mufom_sections.proofs.row.Row.len.Goals as goal
+
+pub returns : goal.returns
+returns c = sym (length-range_with_len c.self.inside.first c.self.inside.count) ∙ ap length c.self.view_is
