@@ -36,7 +36,7 @@ fn unmet(weak: Option<Weak>) -> Meeting
     }
 }
 
-fn meeting_of(publics: &NameIndex, commons: &NameIndex, reference: &Reference) -> Meeting
+fn meeting_of(publics: &NameIndex<'_>, commons: &NameIndex<'_>, reference: &Reference) -> Meeting
     ensures { result ≡ meeting_by (position_of publics.now reference.now.name) (position_of commons.now reference.now.name) reference.now.weak }
 {
     let name = reference.name.as_slice();
@@ -50,8 +50,8 @@ fn meeting_of(publics: &NameIndex, commons: &NameIndex, reference: &Reference) -
 // What references stand for, by the indexes of the names of publics and of commons.
 fn resolved(
     alloc: Global,
-    publics: &NameIndex,
-    commons: &NameIndex,
+    publics: &NameIndex<'_>,
+    commons: &NameIndex<'_>,
     references: &[Reference],
 ) -> Result<List<Meeting>, NoMemory>
     ensures { IfOk result (λ all. all

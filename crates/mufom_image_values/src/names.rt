@@ -11,11 +11,14 @@ use mufom_numbers::NoMemory;
 use std::alloc::Global;
 
 /// An index of the names of publics. It finds the first public of a name.
-pub(crate) fn index_of_publics(alloc: Global, publics: &[Public]) -> Result<NameIndex, NoMemory>
+pub(crate) fn index_of_publics<'a>(
+    alloc: Global,
+    publics: &'a [Public],
+) -> Result<NameIndex<'a>, NoMemory>
     requires { length publics.now < 2 ^ 32 }
     ensures { IfOk result (λ index. FindsFirst index (names_of publics.now)) }
 {
-    let mut index = NameIndex::new(alloc)?;
+    let mut index = NameIndex::with_capacity(alloc, publics.len())?;
     for place in 0..publics.len() {
         let _earlier = index.add(publics[place].name.as_slice(), place as u32)?;
     }
@@ -23,7 +26,7 @@ pub(crate) fn index_of_publics(alloc: Global, publics: &[Public]) -> Result<Name
 }
 
 // Whether a reference asks for a common: its size is not 0, and no public has its name.
-fn asks(publics: &NameIndex, reference: &Reference) -> bool
+fn asks(publics: &NameIndex<'_>, reference: &Reference) -> bool
     ensures { result ≡ (is_common reference.now && is_none (position_of publics.now reference.now.name)) }
 {
     match reference.weak {
@@ -33,7 +36,7 @@ fn asks(publics: &NameIndex, reference: &Reference) -> bool
 }
 
 // Adds a name at the end, unless it is there already. Answers how many names there are then.
-fn add_name(index: &mut NameIndex, name: &[u8], count: u32) -> Result<u32, NoMemory>
+fn add_name<'a>(index: &mut NameIndex<'a>, name: &'a [u8], count: u32) -> Result<u32, NoMemory>
     requires numbered { index.old ≡ numbered_from 0 (keys_of index.old) }
     requires count { count ≡ length (keys_of index.old) }
     requires room { count + 1 < 2 ^ 32 }
@@ -48,15 +51,15 @@ fn add_name(index: &mut NameIndex, name: &[u8], count: u32) -> Result<u32, NoMem
 
 /// An index of the names of the commons, each once, in the order in which references first ask for
 /// them.
-pub(crate) fn index_of_commons(
+pub(crate) fn index_of_commons<'a>(
     alloc: Global,
-    publics: &NameIndex,
-    references: &[Reference],
-) -> Result<NameIndex, NoMemory>
+    publics: &NameIndex<'_>,
+    references: &'a [Reference],
+) -> Result<NameIndex<'a>, NoMemory>
     requires { length references.now < 2 ^ 32 }
     ensures { IfOk result (λ index. index ≡ numbered_from 0 (asked_after publics.now [] references.now)) }
 {
-    let mut index = NameIndex::new(alloc)?;
+    let mut index = NameIndex::new(alloc);
     let mut count = 0;
     for reference in references {
         if asks(publics, reference) {

@@ -72,11 +72,11 @@ pub(crate) fn start_count(list: &[Module]) -> usize
 
 // Adds the names of publics to the index, the first of them at this position, or finds one that the
 // index has already.
-fn add_publics(
+fn add_publics<'a>(
     alloc: Global,
-    index: &mut NameIndex,
+    index: &mut NameIndex<'a>,
     first: u32,
-    publics: &[Public],
+    publics: &'a [Public],
 ) -> Result<(), LinkRefusal>
     requires { first + length publics.now < 2 ^ 32 }
     ensures { let names = names_of publics.now in
@@ -91,12 +91,27 @@ fn add_publics(
     Ok(())
 }
 
+// How many publics the modules have.
+fn public_count(list: &[Module]) -> usize
+    requires { length (public_names list.now) < 2 ^ 32 }
+    ensures { result ≡ length (public_names list.now) }
+{
+    let mut count = 0;
+    for module in list {
+        count += module.parts().names.publics.len();
+    }
+    count
+}
+
 // The index of all public names of the list by their positions, or `Duplicate`.
-pub(crate) fn index_publics(alloc: Global, list: &[Module]) -> Result<NameIndex, LinkRefusal>
+pub(crate) fn index_publics<'a>(
+    alloc: Global,
+    list: &'a [Module],
+) -> Result<NameIndex<'a>, LinkRefusal>
     requires { length (public_names list.now) < 2 ^ 32 }
     ensures { MatchResult result (λ index. IsIndexed [] 0 (public_names list.now) index) (λ e. IsRefusedName [] 0 (public_names list.now) e) }
 {
-    let mut index = NameIndex::new(alloc)?;
+    let mut index = NameIndex::with_capacity(alloc, public_count(list))?;
     let mut first = 0;
     for module in list {
         let publics = module.parts().names.publics.as_slice();

@@ -37,7 +37,7 @@ fn laws()
 fn join_lists(
     alloc: Global,
     list: &[Module],
-    publics: &NameIndex,
+    publics: &NameIndex<'_>,
 ) -> Result<(Joined, List<Reference>), NoMemory>
     requires publics { publics.now ≡ numbered_from 0 (public_names list.now) }
     requires light { total_weight list.now < 2 ^ 32 }
@@ -45,7 +45,7 @@ fn join_lists(
     ensures lists { IfOk result (λ all. HasLists list.now all.0 all.1) }
     ensures valid { IfOk result (λ _. AreValid list.now) }
 {
-    let mut references = References::new(alloc)?;
+    let mut references = References::new(alloc);
     let mut joined = Joined::new(alloc);
     for module in list {
         let own = module.parts().names.references.as_slice();
@@ -56,7 +56,12 @@ fn join_lists(
 }
 
 // The parts of the partial link under this name.
-fn join(alloc: Global, list: &[Module], name: &[u8], publics: &NameIndex) -> Result<Parts, NoMemory>
+fn join(
+    alloc: Global,
+    list: &[Module],
+    name: &[u8],
+    publics: &NameIndex<'_>,
+) -> Result<Parts, NoMemory>
     requires some { 0 < length list.now }
     requires publics { publics.now ≡ numbered_from 0 (public_names list.now) }
     requires light { total_weight list.now < 2 ^ 32 }

@@ -9,7 +9,7 @@ ghost use Rattle.mufom_link.specs.References.{merged_with, kept_with, kept_after
 
 use crate::copies::copy_reference;
 use mufom_expr::Letter;
-use mufom_names::{NameIndex, Reference, reference_key};
+use mufom_names::{KeyIndex, NameIndex, Reference, reference_key};
 use mufom_numbers::{List, NoMemory};
 use std::alloc::Global;
 
@@ -17,19 +17,19 @@ use std::alloc::Global;
 #[derive(Drop)]
 pub(crate) struct References {
     // The keys of the kept references, each with its position among them.
-    keys: NameIndex,
+    keys: KeyIndex,
     kept: List<Reference>,
 }
 
 impl References {
-    pub(crate) fn new(alloc: Global) -> Result<References, NoMemory>
-        ensures kept { IfOk result (λ all. all.kept ≡ []) }
-        ensures keys { IfOk result (λ all. all.keys ≡ []) }
+    pub(crate) fn new(alloc: Global) -> References
+        ensures kept { result.kept ≡ [] }
+        ensures keys { result.keys ≡ [] }
     {
-        Ok(References {
-            keys: NameIndex::new(alloc)?,
+        References {
+            keys: KeyIndex::new(alloc),
             kept: List::new(alloc),
-        })
+        }
     }
 
     // The kept references.
@@ -53,7 +53,7 @@ impl References {
     {
         let key = reference_key(alloc, reference)?;
         let next = self.kept.len() as u32;
-        if let Some(position) = self.keys.add(key.as_slice(), next)? {
+        if let Some(position) = self.keys.add(key, next)? {
             return Ok(position);
         }
         self.kept.push(copy_reference(alloc, reference)?)?;
@@ -65,7 +65,7 @@ impl References {
     fn target(
         &mut self,
         alloc: Global,
-        publics: &NameIndex,
+        publics: &NameIndex<'_>,
         reference: &Reference,
     ) -> Result<(Letter, u32), NoMemory>
         requires publics { publics.now ≡ numbered_from 0 (keys_of publics.now) }
@@ -87,7 +87,7 @@ impl References {
     pub(crate) fn targets(
         &mut self,
         alloc: Global,
-        publics: &NameIndex,
+        publics: &NameIndex<'_>,
         references: &[Reference],
     ) -> Result<List<(Letter, u32)>, NoMemory>
         requires publics { publics.now ≡ numbered_from 0 (keys_of publics.now) }

@@ -2,7 +2,7 @@ ghost use Rattle.std.specs.Prelude.{◌≡◌, ◌++◌, length, flat_map, OnOk,
 ghost use Rattle.mufom_names.specs.Keys.{number_key, numbers_key, note_key, notes_key, weak_key, reference_key, EqualKeysAreEqualReferences};
 
 use crate::name::{Note, Reference, Weak};
-use mufom_numbers::{Bytes, NoMemory};
+use mufom_numbers::NoMemory;
 use std::alloc::Global;
 
 // Appends a number as eight bytes, the most significant first.
@@ -64,8 +64,8 @@ fn add_weak(key: &mut Vec<u8>, weak: Option<Weak>) -> Result<(), NoMemory>
 /// and the default of a weak one; the count of the notes, and for each note its type, its attribute,
 /// the count of its numbers and the numbers. Each of these numbers is eight bytes, the most
 /// significant first.
-pub fn reference_key(alloc: Global, reference: &Reference) -> Result<Bytes, NoMemory>
-    ensures { IfOk result (λ key. key ≡ reference_key reference.now) }
+pub fn reference_key(alloc: Global, reference: &Reference) -> Result<Vec<u8>, NoMemory>
+    ensures { IfOk result (λ key. key.items ≡ reference_key reference.now) }
 {
     let mut key = Vec::new(alloc);
     add_number(&mut key, reference.name.len() as u64)?;
@@ -74,7 +74,7 @@ pub fn reference_key(alloc: Global, reference: &Reference) -> Result<Bytes, NoMe
     let notes = reference.notes.as_slice();
     add_number(&mut key, notes.len() as u64)?;
     add_notes(&mut key, notes)?;
-    Bytes::from_slice(alloc, &key)
+    Ok(key)
 }
 
 /// A law that a proof can cite: two references have equal keys exactly where their names, their weak

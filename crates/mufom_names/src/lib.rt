@@ -4,16 +4,18 @@
 //! It stands on `mufom_numbers`, `mufom_expr`, `indexmap` and `arrayvec`. Names are bytes of no
 //! character set, and two names are one where their bytes are. [`NameTable::find`] answers the first
 //! public of a name, and [`NameTable::duplicate`] the first public whose name an earlier one has;
-//! neither takes memory. A [`NameIndex`] finds keys by hashing, and [`reference_key`] makes a key by
-//! which it finds equal references.
+//! neither takes memory. A [`NameIndex`] finds names by hashing, and a [`KeyIndex`] equal references by
+//! the keys that [`reference_key`] makes of them.
 #![tactic(auto)]
 
 mod key;
+mod key_index;
 mod name;
 mod name_index;
 mod name_table;
 
 pub use key::{equal_keys_are_equal_references, reference_key};
+pub use key_index::KeyIndex;
 pub use name::{Note, Public, Reference, Weak};
 pub use name_index::NameIndex;
 pub use name_table::NameTable;

@@ -10,7 +10,7 @@ use mufom_numbers::{List, NoMemory};
 use std::alloc::Global;
 
 // The member that the reference needs: it is strong, and the roots do not define its name.
-fn needed(defined: &NameIndex, providers: &NameIndex, reference: &Reference) -> Option<u32>
+fn needed(defined: &NameIndex<'_>, providers: &NameIndex<'_>, reference: &Reference) -> Option<u32>
     ensures { result ≡ needed_in defined.now providers.now reference.now }
 {
     if reference.weak.is_some() {
@@ -52,8 +52,8 @@ fn mark_needed(
 
 // Marks the members that the references need, and appends each new one to the order.
 fn choose(
-    defined: &NameIndex,
-    providers: &NameIndex,
+    defined: &NameIndex<'_>,
+    providers: &NameIndex<'_>,
     references: &[Reference],
     marks: &mut [bool],
     order: &mut List<u32>,
@@ -85,8 +85,8 @@ fn positions(alloc: Global, marks: &[bool]) -> Result<List<u32>, NoMemory>
 // Marks what the roots need, and then what each member of the order needs. The order grows while the
 // loop goes over it.
 fn choose_all(
-    defined: &NameIndex,
-    providers: &NameIndex,
+    defined: &NameIndex<'_>,
+    providers: &NameIndex<'_>,
     roots: &Module,
     members: &[Module],
     marks: &mut [bool],

@@ -1,6 +1,7 @@
 //! Indexes of the names that the roots define, and of the members that provide a name.
 
-ghost use Rattle.std.specs.Prelude.{◌≡◌, ◌<◌, ◌^◌, [], length, IfOk, OnOk};
+ghost use Rattle.std.specs.Prelude.{◌≡◌, ◌<◌, ◌^◌, [], length, min, IfOk, OnOk};
+ghost use Rattle.mufom_meaning.specs.Flat.{public_names};
 ghost use Rattle.mufom_select.specs.Choice.{with_publics, with_providers};
 
 use mufom_module::Module;
@@ -9,7 +10,11 @@ use mufom_numbers::NoMemory;
 use std::alloc::Global;
 
 // Adds the names of publics with this position. A name that the index has already keeps its position.
-fn add_publics(index: &mut NameIndex, position: u32, publics: &[Public]) -> Result<(), NoMemory>
+fn add_publics<'a>(
+    index: &mut NameIndex<'a>,
+    position: u32,
+    publics: &'a [Public],
+) -> Result<(), NoMemory>
     ensures { OnOk result (index.new ≡ with_publics index.old position publics.now) }
 {
     for public in publics {
@@ -19,20 +24,32 @@ fn add_publics(index: &mut NameIndex, position: u32, publics: &[Public]) -> Resu
 }
 
 // The names that the roots define.
-pub(crate) fn defined(alloc: Global, roots: &Module) -> Result<NameIndex, NoMemory>
+pub(crate) fn defined<'a>(alloc: Global, roots: &'a Module) -> Result<NameIndex<'a>, NoMemory>
     ensures { IfOk result (λ index. index ≡ with_publics [] 0 roots.now.names.publics) }
 {
-    let mut index = NameIndex::new(alloc)?;
-    add_publics(&mut index, 0, roots.parts().names.publics.as_slice())?;
+    let publics = roots.parts().names.publics.as_slice();
+    let mut index = NameIndex::with_capacity(alloc, publics.len())?;
+    add_publics(&mut index, 0, publics)?;
     Ok(index)
 }
 
+// How many publics the modules have, or the largest number where there are more.
+fn public_count(modules: &[Module]) -> usize
+    ensures { result ≡ min (length (public_names modules.now)) usize.MAX }
+{
+    let mut count: usize = 0;
+    for module in modules {
+        count = count.saturating_add(module.parts().names.publics.len());
+    }
+    count
+}
+
 // Each name that a member defines, with the first such member.
-pub(crate) fn providers(alloc: Global, members: &[Module]) -> Result<NameIndex, NoMemory>
+pub(crate) fn providers<'a>(alloc: Global, members: &'a [Module]) -> Result<NameIndex<'a>, NoMemory>
     requires { length members.now < 2 ^ 32 }
     ensures { IfOk result (λ index. index ≡ with_providers [] 0 members.now) }
 {
-    let mut index = NameIndex::new(alloc)?;
+    let mut index = NameIndex::with_capacity(alloc, public_count(members))?;
     for position in 0..members.len() {
         let publics = members[position].parts().names.publics.as_slice();
         add_publics(&mut index, position as u32, publics)?;

@@ -17,8 +17,8 @@ names-are entries names e = ap keys_of e ∙ keys-numbered 0 names
 
 pub loop-module-init : goal.loop-module-init
 loop-module-init c =
-    let h = c.in_ok-references.ensures in
-    (begun c.args.list.now c.new-joined.result c.in_ok-references.references.kept c.new-joined.ensures h.kept, h.keys ∙ ap keyed (sym h.kept))
+    let h = c.new-references.ensures in
+    (begun c.args.list.now c.new-joined.result c.new-references.result.kept c.new-joined.ensures h.kept, h.keys ∙ ap keyed (sym h.kept))
 
 pub targets-requires : goal.targets-requires
 targets-requires c =

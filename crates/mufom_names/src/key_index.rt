@@ -1,0 +1,64 @@
+use indexmap::IndexSet;
+use mufom_numbers::NoMemory;
+use std::alloc::Global;
+use std::marker::Model;
+
+/// An index from keys of its own to positions, which finds a key by hashing it. Contracts see the
+/// list of the pairs of keys and positions, in the order in which they were added; no key stands
+/// twice.
+#[derive(Drop)]
+pub struct KeyIndex {
+    keys: IndexSet<Vec<u8>>,
+    positions: Vec<u32>,
+}
+
+impl Model for KeyIndex {
+    ghost use Rattle.std.specs.Prelude.{List, ◌≡◌, map, length};
+    ghost use Rattle.std.specs.List.{zip, IsDistinct};
+    ghost use Rattle.std.specs.Str.{bytes_eq};
+    ghost use Rattle.mufom_names.specs.Index.{Entry};
+
+    ghost Value = { List Entry };
+
+    ghost view = { λ index. zip (map (λ key. key.items) index.keys.keys) index.positions.items };
+
+    ghost invariant = { λ index. (length index.keys.keys ≡ length index.positions.items)
+        × IsDistinct (λ key other. bytes_eq key.items other.items) index.keys.keys };
+}
+
+impl KeyIndex {
+    ghost use Rattle.std.specs.Prelude.{◌≡◌, [], IfOk, OnOk, OnErr};
+    ghost use Rattle.mufom_names.specs.Index.{position_of, with_entry};
+
+    /// An empty index, which allocates from here. Takes no memory.
+    pub fn new(alloc: Global) -> KeyIndex
+        ensures { result ≡ [] }
+    {
+        KeyIndex {
+            keys: IndexSet::new(alloc),
+            positions: Vec::new(alloc),
+        }
+    }
+
+    /// Adds a key with its position at the end and answers `None`. Where the key is in the index
+    /// already, answers the position that it has and changes nothing. A call that runs out of memory
+    /// changes nothing either.
+    pub fn add(&mut self, key: Vec<u8>, position: u32) -> Result<Option<u32>, NoMemory>
+        ensures answer { IfOk result (λ found. found ≡ position_of self.old key.items) }
+        ensures after { OnOk result (self.new ≡ with_entry self.old key.items position) }
+        ensures err { OnErr result (self.new ≡ self.old) }
+    {
+        self.positions.push(position)?;
+        match self.keys.insert_full(key) {
+            Ok((_, true)) => Ok(None),
+            Ok((slot, false)) => {
+                self.positions.pop();
+                Ok(Some(self.positions[slot]))
+            }
+            Err(_) => {
+                self.positions.pop();
+                Err(NoMemory)
+            }
+        }
+    }
+}
