@@ -257,3 +257,18 @@ module _ (ms members : List Parts) (c : Choice) (u : IsUnderway ms members (leng
   -- where all members of the order were looked at, the marked members are the least closed choice
   pub chosen-selected : IsSelected ms members (positions_from 0 c.marks)
   chosen-selected = record { increasing = rises 0 c.marks; closed = closed; least = least }
+
+-- ---- no members
+
+provided-alone : (ms : List Parts) (names : List (List ℕ)) → list_all (is_provided ms [] []) names ≡ true
+provided-alone ms [] = refl
+provided-alone ms (name ∷ names) = and-both (is_provided ms [] [] name) (list_all (is_provided ms [] []) names) (or-right (has_name (public_names ms) name) true refl) (provided-alone ms names)
+
+-- where there is no member none is selected
+pub none-selected : (ms members : List Parts) (ns : List ℕ) → length members ≡ 0 → ns ≡ [] → IsSelected ms members ns
+none-selected ms (m ∷ members) ns none is = absurd (omega (arith, none))
+none-selected ms [] ns none is = subst (λ (l : List ℕ). IsSelected ms [] l) (sym is) (record {
+  increasing = λ k inside. absurd (omega (arith, inside));
+  closed = and-both (list_all (is_provided ms [] []) (strong_names ms)) true (provided-alone ms (strong_names ms)) refl;
+  least = λ other closed n among. absurd (omega (arith, among.1));
+})

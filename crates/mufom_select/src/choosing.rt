@@ -117,11 +117,15 @@ fn choose_all(
 ///
 /// A member is selected where it is the first that defines a name which a strong reference of the
 /// roots or of a selected member has and which the roots do not define. The time is proportional to
-/// the number of all names, expected. There must be fewer than 2^32 members.
+/// the number of all names, expected; without members no name is looked at. There must be fewer than
+/// 2^32 members.
 pub fn select(alloc: Global, roots: &Module, members: &[Module]) -> Result<List<u32>, NoMemory>
     requires { length members.now < 2 ^ 32 }
     ensures { IfOk result (λ chosen. IsSelected (roots.now ∷ []) members.now chosen) }
 {
+    if members.is_empty() {
+        return Ok(List::new(alloc));
+    }
     let defined = defined(alloc, roots)?;
     let providers = providers(alloc, members)?;
     let mut marks = vec![in alloc; false; members.len()]?;

@@ -1,10 +1,10 @@
-use Rattle.std.proofs.Common.{◌≡◌, ◌∷◌, [], ◌++◌, ◌∙◌, ℕ, zero, suc, ap, sym, subst, length, take, replicate, false, refl, append-nil, arith}
+use Rattle.std.proofs.Common.{◌≡◌, ◌∷◌, [], ◌++◌, ◌∙◌, eqb-true, ℕ, zero, suc, ap, sym, subst, length, take, replicate, false, refl, append-nil, arith}
 use Rattle.std.proofs.lemmas.List.{drop_all, take_all, length-replicate}
 use Rattle.std.proofs.lemmas.Result.{IfOk-weaker}
 use Rattle.mufom_meaning.specs.Selection.{IsSelected}
 use Rattle.mufom_select.specs.Choice.{choice, positions_from}
 use Rattle.mufom_select.specs.Underway.{count}
-use Rattle.mufom_select.proofs.Chosen.{chosen-selected}
+use Rattle.mufom_select.proofs.Chosen.{chosen-selected, none-selected}
 use Rattle.mufom_select.proofs.choosing.select.Goals as goal
 
 none-marked : (n : ℕ) → count (replicate n false) ≡ 0
@@ -42,3 +42,6 @@ returns c =
     IfOk-weaker c.positions.result (λ positions. positions ≡ positions_from 0 c.deref.result.now) (λ chosen. IsSelected (roots ∷ []) members chosen)
     (λ chosen e. subst (IsSelected (roots ∷ []) members) (sym (e ∙ ap (positions_from 0) whole)) (chosen-selected (roots ∷ []) members (choice marks order) underway))
     c.positions.ensures
+
+pub returns-then-is_empty : goal.returns-then-is_empty
+returns-then-is_empty c = none-selected (c.args.roots.now ∷ []) c.args.members.now c.new.result (eqb-true (length c.args.members.now) 0 (sym c.is_empty.ensures ∙ c.if-is_empty.true)) c.new.ensures
