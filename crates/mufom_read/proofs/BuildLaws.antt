@@ -1,23 +1,26 @@
 -- What a whole prefix states, as the code keeps it.
-use Rattle.std.proofs.Common.{◌≡◌, ℕ, ◌<◌, ◌≤◌, nat_le, Bool, true, false, min, List, [], ◌∷◌, ◌++◌, map, refl, sym, ap, subst, ◌∙◌, arith, slice_get, Option, Some, None, option_to_list, is_some, drop, get_or, ◌+◌, length}
+use Rattle.std.proofs.Common.{◌≡◌, ℕ, ◌≤◌, nat_le, Bool, true, false, min, List, [], ◌∷◌, ◌++◌, map, filter_map, refl, sym, ap, subst, ◌∙◌, arith, slice_get, Option, Some, None, option_map, option_to_list, ◌+◌, length}
+use Rattle.std.specs.Prelude.{unwrap_or}
 use Rattle.std.proofs.lemmas.Bool.{and_parts, leb-true}
 use Rattle.std.specs.List.{cons_option}
-use Rattle.mufom_expr.specs.Spelled.{Indexes}
 use Rattle.mufom_expr.specs.Tree.{Tree}
 use Rattle.mufom_records.specs.declared.record.Record.{Record}
 use Rattle.mufom_module.specs.declared.module.Parts.{Parts}
 use Rattle.mufom_module.specs.Defects.{is_unit_count}
-use Rattle.mufom_module.specs.SpelledRecords.{SpelledRecord, bytes_of}
-use Rattle.mufom_module.specs.Gathered.{sections_of, publics_of, loads_of, start_by, starts_of}
+use Rattle.mufom_module.specs.SpelledRecords.{SpelledRecord, bytes_of, text_in}
+use Rattle.mufom_module.specs.Gathered.{sections_of, publics_of, references_of, loads_of, starts_of}
 use Rattle.mufom_module.specs.RecordParts.{extension_part, environment_part, section_part, external_part, debug_part, trailer_part, end_part}
-use Rattle.mufom_module.specs.Grammar.{SpellsModule, NamesModule, Describes, header_of, indexes_of, parts_of, offsets_in, StandAt}
+use Rattle.mufom_module.specs.Grammar.{SpellsModule, header_of, indexes_of, parts_of, offsets_in, StandAt}
 use Rattle.mufom_read.specs.declared.prefix.Prefix.{Prefix}
-use Rattle.mufom_read.specs.declared.kept.KeptRecord.{KeptRecord}
+use Rattle.mufom_read.specs.declared.header.Names.{Names}
+use Rattle.mufom_read.specs.declared.header.Layout.{Layout}
+use Rattle.mufom_read.specs.declared.header.Header.{Header}
 use Rattle.mufom_read.specs.Prefixes.{Step, records_of, offset_records_of, offsets_of}
 use Rattle.mufom_read.specs.Faults.{is_bad_descriptor}
-use Rattle.mufom_read.specs.Kept.{record_of_kept, kept_records, indexes_by}
-use Rattle.mufom_read.specs.LoadsSoFar.{units_after, units_from, units_in, loads_so_far}
-use Rattle.mufom_read.specs.declared.loads.Loads.{Loads}
+use Rattle.mufom_read.specs.Kept.{indexes_by}
+use Rattle.mufom_read.specs.HeaderSoFar.{names_by, layout_by, order_of, names_in, layout_in}
+use Rattle.mufom_read.specs.LoadsSoFar.{closed, units_in, loads_so_far}
+use Rattle.mufom_read.specs.ContentsSoFar.{start_so_far}
 use Rattle.mufom_read.specs.PrefixOfCode.{IsPrefixOf}
 use Rattle.mufom_read.specs.Stated.{indexes_in}
 use Rattle.mufom_read.specs.Built.{IsStatedByKept, IsWhole}
@@ -25,34 +28,39 @@ use Rattle.mufom_read.proofs.DebugKept.{debug-kept}
 use Rattle.mufom_read.proofs.EndedSliced.{Sliced}
 use Rattle.mufom_read.proofs.EndedStated.{stated_by, states, units_of, stand_parts, sorted, same_ix, is_stated}
 use Rattle.mufom_read.proofs.EndedRows.{IsBegin, IsDescriptor}
-use Rattle.mufom_read.proofs.EndedGathered.{AreSorted, all_records, end_alone, same_sections, same_starts}
+use Rattle.mufom_read.proofs.EndedGathered.{all_records, end_alone}
 use Rattle.mufom_read.specs.NamesSoFar.{records_in, placed_public}
 use Rattle.mufom_read.proofs.PublicSteps.{publics-placed}
 use Rattle.mufom_read.proofs.PrefixLaws.{records-placed}
-use Rattle.mufom_read.proofs.KeptRecords.{others-kept, silent-kept, kept-records, kept-file}
+use Rattle.mufom_read.proofs.ContentLaws.{start-whole}
 use Rattle.mufom_read.proofs.LoadsWhole.{others-other, silent-other, other-append, loads-whole}
 use Rattle.mufom_read.proofs.PartBytes.{so-far}
 use Rattle.mufom_read.proofs.EndedPrefix.{ended_sliced}
-use Rattle.mufom_read.proofs.LoadLaws.{from-offset}
 use Rattle.mufom_read.proofs.WeighFiles.{files_weigh}
 
 few_units : (n : ℕ) → is_unit_count n ≡ true → n ≤ 8
 few_units n h = leb-true n 8 (and_parts (nat_le 1 n) (nat_le n 8) h).1
 
--- ---- the units of an address
-
-units_stay : (n : ℕ) (ps : List SpelledRecord) → units_from (Some n) ps ≡ Some n
-units_stay n [] = refl
-units_stay n (p ∷ ps) = units_stay n ps
+-- ---- the header
 
 least_units : (n : ℕ) → n ≤ 8 → min n 8 ≡ n
 least_units n h = omega arith
 
--- the units that the first two records give
-first-units : (begin descriptor : SpelledRecord) (ps : List SpelledRecord) (maus : ℕ) → (b : IsBegin begin.row) → (d : IsDescriptor descriptor.row) → d.1 ≡ maus → is_unit_count maus ≡ true → units_in (begin ∷ descriptor ∷ ps) ≡ Some maus
-first-units begin descriptor ps maus b d same counted =
-    (λ k. units_from (units_after (units_after None (b.2 k)) (d.3 k)) ps)
-    ∙ units_stay (min d.1 8) ps ∙ ap (λ (n : ℕ). Some (min n 8)) same ∙ ap (λ (n : ℕ). Some n) (least_units maus (few_units maus counted))
+-- the names that the first record gives
+names-first : (begin : SpelledRecord) (ps : List SpelledRecord) (b : IsBegin begin.row) → names_in (begin ∷ ps) ≡ Some (record { processor = text_in begin b.0; name = text_in begin b.1 })
+names-first begin ps b = (λ k. slice_get (cons_option (names_by begin (b.2 k)) (filter_map (λ p. names_by p p.row) ps)) 0)
+
+-- the layout that the first two records give
+layout-first : (begin descriptor : SpelledRecord) (ps : List SpelledRecord) (b : IsBegin begin.row) (d : IsDescriptor descriptor.row) → is_unit_count d.1 ≡ true
+    → layout_in (begin ∷ descriptor ∷ ps) ≡ Some (record { maus = d.1; order = order_of d.2 })
+layout-first begin descriptor ps b d counted =
+    (λ k. slice_get (cons_option (layout_by (b.2 k)) (cons_option (layout_by (d.3 k)) (filter_map (λ p. layout_by p.row) ps))) 0)
+    ∙ (λ k. Some (record { maus = least_units d.1 (few_units d.1 counted) k; order = order_of d.2 }))
+
+-- one start at most is the first of those that the records give
+first-start : (o : Option Tree) (starts : List Tree) → option_to_list o ≡ starts → slice_get starts 0 ≡ o
+first-start None starts e = ap (λ l. slice_get l 0) (sym e)
+first-start (Some tree) starts e = ap (λ l. slice_get l 0) (sym e)
 
 -- an ended prefix has its header
 stand_count : (offsets : List ℕ) (at : ℕ) (parts : List (List ℕ)) → StandAt offsets at parts → length offsets ≡ length parts + 1
@@ -67,50 +75,43 @@ has_header reads_debug f prefix is s =
 
 stated_of : (reads_debug : Bool) (f : Prefix) (prefix : List Step) (bytes : List ℕ) → IsWhole reads_debug f prefix bytes → (s : Sliced reads_debug prefix) → IsStatedByKept f (stated_by reads_debug prefix s)
 stated_of reads_debug f prefix bytes is s =
+    let kept = is.kept.contents in
     let stated = is_stated reads_debug prefix s in
     let its = states reads_debug prefix s in
     let maus = s.describes.1 in
     let ordered = sorted reads_debug prefix s in
+    let same = records-placed prefix in
+    let records : records_in (offset_records_of prefix) ≡ all_records (header_of s.f) s.f.sections s.f.externals s.f.debug s.f.loads s.f.trailer s.end = sym same ∙ s.records in
     let quiet = silent-other (header_of s.f) s.silent in
     let sections = others-other section_part refl s.f.sections ordered.sections in
     let externals = others-other external_part refl s.f.externals ordered.externals in
     let debugged = others-other debug_part refl s.f.debug ordered.debug in
     let trailer = others-other trailer_part refl s.f.trailer ordered.trailer in
     let end = (others-other end_part refl (s.end ∷ []) (end_alone s.end s.ends)).0 in
-    let rest : AreSorted (header_of s.f) s.f.sections [] [] [] s.f.trailer s.end =
-    record { header = ordered.header; sections = ordered.sections; externals = refl; debug = refl; loads = refl; trailer = ordered.trailer; end_ = ordered.end_ } in
-    let kept : map record_of_kept f.kept ≡ all_records (header_of s.f) s.f.sections [] [] [] s.f.trailer s.end =
-    kept-records f prefix is.kept ∙ ap kept_records s.records
-    ∙ kept-file (header_of s.f) s.f.sections s.f.externals s.f.debug s.f.loads s.f.trailer s.end (silent-kept (header_of s.f) s.silent) (others-kept section_part refl refl refl s.f.sections ordered.sections)
-    ordered.externals ordered.debug ordered.loads
-    (others-kept trailer_part refl refl refl s.f.trailer ordered.trailer) (others-kept end_part refl refl refl (s.end ∷ []) (end_alone s.end s.ends)).0 in
     let all_ix : indexes_in (records_of prefix) ≡ indexes_by f.tables = ap indexes_by (sym is.kept.tables) in
-    let ix : indexes_of s.f ≡ indexes_by f.tables = sym (same_ix reads_debug prefix s) ∙ all_ix in
     let many = has_header reads_debug f prefix is.kept s in
     let counted = units_of s.describes.0 s.describes.1 s.describes.2 (subst (λ (row : Record). is_bad_descriptor row ≡ false) s.describes.3 s.no_bad) in
     let before = ((header_of s.f ++ s.f.sections) ++ s.f.externals) ++ s.f.debug in
-    let given : units_in before ≡ Some maus = first-units s.f.begin s.f.descriptor (((s.f.offsets ++ s.f.sections) ++ s.f.externals) ++ s.f.debug) maus s.begins s.describes refl counted.1 in
-    let loads : (loads_so_far (records_of prefix)).loads ≡ loads_of (indexes_of s.f) maus s.f.loads =
-    ap (λ (ps : List SpelledRecord). (loads_so_far ps).loads) s.records
+    let after = (((s.f.offsets ++ s.f.sections) ++ s.f.externals) ++ s.f.debug) in
+    let given : units_in before ≡ Some maus = ap (option_map (λ (l : Layout). l.maus)) (layout-first s.f.begin s.f.descriptor after s.begins s.describes counted.1) in
+    let loads : closed (loads_so_far (records_of prefix)) ≡ loads_of (indexes_of s.f) maus s.f.loads =
+    ap (λ (ps : List SpelledRecord). closed (loads_so_far ps)) s.records
     ∙ loads-whole maus (indexes_of s.f) before s.f.loads s.f.trailer s.end (other-append ((header_of s.f ++ s.f.sections) ++ s.f.externals) s.f.debug
     (other-append (header_of s.f ++ s.f.sections) s.f.externals (other-append (header_of s.f) s.f.sections quiet sections) externals) debugged) trailer end
     (ap indexes_in (sym s.records) ∙ same_ix reads_debug prefix s) given s.keep_loads in
+    let rest = ((after ++ s.f.loads) ++ s.f.trailer) ++ s.end ∷ [] in
     record {
-      begin = s.f.begin;
-      descriptor = s.f.descriptor;
-      after = ((((s.f.offsets ++ s.f.sections) ++ []) ++ []) ++ []) ++ s.f.trailer ++ s.end ∷ [];
-      records = kept;
-      begins = its.begin;
-      describes = its.descriptor;
-      small = (let few = few_units maus counted.1 in omega (arith, few));
+      names = kept.names ∙ ap names_in records ∙ names-first s.f.begin (s.f.descriptor ∷ rest) s.begins;
+      layout = kept.layout ∙ ap layout_in records ∙ layout-first s.f.begin s.f.descriptor rest s.begins s.describes counted.1;
       extension = stated.extension ∙ sym (is.kept.extension ∙ so-far extension_part prefix many);
       environment = stated.environment ∙ sym (is.kept.environment ∙ so-far environment_part prefix many);
-      sections = its.sections ∙ sym (ap sections_of kept ∙ same_sections (header_of s.f) s.f.sections [] [] [] s.f.trailer s.end rest);
-      publics = stated.publics ∙ (λ k. publics_of (all_ix k) (records-placed prefix k)) ∙ publics-placed (indexes_by f.tables) (records_in (offset_records_of prefix)) ∙ ap (map (placed_public (indexes_by f.tables))) (sym is.kept.publics.list);
-      references = stated.references ∙ sym is.kept.references;
+      sections = stated.sections ∙ ap sections_of same ∙ sym kept.sections.list;
+      publics = stated.publics ∙ (λ k. publics_of (all_ix k) (same k)) ∙ publics-placed (indexes_by f.tables) (records_in (offset_records_of prefix)) ∙ ap (map (placed_public (indexes_by f.tables))) (sym kept.publics.list);
+      references = stated.references ∙ ap references_of same ∙ sym kept.references;
       debug = debug-kept reads_debug f prefix is.kept s;
-      loads = its.loads ∙ sym (ap (λ (l : Loads). l.loads) is.kept.loads ∙ loads);
-      start = its.start ∙ sym (same_starts (indexes_of s.f) (header_of s.f) s.f.sections [] [] [] s.f.trailer s.end rest) ∙ (λ k. starts_of (ix k) (sym kept k));
+      loads = its.loads ∙ sym (ap closed (kept.loads ∙ ap loads_so_far (sym same)) ∙ loads);
+      start = sym (first-start (stated_by reads_debug prefix s).start (starts_of (indexes_in (records_of prefix)) (records_of prefix)) stated.start)
+          ∙ sym (kept.start ∙ ap start_so_far (sym same) ∙ start-whole (records_of prefix) is.kept.follow);
     }
 
 sliced-stated : (reads_debug : Bool) (f : Prefix) (prefix : List Step) (bytes : List ℕ) → IsWhole reads_debug f prefix bytes → (s : Sliced reads_debug prefix) → SpellsModule (stated_by reads_debug prefix s) bytes reads_debug
@@ -123,48 +124,22 @@ whole-stated reads_debug f prefix bytes is =
     let both = ended_sliced files_weigh reads_debug prefix bytes is.fits is.limit is.sound is.ends is.all in
     sliced-stated reads_debug f prefix bytes is both.0 both.1
 
--- one start at most is the first of those that the records give
-pub first-start : (o : Option Tree) (starts : List Tree) → option_to_list o ≡ starts → slice_get starts 0 ≡ o
-first-start None starts e = ap (λ l. slice_get l 0) (sym e)
-first-start (Some tree) starts e = ap (λ l. slice_get l 0) (sym e)
-
--- ---- the first start, record by record
-
-next_start : (ix : Indexes) (kept : List KeptRecord) (i : ℕ) (k : KeptRecord) (o : Option Tree) → i < length kept → k ≡ get_or kept i k → o ≡ start_by ix (record_of_kept k) k.row
-    → slice_get (cons_option o (starts_of ix (map record_of_kept (drop (i + 1) kept)))) 0 ≡ slice_get (starts_of ix (map record_of_kept (drop i kept))) 0
-next_start ix kept i k o within is here =
-    ap (λ start. slice_get (cons_option start (starts_of ix (map record_of_kept (drop (i + 1) kept)))) 0) here
-    ∙ ap (λ ps. slice_get (starts_of ix ps) 0) (sym (from-offset kept i k within is))
-
-pub start-here : (ix : Indexes) (kept : List KeptRecord) (i : ℕ) (k : KeptRecord) (o all : Option Tree) → i < length kept → k ≡ get_or kept i k
-    → slice_get (starts_of ix (map record_of_kept (drop i kept))) 0 ≡ all → o ≡ start_by ix (record_of_kept k) k.row → is_some o ≡ true → o ≡ all
-start-here ix kept i k None all within is so_far here some = cc
-start-here ix kept i k (Some tree) all within is so_far here some = next_start ix kept i k (Some tree) within is here ∙ so_far
-
-pub start-later : (ix : Indexes) (kept : List KeptRecord) (i : ℕ) (k : KeptRecord) (o all : Option Tree) → i < length kept → k ≡ get_or kept i k
-    → slice_get (starts_of ix (map record_of_kept (drop i kept))) 0 ≡ all → o ≡ start_by ix (record_of_kept k) k.row → is_some o ≡ false → slice_get (starts_of ix (map record_of_kept (drop (i + 1) kept))) 0 ≡ all
-start-later ix kept i k None all within is so_far here none = next_start ix kept i k None within is here ∙ so_far
-start-later ix kept i k (Some tree) all within is so_far here none = cc
-
--- ---- the first two records
-
-pub begins-here : (f : Prefix) (m : Parts) (stated : IsStatedByKept f m) (k : KeptRecord) → record_of_kept k ≡ stated.begin → NamesModule m (record_of_kept k) k.row
-begins-here f m stated k e = subst (λ (p : SpelledRecord). NamesModule m p p.row) (sym e) stated.begins
-
-pub describes-here : (f : Prefix) (m : Parts) (stated : IsStatedByKept f m) (k : KeptRecord) → record_of_kept k ≡ stated.descriptor → Describes m k.row
-describes-here f m stated k e = subst (λ (p : SpelledRecord). Describes m p.row) (sym e) stated.describes
-
 -- ---- all parts
 
--- parts that are as the records and the bytes state are those of the module
-pub the-parts : (f : Prefix) (m p : Parts) → IsStatedByKept f m → (p.processor ≡ m.processor) × (p.name ≡ m.name) → (p.maus ≡ m.maus) × (p.order ≡ m.order) → p.ext ≡ f.extension.items → p.env ≡ f.environment.items
-    → p.sections ≡ sections_of (map record_of_kept f.kept) → p.names.publics ≡ map (placed_public (indexes_by f.tables)) f.publics.list.items → p.names.references ≡ f.references.items
-    → p.debug ≡ f.debug.items → p.loads ≡ f.loads.loads → p.start ≡ slice_get (starts_of (indexes_by f.tables) (map record_of_kept f.kept)) 0 → p ≡ m
-the-parts f m p stated names layout ext env sections publics references debug loads start =
-    let processor = names.0 in
-    let name = names.1 in
-    let maus = layout.0 in
-    let order = layout.1 in
+-- parts that are as the code keeps them are those of the module
+pub the-parts : (f : Prefix) (m p : Parts) (names : Names) (layout : Layout) → IsStatedByKept f m → f.contents.header ≡ record { names = Some names; layout = Some layout }
+    → p.processor ≡ names.processor → p.name ≡ names.name → p.maus ≡ layout.maus → p.order ≡ layout.order → p.ext ≡ f.extension.items → p.env ≡ f.environment.items
+    → p.sections ≡ f.contents.sections.list.items → p.names.publics ≡ map (placed_public (indexes_by f.tables)) f.contents.publics.list.items → p.names.references ≡ f.contents.references.items
+    → p.debug ≡ f.contents.debug.items → p.loads ≡ closed f.contents.loads → p.start ≡ f.contents.start → p ≡ m
+the-parts f m p names layout stated header processor name maus order ext env sections publics references debug loads start =
+    let its_names : Some names ≡ Some (record { processor = m.processor; name = m.name }) = sym (ap (λ (h : Header). h.names) header) ∙ stated.names in
+    let its_layout : Some layout ≡ Some (record { maus = m.maus; order = m.order }) = sym (ap (λ (h : Header). h.layout) header) ∙ stated.layout in
+    let same_names : names ≡ record { processor = m.processor; name = m.name } = ap (λ (o : Option Names). unwrap_or o names) its_names in
+    let same_layout : layout ≡ record { maus = m.maus; order = m.order } = ap (λ (o : Option Layout). unwrap_or o layout) its_layout in
+    let same_processor = processor ∙ ap (λ (n : Names). n.processor) same_names in
+    let same_name = name ∙ ap (λ (n : Names). n.name) same_names in
+    let same_maus = maus ∙ ap (λ (l : Layout). l.maus) same_layout in
+    let same_order = order ∙ ap (λ (l : Layout). l.order) same_layout in
     let same_ext = ext ∙ sym stated.extension in
     let same_env = env ∙ sym stated.environment in
     let same_sections = sections ∙ sym stated.sections in
@@ -172,12 +147,12 @@ the-parts f m p stated names layout ext env sections publics references debug lo
     let same_references = references ∙ sym stated.references in
     let same_debug = debug ∙ sym stated.debug in
     let same_loads = loads ∙ sym stated.loads in
-    let same_start = start ∙ first-start m.start (starts_of (indexes_by f.tables) (map record_of_kept f.kept)) stated.start in
+    let same_start = start ∙ sym stated.start in
     (λ i. record {
-      processor = processor i;
-      name = name i;
-      maus = maus i;
-      order = order i;
+      processor = same_processor i;
+      name = same_name i;
+      maus = same_maus i;
+      order = same_order i;
       ext = same_ext i;
       env = same_env i;
       sections = same_sections i;
@@ -186,3 +161,7 @@ the-parts f m p stated names layout ext env sections publics references debug lo
       loads = same_loads i;
       start = same_start i;
     })
+
+-- the header of a whole prefix has its names and its layout
+pub header-whole : (f : Prefix) (m : Parts) → IsStatedByKept f m → f.contents.header ≡ record { names = Some (record { processor = m.processor; name = m.name }); layout = Some (record { maus = m.maus; order = m.order }) }
+header-whole f m stated = (λ k. record { names = stated.names k; layout = stated.layout k })

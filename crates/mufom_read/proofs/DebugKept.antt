@@ -39,15 +39,15 @@ same_marks : (a b : List DebugItem) (all : List DebugMark) → marks_of a ≡ al
 same_marks a b all first second = same_items a b (first ∙ sym second)
 
 -- the debug items that are kept are those of the module
-pub debug-kept : (reads_debug : Bool) (f : Prefix) (prefix : List Step) → IsPrefixOf f prefix → (s : Sliced reads_debug prefix) → (stated_by reads_debug prefix s).debug ≡ f.debug.items
+pub debug-kept : (reads_debug : Bool) (f : Prefix) (prefix : List Step) → IsPrefixOf f prefix → (s : Sliced reads_debug prefix) → (stated_by reads_debug prefix s).debug ≡ f.contents.debug.items
 debug-kept reads_debug f prefix is s =
     let all = records_of prefix in
-    let opened_none : kinds_of (opened f.debug) ≡ [] = ap (λ (l : List OpenBlock). kinds_of l) is.debug.blocks ∙ kinds-open prefix ∙ all-closed reads_debug prefix s in
-    let none : f.debug.blocks ≡ [] = stacked-none f.debug.blocks (no_kinds (opened f.debug) opened_none) in
-    let kept : marks_of f.debug.items ≡ marks (indexes_in all) all =
-    ap (λ (l : List code.OpenBlock). joined (map marks_to_block l) ++ marks_of f.debug.items) (sym none)
-    ∙ is.debug.marks ∙ ap marks_so_far (sym (records-placed prefix)) ∙ marks-whole all is.follow in
-    same_marks (stated_by reads_debug prefix s).debug f.debug.items (marks (indexes_in all) all) (is_stated reads_debug prefix s).debug kept
+    let opened_none : kinds_of (opened f.contents.debug) ≡ [] = ap (λ (l : List OpenBlock). kinds_of l) is.contents.debug.blocks ∙ kinds-open prefix ∙ all-closed reads_debug prefix s in
+    let none : f.contents.debug.blocks ≡ [] = stacked-none f.contents.debug.blocks (no_kinds (opened f.contents.debug) opened_none) in
+    let kept : marks_of f.contents.debug.items ≡ marks (indexes_in all) all =
+    ap (λ (l : List code.OpenBlock). joined (map marks_to_block l) ++ marks_of f.contents.debug.items) (sym none)
+    ∙ is.contents.debug.marks ∙ ap marks_so_far (sym (records-placed prefix)) ∙ marks-whole all is.follow in
+    same_marks (stated_by reads_debug prefix s).debug f.contents.debug.items (marks (indexes_in all) all) (is_stated reads_debug prefix s).debug kept
   where
     no_kinds : (blocks : List OpenBlock) → kinds_of blocks ≡ [] → blocks ≡ []
     no_kinds [] h = refl

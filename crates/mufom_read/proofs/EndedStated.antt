@@ -13,7 +13,6 @@ use Rattle.mufom_records.specs.declared.record.Mode.TheVariants as mode
 use Rattle.mufom_records.specs.declared.record.Record.{Record}
 use Rattle.mufom_records.specs.declared.record.Record.TheVariants as r
 use Rattle.mufom_records.specs.Layouts.{IsWholeRecord}
-use Rattle.mufom_module.specs.declared.module.Order.{Order}
 use Rattle.mufom_module.specs.declared.module.Order.TheVariants.{Least, Most}
 use Rattle.mufom_module.specs.declared.module.Parts.{Parts}
 use Rattle.mufom_module.specs.Contents.{any_of}
@@ -25,6 +24,7 @@ use Rattle.mufom_module.specs.Grammar.{FileParts, header_of, parts_of, after_hea
 use Rattle.mufom_read.specs.Prefixes.{Step, prefix_bytes, records_of, first_present}
 use Rattle.mufom_read.specs.Faults.{is_bad_descriptor}
 use Rattle.mufom_read.specs.Stated.{indexes_in, bytes_between, IsStatedBy}
+use Rattle.mufom_read.specs.HeaderSoFar.{order_of}
 use Rattle.mufom_read.proofs.EndedRows.{IsOrder}
 use Rattle.mufom_read.proofs.BlockKinds.{none_before}
 use Rattle.mufom_read.proofs.EndedParts.{KeptFrom, own_of}
@@ -34,10 +34,6 @@ use Rattle.mufom_read.proofs.EndedBlocks.{debug_closes}
 use Rattle.mufom_read.proofs.EndedGathered.{AreSorted, same_sections, same_indexes, same_publics, same_references, same_marks, same_loads, same_starts}
 
 -- ---- the order of bytes
-
-abbrev pub order_of : Option ℕ → Order
-order_of None = Most
-order_of (Some b) = cond (0xCC == b) Least Most
 
 letter_by_test : (b : ℕ) (least most : Bool) → (0xCC == b) ≡ least → (0xCD == b) ≡ most → (least || (most || false)) ≡ true → IsLetterOf (cond least Least Most) (Some b)
 letter_by_test b true most e d h = ap (λ (n : ℕ). Some n) (sym (eqb-true 0xCC b e))

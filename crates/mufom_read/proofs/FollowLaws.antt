@@ -9,8 +9,8 @@ use Rattle.mufom_expr.specs.Tree.{Tree}
 use Rattle.mufom_records.specs.declared.record.Record.{Record}
 use Rattle.mufom_records.specs.declared.record.Record.TheVariants as r
 use Rattle.mufom_names.specs.declared.name.Weak.{Weak}
-use Rattle.mufom_module.specs.SpelledRecords.{SpelledRecord, tree_in, Kind, public, reference, declared, declared_by, of_kind, is_declared, named_by, Once, value_of_public, weakness, is_same_statement, assigned_by, is_assigned}
-use Rattle.mufom_module.specs.Gathered.{answers, note_of, value_for, weak_for, public_note_for, reference_note_for}
+use Rattle.mufom_module.specs.SpelledRecords.{SpelledRecord, tree_in, Kind, section, public, reference, declared, declared_by, of_kind, is_declared, named_by, Once, value_of_public, weakness, alignment, section_size, section_base, is_same_statement, assigned_by, is_assigned}
+use Rattle.mufom_module.specs.Gathered.{answers, size_for, alignment_for, base_for, note_of, value_for, weak_for, public_note_for, reference_note_for}
 use Rattle.mufom_module.specs.Grammar.{Follows, FollowFrom}
 use Rattle.mufom_read.specs.Prefixes.{OffsetRecord}
 use Rattle.mufom_read.specs.NamesSoFar.{AreRising}
@@ -53,6 +53,18 @@ module _ (i : ℕ) (p : SpelledRecord) where
   weak_silent (r.WeakReference j n default) no_ = ap (λ b. cond b (Some (weak_of n default)) None) (ne_eqb i j (λ e. no_ (ap (λ n. Some (reference, n)) (sym e))))
   weak_silent row no_ = refl
 
+  pub size_silent : (row : Record) → (named_by row ≡ Some (section, i) → ⊥) → size_for i row ≡ None
+  size_silent (r.SectionSize j n) no_ = ap (λ b. cond b (Some n) None) (ne_eqb i j (λ e. no_ (ap (λ n. Some (section, n)) (sym e))))
+  size_silent row no_ = refl
+
+  pub alignment_silent : (row : Record) → (named_by row ≡ Some (section, i) → ⊥) → alignment_for i row ≡ None
+  alignment_silent (r.Alignment j n other) no_ = ap (λ b. cond b (Some n) None) (ne_eqb i j (λ e. no_ (ap (λ n. Some (section, n)) (sym e))))
+  alignment_silent row no_ = refl
+
+  pub base_silent : (row : Record) → (named_by row ≡ Some (section, i) → ⊥) → base_for i row ≡ None
+  base_silent (r.SectionBase j n) no_ = ap (λ b. cond b (Some n) None) (ne_eqb i j (λ e. no_ (ap (λ n. Some (section, n)) (sym e))))
+  base_silent row no_ = refl
+
   pub reference_note_silent : (row : Record) → (named_by row ≡ Some (reference, i) → ⊥) → reference_note_for i row ≡ None
   reference_note_silent (r.ReferenceNote j a b ns) no_ = ap (λ t. cond t (Some (note_of a b ns)) None) (ne_eqb i j (λ e. no_ (ap (λ n. Some (reference, n)) (sym e))))
   reference_note_silent row no_ = refl
@@ -88,6 +100,51 @@ strong_row i row later ws h more = more h
 pub weak-unstated : (i : ℕ) (ps : List SpelledRecord) → is_assigned ps (weakness i) ≡ false → answers (weak_for i) ps ≡ []
 weak-unstated i [] h = refl
 weak-unstated i (p ∷ ps) h = strong_row i p.row (filter_map (λ q. assigned_by q.row) ps) _ h (weak-unstated i ps)
+
+unsized_row : (i : ℕ) (row : Record) (later : List Once) (ns : List ℕ) → list_any (is_same_statement (section_size i)) (cons_option (assigned_by row) later) ≡ false
+    → (list_any (is_same_statement (section_size i)) later ≡ false → ns ≡ []) → cons_option (size_for i row) ns ≡ []
+unsized_row i (r.SectionSize j n) later ns h more = let both = or_parts (i == j) _ h in (λ k. cons_option (cond (both.0 k) (Some n) None) (more both.1 k))
+unsized_row i (r.PublicValue j value) later ns h more = more h
+unsized_row i (r.WeakReference j n other) later ns h more = more h
+unsized_row i (r.Alignment j n other) later ns h more = more h
+unsized_row i (r.SectionBase j n) later ns h more = more h
+unsized_row i (r.Start value) later ns h more = more h
+unsized_row i row later ns h more = more h
+
+-- no size is stated of the section where none was assigned
+pub size-unstated : (i : ℕ) (ps : List SpelledRecord) → is_assigned ps (section_size i) ≡ false → answers (size_for i) ps ≡ []
+size-unstated i [] h = refl
+size-unstated i (p ∷ ps) h = unsized_row i p.row (filter_map (λ q. assigned_by q.row) ps) _ h (size-unstated i ps)
+
+unaligned_row : (i : ℕ) (row : Record) (later : List Once) (ns : List ℕ) → list_any (is_same_statement (alignment i)) (cons_option (assigned_by row) later) ≡ false
+    → (list_any (is_same_statement (alignment i)) later ≡ false → ns ≡ []) → cons_option (alignment_for i row) ns ≡ []
+unaligned_row i (r.Alignment j n other) later ns h more = let both = or_parts (i == j) _ h in (λ k. cons_option (cond (both.0 k) (Some n) None) (more both.1 k))
+unaligned_row i (r.PublicValue j value) later ns h more = more h
+unaligned_row i (r.WeakReference j n other) later ns h more = more h
+unaligned_row i (r.SectionSize j n) later ns h more = more h
+unaligned_row i (r.SectionBase j n) later ns h more = more h
+unaligned_row i (r.Start value) later ns h more = more h
+unaligned_row i row later ns h more = more h
+
+-- no alignment is stated of the section where none was assigned
+pub alignment-unstated : (i : ℕ) (ps : List SpelledRecord) → is_assigned ps (alignment i) ≡ false → answers (alignment_for i) ps ≡ []
+alignment-unstated i [] h = refl
+alignment-unstated i (p ∷ ps) h = unaligned_row i p.row (filter_map (λ q. assigned_by q.row) ps) _ h (alignment-unstated i ps)
+
+unbased_row : (i : ℕ) (row : Record) (later : List Once) (ns : List ℕ) → list_any (is_same_statement (section_base i)) (cons_option (assigned_by row) later) ≡ false
+    → (list_any (is_same_statement (section_base i)) later ≡ false → ns ≡ []) → cons_option (base_for i row) ns ≡ []
+unbased_row i (r.SectionBase j n) later ns h more = let both = or_parts (i == j) _ h in (λ k. cons_option (cond (both.0 k) (Some n) None) (more both.1 k))
+unbased_row i (r.PublicValue j value) later ns h more = more h
+unbased_row i (r.WeakReference j n other) later ns h more = more h
+unbased_row i (r.Alignment j n other) later ns h more = more h
+unbased_row i (r.SectionSize j n) later ns h more = more h
+unbased_row i (r.Start value) later ns h more = more h
+unbased_row i row later ns h more = more h
+
+-- no base is stated of the section where none was assigned
+pub base-unstated : (i : ℕ) (ps : List SpelledRecord) → is_assigned ps (section_base i) ≡ false → answers (base_for i) ps ≡ []
+base-unstated i [] h = refl
+base-unstated i (p ∷ ps) h = unbased_row i p.row (filter_map (λ q. assigned_by q.row) ps) _ h (base-unstated i ps)
 
 -- ---- offsets that rise
 

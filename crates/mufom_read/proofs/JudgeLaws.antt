@@ -7,9 +7,8 @@ use Rattle.mufom_module.specs.SpelledRecords.{SpelledRecord}
 use Rattle.mufom_read.specs.declared.prefix.Prefix.{Prefix}
 use Rattle.mufom_read.specs.declared.prefix.Next.{Next}
 use Rattle.mufom_read.specs.declared.prefix.Next.TheVariants as next
-use Rattle.mufom_read.specs.declared.kept.KeptRecord.{KeptRecord}
 use Rattle.mufom_read.specs.Prefixes.{Step, read, size_of, as_step}
-use Rattle.mufom_read.specs.Kept.{record_of_kept, kept_record}
+use Rattle.mufom_read.specs.Kept.{as_record}
 use Rattle.mufom_read.specs.PrefixOfCode.{HasTaken, HasJudged}
 
 the_record : Record → List ℕ → SpelledRecord
@@ -19,7 +18,7 @@ pub taken_length : (n : ℕ) (rest : List ℕ) → n ≤ length rest → length 
 taken_length n rest within = length-take n rest ∙ omega (arith, within)
 
 judged : (prefix : List Step) (rest : List ℕ) (row : Record) (n start : ℕ) (new : Prefix) (done : Next) → n ≤ length rest → 0 < n → start ≡ size_of prefix
-    → HasTaken prefix (record_of_kept (kept_record start row (take n rest))) new done → HasJudged prefix (as_step (size_of prefix) rest (Got row n)) rest new done
+    → HasTaken prefix (as_record row (take n rest)) new done → HasJudged prefix (as_step (size_of prefix) rest (Got row n)) rest new done
 judged prefix rest row n start new (next.Took m) within some at (count, clean, is) =
     let same : m ≡ n = count ∙ taken_length n rest within in
     let step : Step = read (size_of prefix) (record { row = row; bytes = take n rest }) in
@@ -28,8 +27,8 @@ judged prefix rest row n start new next.More within some at taken = absurd taken
 judged prefix rest row n start new (next.Refused f) within some at fault = fault
 
 -- a record that was got
-pub taken-judged : (prefix : List Step) (rest : List ℕ) (answer : Taken Record) (row : Record) (n start : ℕ) (kept : KeptRecord) (new : Prefix) (done : Next) → answer ≡ Got row n → n ≤ length rest → 0 < n
-    → start ≡ size_of prefix → kept ≡ kept_record start row (take n rest) → HasTaken prefix (record_of_kept kept) new done → HasJudged prefix (as_step (size_of prefix) rest answer) rest new done
-taken-judged prefix rest answer row n start kept new done got within some at same taken =
+pub taken-judged : (prefix : List Step) (rest : List ℕ) (answer : Taken Record) (row : Record) (n start : ℕ) (p : SpelledRecord) (new : Prefix) (done : Next) → answer ≡ Got row n → n ≤ length rest → 0 < n
+    → start ≡ size_of prefix → p ≡ as_record row (take n rest) → HasTaken prefix p new done → HasJudged prefix (as_step (size_of prefix) rest answer) rest new done
+taken-judged prefix rest answer row n start p new done got within some at same taken =
     subst (λ a. HasJudged prefix (as_step (size_of prefix) rest a) rest new done) (sym got)
-    (judged prefix rest row n start new done within some at (subst (λ k. HasTaken prefix (record_of_kept k) new done) same taken))
+    (judged prefix rest row n start new done within some at (subst (λ q. HasTaken prefix q new done) same taken))

@@ -2,7 +2,6 @@ pub mod TableLaws
 pub mod RuleLaws
 pub mod TreeLaws
 pub mod WholeLaws
-pub mod StatedLaws
 pub mod PrefixLaws
 pub mod AddLaws
 pub mod JudgeLaws
@@ -13,6 +12,9 @@ pub mod StepLaws
 pub mod PlaceLaws
 pub mod LocationMoves
 pub mod FollowLaws
+pub mod SectionSteps
+pub mod SectionLaws
+pub mod SectionFaults
 pub mod InPlace
 pub mod ReferenceSteps
 pub mod PublicSteps
@@ -48,7 +50,7 @@ pub mod Stable
 pub mod LoadsFold
 pub mod LoadsWhole
 pub mod DebugSteps
-pub mod KeptRecords
+pub mod ContentLaws
 pub mod SpelledWalk
 pub mod SpelledHeader
 pub mod SpelledParts

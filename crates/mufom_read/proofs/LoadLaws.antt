@@ -1,7 +1,9 @@
 -- The loads so far, record by record.
-use Rattle.std.proofs.Common.{◌≡◌, ℕ, suc, ◌+◌, ◌<◌, true, true≢false, List, [], ◌∷◌, ◌++◌, length, map, drop, get_or, refl, sym, ap, ◌∙◌, arith, append-nil, append_assoc, Result, Ok, Err, OnOk, Option, Some, option_map}
-use Rattle.std.proofs.Math.Seq.{drop-cons}
+use Rattle.std.proofs.Common.{◌≡◌, ℕ, true, true≢false, List, [], ◌∷◌, ◌++◌, filter_map, slice_get, refl, sym, ap, ◌∙◌, append-nil, append_assoc, Result, Ok, Err, OnOk, Option, Some, None, option_map}
 use Rattle.std.specs.Prelude.{unwrap_or}
+use Rattle.std.specs.List.{cons_option}
+use Rattle.std.specs.Option.{option_or}
+use Rattle.std.proofs.lemmas.List.Elements.{filter_map-append}
 use Rattle.mufom_numbers.specs.declared.taken.Span.{Span}
 use Rattle.mufom_expr.specs.declared.token.FieldKind.{FieldKind}
 use Rattle.mufom_expr.specs.Tree.{Tree}
@@ -12,43 +14,41 @@ use Rattle.mufom_loads.specs.declared.load.Item.TheVariants.{Field}
 use Rattle.mufom_module.specs.SpelledRecords.{SpelledRecord, expression_of, tree_in, tree_of_record, positioned}
 use Rattle.mufom_module.specs.RecordParts.{data_part, stands_in}
 use Rattle.mufom_module.specs.Gathered.{item_by}
-use Rattle.mufom_read.specs.declared.kept.KeptRecord.{KeptRecord}
+use Rattle.mufom_read.specs.declared.header.Layout.{Layout}
 use Rattle.mufom_read.specs.declared.loads.Loads.{Loads}
-use Rattle.mufom_read.specs.Kept.{tables_of, indexes_by, record_of_kept}
-use Rattle.mufom_read.specs.LoadsSoFar.{no_loads, is_item, with_load, units_after, units_from, units_in, units_or, loads_from, loads_so_far}
+use Rattle.mufom_read.specs.HeaderSoFar.{layout_by, layout_in}
+use Rattle.mufom_read.specs.LoadsSoFar.{no_loads, is_item, units_in, loads_after, loads_from, loads_so_far}
 
 -- what was pushed, where that went well
 pub pushed : {X A E : Type 0} (r : Result A E) (new old few more : List X) → few ≡ more → OnOk r (new ≡ old ++ few) → OnOk r (new ≡ old ++ more)
 pushed (Ok a) new old few more e h = h ∙ ap (λ l. old ++ l) e
 pushed (Err e) new old few more same h = tt
 
--- the records from an offset in a list, and the one that stands there
-pub from-offset : (kept : List KeptRecord) (i : ℕ) (k : KeptRecord) → i < length kept → k ≡ get_or kept i k → map record_of_kept (drop i kept) ≡ record_of_kept k ∷ map record_of_kept (drop (i + 1) kept)
-from-offset kept i k within is =
-    ap (map record_of_kept) (drop-cons kept i k within)
-    ∙ (λ j. record_of_kept (sym is j) ∷ map record_of_kept (drop (next i j) kept))
-  where
-    next : (i : ℕ) → suc i ≡ i + 1
-    next i = omega arith
+-- the first of a list and one more
+pub first-more : {X : Type 0} (xs : List X) (o : Option X) → slice_get (xs ++ cons_option o []) 0 ≡ option_or (slice_get xs 0) o
+first-more [] None = refl
+first-more [] (Some x) = refl
+first-more (x ∷ xs) o = refl
 
-units_more : (o : Option ℕ) (ps : List SpelledRecord) (p : SpelledRecord) → units_from o (ps ++ p ∷ []) ≡ units_after (units_from o ps) p.row
-units_more o [] p = refl
-units_more o (q ∷ ps) p = units_more (units_after o q.row) ps p
+-- what is answered first, with one more record
+pub answer-more : {X : Type 0} (ask : SpelledRecord → Option X) (ps : List SpelledRecord) (p : SpelledRecord) → slice_get (filter_map ask (ps ++ p ∷ [])) 0 ≡ option_or (slice_get (filter_map ask ps) 0) (ask p)
+answer-more ask ps p = ap (λ xs. slice_get xs 0) (filter_map-append ask ps (p ∷ [])) ∙ first-more (filter_map ask ps) (ask p)
 
--- the units with one more record
-pub units-more : (ps : List SpelledRecord) (p : SpelledRecord) → units_in (ps ++ p ∷ []) ≡ units_after (units_in ps) p.row
-units-more ps p = units_more _ ps p
+-- units that are known stay
+pub units-stay : (ps : List SpelledRecord) (p : SpelledRecord) (maus : ℕ) → units_in ps ≡ Some maus → units_in (ps ++ p ∷ []) ≡ Some maus
+units-stay ps p maus given = ap (option_map (λ (l : Layout). l.maus)) (answer-more (λ q. layout_by q.row) ps p) ∙ stays (layout_in ps) given where
+  stays : (o : Option Layout) → option_map (λ (l : Layout). l.maus) o ≡ Some maus → option_map (λ (l : Layout). l.maus) (option_or o (layout_by p.row)) ≡ Some maus
+  stays (Some l) h = h
+  stays None h = absurd cc
 
-loads_more : (before : List SpelledRecord) (s : Loads) (ps : List SpelledRecord) (p : SpelledRecord)
-    → loads_from before s (ps ++ p ∷ []) ≡ with_load (indexes_by (tables_of (before ++ ps))) (units_or (units_in (before ++ ps))) (loads_from before s ps) p
-loads_more before s [] p = ap (λ (b : List SpelledRecord). with_load (indexes_by (tables_of b)) (units_or (units_in b)) s p) (sym (append-nil before))
+loads_more : (before : List SpelledRecord) (s : Loads) (ps : List SpelledRecord) (p : SpelledRecord) → loads_from before s (ps ++ p ∷ []) ≡ loads_after (before ++ ps) (loads_from before s ps) p
+loads_more before s [] p = ap (λ (b : List SpelledRecord). loads_after b s p) (sym (append-nil before))
 loads_more before s (q ∷ ps) p =
-    let now = with_load (indexes_by (tables_of before)) (units_or (units_in before)) s q in
-    loads_more (before ++ q ∷ []) now ps p
-    ∙ ap (λ (b : List SpelledRecord). with_load (indexes_by (tables_of b)) (units_or (units_in b)) (loads_from (before ++ q ∷ []) now ps) p) (append_assoc before (q ∷ []) ps)
+    loads_more (before ++ q ∷ []) (loads_after before s q) ps p
+    ∙ ap (λ (b : List SpelledRecord). loads_after b (loads_from (before ++ q ∷ []) (loads_after before s q) ps) p) (append_assoc before (q ∷ []) ps)
 
 -- the loads with one more record
-pub loads-more : (ps : List SpelledRecord) (p : SpelledRecord) → loads_so_far (ps ++ p ∷ []) ≡ with_load (indexes_by (tables_of ps)) (units_or (units_in ps)) (loads_so_far ps) p
+pub loads-more : (ps : List SpelledRecord) (p : SpelledRecord) → loads_so_far (ps ++ p ∷ []) ≡ loads_after ps (loads_so_far ps) p
 loads-more ps p = loads_more [] no_loads ps p
 
 -- ---- a record with its expression

@@ -1,5 +1,5 @@
 -- The loads of a whole prefix: those that the records of its data part give by the indexes of the file.
-use Rattle.std.proofs.Common.{◌≡◌, ℕ, ◌==◌, Bool, true, false, true≢false, not, List, [], ◌∷◌, ◌++◌, map, Option, Some, is_none, unwrap_or, refl, sym, ap, ◌∙◌, append-nil, append_assoc}
+use Rattle.std.proofs.Common.{◌≡◌, ℕ, ◌==◌, Bool, true, false, cond, true≢false, not, List, [], ◌∷◌, ◌++◌, map, Option, Some, is_none, unwrap_or, refl, sym, ap, ◌∙◌, append-nil, append_assoc}
 use Rattle.std.specs.List.{list_all, AllByRecursion}
 use Rattle.std.proofs.lemmas.Bool.{and_parts}
 use Rattle.std.proofs.lemmas.List.Elements.{filter_map-append}
@@ -12,7 +12,6 @@ use Rattle.mufom_expr.proofs.TermsLemmas.{with_variables-agrees_on}
 use Rattle.mufom_records.specs.declared.record.Record.{Record}
 use Rattle.mufom_records.specs.declared.record.Record.TheVariants as r
 use Rattle.mufom_loads.specs.declared.load.Item.TheVariants.{Field}
-use Rattle.mufom_loads.specs.declared.load.Load.{Load}
 use Rattle.mufom_loads.specs.declared.load.Load.TheVariants.{SetSection, SetPc}
 use Rattle.mufom_module.specs.SpelledRecords.{SpelledRecord, Kind, section, public, reference, of_kind, declared_by, declared, is_declared, index_of_variable, tree_in, position_in, positioned_variable, positioned}
 use Rattle.mufom_module.specs.RecordParts.{Part, number_of, data_part, part_of, stands_in}
@@ -22,12 +21,12 @@ use Rattle.mufom_read.specs.declared.loads.Loads.{Loads}
 use Rattle.mufom_read.specs.declared.loads.OpenLoad.TheVariants as open_load
 use Rattle.mufom_read.specs.Stated.{indexes_in}
 use Rattle.mufom_read.specs.Kept.{tables_of, indexes_by, as_record}
-use Rattle.mufom_read.specs.LoadsSoFar.{loads_and, no_loads, closed, with_item, with_load, units_after, units_in, units_or, loads_from, loads_so_far}
+use Rattle.mufom_read.specs.LoadsSoFar.{loads_and, no_loads, closed, with_item, with_load, units_in, units_or, loads_after, loads_from, loads_so_far}
 use Rattle.mufom_read.proofs.EndedParts.{KeptFrom}
 use Rattle.mufom_read.proofs.EndedNames.{IsSilent}
 use Rattle.mufom_read.proofs.EndedGathered.{other_part, unplaced}
 use Rattle.mufom_read.proofs.EndedTrees.{IsKnown, named_known, tree_known}
-use Rattle.mufom_read.proofs.LoadLaws.{units-more}
+use Rattle.mufom_read.proofs.LoadLaws.{units-stay}
 use Rattle.mufom_read.proofs.LoadsFold.{loads_by_all, loads-closed}
 use Rattle.mufom_read.proofs.Stable.{position-stays}
 
@@ -57,46 +56,22 @@ pub other-append : (a b : List SpelledRecord) → AreOther a → AreOther b → 
 other-append [] b x y = y
 other-append (p ∷ a) b x y = (x.0, other-append a b x.1 y)
 
-module _ (ix : Indexes) (maus : ℕ) where
-  quiet_row : (s : Loads) (row : Record) (bytes : List ℕ) → is_other row ≡ true → with_load ix maus s (as_record row bytes) ≡ loads_and (closed s) open_load.Nothing
-  quiet_row s (r.SetSection i) bytes h = absurd (true≢false (sym h))
-  quiet_row s (r.SetPc i value) bytes h = absurd (true≢false (sym h))
-  quiet_row s (r.Constant run) bytes h = absurd (true≢false (sym h))
-  quiet_row s r.Relocate bytes h = absurd (true≢false (sym h))
-  quiet_row s (r.ConstantItem run) bytes h = absurd (true≢false (sym h))
-  quiet_row s (r.FieldItem kind value size) bytes h = absurd (true≢false (sym h))
-  quiet_row s (r.RepeatConstant count run) bytes h = absurd (true≢false (sym h))
-  quiet_row s (r.RepeatRelocate count) bytes h = absurd (true≢false (sym h))
-  quiet_row s row bytes h = ap (λ (l : List Load). loads_and l open_load.Nothing) (append-nil (closed s))
+-- a record of another part changes nothing
+pub quiet-at : (before : List SpelledRecord) (s : Loads) (p : SpelledRecord) → is_other p.row ≡ true → loads_after before s p ≡ s
+quiet-at before s p h = by_test (stands_in data_part p.row) h where
+  by_test : (test : Bool) → not test ≡ true → cond test (with_load (indexes_by (tables_of before)) (units_or (units_in before)) s p) s ≡ s
+  by_test true e = absurd (true≢false (sym e))
+  by_test false e = refl
 
-  -- a record of another part ends what awaits items, and adds nothing
-  quiet_load : (s : Loads) (p : SpelledRecord) → is_other p.row ≡ true → with_load ix maus s p ≡ loads_and (closed s) open_load.Nothing
-  quiet_load s p h = quiet_row s p.row p.bytes h
-
--- the loads after one record, by the indexes and the units of those before it
-abbrev loads_at : List SpelledRecord → Loads → SpelledRecord → Loads
-loads_at before s p = with_load (indexes_by (tables_of before)) (units_or (units_in before)) s p
-
-quiet_at : (before : List SpelledRecord) (s : Loads) (p : SpelledRecord) → is_other p.row ≡ true → loads_at before s p ≡ loads_and (closed s) open_load.Nothing
-quiet_at before s p h = quiet_load (indexes_by (tables_of before)) (units_or (units_in before)) s p h
-
-quiet_all : (before : List SpelledRecord) (loads : List Load) (records : List SpelledRecord) → AreOther records → loads_from before (loads_and loads open_load.Nothing) records ≡ loads_and loads open_load.Nothing
-quiet_all before loads [] all = refl
-quiet_all before loads (p ∷ records) all =
-    ap (λ (s : Loads). loads_from (before ++ p ∷ []) s records) (quiet_at before (loads_and loads open_load.Nothing) p all.0 ∙ ap (λ (l : List Load). loads_and l open_load.Nothing) (append-nil loads))
-    ∙ quiet_all (before ++ p ∷ []) loads records all.1
-
-quiet_closed : (before : List SpelledRecord) (s : Loads) (records : List SpelledRecord) → AreOther records → closed (loads_from before s records) ≡ closed s
-quiet_closed before s [] all = refl
-quiet_closed before s (p ∷ records) all =
-    ap (λ (x : Loads). closed (loads_from (before ++ p ∷ []) x records)) (quiet_at before s p all.0)
-    ∙ ap closed (quiet_all (before ++ p ∷ []) (closed s) records all.1) ∙ append-nil (closed s)
+quiet_all : (before : List SpelledRecord) (s : Loads) (records : List SpelledRecord) → AreOther records → loads_from before s records ≡ s
+quiet_all before s [] all = refl
+quiet_all before s (p ∷ records) all = ap (λ (x : Loads). loads_from (before ++ p ∷ []) x records) (quiet-at before s p all.0) ∙ quiet_all (before ++ p ∷ []) s records all.1
 
 from_append : (before : List SpelledRecord) (s : Loads) (a b : List SpelledRecord) → loads_from before s (a ++ b) ≡ loads_from (before ++ a) (loads_from before s a) b
 from_append before s [] b = ap (λ (l : List SpelledRecord). loads_from l s b) (sym (append-nil before))
 from_append before s (p ∷ a) b =
-    from_append (before ++ p ∷ []) (loads_at before s p) a b
-    ∙ ap (λ (l : List SpelledRecord). loads_from l (loads_from (before ++ p ∷ []) (loads_at before s p) a) b) (append_assoc before (p ∷ []) a)
+    from_append (before ++ p ∷ []) (loads_after before s p) a b
+    ∙ ap (λ (l : List SpelledRecord). loads_from l (loads_from (before ++ p ∷ []) (loads_after before s p) a) b) (append_assoc before (p ∷ []) a)
 
 -- ---- indexes that are declared before
 
@@ -146,10 +121,11 @@ data_loads : (maus : ℕ) (ix : Indexes) (before records after : List SpelledRec
     → loads_from before s records ≡ loads_by_all ix maus s records
 data_loads maus ix before [] after s same given kept = refl
 data_loads maus ix before (p ∷ records) after s same given kept =
-    let here : with_load (indexes_by (tables_of before)) (units_or (units_in before)) s p ≡ with_load ix maus s p =
-    ap (λ (o : Option ℕ). with_load (indexes_by (tables_of before)) (units_or o) s p) given
+    let here : loads_after before s p ≡ with_load ix maus s p =
+    ap (λ (b : Bool). cond b (with_load (indexes_by (tables_of before)) (units_or (units_in before)) s p) s) kept.0
+    ∙ ap (λ (o : Option ℕ). with_load (indexes_by (tables_of before)) (units_or o) s p) given
     ∙ row_stays before (p ∷ records ++ after) maus s p.row p.bytes kept.1.known ∙ ap (λ (x : Indexes). with_load x maus s p) same in
-    let units : units_in (before ++ p ∷ []) ≡ Some maus = units-more before p ∙ ap (λ (o : Option ℕ). units_after o p.row) given in
+    let units = units-stay before p maus given in
     ap (λ (x : Loads). loads_from (before ++ p ∷ []) x records) here
     ∙ data_loads maus ix (before ++ p ∷ []) records after (with_load ix maus s p) (ap indexes_in (append_assoc before (p ∷ []) (records ++ after)) ∙ same) units kept.2
 
@@ -159,16 +135,15 @@ data_loads maus ix before (p ∷ records) after s same given kept =
 -- the end of the module.
 pub loads-whole : (maus : ℕ) (ix : Indexes) (before loads after : List SpelledRecord) (end : SpelledRecord) → AreOther before → AreOther after → is_other end.row ≡ true
     → indexes_in (((before ++ loads) ++ after) ++ end ∷ []) ≡ ix → units_in before ≡ Some maus → KeptFrom data_part before loads
-    → (loads_so_far (((before ++ loads) ++ after) ++ end ∷ [])).loads ≡ loads_of ix maus loads
+    → closed (loads_so_far (((before ++ loads) ++ after) ++ end ∷ [])) ≡ loads_of ix maus loads
 loads-whole maus ix before loads after end quiet late last same given kept =
     let prefix = (before ++ loads) ++ after in
-    let there = loads_from before no_loads loads in
     let nested : before ++ (loads ++ (after ++ end ∷ [])) ≡ prefix ++ end ∷ [] =
     sym (append_assoc before loads (after ++ end ∷ [])) ∙ sym (append_assoc (before ++ loads) after (end ∷ [])) in
-    let its : there ≡ loads_by_all ix maus no_loads loads = data_loads maus ix before loads (after ++ end ∷ []) no_loads (ap indexes_in nested ∙ same) given kept in
-    let first : loads_from [] no_loads (before ++ loads) ≡ there =
-    from_append [] no_loads before loads ∙ ap (λ (s : Loads). loads_from before s loads) (quiet_all [] [] before quiet) in
-    let later : closed (loads_from [] no_loads prefix) ≡ closed there =
-    ap closed (from_append [] no_loads (before ++ loads) after) ∙ quiet_closed (before ++ loads) (loads_from [] no_loads (before ++ loads)) after late ∙ ap closed first in
-    ap (λ (s : Loads). s.loads) (from_append [] no_loads prefix (end ∷ []) ∙ quiet_at prefix (loads_from [] no_loads prefix) end last)
-    ∙ later ∙ ap closed its ∙ loads-closed ix maus loads
+    let first : loads_from [] no_loads (before ++ loads) ≡ loads_from before no_loads loads =
+    from_append [] no_loads before loads ∙ ap (λ (s : Loads). loads_from before s loads) (quiet_all [] no_loads before quiet) in
+    let later : loads_from [] no_loads prefix ≡ loads_from before no_loads loads =
+    from_append [] no_loads (before ++ loads) after ∙ quiet_all (before ++ loads) (loads_from [] no_loads (before ++ loads)) after late ∙ first in
+    ap closed (from_append [] no_loads prefix (end ∷ []) ∙ quiet-at prefix (loads_from [] no_loads prefix) end last
+    ∙ later ∙ data_loads maus ix before loads (after ++ end ∷ []) no_loads (ap indexes_in nested ∙ same) given kept)
+    ∙ loads-closed ix maus loads

@@ -1,41 +1,30 @@
 -- A prefix with one more record, as the code keeps it.
-use Rattle.std.proofs.Common.{◌≡◌, ℕ, zero, suc, ◌+◌, ◌<◌, ◌≤◌, ◌==◌, ◌&&◌, ◌||◌, Bool, true, false, not, List, [], ◌∷◌, ◌++◌, length, map, filter_map, Option, Some, None, cond, get_or, refl, sym, ap, subst, ◌∙◌, arith, append-nil, append_assoc, length-append}
+use Rattle.std.proofs.Common.{◌≡◌, ℕ, ◌+◌, ◌<◌, ◌≤◌, ◌==◌, ◌&&◌, ◌||◌, Bool, true, false, not, List, [], ◌∷◌, ◌++◌, length, filter_map, Option, Some, None, refl, sym, ap, subst, ◌∙◌, arith, append-nil, append_assoc, length-append}
 use Rattle.std.specs.List.{list_any, last_or, cons_option}
-use Rattle.std.specs.Prelude.{All}
-use Rattle.std.proofs.lemmas.List.Elements.{All-append}
-use Rattle.std.proofs.lemmas.List.Elements.{filter-append, filter_map-append}
+use Rattle.std.proofs.lemmas.List.Elements.{filter_map-append}
 use Rattle.std.proofs.lemmas.List.Folds.{list_any-append}
 use Rattle.mufom_records.specs.declared.record.Record.{Record}
 use Rattle.mufom_records.specs.declared.record.Record.TheVariants as r
-use Rattle.mufom_module.specs.SpelledRecords.{SpelledRecord, section, public, reference, debug_name, declared, of_kind, declared_by, Once, start_address, is_same_statement, assigned_by}
+use Rattle.mufom_module.specs.SpelledRecords.{SpelledRecord, section, public, reference, debug_name, of_kind, declared_by, Once, start_address, is_same_statement, assigned_by}
 use Rattle.mufom_module.specs.RecordParts.{begins_item}
 use Rattle.mufom_module.specs.Grammar.{offset_in, Follows, FollowFrom}
-use Rattle.mufom_module.specs.Gathered.{references_of, mark_by}
 use Rattle.mufom_read.specs.declared.prefix.Prefix.{Prefix}
-use Rattle.mufom_read.specs.declared.kept.KeptRecord.{KeptRecord}
 use Rattle.mufom_read.specs.declared.tables.Tables.{Tables}
-use Rattle.mufom_read.specs.Prefixes.{Step, raw, read, step_bytes, prefix_bytes, size_of, record_of, records_of, offset_record, offset_records_of, offsets_of, first_present, OffsetRecord, awaits_items, ends_with}
-use Rattle.mufom_read.specs.Faults.{set_by, opened_after}
-use Rattle.mufom_read.specs.Kept.{tables_of, with_row, statements, alignment_stated, size_stated, base_stated, value_stated, weakness_stated, indexes_by, record_of_kept, placed, is_kept, kept_of, kept_alone, HasOwnParts}
-use Rattle.mufom_read.specs.NamesSoFar.{records_in, ArePublicsOf, AreRising}
-use Rattle.mufom_read.specs.LoadsSoFar.{with_load, units_after, units_in, units_or, loads_so_far}
-use Rattle.mufom_read.specs.DebugSoFar.{opened, marks_kept, marks_so_far, AreDebugOf}
-use Rattle.mufom_read.specs.PrefixOfCode.{AreOrdered, offset_count, IsPrefixOf, with_record, as_location, next_location, IsNext, IsAddable}
+use Rattle.mufom_read.specs.Prefixes.{Step, raw, read, step_bytes, prefix_bytes, size_of, record_of, records_of, offset_record, offset_records_of, offsets_of, first_present, awaits_items, ends_with}
+use Rattle.mufom_read.specs.Faults.{set_by}
+use Rattle.mufom_read.specs.Kept.{tables_of, with_row, statements, alignment_stated, size_stated, base_stated, value_stated, weakness_stated}
+use Rattle.mufom_read.specs.NamesSoFar.{records_in, AreRising}
+use Rattle.mufom_read.specs.ContentsSoFar.{AreContentsOf, AreContentsBefore}
+use Rattle.mufom_read.specs.PrefixOfCode.{AreOrdered, offset_count, IsPrefixOf, with_record, as_location, next_location, IsAddable}
 use Rattle.mufom_read.proofs.LocationMoves.{offsets-stay, location-moves}
 use Rattle.mufom_read.proofs.FollowLaws.{follow-more, rising-more}
 use Rattle.mufom_read.proofs.PartBytes.{KeepsBytes}
-use Rattle.mufom_read.proofs.DebugSteps.{marks-more, open-more}
-use Rattle.mufom_read.proofs.LoadLaws.{units-more, loads-more}
 
 -- ---- lists with one more
 
 last-append : {A : Type 0} (o : Option A) (xs ys : List A) → last_or o (xs ++ ys) ≡ last_or (last_or o xs) ys
 last-append o [] ys = refl
 last-append o (x ∷ xs) ys = last-append (Some x) xs ys
-
-map-append : {A B : Type 0} (f : A → B) (xs ys : List A) → map f (xs ++ ys) ≡ map f xs ++ map f ys
-map-append f [] ys = refl
-map-append f (x ∷ xs) ys = ap (λ zs. f x ∷ zs) (map-append f xs ys)
 
 bytes-append : (a b : List Step) → prefix_bytes (a ++ b) ≡ prefix_bytes a ++ prefix_bytes b
 bytes-append [] b = refl
@@ -143,98 +132,39 @@ with-grown t (r.Start a) = same_tables (with_row t (r.Start a)) (grown t (r.Star
 
 -- ---- the prefix
 
-all_one : {A : Type 0} (P : A → Type 0) (x : A) → P x → All P (x ∷ [])
-all_one P x one_ k d below = subst P (sym (first k d below)) one_ where
-  first : (k : ℕ) (d : _) → k < 1 → get_or (x ∷ []) k d ≡ x
-  first zero d below = refl
-  first (suc k) d below = absurd (omega (arith, below))
-
--- none is kept
-pub none-own : (kept : List KeptRecord) → kept ≡ [] → All HasOwnParts kept
-none-own kept none = subst (All HasOwnParts) (sym none) (λ k d below. absurd (omega (arith, below)))
-
-alone-own : (k : KeptRecord) → HasOwnParts k → All HasOwnParts (kept_alone k)
-alone-own k own = by_case (is_kept k.row) where
-  by_case : (b : Bool) → All HasOwnParts (cond b (k ∷ []) [])
-  by_case true = all_one HasOwnParts k own
-  by_case false = none-own [] refl
-
-kept-alone : (k : KeptRecord) → map placed (kept_alone k) ≡ kept_of (placed k ∷ [])
-kept-alone k = by_case (is_kept k.row) where
-  by_case : (b : Bool) → map placed (cond b (k ∷ []) []) ≡ cond b (placed k ∷ []) []
-  by_case true = refl
-  by_case false = refl
-
 pub records-placed : (prefix : List Step) → records_of prefix ≡ records_in (offset_records_of prefix)
 records-placed [] = refl
 records-placed (raw b ∷ prefix) = records-placed prefix
 records-placed (read start p ∷ prefix) = ap (λ ps. p ∷ ps) (records-placed prefix)
 
--- what is known of the publics and the references before a record that keeps to the rules
-pub next-of : (f : Prefix) (prefix : List Step) (p : SpelledRecord) → IsPrefixOf f prefix → Follows (records_of prefix) p → IsNext f (offset_records_of prefix) p
+-- what is known of the contents before a record that keeps to the rules
+pub next-of : (f : Prefix) (prefix : List Step) (p : SpelledRecord) → IsPrefixOf f prefix → Follows (records_of prefix) p → AreContentsBefore f.contents f.tables (offset_records_of prefix) p
 next-of f prefix p is follows =
-    let same = records-placed prefix in (
-      record {
-        publics = is.publics;
-        table = ap (λ (t : Tables). t.publics) is.tables ∙ ap (declared public) same;
-        follow = subst (FollowFrom []) same is.follow;
-        next = subst (λ ps. Follows ps p) same follows;
-      },
-      record {
-        same = is.references ∙ ap references_of same;
-        table = ap (λ (t : Tables). t.references) is.tables ∙ ap (declared reference) same;
-        follow = subst (FollowFrom []) same is.follow;
-        next = subst (λ ps. Follows ps p) same follows;
-      },
-    )
-
--- what is known of the debug items after a record
-abbrev AreDebugAfter : Prefix → KeptRecord → Prefix → Type 0
-AreDebugAfter f k new = (marks_kept new.debug ≡ marks_kept f.debug ++ cons_option (mark_by (indexes_by f.tables) (record_of_kept k) k.row) [])
-    × (opened new.debug ≡ opened_after (opened f.debug) k.start k.row)
-
-debug-add : (f : Prefix) (prefix : List Step) (k : KeptRecord) (new : Prefix) → IsPrefixOf f prefix → AreDebugAfter f k new → AreDebugOf new.debug (offset_records_of prefix ++ placed k ∷ [])
-debug-add f prefix k new is after =
-    let p = record_of_kept k in
-    let all = offset_records_of prefix in
     let same = records-placed prefix in
-    let tables = is.tables ∙ ap tables_of same in
-    record {
-      marks = after.0 ∙ (λ j. is.debug.marks j ++ cons_option (mark_by (indexes_by (tables j)) p k.row) []) ∙ sym (marks-more (records_in all) p) ∙ ap marks_so_far (sym (map-append (λ (q : OffsetRecord). q.1) all (placed k ∷ [])));
-      blocks = after.1 ∙ ap (λ bs. opened_after bs k.start k.row) is.debug.blocks ∙ sym (open-more all k.start p);
-    }
+    record { contents = is.contents; tables = is.tables ∙ ap tables_of same; follow = subst (FollowFrom []) same is.follow; next = subst (λ ps. Follows ps p) same follows }
 
 -- a record is added after a prefix
-pub prefix-add : (f : Prefix) (prefix : List Step) (k : KeptRecord) (new : Prefix) → IsPrefixOf f prefix → HasOwnParts k → 0 < length k.bytes → k.start ≡ f.size
-    → as_location new.location ≡ next_location (as_location f.location) (f.offsets ++ cons_option (offset_in k.row) []) (f.size + length k.bytes)
-    → ArePublicsOf new.publics (offset_records_of prefix ++ placed k ∷ []) → new.references.items ≡ references_of (records_in (offset_records_of prefix) ++ record_of_kept k ∷ [])
-    → AreDebugAfter f k new → IsAddable prefix k.row → Follows (records_of prefix) (record_of_kept k) → KeepsBytes prefix (record_of_kept k) → IsPrefixOf (with_record f k new) (prefix ++ read (size_of prefix) (record_of_kept k) ∷ [])
-prefix-add f prefix k new is own some start moved publics references debug fits follows keeps =
-    let p = record_of_kept k in
+pub prefix-add : (f : Prefix) (prefix : List Step) (start : ℕ) (p : SpelledRecord) (new : Prefix) → IsPrefixOf f prefix → 0 < length p.bytes → start ≡ f.size
+    → as_location new.location ≡ next_location (as_location f.location) (f.offsets ++ cons_option (offset_in p.row) []) (f.size + length p.bytes)
+    → AreContentsOf new.contents (offset_records_of prefix ++ (start, p) ∷ [])
+    → IsAddable prefix p.row → Follows (records_of prefix) p → KeepsBytes prefix p → IsPrefixOf (with_record f p new) (prefix ++ read (size_of prefix) p ∷ [])
+prefix-add f prefix start p new is some begins moved contents fits follows keeps =
     let more : List Step = read (size_of prefix) p ∷ [] in
     let records : records_of (prefix ++ more) ≡ records_of prefix ++ p ∷ [] = filter_map-append record_of prefix more in
     let offsets_named : offset_records_of (prefix ++ more) ≡ offset_records_of prefix ++ (size_of prefix, p) ∷ [] = filter_map-append offset_record prefix more in
     let last : last_or None (records_of (prefix ++ more)) ≡ Some p = ap (last_or None) records ∙ last-append None (records_of prefix) (p ∷ []) in
-    let size : size_of (prefix ++ more) ≡ size_of prefix + length k.bytes = size-append prefix more ∙ ap (λ n. size_of prefix + n) (ap length (append-nil k.bytes)) in
-    let offsets : offsets_of (prefix ++ more) ≡ offsets_of prefix ++ cons_option (offset_in k.row) [] =
+    let size : size_of (prefix ++ more) ≡ size_of prefix + length p.bytes = size-append prefix more ∙ ap (λ n. size_of prefix + n) (ap length (append-nil p.bytes)) in
+    let offsets : offsets_of (prefix ++ more) ≡ offsets_of prefix ++ cons_option (offset_in p.row) [] =
     ap (λ ps. filter_map (λ q. offset_in q.row) ps) records ∙ filter_map-append (λ q. offset_in q.row) (records_of prefix) (p ∷ []) in
-    let new_offsets : f.offsets ++ cons_option (offset_in k.row) [] ≡ offsets_of (prefix ++ more) = ap (λ os. os ++ cons_option (offset_in k.row) []) is.offsets ∙ sym offsets in
-    let new_size : f.size + length k.bytes ≡ size_of (prefix ++ more) = ap (λ n. n + length k.bytes) is.size ∙ sym size in
-    let stay = λ (many : 10 ≤ length prefix). offsets ∙ offsets-stay (offsets_of prefix) (offset_in k.row) (omega (arith, many, keeps.count, is.count)) in
+    let new_offsets : f.offsets ++ cons_option (offset_in p.row) [] ≡ offsets_of (prefix ++ more) = ap (λ os. os ++ cons_option (offset_in p.row) []) is.offsets ∙ sym offsets in
+    let new_size : f.size + length p.bytes ≡ size_of (prefix ++ more) = ap (λ n. n + length p.bytes) is.size ∙ sym size in
+    let stay = λ (many : 10 ≤ length prefix). offsets ∙ offsets-stay (offsets_of prefix) (offset_in p.row) (omega (arith, many, keeps.count, is.count)) in
     let moves = location-moves prefix more (λ few. refl) stay is.ordered (omega (arith, size)) in
     record {
-      kept = map-append placed f.kept (kept_alone k) ∙ ap (λ ps. ps ++ map placed (kept_alone k)) is.kept
-          ∙ ap (λ ps. kept_of (offset_records_of prefix) ++ ps) (kept-alone k ∙ ap (λ n. kept_of ((n, p) ∷ [])) (start ∙ is.size))
-          ∙ sym (ap kept_of offsets_named ∙ filter-append (λ (q : OffsetRecord). is_kept q.1.row) (offset_records_of prefix) ((size_of prefix, p) ∷ []));
-      loads = (λ j. with_load (indexes_by (is.tables j)) (units_or (is.maus j)) (is.loads j) p) ∙ sym (ap loads_so_far records ∙ loads-more (records_of prefix) p);
-      maus = ap (λ o. units_after o k.row) is.maus ∙ sym (ap units_in records ∙ units-more (records_of prefix) p);
+      contents = subst (AreContentsOf new.contents) ((λ j. offset_records_of prefix ++ ((begins ∙ is.size) j, p) ∷ []) ∙ sym offsets_named) contents;
       awaits = sym (ap awaits_items last);
       ended = sym (ap ends_with last);
-      publics = subst (ArePublicsOf new.publics) ((λ j. offset_records_of prefix ++ ((start ∙ is.size) j, p) ∷ []) ∙ sym offsets_named) publics;
-      debug = subst (AreDebugOf new.debug) ((λ j. offset_records_of prefix ++ ((start ∙ is.size) j, p) ∷ []) ∙ sym offsets_named) (debug-add f prefix k new is debug);
-      references = references ∙ ap (λ ps. references_of (ps ++ p ∷ [])) (sym (records-placed prefix)) ∙ ap references_of (sym records);
-      own = All-append HasOwnParts f.kept (kept_alone k) is.own (alone-own k own);
-      tables = ap (λ t. with_row t k.row) is.tables ∙ with-grown (tables_of (records_of prefix)) k.row ∙ sym (tables-append (records_of prefix) p) ∙ ap tables_of (sym records);
+      tables = ap (λ t. with_row t p.row) is.tables ∙ with-grown (tables_of (records_of prefix)) p.row ∙ sym (tables-append (records_of prefix) p) ∙ ap tables_of (sym records);
       offsets = new_offsets;
       extension = is.extension ∙ sym keeps.extension;
       environment = is.environment ∙ sym keeps.environment;

@@ -49,10 +49,10 @@ no-reference-row (r.WeakReference i n default) x y z = absurd (y i n default ref
 no-reference-row (r.ReferenceNote i a b ns) x y z = absurd (z i a b ns refl)
 no-reference-row row x y z = refl
 
-same_record : (p : SpelledRecord) (row : Record) → p.row ≡ row → p ≡ as_record row p.bytes
+pub same_record : (p : SpelledRecord) (row : Record) → p.row ≡ row → p ≡ as_record row p.bytes
 same_record p row is = (λ k. as_record (is k) p.bytes)
 
-records-more : (all : List OffsetRecord) (q : OffsetRecord) → records_in (all ++ q ∷ []) ≡ records_in all ++ q.1 ∷ []
+pub records-more : (all : List OffsetRecord) (q : OffsetRecord) → records_in (all ++ q ∷ []) ≡ records_in all ++ q.1 ∷ []
 records-more [] q = refl
 records-more (x ∷ all) q = ap (λ l. x.1 ∷ l) (records-more all q)
 

@@ -15,7 +15,6 @@ use Rattle.mufom_module.specs.SpelledRecords.{SpelledRecord, text_in, tree_in, p
 use Rattle.mufom_module.specs.Gathered.{answers, note_of, value_for, public_note_for, public_by, publics_of}
 use Rattle.mufom_read.specs.Kept.{as_record}
 use Rattle.mufom_read.specs.NamesSoFar.{unplaced_value, unplaced_by, unplaced_publics, placed_public}
-use Rattle.mufom_read.proofs.StatedLaws.{map-cons}
 use Rattle.mufom_read.proofs.InPlace.{changed_at, changed-there}
 use Rattle.mufom_read.proofs.ReferenceSteps.{one_more_none, same_each, same_count, same_index, more_notes}
 
@@ -23,9 +22,13 @@ use Rattle.mufom_read.proofs.ReferenceSteps.{one_more_none, same_each, same_coun
 abbrev key : SpelledRecord → Option ℕ
 key p = of_kind public (declared_by p.row)
 
+map_cons : {X Y : Type 0} (f : X → Y) (o : Option X) (xs : List X) → map f (cons_option o xs) ≡ cons_option (option_map f o) (map f xs)
+map_cons f None xs = refl
+map_cons f (Some x) xs = refl
+
 fused : {P X Y : Type 0} (f : P → Option Y) (g : X → Y) (h : P → Option X) → ((p : P) → f p ≡ option_map g (h p)) → (ps : List P) → filter_map f ps ≡ map g (filter_map h ps)
 fused f g h same [] = refl
-fused f g h same (p ∷ ps) = (λ k. cons_option (same p k) (fused f g h same ps k)) ∙ sym (map-cons g (h p) (filter_map h ps))
+fused f g h same (p ∷ ps) = (λ k. cons_option (same p k) (fused f g h same ps k)) ∙ sym (map_cons g (h p) (filter_map h ps))
 
 -- The publics of a file are those that are kept, with positions in place of its indexes.
 pub publics-placed : (ix : Indexes) (part : List SpelledRecord) → publics_of ix part ≡ map (placed_public ix) (unplaced_publics part)

@@ -3,15 +3,13 @@ use Rattle.std.proofs.Common.{◌≡◌, ℕ, suc, ◌+◌, ◌-◌, ◌<◌, �
 use Rattle.std.specs.Option.{option_or}
 use Rattle.std.specs.List.{last_or}
 use Rattle.std.proofs.lemmas.List.Elements.{filter_map-append}
-use Rattle.std.specs.Prelude.{All}
 use Rattle.mufom_module.specs.SpelledRecords.{SpelledRecord}
 use Rattle.mufom_module.specs.Grammar.{offsets_in, FollowFrom}
-use Rattle.mufom_module.specs.Gathered.{references_of}
-use Rattle.mufom_read.specs.declared.publics.Publics.{Publics}
-use Rattle.mufom_read.specs.NamesSoFar.{ArePublicsOf, AreRising}
+use Rattle.mufom_read.specs.declared.contents.Contents.{Contents}
+use Rattle.mufom_read.specs.NamesSoFar.{AreRising}
+use Rattle.mufom_read.specs.ContentsSoFar.{AreContentsOf}
 use Rattle.mufom_read.proofs.FollowLaws.{rising-on}
-use Rattle.mufom_read.specs.Kept.{placed, kept_of, tables_of, HasOwnParts}
-use Rattle.mufom_read.specs.LoadsSoFar.{units_in, loads_so_far}
+use Rattle.mufom_read.specs.Kept.{tables_of}
 use Rattle.mufom_read.specs.declared.prefix.Prefix.{Prefix}
 use Rattle.mufom_read.specs.declared.prefix.Location as code
 use Rattle.mufom_read.specs.declared.prefix.Location.TheVariants as offset
@@ -22,8 +20,6 @@ use Rattle.mufom_read.specs.Prefixes.{Step, raw, size_of, record_of, records_of,
 use Rattle.mufom_read.specs.Faults.{whole_fault, step_fault, ended_fault, ended_part_fault}
 use Rattle.mufom_read.specs.Judging.{IsSoundFrom}
 use Rattle.mufom_read.specs.PartsOfCode.{as_part, as_extent}
-use Rattle.mufom_read.specs.declared.debug.Debugs.{Debugs}
-use Rattle.mufom_read.specs.DebugSoFar.{AreDebugOf}
 use Rattle.mufom_read.specs.PrefixOfCode.{AreOrdered, IsPrefixOf, as_location, extension_in, environment_in, next_location, HasRaw, HasSkipped, IsStepTaken}
 use Rattle.mufom_read.proofs.PrefixLaws.{size-append}
 use Rattle.mufom_read.proofs.PartBytes.{raw-bytes}
@@ -73,15 +69,9 @@ raw-prefix old new prefix e bytes is header found within more =
     let old_size : old.size + length bytes ≡ size_of (prefix ++ map raw bytes) = ap (λ n. n + length bytes) is.size ∙ sym size in
     let moves = location-moves prefix (map raw bytes) (λ few. absurd (omega (arith, few, many))) (λ later. ap offsets_in records) is.ordered (omega (arith, size)) in
     record {
-      kept = ap (map placed) more.kept ∙ is.kept ∙ ap kept_of (sym (places_same prefix bytes));
-      loads = more.loads ∙ is.loads ∙ ap loads_so_far (sym records);
-      maus = more.maus ∙ is.maus ∙ ap units_in (sym records);
+      contents = subst (λ (c : Contents). AreContentsOf c (offset_records_of (prefix ++ map raw bytes))) (sym more.contents) (subst (AreContentsOf old.contents) (sym (places_same prefix bytes)) is.contents);
       awaits = more.awaits ∙ is.awaits ∙ ap (λ (ps : List SpelledRecord). awaits_items (last_or None ps)) (sym records);
       ended = more.ended ∙ is.ended ∙ ap (λ (ps : List SpelledRecord). ends_with (last_or None ps)) (sym records);
-      publics = subst (λ (n : Publics). ArePublicsOf n (offset_records_of (prefix ++ map raw bytes))) (sym more.publics) (subst (ArePublicsOf old.publics) (sym (places_same prefix bytes)) is.publics);
-      debug = subst (λ (d : Debugs). AreDebugOf d (offset_records_of (prefix ++ map raw bytes))) (sym more.debug) (subst (AreDebugOf old.debug) (sym (places_same prefix bytes)) is.debug);
-      references = more.references ∙ is.references ∙ ap references_of (sym records);
-      own = subst (All HasOwnParts) (sym more.kept) is.own;
       tables = more.tables ∙ is.tables ∙ ap tables_of (sym records);
       offsets = more.offsets ∙ is.offsets ∙ ap offsets_in (sym records);
       extension = more.extension ∙ ap (λ l. l ++ extension_in e.part bytes) is.extension ∙ sym kept.0;

@@ -1,17 +1,15 @@
 -- Faults of the header and of parts as wholes, read off the tables.
-use Rattle.std.proofs.Common.{◌≡◌, ℕ, zero, suc, ◌+◌, ◌==◌, ◌&&◌, Bool, true, false, cond, true≢false, not, List, [], ◌∷◌, ◌++◌, length, Option, Some, None, refl, sym, ap, ◌∙◌, arith, ◌⊎◌, inl, inr, eq-eqb, ne_eqb, length-append, Result, Ok, Err, IfOk}
+use Rattle.std.proofs.Common.{◌≡◌, ℕ, zero, suc, ◌+◌, ◌==◌, ◌&&◌, Bool, not, List, [], ◌∷◌, ◌++◌, length, Option, Some, None, refl, sym, ap, ◌∙◌, arith, ◌⊎◌, inl, inr, eq-eqb, ne_eqb, length-append, Result, Ok, Err, IfOk}
 use Rattle.std.proofs.lemmas.Bool.{cases_eq}
 use Rattle.std.specs.Option.{option_or}
-use Rattle.mufom_read.specs.declared.tables.Tables.{Tables}
-use Rattle.mufom_records.specs.declared.record.Record.TheVariants as r
 use Rattle.mufom_numbers.specs.declared.reason.Reason.TheVariants as why
 use Rattle.mufom_records.specs.declared.record.Record.{Record}
 use Rattle.mufom_module.specs.Contents.{any_of}
 use Rattle.mufom_module.specs.SpelledRecords.{SpelledRecord, is_public_value, tree_of_record}
 use Rattle.mufom_read.specs.Prefixes.{OffsetRecord, first_present}
-use Rattle.mufom_read.specs.Faults.{Fault, leaves_gap, fault_if, first_fault, absolute_declared, public_declared, lacks_base, lacks_value, has_unknown_variable, section_fault, external_fault}
-use Rattle.mufom_read.specs.Kept.{tables_of, statements, has, is_kept, kept_of, lacks_base_in, lacks_value_in, has_unknown_value_in, section_fault_in, external_fault_in, first_or}
-use Rattle.mufom_read.proofs.TableLaws.{base-has, value-has}
+use Rattle.mufom_read.specs.Faults.{Fault, leaves_gap, fault_if, first_fault, public_declared, lacks_value, has_unknown_variable, external_fault}
+use Rattle.mufom_read.specs.Kept.{tables_of, statements, lacks_value_in, has_unknown_value_in, external_fault_in, first_or}
+use Rattle.mufom_read.proofs.TableLaws.{value-has}
 use Rattle.mufom_read.proofs.RuleLaws.{known-tree}
 
 -- the first offset that is not 0 of offsets and one more
@@ -43,9 +41,6 @@ same_any : (f g : ℕ → Bool) (o : Option ℕ) → ((i : ℕ) → f i ≡ g i)
 same_any f g None same = refl
 same_any f g (Some i) same = same i
 
-base : (ps : List SpelledRecord) (row : Record) → lacks_base_in (tables_of ps) row ≡ lacks_base ps row
-base ps row = same_any _ _ (absolute_declared row) (λ i. ap not (base-has i (statements ps)))
-
 value : (ps : List SpelledRecord) (row : Record) → lacks_value_in (tables_of ps) row ≡ lacks_value ps row
 value ps row = same_any _ _ (public_declared row) (λ i. ap not (value-has i (statements ps)))
 
@@ -56,29 +51,8 @@ same_first : (f g : OffsetRecord → Option Fault) (placed : List OffsetRecord) 
 same_first f g [] same = refl
 same_first f g (p ∷ placed) same = ap (λ o. option_or o (first_fault f placed)) (same p) ∙ ap (λ o. option_or (g p) o) (same_first f g placed same)
 
--- the first section without a base
-pub section_fault-tables : (ps : List SpelledRecord) (placed : List OffsetRecord) → first_fault (section_fault_in (tables_of ps)) placed ≡ first_fault (section_fault ps) placed
-section_fault-tables ps placed = same_first _ _ placed (λ p. ap (λ b. fault_if b p.0 why.MissingBase) (base ps p.1.row))
-
 -- the first public without a value, or value with a variable that names no entry
 pub external_fault-tables : (ps : List SpelledRecord) (placed : List OffsetRecord) → first_fault (external_fault_in (tables_of ps)) placed ≡ first_fault (external_fault ps) placed
 external_fault-tables ps placed = same_first _ _ placed (λ p.
     ap (λ b. option_or (fault_if b p.0 why.UnknownIndex) (fault_if (lacks_value_in (tables_of ps) p.1.row) p.0 why.MissingValue)) (unknown ps p.1)
     ∙ ap (λ b. option_or (fault_if (has_unknown_variable ps p.1) p.0 why.UnknownIndex) (fault_if b p.0 why.MissingValue)) (value ps p.1.row))
-
--- ---- the records that are kept
-
--- the first fault of records is that of those that are kept, where no other has one
-pub kept-first : (fault : OffsetRecord → Option Fault) → ((p : OffsetRecord) → is_kept p.1.row ≡ false → fault p ≡ None) → (placed : List OffsetRecord) → first_fault fault (kept_of placed) ≡ first_fault fault placed
-kept-first fault none [] = refl
-kept-first fault none (p ∷ placed) = by_case (is_kept p.1.row) refl (kept-first fault none placed) where
-  by_case : (b : Bool) → is_kept p.1.row ≡ b → first_fault fault (kept_of placed) ≡ first_fault fault placed → first_fault fault (cond b (p ∷ kept_of placed) (kept_of placed)) ≡ option_or (fault p) (first_fault fault placed)
-  by_case true e rest = ap (λ o. option_or (fault p) o) rest
-  by_case false e rest = rest ∙ ap (λ o. option_or o (first_fault fault placed)) (sym (none p e))
-
-no_section : (row : Record) → is_kept row ≡ false → absolute_declared row ≡ None
-no_section (r.SectionType i absolute letter name a b c) h = absurd (true≢false h)
-no_section row h = refl
-
-pub no-section-fault : (t : Tables) (p : OffsetRecord) → is_kept p.1.row ≡ false → section_fault_in t p ≡ None
-no-section-fault t p h = ap (λ o. fault_if (any_of (λ i. not (has t.bases i)) o) p.0 why.MissingBase) (no_section p.1.row h)

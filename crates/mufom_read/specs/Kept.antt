@@ -1,6 +1,6 @@
 -- What the code keeps of the records of a prefix: which indexes they declare, and which they give a value.
-use Rattle.std.specs.Prelude.{◌≡◌, ℕ, zero, suc, ◌<◌, ◌-◌, ◌^◌, ◌==◌, ◌||◌, ◌&&◌, Bool, true, false, not, List, [], ◌∷◌, ◌++◌, length, filter_map, Option, Some, None, is_none, option_to_list, if◌then◌else◌}
-use Rattle.std.specs.List.{list_any, list_all, filter}
+use Rattle.std.specs.Prelude.{ℕ, zero, suc, ◌<◌, ◌-◌, ◌^◌, ◌==◌, ◌||◌, ◌&&◌, Bool, true, false, not, List, [], ◌∷◌, ◌++◌, length, filter_map, Option, Some, None, is_none, option_to_list, if◌then◌else◌}
+use Rattle.std.specs.List.{list_any, list_all}
 use Rattle.mufom_numbers.specs.declared.reason.Reason.{Reason}
 use Rattle.mufom_numbers.specs.declared.reason.Reason.TheVariants as why
 use Rattle.mufom_expr.specs.declared.token.Letter.{Letter}
@@ -11,16 +11,15 @@ use Rattle.mufom_records.specs.declared.record.Record.{Record}
 use Rattle.mufom_records.specs.declared.record.Record.TheVariants as r
 use Rattle.mufom_module.specs.Contents.{any_of}
 use Rattle.mufom_module.specs.Defects.{has_other_counter}
-use Rattle.mufom_module.specs.RecordParts.{external_part, debug_part, data_part, stands_in, is_loading}
+use Rattle.mufom_module.specs.RecordParts.{is_loading}
 use Rattle.mufom_module.specs.SpelledRecords.{SpelledRecord, Kind, FileIndex, section, public, reference, debug_name, declared, named_by, is_public_value, tree_of_record, index_of_variable, Once, value_of_public, weakness, alignment, section_size, section_base, start_address, assigned_by, is_assigned}
 use Rattle.mufom_read.specs.declared.tables.Tables.{Tables}
 use Rattle.std.specs.Option.{option_or}
 use Rattle.mufom_records.specs.Parts.{HasParts}
-use Rattle.mufom_read.specs.declared.kept.KeptRecord.{KeptRecord}
-use Rattle.mufom_read.specs.declared.kept.SeenRecord.{SeenRecord}
+use Rattle.mufom_read.specs.declared.seen.SeenRecord.{SeenRecord}
 use Rattle.mufom_read.specs.declared.refusal.ReadRefusal.{ReadRefusal}
 use Rattle.mufom_read.specs.Prefixes.{OffsetRecord}
-use Rattle.mufom_read.specs.Faults.{Fault, fault_if, OpenBlock, ends_badly, is_too_deep, current_section, has_bad_alignment, absolute_declared, public_declared}
+use Rattle.mufom_read.specs.Faults.{Fault, fault_if, OpenBlock, ends_badly, is_too_deep, current_section, has_bad_alignment, public_declared}
 
 -- ---- what records state once
 
@@ -70,12 +69,6 @@ tables_of records = record {
 -- the index lists of the tables
 abbrev pub indexes_by : Tables → Indexes
 indexes_by t = record { sections = t.sections; publics = t.publics; references = t.references; debug_names = t.debug_names }
-
--- the tables have what these records state of sections
-pub record AreSectionTables (t : Tables) (records : List SpelledRecord) : Type 0 where
-  pub alignments : t.alignments ≡ filter_map alignment_stated (statements records)
-  pub sizes : t.sizes ≡ filter_map size_stated (statements records)
-  pub bases : t.bases ≡ filter_map base_stated (statements records)
 
 -- the tables with what one more record declares or states
 abbrev pub with_row : Tables → Record → Tables
@@ -164,9 +157,6 @@ rule_broken_in t blocks row tree = if declares_again_in t row then Some why.Dupl
 
 -- ---- parts as wholes, read off the tables
 
-abbrev pub lacks_base_in : Tables → Record → Bool
-lacks_base_in t row = any_of (λ i. not (has t.bases i)) (absolute_declared row)
-
 abbrev pub lacks_value_in : Tables → Record → Bool
 lacks_value_in t row = any_of (λ i. not (has t.values i)) (public_declared row)
 
@@ -174,51 +164,25 @@ lacks_value_in t row = any_of (λ i. not (has t.values i)) (public_declared row)
 abbrev pub has_unknown_value_in : Tables → SpelledRecord → Bool
 has_unknown_value_in t p = is_public_value p.row && any_of (λ e. list_any (is_unknown t) (variables_of e)) (tree_of_record p)
 
-abbrev pub section_fault_in : Tables → OffsetRecord → Option Fault
-section_fault_in t p = fault_if (lacks_base_in t p.1.row) p.0 why.MissingBase
-
 abbrev pub external_fault_in : Tables → OffsetRecord → Option Fault
 external_fault_in t p = option_or (fault_if (has_unknown_value_in t p.1) p.0 why.UnknownIndex) (fault_if (lacks_value_in t p.1.row) p.0 why.MissingValue)
 
--- ---- records that are kept
-
--- a record with its bytes
-abbrev pub record_of_kept : KeptRecord → SpelledRecord
-record_of_kept k = record { row = k.row; bytes = k.bytes }
+-- ---- the record that is judged
 
 abbrev pub as_record : Record → List ℕ → SpelledRecord
 as_record row bytes = record { row = row; bytes = bytes }
 
-abbrev pub kept_record : ℕ → Record → List ℕ → KeptRecord
-kept_record start row bytes = record { start = start; row = row; bytes = bytes }
-
--- the record that is judged, with a copy of its bytes
-abbrev pub kept_of_seen : SeenRecord → KeptRecord
-kept_of_seen s = kept_record s.start s.row s.bytes.now
+-- the record with its bytes
+abbrev pub record_of_seen : SeenRecord → SpelledRecord
+record_of_seen s = as_record s.row s.bytes.now
 
 -- and its offset
-abbrev pub placed : KeptRecord → OffsetRecord
-placed k = (k.start, record_of_kept k)
+abbrev pub placed : SeenRecord → OffsetRecord
+placed s = (s.start, record_of_seen s)
 
--- Records of the data part become loads at once, those of the external part publics and references, and those of the debug part
--- debug items; the code keeps the others.
-abbrev pub is_kept : Record → Bool
-is_kept row = not (stands_in external_part row) && (not (stands_in debug_part row) && not (stands_in data_part row))
-
--- of records with their offsets, those that are kept
-abbrev pub kept_of : List OffsetRecord → List OffsetRecord
-kept_of all = filter (λ p. is_kept p.1.row) all
-
-abbrev pub kept_records : List SpelledRecord → List SpelledRecord
-kept_records all = filter (λ p. is_kept p.row) all
-
--- the record, where it is kept
-abbrev pub kept_alone : KeptRecord → List KeptRecord
-kept_alone k = if is_kept k.row then k ∷ [] else []
-
--- the strings, the runs and the expressions of the record stand in its bytes
-abbrev pub HasOwnParts : KeptRecord → Type 0
-HasOwnParts k = HasParts k.bytes k.row
+-- its strings, its runs and its expressions stand in its bytes
+abbrev pub HasOwnParts : SeenRecord → Type 0
+HasOwnParts s = HasParts s.bytes.now s.row
 
 -- a refusal as a fault
 abbrev pub as_fault : ReadRefusal → Fault

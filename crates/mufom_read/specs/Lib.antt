@@ -12,3 +12,6 @@ pub mod Source
 pub mod LoadsSoFar
 pub mod DebugSoFar
 pub mod NamesSoFar
+pub mod HeaderSoFar
+pub mod SectionsSoFar
+pub mod ContentsSoFar

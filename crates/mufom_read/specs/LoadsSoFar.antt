@@ -1,5 +1,5 @@
 -- The loads that the records read so far give, and what still awaits items.
-use Rattle.std.specs.Prelude.{ℕ, min, Bool, true, false, List, [], ◌∷◌, ◌++◌, Option, Some, None, unwrap_or}
+use Rattle.std.specs.Prelude.{ℕ, Bool, true, false, List, [], ◌∷◌, ◌++◌, Option, Some, None, unwrap_or, option_map, if◌then◌else◌}
 use Rattle.mufom_expr.specs.Spelled.{Indexes}
 use Rattle.mufom_records.specs.declared.record.Record.{Record}
 use Rattle.mufom_records.specs.declared.record.Record.TheVariants as r
@@ -7,10 +7,13 @@ use Rattle.mufom_loads.specs.declared.load.Item.{Item}
 use Rattle.mufom_loads.specs.declared.load.Load.{Load}
 use Rattle.mufom_loads.specs.declared.load.Load.TheVariants.{One, Repeat}
 use Rattle.mufom_module.specs.SpelledRecords.{SpelledRecord}
+use Rattle.mufom_module.specs.RecordParts.{data_part, stands_in}
 use Rattle.mufom_module.specs.Gathered.{item_by, loads_by}
 use Rattle.mufom_read.specs.declared.loads.Loads.{Loads}
 use Rattle.mufom_read.specs.declared.loads.OpenLoad.{OpenLoad}
 use Rattle.mufom_read.specs.declared.loads.OpenLoad.TheVariants as open_load
+use Rattle.mufom_read.specs.declared.header.Layout.{Layout}
+use Rattle.mufom_read.specs.HeaderSoFar.{layout_in}
 use Rattle.mufom_read.specs.Kept.{tables_of, indexes_by}
 
 abbrev pub loads_and : List Load → OpenLoad → Loads
@@ -58,32 +61,25 @@ abbrev pub with_made : Indexes → Loads → SpelledRecord → Option Item → L
 with_made ix s p None = loads_and (closed s ++ loads_at_once ix p p.row) (opened_by p.row)
 with_made ix s p (Some item) = with_item s.loads s.awaiting item
 
--- the loads after a record, with these units in an address
+-- the loads after a record of the data part, with these units in an address
 abbrev pub with_load : Indexes → ℕ → Loads → SpelledRecord → Loads
 with_load ix maus s p = with_made ix s p (item_by ix maus p p.row)
 
--- The units of an address, which the first descriptor gives. No address has more than 8.
-abbrev pub units_after : Option ℕ → Record → Option ℕ
-units_after (Some n) row = Some n
-units_after None (r.Descriptor bits maus letter) = Some (min maus 8)
-units_after None row = None
-
-abbrev pub units_from : Option ℕ → List SpelledRecord → Option ℕ
-units_from o [] = o
-units_from o (p ∷ records) = units_from (units_after o p.row) records
-
--- the units that these records give
+-- the units of an address that these records give
 abbrev pub units_in : List SpelledRecord → Option ℕ
-units_in records = units_from None records
+units_in records = option_map (λ (l : Layout). l.maus) (layout_in records)
 
 -- Before a descriptor no load is read, and any units do.
 abbrev pub units_or : Option ℕ → ℕ
 units_or o = unwrap_or o 2
 
--- the loads after further records, each by the indexes and the units of those before it
+-- the loads after a record, by the indexes and the units of those before it; a record of another part changes nothing
+abbrev pub loads_after : List SpelledRecord → Loads → SpelledRecord → Loads
+loads_after before s p = if stands_in data_part p.row then with_load (indexes_by (tables_of before)) (units_or (units_in before)) s p else s
+
 abbrev pub loads_from : List SpelledRecord → Loads → List SpelledRecord → Loads
 loads_from before s [] = s
-loads_from before s (p ∷ records) = loads_from (before ++ p ∷ []) (with_load (indexes_by (tables_of before)) (units_or (units_in before)) s p) records
+loads_from before s (p ∷ records) = loads_from (before ++ p ∷ []) (loads_after before s p) records
 
 -- the loads that these records give
 abbrev pub loads_so_far : List SpelledRecord → Loads

@@ -1,5 +1,5 @@
 -- What the code keeps of a prefix, and which prefix that is.
-use Rattle.std.specs.Prelude.{◌≡◌, ◌⊎◌, ℕ, ◌+◌, ◌-◌, ◌<◌, ◌≤◌, nat_lt, nat_le, min, Bool, true, false, List, [], ◌∷◌, ◌++◌, length, map, take, drop, All, None, Some, is_some, if◌then◌else◌}
+use Rattle.std.specs.Prelude.{◌≡◌, ◌⊎◌, ℕ, ◌+◌, ◌-◌, ◌<◌, ◌≤◌, nat_lt, nat_le, min, Bool, true, false, List, [], ◌∷◌, ◌++◌, length, take, drop, None, Some, is_some, if◌then◌else◌}
 use Rattle.std.specs.List.{last_or, cons_option}
 use Rattle.mufom_records.specs.declared.record.Mode.{Mode}
 use Rattle.mufom_records.specs.declared.record.Mode.TheVariants as mode
@@ -10,8 +10,6 @@ use Rattle.mufom_numbers.specs.declared.taken.Taken.{Taken}
 use Rattle.mufom_numbers.specs.declared.taken.Taken.TheVariants.{Got, More}
 use Rattle.mufom_module.specs.RecordParts.{Part, extension_part, environment_part, opens_items}
 use Rattle.mufom_module.specs.Grammar.{offset_in, FollowFrom}
-use Rattle.mufom_module.specs.Gathered.{references_of}
-use Rattle.mufom_read.specs.declared.kept.KeptRecord.{KeptRecord}
 use Rattle.mufom_read.specs.declared.prefix.Prefix.{Prefix}
 use Rattle.mufom_read.specs.declared.prefix.Location as code
 use Rattle.mufom_read.specs.declared.prefix.Location.TheVariants as offset
@@ -20,15 +18,15 @@ use Rattle.mufom_read.specs.declared.part.Part.TheVariants as part_of_code
 use Rattle.mufom_read.specs.declared.part.Extent as extents
 use Rattle.mufom_read.specs.declared.prefix.Next.{Next}
 use Rattle.mufom_read.specs.declared.prefix.Next.TheVariants as next
-use Rattle.mufom_read.specs.Prefixes.{OffsetRecord, Step, step_bytes, read, header_mode, body_mode, is_raw, part_among, parts_in_order, location_by, location_after, size_of, records_of, offset_records_of, offsets_of, first_present, header_count, Location, in_header, in_part, at_end, next_step, awaits_items, is_module_end, is_ended}
+use Rattle.mufom_read.specs.Prefixes.{Step, step_bytes, read, header_mode, body_mode, is_raw, part_among, parts_in_order, location_by, location_after, size_of, records_of, offset_records_of, offsets_of, first_present, header_count, Location, in_header, in_part, at_end, next_step, awaits_items, is_module_end, is_ended}
 use Rattle.mufom_read.specs.Faults.{open_blocks, ends_badly, record_fault, step_fault, ended_part_fault, fault_after}
 use Rattle.mufom_read.specs.Judging.{IsSoundFrom}
 use Rattle.mufom_read.specs.Stated.{part_bytes}
 use Rattle.mufom_read.specs.PartsOfCode.{as_part, as_extent}
-use Rattle.mufom_read.specs.Kept.{tables_of, with_row, indexes_by, is_new, placed, record_of_kept, kept_of, kept_alone, HasOwnParts, as_fault}
-use Rattle.mufom_read.specs.NamesSoFar.{records_in, ArePublicsOf, IsBefore, AreBefore, AreRising}
-use Rattle.mufom_read.specs.DebugSoFar.{HasKind, AreDebugOf}
-use Rattle.mufom_read.specs.LoadsSoFar.{with_load, units_after, units_in, units_or, loads_so_far}
+use Rattle.mufom_read.specs.Kept.{tables_of, with_row, is_new, as_fault}
+use Rattle.mufom_read.specs.NamesSoFar.{AreRising}
+use Rattle.mufom_read.specs.DebugSoFar.{HasKind}
+use Rattle.mufom_read.specs.ContentsSoFar.{AreContentsOf}
 
 -- where the next byte stands
 abbrev pub as_location : code.Location → Location
@@ -67,20 +65,13 @@ offset_count n = min (n - 2) 8
 abbrev pub bytes_so_far : Part → List Step → List ℕ
 bytes_so_far part prefix = if nat_lt (length prefix) header_count then [] else part_bytes part prefix
 
--- The code keeps this prefix: its records but those of the external, the debug and the data part; the publics, the references, the
--- debug items and the loads that these give; what the records declare and state once, the units of an address, the offsets of the
--- header, the bytes of the extension and of the environment, how many bytes there are, and where the next one stands. After the
--- header the first part has begun.
+-- The code keeps this prefix: what its records state of the module, what they declare and state once, the offsets of the header,
+-- the bytes of the extension and of the environment, how many bytes there are, and where the next one stands. After the header
+-- the first part has begun.
 pub record IsPrefixOf (f : Prefix) (prefix : List Step) : Type 0 where
-  pub kept : map placed f.kept ≡ kept_of (offset_records_of prefix)
-  pub loads : f.loads ≡ loads_so_far (records_of prefix)
-  pub maus : f.maus ≡ units_in (records_of prefix)
+  pub contents : AreContentsOf f.contents (offset_records_of prefix)
   pub awaits : f.awaits_items ≡ awaits_items (last_or None (records_of prefix))
   pub ended : f.ended ≡ is_ended prefix
-  pub publics : ArePublicsOf f.publics (offset_records_of prefix)
-  pub references : f.references.items ≡ references_of (records_of prefix)
-  pub debug : AreDebugOf f.debug (offset_records_of prefix)
-  pub own : All HasOwnParts f.kept
   pub tables : f.tables ≡ tables_of (records_of prefix)
   pub offsets : f.offsets ≡ offsets_of prefix
   pub extension : f.extension.items ≡ bytes_so_far extension_part prefix
@@ -94,28 +85,19 @@ pub record IsPrefixOf (f : Prefix) (prefix : List Step) : Type 0 where
   pub follow : FollowFrom [] (records_of prefix)
   pub rising : AreRising 0 (offset_records_of prefix) (size_of prefix)
 
--- the prefix with one more record, with the publics, the references, the debug items and the location that stand after it
-abbrev pub with_record : Prefix → KeptRecord → Prefix → Prefix
-with_record f k new = record {
-  kept = f.kept ++ kept_alone k;
-  tables = with_row f.tables k.row;
-  loads = with_load (indexes_by f.tables) (units_or f.maus) f.loads (record_of_kept k);
-  maus = units_after f.maus k.row;
-  awaits_items = opens_items k.row;
-  ended = is_module_end k.row;
-  offsets = f.offsets ++ cons_option (offset_in k.row) [];
+-- the prefix with one more record, with what all of them state of the module and the location that stand after it
+abbrev pub with_record : Prefix → SpelledRecord → Prefix → Prefix
+with_record f p new = record {
+  contents = new.contents;
+  tables = with_row f.tables p.row;
+  awaits_items = opens_items p.row;
+  ended = is_module_end p.row;
+  offsets = f.offsets ++ cons_option (offset_in p.row) [];
   extension = f.extension;
   environment = f.environment;
-  size = f.size + length k.bytes;
+  size = f.size + length p.bytes;
   location = new.location;
-  publics = new.publics;
-  references = new.references;
-  debug = new.debug;
 }
-
--- what is known of the publics and the references before a record
-abbrev pub IsNext : Prefix → List OffsetRecord → SpelledRecord → Type 0
-IsNext f all p = IsBefore f.publics f.tables.publics all p × AreBefore f.references.items f.tables.references (records_in all) p
 
 -- what the record must be to be added after a prefix
 pub record IsAddable (prefix : List Step) (row : Record) : Type 0 where
@@ -179,13 +161,8 @@ environment_in _ bytes = []
 
 -- The prefix has these bytes of a part more, which are not read: those of the extension and of the environment are kept.
 pub record HasRaw (old : Prefix) (part : codes.Part) (bytes : List ℕ) (new : Prefix) : Type 0 where
-  pub kept : new.kept ≡ old.kept
+  pub contents : new.contents ≡ old.contents
   pub tables : new.tables ≡ old.tables
-  pub loads : new.loads ≡ old.loads
-  pub publics : new.publics ≡ old.publics
-  pub references : new.references.items ≡ old.references.items
-  pub debug : new.debug ≡ old.debug
-  pub maus : new.maus ≡ old.maus
   pub awaits : new.awaits_items ≡ old.awaits_items
   pub ended : new.ended ≡ old.ended
   pub offsets : new.offsets ≡ old.offsets

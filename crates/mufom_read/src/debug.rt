@@ -8,13 +8,13 @@ ghost use Rattle.mufom_module.specs.SpelledRecords as records;
 ghost use Rattle.mufom_module.specs.RecordParts as parts;
 ghost use Rattle.mufom_module.specs.Gathered as gathered;
 ghost use Rattle.mufom_read.specs.Faults as faults;
-ghost use Rattle.mufom_read.specs.Kept.{indexes_by, record_of_kept, kept_of_seen, HasOwnParts, as_fault};
+ghost use Rattle.mufom_read.specs.Kept.{indexes_by, record_of_seen, HasOwnParts, as_fault};
 ghost use Rattle.mufom_read.specs.DebugSoFar.{HasKind, stacked, opened, marks_kept};
 
-use crate::kept::SeenRecord;
 use crate::positions::{position_in, renamed};
 use crate::publics::{note, stated};
 use crate::refusal::ReadRefusal;
+use crate::seen::SeenRecord;
 use crate::tables::Tables;
 use mufom_debug::{Block, BlockHead, DebugItem};
 use mufom_expr::Postfix;
@@ -260,13 +260,13 @@ impl Debugs {
         seen: &SeenRecord,
         tree: Option<Postfix>,
     ) -> Result<(), NoMemory>
-        requires own { HasOwnParts (kept_of_seen seen.now) }
+        requires own { HasOwnParts seen.now }
         requires tree { parts.stands_in parts.debug_part seen.now.row ≡ true
-            → tree ≡ records.tree_of_record (record_of_kept (kept_of_seen seen.now)) }
+            → tree ≡ records.tree_of_record (record_of_seen seen.now) }
         requires kind { HasKind seen.now.row }
         requires nested { faults.ends_badly (opened self.old) seen.now.row ≡ false }
         ensures marks { OnOk result (marks_kept self.new ≡ marks_kept self.old
-            ++ cons_option (gathered.mark_by (indexes_by tables.now) (record_of_kept (kept_of_seen seen.now)) seen.now.row) []) }
+            ++ cons_option (gathered.mark_by (indexes_by tables.now) (record_of_seen seen.now) seen.now.row) []) }
         ensures blocks { OnOk result (opened self.new ≡ faults.opened_after (opened self.old) seen.now.start seen.now.row) }
     {
         let value = renamed(tables, tree);

@@ -1,14 +1,148 @@
-//! The faults of whole records of the header.
+//! What the records of the header state, and their faults.
 
-ghost use Rattle.std.specs.Prelude.{◌≡◌, ◌++◌, ◌∷◌, [], option_map, nat_lt};
+ghost use Rattle.std.specs.Prelude.{◌≡◌, ◌++◌, ◌∷◌, [], Some, None, min, option_map, nat_lt, OnOk};
 ghost use Rattle.std.specs.List.{list_any};
+ghost use Rattle.std.specs.Option.{option_or};
+ghost use Rattle.mufom_records.specs.Parts.{LiesIn};
+ghost use Rattle.mufom_module.specs.SpelledRecords as records;
 ghost use Rattle.mufom_read.specs.Faults as faults;
-ghost use Rattle.mufom_read.specs.Kept.{as_fault, first_or};
+ghost use Rattle.mufom_read.specs.Kept.{as_fault, first_or, record_of_seen, HasOwnParts};
+ghost use Rattle.mufom_read.specs.HeaderSoFar.{order_of, header_after};
+ghost use Rattle.mufom_read.specs.LoadsSoFar.{units_or};
 
 use crate::part::first_present;
 use crate::refusal::ReadRefusal;
-use mufom_numbers::Reason;
+use crate::seen::SeenRecord;
+use mufom_module::Order;
+use mufom_numbers::{Bytes, NoMemory, Reason, Span, codes};
 use mufom_records::Record;
+use std::alloc::Global;
+
+// The most units that an address has.
+const MOST_UNITS: u64 = 8;
+
+// The units of an address before a descriptor was read, where no load is.
+const ANY_UNITS: u8 = 2;
+
+/// The names that the first record gives.
+#[derive(Debug, Drop)]
+pub(crate) struct Names {
+    pub processor: Bytes,
+    pub name: Bytes,
+}
+
+/// What the descriptor states of addresses.
+#[derive(Clone, Copy, Debug, PartialEq, Eq)]
+pub(crate) struct Layout {
+    /// The units of an address.
+    pub maus: u8,
+    pub order: Order,
+}
+
+/// What the header states, as far as it was read.
+#[derive(Debug, Drop)]
+pub(crate) struct Header {
+    pub names: Option<Names>,
+    pub layout: Option<Layout>,
+}
+
+// The order of bytes that a letter gives.
+fn order_of(letter: Option<u8>) -> Order
+    ensures { result ≡ order_of letter }
+{
+    match letter {
+        Some(letter) => {
+            if letter == codes::LETTER_L {
+                Order::Least
+            } else {
+                Order::Most
+            }
+        }
+        None => Order::Most,
+    }
+}
+
+// The units of an address, of which there are no more than 8, and the order of bytes.
+fn layout_of(maus: u64, letter: Option<u8>) -> Layout
+    ensures { result ≡ record { maus = min maus 8; order = order_of letter } }
+{
+    Layout {
+        maus: maus.min(MOST_UNITS) as u8,
+        order: order_of(letter),
+    }
+}
+
+impl Header {
+    /// The header of which nothing was read.
+    pub(crate) fn new() -> Header
+        ensures { result ≡ record { names = None; layout = None } }
+    {
+        Header {
+            names: None,
+            layout: None,
+        }
+    }
+
+    /// The units of an address.
+    pub(crate) fn maus(&self) -> u8
+        ensures { result ≡ units_or (option_map (λ l. l.maus) self.now.layout) }
+    {
+        match self.layout {
+            Some(layout) => layout.maus,
+            None => ANY_UNITS,
+        }
+    }
+
+    // Keeps the names, unless there are some.
+    fn name(
+        &mut self,
+        alloc: Global,
+        seen: &SeenRecord,
+        processor: Span,
+        name: Span,
+    ) -> Result<(), NoMemory>
+        requires processor { LiesIn seen.now.bytes.now processor }
+        requires name { LiesIn seen.now.bytes.now name }
+        ensures { OnOk result (self.new ≡ record self.old {
+          names = option_or self.old.names (Some
+              (record { processor = records.text_in (record_of_seen seen.now) processor; name = records.text_in (record_of_seen seen.now) name }));
+        }) }
+    {
+        if self.names.is_none() {
+            self.names = Some(Names {
+                processor: seen.copy_text(alloc, processor)?,
+                name: seen.copy_text(alloc, name)?,
+            });
+        }
+        Ok(())
+    }
+
+    // Keeps the layout, unless there is one.
+    fn describe(&mut self, layout: Layout)
+        ensures { self.new ≡ record self.old { layout = option_or self.old.layout (Some layout) } }
+    {
+        if self.layout.is_none() {
+            self.layout = Some(layout);
+        }
+    }
+
+    /// Takes what a record states of the header. What an earlier one states stays.
+    pub(crate) fn take(&mut self, alloc: Global, seen: &SeenRecord) -> Result<(), NoMemory>
+        requires { HasOwnParts seen.now }
+        ensures { OnOk result (self.new ≡ header_after self.old (record_of_seen seen.now)) }
+    {
+        match &seen.row {
+            Record::ModuleBegin(processor, name) => self.name(alloc, seen, *processor, *name),
+            Record::Descriptor(_, maus, letter) => {
+                self.describe(layout_of(*maus, *letter));
+                Ok(())
+            }
+            _ => Ok(()),
+        }
+    }
+}
+
+// ---- faults
 
 fn is_below_any(earlier: &[u64], offset: u64) -> bool
     ensures { result ≡ list_any (λ e. nat_lt offset e) earlier.now }

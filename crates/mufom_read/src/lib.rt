@@ -2,17 +2,16 @@
 //! the reader that answers so.
 //!
 //! A stream is judged record by record, by what stands before each. A [`Reader`] takes it in chunks: it
-//! makes publics, references, debug items and loads of the records of their parts as they come, and keeps
-//! the other records without a fault with which the stream begins, what all of them declare and state
-//! once, and the bytes after them. The crate stands on `mufom_module` for the file of a
+//! makes the parts of the module of the records without a fault as they come, and keeps what these declare
+//! and state once, and the bytes after them, but no record. The crate stands on `mufom_module` for the file of a
 //! module and on `mufom_records`. Its main clause is that of [`Reader::feed`]: a refusal is answered
 //! exactly where the stream so far is refused, however it was cut; its main law is [`has_one_judgment`].
 #![tactic(auto)]
 
 mod build;
+mod contents;
 mod debug;
 mod header;
-mod kept;
 mod laws;
 mod loads;
 mod part;
@@ -24,6 +23,7 @@ mod references;
 mod refusal;
 mod rules;
 mod sections;
+mod seen;
 mod source;
 mod state;
 mod tables;

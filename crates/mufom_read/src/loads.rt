@@ -6,12 +6,12 @@ ghost use Rattle.mufom_expr.specs.Spelled.{Indexes};
 ghost use Rattle.mufom_module.specs.SpelledRecords as records;
 ghost use Rattle.mufom_module.specs.RecordParts as parts;
 ghost use Rattle.mufom_module.specs.Gathered as gathered;
-ghost use Rattle.mufom_read.specs.Kept.{indexes_by, record_of_kept, kept_of_seen, HasOwnParts};
+ghost use Rattle.mufom_read.specs.Kept.{indexes_by, record_of_seen, HasOwnParts};
 ghost use Rattle.mufom_read.specs.LoadsSoFar.{loads_and, no_loads, closed, with_item, opened_by, is_item, loads_at_once, with_load};
 ghost use Rattle.mufom_read.specs.declared.loads.OpenLoad.TheVariants as open_load;
 
-use crate::kept::SeenRecord;
 use crate::positions::{position_in, renamed};
+use crate::seen::SeenRecord;
 use crate::tables::Tables;
 use mufom_expr::Postfix;
 use mufom_loads::{Item, Load};
@@ -55,13 +55,13 @@ fn item_of(
     record: &SeenRecord,
     value: Option<Postfix>,
 ) -> Result<Item, NoMemory>
-    requires own { HasOwnParts (kept_of_seen «record».now) }
+    requires own { HasOwnParts «record».now }
     requires item { is_item «record».now.row ≡ true }
     requires value { (ix : Indexes)
-        × (value ≡ option_map (records.positioned ix) (records.tree_of_record (record_of_kept (kept_of_seen «record».now)))) }
+        × (value ≡ option_map (records.positioned ix) (records.tree_of_record (record_of_seen «record».now))) }
     ensures { IfOk result (λ item. (ix : Indexes)
-        → value ≡ option_map (records.positioned ix) (records.tree_of_record (record_of_kept (kept_of_seen «record».now)))
-        → gathered.item_by ix maus (record_of_kept (kept_of_seen «record».now)) «record».now.row ≡ Some item) }
+        → value ≡ option_map (records.positioned ix) (records.tree_of_record (record_of_seen «record».now))
+        → gathered.item_by ix maus (record_of_seen «record».now) «record».now.row ≡ Some item) }
 {
     match &record.row {
         Record::ConstantItem(run) => {
@@ -123,11 +123,11 @@ fn add_loads(
     record: &SeenRecord,
     value: Option<Postfix>,
 ) -> Result<(), NoMemory>
-    requires own { HasOwnParts (kept_of_seen «record».now) }
+    requires own { HasOwnParts «record».now }
     requires value { parts.stands_in parts.data_part «record».now.row ≡ true → value
-        ≡ option_map (records.positioned (indexes_by tables.now)) (records.tree_of_record (record_of_kept (kept_of_seen «record».now))) }
+        ≡ option_map (records.positioned (indexes_by tables.now)) (records.tree_of_record (record_of_seen «record».now)) }
     ensures { OnOk result (loads.new ≡ loads.old
-        ++ loads_at_once (indexes_by tables.now) (record_of_kept (kept_of_seen «record».now)) «record».now.row) }
+        ++ loads_at_once (indexes_by tables.now) (record_of_seen «record».now) «record».now.row) }
 {
     match &record.row {
         Record::SetSection(index) => {
@@ -161,6 +161,15 @@ impl Loads {
         }
     }
 
+    /// All loads, where no further item comes.
+    pub(crate) fn into_closed(mut self) -> Result<List<Load>, NoMemory>
+        ensures { IfOk result (λ loads. loads ≡ closed self) }
+    {
+        self.close()?;
+        let Loads { loads, .. } = self;
+        Ok(loads)
+    }
+
     // Ends what awaits items: no further one comes.
     fn close(&mut self) -> Result<(), NoMemory>
         ensures { OnOk result (self.new ≡ loads_and (closed self.old) open_load.Nothing) }
@@ -191,11 +200,11 @@ impl Loads {
         record: &SeenRecord,
         value: Option<Postfix>,
     ) -> Result<(), NoMemory>
-        requires own { HasOwnParts (kept_of_seen «record».now) }
+        requires own { HasOwnParts «record».now }
         requires value { parts.stands_in parts.data_part «record».now.row ≡ true → value
-            ≡ option_map (records.positioned (indexes_by tables.now)) (records.tree_of_record (record_of_kept (kept_of_seen «record».now))) }
+            ≡ option_map (records.positioned (indexes_by tables.now)) (records.tree_of_record (record_of_seen «record».now)) }
         ensures { OnOk result (self.new ≡ loads_and
-            (closed self.old ++ loads_at_once (indexes_by tables.now) (record_of_kept (kept_of_seen «record».now)) «record».now.row)
+            (closed self.old ++ loads_at_once (indexes_by tables.now) (record_of_seen «record».now) «record».now.row)
             (opened_by «record».now.row)) }
     {
         self.close()?;
@@ -213,10 +222,10 @@ impl Loads {
         record: &SeenRecord,
         tree: Option<Postfix>,
     ) -> Result<(), NoMemory>
-        requires own { HasOwnParts (kept_of_seen «record».now) }
+        requires own { HasOwnParts «record».now }
         requires tree { parts.stands_in parts.data_part «record».now.row ≡ true
-            → tree ≡ records.tree_of_record (record_of_kept (kept_of_seen «record».now)) }
-        ensures { OnOk result (self.new ≡ with_load (indexes_by tables.now) maus self.old (record_of_kept (kept_of_seen «record».now))) }
+            → tree ≡ records.tree_of_record (record_of_seen «record».now) }
+        ensures { OnOk result (self.new ≡ with_load (indexes_by tables.now) maus self.old (record_of_seen «record».now)) }
     {
         let value = renamed(tables, tree);
         if is_item(&record.row) {

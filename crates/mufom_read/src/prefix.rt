@@ -7,30 +7,24 @@ ghost use Rattle.mufom_module.specs.RecordParts as parts;
 ghost use Rattle.mufom_read.specs.Prefixes as prefixes;
 ghost use Rattle.mufom_read.specs.Faults as faults;
 ghost use Rattle.mufom_read.specs.PartsOfCode.{as_part, as_extent};
-ghost use Rattle.mufom_read.specs.Kept.{indexes_by, record_of_kept, kept_of_seen, kept_alone, placed, HasOwnParts, HasRoom, is_new, as_fault};
-ghost use Rattle.mufom_read.specs.NamesSoFar.{ArePublicsOf, records_in};
-ghost use Rattle.mufom_read.specs.DebugSoFar.{HasKind, opened, marks_kept};
-ghost use Rattle.mufom_module.specs.Gathered as gathered;
-ghost use Rattle.mufom_read.specs.LoadsSoFar.{units_after};
-ghost use Rattle.mufom_read.specs.PrefixOfCode.{IsPrefixOf, IsNext, IsRead, IsRawPart, HasJudged, HasRaw, HasSkipped, IsPlacedWell, with_record, as_location, next_location, is_inside, mode_at, HasTaken, IsStepTaken, HasAdvanced};
+ghost use Rattle.mufom_read.specs.Kept.{record_of_seen, placed, HasOwnParts, HasRoom, is_new, as_fault};
+ghost use Rattle.mufom_read.specs.DebugSoFar.{HasKind, opened};
+ghost use Rattle.mufom_read.specs.ContentsSoFar.{AreContentsOf, AreContentsBefore, AreMarked};
+ghost use Rattle.mufom_read.specs.PrefixOfCode.{IsPrefixOf, IsRead, IsRawPart, HasJudged, HasRaw, HasSkipped, IsPlacedWell, with_record, as_location, next_location, is_inside, mode_at, HasTaken, IsStepTaken, HasAdvanced};
 ghost use Rattle.mufom_read.specs.declared.prefix.Next.TheVariants as nexts;
 ghost use Rattle.mufom_records.specs.Reading.{record_at};
 ghost use Rattle.mufom_records.specs.declared.record.Mode.TheVariants as modes;
 ghost use Rattle.mufom_module.specs.Grammar.{offset_in, file_limit};
 
-use crate::debug::Debugs;
+use crate::contents::Contents;
 use crate::header::header_fault;
-use crate::kept::{KeptRecord, SeenRecord};
-use crate::loads::Loads;
-use crate::part::{Extent, Part, is_raw, part_at, part_of, stands_in};
-use crate::publics::Publics;
-use crate::references::take as take_reference;
+use crate::part::{Extent, Part, is_raw, part_at, stands_in};
 use crate::refusal::ReadRefusal;
 use crate::rules::rule_broken;
+use crate::seen::SeenRecord;
 use crate::tables::Tables;
 use crate::whole::whole_fault;
 use mufom_expr::Postfix;
-use mufom_names::Reference;
 use mufom_numbers::{List, NoMemory, Reason, Taken, codes};
 use mufom_records::{Mode, Record, next_record};
 use std::alloc::Global;
@@ -38,22 +32,12 @@ use std::alloc::Global;
 // The record of the header after which no further one comes.
 const LAST_OF_HEADER: u8 = 9;
 
-// The most units that an address has.
-const MOST_UNITS: u64 = 8;
-
 /// What was judged of a stream so far, and has no fault.
 #[derive(Debug, Drop)]
 pub(crate) struct Prefix {
-    /// The records but those of the external, the debug and the data part.
-    pub kept: List<KeptRecord>,
-    pub publics: Publics,
-    pub references: Vec<Reference>,
-    pub debug: Debugs,
+    /// What the records state of the module.
+    pub contents: Contents,
     pub tables: Tables,
-    /// What the records of the data part give.
-    pub loads: Loads,
-    /// The units of an address, once the descriptor was read.
-    pub maus: Option<u8>,
     /// Whether items may stand after the last record.
     pub awaits_items: bool,
     /// Whether the end of the module was read.
@@ -179,65 +163,10 @@ fn at_most(bytes: &[u8], count: u64) -> &[u8]
     }
 }
 
-/// The expression of a record, by what takes it.
-struct Shares {
-    /// That of the value of a public.
-    value: Option<Postfix>,
-    /// That of a record of the debug part.
-    debug: Option<Postfix>,
-    /// That of another record.
-    rest: Option<Postfix>,
-}
-
-// Gives the expression of the record to what takes it.
-fn shared(record: &Record, tree: Option<Postfix>) -> Shares
-    ensures value { records.is_public_value «record».now ≡ true → result.value ≡ tree }
-    ensures debug { parts.stands_in parts.debug_part «record».now ≡ true → result.debug ≡ tree }
-    ensures rest { parts.stands_in parts.data_part «record».now ≡ true → result.rest ≡ tree }
-{
-    let mut shares = Shares {
-        value: None,
-        debug: None,
-        rest: None,
-    };
-    match part_of(record) {
-        Some(Part::External) => shares.value = tree,
-        Some(Part::Debug) => shares.debug = tree,
-        _ => shares.rest = tree,
-    }
-    shares
-}
-
-// The units of an address: those of the first descriptor.
-fn units_after(maus: Option<u8>, record: &Record) -> Option<u8>
-    ensures { result ≡ units_after maus «record».now }
-{
-    match (maus, record) {
-        (Some(maus), _) => Some(maus),
-        (None, Record::Descriptor(_, maus, _)) => Some((*maus).min(MOST_UNITS) as u8),
-        (None, _) => None,
-    }
-}
-
 fn is_module_end(record: &Record) -> bool
     ensures { result ≡ prefixes.is_module_end «record».now }
 {
     matches!(record, Record::ModuleEnd)
-}
-
-// Keeps the record, unless it is one of the external, the debug or the data part: what these state is kept elsewhere.
-fn keep_last(alloc: Global, kept: &mut List<KeptRecord>, next: SeenRecord) -> Result<(), NoMemory>
-    ensures { OnOk result (kept.new ≡ kept.old ++ kept_alone (kept_of_seen next.entry)) }
-{
-    if stands_in(Part::External, &next.row)
-        || stands_in(Part::Debug, &next.row)
-        || stands_in(Part::Data, &next.row)
-    {
-        Ok(())
-    } else {
-        let record = next.into_kept(alloc)?;
-        kept.push(record)
-    }
 }
 
 impl Prefix {
@@ -246,13 +175,8 @@ impl Prefix {
         ensures { IsPrefixOf result [] }
     {
         Prefix {
-            kept: List::new(alloc),
-            publics: Publics::new(alloc),
-            references: Vec::new(alloc),
-            debug: Debugs::new(alloc),
+            contents: Contents::new(alloc),
             tables: Tables::new(alloc),
-            loads: Loads::new(alloc),
-            maus: None,
             awaits_items: false,
             ended: false,
             offsets: List::new(alloc),
@@ -352,7 +276,12 @@ impl Prefix {
             → p.row ≡ «record».now → records.tree_of_record p ≡ option_map (λ t. t.now) tree.entry
             → option_map as_fault result ≡ faults.fault_for self.now.size (faults.rule_broken prefix p) }
     {
-        match rule_broken(&self.tables, self.debug.blocks.as_slice(), record, tree) {
+        match rule_broken(
+            &self.tables,
+            self.contents.debug.blocks.as_slice(),
+            record,
+            tree,
+        ) {
             None => None,
             Some(reason) => self.refused(reason),
         }
@@ -367,9 +296,9 @@ impl Prefix {
     ) -> Option<ReadRefusal>
         requires fits { self.now.size + length next.now.bytes.now ≤ file_limit }
         ensures { (prefix : List prefixes.Step) → IsPrefixOf self.now prefix
-            → records.tree_of_record (record_of_kept (kept_of_seen next.now)) ≡ option_map (λ t. t.now) tree.entry
+            → records.tree_of_record (record_of_seen next.now) ≡ option_map (λ t. t.now) tree.entry
             → option_map as_fault result
-            ≡ faults.part_record_fault prefix (as_extent extent) self.now.size (record_of_kept (kept_of_seen next.now)) }
+            ≡ faults.part_record_fault prefix (as_extent extent) self.now.size (record_of_seen next.now) }
     {
         if self.size + next.bytes.len() as u64 > extent.to {
             return self.refused(Reason::PartGap);
@@ -390,9 +319,9 @@ impl Prefix {
         requires fits { self.now.size + length next.now.bytes.now ≤ file_limit }
         requires placed { IsPlacedWell place next.now.row }
         ensures { (prefix : List prefixes.Step) → IsPrefixOf self.now prefix
-            → records.tree_of_record (record_of_kept (kept_of_seen next.now)) ≡ option_map (λ t. t.now) tree.entry
+            → records.tree_of_record (record_of_seen next.now) ≡ option_map (λ t. t.now) tree.entry
             → option_map as_fault result
-            ≡ faults.record_fault prefix (as_location place) self.now.size (record_of_kept (kept_of_seen next.now)) }
+            ≡ faults.record_fault prefix (as_location place) self.now.size (record_of_seen next.now) }
     {
         match place {
             Location::Header(_) => {
@@ -415,67 +344,55 @@ impl Prefix {
     fn add(
         &mut self,
         alloc: Global,
-        next: SeenRecord,
+        next: &SeenRecord,
         tree: Option<Postfix>,
     ) -> Result<(), NoMemory>
         requires room { HasRoom self.old.tables }
-        requires new { is_new self.old.tables next.row ≡ true }
-        requires own { HasOwnParts (kept_of_seen next) }
-        requires tree { tree ≡ records.tree_of_record (record_of_kept (kept_of_seen next)) }
-        requires fits { self.old.size + length next.bytes.now ≤ file_limit }
-        requires start { next.start ≡ self.old.size }
-        requires known { (all : List prefixes.OffsetRecord) × IsNext self.old all (record_of_kept (kept_of_seen next)) }
-        requires kind { HasKind next.row }
-        requires nested { faults.ends_badly (opened self.old.debug) next.row ≡ false }
-        ensures added { OnOk result (self.new ≡ with_record self.old (kept_of_seen next.entry) self.new) }
-        ensures publics { OnOk result ((all : List prefixes.OffsetRecord) → IsNext self.old all (record_of_kept (kept_of_seen next.entry))
-            → ArePublicsOf self.new.publics (all ++ placed (kept_of_seen next.entry) ∷ [])) }
-        ensures references { OnOk result ((all : List prefixes.OffsetRecord) → IsNext self.old all (record_of_kept (kept_of_seen next.entry))
-            → self.new.references.items ≡ gathered.references_of (records_in all ++ record_of_kept (kept_of_seen next.entry) ∷ [])) }
-        ensures marks { OnOk result (marks_kept self.new.debug ≡ marks_kept self.old.debug
-            ++ cons_option (gathered.mark_by (indexes_by self.old.tables) (record_of_kept (kept_of_seen next.entry)) next.entry.row) []) }
-        ensures blocks { OnOk result (opened self.new.debug ≡ faults.opened_after (opened self.old.debug) next.entry.start next.entry.row) }
+        requires new { is_new self.old.tables next.now.row ≡ true }
+        requires own { HasOwnParts next.now }
+        requires tree { tree ≡ records.tree_of_record (record_of_seen next.now) }
+        requires fits { self.old.size + length next.now.bytes.now ≤ file_limit }
+        requires start { next.now.start ≡ self.old.size }
+        requires known { (all : List prefixes.OffsetRecord) × AreContentsBefore self.old.contents self.old.tables all (record_of_seen next.now) }
+        requires kind { HasKind next.now.row }
+        requires nested { faults.ends_badly (opened self.old.contents.debug) next.now.row ≡ false }
+        ensures added { OnOk result (self.new ≡ with_record self.old (record_of_seen next.now) self.new) }
+        ensures contents { OnOk result ((all : List prefixes.OffsetRecord)
+            → AreContentsBefore self.old.contents self.old.tables all (record_of_seen next.now)
+            → AreContentsOf self.new.contents (all ++ placed next.now ∷ [])) }
         ensures location { OnOk result (as_location self.new.location
-            ≡ next_location (as_location self.old.location) (self.old.offsets ++ cons_option (offset_in next.entry.row) [])
-            (self.old.size + length next.entry.bytes.now)) }
+            ≡ next_location (as_location self.old.location) (self.old.offsets ++ cons_option (offset_in next.now.row) [])
+            (self.old.size + length next.now.bytes.now)) }
     {
-        let Shares { value, debug, rest } = shared(&next.row, tree);
-        self.publics
-            .take(alloc, &self.tables.publics, &next, value)?;
-        take_reference(alloc, &mut self.references, &self.tables.references, &next)?;
-        self.debug.take(alloc, &self.tables, &next, debug)?;
-        let maus = self.maus.unwrap_or(2);
-        self.loads.take(alloc, &self.tables, maus, &next, rest)?;
-        self.maus = units_after(self.maus, &next.row);
+        self.contents.take(alloc, &self.tables, next, tree)?;
         self.tables.add(&next.row)?;
         add_offset(&mut self.offsets, &next.row)?;
         self.awaits_items = opens_items(&next.row);
         self.ended = is_module_end(&next.row);
         self.size += next.bytes.len() as u64;
         self.location = self.next_location();
-        keep_last(alloc, &mut self.kept, next)
+        Ok(())
     }
 
     // Judges the record that begins after the prefix, and adds it.
-    fn take(&mut self, alloc: Global, place: Location, next: SeenRecord) -> Result<Next, NoMemory>
+    fn take(&mut self, alloc: Global, place: Location, next: &SeenRecord) -> Result<Next, NoMemory>
         requires known { (prefix : List prefixes.Step) × IsPrefixOf self.old prefix
             × (as_location place ≡ prefixes.location_after prefix) }
-        requires own { HasOwnParts (kept_of_seen next) }
-        requires some { 0 < length next.bytes.now }
-        requires start { next.start ≡ self.old.size }
-        requires fits { self.old.size + length next.bytes.now ≤ file_limit }
-        requires placed { IsPlacedWell place next.row }
+        requires own { HasOwnParts next.now }
+        requires some { 0 < length next.now.bytes.now }
+        requires start { next.now.start ≡ self.old.size }
+        requires fits { self.old.size + length next.now.bytes.now ≤ file_limit }
+        requires placed { IsPlacedWell place next.now.row }
         ensures { IfOk result (λ done. (prefix : List prefixes.Step) → IsPrefixOf self.old prefix
             → as_location place ≡ prefixes.location_after prefix
-            → HasTaken prefix (record_of_kept (kept_of_seen next.entry)) self.new done) }
+            → HasTaken prefix (record_of_seen next.now) self.new done) }
     {
-        let used = next.bytes.len();
         let tree = next.expression(alloc)?;
-        match self.record_fault(place, &next, tree.as_ref()) {
+        match self.record_fault(place, next, tree.as_ref()) {
             Some(refusal) => Ok(Next::Refused(refusal)),
             None => {
                 self.add(alloc, next, tree)?;
-                Ok(Next::Took(used))
+                Ok(Next::Took(next.bytes.len()))
             }
         }
     }
@@ -498,7 +415,7 @@ impl Prefix {
                     row,
                     bytes: prefix_of(rest, used),
                 };
-                self.take(alloc, place, next)
+                self.take(alloc, place, &next)
             }
             Taken::More => Ok(Next::More),
             Taken::Bad { offset, reason } => Ok(Next::Refused(ReadRefusal {
@@ -539,7 +456,7 @@ impl Prefix {
 
     /// The fault of the part that ends where the prefix does, as a whole, if one ends there.
     fn ended_fault(&self) -> Option<ReadRefusal>
-        requires { length self.now.publics.list.items ≡ length self.now.publics.marks.items }
+        requires { AreMarked self.now.contents }
         ensures { (prefix : List prefixes.Step) → IsPrefixOf self.now prefix
             → option_map as_fault result ≡ faults.ended_part_fault prefix }
     {
@@ -550,13 +467,7 @@ impl Prefix {
             None => None,
             Some(extent) => {
                 if extent.to == self.size {
-                    whole_fault(
-                        extent.part,
-                        &self.tables,
-                        &self.publics,
-                        self.debug.blocks.as_slice(),
-                        self.kept.as_slice(),
-                    )
+                    whole_fault(extent.part, &self.tables, &self.contents)
                 } else {
                     None
                 }
@@ -602,7 +513,7 @@ impl Prefix {
 
     // Judges the part that ends after the bytes that were taken, by their number, unless the module has ended.
     fn judge_part(&self, count: usize) -> Next
-        requires { length self.now.publics.list.items ≡ length self.now.publics.marks.items }
+        requires { AreMarked self.now.contents }
         ensures { (reads_debug : Bool) (prefix : List prefixes.Step) (rest : List ℕ)
             → IsStepTaken reads_debug prefix rest self.now (nexts.Took count) → HasAdvanced reads_debug prefix rest self.now result }
     {

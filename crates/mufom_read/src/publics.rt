@@ -8,13 +8,13 @@ ghost use Rattle.mufom_module.specs.SpelledRecords as records;
 ghost use Rattle.mufom_module.specs.Gathered as gathered;
 ghost use Rattle.mufom_read.specs.declared.publics.PublicMark as mark;
 ghost use Rattle.mufom_read.specs.Prefixes.{OffsetRecord};
-ghost use Rattle.mufom_read.specs.Kept.{record_of_kept, kept_of_seen, placed, HasOwnParts, indexes_by, as_fault};
+ghost use Rattle.mufom_read.specs.Kept.{record_of_seen, placed, HasOwnParts, indexes_by, as_fault};
 ghost use Rattle.mufom_read.specs.NamesSoFar.{ArePublicsOf, IsBefore, placed_public, value_fault, public_faults, earlier, least_from};
 
-use crate::kept::SeenRecord;
 use crate::positions::Positions;
 use crate::refusal::ReadRefusal;
 use crate::rules::has_unknown_variable;
+use crate::seen::SeenRecord;
 use crate::tables::Tables;
 use arrayvec::ArrayVec;
 use mufom_expr::{Postfix, Token};
@@ -132,12 +132,12 @@ impl Publics {
         seen: &SeenRecord,
         value: Option<Postfix>,
     ) -> Result<(), NoMemory>
-        requires own { HasOwnParts (kept_of_seen seen.now) }
-        requires value { records.is_public_value seen.now.row ≡ true → value ≡ records.tree_of_record (record_of_kept (kept_of_seen seen.now)) }
+        requires own { HasOwnParts seen.now }
+        requires value { records.is_public_value seen.now.row ≡ true → value ≡ records.tree_of_record (record_of_seen seen.now) }
         requires start { seen.now.start < 2 ^ 32 }
-        requires known { (all : List OffsetRecord) × IsBefore self.old table.now all (record_of_kept (kept_of_seen seen.now)) }
-        ensures { OnOk result ((all : List OffsetRecord) → IsBefore self.old table.now all (record_of_kept (kept_of_seen seen.now))
-            → ArePublicsOf self.new (all ++ placed (kept_of_seen seen.now) ∷ [])) }
+        requires known { (all : List OffsetRecord) × IsBefore self.old table.now all (record_of_seen seen.now) }
+        ensures { OnOk result ((all : List OffsetRecord) → IsBefore self.old table.now all (record_of_seen seen.now)
+            → ArePublicsOf self.new (all ++ placed seen.now ∷ [])) }
     {
         match &seen.row {
             Record::PublicName(_, name) => {

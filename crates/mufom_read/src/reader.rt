@@ -98,8 +98,8 @@ impl Reader {
         if !state.prefix.is_ended() {
             return Err(refused(state.len(), Reason::Truncated));
         }
-        let State { alloc, prefix, .. } = state;
-        match module_of(alloc, prefix) {
+        let State { prefix, .. } = state;
+        match module_of(prefix) {
             Ok(module) => Ok(module),
             Err(NoMemory) => Err(ReadStop::NoMemory),
         }

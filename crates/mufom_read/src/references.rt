@@ -4,11 +4,11 @@ ghost use Rattle.std.specs.Prelude.{◌≡◌, ◌<◌, ◌++◌, ◌∷◌, [],
 ghost use Rattle.mufom_names.specs.declared.name.Reference as name_reference;
 ghost use Rattle.mufom_module.specs.SpelledRecords as records;
 ghost use Rattle.mufom_module.specs.Gathered as gathered;
-ghost use Rattle.mufom_read.specs.Kept.{record_of_kept, kept_of_seen, HasOwnParts};
+ghost use Rattle.mufom_read.specs.Kept.{record_of_seen, HasOwnParts};
 ghost use Rattle.mufom_read.specs.NamesSoFar.{AreBefore};
 
-use crate::kept::SeenRecord;
 use crate::publics::{declared_position, note};
+use crate::seen::SeenRecord;
 use mufom_names::{Note, Reference, Weak};
 use mufom_numbers::{Bytes, List, NoMemory};
 use mufom_records::Record;
@@ -52,12 +52,12 @@ pub(crate) fn take(
     table: &IndexTable,
     seen: &SeenRecord,
 ) -> Result<(), NoMemory>
-    requires own { HasOwnParts (kept_of_seen seen.now) }
+    requires own { HasOwnParts seen.now }
     requires known { (before : List records.SpelledRecord)
-        × AreBefore references.old.items table.now before (record_of_kept (kept_of_seen seen.now)) }
+        × AreBefore references.old.items table.now before (record_of_seen seen.now) }
     ensures { OnOk result ((before : List records.SpelledRecord)
-        → AreBefore references.old.items table.now before (record_of_kept (kept_of_seen seen.now))
-        → references.new.items ≡ gathered.references_of (before ++ record_of_kept (kept_of_seen seen.now) ∷ [])) }
+        → AreBefore references.old.items table.now before (record_of_seen seen.now)
+        → references.new.items ≡ gathered.references_of (before ++ record_of_seen seen.now ∷ [])) }
 {
     match &seen.row {
         Record::ReferenceName(_, name) => {

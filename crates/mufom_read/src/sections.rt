@@ -1,65 +1,54 @@
-//! The sections of a module, from the records that declare them and speak of them.
+//! The sections so far, with what was stated of each.
 
-ghost use Rattle.std.specs.Prelude.{◌≡◌, [], ◌++◌, IfOk, OnOk, List, All, map, option_map};
-ghost use Rattle.std.specs.List.{cons_option};
-ghost use Rattle.mufom_module.specs.SpelledRecords as records;
+ghost use Rattle.std.specs.Prelude.{◌≡◌, ◌<◌, ◌^◌, ◌++◌, ◌∷◌, [], List, length, slice_get, slice_set, None, Some, OnOk, option_map};
+ghost use Rattle.mufom_sections.specs.declared.section.Section as its_section;
 ghost use Rattle.mufom_module.specs.Gathered as gathered;
-ghost use Rattle.mufom_read.specs.Kept.{record_of_kept, AreSectionTables, HasOwnParts};
-ghost use Rattle.mufom_read.specs.Built.{section_facts, with_facts};
+ghost use Rattle.mufom_read.specs.Prefixes.{OffsetRecord};
+ghost use Rattle.mufom_read.specs.Kept.{record_of_seen, placed, HasOwnParts, as_fault};
+ghost use Rattle.mufom_read.specs.SectionsSoFar.{AreSectionsOf, AreSectionsBefore, is_unbased, first_unbased};
 
-use crate::kept::KeptRecord;
-use crate::positions::stated_at;
-use crate::tables::Tables;
-use mufom_numbers::{List, NoMemory, codes};
+use crate::publics::declared_position;
+use crate::refusal::ReadRefusal;
+use crate::seen::SeenRecord;
+use mufom_numbers::{NoMemory, Reason, codes};
 use mufom_records::Record;
-use mufom_sections::{Purpose, Section};
+use mufom_sections::{IndexTable, Purpose, Section};
 use std::alloc::Global;
 
-/// The sizes, alignments and bases that records state, in order.
+/// The sections so far, and the offset of the declaration of each.
 #[derive(Debug, Drop)]
-pub(crate) struct SectionFacts {
-    pub sizes: List<u64>,
-    pub alignments: List<u64>,
-    pub bases: List<u64>,
+pub(crate) struct Sections {
+    pub list: Vec<Section>,
+    pub starts: Vec<u32>,
 }
 
-/// Adds an item, where there is one.
-pub(crate) fn push_some<T: Drop>(list: &mut List<T>, item: Option<T>) -> Result<(), NoMemory>
-    ensures { OnOk result (list.new ≡ list.old ++ cons_option item []) }
+// ---- in place
+
+// Gives the section at a position its size.
+fn set_size(sections: &mut Vec<Section>, position: usize, size: u64)
+    requires { position < length sections.old.items }
+    ensures { (old : its_section.Section) → slice_get sections.old.items position ≡ Some old
+        → sections.new.items ≡ slice_set sections.old.items position (record old { size = size }) }
 {
-    match item {
-        None => Ok(()),
-        Some(item) => list.push(item),
-    }
+    sections[position].size = size;
 }
 
-impl SectionFacts {
-    // Adds what a record states.
-    fn add(&mut self, record: &Record) -> Result<(), NoMemory>
-        ensures { OnOk result (self.new ≡ with_facts self.old «record».now) }
-    {
-        match record {
-            Record::SectionSize(_, size) => self.sizes.push(*size),
-            Record::Alignment(_, alignment, _) => self.alignments.push(*alignment),
-            Record::SectionBase(_, base) => self.bases.push(*base),
-            _ => Ok(()),
-        }
-    }
-}
-
-// What the records state.
-fn facts_of(alloc: Global, kept: &[KeptRecord]) -> Result<SectionFacts, NoMemory>
-    ensures { IfOk result (λ facts. facts ≡ section_facts (map record_of_kept kept.now)) }
+// Gives the section at a position its alignment.
+fn set_align(sections: &mut Vec<Section>, position: usize, align: u64)
+    requires { position < length sections.old.items }
+    ensures { (old : its_section.Section) → slice_get sections.old.items position ≡ Some old
+        → sections.new.items ≡ slice_set sections.old.items position (record old { align = align }) }
 {
-    let mut facts = SectionFacts {
-        sizes: List::new(alloc),
-        alignments: List::new(alloc),
-        bases: List::new(alloc),
-    };
-    for record in kept {
-        facts.add(&record.row)?;
-    }
-    Ok(facts)
+    sections[position].align = align;
+}
+
+// Gives the section at a position its base.
+fn set_base(sections: &mut Vec<Section>, position: usize, base: u64)
+    requires { position < length sections.old.items }
+    ensures { (old : its_section.Section) → slice_get sections.old.items position ≡ Some old
+        → sections.new.items ≡ slice_set sections.old.items position (record old { base = Some base }) }
+{
+    sections[position].base = Some(base);
 }
 
 // The purpose that a letter gives: D0, C4 and D2.
@@ -82,50 +71,91 @@ fn optional_purpose(letter: Option<u8>) -> Option<Purpose>
     }
 }
 
-// The section that the record declares, if it declares one.
-fn section_by(
-    alloc: Global,
-    tables: &Tables,
-    facts: &SectionFacts,
-    record: &KeptRecord,
-) -> Result<Option<Section>, NoMemory>
-    requires { HasOwnParts «record».now }
-    ensures { IfOk result (λ section. (part : List records.SpelledRecord) → AreSectionTables tables.now part → facts.now ≡ section_facts part
-        → section ≡ gathered.section_by part (record_of_kept «record».now) «record».now.row) }
+// Whether the section is absolute and has no base.
+fn is_unbased(section: &Section) -> bool
+    ensures { result ≡ is_unbased section.now }
 {
-    match &record.row {
-        Record::SectionType(index, absolute, letter, name, ..) => {
-            let size = stated_at(&tables.sizes, &facts.sizes, *index);
-            let align = stated_at(&tables.alignments, &facts.alignments, *index);
-            let base = stated_at(&tables.bases, &facts.bases, *index);
-            Ok(Some(Section {
-                name: record.copy_text(alloc, *name)?,
-                absolute: *absolute,
-                purpose: optional_purpose(*letter),
-                size: size.copied().unwrap_or(0),
-                align: align.copied().unwrap_or(1),
-                base: base.copied(),
-            }))
-        }
-        _ => Ok(None),
-    }
+    section.absolute && section.base.is_none()
 }
 
-/// The sections that the records declare, with what they state of them.
-pub(crate) fn sections_of(
-    alloc: Global,
-    tables: &Tables,
-    kept: &[KeptRecord],
-) -> Result<List<Section>, NoMemory>
-    requires own { All HasOwnParts kept.now }
-    requires tables { AreSectionTables tables.now (map record_of_kept kept.now) }
-    ensures { IfOk result (λ sections. sections ≡ gathered.sections_of (map record_of_kept kept.now)) }
-{
-    let facts = facts_of(alloc, kept)?;
-    let mut sections = List::new(alloc);
-    for record in kept {
-        let section = section_by(alloc, tables, &facts, record)?;
-        push_some(&mut sections, section)?;
+impl Sections {
+    /// No sections. Takes no memory.
+    pub(crate) fn new(alloc: Global) -> Sections
+        ensures { AreSectionsOf result [] }
+    {
+        Sections {
+            list: Vec::new(alloc),
+            starts: Vec::new(alloc),
+        }
     }
-    Ok(sections)
+
+    // Adds a section, whose declaration begins at an offset.
+    fn add(&mut self, section: Section, start: u32) -> Result<(), NoMemory>
+        ensures list { OnOk result (self.new.list.items ≡ self.old.list.items ++ section ∷ []) }
+        ensures starts { OnOk result (self.new.starts.items ≡ self.old.starts.items ++ start ∷ []) }
+    {
+        self.starts.push(start)?;
+        self.list.push(section)?;
+        Ok(())
+    }
+
+    /// Takes what a record states of the sections.
+    pub(crate) fn take(
+        &mut self,
+        alloc: Global,
+        table: &IndexTable,
+        seen: &SeenRecord,
+    ) -> Result<(), NoMemory>
+        requires own { HasOwnParts seen.now }
+        requires start { seen.now.start < 2 ^ 32 }
+        requires known { (all : List OffsetRecord) × AreSectionsBefore self.old table.now all (record_of_seen seen.now) }
+        ensures { OnOk result ((all : List OffsetRecord) → AreSectionsBefore self.old table.now all (record_of_seen seen.now)
+            → AreSectionsOf self.new (all ++ placed seen.now ∷ [])) }
+    {
+        match &seen.row {
+            Record::SectionType(_, absolute, letter, name, ..) => {
+                let section = Section {
+                    name: seen.copy_text(alloc, *name)?,
+                    absolute: *absolute,
+                    purpose: optional_purpose(*letter),
+                    size: 0,
+                    align: 1,
+                    base: None,
+                };
+                self.add(section, seen.start as u32)
+            }
+            Record::SectionSize(index, size) => {
+                let position = declared_position(table, *index);
+                set_size(&mut self.list, position, *size);
+                Ok(())
+            }
+            Record::Alignment(index, align, _) => {
+                let position = declared_position(table, *index);
+                set_align(&mut self.list, position, *align);
+                Ok(())
+            }
+            Record::SectionBase(index, base) => {
+                let position = declared_position(table, *index);
+                set_base(&mut self.list, position, *base);
+                Ok(())
+            }
+            _ => Ok(()),
+        }
+    }
+
+    /// The fault of the first absolute section without a base.
+    pub(crate) fn fault(&self) -> Option<ReadRefusal>
+        requires { length self.now.list.items ≡ length self.now.starts.items }
+        ensures { option_map as_fault result ≡ first_unbased self.now.starts.items self.now.list.items }
+    {
+        for (position, section) in self.list.iter().enumerate() {
+            if is_unbased(section) {
+                return Some(ReadRefusal {
+                    place: self.starts[position] as u64,
+                    reason: Reason::MissingBase,
+                });
+            }
+        }
+        None
+    }
 }

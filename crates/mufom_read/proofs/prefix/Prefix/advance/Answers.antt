@@ -3,7 +3,7 @@ use Rattle.mufom_read.specs.declared.prefix.Next.{Next}
 use Rattle.mufom_read.specs.PrefixOfCode.{IsStepTaken}
 use Rattle.mufom_read.specs.declared.prefix.Next.TheVariants as next
 use Rattle.mufom_read.specs.Prefixes.{offset_records_of}
-use Rattle.mufom_read.proofs.PublicLaws.{publics-even}
+use Rattle.mufom_read.proofs.ContentLaws.{contents-marked}
 use Rattle.mufom_read.proofs.StepLaws.{stepped-refused}
 use Rattle.mufom_read.proofs.prefix.Prefix.advance.Goals as goal
 
@@ -18,7 +18,7 @@ judge_part-requires c =
     let is = c.requires.known.1 in
     let taken : IsStepTaken c.args.reads_debug prefix c.args.rest.now c.step.new.self (next.Took c.in-Took.count) =
     subst (λ (next : Next). IsStepTaken c.args.reads_debug prefix c.args.rest.now c.step.new.self next) c.in-Took.is (c.in_ok-count.ensures prefix is c.requires.known.2 c.requires.known.3) in
-    publics-even c.step.new.self.publics (offset_records_of (prefix ++ taken.0)) taken.1.publics
+    contents-marked c.step.new.self.contents (offset_records_of (prefix ++ taken.0)) taken.1.contents
 
 pub returns-in-Took : goal.returns-in-Took
 returns-in-Took c = λ prefix is unended whole.

@@ -6,7 +6,7 @@ use Rattle.mufom_records.specs.Parts.{HasParts}
 use Rattle.mufom_records.specs.Reading.{record_at}
 use Rattle.mufom_read.specs.Prefixes.{size_of, as_step}
 use Rattle.mufom_read.specs.Faults.{step_fault}
-use Rattle.mufom_read.specs.Kept.{kept_record}
+use Rattle.mufom_read.specs.Kept.{as_record}
 use Rattle.mufom_read.specs.PrefixOfCode.{as_location, mode_at}
 use Rattle.mufom_read.proofs.WholeLaws.{if_ok}
 use Rattle.mufom_read.proofs.RecordFacts.{got-some, got-own, got-placed}
@@ -36,7 +36,7 @@ returns-in-Got c = if_ok _ _ c.take.result (λ done taken. λ prefix is at.
     within
     (subst (λ k. 0 < k) (taken_length c.in-Got.used rest within) (got-some _ _ _ _ c.in-Got.ensures.got.1))
     is.size
-    (ap (λ b. kept_record c.args.self.now.size c.in-Got.row b) c.prefix_of.ensures)
+    (ap (λ b. as_record c.in-Got.row b) c.prefix_of.ensures)
     (taken prefix is at)) c.take.ensures
 
 pub returns-in-More : goal.returns-in-More

@@ -1,9 +1,9 @@
-//! The records of a prefix, with their bytes: the one that is judged, and those that are kept.
+//! The record that is judged, with its bytes.
 
 ghost use Rattle.std.specs.Prelude.{◌≡◌, ◌+◌, ◌≤◌, length, slice_range, IfOk};
 ghost use Rattle.mufom_records.specs.Parts.{LiesIn, IsExpressionIn, HasParts};
 ghost use Rattle.mufom_module.specs.SpelledRecords as records;
-ghost use Rattle.mufom_read.specs.Kept.{record_of_kept, kept_of_seen};
+ghost use Rattle.mufom_read.specs.Kept.{record_of_seen};
 
 use mufom_expr::Postfix;
 use mufom_numbers::{Bytes, NoMemory, Span};
@@ -16,14 +16,6 @@ pub(crate) struct SeenRecord<'a> {
     pub start: u64,
     pub row: Record,
     pub bytes: &'a [u8],
-}
-
-/// A record that is kept, with a copy of its bytes, and the offset of the first of them.
-#[derive(Debug, Drop)]
-pub(crate) struct KeptRecord {
-    pub start: u64,
-    pub row: Record,
-    pub bytes: Bytes,
 }
 
 // The offset of a block, of the kinds that have one.
@@ -66,7 +58,7 @@ impl SeenRecord<'_> {
     /// A copy of the bytes of a part of the record.
     pub(crate) fn copy_text(&self, alloc: Global, span: Span) -> Result<Bytes, NoMemory>
         requires { LiesIn self.now.bytes.now span }
-        ensures { IfOk result (λ bytes. bytes ≡ records.text_in (record_of_kept (kept_of_seen self.now)) span) }
+        ensures { IfOk result (λ bytes. bytes ≡ records.text_in (record_of_seen self.now) span) }
     {
         Bytes::from_slice(alloc, part_of(self.bytes, span))
     }
@@ -74,7 +66,7 @@ impl SeenRecord<'_> {
     // The expression at a part of the record, over the indexes of the file.
     fn tree(&self, alloc: Global, span: Span) -> Result<Postfix, NoMemory>
         requires { IsExpressionIn self.now.bytes.now span }
-        ensures { IfOk result (λ tree. tree ≡ records.tree_in (record_of_kept (kept_of_seen self.now)) span) }
+        ensures { IfOk result (λ tree. tree ≡ records.tree_in (record_of_seen self.now) span) }
     {
         postfix_of(alloc, part_of(self.bytes, span))
     }
@@ -82,7 +74,7 @@ impl SeenRecord<'_> {
     /// The record's expression; none has more than one.
     pub(crate) fn expression(&self, alloc: Global) -> Result<Option<Postfix>, NoMemory>
         requires { HasParts self.now.bytes.now self.now.row }
-        ensures { IfOk result (λ tree. tree ≡ records.tree_of_record (record_of_kept (kept_of_seen self.now))) }
+        ensures { IfOk result (λ tree. tree ≡ records.tree_of_record (record_of_seen self.now)) }
     {
         match expression_of(&self.row) {
             None => Ok(None),
@@ -91,43 +83,5 @@ impl SeenRecord<'_> {
                 Ok(Some(tree))
             }
         }
-    }
-
-    /// The record with a copy of its bytes.
-    pub(crate) fn into_kept(self, alloc: Global) -> Result<KeptRecord, NoMemory>
-        ensures { IfOk result (λ kept. kept ≡ kept_of_seen self.entry) }
-    {
-        let bytes = Bytes::from_slice(alloc, self.bytes)?;
-        Ok(KeptRecord {
-            start: self.start,
-            row: self.row,
-            bytes,
-        })
-    }
-}
-
-impl KeptRecord {
-    /// The bytes of a part of the record.
-    pub(crate) fn text(&self, span: Span) -> &[u8]
-        requires { LiesIn self.now.bytes span }
-        ensures { result.now ≡ records.text_in (record_of_kept self.now) span }
-    {
-        part_of(self.bytes.as_slice(), span)
-    }
-
-    /// A copy of them.
-    pub(crate) fn copy_text(&self, alloc: Global, span: Span) -> Result<Bytes, NoMemory>
-        requires { LiesIn self.now.bytes span }
-        ensures { IfOk result (λ bytes. bytes ≡ records.text_in (record_of_kept self.now) span) }
-    {
-        Bytes::from_slice(alloc, self.text(span))
-    }
-
-    /// The expression at a part of the record, over the indexes of the file.
-    pub(crate) fn tree(&self, alloc: Global, span: Span) -> Result<Postfix, NoMemory>
-        requires { IsExpressionIn self.now.bytes span }
-        ensures { IfOk result (λ tree. tree ≡ records.tree_in (record_of_kept self.now) span) }
-    {
-        postfix_of(alloc, self.text(span))
     }
 }

@@ -1,0 +1,40 @@
+-- What the header states so far: the names of the module, the units of an address and the order of bytes.
+use Rattle.std.specs.Prelude.{ℕ, ◌==◌, min, List, filter_map, slice_get, Option, Some, None, if◌then◌else◌}
+use Rattle.std.specs.Option.{option_or}
+use Rattle.mufom_numbers.specs.declared.codes.TheConstants.{LETTER_L}
+use Rattle.mufom_records.specs.declared.record.Record.{Record}
+use Rattle.mufom_records.specs.declared.record.Record.TheVariants as r
+use Rattle.mufom_module.specs.declared.module.Order.{Order}
+use Rattle.mufom_module.specs.declared.module.Order.TheVariants.{Least, Most}
+use Rattle.mufom_module.specs.SpelledRecords.{SpelledRecord, text_in}
+use Rattle.mufom_module.specs.Gathered.{first_answer}
+use Rattle.mufom_read.specs.declared.header.Names.{Names}
+use Rattle.mufom_read.specs.declared.header.Layout.{Layout}
+use Rattle.mufom_read.specs.declared.header.Header.{Header}
+
+-- the processor and the name of the module, which MB gives
+abbrev pub names_by : SpelledRecord → Record → Option Names
+names_by p (r.ModuleBegin processor name) = Some (record { processor = text_in p processor; name = text_in p name })
+names_by p _ = None
+
+-- the order of bytes that a letter gives: the most significant first, where there is none
+abbrev pub order_of : Option ℕ → Order
+order_of None = Most
+order_of (Some letter) = if LETTER_L == letter then Least else Most
+
+-- The units of an address and the order of bytes, which AD gives. No address has more than 8 units.
+abbrev pub layout_by : Record → Option Layout
+layout_by (r.Descriptor bits maus letter) = Some (record { maus = min maus 8; order = order_of letter })
+layout_by _ = None
+
+-- the names that the first MB of records gives
+abbrev pub names_in : List SpelledRecord → Option Names
+names_in records = slice_get (filter_map (λ p. names_by p p.row) records) 0
+
+-- the layout that the first AD of records gives
+abbrev pub layout_in : List SpelledRecord → Option Layout
+layout_in records = first_answer layout_by records
+
+-- what the header states with one more record; what an earlier one states stays
+abbrev pub header_after : Header → SpelledRecord → Header
+header_after h p = record { names = option_or h.names (names_by p p.row); layout = option_or h.layout (layout_by p.row) }
