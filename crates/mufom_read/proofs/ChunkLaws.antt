@@ -1,6 +1,5 @@
 -- A reader that has read one record more.
-use Rattle.std.proofs.Common.{◌≡◌, ◌≢◌, ◌⊎◌, inl, inr, ℕ, zero, suc, ◌+◌, ◌-◌, ◌<◌, ◌≤◌, Bool, true, false, true≢false, List, [], ◌∷◌, ◌++◌, length, take, drop, Option, Some, None, Ok, Err, refl, sym, ap, subst, ◌∙◌, arith, take_all, length-drop, length-append, length-take, min, nat_lt}
-use Rattle.std.specs.Option.{option_or}
+use Rattle.std.proofs.Common.{◌≡◌, ◌≢◌, ◌⊎◌, inl, inr, ℕ, zero, suc, ◌+◌, ◌-◌, ◌<◌, ◌≤◌, Bool, true, false, true≢false, List, [], ◌∷◌, ◌++◌, length, take, drop, Option, Some, None, Ok, Err, refl, sym, ap, subst, ◌∙◌, arith, take_all, length-drop, length-append, length-take, min, nat_lt, Fits, w8, slice_index_or}
 use Rattle.std.proofs.lemmas.Bool.{cases_lt, ltb-false, ltb-true}
 use Rattle.std.proofs.lemmas.List.{nil_from_length}
 use Rattle.mufom_numbers.specs.declared.reason.Reason.{Reason}
@@ -13,12 +12,13 @@ use Rattle.mufom_read.specs.declared.refusal.ReadRefusal.{ReadRefusal}
 use Rattle.mufom_read.specs.declared.refusal.ReadStop.{ReadStop}
 use Rattle.mufom_read.specs.declared.refusal.ReadStop.TheVariants as stop
 use Rattle.mufom_read.specs.Prefixes.{Step, size_of, is_ended}
-use Rattle.mufom_read.specs.Faults.{Fault, ended_part_fault, fault_after}
+use Rattle.mufom_read.specs.Faults.{Fault, fault_after}
 use Rattle.mufom_read.specs.Judging.{IsSoundFrom, IsSoundPrefix, within_limit, IsWaiting, IsRefusedAt, IsPending}
 use Rattle.mufom_read.specs.PrefixOfCode.{IsPrefixOf}
-use Rattle.mufom_read.specs.Reader.{HasTakenAll, HasEndedChunk, HasJudgedRest, IsReading, IsIncomplete, Knows}
+use Rattle.mufom_read.specs.Reader.{HasTakenAll, HasStopped, HasTakenChunk, HasEndedChunk, IsReading, IsIncomplete, Knows}
 use Rattle.mufom_read.proofs.PrefixLaws.{size-append}
-use Rattle.mufom_read.proofs.StayLaws.{sound_stays, within-append, AreBytes-prefix}
+use Rattle.mufom_numbers.proofs.SpellingLaws.{AreBytes-append}
+use Rattle.mufom_read.proofs.StayLaws.{sound_stays, within-append, AreBytes-prefix, AreBytes-drop, AreBytes-take}
 use Rattle.mufom_read.proofs.TakeLaws.{sound-append, drop-drop}
 
 -- the bytes of a stream within the limit are all of it
@@ -68,31 +68,6 @@ chunk-refused r stream chunk w is new f bytes cut (steps, sound, unended, fault)
       fault = ap (λ (l : List ℕ). fault_after r.reads_debug (is.prefix ++ steps) (drop (size_of (is.prefix ++ steps)) l)) far.all ∙ ap (fault_after r.reads_debug (is.prefix ++ steps)) (sym both.1) ∙ fault;
     })
 
--- ---- what stands after a prefix
-
--- steps were taken, and judged at their end
-pub rest-taken : (reads_debug : Bool) (before : List Step) (given rest : List ℕ) (n : ℕ) (longer : Bool) (prefix : Prefix) (new : State) (result : Option ReadStop) → given ≡ rest → new.prefix ≡ prefix
-    → HasTakenAll reads_debug before given prefix (Ok n) → ((steps : List Step) → IsPrefixOf prefix steps → HasEndedChunk (is_ended steps) prefix.size longer (drop n rest) new result)
-    → HasJudgedRest reads_debug before rest longer new result
-rest-taken reads_debug before given rest n longer prefix new result same kept taken ended =
-    let all : HasTakenAll reads_debug before rest prefix (Ok n) = subst (λ (l : List ℕ). HasTakenAll reads_debug before l prefix (Ok n)) same taken in
-    inr (inr (
-      n,
-      all.0,
-      subst (λ (f : Prefix). IsPrefixOf f (before ++ all.0)) (sym kept) all.1,
-      all.2,
-      all.3,
-      all.4,
-      all.5,
-      subst (λ (f : Prefix). HasEndedChunk (is_ended (before ++ all.0)) f.size longer (drop n rest) new result) (sym kept) (ended (before ++ all.0) all.1),
-    ))
-
--- there is a fault, or no memory
-pub rest-refused : (reads_debug : Bool) (before : List Step) (given rest : List ℕ) (longer : Bool) (new : State) (s : ReadStop) → given ≡ rest
-    → HasTakenAll reads_debug before given new.prefix (Err s) → HasJudgedRest reads_debug before rest longer new (Some s)
-rest-refused reads_debug before given rest longer new (stop.Refused f) same taken = inl (f, refl, subst (λ (l : List ℕ). HasTakenAll reads_debug before l new.prefix (Err (stop.Refused f))) same taken)
-rest-refused reads_debug before given rest longer new stop.NoMemory same taken = inr (inl refl)
-
 -- ---- what a chunk makes known
 
 -- how many bytes may still be read
@@ -103,16 +78,12 @@ room_of r = file_limit - (r.prefix.size + length r.rest.items)
 pub read-length : (r : State) (stream : List ℕ) → IsReading r stream → r.prefix.size + length r.rest.items ≡ length stream
 read-length r stream is = omega (arith, is.kept.size, ap length is.rest, length-drop (size_of is.prefix) stream, is.inside)
 
--- no part that ends with the prefix of a reader has a fault
-pub whole-prefix : (r : State) (stream : List ℕ) (is : IsReading r stream) → is_ended is.prefix ≡ false → ended_part_fault is.prefix ≡ None
-whole-prefix r stream is unended = by_case is.waits where
-  no_part : (o p : Option Fault) → option_or o p ≡ None → o ≡ None
-  no_part None p e = refl
-  no_part (Some x) p e = e
-
-  by_case : (((is_ended is.prefix ≡ true) × (size_of is.prefix ≡ length stream)) ⊎ IsIncomplete r.reads_debug is.prefix r.rest.items) → ended_part_fault is.prefix ≡ None
-  by_case (inl end) = absurd (true≢false (sym end.0 ∙ unended))
-  by_case (inr want) = no_part (ended_part_fault is.prefix) _ want.faultless
+-- the module of a reader has ended, or more bytes are wanted
+pub reading-stopped : (r : State) (stream : List ℕ) (is : IsReading r stream) → HasStopped r.reads_debug is.prefix r.rest.items
+reading-stopped r stream is = by_case is.waits where
+  by_case : (((is_ended is.prefix ≡ true) × (size_of is.prefix ≡ length stream)) ⊎ IsIncomplete r.reads_debug is.prefix r.rest.items) → HasStopped r.reads_debug is.prefix r.rest.items
+  by_case (inl end) = inl (end.0, nil_from_length r.rest.items (omega (arith, ap length is.rest, length-drop (size_of is.prefix) stream, end.1)))
+  by_case (inr want) = inr want
 
 -- the steps that a reader has taken of a stream with one record more, and what stands after them
 record HasGoneAfter (r : State) (stream chunk : List ℕ) (prefix : List Step) (n : ℕ) (rest : List ℕ) : Type 0 where
@@ -213,25 +184,34 @@ knows-ended r stream chunk prefix n rest longer_ new (Some (stop.Refused f)) gon
     (too-long r stream chunk prefix n rest f.place f.reason gone unended (ap (λ (p : Fault). p.0) fault) (ap (λ (p : Fault). p.1) fault) (sym test ∙ long) waits)
 knows-ended r stream chunk prefix n rest longer_ new (Some stop.NoMemory) gone same test is waits ended = tt
 
-pub knows-judged : (r : State) (stream chunk : List ℕ) (is : IsReading r stream) (longer_ : Bool) (new : State) (result : Option ReadStop) → AreBytes (stream ++ chunk)
-    → longer_ ≡ nat_lt (file_limit - (r.prefix.size + length r.rest.items)) (length chunk) → new.reads_debug ≡ r.reads_debug
-    → HasJudgedRest r.reads_debug is.prefix (r.rest.items ++ take (file_limit - (r.prefix.size + length r.rest.items)) chunk) longer_ new result → Knows new (stream ++ chunk) result
-knows-judged r stream chunk is longer_ new result bytes test same (inl (f, stopped, taken)) =
-    subst (λ (o : Option ReadStop). Knows new (stream ++ chunk) o) (sym stopped)
-    (subst (λ (b : Bool). IsRefusedAt b (stream ++ chunk) f.place f.reason) (sym same) (chunk-refused r stream chunk _ is new.prefix f bytes refl taken))
-knows-judged r stream chunk is longer_ new result bytes test same (inr (inl none)) = subst (λ (o : Option ReadStop). Knows new (stream ++ chunk) o) (sym none) tt
-knows-judged r stream chunk is longer_ new result bytes test same (inr (inr (n, steps, its, sound, size, within, waits, ended))) =
-    knows-ended r stream chunk (is.prefix ++ steps) n (r.rest.items ++ take (room_of r) chunk) longer_ new result (gone-after r stream chunk is steps n bytes sound size within) same test its waits ended
+-- a slice of u8 is of bytes
+pub fits-bytes : (bytes : List ℕ) → ((i : ℕ) → Fits w8 (slice_index_or bytes i 0)) → AreBytes bytes
+fits-bytes [] fits = tt
+fits-bytes (b ∷ bytes) fits = let first : Fits w8 b = fits 0 in (omega (arith, first), fits-bytes bytes (λ i. fits (suc i)))
 
--- what a chunk makes known, where its bytes were added to those after the prefix
-pub known-chunk : (r added new : State) (stream chunk : List ℕ) (longer_ : Bool) (result : Option ReadStop) → IsReading r stream → AreBytes (stream ++ chunk) → added.prefix ≡ r.prefix → added.reads_debug ≡ r.reads_debug
-    → added.rest.items ≡ r.rest.items ++ take (file_limit - (r.prefix.size + length r.rest.items)) chunk → longer_ ≡ nat_lt (file_limit - (r.prefix.size + length r.rest.items)) (length chunk) → new.reads_debug ≡ added.reads_debug
-    → ((before : List Step) → IsPrefixOf added.prefix before → (is_ended before ≡ false → ended_part_fault before ≡ None) → HasJudgedRest added.reads_debug before added.rest.items longer_ new result)
-    → Knows new (stream ++ chunk) result
-known-chunk r added new stream chunk longer_ result is bytes prefix flag rest test same judged =
-    let kept : IsPrefixOf added.prefix is.prefix = subst (λ (f : Prefix). IsPrefixOf f is.prefix) (sym prefix) is.kept in
-    let here = subst (λ (b : Bool). HasJudgedRest b is.prefix added.rest.items longer_ new result) flag (judged is.prefix kept (whole-prefix r stream is)) in
-    knows-judged r stream chunk is longer_ new result bytes test (same ∙ flag) (subst (λ (l : List ℕ). HasJudgedRest r.reads_debug is.prefix l longer_ new result) rest here)
+-- the pending bytes and a chunk of a stream are bytes
+pub rest-bytes : (r : State) (stream chunk : List ℕ) (n : ℕ) → AreBytes stream → IsReading r stream → ((i : ℕ) → Fits w8 (slice_index_or chunk i 0)) → AreBytes (r.rest.items ++ take n chunk)
+rest-bytes r stream chunk n bytes is fits =
+    AreBytes-append r.rest.items (take n chunk) (subst (λ (l : List ℕ). AreBytes l) (sym is.rest) (AreBytes-drop (size_of is.prefix) stream bytes)) (AreBytes-take n chunk (fits-bytes chunk fits))
+
+-- what a chunk makes known, where all that it has with the pending bytes was taken
+pub known-taken : (r new : State) (stream chunk w : List ℕ) (longer_ : Bool) (result : Option ReadStop) → IsReading r stream → AreBytes (stream ++ chunk) → w ≡ take (file_limit - (r.prefix.size + length r.rest.items)) chunk
+    → longer_ ≡ nat_lt (file_limit - (r.prefix.size + length r.rest.items)) (length chunk) → new.reads_debug ≡ r.reads_debug
+    → ((before : List Step) → IsPrefixOf r.prefix before → HasStopped r.reads_debug before r.rest.items → HasTakenChunk r.reads_debug before (r.rest.items ++ w) new (Ok tt))
+    → ((prefix : List Step) → IsPrefixOf new.prefix prefix → HasEndedChunk (is_ended prefix) new.prefix.size longer_ new.rest.items new result) → Knows new (stream ++ chunk) result
+known-taken r new stream chunk w longer_ result is bytes cut test same taken ended =
+    let all = subst (λ (l : List ℕ). HasTakenChunk r.reads_debug is.prefix (r.rest.items ++ l) new (Ok tt)) cut (taken is.prefix is.kept (reading-stopped r stream is)) in
+    let its = all.1 in
+    let prefix = is.prefix ++ its.0 in
+    knows-ended r stream chunk prefix all.0 (r.rest.items ++ take (room_of r) chunk) longer_ new result (gone-after r stream chunk is its.0 all.0 bytes its.2 its.3 its.4) same test its.1 its.5
+    (subst (λ (l : List ℕ). HasEndedChunk (is_ended prefix) new.prefix.size longer_ l new result) all.2 (ended prefix its.1))
+
+-- and where there is a fault in it, or no memory
+pub known-stopped : (r new : State) (stream chunk w : List ℕ) (s : ReadStop) → IsReading r stream → AreBytes (stream ++ chunk) → w ≡ take (file_limit - (r.prefix.size + length r.rest.items)) chunk → new.reads_debug ≡ r.reads_debug
+    → ((before : List Step) → IsPrefixOf r.prefix before → HasStopped r.reads_debug before r.rest.items → HasTakenChunk r.reads_debug before (r.rest.items ++ w) new (Err s)) → Knows new (stream ++ chunk) (Some s)
+known-stopped r new stream chunk w (stop.Refused f) is bytes cut same taken =
+    subst (λ (b : Bool). IsRefusedAt b (stream ++ chunk) f.place f.reason) (sym same) (chunk-refused r stream chunk w is new.prefix f bytes cut (taken is.prefix is.kept (reading-stopped r stream is)))
+known-stopped r new stream chunk w stop.NoMemory is bytes cut same taken = tt
 
 -- ---- how many bytes are pending
 

@@ -1,5 +1,5 @@
 -- What a reader answers is what the stream so far is.
-use Rattle.std.proofs.Common.{◌≡◌, ◌≢◌, ◌⊎◌, ◌↔◌, inl, inr, ℕ, ◌<◌, Bool, List, [], ◌++◌, length, Option, Some, None, Result, Err, refl, sym, ap, subst, ◌∙◌, arith, suc, ◌∷◌, Fits, w8, slice_index_or as get_or}
+use Rattle.std.proofs.Common.{◌≡◌, ◌≢◌, ◌⊎◌, ◌↔◌, inl, inr, ℕ, ◌<◌, Bool, List, [], ◌++◌, length, Option, Some, None, Result, Err, refl, sym, ap, subst, ◌∙◌, arith}
 use Rattle.mufom_numbers.specs.declared.reason.Reason.{Reason}
 use Rattle.mufom_numbers.specs.Spelling.{AreBytes}
 use Rattle.mufom_module.specs.Grammar.{file_limit}
@@ -31,11 +31,6 @@ none-read r prefix none going = (
     waits = inr (subst (λ (rest : List ℕ). IsIncomplete r.reads_debug [] rest) (sym none) (record { unended = refl; faultless = refl; wanting = refl }));
   }),
 )
-
--- a slice of u8 is of bytes
-pub fits-bytes : (bytes : List ℕ) → ((i : ℕ) → Fits w8 (get_or bytes i 0)) → AreBytes bytes
-fits-bytes [] fits = tt
-fits-bytes (b ∷ bytes) fits = let first : Fits w8 b = fits 0 in (omega (arith, first), fits-bytes bytes (λ i. fits (suc i)))
 
 -- what is kept of a stream does not depend on the stop
 pub reading-moved : (a b : State) (stream : List ℕ) → b.reads_debug ≡ a.reads_debug → b.prefix ≡ a.prefix → b.rest ≡ a.rest → IsReading a stream → IsReading b stream

@@ -78,6 +78,7 @@ pub mod BuildLaws
 pub mod SpelledJudged
 mod Worked
 pub mod ChunkLaws
+pub mod CompleteLaws
 pub mod FeedLaws
 pub mod ShortLaws
 pub mod FinishLaws

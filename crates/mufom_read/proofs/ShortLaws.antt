@@ -13,7 +13,8 @@ use Rattle.mufom_read.specs.Prefixes.{Step, Extent, Location, in_header, in_part
 use Rattle.mufom_read.specs.Reader.{IsReading, IsIncomplete}
 use Rattle.mufom_read.proofs.StayLaws.{AreBytes-drop}
 
-as-step-wants : (at : ℕ) (rest : List ℕ) (answer : Taken Record) → as_step at rest answer ≡ taken.More → answer ≡ taken.More
+-- more is wanted for a step where it is for its record
+pub as-step-wants : (at : ℕ) (rest : List ℕ) (answer : Taken Record) → as_step at rest answer ≡ taken.More → answer ≡ taken.More
 as-step-wants at rest (taken.Got row used) e = let wrong : ◌≡◌ {A = Taken Step} (as_step at rest (taken.Got row used)) taken.More = e in absurd cc
 as-step-wants at rest taken.More e = refl
 as-step-wants at rest (taken.Bad offset reason) e = let wrong : ◌≡◌ {A = Taken Step} (taken.Bad offset reason) taken.More = e in absurd cc

@@ -4,9 +4,10 @@ use Rattle.std.proofs.lemmas.List.{length-append, length-take, length-take-le, t
 use Rattle.mufom_numbers.specs.declared.reason.Reason.{Reason}
 use Rattle.mufom_numbers.specs.declared.reason.Reason.TheVariants as why
 use Rattle.mufom_numbers.specs.Spelling.{AreBytes}
+use Rattle.mufom_host.specs.declared.world.Failed.{Failed}
 use Rattle.mufom_host.specs.World.{Meaning, Faults, Reads, ReadsOff, KeepsAllButLeft, KeepsAllButReads}
 use Rattle.mufom_host.specs.Spans.{AfterReads}
-use Rattle.mufom_host.proofs.Composing.{ReadsOff-read, ReadsOff-trans, KeepsAllButLeft-trans, KeepsAllButReads-trans}
+use Rattle.mufom_host.proofs.Composing.{ReadsOff-read, ReadsOff-refl, ReadsOff-trans, KeepsAllButLeft-trans, KeepsAllButReads-trans}
 use Rattle.mufom_module.specs.declared.module.Parts.{Parts}
 use Rattle.mufom_read.specs.declared.refusal.ReadRefusal.{ReadRefusal}
 use Rattle.mufom_read.specs.declared.refusal.ReadStop.{ReadStop}
@@ -16,7 +17,7 @@ use Rattle.mufom_read.specs.declared.source.SourceStop.TheVariants as stop
 use Rattle.mufom_read.specs.declared.state.State.{State}
 use Rattle.mufom_read.specs.Judging.{IsRefusedAt, IsTruncated, IsModule, IsJudged, refusal}
 use Rattle.mufom_read.specs.Reader.{Knows, HasRead, reads_debug_of, reader_stop, answer_of}
-use Rattle.mufom_read.specs.Source.{IsUnrefused, IsRefusedWithin, IsPastLimit, ReadsModule, stop_by, HasFed, HasReadChunk, HasReadAll}
+use Rattle.mufom_read.specs.Source.{IsUnrefused, IsRefusedWithin, IsPastLimit, buffer_size, ReadsAtMost, ReadsNoFurther, ReadsModule, stop_by, HasFed, HasReadChunk, HasReadAll}
 use Rattle.mufom_read.proofs.PrefixesOne.{one_refusal, not_cut}
 use Rattle.mufom_read.proofs.StayLaws.{limit-append, refusal_goes_on}
 use Rattle.mufom_read.proofs.SpelledJudged.{judgments_exclude_each_other}
@@ -42,8 +43,9 @@ unrefused : (reader : State) (stream : List ℕ) → HasRead reader stream → r
 unrefused reader stream read none = λ offset reason refused.
     reading-not-refused reader stream offset reason (subst (λ (s : Option ReadStop). Knows reader stream s) none read.1) refused
 
-pub fed-whole : (room count : ℕ) (stream buffer : List ℕ) (reader : State) → count ≤ room → HasRead reader (stream ++ take count buffer) → HasFed room stream (take count buffer) reader (Ok tt)
-fed-whole room count stream buffer reader few read = (omega (arith, length-take count buffer, few), read)
+pub fed-whole : (room count : ℕ) (stream buffer : List ℕ) (reader : State) (done : Unit {0}) → count ≤ room → ◌≡◌ {A = Result (Unit {0}) ReadStop} (Ok done) (answer_of (reader_stop reader)) → HasRead reader (stream ++ take count buffer)
+    → HasFed room stream (take count buffer) reader (Ok tt)
+fed-whole room count stream buffer reader done few answers read = (omega (arith, length-take count buffer, few), read, unrefused reader (stream ++ take count buffer) read (going-answered (reader_stop reader) done answers))
 
 pub fed-stopped : (room : ℕ) (stream chunk fed : List ℕ) (reader : State) (s : ReadStop) (made : SourceStop) → take room chunk ≡ fed → made ≡ stop_by s → ◌≡◌ {A = Result (Unit {0}) ReadStop} (Err s) (answer_of (reader_stop reader))
     → HasRead reader (stream ++ fed) → HasFed room stream chunk reader (Err made)
@@ -103,11 +105,31 @@ pub chunk-read : (room count : ℕ) (before after : Option (List ℕ)) (stream b
 chunk-read room count before after stream buffer reader done reads inside some fed =
     let size = length-take-le count buffer inside in
     let few : length (take count buffer) ≤ room = fed.0 in
-    (take count buffer, size, omega (arith, size, few), ReadsOff-read before after count buffer reads, fed.1, none_left before reads)
+    (take count buffer, size, omega (arith, size, few), ReadsOff-read before after count buffer reads, fed.1, none_left before reads, fed.2)
   where
     none_left : (before : Option (List ℕ)) → Reads before after (Ok count) buffer → count ≡ 0 → IfSome before (λ left. left ≡ [])
     none_left None reads none = tt
     none_left (Some left) reads none = reads.end none some
+
+-- a read gives at most as many bytes as the buffer has, and none where it fails
+pub read-at-most : (before after : Option (List ℕ)) (count : ℕ) (buffer : List ℕ) (most : ℕ) → Reads before after (Ok count) buffer → count ≤ length buffer → length buffer ≡ most → ReadsAtMost most before after
+read-at-most before after count buffer most reads inside size = (take count buffer, ReadsOff-read before after count buffer reads, omega (arith, length-take count buffer, inside, size))
+
+pub failed-at-most : (before after : Option (List ℕ)) (e : Failed) (buffer : List ℕ) (most : ℕ) → Reads before after (Err e) buffer → ReadsAtMost most before after
+failed-at-most before after e buffer most reads = ([], none before reads, omega arith) where
+  none : (before : Option (List ℕ)) → Reads before after (Err e) buffer → ReadsOff before after []
+  none None reads = tt
+  none (Some left) reads = (left, refl, reads)
+
+-- nothing is refused in no bytes
+pub unrefused-none : (reads_debug : Bool) → IsUnrefused reads_debug []
+unrefused-none reads_debug = λ offset reason refused.
+    not_cut reads_debug [] offset reason (omega arith, [], record { prefix = []; sound = tt; unended = refl; faultless = refl; wanting = refl; after = refl }) refused
+
+-- nothing was read
+pub none-further : (reads_debug : Bool) (limit : ℕ) (before : Option (List ℕ)) → ReadsNoFurther reads_debug limit before before
+none-further reads_debug limit None = tt
+none-further reads_debug limit (Some left) = ([], [], left, refl, refl, omega arith, omega arith, unrefused-none reads_debug)
 
 -- ---- all reads so far
 
@@ -117,6 +139,7 @@ pub record HasCome (limit n : ℕ) (reads_debug : Bool) (reader : State) (old ne
   pub count : length bytes ≡ n
   pub within : n ≤ limit
   pub read : HasRead reader bytes
+  pub unrefused : IsUnrefused reads_debug bytes
   pub same : reads_debug_of reader ≡ reads_debug
   pub after : AfterReads old new before now bytes
 
@@ -128,6 +151,7 @@ module _ (limit n : ℕ) (reads_debug : Bool) (reader next : State) (old mid new
     count = omega (arith, length-append come.bytes chunk.0, come.count, chunk.1);
     within = omega (arith, come.within, chunk.2);
     read = chunk.4;
+    unrefused = subst (λ (d : Bool). IsUnrefused d (come.bytes ++ chunk.0)) (same ∙ come.same) chunk.6;
     same = same ∙ come.same;
     after = record {
       taken = ReadsOff-trans old.left mid.left new.left come.bytes chunk.0 come.after.taken chunk.3;
@@ -136,6 +160,26 @@ module _ (limit n : ℕ) (reads_debug : Bool) (reader next : State) (old mid new
       counts = KeepsAllButReads-trans before between now come.after.counts counts;
     };
   }
+
+-- before the first read
+pub come-none : (limit : ℕ) (reader : State) (meaning : Meaning) (faults : Faults) → HasRead reader [] → HasCome limit 0 (reads_debug_of reader) reader meaning meaning faults faults
+come-none limit reader meaning faults read = record {
+  bytes = [];
+  count = refl;
+  within = omega arith;
+  read = read;
+  unrefused = unrefused-none (reads_debug_of reader);
+  same = refl;
+  after = record { taken = ReadsOff-refl meaning.left; stays = refl; later = omega arith; counts = refl };
+}
+
+-- what is left after one read more
+pub come-further : (limit n : ℕ) (reads_debug : Bool) (before between after : Option (List ℕ)) (bytes : List ℕ) → length bytes ≡ n → n ≤ limit → IsUnrefused reads_debug bytes → ReadsOff before between bytes
+    → ReadsAtMost buffer_size between after → ReadsNoFurther reads_debug limit before after
+come-further limit n reads_debug None between after bytes size few clean off once = tt
+come-further limit n reads_debug (Some left) between after bytes size few clean off once =
+    let then_ = subst (λ (o : Option (List ℕ)). ReadsOff o after once.0) off.2 once.1 in
+    (bytes, once.0, then_.0, off.1 ∙ ap (λ l. bytes ++ l) then_.1, then_.2, once.2, omega (arith, size, few), clean)
 
 -- what is left of all after the bytes that were read
 take-following : (limit : ℕ) (bytes rest : List ℕ) → length bytes ≤ limit → take limit (bytes ++ rest) ≡ bytes ++ take (limit - length bytes) rest

@@ -1,5 +1,5 @@
 -- Steps that are taken one after another.
-use Rattle.std.proofs.Common.{◌≡◌, inl, inr, ℕ, zero, suc, ◌+◌, ◌-◌, ◌≤◌, Bool, true, false, true≢false, List, [], ◌∷◌, ◌++◌, length, drop, None, refl, sym, ap, subst, ◌∙◌, arith, append-nil, append_assoc, length-drop, Ok, Err}
+use Rattle.std.proofs.Common.{◌≡◌, inl, inr, ℕ, zero, suc, ◌+◌, ◌-◌, Bool, true, false, true≢false, List, [], ◌∷◌, ◌++◌, length, drop, None, refl, sym, ap, subst, ◌∙◌, arith, append-nil, append_assoc, length-drop, Ok, Err}
 use Rattle.std.specs.Option.{option_or}
 use Rattle.mufom_numbers.specs.declared.taken.Taken.TheVariants.{More}
 use Rattle.mufom_read.specs.declared.refusal.ReadStop.TheVariants as stop
@@ -10,17 +10,8 @@ use Rattle.mufom_read.specs.Prefixes.{Step, step_bytes, size_of, is_ended, next_
 use Rattle.mufom_read.specs.Faults.{ended_part_fault, step_fault, fault_after}
 use Rattle.mufom_read.specs.Judging.{IsSoundFrom}
 use Rattle.mufom_read.specs.PrefixOfCode.{IsPrefixOf, HasAdvanced}
-use Rattle.mufom_read.specs.Reader.{HasTakenAll}
+use Rattle.mufom_read.specs.Reader.{HasTakenAll, HasGoneOn}
 use Rattle.mufom_read.proofs.PrefixLaws.{size-append}
-
--- the given number of bytes after a prefix were taken, without a fault
-pub record HasGoneOn (reads_debug : Bool) (before : List Step) (rest : List ℕ) (now : Prefix) (taken : ℕ) : Type 0 where
-  pub steps : List Step
-  pub is : IsPrefixOf now (before ++ steps)
-  pub sound : IsSoundFrom reads_debug before steps rest
-  pub size : size_of steps ≡ taken
-  pub within : taken ≤ length rest
-  pub whole : is_ended (before ++ steps) ≡ false → ended_part_fault (before ++ steps) ≡ None
 
 drop-none : (n : ℕ) → ◌≡◌ {A = List ℕ} [] (drop n [])
 drop-none zero = refl
@@ -34,7 +25,7 @@ drop-drop (suc n) m (x ∷ xs) = drop-drop n m xs ∙ ap (λ k. drop k (x ∷ xs
   more : suc (n + m) ≡ suc n + m
   more = omega arith
 
-size-one : (s : Step) (steps : List Step) → size_of (s ∷ steps) ≡ length (step_bytes s) + size_of steps
+pub size-one : (s : Step) (steps : List Step) → size_of (s ∷ steps) ≡ length (step_bytes s) + size_of steps
 size-one s steps = size-append (s ∷ []) steps ∙ ap (λ n. n + size_of steps) (ap length (append-nil (step_bytes s)))
 
 -- sound steps, and sound steps after them

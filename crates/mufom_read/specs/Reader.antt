@@ -1,16 +1,15 @@
 -- What a reader has read: the streams of which its state shows the longest sound prefix, or the refusal.
-use Rattle.std.specs.Prelude.{◌≡◌, ◌≢◌, ◌⊎◌, ℕ, ◌≤◌, Bool, true, false, List, [], ◌++◌, length, drop, Option, Some, None, Result, Ok, Err}
+use Rattle.std.specs.Prelude.{◌≡◌, ◌≢◌, ◌⊎◌, ℕ, ◌+◌, ◌≤◌, Bool, true, false, List, [], ◌++◌, length, drop, Option, Some, None, Result, Ok, Err}
 use Rattle.mufom_numbers.specs.declared.taken.Taken.TheVariants.{More}
 use Rattle.mufom_numbers.specs.declared.reason.Reason.TheVariants as why
 use Rattle.mufom_numbers.specs.Spelling.{AreBytes}
 use Rattle.mufom_module.specs.Grammar.{file_limit}
 use Rattle.mufom_read.specs.declared.prefix.Prefix.{Prefix}
 use Rattle.mufom_read.specs.declared.state.State.{State}
-use Rattle.mufom_read.specs.declared.refusal.ReadRefusal.{ReadRefusal}
 use Rattle.mufom_read.specs.declared.refusal.ReadStop.{ReadStop}
 use Rattle.mufom_read.specs.declared.refusal.ReadStop.TheVariants as stop
 use Rattle.mufom_read.specs.Prefixes.{Step, size_of, next_step, is_ended}
-use Rattle.mufom_read.specs.Faults.{fault_after}
+use Rattle.mufom_read.specs.Faults.{ended_part_fault, fault_after}
 use Rattle.mufom_read.specs.Judging.{IsSoundFrom, IsSoundPrefix, IsRefusedAt}
 use Rattle.mufom_read.specs.Kept.{as_fault}
 use Rattle.mufom_read.specs.PrefixOfCode.{IsPrefixOf}
@@ -30,6 +29,32 @@ HasTakenAll reads_debug before rest new (Err (stop.Refused f)) = (steps : List S
     × (fault_after reads_debug (before ++ steps) (drop (size_of steps) rest) ≡ Some (as_fault f))
 HasTakenAll reads_debug before rest new (Err stop.NoMemory) = Unit {0}
 
+-- the given number of bytes after a prefix were taken, without a fault
+pub record HasGoneOn (reads_debug : Bool) (before : List Step) (rest : List ℕ) (now : Prefix) (taken : ℕ) : Type 0 where
+  pub steps : List Step
+  pub is : IsPrefixOf now (before ++ steps)
+  pub sound : IsSoundFrom reads_debug before steps rest
+  pub size : size_of steps ≡ taken
+  pub within : taken ≤ length rest
+  pub whole : is_ended (before ++ steps) ≡ false → ended_part_fault (before ++ steps) ≡ None
+
+-- The module ends with a prefix, and no bytes stand after it; or more bytes are wanted after these.
+abbrev pub HasStopped : Bool → List Step → List ℕ → Type 0
+HasStopped reads_debug prefix rest = ((is_ended prefix ≡ true) × (rest ≡ [])) ⊎ IsIncomplete reads_debug prefix rest
+
+-- What was done with the bytes of a chunk, where these are pending before them: all are pending with them, and still more are
+-- wanted; or a step was taken of all that was pending and as many of them as are answered, and none are pending; or there is
+-- a fault.
+abbrev pub HasCompleted : Bool → List Step → List ℕ → List ℕ → State → Result ℕ ReadStop → Type 0
+HasCompleted reads_debug before pending chunk new (Ok n) = (IsPrefixOf new.prefix before × (new.rest.items ≡ pending ++ chunk) × IsIncomplete reads_debug before (pending ++ chunk))
+    ⊎ ((new.rest.items ≡ []) × HasGoneOn reads_debug before (pending ++ chunk) new.prefix (length pending + n))
+HasCompleted reads_debug before pending chunk new (Err s) = HasTakenAll reads_debug before (pending ++ chunk) new.prefix (Err s)
+
+-- All that the bytes after a prefix have was taken, and those after it are pending; or there is a fault.
+abbrev pub HasTakenChunk : Bool → List Step → List ℕ → State → Result (Unit {0}) ReadStop → Type 0
+HasTakenChunk reads_debug before rest new (Ok done) = (n : ℕ) × HasTakenAll reads_debug before rest new.prefix (Ok n) × (new.rest.items ≡ drop n rest)
+HasTakenChunk reads_debug before rest new (Err s) = HasTakenAll reads_debug before rest new.prefix (Err s)
+
 -- What is stated after a chunk whose steps were taken, where this is whether the module has ended, how many bytes the prefix
 -- has, whether the stream has more than may be read, and what stands after the prefix: nothing; or that a byte stands after
 -- the end; or that the stream is too long.
@@ -38,15 +63,6 @@ HasEndedChunk ended size longer rest new None = (new.rest.items ≡ rest) × (lo
 HasEndedChunk ended size longer rest new (Some (stop.Refused f)) = ((ended ≡ true) × (as_fault f ≡ (size, why.AfterEnd)) × ((longer ≡ true) ⊎ (rest ≢ [])))
     ⊎ ((ended ≡ false) × (as_fault f ≡ (file_limit, why.FileLimit)) × (longer ≡ true))
 HasEndedChunk ended size longer rest new (Some stop.NoMemory) = Unit {0}
-
--- What is known of all that the bytes after a prefix have, where this is whether the stream has more than may be read: a fault
--- after sound steps; or these steps, which the reader keeps, and what is stated after them; where memory ran out, nothing.
-abbrev pub HasJudgedRest : Bool → List Step → List ℕ → Bool → State → Option ReadStop → Type 0
-HasJudgedRest reads_debug before rest longer new result = ((f : ReadRefusal) × (result ≡ Some (stop.Refused f)) × HasTakenAll reads_debug before rest new.prefix (Err (stop.Refused f)))
-    ⊎ ((result ≡ Some stop.NoMemory)
-    ⊎ ((n : ℕ) × (steps : List Step) × IsPrefixOf new.prefix (before ++ steps) × IsSoundFrom reads_debug before steps rest × (size_of steps ≡ n) × (n ≤ length rest)
-    × ((is_ended (before ++ steps) ≡ true) ⊎ IsIncomplete reads_debug (before ++ steps) (drop n rest))
-    × HasEndedChunk (is_ended (before ++ steps)) new.prefix.size longer (drop n rest) new result))
 
 -- the reader keeps the longest sound prefix of the stream, and the bytes after it
 pub record IsReading (reader : State) (stream : List ℕ) : Type 0 where

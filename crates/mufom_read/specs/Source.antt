@@ -25,6 +25,20 @@ IsRefusedWithin reads_debug limit bytes offset reason = IsRefusedAt reads_debug 
 abbrev pub IsPastLimit : Bool → ℕ → List ℕ → Type 0
 IsPastLimit reads_debug limit bytes = (limit < length bytes) × IsUnrefused reads_debug (take limit bytes)
 
+-- how many bytes are asked for at once
+abbrev pub buffer_size : ℕ
+buffer_size = 65536
+
+-- At most the given number of bytes were read off what was left.
+abbrev pub ReadsAtMost : ℕ → Option (List ℕ) → Option (List ℕ) → Type 0
+ReadsAtMost most before after = (bytes : List ℕ) × ReadsOff before after bytes × (length bytes ≤ most)
+
+-- What is left are the bytes after those that were read. All that were read before the last time are within the limit, and not
+-- refused; the last time at most as many were read as are asked for at once.
+abbrev pub ReadsNoFurther : Bool → ℕ → Option (List ℕ) → Option (List ℕ) → Type 0
+ReadsNoFurther reads_debug limit before after = IfSome before (λ left. (earlier last rest : List ℕ) × (left ≡ earlier ++ (last ++ rest)) × (after ≡ Some rest)
+    × (length last ≤ buffer_size) × (length earlier ≤ limit) × IsUnrefused reads_debug earlier)
+
 -- A module is that of all bytes that were left, with their number; each stop but out of memory and a failed read has its
 -- cause in them.
 abbrev pub ReadsModule : Bool → ℕ → Option (List ℕ) → Option (List ℕ) → Result (Parts × ℕ) SourceStop → Type 0
@@ -41,19 +55,20 @@ stop_by read_stop.NoMemory = stop.NoMemory
 
 -- ---- the reader and what the source has left
 
--- A reader of this stream was fed a chunk, of which it may read the given number of bytes: it has read the record; or the stream is refused
--- with the bytes that it may read; or it is not, and the record has more.
+-- A reader of this stream was fed a chunk, of which it may read the given number of bytes: it has read the chunk, and the stream is not
+-- refused; or it is refused with the bytes that may be read; or it is not, and the chunk has more.
 abbrev pub HasFed : ℕ → List ℕ → List ℕ → State → Result (Unit {0}) SourceStop → Type 0
-HasFed room stream chunk reader (Ok done) = (length chunk ≤ room) × HasRead reader (stream ++ chunk)
+HasFed room stream chunk reader (Ok done) = (length chunk ≤ room) × HasRead reader (stream ++ chunk) × IsUnrefused (reads_debug_of reader) (stream ++ chunk)
 HasFed room stream chunk reader (Err (stop.Refused r)) = AreBytes (stream ++ take room chunk) × IsRefusedAt (reads_debug_of reader) (stream ++ take room chunk) r.place r.reason
 HasFed room stream chunk reader (Err stop.Limit) = (room < length chunk) × IsUnrefused (reads_debug_of reader) (stream ++ take room chunk)
 HasFed room stream chunk reader (Err stop.Fault) = ⊥
 HasFed room stream chunk reader (Err stop.NoMemory) = Unit {0}
 
 -- A reader of this stream was fed what one read gave, of which it may read the given number of bytes: it has read them, and no byte where
--- none was left; or the stream is refused with the bytes that it may read; or it is not, and more are left.
+-- none was left, and the stream is not refused; or it is refused with the bytes that may be read; or it is not, and more are left.
 abbrev pub HasReadChunk : ℕ → Option (List ℕ) → Option (List ℕ) → List ℕ → State → Result ℕ SourceStop → Type 0
 HasReadChunk room before after stream reader (Ok n) = (chunk : List ℕ) × (length chunk ≡ n) × (n ≤ room) × ReadsOff before after chunk × HasRead reader (stream ++ chunk) × (n ≡ 0 → IfSome before (λ left. left ≡ []))
+    × IsUnrefused (reads_debug_of reader) (stream ++ chunk)
 HasReadChunk room before after stream reader (Err (stop.Refused r)) = IfSome before (λ left. IsRefusedAt (reads_debug_of reader) (stream ++ take room left) r.place r.reason)
 HasReadChunk room before after stream reader (Err stop.Limit) = IfSome before (λ left. (room < length left) × IsUnrefused (reads_debug_of reader) (stream ++ take room left))
 HasReadChunk room before after stream reader (Err stop.Fault) = Unit {0}

@@ -7,7 +7,17 @@ ghost use Rattle.mufom_module.specs.Grammar.{file_limit};
 ghost use Rattle.mufom_module.specs.Written.{weight};
 ghost use Rattle.mufom_read.specs.Judging.{IsModule};
 ghost use Rattle.mufom_read.specs.Reader.{HasRead, reads_debug_of};
-ghost use Rattle.mufom_read.specs.Source.{IsRefusedWithin, IsPastLimit, ReadsModule, HasFed, HasReadChunk, HasReadAll};
+ghost use Rattle.mufom_read.specs.Source.{
+  IsRefusedWithin,
+  IsPastLimit,
+  ReadsModule,
+  ReadsAtMost,
+  ReadsNoFurther,
+  HasFed,
+  HasReadChunk,
+  HasReadAll,
+  buffer_size,
+};
 
 use crate::reader::Reader;
 use crate::refusal::{ReadRefusal, ReadStop};
@@ -72,6 +82,7 @@ fn read_chunk<S: Source>(
     requires { 0 < length buffer.old }
     ensures read { (stream : List ℕ) → HasRead reader.old stream
         → HasReadChunk room (S.meaning source.old).left (S.meaning source.new).left stream reader.new result }
+    ensures taken { ReadsAtMost (length buffer.old) (S.meaning source.old).left (S.meaning source.new).left }
     ensures reads_debug { reads_debug_of reader.new ≡ reads_debug_of reader.old }
     ensures fault { result ≡ Err SourceStop.Fault → Rose (S.faults source.old).reads (S.faults source.new).reads }
     ensures only { OnlyReads (S.meaning source.old) (S.meaning source.new) (S.faults source.old) (S.faults source.new) }
@@ -92,9 +103,10 @@ fn read_all<S: Source>(
     buffer: &mut [u8],
     limit: u64,
 ) -> Result<u64, SourceStop>
-    requires buffer { 0 < length buffer.old }
+    requires buffer { length buffer.old ≡ buffer_size }
     requires begins { HasRead reader.old [] }
     ensures read { HasReadAll limit (S.meaning source.old).left (S.meaning source.new).left reader.new result }
+    ensures further { ReadsNoFurther (reads_debug_of reader.old) limit (S.meaning source.old).left (S.meaning source.new).left }
     ensures reads_debug { reads_debug_of reader.new ≡ reads_debug_of reader.old }
     ensures fault { result ≡ Err SourceStop.Fault → Rose (S.faults source.old).reads (S.faults source.new).reads }
     ensures only { OnlyReads (S.meaning source.old) (S.meaning source.new) (S.faults source.old) (S.faults source.new) }
@@ -112,8 +124,8 @@ fn read_all<S: Source>(
 /// Reads the module of the bytes that the source has left, and answers it with their number: at most
 /// `limit`, which is at most 67,108,864.
 ///
-/// The source is read in chunks of up to 65,536 bytes. That it is read no further once it is refused,
-/// or has given more than `limit`, is so by the code's form and stands in no clause.
+/// The source is read in chunks of up to 65,536 bytes, and no further once a chunk is refused or goes
+/// beyond `limit`.
 pub fn read_module<S: Source>(
     alloc: Global,
     source: &mut S,
@@ -133,6 +145,9 @@ pub fn read_module<S: Source>(
         → (result ≡ Err (SourceStop.Refused (record { place = place; reason = reason }))) ↔ IsRefusedWithin reads_debug limit left place reason) }
     ensures limit { IfSome (S.meaning source.old).left (λ left. result ≢ Err SourceStop.NoMemory → result ≢ Err SourceStop.Fault
         → (result ≡ Err SourceStop.Limit) ↔ IsPastLimit reads_debug limit left) }
+    // Whatever is answered: what the chunks before the last gave is within the limit and not refused, and what is left stands
+    // after the last.
+    ensures further { ReadsNoFurther reads_debug limit (S.meaning source.old).left (S.meaning source.new).left }
     ensures fault { result ≡ Err SourceStop.Fault → Rose (S.faults source.old).reads (S.faults source.new).reads }
     ensures only { OnlyReads (S.meaning source.old) (S.meaning source.new) (S.faults source.old) (S.faults source.new) }
 {

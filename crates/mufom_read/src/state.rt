@@ -1,12 +1,22 @@
 //! What a reader keeps of its stream, and how it reads on.
 
-ghost use Rattle.std.specs.Prelude.{◌≡◌, ◌+◌, ◌-◌, ◌≤◌, nat_lt, ℕ, Bool, true, false, List, ◌++◌, length, take, drop, None, IfOk, OnOk};
+ghost use Rattle.std.specs.Prelude.{◌≡◌, ◌+◌, ◌-◌, ◌<◌, ◌≤◌, nat_lt, ℕ, Bool, true, false, List, [], ◌++◌, length, take, drop, None, IfOk, OnOk};
 ghost use Rattle.mufom_numbers.specs.Spelling.{AreBytes};
 ghost use Rattle.mufom_module.specs.Grammar.{file_limit};
 ghost use Rattle.mufom_read.specs.Prefixes.{Step, is_ended};
 ghost use Rattle.mufom_read.specs.Faults.{ended_part_fault};
 ghost use Rattle.mufom_read.specs.PrefixOfCode.{IsPrefixOf};
-ghost use Rattle.mufom_read.specs.Reader.{HasTakenAll, HasEndedChunk, HasJudgedRest, IsReading, Knows, answer_of};
+ghost use Rattle.mufom_read.specs.Reader.{
+  HasTakenAll,
+  HasStopped,
+  HasCompleted,
+  HasTakenChunk,
+  HasEndedChunk,
+  IsIncomplete,
+  IsReading,
+  Knows,
+  answer_of,
+};
 
 use crate::prefix::{Next, Prefix};
 use crate::refusal::{ReadRefusal, ReadStop};
@@ -20,7 +30,7 @@ pub(crate) struct State {
     pub alloc: Global,
     pub reads_debug: bool,
     pub prefix: Prefix,
-    /// The bytes after the prefix.
+    /// The bytes after the prefix, which are pending: those of a record that is not whole yet.
     pub rest: Vec<u8>,
     pub stop: Option<ReadStop>,
 }
@@ -95,19 +105,6 @@ impl State {
         self.prefix.size as usize + self.rest.len()
     }
 
-    // The bytes after what was taken stay.
-    fn keep_after(&mut self, taken: usize) -> Result<(), NoMemory>
-        requires { taken ≤ length self.old.rest.items }
-        ensures prefix { self.new.prefix ≡ self.old.prefix }
-        ensures reads_debug { self.new.reads_debug ≡ self.old.reads_debug }
-        ensures rest { OnOk result (self.new.rest.items ≡ drop taken self.old.rest.items) }
-    {
-        if taken > 0 {
-            self.rest = Vec::from_slice(self.alloc, after(&self.rest, taken))?;
-        }
-        Ok(())
-    }
-
     // What is to be stated where the module has ended: that a byte stands after the end, where one does.
     fn stop_after_end(&self, is_longer: bool) -> Option<ReadStop>
         ensures { HasEndedChunk true self.now.prefix.size is_longer self.now.rest.items self.now result }
@@ -136,66 +133,114 @@ impl State {
         }
     }
 
-    // What is to be stated after the bytes that were taken, by their number, where the stream has more than may be read, or has not.
-    fn end_chunk(&mut self, taken: usize, is_longer: bool) -> Option<ReadStop>
-        requires { taken ≤ length self.old.rest.items }
+    // Adds as many of these bytes to the pending ones as there are of these already, and answers how many were added.
+    fn double_pending(&mut self, bytes: &[u8]) -> Result<usize, NoMemory>
+        requires some { 0 < length self.old.rest.items }
+        requires more { 0 < length bytes.now }
         ensures prefix { self.new.prefix ≡ self.old.prefix }
         ensures reads_debug { self.new.reads_debug ≡ self.old.reads_debug }
-        ensures ended { (prefix : List Step) → IsPrefixOf self.old.prefix prefix
-            → HasEndedChunk (is_ended prefix) self.old.prefix.size is_longer (drop taken self.old.rest.items) self.new result }
+        ensures added { IfOk result
+            (λ n. (0 < n) × (n ≤ length bytes.now) × (self.new.rest.items ≡ self.old.rest.items ++ take n bytes.now)) }
     {
-        match self.keep_after(taken) {
-            Ok(()) => self.final_stop(is_longer),
-            Err(NoMemory) => Some(ReadStop::NoMemory),
+        let added = at_most(bytes, self.rest.len());
+        self.rest.extend_from_slice(added)?;
+        Ok(added.len())
+    }
+
+    // Takes the record of which the first bytes are pending, and answers how many bytes of the chunk it has. Where it is not
+    // whole with the chunk, all of the chunk is pending then.
+    fn complete(&mut self, chunk: &[u8]) -> Result<usize, ReadStop>
+        requires known { (before : List Step) × IsPrefixOf self.old.prefix before
+            × IsIncomplete self.old.reads_debug before self.old.rest.items }
+        requires some { 0 < length self.old.rest.items }
+        requires bytes { AreBytes (self.old.rest.items ++ chunk.now) }
+        requires fits { self.old.prefix.size + (length self.old.rest.items + length chunk.now) ≤ file_limit }
+        ensures completed { (before : List Step) → IsPrefixOf self.old.prefix before
+            → IsIncomplete self.old.reads_debug before self.old.rest.items
+            → HasCompleted self.old.reads_debug before self.old.rest.items chunk.now self.new result }
+        ensures reads_debug { self.new.reads_debug ≡ self.old.reads_debug }
+        ensures within { IfOk result (λ n. n ≤ length chunk.now) }
+    {
+        let pending = self.rest.len();
+        let mut used = 0;
+        while used < chunk.len() {
+            let Ok(added) = self.double_pending(after(chunk, used)) else {
+                return Err(ReadStop::NoMemory);
+            };
+            used += added;
+            match self
+                .prefix
+                .advance(self.alloc, self.reads_debug, &self.rest)
+            {
+                Ok(Next::Took(count)) => {
+                    self.rest.clear();
+                    return Ok(count - pending);
+                }
+                Ok(Next::More) => {}
+                Ok(Next::Refused(refusal)) => return Err(ReadStop::Refused(refusal)),
+                Err(NoMemory) => return Err(ReadStop::NoMemory),
+            }
         }
+        Ok(used)
     }
 
-    // Adds the first bytes of a chunk to those after the prefix, as many as may be read, and answers whether there are more.
-    fn append_pending(&mut self, chunk: &[u8]) -> Result<bool, NoMemory>
-        requires { self.old.prefix.size + length self.old.rest.items ≤ file_limit }
-        ensures prefix { self.new.prefix ≡ self.old.prefix }
-        ensures reads_debug { self.new.reads_debug ≡ self.old.reads_debug }
-        ensures rest { OnOk result
-            (self.new.rest.items ≡ self.old.rest.items ++ take (file_limit - (self.old.prefix.size + length self.old.rest.items)) chunk.now) }
-        ensures longer { IfOk result
-            (λ longer. longer ≡ nat_lt (file_limit - (self.old.prefix.size + length self.old.rest.items)) (length chunk.now)) }
-    {
-        let room = MOST_FILE_BYTES - self.len();
-        self.rest.extend_from_slice(at_most(chunk, room))?;
-        Ok(room < chunk.len())
-    }
-
-    // Takes all that the bytes after the prefix have, and judges what stands after them.
-    fn judge_rest(&mut self, is_longer: bool) -> Option<ReadStop>
-        requires known { (before : List Step) × IsPrefixOf self.old.prefix before × (is_ended before ≡ false
-            → ended_part_fault before ≡ None) }
-        requires fits { self.old.prefix.size + length self.old.rest.items ≤ file_limit }
-        ensures judged { (before : List Step) → IsPrefixOf self.old.prefix before
+    // Takes all that these bytes have, where none are pending before them, and keeps those after it.
+    fn take_directly(&mut self, bytes: &[u8]) -> Result<(), ReadStop>
+        requires known { (before : List Step) × IsPrefixOf self.old.prefix before
+            × (is_ended before ≡ false → ended_part_fault before ≡ None) }
+        requires none { self.old.rest.items ≡ [] }
+        requires fits { self.old.prefix.size + length bytes.now ≤ file_limit }
+        ensures taken { (before : List Step) → IsPrefixOf self.old.prefix before
             → (is_ended before ≡ false → ended_part_fault before ≡ None)
-            → HasJudgedRest self.old.reads_debug before self.old.rest.items is_longer self.new result }
+            → HasTakenChunk self.old.reads_debug before bytes.now self.new result }
         ensures reads_debug { self.new.reads_debug ≡ self.old.reads_debug }
     {
-        match take_all(self.alloc, self.reads_debug, &mut self.prefix, &self.rest) {
-            Ok(taken) => self.end_chunk(taken, is_longer),
-            Err(stop) => Some(stop),
+        let taken = take_all(self.alloc, self.reads_debug, &mut self.prefix, bytes)?;
+        if self.rest.extend_from_slice(after(bytes, taken)).is_err() {
+            return Err(ReadStop::NoMemory);
         }
+        Ok(())
+    }
+
+    // Takes all that the pending bytes and the chunk after them have, and keeps the bytes after that. Records are taken from
+    // the chunk itself: what is copied of it are the bytes with which a pending record is completed, fewer than twice as many
+    // as the record has, and those of the record that it leaves unfinished.
+    fn take_chunk(&mut self, chunk: &[u8]) -> Result<(), ReadStop>
+        requires known { (before : List Step) × IsPrefixOf self.old.prefix before
+            × HasStopped self.old.reads_debug before self.old.rest.items }
+        requires bytes { AreBytes (self.old.rest.items ++ chunk.now) }
+        requires fits { self.old.prefix.size + (length self.old.rest.items + length chunk.now) ≤ file_limit }
+        ensures taken { (before : List Step) → IsPrefixOf self.old.prefix before
+            → HasStopped self.old.reads_debug before self.old.rest.items
+            → HasTakenChunk self.old.reads_debug before (self.old.rest.items ++ chunk.now) self.new result }
+        ensures reads_debug { self.new.reads_debug ≡ self.old.reads_debug }
+    {
+        if self.rest.is_empty() {
+            return self.take_directly(chunk);
+        }
+        let used = self.complete(chunk)?;
+        if self.rest.is_empty() {
+            return self.take_directly(after(chunk, used));
+        }
+        Ok(())
     }
 
     // Reads a chunk, of which no more is judged than the limit of a file allows.
     fn read(&mut self, chunk: &[u8]) -> Option<ReadStop>
-        requires known { (stream : List ℕ) × IsReading self.old stream }
+        requires known { (stream : List ℕ) × AreBytes stream × IsReading self.old stream }
         ensures known { (stream : List ℕ) → AreBytes (stream ++ chunk.now) → IsReading self.old stream → Knows self.new (stream ++ chunk.now) result }
         ensures reads_debug { self.new.reads_debug ≡ self.old.reads_debug }
     {
-        match self.append_pending(chunk) {
-            Ok(is_longer) => self.judge_rest(is_longer),
-            Err(NoMemory) => Some(ReadStop::NoMemory),
+        let room = MOST_FILE_BYTES - self.len();
+        match self.take_chunk(at_most(chunk, room)) {
+            Ok(()) => self.final_stop(room < chunk.len()),
+            Err(stop) => Some(stop),
         }
     }
 
     /// Reads a chunk, and keeps why no more is read.
     pub(crate) fn read_on(&mut self, chunk: &[u8]) -> Result<(), ReadStop>
-        requires known { (stream : List ℕ) × IsReading self.old stream }
+        requires known { (stream : List ℕ) × AreBytes stream × IsReading self.old stream }
         ensures known { (stream : List ℕ) → AreBytes (stream ++ chunk.now) → IsReading self.old stream
             → Knows self.new (stream ++ chunk.now) self.new.stop }
         ensures answer { result ≡ answer_of self.new.stop }

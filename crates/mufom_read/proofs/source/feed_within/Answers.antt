@@ -3,7 +3,7 @@ use Rattle.std.proofs.lemmas.List.{take_all, take-take, length-take}
 use Rattle.std.proofs.lemmas.Result.{err_from_is_err_and}
 use Rattle.mufom_read.specs.declared.source.SourceStop.{SourceStop}
 use Rattle.mufom_read.specs.Source.{HasFed}
-use Rattle.mufom_read.proofs.SourceLaws.{fed-stopped, fed-limit}
+use Rattle.mufom_read.proofs.SourceLaws.{fed-whole, fed-stopped, fed-limit}
 use Rattle.mufom_read.proofs.source.feed_within.Goals as goal
 
 pub returns-in_err-feed-clause-fed : goal.returns-in_err-feed-clause-fed
@@ -25,3 +25,7 @@ returns-in_err-feed-2-clause-fed c = λ stream has.
 pub returns-clause-fed : goal.returns-clause-fed
 returns-clause-fed c = λ stream has.
     fed-limit c.args.room c.args.count stream c.args.buffer.now c.feed-2.new.self c.in_ok-feed-2.field-0 (omega (arith, c.if-count-room.false)) c.requires c.in_ok-feed-2.ensures.answer (c.in_ok-feed-2.ensures.read stream has)
+
+pub returns-then-count-room-clause-fed : goal.returns-then-count-room-clause-fed
+returns-then-count-room-clause-fed c = λ stream has.
+    fed-whole c.args.room c.args.count stream c.args.buffer.now c.feed.new.self c.in_ok-feed.field-0 (omega (arith, c.if-count-room.true)) c.in_ok-feed.ensures.answer (c.in_ok-feed.ensures.read stream has)

@@ -1,8 +1,8 @@
 use Rattle.std.proofs.Common.{◌∙◌, ap, subst, refl, Bool, Err}
 use Rattle.std.proofs.lemmas.Result.{err_from_is_err_and}
 use Rattle.mufom_read.specs.declared.source.SourceStop.TheVariants as stop
-use Rattle.mufom_read.specs.Source.{ReadsModule}
-use Rattle.mufom_read.proofs.SourceLaws.{stopped-reads, stopped-refused, stopped-past, asked-stopped, asked-module, asked-ok, asked-refused, asked-past, same-stop, stop-no-fault}
+use Rattle.mufom_read.specs.Source.{ReadsModule, ReadsNoFurther}
+use Rattle.mufom_read.proofs.SourceLaws.{stopped-reads, stopped-refused, stopped-past, asked-stopped, asked-module, asked-ok, asked-refused, asked-past, same-stop, stop-no-fault, none-further}
 use Rattle.mufom_read.proofs.source.read_module.Goals as goal
 
 pub returns-in_default-new-clause-limit : goal.returns-in_default-new-clause-limit
@@ -97,3 +97,30 @@ returns-clause-limit g c =
     let before = (g.S.World.meaning c.args.source.now).left in
     let after = (g.S.World.meaning c.read_all.new.source).left in
     asked-past c.args.limit c.in_ok-length.length c.args.reads_debug before after c.read_all.new.reader c.in_ok-module.module (c.read_all.ensures.reads_debug ∙ c.in-Ok-new.ensures.reads_debug) c.in_ok-length.ensures.read c.in_ok-module.ensures.ok
+
+pub returns-in_err-length-clause-further : goal.returns-in_err-length-clause-further
+returns-in_err-length-clause-further g c =
+    let before = (g.S.World.meaning c.args.source.now).left in
+    let after = (g.S.World.meaning c.read_all.new.source).left in
+    subst (λ (d : Bool). ReadsNoFurther d c.args.limit before after) c.in-Ok-new.ensures.reads_debug c.read_all.ensures.further
+
+pub returns-in_err-module-clause-further : goal.returns-in_err-module-clause-further
+returns-in_err-module-clause-further g c =
+    let before = (g.S.World.meaning c.args.source.now).left in
+    let after = (g.S.World.meaning c.read_all.new.source).left in
+    subst (λ (d : Bool). ReadsNoFurther d c.args.limit before after) c.in-Ok-new.ensures.reads_debug c.read_all.ensures.further
+
+pub returns-clause-further : goal.returns-clause-further
+returns-clause-further g c =
+    let before = (g.S.World.meaning c.args.source.now).left in
+    let after = (g.S.World.meaning c.read_all.new.source).left in
+    subst (λ (d : Bool). ReadsNoFurther d c.args.limit before after) c.in-Ok-new.ensures.reads_debug c.read_all.ensures.further
+
+pub returns-in_default-clause-further : goal.returns-in_default-clause-further
+returns-in_default-clause-further g c = none-further c.args.reads_debug c.args.limit (g.S.World.meaning c.args.source.now).left
+
+pub returns-in_default-new-clause-further : goal.returns-in_default-new-clause-further
+returns-in_default-new-clause-further g c = none-further c.args.reads_debug c.args.limit (g.S.World.meaning c.args.source.now).left
+
+pub read_all-requires-clause-buffer : goal.read_all-requires-clause-buffer
+read_all-requires-clause-buffer g c = c.deref_mut.ensures.len ∙ c.in-Ok.ensures.len
