@@ -2,6 +2,7 @@
 use Rattle.std.specs.Prelude.{ℕ, ◌==◌, min, List, filter_map, slice_get, Option, Some, None, if◌then◌else◌}
 use Rattle.std.specs.Option.{option_or}
 use Rattle.mufom_numbers.specs.declared.codes.TheConstants.{LETTER_L}
+use Rattle.mufom_numbers.specs.declared.taken.Span.{Span}
 use Rattle.mufom_records.specs.declared.record.Record.{Record}
 use Rattle.mufom_records.specs.declared.record.Record.TheVariants as r
 use Rattle.mufom_module.specs.declared.module.Order.{Order}
@@ -12,9 +13,13 @@ use Rattle.mufom_read.specs.declared.header.Names.{Names}
 use Rattle.mufom_read.specs.declared.header.Layout.{Layout}
 use Rattle.mufom_read.specs.declared.header.Header.{Header}
 
--- the processor and the name of the module, which MB gives
+-- the processor and the name of the module, at these parts of the record
+abbrev pub names_at : SpelledRecord → Span → Span → Names
+names_at p processor name = record { processor = text_in p processor; name = text_in p name }
+
+-- which MB gives
 abbrev pub names_by : SpelledRecord → Record → Option Names
-names_by p (r.ModuleBegin processor name) = Some (record { processor = text_in p processor; name = text_in p name })
+names_by p (r.ModuleBegin processor name) = Some (names_at p processor name)
 names_by p _ = None
 
 -- the order of bytes that a letter gives: the most significant first, where there is none
@@ -22,9 +27,13 @@ abbrev pub order_of : Option ℕ → Order
 order_of None = Most
 order_of (Some letter) = if LETTER_L == letter then Least else Most
 
--- The units of an address and the order of bytes, which AD gives. No address has more than 8 units.
+-- the units of an address, of which none has more than 8, and the order of bytes
+abbrev pub layout_from : ℕ → Option ℕ → Layout
+layout_from maus letter = record { maus = min maus 8; order = order_of letter }
+
+-- which AD gives
 abbrev pub layout_by : Record → Option Layout
-layout_by (r.Descriptor bits maus letter) = Some (record { maus = min maus 8; order = order_of letter })
+layout_by (r.Descriptor bits maus letter) = Some (layout_from maus letter)
 layout_by _ = None
 
 -- the names that the first MB of records gives
@@ -35,6 +44,9 @@ names_in records = slice_get (filter_map (λ p. names_by p p.row) records) 0
 abbrev pub layout_in : List SpelledRecord → Option Layout
 layout_in records = first_answer layout_by records
 
--- what the header states with one more record; what an earlier one states stays
+abbrev pub header_with : Option Names → Option Layout → Header
+header_with names layout = record { names = names; layout = layout }
+
+-- the header with what one more record states; what an earlier one states stays
 abbrev pub header_after : Header → SpelledRecord → Header
-header_after h p = record { names = option_or h.names (names_by p p.row); layout = option_or h.layout (layout_by p.row) }
+header_after h p = header_with (option_or h.names (names_by p p.row)) (option_or h.layout (layout_by p.row))

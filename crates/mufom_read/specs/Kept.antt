@@ -174,7 +174,7 @@ as_record row bytes = record { row = row; bytes = bytes }
 
 -- the record with its bytes
 abbrev pub record_of_seen : SeenRecord → SpelledRecord
-record_of_seen s = as_record s.row s.bytes.now
+record_of_seen s = as_record s.row.now s.bytes.now
 
 -- and its offset
 abbrev pub placed : SeenRecord → OffsetRecord
@@ -182,7 +182,7 @@ placed s = (s.start, record_of_seen s)
 
 -- its strings, its runs and its expressions stand in its bytes
 abbrev pub HasOwnParts : SeenRecord → Type 0
-HasOwnParts s = HasParts s.bytes.now s.row
+HasOwnParts s = HasParts s.bytes.now s.row.now
 
 -- a refusal as a fault
 abbrev pub as_fault : ReadRefusal → Fault

@@ -5,6 +5,7 @@ ghost use Rattle.mufom_module.specs.declared.module.Parts as module_parts;
 ghost use Rattle.mufom_module.specs.Grammar.{SpellsModule};
 ghost use Rattle.mufom_read.specs.declared.header.Names as its_names;
 ghost use Rattle.mufom_read.specs.declared.header.Layout as its_layout;
+ghost use Rattle.mufom_read.specs.HeaderSoFar.{header_with};
 ghost use Rattle.mufom_read.specs.Prefixes.{Step};
 ghost use Rattle.mufom_read.specs.Built.{IsStatedByKept, IsWhole};
 
@@ -19,8 +20,8 @@ use mufom_numbers::{List, NoMemory};
 
 // What the header states, which was read as a whole.
 fn whole_header(header: Header) -> (Names, Layout)
-    requires { (names : its_names.Names) × (layout : its_layout.Layout) × (header ≡ record { names = Some names; layout = Some layout }) }
-    ensures { header ≡ record { names = Some result.0; layout = Some result.1 } }
+    requires { (names : its_names.Names) × (layout : its_layout.Layout) × (header ≡ header_with (Some names) (Some layout)) }
+    ensures { header ≡ header_with (Some result.0) (Some result.1) }
 {
     let Header { names, layout } = header;
     let Some(names) = names else { unreachable!() };

@@ -62,13 +62,13 @@ impl Contents {
         requires own { HasOwnParts seen.now }
         requires tree { tree ≡ records.tree_of_record (record_of_seen seen.now) }
         requires start { seen.now.start < 2 ^ 32 }
-        requires kind { HasKind seen.now.row }
-        requires nested { faults.ends_badly (opened self.old.debug) seen.now.row ≡ false }
+        requires kind { HasKind seen.now.row.now }
+        requires nested { faults.ends_badly (opened self.old.debug) seen.now.row.now ≡ false }
         requires known { (all : List OffsetRecord) × AreContentsBefore self.old tables.now all (record_of_seen seen.now) }
         ensures { OnOk result ((all : List OffsetRecord) → AreContentsBefore self.old tables.now all (record_of_seen seen.now)
             → AreContentsOf self.new (all ++ placed seen.now ∷ [])) }
     {
-        match part_of(&seen.row) {
+        match part_of(seen.row) {
             None => self.header.take(alloc, seen),
             Some(Part::Section) => self.sections.take(alloc, &tables.sections, seen),
             Some(Part::External) => {

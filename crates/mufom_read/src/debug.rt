@@ -261,16 +261,16 @@ impl Debugs {
         tree: Option<Postfix>,
     ) -> Result<(), NoMemory>
         requires own { HasOwnParts seen.now }
-        requires tree { parts.stands_in parts.debug_part seen.now.row ≡ true
+        requires tree { parts.stands_in parts.debug_part seen.now.row.now ≡ true
             → tree ≡ records.tree_of_record (record_of_seen seen.now) }
-        requires kind { HasKind seen.now.row }
-        requires nested { faults.ends_badly (opened self.old) seen.now.row ≡ false }
+        requires kind { HasKind seen.now.row.now }
+        requires nested { faults.ends_badly (opened self.old) seen.now.row.now ≡ false }
         ensures marks { OnOk result (marks_kept self.new ≡ marks_kept self.old
-            ++ cons_option (gathered.mark_by (indexes_by tables.now) (record_of_seen seen.now) seen.now.row) []) }
-        ensures blocks { OnOk result (opened self.new ≡ faults.opened_after (opened self.old) seen.now.start seen.now.row) }
+            ++ cons_option (gathered.mark_by (indexes_by tables.now) (record_of_seen seen.now) seen.now.row.now) []) }
+        ensures blocks { OnOk result (opened self.new ≡ faults.opened_after (opened self.old) seen.now.start seen.now.row.now) }
     {
         let value = renamed(tables, tree);
-        match &seen.row {
+        match seen.row {
             Record::BlockBegin(kind, _, name, block) => {
                 let head = head_of(tables, *kind, block, value)?;
                 let name = seen.copy_text(alloc, *name)?;

@@ -1,13 +1,12 @@
 //! What the records of the header state, and their faults.
 
-ghost use Rattle.std.specs.Prelude.{◌≡◌, ◌++◌, ◌∷◌, [], Some, None, min, option_map, nat_lt, OnOk};
+ghost use Rattle.std.specs.Prelude.{◌≡◌, ◌++◌, ◌∷◌, [], Some, None, option_map, nat_lt, OnOk};
 ghost use Rattle.std.specs.List.{list_any};
 ghost use Rattle.std.specs.Option.{option_or};
 ghost use Rattle.mufom_records.specs.Parts.{LiesIn};
-ghost use Rattle.mufom_module.specs.SpelledRecords as records;
 ghost use Rattle.mufom_read.specs.Faults as faults;
 ghost use Rattle.mufom_read.specs.Kept.{as_fault, first_or, record_of_seen, HasOwnParts};
-ghost use Rattle.mufom_read.specs.HeaderSoFar.{order_of, header_after};
+ghost use Rattle.mufom_read.specs.HeaderSoFar.{order_of, names_at, layout_from, header_with, header_after};
 ghost use Rattle.mufom_read.specs.LoadsSoFar.{units_or};
 
 use crate::part::first_present;
@@ -64,7 +63,7 @@ fn order_of(letter: Option<u8>) -> Order
 
 // The units of an address, of which there are no more than 8, and the order of bytes.
 fn layout_of(maus: u64, letter: Option<u8>) -> Layout
-    ensures { result ≡ record { maus = min maus 8; order = order_of letter } }
+    ensures { result ≡ layout_from maus letter }
 {
     Layout {
         maus: maus.min(MOST_UNITS) as u8,
@@ -75,7 +74,7 @@ fn layout_of(maus: u64, letter: Option<u8>) -> Layout
 impl Header {
     /// The header of which nothing was read.
     pub(crate) fn new() -> Header
-        ensures { result ≡ record { names = None; layout = None } }
+        ensures { result ≡ header_with None None }
     {
         Header {
             names: None,
@@ -94,7 +93,7 @@ impl Header {
     }
 
     // Keeps the names, unless there are some.
-    fn name(
+    fn keep_names(
         &mut self,
         alloc: Global,
         seen: &SeenRecord,
@@ -103,10 +102,8 @@ impl Header {
     ) -> Result<(), NoMemory>
         requires processor { LiesIn seen.now.bytes.now processor }
         requires name { LiesIn seen.now.bytes.now name }
-        ensures { OnOk result (self.new ≡ record self.old {
-          names = option_or self.old.names (Some
-              (record { processor = records.text_in (record_of_seen seen.now) processor; name = records.text_in (record_of_seen seen.now) name }));
-        }) }
+        ensures { OnOk result (self.new ≡ header_with (option_or self.old.names (Some (names_at (record_of_seen seen.now) processor name)))
+            self.old.layout) }
     {
         if self.names.is_none() {
             self.names = Some(Names {
@@ -118,8 +115,8 @@ impl Header {
     }
 
     // Keeps the layout, unless there is one.
-    fn describe(&mut self, layout: Layout)
-        ensures { self.new ≡ record self.old { layout = option_or self.old.layout (Some layout) } }
+    fn keep_layout(&mut self, layout: Layout)
+        ensures { self.new ≡ header_with self.old.names (option_or self.old.layout (Some layout)) }
     {
         if self.layout.is_none() {
             self.layout = Some(layout);
@@ -131,10 +128,10 @@ impl Header {
         requires { HasOwnParts seen.now }
         ensures { OnOk result (self.new ≡ header_after self.old (record_of_seen seen.now)) }
     {
-        match &seen.row {
-            Record::ModuleBegin(processor, name) => self.name(alloc, seen, *processor, *name),
+        match seen.row {
+            Record::ModuleBegin(processor, name) => self.keep_names(alloc, seen, *processor, *name),
             Record::Descriptor(_, maus, letter) => {
-                self.describe(layout_of(*maus, *letter));
+                self.keep_layout(layout_of(*maus, *letter));
                 Ok(())
             }
             _ => Ok(()),

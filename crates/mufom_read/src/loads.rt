@@ -56,14 +56,14 @@ fn item_of(
     value: Option<Postfix>,
 ) -> Result<Item, NoMemory>
     requires own { HasOwnParts «record».now }
-    requires item { is_item «record».now.row ≡ true }
+    requires item { is_item «record».now.row.now ≡ true }
     requires value { (ix : Indexes)
         × (value ≡ option_map (records.positioned ix) (records.tree_of_record (record_of_seen «record».now))) }
     ensures { IfOk result (λ item. (ix : Indexes)
         → value ≡ option_map (records.positioned ix) (records.tree_of_record (record_of_seen «record».now))
-        → gathered.item_by ix maus (record_of_seen «record».now) «record».now.row ≡ Some item) }
+        → gathered.item_by ix maus (record_of_seen «record».now) «record».now.row.now ≡ Some item) }
 {
-    match &record.row {
+    match record.row {
         Record::ConstantItem(run) => {
             let bytes = record.copy_text(alloc, *run)?;
             Ok(Item::Literal(bytes))
@@ -124,12 +124,12 @@ fn add_loads(
     value: Option<Postfix>,
 ) -> Result<(), NoMemory>
     requires own { HasOwnParts «record».now }
-    requires value { parts.stands_in parts.data_part «record».now.row ≡ true → value
+    requires value { parts.stands_in parts.data_part «record».now.row.now ≡ true → value
         ≡ option_map (records.positioned (indexes_by tables.now)) (records.tree_of_record (record_of_seen «record».now)) }
     ensures { OnOk result (loads.new ≡ loads.old
-        ++ loads_at_once (indexes_by tables.now) (record_of_seen «record».now) «record».now.row) }
+        ++ loads_at_once (indexes_by tables.now) (record_of_seen «record».now) «record».now.row.now) }
 {
-    match &record.row {
+    match record.row {
         Record::SetSection(index) => {
             loads.push(Load::SetSection(position_in(&tables.sections, *index)))
         }
@@ -201,14 +201,14 @@ impl Loads {
         value: Option<Postfix>,
     ) -> Result<(), NoMemory>
         requires own { HasOwnParts «record».now }
-        requires value { parts.stands_in parts.data_part «record».now.row ≡ true → value
+        requires value { parts.stands_in parts.data_part «record».now.row.now ≡ true → value
             ≡ option_map (records.positioned (indexes_by tables.now)) (records.tree_of_record (record_of_seen «record».now)) }
         ensures { OnOk result (self.new ≡ loads_and
-            (closed self.old ++ loads_at_once (indexes_by tables.now) (record_of_seen «record».now) «record».now.row)
-            (opened_by «record».now.row)) }
+            (closed self.old ++ loads_at_once (indexes_by tables.now) (record_of_seen «record».now) «record».now.row.now)
+            (opened_by «record».now.row.now)) }
     {
         self.close()?;
-        self.awaiting = opened_by(alloc, &record.row);
+        self.awaiting = opened_by(alloc, record.row);
         add_loads(alloc, tables, &mut self.loads, record, value)
     }
 
@@ -223,12 +223,12 @@ impl Loads {
         tree: Option<Postfix>,
     ) -> Result<(), NoMemory>
         requires own { HasOwnParts «record».now }
-        requires tree { parts.stands_in parts.data_part «record».now.row ≡ true
+        requires tree { parts.stands_in parts.data_part «record».now.row.now ≡ true
             → tree ≡ records.tree_of_record (record_of_seen «record».now) }
         ensures { OnOk result (self.new ≡ with_load (indexes_by tables.now) maus self.old (record_of_seen «record».now)) }
     {
         let value = renamed(tables, tree);
-        if is_item(&record.row) {
+        if is_item(record.row) {
             let item = item_of(alloc, maus, record, value)?;
             self.add_item(item)
         } else {

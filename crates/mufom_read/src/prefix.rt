@@ -303,10 +303,10 @@ impl Prefix {
         if self.size + next.bytes.len() as u64 > extent.to {
             return self.refused(Reason::PartGap);
         }
-        if !stands_in(extent.part, &next.row) {
+        if !stands_in(extent.part, next.row) {
             return self.refused(Reason::WrongPart);
         }
-        self.rule_fault(&next.row, tree)
+        self.rule_fault(next.row, tree)
     }
 
     // The fault of a whole record in its location, with this expression.
@@ -317,7 +317,7 @@ impl Prefix {
         tree: Option<&Postfix>,
     ) -> Option<ReadRefusal>
         requires fits { self.now.size + length next.now.bytes.now ≤ file_limit }
-        requires placed { IsPlacedWell place next.now.row }
+        requires placed { IsPlacedWell place next.now.row.now }
         ensures { (prefix : List prefixes.Step) → IsPrefixOf self.now prefix
             → records.tree_of_record (record_of_seen next.now) ≡ option_map (λ t. t.now) tree.entry
             → option_map as_fault result
@@ -327,11 +327,11 @@ impl Prefix {
             Location::Header(_) => {
                 let end = self.size + next.bytes.len() as u64;
                 let earlier = self.offsets.as_slice();
-                header_fault(earlier, &next.row, self.size, end)
+                header_fault(earlier, next.row, self.size, end)
             }
             Location::Part(extent) => self.part_fault(extent, next, tree),
             Location::End => {
-                if stands_in(Part::End, &next.row) {
+                if stands_in(Part::End, next.row) {
                     None
                 } else {
                     self.refused(Reason::WrongPart)
@@ -348,27 +348,27 @@ impl Prefix {
         tree: Option<Postfix>,
     ) -> Result<(), NoMemory>
         requires room { HasRoom self.old.tables }
-        requires new { is_new self.old.tables next.now.row ≡ true }
+        requires new { is_new self.old.tables next.now.row.now ≡ true }
         requires own { HasOwnParts next.now }
         requires tree { tree ≡ records.tree_of_record (record_of_seen next.now) }
         requires fits { self.old.size + length next.now.bytes.now ≤ file_limit }
         requires start { next.now.start ≡ self.old.size }
         requires known { (all : List prefixes.OffsetRecord) × AreContentsBefore self.old.contents self.old.tables all (record_of_seen next.now) }
-        requires kind { HasKind next.now.row }
-        requires nested { faults.ends_badly (opened self.old.contents.debug) next.now.row ≡ false }
+        requires kind { HasKind next.now.row.now }
+        requires nested { faults.ends_badly (opened self.old.contents.debug) next.now.row.now ≡ false }
         ensures added { OnOk result (self.new ≡ with_record self.old (record_of_seen next.now) self.new) }
         ensures contents { OnOk result ((all : List prefixes.OffsetRecord)
             → AreContentsBefore self.old.contents self.old.tables all (record_of_seen next.now)
             → AreContentsOf self.new.contents (all ++ placed next.now ∷ [])) }
         ensures location { OnOk result (as_location self.new.location
-            ≡ next_location (as_location self.old.location) (self.old.offsets ++ cons_option (offset_in next.now.row) [])
+            ≡ next_location (as_location self.old.location) (self.old.offsets ++ cons_option (offset_in next.now.row.now) [])
             (self.old.size + length next.now.bytes.now)) }
     {
         self.contents.take(alloc, &self.tables, next, tree)?;
-        self.tables.add(&next.row)?;
-        add_offset(&mut self.offsets, &next.row)?;
-        self.awaits_items = opens_items(&next.row);
-        self.ended = is_module_end(&next.row);
+        self.tables.add(next.row)?;
+        add_offset(&mut self.offsets, next.row)?;
+        self.awaits_items = opens_items(next.row);
+        self.ended = is_module_end(next.row);
         self.size += next.bytes.len() as u64;
         self.location = self.next_location();
         Ok(())
@@ -382,7 +382,7 @@ impl Prefix {
         requires some { 0 < length next.now.bytes.now }
         requires start { next.now.start ≡ self.old.size }
         requires fits { self.old.size + length next.now.bytes.now ≤ file_limit }
-        requires placed { IsPlacedWell place next.now.row }
+        requires placed { IsPlacedWell place next.now.row.now }
         ensures { IfOk result (λ done. (prefix : List prefixes.Step) → IsPrefixOf self.old prefix
             → as_location place ≡ prefixes.location_after prefix
             → HasTaken prefix (record_of_seen next.now) self.new done) }
@@ -412,7 +412,7 @@ impl Prefix {
             Taken::Got(row, used) => {
                 let next = SeenRecord {
                     start: self.size,
-                    row,
+                    row: &row,
                     bytes: prefix_of(rest, used),
                 };
                 self.take(alloc, place, &next)

@@ -133,13 +133,13 @@ impl Publics {
         value: Option<Postfix>,
     ) -> Result<(), NoMemory>
         requires own { HasOwnParts seen.now }
-        requires value { records.is_public_value seen.now.row ≡ true → value ≡ records.tree_of_record (record_of_seen seen.now) }
+        requires value { records.is_public_value seen.now.row.now ≡ true → value ≡ records.tree_of_record (record_of_seen seen.now) }
         requires start { seen.now.start < 2 ^ 32 }
         requires known { (all : List OffsetRecord) × IsBefore self.old table.now all (record_of_seen seen.now) }
         ensures { OnOk result ((all : List OffsetRecord) → IsBefore self.old table.now all (record_of_seen seen.now)
             → ArePublicsOf self.new (all ++ placed seen.now ∷ [])) }
     {
-        match &seen.row {
+        match seen.row {
             Record::PublicName(_, name) => {
                 let name = seen.copy_text(alloc, *name)?;
                 self.add(alloc, name, seen.start as u32)

@@ -59,7 +59,7 @@ pub(crate) fn take(
         → AreBefore references.old.items table.now before (record_of_seen seen.now)
         → references.new.items ≡ gathered.references_of (before ++ record_of_seen seen.now ∷ [])) }
 {
-    match &seen.row {
+    match seen.row {
         Record::ReferenceName(_, name) => {
             let name = seen.copy_text(alloc, *name)?;
             add(alloc, references, name)

@@ -112,7 +112,7 @@ impl Sections {
         ensures { OnOk result ((all : List OffsetRecord) → AreSectionsBefore self.old table.now all (record_of_seen seen.now)
             → AreSectionsOf self.new (all ++ placed seen.now ∷ [])) }
     {
-        match &seen.row {
+        match seen.row {
             Record::SectionType(_, absolute, letter, name, ..) => {
                 let section = Section {
                     name: seen.copy_text(alloc, *name)?,

@@ -14,7 +14,7 @@ use std::alloc::Global;
 #[derive(Debug, Drop)]
 pub(crate) struct SeenRecord<'a> {
     pub start: u64,
-    pub row: Record,
+    pub row: &'a Record,
     pub bytes: &'a [u8],
 }
 
@@ -73,10 +73,10 @@ impl SeenRecord<'_> {
 
     /// The record's expression; none has more than one.
     pub(crate) fn expression(&self, alloc: Global) -> Result<Option<Postfix>, NoMemory>
-        requires { HasParts self.now.bytes.now self.now.row }
+        requires { HasParts self.now.bytes.now self.now.row.now }
         ensures { IfOk result (λ tree. tree ≡ records.tree_of_record (record_of_seen self.now)) }
     {
-        match expression_of(&self.row) {
+        match expression_of(self.row) {
             None => Ok(None),
             Some(span) => {
                 let tree = self.tree(alloc, span)?;

@@ -44,5 +44,5 @@ returns-in_ok-note-in-ReferenceNote c = on_ok _ _ c.push_note.result (λ list. �
 
 pub returns-in_default : goal.returns-in_default
 returns-in_default c = λ ps before.
-    let other = no-reference-row c.args.seen.now.row c.in_default.not-ReferenceName c.in_default.not-WeakReference c.in_default.not-ReferenceNote in
+    let other = no-reference-row c.args.seen.now.row.now c.in_default.not-ReferenceName c.in_default.not-WeakReference c.in_default.not-ReferenceNote in
     other-reference-taken c.args.references.now.items c.args.references.now.items c.args.table.now ps (record_of_seen c.args.seen.now) before other refl

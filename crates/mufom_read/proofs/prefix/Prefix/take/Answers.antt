@@ -17,7 +17,7 @@ add-requires-clause-new c =
     let prefix = c.requires.known.0 in
     let is = c.requires.known.1 in
     let clean = sym (c.record_fault.ensures prefix is (sym (c.as_ref.ensures.value ∙ c.in_ok-tree.ensures))) ∙ ap (option_map as_fault) c.in-None.is in
-    ap (λ t. is_new t c.args.next.now.row) is.tables ∙ (addable prefix c.args.place c.args.self.now.size (record_of_seen c.args.next.now) c.requires.placed clean).new
+    ap (λ t. is_new t c.args.next.now.row.now) is.tables ∙ (addable prefix c.args.place c.args.self.now.size (record_of_seen c.args.next.now) c.requires.placed clean).new
 
 pub add-requires-clause-kind : goal.add-requires-clause-kind
 add-requires-clause-kind c =
@@ -31,7 +31,7 @@ add-requires-clause-nested c =
     let prefix = c.requires.known.0 in
     let is = c.requires.known.1 in
     let clean = sym (c.record_fault.ensures prefix is (sym (c.as_ref.ensures.value ∙ c.in_ok-tree.ensures))) ∙ ap (option_map as_fault) c.in-None.is in
-    ap (λ (bs : List OpenBlock). ends_badly bs c.args.next.now.row) is.contents.debug.blocks ∙ (addable prefix c.args.place c.args.self.now.size (record_of_seen c.args.next.now) c.requires.placed clean).nested
+    ap (λ (bs : List OpenBlock). ends_badly bs c.args.next.now.row.now) is.contents.debug.blocks ∙ (addable prefix c.args.place c.args.self.now.size (record_of_seen c.args.next.now) c.requires.placed clean).nested
 
 pub add-requires-clause-known : goal.add-requires-clause-known
 add-requires-clause-known c =

@@ -52,5 +52,5 @@ returns-in_ok-note-in-PublicNote c = on_ok _ _ c.push_note.result (λ list. λ a
 
 pub returns-in_default : goal.returns-in_default
 returns-in_default c = λ all before.
-    let other = no-public-row c.args.seen.now.row c.in_default.not-PublicName c.in_default.not-PublicValue c.in_default.not-PublicNote in
+    let other = no-public-row c.args.seen.now.row.now c.in_default.not-PublicName c.in_default.not-PublicValue c.in_default.not-PublicNote in
     other-taken c.args.self.now c.args.self.now c.args.table.now all c.args.seen.now.start (record_of_seen c.args.seen.now) before other refl

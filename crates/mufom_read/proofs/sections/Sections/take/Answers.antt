@@ -65,5 +65,5 @@ returns-in-SectionBase c = λ all before.
 
 pub returns-in_default : goal.returns-in_default
 returns-in_default c = λ all before.
-    let other = no-section-row c.args.seen.now.row c.in_default.not-SectionType c.in_default.not-SectionSize c.in_default.not-Alignment c.in_default.not-SectionBase in
+    let other = no-section-row c.args.seen.now.row.now c.in_default.not-SectionType c.in_default.not-SectionSize c.in_default.not-Alignment c.in_default.not-SectionBase in
     others-taken c.args.self.now c.args.self.now c.args.table.now all c.args.seen.now.start (record_of_seen c.args.seen.now) before other refl
