@@ -15,7 +15,7 @@ use Rattle.mufom_read.specs.Prefixes.{Step, size_of, is_ended}
 use Rattle.mufom_read.specs.Faults.{Fault, fault_after}
 use Rattle.mufom_read.specs.Judging.{IsSoundFrom, IsSoundPrefix, within_limit, IsWaiting, IsRefusedAt, IsPending}
 use Rattle.mufom_read.specs.PrefixOfCode.{IsPrefixOf}
-use Rattle.mufom_read.specs.Reader.{HasTakenAll, HasStopped, HasTakenChunk, HasEndedChunk, IsReading, IsIncomplete, Knows}
+use Rattle.mufom_read.specs.Reader.{HasTakenAll, HasNoStep, HasTakenChunk, HasEndedChunk, IsReading, IsIncomplete, Knows}
 use Rattle.mufom_read.proofs.PrefixLaws.{size-append}
 use Rattle.mufom_numbers.proofs.SpellingLaws.{AreBytes-append}
 use Rattle.mufom_read.proofs.StayLaws.{sound_stays, within-append, AreBytes-prefix, AreBytes-drop, AreBytes-take}
@@ -78,10 +78,10 @@ room_of r = file_limit - (r.prefix.size + length r.rest.items)
 pub read-length : (r : State) (stream : List ℕ) → IsReading r stream → r.prefix.size + length r.rest.items ≡ length stream
 read-length r stream is = omega (arith, is.kept.size, ap length is.rest, length-drop (size_of is.prefix) stream, is.inside)
 
--- the module of a reader has ended, or more bytes are wanted
-pub reading-stopped : (r : State) (stream : List ℕ) (is : IsReading r stream) → HasStopped r.reads_debug is.prefix r.rest.items
-reading-stopped r stream is = by_case is.waits where
-  by_case : (((is_ended is.prefix ≡ true) × (size_of is.prefix ≡ length stream)) ⊎ IsIncomplete r.reads_debug is.prefix r.rest.items) → HasStopped r.reads_debug is.prefix r.rest.items
+-- a reader has no step left
+pub reading-no-step : (r : State) (stream : List ℕ) (is : IsReading r stream) → HasNoStep r.reads_debug is.prefix r.rest.items
+reading-no-step r stream is = by_case is.waits where
+  by_case : (((is_ended is.prefix ≡ true) × (size_of is.prefix ≡ length stream)) ⊎ IsIncomplete r.reads_debug is.prefix r.rest.items) → HasNoStep r.reads_debug is.prefix r.rest.items
   by_case (inl end) = inl (end.0, nil_from_length r.rest.items (omega (arith, ap length is.rest, length-drop (size_of is.prefix) stream, end.1)))
   by_case (inr want) = inr want
 
@@ -197,10 +197,10 @@ rest-bytes r stream chunk n bytes is fits =
 -- what a chunk makes known, where all that it has with the pending bytes was taken
 pub known-taken : (r new : State) (stream chunk w : List ℕ) (longer_ : Bool) (result : Option ReadStop) → IsReading r stream → AreBytes (stream ++ chunk) → w ≡ take (file_limit - (r.prefix.size + length r.rest.items)) chunk
     → longer_ ≡ nat_lt (file_limit - (r.prefix.size + length r.rest.items)) (length chunk) → new.reads_debug ≡ r.reads_debug
-    → ((before : List Step) → IsPrefixOf r.prefix before → HasStopped r.reads_debug before r.rest.items → HasTakenChunk r.reads_debug before (r.rest.items ++ w) new (Ok tt))
+    → ((before : List Step) → IsPrefixOf r.prefix before → HasNoStep r.reads_debug before r.rest.items → HasTakenChunk r.reads_debug before (r.rest.items ++ w) new (Ok tt))
     → ((prefix : List Step) → IsPrefixOf new.prefix prefix → HasEndedChunk (is_ended prefix) new.prefix.size longer_ new.rest.items new result) → Knows new (stream ++ chunk) result
 known-taken r new stream chunk w longer_ result is bytes cut test same taken ended =
-    let all = subst (λ (l : List ℕ). HasTakenChunk r.reads_debug is.prefix (r.rest.items ++ l) new (Ok tt)) cut (taken is.prefix is.kept (reading-stopped r stream is)) in
+    let all = subst (λ (l : List ℕ). HasTakenChunk r.reads_debug is.prefix (r.rest.items ++ l) new (Ok tt)) cut (taken is.prefix is.kept (reading-no-step r stream is)) in
     let its = all.1 in
     let prefix = is.prefix ++ its.0 in
     knows-ended r stream chunk prefix all.0 (r.rest.items ++ take (room_of r) chunk) longer_ new result (gone-after r stream chunk is its.0 all.0 bytes its.2 its.3 its.4) same test its.1 its.5
@@ -208,9 +208,9 @@ known-taken r new stream chunk w longer_ result is bytes cut test same taken end
 
 -- and where there is a fault in it, or no memory
 pub known-stopped : (r new : State) (stream chunk w : List ℕ) (s : ReadStop) → IsReading r stream → AreBytes (stream ++ chunk) → w ≡ take (file_limit - (r.prefix.size + length r.rest.items)) chunk → new.reads_debug ≡ r.reads_debug
-    → ((before : List Step) → IsPrefixOf r.prefix before → HasStopped r.reads_debug before r.rest.items → HasTakenChunk r.reads_debug before (r.rest.items ++ w) new (Err s)) → Knows new (stream ++ chunk) (Some s)
+    → ((before : List Step) → IsPrefixOf r.prefix before → HasNoStep r.reads_debug before r.rest.items → HasTakenChunk r.reads_debug before (r.rest.items ++ w) new (Err s)) → Knows new (stream ++ chunk) (Some s)
 known-stopped r new stream chunk w (stop.Refused f) is bytes cut same taken =
-    subst (λ (b : Bool). IsRefusedAt b (stream ++ chunk) f.place f.reason) (sym same) (chunk-refused r stream chunk w is new.prefix f bytes cut (taken is.prefix is.kept (reading-stopped r stream is)))
+    subst (λ (b : Bool). IsRefusedAt b (stream ++ chunk) f.place f.reason) (sym same) (chunk-refused r stream chunk w is new.prefix f bytes cut (taken is.prefix is.kept (reading-no-step r stream is)))
 known-stopped r new stream chunk w stop.NoMemory is bytes cut same taken = tt
 
 -- ---- how many bytes are pending

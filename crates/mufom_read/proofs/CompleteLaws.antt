@@ -26,7 +26,7 @@ use Rattle.mufom_read.specs.Faults.{Fault, ended_part_fault, step_fault, fault_a
 use Rattle.mufom_read.specs.Judging.{IsSoundFrom}
 use Rattle.mufom_read.specs.Kept.{as_fault}
 use Rattle.mufom_read.specs.PrefixOfCode.{IsPrefixOf, HasAdvanced}
-use Rattle.mufom_read.specs.Reader.{IsIncomplete, HasGoneOn, HasStopped, HasCompleted, HasTakenChunk}
+use Rattle.mufom_read.specs.Reader.{IsIncomplete, HasGoneOn, HasNoStep, HasCompleted, HasTakenChunk}
 use Rattle.mufom_read.proofs.EndedWalk.{prefix_first}
 use Rattle.mufom_read.proofs.PrefixLaws.{size-append}
 use Rattle.mufom_read.proofs.ShortLaws.{as-step-wants}
@@ -121,9 +121,9 @@ whole-waiting reads_debug prefix rest want = no_part (ended_part_fault prefix) _
   no_part None p e = refl
   no_part (Some x) p e = e
 
-pub whole-stopped : (reads_debug : Bool) (prefix : List Step) (rest : List ℕ) → HasStopped reads_debug prefix rest → is_ended prefix ≡ false → ended_part_fault prefix ≡ None
-whole-stopped reads_debug prefix rest (inl end) unended = absurd (true≢false (sym end.0 ∙ unended))
-whole-stopped reads_debug prefix rest (inr want) unended = whole-waiting reads_debug prefix rest want
+pub whole-no-step : (reads_debug : Bool) (prefix : List Step) (rest : List ℕ) → HasNoStep reads_debug prefix rest → is_ended prefix ≡ false → ended_part_fault prefix ≡ None
+whole-no-step reads_debug prefix rest (inl end) unended = absurd (true≢false (sym end.0 ∙ unended))
+whole-no-step reads_debug prefix rest (inr want) unended = whole-waiting reads_debug prefix rest want
 
 -- some more bytes of the chunk were added
 pub added-here : (pending chunk now after next_ : List ℕ) (used added : ℕ) → now ≡ pending ++ take used chunk → after ≡ drop used chunk → next_ ≡ now ++ take added after → next_ ≡ pending ++ take (used + added) chunk
@@ -244,7 +244,7 @@ pub some-pending : (rest : List ℕ) (count : ℕ) → length rest ≡ count →
 some-pending rest count size some = elim (cases_lt 0 (length rest)) [ inl is ↦ is | inr none ↦ absurd (eqb-false count 0 some (omega (arith, none, size))) ]
 
 -- where bytes are pending, more are wanted
-pub some-waiting : (reads_debug : Bool) (prefix : List Step) (rest : List ℕ) → 0 < length rest → HasStopped reads_debug prefix rest → IsIncomplete reads_debug prefix rest
+pub some-waiting : (reads_debug : Bool) (prefix : List Step) (rest : List ℕ) → 0 < length rest → HasNoStep reads_debug prefix rest → IsIncomplete reads_debug prefix rest
 some-waiting reads_debug prefix rest some (inl end) = absurd (omega (arith, some, ap length end.1))
 some-waiting reads_debug prefix rest some (inr want) = want
 

@@ -38,9 +38,9 @@ pub record HasGoneOn (reads_debug : Bool) (before : List Step) (rest : List ℕ)
   pub within : taken ≤ length rest
   pub whole : is_ended (before ++ steps) ≡ false → ended_part_fault (before ++ steps) ≡ None
 
--- The module ends with a prefix, and no bytes stand after it; or more bytes are wanted after these.
-abbrev pub HasStopped : Bool → List Step → List ℕ → Type 0
-HasStopped reads_debug prefix rest = ((is_ended prefix ≡ true) × (rest ≡ [])) ⊎ IsIncomplete reads_debug prefix rest
+-- No step is left after a prefix: the module ends with it and no bytes stand after it; or more bytes than these are wanted.
+abbrev pub HasNoStep : Bool → List Step → List ℕ → Type 0
+HasNoStep reads_debug prefix rest = ((is_ended prefix ≡ true) × (rest ≡ [])) ⊎ IsIncomplete reads_debug prefix rest
 
 -- What was done with the bytes of a chunk, where these are pending before them: all are pending with them, and still more are
 -- wanted; or a step was taken of all that was pending and as many of them as are answered, and none are pending; or there is

@@ -8,7 +8,7 @@ ghost use Rattle.mufom_read.specs.Faults.{ended_part_fault};
 ghost use Rattle.mufom_read.specs.PrefixOfCode.{IsPrefixOf};
 ghost use Rattle.mufom_read.specs.Reader.{
   HasTakenAll,
-  HasStopped,
+  HasNoStep,
   HasCompleted,
   HasTakenChunk,
   HasEndedChunk,
@@ -207,11 +207,11 @@ impl State {
     // as the record has, and those of the record that it leaves unfinished.
     fn take_chunk(&mut self, chunk: &[u8]) -> Result<(), ReadStop>
         requires known { (before : List Step) × IsPrefixOf self.old.prefix before
-            × HasStopped self.old.reads_debug before self.old.rest.items }
+            × HasNoStep self.old.reads_debug before self.old.rest.items }
         requires bytes { AreBytes (self.old.rest.items ++ chunk.now) }
         requires fits { self.old.prefix.size + (length self.old.rest.items + length chunk.now) ≤ file_limit }
         ensures taken { (before : List Step) → IsPrefixOf self.old.prefix before
-            → HasStopped self.old.reads_debug before self.old.rest.items
+            → HasNoStep self.old.reads_debug before self.old.rest.items
             → HasTakenChunk self.old.reads_debug before (self.old.rest.items ++ chunk.now) self.new result }
         ensures reads_debug { self.new.reads_debug ≡ self.old.reads_debug }
     {

@@ -2,4 +2,6 @@
 #![tactic(auto)]
 
 #[cfg(test)]
+mod real;
+#[cfg(test)]
 mod tests;

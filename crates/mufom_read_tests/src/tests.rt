@@ -4,7 +4,7 @@ ghost use Rattle.std.specs.Prelude.{◌<◌};
 
 use mufom_host::{Host, MemHost};
 use mufom_module::Module;
-use mufom_numbers::{Bytes, List, Reason, Text};
+use mufom_numbers::{Bytes, List, NoMemory, Reason, Text};
 use mufom_read::{ReadRefusal, ReadStop, Reader, SourceStop, read_module};
 use std::alloc::Global;
 use std::test::Fail;
@@ -368,38 +368,33 @@ fn end_after(part: &[u8]) -> u16 {
 }
 
 // The module of a stream that is fed in chunks of the given number of bytes, or why there is none.
-fn read(
+pub(crate) fn read(
     alloc: Global,
     stream: &[u8],
     size: usize,
     reads_debug: bool,
-) -> Result<Result<Module, ReadStop>, Fail>
+) -> Result<Module, ReadStop>
     requires { 0 < size }
 {
-    let mut reader = Reader::new(alloc, reads_debug)?;
+    let Ok(mut reader) = Reader::new(alloc, reads_debug) else {
+        return Err(ReadStop::NoMemory);
+    };
     for chunk in stream.chunks(size) {
-        if let Err(stop) = reader.feed(chunk) {
-            return Ok(Err(stop));
-        }
+        reader.feed(chunk)?;
     }
-    Ok(reader.finish())
+    reader.finish()
 }
 
-fn refused(place: u64, reason: Reason) -> Option<ReadStop> {
+pub(crate) fn refused(place: u64, reason: Reason) -> Option<ReadStop> {
     Some(ReadStop::Refused(ReadRefusal { place, reason }))
 }
 
-fn stop(
-    alloc: Global,
-    stream: &[u8],
-    size: usize,
-    reads_debug: bool,
-) -> Result<Option<ReadStop>, Fail>
+pub(crate) fn stop(alloc: Global, stream: &[u8], size: usize, reads_debug: bool) -> Option<ReadStop>
     requires { 0 < size }
 {
-    match read(alloc, stream, size, reads_debug)? {
-        Ok(_) => Ok(None),
-        Err(stop) => Ok(Some(stop)),
+    match read(alloc, stream, size, reads_debug) {
+        Ok(_) => None,
+        Err(stop) => Some(stop),
     }
 }
 
@@ -409,9 +404,9 @@ fn each_reason_has_its_place(rt: HostRuntime) -> Result<(), Fail> {
     for (row, place, reason) in &REFUSED {
         let stream = stream(alloc, *row)?;
         let wanted = refused(*place, *reason);
-        assert_eq!(rt; stop(alloc, &stream, 1000, true)?, wanted, "{stream:?}");
-        assert_eq!(rt; stop(alloc, &stream, 1, true)?, wanted, "{stream:?}");
-        assert_eq!(rt; stop(alloc, &stream, 7, true)?, wanted, "{stream:?}");
+        assert_eq!(rt; stop(alloc, &stream, 1000, true), wanted, "{stream:?}");
+        assert_eq!(rt; stop(alloc, &stream, 1, true), wanted, "{stream:?}");
+        assert_eq!(rt; stop(alloc, &stream, 7, true), wanted, "{stream:?}");
     }
     Ok(())
 }
@@ -420,9 +415,9 @@ fn each_reason_has_its_place(rt: HostRuntime) -> Result<(), Fail> {
 fn modules_are_read_whole_and_byte_by_byte(rt: HostRuntime) -> Result<(), Fail> {
     let alloc = rt.alloc();
     for stream in [PLAIN.as_slice(), PROGRAM.as_slice(), LIBRARY.as_slice()] {
-        assert_eq!(rt; stop(alloc, stream, 1000, true)?, None);
-        assert_eq!(rt; stop(alloc, stream, 1, true)?, None);
-        assert_eq!(rt; stop(alloc, stream, 3, false)?, None);
+        assert_eq!(rt; stop(alloc, stream, 1000, true), None);
+        assert_eq!(rt; stop(alloc, stream, 1, true), None);
+        assert_eq!(rt; stop(alloc, stream, 3, false), None);
     }
     Ok(())
 }
@@ -431,7 +426,7 @@ fn modules_are_read_whole_and_byte_by_byte(rt: HostRuntime) -> Result<(), Fail> 
 fn a_prefix_of_a_module_is_truncated(rt: HostRuntime) -> Result<(), Fail> {
     let alloc = rt.alloc();
     for length in 0..PROGRAM.len() {
-        let stop = stop(alloc, &PROGRAM[..length], 1000, true)?;
+        let stop = stop(alloc, &PROGRAM[..length], 1000, true);
         assert_eq!(rt; stop, refused(length as u64, Reason::Truncated));
     }
     Ok(())
@@ -442,11 +437,11 @@ fn a_byte_after_the_end_is_refused(rt: HostRuntime) -> Result<(), Fail> {
     let alloc = rt.alloc();
     let stream = changed(alloc, &[&PLAIN, &[0]], &[])?;
     assert_eq!(rt;
-        stop(alloc, &stream, 1000, true)?,
+        stop(alloc, &stream, 1000, true),
         refused(120, Reason::AfterEnd)
     );
     assert_eq!(rt;
-        stop(alloc, &stream, 1, true)?,
+        stop(alloc, &stream, 1, true),
         refused(120, Reason::AfterEnd)
     );
     Ok(())
@@ -472,11 +467,11 @@ fn a_second_start_is_refused(rt: HostRuntime) -> Result<(), Fail> {
     let start: &[u8] = &[0xE2, 0xC7, 0x00, 0xE1];
     let stream = changed(alloc, &[&PLAIN[..119], start], &[(76, 0x7A)])?;
     assert_eq!(rt;
-        stop(alloc, &stream, 1000, true)?,
+        stop(alloc, &stream, 1000, true),
         refused(119, Reason::DuplicateValue)
     );
     assert_eq!(rt;
-        stop(alloc, &stream, 1, true)?,
+        stop(alloc, &stream, 1, true),
         refused(119, Reason::DuplicateValue)
     );
     Ok(())
@@ -488,11 +483,11 @@ fn an_absolute_section_has_a_base(rt: HostRuntime) -> Result<(), Fail> {
     let changes = [(60, 0), (68, 0), (76, 0x5E)];
     let stream = changed(alloc, &[&PLAIN[..94], &[0xE1]], &changes)?;
     assert_eq!(rt;
-        stop(alloc, &stream, 1000, true)?,
+        stop(alloc, &stream, 1000, true),
         refused(77, Reason::MissingBase)
     );
     assert_eq!(rt;
-        stop(alloc, &stream, 1, true)?,
+        stop(alloc, &stream, 1, true),
         refused(77, Reason::MissingBase)
     );
     Ok(())
@@ -515,16 +510,16 @@ fn a_256th_token_is_refused(rt: HostRuntime) -> Result<(), Fail> {
     let offsets = [0, 0, 77, 0, 0, 100, 0, end_after(&part)];
     let mut stream = with_part(alloc, offsets, &part)?;
     assert_eq!(rt;
-        stop(alloc, &stream, 1000, true)?,
+        stop(alloc, &stream, 1000, true),
         refused(358, Reason::TooLong)
     );
     assert_eq!(rt;
-        stop(alloc, &stream, 1, true)?,
+        stop(alloc, &stream, 1, true),
         refused(358, Reason::TooLong)
     );
     stream.truncate(358);
     assert_eq!(rt;
-        stop(alloc, &stream, 1000, true)?,
+        stop(alloc, &stream, 1000, true),
         refused(358, Reason::Truncated)
     );
     Ok(())
@@ -576,10 +571,10 @@ fn the_byte_beyond_the_limit_is_refused(rt: HostRuntime) -> Result<(), Fail> {
 fn a_debug_part_is_passed_over(rt: HostRuntime) -> Result<(), Fail> {
     let alloc = rt.alloc();
     let stream = stream(alloc, Row::Debug(&[0x00, 0x89, 0xFF]))?;
-    assert_eq!(rt; stop(alloc, &stream, 1000, false)?, None);
-    assert_eq!(rt; stop(alloc, &stream, 1, false)?, None);
+    assert_eq!(rt; stop(alloc, &stream, 1000, false), None);
+    assert_eq!(rt; stop(alloc, &stream, 1, false), None);
     assert_eq!(rt;
-        stop(alloc, &stream, 1, true)?,
+        stop(alloc, &stream, 1, true),
         refused(100, Reason::BadRecord)
     );
     Ok(())
@@ -604,7 +599,7 @@ fn bytes_after_whole_records_are_pending(rt: HostRuntime) -> Result<(), Fail> {
 
 #[test]
 fn what_the_records_say_is_what_the_module_has(rt: HostRuntime) -> Result<(), Fail> {
-    let module = read(rt.alloc(), &PROGRAM, 5, true)?.expect(&rt, "a module");
+    let module = read(rt.alloc(), &PROGRAM, 5, true).expect(&rt, "a module");
     let parts = format!(in rt.alloc(); "{:?}", module.parts())?;
     assert_eq!(rt; parts.as_str(), PROGRAM_TEXT);
     Ok(())
@@ -613,7 +608,7 @@ fn what_the_records_say_is_what_the_module_has(rt: HostRuntime) -> Result<(), Fa
 #[test]
 fn blocks_of_each_kind_are_the_debug_items(rt: HostRuntime) -> Result<(), Fail> {
     let stream = stream(rt.alloc(), Row::Debug(&BLOCKS))?;
-    let module = read(rt.alloc(), &stream, 5, true)?.expect(&rt, "a module");
+    let module = read(rt.alloc(), &stream, 5, true).expect(&rt, "a module");
     let items = format!(in rt.alloc(); "{:?}", module.parts().debug)?;
     assert_eq!(rt; items.as_str(), BLOCKS_TEXT);
     Ok(())
@@ -639,5 +634,52 @@ fn a_source_is_read_within_its_limit(rt: HostRuntime) -> Result<(), Fail> {
     let _ = source.open("a");
     let read = read_module(alloc, &mut source, 120, true);
     assert!(rt; matches!(read, Ok((_, 120))));
+    Ok(())
+}
+
+// The plain module with so many loads, each of which makes its section the current one, and no start. ME stands at the
+// offset of these four bytes.
+fn with_loads(alloc: Global, count: usize, end: [u8; 4]) -> Result<Vec<u8>, NoMemory> {
+    let parts: [&[u8]; 5] = [&PLAIN[..65], &[0; 4], &PLAIN[69..73], &end, &PLAIN[77..100]];
+    let mut stream = Vec::new(alloc);
+    for part in parts {
+        stream.extend_from_slice(part)?;
+    }
+    for _ in 0..count {
+        stream.extend_from_slice(&[0xE5, 0x01])?;
+    }
+    stream.push(0xE1)?;
+    Ok(stream)
+}
+
+// The text of the parts of a module whose stream is fed in chunks of the given number of bytes.
+fn text_of(alloc: Global, stream: &[u8], size: usize) -> Option<String>
+    requires { 0 < size }
+{
+    match read(alloc, stream, size, true) {
+        Ok(module) => format!(in alloc; "{:?}", module.parts()).ok(),
+        Err(_) => None,
+    }
+}
+
+#[test]
+fn cuts_make_no_difference(rt: HostRuntime) -> Result<(), Fail> {
+    let alloc = rt.alloc();
+    let stream = with_loads(alloc, 1_000, [0, 0, 0x08, 0x34]).expect(&rt, "memory");
+    let whole = text_of(alloc, &stream, 65_536).expect(&rt, "a module");
+    for size in [1, 2, 3, 99] {
+        let cut = text_of(alloc, &stream, size).expect(&rt, "a module");
+        assert_eq!(rt; cut.as_str(), whole.as_str());
+    }
+    Ok(())
+}
+
+// Were all records judged again at each byte, this would take hours.
+#[test]
+fn half_a_million_records_are_read_byte_by_byte(rt: HostRuntime) -> Result<(), Fail> {
+    let alloc = rt.alloc();
+    let stream = with_loads(alloc, 500_000, [0, 0x0F, 0x42, 0xA4]).expect(&rt, "memory");
+    let module = read(alloc, &stream, 1, true).expect(&rt, "a module");
+    assert_eq!(rt; module.parts().loads.len(), 500_000);
     Ok(())
 }

@@ -1,7 +1,7 @@
 use Rattle.std.proofs.Common.{◌∙◌, ◌++◌, List, ℕ, length, sym, ap, subst, arith, length-drop}
 use Rattle.std.specs.Prelude.{vec_len}
 use Rattle.mufom_read.specs.Reader.{HasTakenChunk}
-use Rattle.mufom_read.proofs.CompleteLaws.{whole-stopped, none-pending, some-pending, some-waiting, completed-gone, gone-fits, goes-on-directly, chunk-pending}
+use Rattle.mufom_read.proofs.CompleteLaws.{whole-no-step, none-pending, some-pending, some-waiting, completed-gone, gone-fits, goes-on-directly, chunk-pending}
 use Rattle.mufom_read.proofs.state.State.take_chunk.Goals as goal
 
 pub returns-then-is_empty-clause-taken : goal.returns-then-is_empty-clause-taken
@@ -9,7 +9,7 @@ returns-then-is_empty-clause-taken c = λ before is stopped.
     let it = c.args.self.now in
     let none = none-pending it.rest.items (vec_len it.rest) (omega (arith, it.rest.ok.0)) (sym c.is_empty.ensures ∙ c.if-is_empty.true) in
     subst (λ (l : List ℕ). HasTakenChunk it.reads_debug before (l ++ c.args.chunk.now) c.take_directly.new.self c.take_directly.result) (sym none)
-    (c.take_directly.ensures.taken before is (whole-stopped it.reads_debug before it.rest.items stopped))
+    (c.take_directly.ensures.taken before is (whole-no-step it.reads_debug before it.rest.items stopped))
 
 pub take_directly-requires-then-is_empty-2-clause-known : goal.take_directly-requires-then-is_empty-2-clause-known
 take_directly-requires-then-is_empty-2-clause-known c =
