@@ -40,7 +40,7 @@ impl<'a> NameIndex<'a> {
         }
     }
 
-    /// An empty index with room for this many names.
+    /// An empty index with room for `count` names.
     pub fn with_capacity(alloc: Global, count: usize) -> Result<NameIndex<'a>, NoMemory>
         ensures { IfOk result (λ index. index ≡ []) }
     {

@@ -2,7 +2,7 @@
 use Rattle.std.specs.Prelude.{ℕ, ◌+◌, ◌^◌, ◌≤◌, length}
 use Rattle.mufom_meaning.specs.declared.located.Run.{Run}
 
--- so many units an address has
+-- how many units an address has
 pub record IsUnitCount (maus : ℕ) : Type 0 where
   pub some : 1 ≤ maus
   pub few : maus ≤ 8

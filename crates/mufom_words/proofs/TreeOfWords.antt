@@ -31,7 +31,7 @@ tree_count (Closing ∷ words) = tree_count words
 tree_count (Plus ∷ words) = 0
 tree_count (Name ∷ words) = suc (tree_count words)
 
--- what is spelled where so many groups are closed that are not opened
+-- what is spelled where a given number of groups are closed that are not opened
 record Spells (s : Spelled) (depth : ℕ) (marks : List Mark) : Type 0 where
   deep : length s.others ≡ depth
   same : marks_of_spelled s ≡ marks
