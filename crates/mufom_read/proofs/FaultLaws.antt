@@ -10,9 +10,9 @@ use Rattle.mufom_read.specs.SectionsSoFar.{first_unbased}
 use Rattle.mufom_read.specs.NamesSoFar.{public_faults, least_from}
 use Rattle.mufom_read.specs.DebugSoFar.{opened}
 use Rattle.mufom_read.specs.PrefixOfCode.{IsPrefixOf}
-use Rattle.mufom_read.proofs.PrefixLaws.{records-placed}
-use Rattle.mufom_read.proofs.SectionFaults.{unbased-first}
-use Rattle.mufom_read.proofs.PublicFaults.{external-least}
+use Rattle.mufom_read.proofs.stepping.PrefixLaws.{records-placed}
+use Rattle.mufom_read.proofs.so_far.SectionFaults.{unbased-first}
+use Rattle.mufom_read.proofs.so_far.PublicFaults.{external-least}
 
 -- the fault of the first section that is kept and lacks a base is that of the section part
 pub section-fault : (f : Prefix) (prefix : List Step) → IsPrefixOf f prefix → first_unbased f.contents.sections.starts.items f.contents.sections.list.items ≡ whole_fault section_part prefix

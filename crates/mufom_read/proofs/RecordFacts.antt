@@ -4,7 +4,7 @@ use Rattle.mufom_numbers.specs.Spelling.{SpellsNumber}
 use Rattle.mufom_records.specs.declared.record.Mode.TheVariants as mode
 use Rattle.mufom_records.specs.declared.record.Record.TheVariants as r
 use Rattle.mufom_records.specs.Layouts
-use Rattle.mufom_read.proofs.EndedRows.{begin_row, descriptor_row, offset_row, body_kind, items_kind}
+use Rattle.mufom_read.proofs.ended.Rows.{begin_row, descriptor_row, offset_row, body_kind, items_kind}
 use Rattle.mufom_read.proofs.OwnParts.{body_owned, item_owned, begin_owned}
 use Rattle.mufom_records.specs.declared.record.Mode.{Mode}
 use Rattle.mufom_records.specs.declared.record.Record.{Record}

@@ -205,7 +205,7 @@ unsupported_block = refl
 unsupported_debug_attribute : judged (with_debug (0xF1 ∷ 0xCE ∷ 0x20 ∷ 0x00 ∷ 0x06 ∷ [])) ≡ fault (104, why.UnsupportedAttribute)
 unsupported_debug_attribute = refl
 
--- so many blocks of the kind 3, each within the one before it
+-- a given number of blocks of the kind 3, each within the one before it
 abbrev begun : ℕ → List ℕ
 begun zero = []
 begun (suc k) = 0xF8 ∷ 0x03 ∷ 0x00 ∷ 0x00 ∷ begun k

@@ -16,7 +16,7 @@ use Rattle.mufom_read.specs.Reader.{HasRead, reads_debug_of}
 abbrev pub IsUnrefused : Bool → List ℕ → Type 0
 IsUnrefused reads_debug bytes = (offset : ℕ) (reason : Reason) → ¬ IsRefusedAt reads_debug bytes offset reason
 
--- The first bytes, as many as are given, are refused at this offset, or there are no more of them and the whole is.
+-- The first bytes, `limit` of them, are refused at this offset, or there are no more of them and the whole is.
 abbrev pub IsRefusedWithin : Bool → ℕ → List ℕ → ℕ → Reason → Type 0
 IsRefusedWithin reads_debug limit bytes offset reason = IsRefusedAt reads_debug (take limit bytes) offset reason
     ⊎ ((length bytes ≤ limit) × IsJudged reads_debug bytes (refusal offset reason))

@@ -2,7 +2,7 @@ use Rattle.std.proofs.Common.{sym, subst, ◌∙◌}
 use Rattle.mufom_module.specs.declared.module.Parts.{Parts}
 use Rattle.mufom_module.specs.Defects.{IsValid}
 use Rattle.mufom_module.specs.Grammar.{SpellsModule}
-use Rattle.mufom_read.proofs.BuildLaws.{whole-stated}
+use Rattle.mufom_read.proofs.ended.Built.{whole-stated}
 use Rattle.mufom_read.proofs.build.module_of.Goals as goal
 
 pub parts_of-requires : goal.parts_of-requires

@@ -1,5 +1,5 @@
 use Rattle.std.proofs.Common.{refl}
-use Rattle.mufom_read.proofs.BuildLaws.{header-whole, the-parts}
+use Rattle.mufom_read.proofs.ended.Built.{header-whole, the-parts}
 use Rattle.mufom_read.proofs.build.parts_of.Goals as goal
 
 pub whole_header-names-requires : goal.whole_header-names-requires

@@ -1,7 +1,7 @@
 use Rattle.std.proofs.Common.{◌==◌, ◌&&◌, ◌||◌, ◌-◌, [], Bool, length, arith, sym, ap, ◌∙◌}
 use Rattle.mufom_debug.specs.Marks.{kind_number}
 use Rattle.mufom_read.specs.DebugSoFar.{stacked}
-use Rattle.mufom_read.proofs.DebugSteps.{innermost, end-within}
+use Rattle.mufom_read.proofs.so_far.DebugSteps.{innermost, end-within}
 use Rattle.mufom_read.proofs.debug.ends_badly.Goals as goal
 
 pub returns-then-is_some : goal.returns-then-is_some

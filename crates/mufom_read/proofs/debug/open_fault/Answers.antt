@@ -1,6 +1,6 @@
 use Rattle.std.proofs.Common.{◌-◌, List, [], length, arith, sym, ap}
 use Rattle.mufom_read.specs.Faults as faults
-use Rattle.mufom_read.proofs.DebugSteps.{innermost}
+use Rattle.mufom_read.proofs.so_far.DebugSteps.{innermost}
 use Rattle.mufom_read.proofs.debug.open_fault.Goals as goal
 
 pub returns-in-len1-up : goal.returns-in-len1-up

@@ -1,5 +1,5 @@
-use Rattle.mufom_read.proofs.PrefixJudged.{has_one_judgment}
-use Rattle.mufom_read.proofs.SpelledJudged.{judgments_exclude_each_other}
+use Rattle.mufom_read.proofs.judged.PrefixJudged.{has_one_judgment}
+use Rattle.mufom_read.proofs.spelled.Judged.{judgments_exclude_each_other}
 use Rattle.mufom_read.proofs.laws.has_one_judgment.Goals as goal
 
 pub returns : goal.returns

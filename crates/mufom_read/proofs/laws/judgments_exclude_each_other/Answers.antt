@@ -1,4 +1,4 @@
-use Rattle.mufom_read.proofs.SpelledJudged.{judgments_exclude_each_other}
+use Rattle.mufom_read.proofs.spelled.Judged.{judgments_exclude_each_other}
 use Rattle.mufom_read.proofs.laws.judgments_exclude_each_other.Goals as goal
 
 pub returns : goal.returns

@@ -1,4 +1,4 @@
-use Rattle.mufom_read.proofs.PrefixesOne.{prefixes_are_one}
+use Rattle.mufom_read.proofs.judged.PrefixesOne.{prefixes_are_one}
 use Rattle.mufom_read.proofs.laws.prefixes_are_one.Goals as goal
 
 pub returns : goal.returns

@@ -1,4 +1,4 @@
-use Rattle.mufom_read.proofs.StayLaws.{prefixes_stay}
+use Rattle.mufom_read.proofs.judged.Stays.{prefixes_stay}
 use Rattle.mufom_read.proofs.laws.prefixes_stay.Goals as goal
 
 pub returns : goal.returns

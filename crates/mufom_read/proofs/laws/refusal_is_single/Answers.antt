@@ -1,4 +1,4 @@
-use Rattle.mufom_read.proofs.PrefixesOne.{refusal_is_single}
+use Rattle.mufom_read.proofs.judged.PrefixesOne.{refusal_is_single}
 use Rattle.mufom_read.proofs.laws.refusal_is_single.Goals as goal
 
 pub returns : goal.returns

@@ -1,4 +1,4 @@
-use Rattle.mufom_read.proofs.StayLaws.{refusal_stays}
+use Rattle.mufom_read.proofs.judged.Stays.{refusal_stays}
 use Rattle.mufom_read.proofs.laws.refusal_stays.Goals as goal
 
 pub returns : goal.returns

@@ -3,7 +3,7 @@ use Rattle.mufom_module.specs.SpelledRecords.{positioned, tree_in}
 use Rattle.mufom_module.specs.RecordParts.{data_part, stands_in}
 use Rattle.mufom_read.specs.Kept.{record_of_seen, indexes_by}
 use Rattle.mufom_read.specs.LoadsSoFar.{loads_at_once}
-use Rattle.mufom_read.proofs.LoadLaws.{pushed, pc-valued}
+use Rattle.mufom_read.proofs.so_far.LoadLaws.{pushed, pc-valued}
 use Rattle.mufom_read.proofs.loads.add_loads.Goals as goal
 
 pub set_pc-requires : goal.set_pc-requires

@@ -1,6 +1,6 @@
 use Rattle.std.proofs.Common.{sym, ◌∙◌}
 use Rattle.mufom_read.specs.Kept.{record_of_seen}
-use Rattle.mufom_read.proofs.LoadLaws.{field-made}
+use Rattle.mufom_read.proofs.so_far.LoadLaws.{field-made}
 use Rattle.mufom_read.proofs.loads.item_of.Goals as goal
 
 pub returns-in-Some : goal.returns-in-Some

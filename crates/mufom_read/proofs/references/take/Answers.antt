@@ -1,7 +1,7 @@
 use Rattle.std.proofs.Common.{refl}
 use Rattle.mufom_names.specs.declared.name.Weak.{Weak}
 use Rattle.mufom_read.specs.Kept.{record_of_seen}
-use Rattle.mufom_read.proofs.PublicLaws.{on_ok, reference-within, weak-named, reference-note-named, reference-taken, weak-taken, reference-note-taken, no-reference-row, other-reference-taken}
+use Rattle.mufom_read.proofs.so_far.PublicLaws.{on_ok, reference-within, weak-named, reference-note-named, reference-taken, weak-taken, reference-note-taken, no-reference-row, other-reference-taken}
 use Rattle.mufom_read.proofs.references.take.Goals as goal
 
 pub returns-in_ok-name-in-ReferenceName : goal.returns-in_ok-name-in-ReferenceName

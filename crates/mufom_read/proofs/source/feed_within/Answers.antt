@@ -3,7 +3,7 @@ use Rattle.std.proofs.lemmas.List.{take_all, take-take, length-take}
 use Rattle.std.proofs.lemmas.Result.{err_from_is_err_and}
 use Rattle.mufom_read.specs.declared.source.SourceStop.{SourceStop}
 use Rattle.mufom_read.specs.Source.{HasFed}
-use Rattle.mufom_read.proofs.SourceLaws.{fed-whole, fed-stopped, fed-limit}
+use Rattle.mufom_read.proofs.feeding.Source.{fed-whole, fed-stopped, fed-limit}
 use Rattle.mufom_read.proofs.source.feed_within.Goals as goal
 
 pub returns-in_err-feed-clause-fed : goal.returns-in_err-feed-clause-fed

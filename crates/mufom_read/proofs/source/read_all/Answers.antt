@@ -3,7 +3,7 @@ use Rattle.std.proofs.lemmas.Result.{err_from_is_err_and}
 use Rattle.mufom_read.specs.declared.source.SourceStop.{SourceStop}
 use Rattle.mufom_read.specs.Reader.{reads_debug_of}
 use Rattle.mufom_read.specs.Source.{ReadsAtMost, HasReadAll}
-use Rattle.mufom_read.proofs.SourceLaws.{come-none, come-on, come-stopped, come-end, come-further}
+use Rattle.mufom_read.proofs.feeding.Source.{come-none, come-on, come-stopped, come-end, come-further}
 use Rattle.mufom_read.proofs.source.read_all.Goals as goal
 
 pub returns-in_err-count-clause-read : goal.returns-in_err-count-clause-read

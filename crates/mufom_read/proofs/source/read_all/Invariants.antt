@@ -1,6 +1,6 @@
 use Rattle.std.proofs.Common.{◌-◌}
 use Rattle.mufom_read.specs.Reader.{reads_debug_of}
-use Rattle.mufom_read.proofs.SourceLaws.{HasCome}
+use Rattle.mufom_read.proofs.feeding.Source.{HasCome}
 use Rattle.mufom_read.proofs.source.read_all.Given as goal
 
 abbrev pub invariant-loop-count : goal.invariant-loop-count

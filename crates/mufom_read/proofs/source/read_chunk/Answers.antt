@@ -2,7 +2,7 @@ use Rattle.std.proofs.Common.{◌∙◌, sym, ap, subst, arith, ℕ, Result, Err
 use Rattle.std.proofs.lemmas.Result.{err_from_is_err_and}
 use Rattle.mufom_read.specs.declared.source.SourceStop.{SourceStop}
 use Rattle.mufom_read.specs.Source.{HasReadChunk}
-use Rattle.mufom_read.proofs.SourceLaws.{chunk-stopped, chunk-read, read-at-most, failed-at-most}
+use Rattle.mufom_read.proofs.feeding.Source.{chunk-stopped, chunk-read, read-at-most, failed-at-most}
 use Rattle.mufom_read.proofs.source.read_chunk.Goals as goal
 
 pub returns-in_err-feed_within-in-Ok-clause-read : goal.returns-in_err-feed_within-in-Ok-clause-read

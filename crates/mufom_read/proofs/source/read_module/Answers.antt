@@ -2,7 +2,7 @@ use Rattle.std.proofs.Common.{◌∙◌, ap, subst, refl, Bool, Err}
 use Rattle.std.proofs.lemmas.Result.{err_from_is_err_and}
 use Rattle.mufom_read.specs.declared.source.SourceStop.TheVariants as stop
 use Rattle.mufom_read.specs.Source.{ReadsModule, ReadsNoFurther}
-use Rattle.mufom_read.proofs.SourceLaws.{stopped-reads, stopped-refused, stopped-past, asked-stopped, asked-module, asked-ok, asked-refused, asked-past, same-stop, stop-no-fault, none-further}
+use Rattle.mufom_read.proofs.feeding.Source.{stopped-reads, stopped-refused, stopped-past, asked-stopped, asked-module, asked-ok, asked-refused, asked-past, same-stop, stop-no-fault, none-further}
 use Rattle.mufom_read.proofs.source.read_module.Goals as goal
 
 pub returns-in_default-new-clause-limit : goal.returns-in_default-new-clause-limit

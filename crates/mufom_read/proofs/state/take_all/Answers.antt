@@ -1,8 +1,8 @@
 use Rattle.std.proofs.Common.{◌≡◌, ◌++◌, ◌∙◌, sym, ap, arith, length, length-drop, List}
 use Rattle.mufom_read.specs.Prefixes.{Step}
 use Rattle.mufom_read.specs.PrefixOfCode.{IsPrefixOf}
-use Rattle.mufom_read.proofs.PrefixLaws.{size-append}
-use Rattle.mufom_read.proofs.TakeLaws.{gone-none, gone-more, all-ended, all-wanting, all-refused}
+use Rattle.mufom_read.proofs.stepping.PrefixLaws.{size-append}
+use Rattle.mufom_read.proofs.stepping.Take.{gone-none, gone-more, all-ended, all-wanting, all-refused}
 use Rattle.mufom_read.proofs.state.take_all.Goals as goal
 
 pub loop-alloc-init : goal.loop-alloc-init

@@ -1,4 +1,4 @@
-use Rattle.mufom_read.proofs.WeighFiles.{files_weigh}
+use Rattle.mufom_read.proofs.weighing.Files.{files_weigh}
 use Rattle.mufom_read.proofs.weight_laws.files_weigh_tenfold.Goals as goal
 
 pub returns : goal.returns

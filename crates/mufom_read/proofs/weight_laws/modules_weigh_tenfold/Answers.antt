@@ -1,4 +1,4 @@
-use Rattle.mufom_read.proofs.WeighFiles.{modules_weigh}
+use Rattle.mufom_read.proofs.weighing.Files.{modules_weigh}
 use Rattle.mufom_read.proofs.weight_laws.modules_weigh_tenfold.Goals as goal
 
 pub returns : goal.returns

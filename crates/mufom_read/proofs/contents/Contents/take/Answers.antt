@@ -5,8 +5,8 @@ use Rattle.mufom_read.specs.PartsOfCode.{as_part}
 use Rattle.mufom_module.specs.Gathered.{references_of}
 use Rattle.mufom_read.specs.Kept.{record_of_seen, indexes_by}
 use Rattle.mufom_read.specs.NamesSoFar.{records_in}
-use Rattle.mufom_read.proofs.PublicLaws.{on_ok, on_ok_both, records-more}
-use Rattle.mufom_read.proofs.ContentLaws.{names-same, layout-same, sections-same, publics-same, references-same, debug-same, loads-same, start-same, names-taken, layout-taken, debug-taken, loads-taken, start-taken, sections-before, publics-before, references-before}
+use Rattle.mufom_read.proofs.so_far.PublicLaws.{on_ok, on_ok_both, records-more}
+use Rattle.mufom_read.proofs.so_far.Contents.{names-same, layout-same, sections-same, publics-same, references-same, debug-same, loads-same, start-same, names-taken, layout-taken, debug-taken, loads-taken, start-taken, sections-before, publics-before, references-before}
 use Rattle.mufom_read.proofs.contents.Contents.take.Goals as goal
 
 pub returns-in-None : goal.returns-in-None

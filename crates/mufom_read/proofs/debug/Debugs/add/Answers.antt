@@ -2,7 +2,7 @@ use Rattle.std.proofs.Common.{◌++◌, List, map, ap, ◌∙◌}
 use Rattle.mufom_debug.specs.declared.item.DebugItem.{DebugItem}
 use Rattle.mufom_debug.specs.Marks.{joined, marks_of}
 use Rattle.mufom_read.specs.DebugSoFar.{marks_to_block}
-use Rattle.mufom_read.proofs.DebugSteps.{then_ok, item-added}
+use Rattle.mufom_read.proofs.so_far.DebugSteps.{then_ok, item-added}
 use Rattle.mufom_read.proofs.debug.Debugs.add.Goals as goal
 
 pub returns-clause-marks : goal.returns-clause-marks

@@ -3,7 +3,7 @@ use Rattle.mufom_debug.specs.declared.item.DebugItem.{DebugItem}
 use Rattle.mufom_debug.specs.Marks.{joined, marks_of}
 use Rattle.mufom_read.specs.declared.debug.OpenBlock.{OpenBlock}
 use Rattle.mufom_read.specs.DebugSoFar.{stacked, marks_to_block}
-use Rattle.mufom_read.proofs.DebugSteps.{then_ok, block-begun, stacked-one}
+use Rattle.mufom_read.proofs.so_far.DebugSteps.{then_ok, block-begun, stacked-one}
 use Rattle.mufom_read.proofs.debug.Debugs.begin.Goals as goal
 
 pub returns-clause-marks : goal.returns-clause-marks

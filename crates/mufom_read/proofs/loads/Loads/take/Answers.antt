@@ -2,7 +2,7 @@ use Rattle.std.proofs.Common.{sym, ap, ◌∙◌, option_map}
 use Rattle.mufom_module.specs.SpelledRecords.{positioned}
 use Rattle.mufom_read.specs.Kept.{record_of_seen, indexes_by}
 use Rattle.mufom_read.specs.LoadsSoFar.{with_made}
-use Rattle.mufom_read.proofs.LoadLaws.{item-own, stepped}
+use Rattle.mufom_read.proofs.so_far.LoadLaws.{item-own, stepped}
 use Rattle.mufom_read.proofs.loads.Loads.take.Goals as goal
 
 pub item_of-requires-clause-value : goal.item_of-requires-clause-value

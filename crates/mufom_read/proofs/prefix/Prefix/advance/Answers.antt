@@ -3,8 +3,8 @@ use Rattle.mufom_read.specs.declared.prefix.Next.{Next}
 use Rattle.mufom_read.specs.PrefixOfCode.{IsStepTaken}
 use Rattle.mufom_read.specs.declared.prefix.Next.TheVariants as next
 use Rattle.mufom_read.specs.Prefixes.{offset_records_of}
-use Rattle.mufom_read.proofs.ContentLaws.{contents-marked}
-use Rattle.mufom_read.proofs.StepLaws.{stepped-refused}
+use Rattle.mufom_read.proofs.so_far.Contents.{contents-marked}
+use Rattle.mufom_read.proofs.stepping.Step.{stepped-refused}
 use Rattle.mufom_read.proofs.prefix.Prefix.advance.Goals as goal
 
 pub returns-in-Refused : goal.returns-in-Refused

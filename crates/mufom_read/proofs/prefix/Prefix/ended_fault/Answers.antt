@@ -3,7 +3,7 @@ use Rattle.mufom_read.specs.Prefixes.{size_of, part_among, parts_in_order, part_
 use Rattle.mufom_read.specs.Faults.{whole_fault, ended_fault}
 use Rattle.mufom_read.specs.PartsOfCode.{as_part, as_extent}
 use Rattle.mufom_read.specs.PrefixOfCode.{is_inside}
-use Rattle.mufom_read.proofs.LocationMoves.{inside-whole}
+use Rattle.mufom_read.proofs.stepping.LocationMoves.{inside-whole}
 use Rattle.mufom_read.proofs.prefix.Prefix.ended_fault.Goals as goal
 
 pub returns-then-is_inside : goal.returns-then-is_inside

@@ -1,6 +1,6 @@
 use Rattle.std.proofs.Common.{◌∙◌, sym, ap, option_map}
 use Rattle.mufom_read.specs.Kept.{as_fault}
-use Rattle.mufom_read.proofs.StepLaws.{stepped-end, stepped-whole, stepped-fault}
+use Rattle.mufom_read.proofs.stepping.Step.{stepped-end, stepped-whole, stepped-fault}
 use Rattle.mufom_read.proofs.prefix.Prefix.judge_part.Goals as goal
 
 pub returns-then-is_ended : goal.returns-then-is_ended

@@ -1,7 +1,7 @@
 use Rattle.std.proofs.Common.{◌∙◌, ap, sym, cond}
 use Rattle.mufom_records.specs.declared.record.Mode.TheVariants as modes
 use Rattle.mufom_read.specs.PrefixOfCode.{as_location, mode_at}
-use Rattle.mufom_read.proofs.PrefixLaws.{items-prefix}
+use Rattle.mufom_read.proofs.stepping.PrefixLaws.{items-prefix}
 use Rattle.mufom_read.proofs.prefix.Prefix.mode.Goals as goal
 
 pub returns-in-Part : goal.returns-in-Part

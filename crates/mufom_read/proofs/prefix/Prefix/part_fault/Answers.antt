@@ -1,7 +1,7 @@
 use Rattle.std.proofs.Common.{◌∙◌, sym, refl, arith}
 use Rattle.mufom_read.specs.PartsOfCode.{as_extent}
 use Rattle.mufom_read.specs.Kept.{record_of_seen}
-use Rattle.mufom_read.proofs.AddLaws.{part-clean}
+use Rattle.mufom_read.proofs.stepping.Add.{part-clean}
 use Rattle.mufom_read.proofs.prefix.Prefix.part_fault.Goals as goal
 
 pub returns : goal.returns

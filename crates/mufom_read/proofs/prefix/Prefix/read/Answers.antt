@@ -11,7 +11,7 @@ use Rattle.mufom_read.specs.PrefixOfCode.{as_location, mode_at}
 use Rattle.mufom_read.proofs.WholeLaws.{if_ok}
 use Rattle.mufom_read.proofs.RecordFacts.{got-some, got-own, got-placed}
 use Rattle.mufom_read.proofs.NearFaults.{bad-within}
-use Rattle.mufom_read.proofs.JudgeLaws.{taken-judged, taken_length}
+use Rattle.mufom_read.proofs.stepping.Judge.{taken-judged, taken_length}
 use Rattle.mufom_read.proofs.prefix.Prefix.read.Goals as goal
 
 pub take-requires-clause-own : goal.take-requires-clause-own

@@ -1,7 +1,7 @@
 use Rattle.std.proofs.Common.{◌<◌, sym, subst}
 use Rattle.mufom_read.proofs.WholeLaws.{if_ok}
-use Rattle.mufom_read.proofs.StepLaws.{part-within, read-gone}
-use Rattle.mufom_read.proofs.RawLaws.{skip-gone}
+use Rattle.mufom_read.proofs.stepping.Step.{part-within, read-gone}
+use Rattle.mufom_read.proofs.stepping.Raw.{skip-gone}
 use Rattle.mufom_read.proofs.prefix.Prefix.step.Goals as goal
 
 pub skip-requires-clause-within : goal.skip-requires-clause-within

@@ -4,9 +4,9 @@ use Rattle.mufom_read.specs.Prefixes.{read, size_of, offset_records_of}
 use Rattle.mufom_read.specs.Faults.{record_fault, OpenBlock, ends_badly}
 use Rattle.mufom_read.specs.Kept.{is_new, record_of_seen, as_fault}
 use Rattle.mufom_read.specs.PrefixOfCode.{IsPrefixOf, as_location}
-use Rattle.mufom_read.proofs.AddLaws.{addable, follows-at, room}
-use Rattle.mufom_read.proofs.PrefixLaws.{next-of, prefix-add}
-use Rattle.mufom_read.proofs.PartBytes.{record-bytes}
+use Rattle.mufom_read.proofs.stepping.Add.{addable, follows-at, room}
+use Rattle.mufom_read.proofs.stepping.PrefixLaws.{next-of, prefix-add}
+use Rattle.mufom_read.proofs.stepping.PartBytes.{record-bytes}
 use Rattle.mufom_read.proofs.prefix.Prefix.take.Goals as goal
 
 pub add-requires-clause-room : goal.add-requires-clause-room

@@ -1,7 +1,7 @@
 use Rattle.std.proofs.Common.{◌+◌, ◌<◌, ◌≤◌, length, drop, get_or, sym, ap, ◌∙◌, arith, option_map}
 use Rattle.mufom_read.specs.Kept.{as_fault}
 use Rattle.mufom_read.specs.NamesSoFar.{public_faults, earlier, least_from}
-use Rattle.mufom_read.proofs.PublicFaults.{faults-step, faults-end}
+use Rattle.mufom_read.proofs.so_far.PublicFaults.{faults-step, faults-end}
 use Rattle.mufom_read.proofs.publics.Publics.fault.Goals as goal
 
 pub loop-position-preserved : goal.loop-position-preserved

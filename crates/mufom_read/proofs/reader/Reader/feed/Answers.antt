@@ -3,8 +3,8 @@ use Rattle.mufom_numbers.proofs.SpellingLaws.{AreBytes-append}
 use Rattle.mufom_read.specs.declared.refusal.ReadStop.{ReadStop}
 use Rattle.mufom_read.specs.declared.state.State.{State}
 use Rattle.mufom_read.specs.Reader.{IsReading, Knows, answer_of}
-use Rattle.mufom_read.proofs.ChunkLaws.{fits-bytes}
-use Rattle.mufom_read.proofs.FeedLaws.{feed-refused, stop-stays}
+use Rattle.mufom_read.proofs.feeding.Chunks.{fits-bytes}
+use Rattle.mufom_read.proofs.feeding.Feed.{feed-refused, stop-stays}
 use Rattle.mufom_read.proofs.reader.Reader.feed.Goals as goal
 
 pub invariant_of-self : goal.invariant_of-self

@@ -1,5 +1,5 @@
 use Rattle.std.proofs.Common.{refl, [], None}
-use Rattle.mufom_read.proofs.FeedLaws.{none-read}
+use Rattle.mufom_read.proofs.feeding.Feed.{none-read}
 use Rattle.mufom_read.proofs.reader.Reader.new.Goals as goal
 
 pub invariant_of-result : goal.invariant_of-result

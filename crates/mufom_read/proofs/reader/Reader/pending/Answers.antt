@@ -3,8 +3,8 @@ use Rattle.mufom_read.specs.declared.refusal.ReadStop.{ReadStop}
 use Rattle.mufom_read.specs.declared.state.State.{State}
 use Rattle.mufom_read.specs.Judging.{IsPending}
 use Rattle.mufom_read.specs.Reader.{Knows}
-use Rattle.mufom_read.proofs.ChunkLaws.{pending-is}
-use Rattle.mufom_read.proofs.ShortLaws.{few-pending}
+use Rattle.mufom_read.proofs.feeding.Chunks.{pending-is}
+use Rattle.mufom_read.proofs.feeding.Short.{few-pending}
 use Rattle.mufom_read.proofs.reader.Reader.pending.Goals as goal
 
 pub returns-clause-exact : goal.returns-clause-exact

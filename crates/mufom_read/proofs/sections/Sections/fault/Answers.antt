@@ -1,5 +1,5 @@
 use Rattle.std.proofs.Common.{◌<◌, ◌≤◌, length, get_or, sym, ap, ◌∙◌, arith}
-use Rattle.mufom_read.proofs.SectionFaults.{unbased-here, unbased-later, unbased-end}
+use Rattle.mufom_read.proofs.so_far.SectionFaults.{unbased-here, unbased-later, unbased-end}
 use Rattle.mufom_read.proofs.sections.Sections.fault.Goals as goal
 
 pub returns-then-is_unbased : goal.returns-then-is_unbased

@@ -1,8 +1,8 @@
 use Rattle.std.proofs.Common.{None, refl}
 use Rattle.mufom_records.specs.declared.record.Record.TheVariants as r
 use Rattle.mufom_read.specs.Kept.{record_of_seen}
-use Rattle.mufom_read.proofs.PublicLaws.{on_ok_both}
-use Rattle.mufom_read.proofs.SectionLaws.{section-within, section-named, type-taken, size-taken, align-taken, base-taken, no-section-row, others-taken}
+use Rattle.mufom_read.proofs.so_far.PublicLaws.{on_ok_both}
+use Rattle.mufom_read.proofs.so_far.SectionLaws.{section-within, section-named, type-taken, size-taken, align-taken, base-taken, no-section-row, others-taken}
 use Rattle.mufom_read.proofs.sections.Sections.take.Goals as goal
 
 pub returns-in_ok-copy_text-in-SectionType : goal.returns-in_ok-copy_text-in-SectionType

@@ -1,6 +1,6 @@
 use Rattle.std.proofs.Common.{◌+◌, ◌∙◌, length, ap, arith, length-drop}
 use Rattle.mufom_read.specs.declared.prefix.Next.TheVariants as next
-use Rattle.mufom_read.proofs.CompleteLaws.{added-here, advanced-there, waiting-still, whole-waiting, took-reaches, took-within, took-completed, refused-completed}
+use Rattle.mufom_read.proofs.feeding.Complete.{added-here, advanced-there, waiting-still, whole-waiting, took-reaches, took-within, took-completed, refused-completed}
 use Rattle.mufom_read.proofs.state.State.complete.Goals as goal
 
 pub overflow_sub-result : goal.overflow_sub-result

@@ -2,7 +2,7 @@ use Rattle.std.proofs.Common.{◌≡◌, ◌-◌, ◌≤◌, length, List}
 use Rattle.mufom_read.specs.Prefixes.{Step}
 use Rattle.mufom_read.specs.PrefixOfCode.{IsPrefixOf}
 use Rattle.mufom_read.specs.Reader.{IsIncomplete}
-use Rattle.mufom_read.proofs.CompleteLaws.{HasWaited}
+use Rattle.mufom_read.proofs.feeding.Complete.{HasWaited}
 use Rattle.mufom_read.proofs.state.State.complete.Given as goal
 
 abbrev pub invariant-loop-used : goal.invariant-loop-used

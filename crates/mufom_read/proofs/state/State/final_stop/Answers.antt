@@ -2,7 +2,7 @@ use Rattle.std.proofs.Common.{◌∙◌, refl, sym, subst, inr, Bool, false, Som
 use Rattle.mufom_read.specs.declared.refusal.ReadStop.{ReadStop}
 use Rattle.mufom_read.specs.Prefixes.{is_ended}
 use Rattle.mufom_read.specs.Reader.{HasEndedChunk}
-use Rattle.mufom_read.proofs.TakeLaws.{never}
+use Rattle.mufom_read.proofs.stepping.Take.{never}
 use Rattle.mufom_read.proofs.state.State.final_stop.Goals as goal
 
 pub returns-then-is_ended : goal.returns-then-is_ended

@@ -1,7 +1,7 @@
 use Rattle.std.proofs.Common.{◌-◌, ◌++◌, ◌∙◌, List, ℕ, length, take, nat_lt, sym, ap, subst}
 use Rattle.mufom_module.specs.Grammar.{file_limit}
 use Rattle.mufom_numbers.specs.Spelling.{AreBytes}
-use Rattle.mufom_read.proofs.ChunkLaws.{known-taken, known-stopped, rest-bytes}
+use Rattle.mufom_read.proofs.feeding.Chunks.{known-taken, known-stopped, rest-bytes}
 use Rattle.mufom_read.proofs.state.State.read.Goals as goal
 
 pub take_chunk-requires-clause-bytes : goal.take_chunk-requires-clause-bytes

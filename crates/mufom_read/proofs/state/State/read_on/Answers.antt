@@ -1,5 +1,5 @@
 use Rattle.std.proofs.Common.{refl}
-use Rattle.mufom_read.proofs.FeedLaws.{knows-moved}
+use Rattle.mufom_read.proofs.feeding.Feed.{knows-moved}
 use Rattle.mufom_read.proofs.state.State.read_on.Goals as goal
 
 pub returns-clause-known : goal.returns-clause-known

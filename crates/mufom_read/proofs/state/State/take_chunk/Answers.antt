@@ -1,7 +1,7 @@
 use Rattle.std.proofs.Common.{◌∙◌, ◌++◌, List, ℕ, length, sym, ap, subst, arith, length-drop}
 use Rattle.std.specs.Prelude.{vec_len}
 use Rattle.mufom_read.specs.Reader.{HasTakenChunk}
-use Rattle.mufom_read.proofs.CompleteLaws.{whole-no-step, none-pending, some-pending, some-waiting, completed-gone, gone-fits, goes-on-directly, chunk-pending}
+use Rattle.mufom_read.proofs.feeding.Complete.{whole-no-step, none-pending, some-pending, some-waiting, completed-gone, gone-fits, goes-on-directly, chunk-pending}
 use Rattle.mufom_read.proofs.state.State.take_chunk.Goals as goal
 
 pub returns-then-is_empty-clause-taken : goal.returns-then-is_empty-clause-taken

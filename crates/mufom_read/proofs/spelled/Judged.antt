@@ -1,0 +1,45 @@
+-- A module's file is not refused and not cut off, and is the file of one module.
+use Rattle.std.proofs.Common.{◌≡◌, ℕ, ◌<◌, ◌≤◌, Bool, List, length, sym, subst, inl, inr, arith}
+use Rattle.mufom_numbers.specs.declared.reason.Reason.{Reason}
+use Rattle.mufom_numbers.specs.Spelling.{AreBytes}
+use Rattle.mufom_module.specs.declared.module.Parts.{Parts}
+use Rattle.mufom_module.specs.Grammar.{file_limit}
+use Rattle.mufom_module.proofs.OneModule.{one_module}
+use Rattle.mufom_read.specs.Judging.{IsSoundPrefix, EndsAt, IsRefusedAt, IsModule}
+use Rattle.mufom_read.specs.Laws.{JudgmentsExcludeEachOther}
+use Rattle.mufom_read.proofs.judged.PrefixesOne.{one_end, fault_not_ended, ended_not_waiting, not_cut}
+use Rattle.mufom_read.proofs.spelled.Prefix.{within, module_is_ended_prefix}
+
+-- a module's file is no longer than a file may be
+short : (reads_debug : Bool) (bytes : List ℕ) (m : Parts) → IsModule reads_debug bytes m → length bytes ≤ file_limit
+short reads_debug bytes m (f, cut, names, states, valid) = cut.limit
+
+-- the module ends where its file does
+ends_there : (reads_debug : Bool) (bytes : List ℕ) (m : Parts) → AreBytes bytes → IsModule reads_debug bytes m → EndsAt reads_debug bytes (length bytes)
+ends_there reads_debug bytes m fits is =
+    let its = module_is_ended_prefix reads_debug bytes m fits is in
+    record {
+      prefix = its.0;
+      sound = subst (λ (l : List ℕ). IsSoundPrefix reads_debug its.0 l) (sym (within bytes (short reads_debug bytes m is))) its.1;
+      ended = its.2;
+      here = its.3;
+    }
+
+not_refused : (reads_debug : Bool) (bytes : List ℕ) (m : Parts) (offset : ℕ) (reason : Reason) → AreBytes bytes → IsModule reads_debug bytes m → IsRefusedAt reads_debug bytes offset reason → ⊥
+not_refused reads_debug bytes m offset reason fits is (inl fault) = fault_not_ended reads_debug bytes offset (length bytes) reason fault (ends_there reads_debug bytes m fits is)
+not_refused reads_debug bytes m offset reason fits is (inr (inl after)) =
+    let same : offset ≡ length bytes = one_end reads_debug bytes offset (length bytes) after.1 (ends_there reads_debug bytes m fits is) in
+    let before : offset < length bytes = after.2 in
+    absurd (omega arith)
+not_refused reads_debug bytes m offset reason fits is (inr (inr long)) =
+    let over : file_limit < length bytes = long.2 in
+    let under : length bytes ≤ file_limit = short reads_debug bytes m is in
+    absurd (omega arith)
+
+pub judgments_exclude_each_other : JudgmentsExcludeEachOther
+judgments_exclude_each_other reads_debug bytes fits = record {
+  not_module = λ m offset reason is refused. not_refused reads_debug bytes m offset reason fits is refused;
+  not_cut = λ offset reason cut refused. not_cut reads_debug bytes offset reason cut refused;
+  whole = λ m is cut. ended_not_waiting reads_debug bytes cut.1 (length bytes) (ends_there reads_debug bytes m fits is) cut.2;
+  one_module = λ m n one other. one_module m n bytes reads_debug one other;
+}
