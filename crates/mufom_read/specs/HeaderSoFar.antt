@@ -17,7 +17,7 @@ use Rattle.mufom_read.specs.declared.header.Header.{Header}
 abbrev pub names_at : SpelledRecord → Span → Span → Names
 names_at p processor name = record { processor = text_in p processor; name = text_in p name }
 
--- which MB gives
+-- those that MB gives
 abbrev pub names_by : SpelledRecord → Record → Option Names
 names_by p (r.ModuleBegin processor name) = Some (names_at p processor name)
 names_by p _ = None
@@ -27,11 +27,11 @@ abbrev pub order_of : Option ℕ → Order
 order_of None = Most
 order_of (Some letter) = if LETTER_L == letter then Least else Most
 
--- the units of an address, of which none has more than 8, and the order of bytes
+-- The units of an address and the order of bytes. No address has more than 8 units.
 abbrev pub layout_from : ℕ → Option ℕ → Layout
 layout_from maus letter = record { maus = min maus 8; order = order_of letter }
 
--- which AD gives
+-- those that AD gives
 abbrev pub layout_by : Record → Option Layout
 layout_by (r.Descriptor bits maus letter) = Some (layout_from maus letter)
 layout_by _ = None

@@ -23,7 +23,7 @@ use mufom_names::Reference;
 use mufom_numbers::NoMemory;
 use std::alloc::Global;
 
-/// What the records of each part state.
+/// What the records of each part state of the module.
 #[derive(Debug, Drop)]
 pub(crate) struct Contents {
     pub header: Header,
@@ -32,11 +32,12 @@ pub(crate) struct Contents {
     pub references: Vec<Reference>,
     pub debug: Debugs,
     pub loads: Loads,
+    /// The start address, with positions in place of the indexes of the file.
     pub start: Option<Postfix>,
 }
 
 impl Contents {
-    /// What no records state. Takes no memory.
+    /// The contents of no records. Takes no memory.
     pub(crate) fn new(alloc: Global) -> Contents
         ensures { AreContentsOf result [] }
     {
@@ -51,7 +52,7 @@ impl Contents {
         }
     }
 
-    /// Takes what a record, with its expression, states in its part, by what those before it declare.
+    /// Takes what a record states, by its part, with its expression and what those before it declare. The other parts stay.
     pub(crate) fn take(
         &mut self,
         alloc: Global,
