@@ -12,10 +12,10 @@ use mufom_numbers::{Bytes, List, NoMemory};
 use mufom_sections::{Purpose, Section};
 use std::alloc::Global;
 
-const PLUS: Token = Token::Fun(Function::Plus);
+pub(crate) const PLUS: Token = Token::Fun(Function::Plus);
 
 // The expression of these tokens.
-fn expression(alloc: Global, tokens: &[Token]) -> Result<Postfix, NoMemory> {
+pub(crate) fn expression(alloc: Global, tokens: &[Token]) -> Result<Postfix, NoMemory> {
     let mut builder = Builder::new(alloc);
     for token in tokens {
         if builder.push(*token).is_err() {
@@ -41,7 +41,7 @@ fn sum(alloc: Global, letter: Letter, place: u32, number: u64) -> Result<Postfix
 }
 
 // Parts with nothing in them.
-fn empty(alloc: Global) -> Result<Parts, NoMemory> {
+pub(crate) fn empty(alloc: Global) -> Result<Parts, NoMemory> {
     Ok(Parts {
         processor: Bytes::from_slice(alloc, b"68000")?,
         name: Bytes::new(alloc),
@@ -60,7 +60,7 @@ fn empty(alloc: Global) -> Result<Parts, NoMemory> {
     })
 }
 
-fn section(alloc: Global, name: &[u8], size: u64) -> Result<Section, NoMemory> {
+pub(crate) fn section(alloc: Global, name: &[u8], size: u64) -> Result<Section, NoMemory> {
     Ok(Section {
         name: Bytes::from_slice(alloc, name)?,
         absolute: false,
@@ -71,7 +71,7 @@ fn section(alloc: Global, name: &[u8], size: u64) -> Result<Section, NoMemory> {
     })
 }
 
-fn public(alloc: Global, name: &[u8], value: Postfix) -> Result<Public, NoMemory> {
+pub(crate) fn public(alloc: Global, name: &[u8], value: Postfix) -> Result<Public, NoMemory> {
     Ok(Public {
         name: Bytes::from_slice(alloc, name)?,
         value,
@@ -79,7 +79,11 @@ fn public(alloc: Global, name: &[u8], value: Postfix) -> Result<Public, NoMemory
     })
 }
 
-fn reference(alloc: Global, name: &[u8], weak: Option<Weak>) -> Result<Reference, NoMemory> {
+pub(crate) fn reference(
+    alloc: Global,
+    name: &[u8],
+    weak: Option<Weak>,
+) -> Result<Reference, NoMemory> {
     Ok(Reference {
         name: Bytes::from_slice(alloc, name)?,
         weak,
@@ -87,7 +91,7 @@ fn reference(alloc: Global, name: &[u8], weak: Option<Weak>) -> Result<Reference
     })
 }
 
-fn note(attribute: u64, number: u64) -> Note {
+pub(crate) fn note(attribute: u64, number: u64) -> Note {
     let mut numbers: ArrayVec<u64, 4> = ArrayVec::new();
     numbers.push(number);
     Note {
@@ -98,11 +102,11 @@ fn note(attribute: u64, number: u64) -> Note {
 }
 
 // A load of a field of this size.
-fn field(kind: FieldKind, size: u8, value: Postfix) -> Load {
+pub(crate) fn field(kind: FieldKind, size: u8, value: Postfix) -> Load {
     Load::One(Item::Field { kind, value, size })
 }
 
-fn module(parts: Parts) -> Result<Module, NoMemory> {
+pub(crate) fn module(parts: Parts) -> Result<Module, NoMemory> {
     match assemble(parts) {
         Ok(module) => Ok(module),
         Err(_) => Err(NoMemory),
@@ -145,7 +149,7 @@ fn halves(alloc: Global) -> Result<Vec<Module>, NoMemory> {
 }
 
 // The link of the list, where the list may be linked.
-fn try_link(alloc: Global, list: &[Module], name: &[u8]) -> Result<Module, LinkRefusal> {
+pub(crate) fn try_link(alloc: Global, list: &[Module], name: &[u8]) -> Result<Module, LinkRefusal> {
     if !may_be_linked(list, name) {
         return Err(LinkRefusal::NoMemory);
     }
@@ -153,7 +157,7 @@ fn try_link(alloc: Global, list: &[Module], name: &[u8]) -> Result<Module, LinkR
 }
 
 // Whether the expression has these tokens.
-fn is_tokens(value: &Postfix, tokens: &[Token]) -> bool {
+pub(crate) fn is_tokens(value: &Postfix, tokens: &[Token]) -> bool {
     value.tokens() == tokens
 }
 
@@ -166,7 +170,7 @@ fn has_value(publics: &[Public], position: usize, tokens: &[Token]) -> bool {
 }
 
 // Whether the load at this position is a field of this expression.
-fn is_field(loads: &[Load], position: usize, tokens: &[Token]) -> bool {
+pub(crate) fn is_field(loads: &[Load], position: usize, tokens: &[Token]) -> bool {
     match loads.get(position) {
         Some(Load::One(Item::Field { value, .. })) => is_tokens(value, tokens),
         _ => false,
@@ -174,7 +178,7 @@ fn is_field(loads: &[Load], position: usize, tokens: &[Token]) -> bool {
 }
 
 // Whether the load at this position sets this section.
-fn sets_section(loads: &[Load], position: usize, wanted: u32) -> bool {
+pub(crate) fn sets_section(loads: &[Load], position: usize, wanted: u32) -> bool {
     match loads.get(position) {
         Some(Load::SetSection(section)) => *section == wanted,
         _ => false,
@@ -182,7 +186,7 @@ fn sets_section(loads: &[Load], position: usize, wanted: u32) -> bool {
 }
 
 // Whether the load at this position sets the program counter of this section to this expression.
-fn sets_counter(loads: &[Load], position: usize, wanted: u32, tokens: &[Token]) -> bool {
+pub(crate) fn sets_counter(loads: &[Load], position: usize, wanted: u32, tokens: &[Token]) -> bool {
     match loads.get(position) {
         Some(Load::SetPc { section, value }) => *section == wanted && is_tokens(value, tokens),
         _ => false,
@@ -190,7 +194,7 @@ fn sets_counter(loads: &[Load], position: usize, wanted: u32, tokens: &[Token]) 
 }
 
 // Whether the load at this position repeats items, of which the second is a field of this expression.
-fn repeats_field(loads: &[Load], position: usize, tokens: &[Token]) -> bool {
+pub(crate) fn repeats_field(loads: &[Load], position: usize, tokens: &[Token]) -> bool {
     let Some(Load::Repeat { items, .. }) = loads.get(position) else {
         return false;
     };
@@ -403,12 +407,12 @@ fn weak_references_stay_apart_and_a_public_meets_both(rt: HostRuntime) {
     );
 }
 
-fn name(alloc: Global, text: &[u8]) -> Result<DebugItem, NoMemory> {
+pub(crate) fn name(alloc: Global, text: &[u8]) -> Result<DebugItem, NoMemory> {
     Ok(DebugItem::Name(Bytes::from_slice(alloc, text)?))
 }
 
 // A block with the items, of the section 0 from its begin.
-fn block(
+pub(crate) fn block(
     alloc: Global,
     head: BlockHead,
     items: List<DebugItem>,
@@ -649,7 +653,7 @@ fn loads_are_moved(rt: HostRuntime) {
 }
 
 // Whether the block is of this section, from this expression on.
-fn is_part_of(block: &Block, wanted: u32, tokens: &[Token]) -> bool {
+pub(crate) fn is_part_of(block: &Block, wanted: u32, tokens: &[Token]) -> bool {
     match &block.head {
         BlockHead::Section {
             section,
@@ -661,7 +665,7 @@ fn is_part_of(block: &Block, wanted: u32, tokens: &[Token]) -> bool {
 }
 
 // Whether the block ends with this expression.
-fn ends_with(block: &Block, tokens: &[Token]) -> bool {
+pub(crate) fn ends_with(block: &Block, tokens: &[Token]) -> bool {
     match &block.end {
         Some(end) => is_tokens(end, tokens),
         None => false,
@@ -669,7 +673,7 @@ fn ends_with(block: &Block, tokens: &[Token]) -> bool {
 }
 
 // Whether the second item of the block is a note of this debug name.
-fn notes_name(block: &Block, wanted: u32) -> bool {
+pub(crate) fn notes_name(block: &Block, wanted: u32) -> bool {
     match block.items.get(1) {
         Some(DebugItem::Note { name, .. }) => *name == wanted,
         _ => false,
@@ -677,7 +681,7 @@ fn notes_name(block: &Block, wanted: u32) -> bool {
 }
 
 // Whether the third item of the block gives this value to this debug name.
-fn gives_value(block: &Block, wanted: u32, tokens: &[Token]) -> bool {
+pub(crate) fn gives_value(block: &Block, wanted: u32, tokens: &[Token]) -> bool {
     match block.items.get(2) {
         Some(DebugItem::Value { name, value }) => *name == wanted && is_tokens(value, tokens),
         _ => false,
