@@ -9,8 +9,8 @@ or with nothing where the words found no room; a growth that is refused inside a
 `write fault` once OUT is begun. It prints nothing then, and makes no file, but for an empty OUT after a write fault. For each run
 the number of growths and of each answer is printed.
 
-With `--work` two runs show that groups are linked one by one, and that `make` makes all its modules: a run that has more work ends for
-want of memory at a growth well behind the last one of a run with less. The status is 0 where all holds.
+With `--work` two runs show that groups are linked one by one, and that `make` makes all its modules: a run that has more work runs
+out of memory at a growth long after the last one of a run with less. The status is 0 where all holds.
 """
 
 import collections
@@ -191,14 +191,14 @@ def is_out_of_memory(runner, words, refused):
 
 
 def show_work(runner):
-    """Runs with more work grow well past those with less, and want that memory."""
+    """Runs with more work grow long after those with less, and need that memory."""
     bad = 0
-    for less, more, behind in (("dump many more m", "dump [ many more ] m", 100), ("make 1", "make 100", 200)):
+    for less, more, later in (("dump many more m", "dump [ many more ] m", 100), ("make 1", "make 100", 200)):
         growths, all_growths = runner.growths(less), runner.growths(more)
-        holds = is_out_of_memory(runner, more, growths + behind)
+        holds = is_out_of_memory(runner, more, growths + later)
         bad += not holds
         print("%s: %d growths; %s: %d growths, and with growth %d refused %s" % (
-            less, growths, more, all_growths, growths + behind, "out of memory" if holds else "another answer"))
+            less, growths, more, all_growths, growths + later, "out of memory" if holds else "another answer"))
     return bad
 
 
