@@ -2,30 +2,10 @@
 
 ghost use Rattle.std.specs.Prelude.{◌<◌};
 
-use crate::tests::PLAIN;
-use mufom_module::Module;
+use crate::tests::{PLAIN, read};
 use mufom_numbers::NoMemory;
-use mufom_read::{ReadStop, Reader};
 use std::alloc::Global;
 use std::test::Fail;
-
-// The module of a stream that is fed in chunks of the given number of bytes, or why there is none.
-pub(crate) fn module_of(
-    alloc: Global,
-    stream: &[u8],
-    size: usize,
-    reads_debug: bool,
-) -> Result<Module, ReadStop>
-    requires { 0 < size }
-{
-    let Ok(mut reader) = Reader::new(alloc, reads_debug) else {
-        return Err(ReadStop::NoMemory);
-    };
-    for chunk in stream.chunks(size) {
-        reader.feed(chunk)?;
-    }
-    reader.finish()
-}
 
 // The plain module with `count` loads, each of which makes its section the current one, and no start. ME stands at the
 // offset of these four bytes.
@@ -46,7 +26,7 @@ fn with_loads(alloc: Global, count: usize, end: [u8; 4]) -> Result<Vec<u8>, NoMe
 fn text_of(alloc: Global, stream: &[u8], size: usize) -> Option<String>
     requires { 0 < size }
 {
-    match module_of(alloc, stream, size, true) {
+    match read(alloc, stream, size, true) {
         Ok(module) => format!(in alloc; "{:?}", module.parts()).ok(),
         Err(_) => None,
     }
@@ -69,7 +49,7 @@ fn cuts_make_no_difference(rt: HostRuntime) -> Result<(), Fail> {
 fn half_a_million_records_are_read_byte_by_byte(rt: HostRuntime) -> Result<(), Fail> {
     let alloc = rt.alloc();
     let stream = with_loads(alloc, 500_000, [0, 0x0F, 0x42, 0xA4]).expect(&rt, "memory");
-    let module = module_of(alloc, &stream, 1, true).expect(&rt, "a module");
+    let module = read(alloc, &stream, 1, true).expect(&rt, "a module");
     assert_eq!(rt; module.parts().loads.len(), 500_000);
     Ok(())
 }

@@ -6,7 +6,7 @@
 
 ghost use Rattle.std.specs.Prelude.{◌<◌};
 
-use crate::cuts::module_of;
+use crate::tests::{read, stop};
 use mufom_module::Module;
 use mufom_numbers::Reason;
 use mufom_read::{ReadRefusal, ReadStop};
@@ -251,7 +251,7 @@ fn count(module: &Module) -> Figures {
 fn figures_of(alloc: Global, stream: &[u8], size: usize, reads_debug: bool) -> Option<Figures>
     requires { 0 < size }
 {
-    match module_of(alloc, stream, size, reads_debug) {
+    match read(alloc, stream, size, reads_debug) {
         Ok(module) => Some(count(&module)),
         Err(_) => None,
     }
@@ -279,16 +279,6 @@ fn files_of_a_toolchain_are_modules(rt: HostRuntime) -> Result<(), Fail> {
     Ok(())
 }
 
-// Why a stream that is fed in chunks of the given number of bytes is no module's, if it is none's.
-fn stop_of(alloc: Global, stream: &[u8], size: usize) -> Option<ReadStop>
-    requires { 0 < size }
-{
-    match module_of(alloc, stream, size, true) {
-        Ok(_) => None,
-        Err(stop) => Some(stop),
-    }
-}
-
 #[test]
 fn files_beyond_the_profile_are_refused(rt: HostRuntime) -> Result<(), Fail> {
     let alloc = rt.alloc();
@@ -297,8 +287,8 @@ fn files_beyond_the_profile_are_refused(rt: HostRuntime) -> Result<(), Fail> {
         (M68K_NO_COMMA, 381, Reason::SurplusTerms),
     ] {
         let wanted = Some(ReadStop::Refused(ReadRefusal { place, reason }));
-        assert_eq!(rt; stop_of(alloc, file, 65_536), wanted);
-        assert_eq!(rt; stop_of(alloc, file, 1), wanted);
+        assert_eq!(rt; stop(alloc, file, 65_536, true), wanted);
+        assert_eq!(rt; stop(alloc, file, 1, true), wanted);
     }
     Ok(())
 }

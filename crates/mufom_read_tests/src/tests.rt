@@ -4,7 +4,7 @@ ghost use Rattle.std.specs.Prelude.{◌<◌};
 
 use mufom_host::{Host, MemHost};
 use mufom_module::Module;
-use mufom_numbers::{Bytes, List, NoMemory, Reason, Text};
+use mufom_numbers::{Bytes, List, Reason, Text};
 use mufom_read::{ReadRefusal, ReadStop, Reader, SourceStop, read_module};
 use std::alloc::Global;
 use std::test::Fail;
@@ -385,7 +385,7 @@ pub(crate) fn read(
     reader.finish()
 }
 
-pub(crate) fn refused(place: u64, reason: Reason) -> Option<ReadStop> {
+fn refused(place: u64, reason: Reason) -> Option<ReadStop> {
     Some(ReadStop::Refused(ReadRefusal { place, reason }))
 }
 
@@ -634,52 +634,5 @@ fn a_source_is_read_within_its_limit(rt: HostRuntime) -> Result<(), Fail> {
     let _ = source.open("a");
     let read = read_module(alloc, &mut source, 120, true);
     assert!(rt; matches!(read, Ok((_, 120))));
-    Ok(())
-}
-
-// The plain module with so many loads, each of which makes its section the current one, and no start. ME stands at the
-// offset of these four bytes.
-fn with_loads(alloc: Global, count: usize, end: [u8; 4]) -> Result<Vec<u8>, NoMemory> {
-    let parts: [&[u8]; 5] = [&PLAIN[..65], &[0; 4], &PLAIN[69..73], &end, &PLAIN[77..100]];
-    let mut stream = Vec::new(alloc);
-    for part in parts {
-        stream.extend_from_slice(part)?;
-    }
-    for _ in 0..count {
-        stream.extend_from_slice(&[0xE5, 0x01])?;
-    }
-    stream.push(0xE1)?;
-    Ok(stream)
-}
-
-// The text of the parts of a module whose stream is fed in chunks of the given number of bytes.
-fn text_of(alloc: Global, stream: &[u8], size: usize) -> Option<String>
-    requires { 0 < size }
-{
-    match read(alloc, stream, size, true) {
-        Ok(module) => format!(in alloc; "{:?}", module.parts()).ok(),
-        Err(_) => None,
-    }
-}
-
-#[test]
-fn cuts_make_no_difference(rt: HostRuntime) -> Result<(), Fail> {
-    let alloc = rt.alloc();
-    let stream = with_loads(alloc, 1_000, [0, 0, 0x08, 0x34]).expect(&rt, "memory");
-    let whole = text_of(alloc, &stream, 65_536).expect(&rt, "a module");
-    for size in [1, 2, 3, 99] {
-        let cut = text_of(alloc, &stream, size).expect(&rt, "a module");
-        assert_eq!(rt; cut.as_str(), whole.as_str());
-    }
-    Ok(())
-}
-
-// Were all records judged again at each byte, this would take hours.
-#[test]
-fn half_a_million_records_are_read_byte_by_byte(rt: HostRuntime) -> Result<(), Fail> {
-    let alloc = rt.alloc();
-    let stream = with_loads(alloc, 500_000, [0, 0x0F, 0x42, 0xA4]).expect(&rt, "memory");
-    let module = read(alloc, &stream, 1, true).expect(&rt, "a module");
-    assert_eq!(rt; module.parts().loads.len(), 500_000);
     Ok(())
 }
