@@ -374,7 +374,7 @@ fn is_reference(
 }
 
 #[test]
-fn names_met_before_and_behind_leave_no_reference(rt: HostRuntime) {
+fn names_met_before_and_after_leave_no_reference(rt: HostRuntime) {
     let alloc = rt.alloc();
     let linked = linked(&rt, alloc);
     let references = linked.parts().names.references.as_slice();
