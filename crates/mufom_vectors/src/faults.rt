@@ -1,3 +1,4 @@
+use crate::drafts::complains;
 use crate::files::{ABSOLUTE, ROOM, words};
 use mufom_command::{Input, Outcome, Refusal, run};
 use mufom_host::MemHost;
@@ -77,6 +78,12 @@ fn a_plan_that_is_not_there_is_a_read_fault_of_the_plan(rt: HostRuntime) -> Resu
     let line: &[u8] = b"read fault: plan\n";
     assert_eq!(rt; host.err(), line);
     Ok(())
+}
+
+#[test]
+fn a_file_that_is_not_there_is_a_read_fault(rt: HostRuntime) {
+    let line = "read fault: file 0\n";
+    complains(&rt, rt.alloc(), &[], &["dump", "nowhere"], (3, line));
 }
 
 #[test]

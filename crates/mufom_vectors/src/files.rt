@@ -4,7 +4,7 @@ ghost use Rattle.std.specs.Prelude.{◌<◌, ◌^◌, IfOk, length, vec_len};
 
 use mufom_command::run;
 use mufom_host::MemHost;
-use mufom_numbers::{Bytes, List, Text};
+use mufom_numbers::{Bytes, List, NoMemory, Text};
 use std::alloc::Global;
 use std::process::Abort;
 use std::test::Fail;
@@ -90,7 +90,7 @@ pub(crate) const BLOCKS: [u8; 158] = [
     0x01, 0x63, 0x01, 0x01, 0xD2, 0x01, 0xF9, 0x10, 0xF9, 0xE2, 0xCE, 0x20, 0x01, 0xE1,
 ];
 
-pub(crate) fn words(alloc: Global, words: &[&str]) -> Result<Vec<String>, Fail>
+pub(crate) fn words(alloc: Global, words: &[&str]) -> Result<Vec<String>, NoMemory>
     requires { length words.now < 2 ^ 32 }
     ensures { IfOk result (λ list. vec_len list < 2 ^ 32) }
 {
@@ -102,7 +102,7 @@ pub(crate) fn words(alloc: Global, words: &[&str]) -> Result<Vec<String>, Fail>
 }
 
 /// A host with these files, each with its name, on which no call fails.
-pub(crate) fn host(alloc: Global, files: &[(&str, &[u8])]) -> Result<MemHost, Fail> {
+pub(crate) fn host(alloc: Global, files: &[(&str, &[u8])]) -> Result<MemHost, NoMemory> {
     let mut list = List::new(alloc);
     for (name, bytes) in files {
         list.push((
@@ -110,7 +110,7 @@ pub(crate) fn host(alloc: Global, files: &[(&str, &[u8])]) -> Result<MemHost, Fa
             Bytes::from_slice(alloc, bytes)?,
         ))?;
     }
-    Ok(MemHost::new(alloc, list, List::new(alloc), List::new(alloc), ROOM)?)
+    MemHost::new(alloc, list, List::new(alloc), List::new(alloc), ROOM)
 }
 
 /// These words over these files are answered with this status, and what must be printed to both outputs.

@@ -8,11 +8,23 @@
 #[cfg(test)]
 mod check;
 #[cfg(test)]
+mod commons;
+#[cfg(test)]
+mod debug;
+#[cfg(test)]
+mod drafts;
+#[cfg(test)]
+mod failing;
+#[cfg(test)]
 mod faults;
 #[cfg(test)]
 mod files;
 #[cfg(test)]
+mod images;
+#[cfg(test)]
 mod link;
+#[cfg(test)]
+mod lists;
 #[cfg(test)]
 mod locate;
 mod round_trip;
@@ -20,5 +32,9 @@ mod round_trip;
 mod round_trip_tests;
 #[cfg(test)]
 mod show;
+#[cfg(test)]
+mod usage;
+#[cfg(test)]
+mod veiled;
 
 pub use round_trip::read_back;

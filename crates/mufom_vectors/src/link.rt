@@ -3,6 +3,7 @@ ghost use Rattle.std.specs.Prelude.{◌<◌, ◌^◌, length};
 use crate::files::{ABSOLUTE, EMPTY, host, words};
 use mufom_command::run;
 use mufom_host::MemHost;
+use mufom_numbers::NoMemory;
 use std::alloc::Global;
 use std::process::Abort;
 use std::test::Fail;
@@ -44,7 +45,7 @@ pub(crate) const LINKED: [u8; 136] = [
 ];
 
 // The files `a`, `b` and `m`.
-fn linkable(alloc: Global) -> Result<MemHost, Fail> {
+fn linkable(alloc: Global) -> Result<MemHost, NoMemory> {
     host(alloc, &[("a", &FIRST), ("b", &SECOND), ("m", &EMPTY)])
 }
 
@@ -88,7 +89,7 @@ fn a_member_is_linked_where_the_roots_need_it(rt: HostRuntime) -> Result<(), Fai
 }
 
 // The files `a`, `s`, whose addresses are shorter, and `m1`, which has a start.
-fn unlike(alloc: Global) -> Result<MemHost, Fail> {
+fn unlike(alloc: Global) -> Result<MemHost, NoMemory> {
     let mut small = EMPTY;
     small[11] = 0x02;
     host(alloc, &[("a", &FIRST), ("s", &small), ("m1", &ABSOLUTE)])

@@ -1,9 +1,10 @@
 ghost use Rattle.std.specs.Prelude.{◌<◌, ◌^◌, length};
 
-use crate::files::{ABSOLUTE, RELOCATABLE, answers, host, words};
+use crate::files::{RELOCATABLE, answers, host, words};
 use crate::link::{FIRST, LINKED, SECOND};
 use mufom_command::run;
 use mufom_host::MemHost;
+use mufom_numbers::NoMemory;
 use std::alloc::Global;
 use std::process::Abort;
 use std::test::Fail;
@@ -24,7 +25,8 @@ const BOARD: &[u8] =
     b"[[region]]\nname = \"rom\"\nbase = 8192\nsize = 256\nsections = [\".text\"]\n";
 
 /// A region for sections named `t`.
-const PAGE: &[u8] = b"[[region]]\nname = \"page\"\nbase = 256\nsize = 256\nsections = [\"t\"]\n";
+pub(crate) const PAGE: &[u8] =
+    b"[[region]]\nname = \"page\"\nbase = 256\nsize = 256\nsections = [\"t\"]\n";
 
 const BOARD_TEXT: &[u8] =
     b"00002000: 4E 71 4E 71 00 00 20 04 00 00 00 04 4E 75\nstart 00002004\npublic 00002004 \"main\"\npublic 0000200C \"exit\"\n";
@@ -40,7 +42,7 @@ fn a_program_and_its_library_are_dumped(rt: HostRuntime) -> Result<(), Fail> {
 }
 
 // The files `a` and `b`, their link `c`, and the plan `p`.
-fn pages(alloc: Global) -> Result<MemHost, Fail> {
+fn pages(alloc: Global) -> Result<MemHost, NoMemory> {
     host(
         alloc,
         &[("a", &FIRST), ("b", &SECOND), ("c", &LINKED), ("p", PAGE)],
@@ -79,18 +81,6 @@ fn groups_and_stages_are_located_as_the_flat_list(rt: HostRuntime) -> Result<(),
     assert!(rt; flat.as_slice() == staged.as_slice());
     let files: [(&str, &[u8]); 1] = [("d", flat.as_slice())];
     answers(&rt, alloc, &files, &["dump", "d"], (0, PAGE_TEXT, b""))
-}
-
-#[test]
-fn an_absolute_module_is_located_with_its_start_in_brackets(rt: HostRuntime) -> Result<(), Fail> {
-    let alloc = rt.alloc();
-    let mut host = host(alloc, &[("m1", &ABSOLUTE)])?;
-    let words = words(alloc, &["locate", "-o", "c", "m1"])?;
-    assert_eq!(rt; run(alloc, words.as_slice(), &mut host).status(), 0);
-    let made = made_bytes(alloc, &host)?;
-    assert_eq!(rt; made.len(), 122);
-    assert!(rt; made.as_slice()[114..] == [0xE2, 0xC7, 0xBE, 0x82, 0x10, 0x00, 0xBF, 0xE1]);
-    Ok(())
 }
 
 #[test]

@@ -1,0 +1,168 @@
+//! Modules that are put together from the records of their parts, and runs of the program over them.
+//! Where there is no memory, a test fails.
+
+ghost use Rattle.std.specs.Prelude.{◌<◌, ◌^◌, length};
+
+use crate::files::{host, words};
+use mufom_command::run;
+use mufom_host::MemHost;
+use std::alloc::Global;
+use std::process::Abort;
+
+/// What stands before the length of addresses: the processor, and the module's name `m`.
+const HEAD: &[u8] = b"\xE0\x0568000\x01m\xEC\x08";
+
+/// The letter after the length of addresses: the most significant byte goes first.
+const MOST_FIRST: u8 = 0xCD;
+
+/// Where the first part begins: after the head, the length, the letter, and eight offsets of 12 bytes.
+const FIRST_PART: u64 = 109;
+
+const END: &[u8] = b"\xE1";
+
+/// A section `t` of four bytes that is not placed.
+pub(crate) const SECTION: &[u8] = b"\xE6\x01\xC3\x01t\xE2\xD3\x01\x04";
+
+/// The value of the first reference, in a field of four bytes of the first section.
+pub(crate) const REFERENCE: &[u8] = b"\xE5\x01\xE4\xBE\xD8\x0B\xBF";
+
+/// The records of each part of a module; a part with none is absent.
+#[derive(Clone, Copy)]
+pub(crate) struct Records<'a> {
+    pub(crate) sections: &'a [u8],
+    pub(crate) external: &'a [u8],
+    pub(crate) debug: &'a [u8],
+    pub(crate) loads: &'a [u8],
+}
+
+// Adds bytes to a file.
+fn add(rt: &impl Abort, file: &mut Vec<u8>, bytes: &[u8]) {
+    file.extend_from_slice(bytes).expect(rt, "memory");
+}
+
+// Adds the offset of a part that begins at this place, and answers where the next part begins.
+fn add_offset(rt: &impl Abort, file: &mut Vec<u8>, number: u8, part: &[u8], place: u64) -> u64 {
+    let offset = if part.is_empty() { 0 } else { place };
+    add(rt, file, &[0xE2, 0xD7, number, 0x88]);
+    add(rt, file, &offset.to_be_bytes());
+    place.saturating_add(part.len() as u64)
+}
+
+/// The file of a module with these records, and with addresses of `maus` units.
+pub(crate) fn module(rt: &impl Abort, alloc: Global, maus: u8, records: Records) -> Vec<u8> {
+    let none = b"".as_slice();
+    let parts = [
+        (0, none),
+        (1, none),
+        (2, records.sections),
+        (3, records.external),
+        (4, records.debug),
+        (5, records.loads),
+        (6, none),
+        (7, END),
+    ];
+    let mut file = Vec::new(alloc);
+    add(rt, &mut file, HEAD);
+    add(rt, &mut file, &[maus, MOST_FIRST]);
+    let mut place = FIRST_PART;
+    for (number, part) in parts {
+        place = add_offset(rt, &mut file, number, part, place);
+    }
+    add(rt, &mut file, records.sections);
+    add(rt, &mut file, records.external);
+    add(rt, &mut file, records.debug);
+    add(rt, &mut file, records.loads);
+    add(rt, &mut file, END);
+    file
+}
+
+/// A module with nothing but these external records.
+pub(crate) fn names(rt: &impl Abort, alloc: Global, external: &[u8]) -> Vec<u8> {
+    let records = Records {
+        sections: b"",
+        external,
+        debug: b"",
+        loads: b"",
+    };
+    module(rt, alloc, 4, records)
+}
+
+/// A module with one section, these external records and these loads.
+pub(crate) fn one_section(
+    rt: &impl Abort,
+    alloc: Global,
+    sections: &[u8],
+    external: &[u8],
+    loads: &[u8],
+) -> Vec<u8> {
+    let records = Records {
+        sections,
+        external,
+        debug: b"",
+        loads,
+    };
+    module(rt, alloc, 4, records)
+}
+
+// The host after these words over these files, which are answered with this status.
+fn ran(
+    rt: &impl Abort,
+    alloc: Global,
+    files: &[(&str, &[u8])],
+    line: &[&str],
+    status: u8,
+) -> MemHost
+    requires { length line.now < 2 ^ 32 }
+{
+    let mut host = host(alloc, files).expect(rt, "memory");
+    let words = words(alloc, line).expect(rt, "memory");
+    assert_eq!(rt; run(alloc, words.as_slice(), &mut host).status(), status);
+    host
+}
+
+/// These words over these files print this text and no complaint.
+pub(crate) fn prints(
+    rt: &impl Abort,
+    alloc: Global,
+    files: &[(&str, &[u8])],
+    line: &[&str],
+    text: &str,
+)
+    requires { length line.now < 2 ^ 32 }
+{
+    let host = ran(rt, alloc, files, line, 0);
+    assert_eq!(rt; host.out(), text.as_bytes());
+    assert!(rt; host.err().is_empty());
+}
+
+/// These words over these files are answered with this status and this complaint alone.
+pub(crate) fn complains(
+    rt: &impl Abort,
+    alloc: Global,
+    files: &[(&str, &[u8])],
+    line: &[&str],
+    wanted: (u8, &str),
+)
+    requires { length line.now < 2 ^ 32 }
+{
+    let host = ran(rt, alloc, files, line, wanted.0);
+    assert_eq!(rt; host.err(), wanted.1.as_bytes());
+    assert!(rt; host.out().is_empty());
+    assert!(rt; host.made().is_none());
+}
+
+/// The bytes of the file that these words make of these files.
+pub(crate) fn made(
+    rt: &impl Abort,
+    alloc: Global,
+    files: &[(&str, &[u8])],
+    line: &[&str],
+) -> Vec<u8>
+    requires { length line.now < 2 ^ 32 }
+{
+    let host = ran(rt, alloc, files, line, 0);
+    match host.made() {
+        Some((_, bytes)) => Vec::from_slice(alloc, bytes).expect(rt, "memory"),
+        None => panic!(rt; "no file is made"),
+    }
+}

@@ -1,0 +1,237 @@
+//! Each read and each write that fails in its turn, over a host that reveals nothing and goes by whole
+//! chunks or by bytes.
+
+ghost use Rattle.std.specs.Prelude.{◌≡◌, ◌<◌, ◌^◌, length};
+
+use crate::files::{ABSOLUTE, ROOM, words};
+use crate::link::{FIRST, LINKED, SECOND};
+use crate::locate::PAGE;
+use crate::veiled::Veiled;
+use mufom_command::run;
+use mufom_host::MemHost;
+use mufom_numbers::{Bytes, List, NoMemory, Text};
+use std::alloc::Global;
+use std::process::Abort;
+
+/// More calls than any of these runs makes.
+const MANY_CALLS: u64 = 1_000;
+
+/// What a run does with the host, and which call of it fails.
+#[derive(Clone, Copy)]
+struct Script<'a> {
+    line: &'a [&'a str],
+    by_bytes: bool,
+    failing_read: Option<u64>,
+    failing_write: Option<u64>,
+}
+
+fn listed(alloc: Global, call: Option<u64>) -> Result<List<u64>, NoMemory> {
+    let mut list = List::new(alloc);
+    if let Some(call) = call {
+        list.push(call)?;
+    }
+    Ok(list)
+}
+
+// A host with the absolute module, the two that need each other, and a plan for them.
+fn host(alloc: Global, script: &Script) -> Result<Veiled, NoMemory> {
+    let mut files = List::new(alloc);
+    let known: [(&str, &[u8]); 4] = [("m", &ABSOLUTE), ("a", &FIRST), ("b", &SECOND), ("p", PAGE)];
+    for (name, bytes) in known {
+        files.push((
+            Text::from_str(alloc, name)?,
+            Bytes::from_slice(alloc, bytes)?,
+        ))?;
+    }
+    let reads = listed(alloc, script.failing_read)?;
+    let writes = listed(alloc, script.failing_write)?;
+    Ok(Veiled {
+        inner: MemHost::new(alloc, files, reads, writes, ROOM)?,
+        by_bytes: script.by_bytes,
+    })
+}
+
+// The status that the run ends with, and the host after it.
+fn ran(rt: &impl Abort, alloc: Global, script: &Script) -> (u8, MemHost)
+    requires { length script.now.line.now < 2 ^ 32 }
+{
+    let mut host = host(alloc, script).expect(rt, "memory");
+    let words = words(alloc, script.line).expect(rt, "memory");
+    let status = run(alloc, words.as_slice(), &mut host).status();
+    (status, host.inner)
+}
+
+// Whether the host has printed nothing, and no file is made or begun.
+fn is_untouched(host: &MemHost) -> bool {
+    host.out().is_empty() && host.made().is_none() && host.making().is_none()
+}
+
+// One read of the run fails, with this complaint and with nothing made.
+fn read_fails(rt: &impl Abort, alloc: Global, script: &Script, call: u64, complaint: &str)
+    requires { length script.now.line.now < 2 ^ 32 }
+{
+    let mut script = *script;
+    script.failing_read = Some(call);
+    let (status, host) = ran(rt, alloc, &script);
+    assert_eq!(rt; status, 3);
+    assert_eq!(rt; host.err(), complaint.as_bytes());
+    assert!(rt; is_untouched(&host));
+}
+
+// Each of the reads from one to another fails in its turn, with this complaint.
+fn reads_fail(rt: &impl Abort, alloc: Global, script: &Script, reads: (u64, u64), complaint: &str)
+    requires { length script.now.line.now < 2 ^ 32 }
+{
+    for call in reads.0..reads.1 {
+        read_fails(rt, alloc, script, call, complaint);
+    }
+}
+
+// The run has just this many reads: one behind them never fails.
+fn has_reads(rt: &impl Abort, alloc: Global, script: &Script, reads: u64)
+    requires { length script.now.line.now < 2 ^ 32 }
+{
+    let mut script = *script;
+    script.failing_read = Some(reads);
+    assert_eq!(rt; ran(rt, alloc, &script).0, 0);
+}
+
+// A run that no call keeps from its end.
+fn undisturbed<'a>(line: &'a [&'a str], by_bytes: bool) -> Script<'a>
+    ensures { result.line.now ≡ line.now }
+{
+    Script {
+        line,
+        by_bytes,
+        failing_read: None,
+        failing_write: None,
+    }
+}
+
+#[test]
+fn each_read_of_one_file_fails_in_its_turn(rt: HostRuntime) {
+    let alloc = rt.alloc();
+    let complaint = "read fault: file 0\n";
+    let whole = undisturbed(&["dump", "m"], false);
+    reads_fail(&rt, alloc, &whole, (0, 3), complaint);
+    has_reads(&rt, alloc, &whole, 3);
+    let by_bytes = undisturbed(&["dump", "m"], true);
+    reads_fail(&rt, alloc, &by_bytes, (0, 122), complaint);
+    has_reads(&rt, alloc, &by_bytes, 122);
+}
+
+const LINK: [&str; 5] = ["link", "-o", "c", "a", "b"];
+
+const LOCATE: [&str; 7] = ["locate", "--plan", "p", "-o", "d", "a", "b"];
+
+#[test]
+fn each_read_of_two_files_fails_in_its_turn(rt: HostRuntime) {
+    let alloc = rt.alloc();
+    let whole = undisturbed(&LINK, false);
+    reads_fail(&rt, alloc, &whole, (0, 3), "read fault: file 0\n");
+    reads_fail(&rt, alloc, &whole, (3, 6), "read fault: file 1\n");
+    has_reads(&rt, alloc, &whole, 6);
+    let by_bytes = undisturbed(&LINK, true);
+    reads_fail(&rt, alloc, &by_bytes, (0, 111), "read fault: file 0\n");
+    reads_fail(&rt, alloc, &by_bytes, (111, 226), "read fault: file 1\n");
+    has_reads(&rt, alloc, &by_bytes, 226);
+}
+
+#[test]
+fn each_read_of_a_plan_and_its_files_fails_in_its_turn(rt: HostRuntime) {
+    let alloc = rt.alloc();
+    let whole = undisturbed(&LOCATE, false);
+    reads_fail(&rt, alloc, &whole, (0, 3), "read fault: plan\n");
+    reads_fail(&rt, alloc, &whole, (3, 6), "read fault: file 0\n");
+    reads_fail(&rt, alloc, &whole, (6, 9), "read fault: file 1\n");
+    has_reads(&rt, alloc, &whole, 9);
+}
+
+// Whether the first bytes of a whole are these.
+fn begins_with(whole: &[u8], bytes: &[u8]) -> bool {
+    match whole.get(..bytes.len()) {
+        Some(front) => front == bytes,
+        None => false,
+    }
+}
+
+// Whether what stands of the output, printed or being made, is a prefix of the whole.
+fn has_prefix(host: &MemHost, whole: &[u8]) -> bool {
+    let begun = match host.making() {
+        Some((_, bytes)) => bytes,
+        None => b"",
+    };
+    begins_with(whole, host.out()) && begins_with(whole, begun)
+}
+
+// What the run prints, or the bytes of the file that it makes, where no call fails.
+fn output(rt: &impl Abort, alloc: Global, script: &Script) -> Vec<u8>
+    requires { length script.now.line.now < 2 ^ 32 }
+{
+    let (status, host) = ran(rt, alloc, script);
+    assert_eq!(rt; status, 0);
+    match host.made() {
+        Some((_, bytes)) => Vec::from_slice(alloc, bytes).expect(rt, "memory"),
+        None => Vec::from_slice(alloc, host.out()).expect(rt, "memory"),
+    }
+}
+
+// Whether this write of the run fails: then with its complaint, no file, and a prefix of the whole.
+fn write_fails(rt: &impl Abort, alloc: Global, script: &Script, call: u64, whole: &[u8]) -> bool
+    requires { length script.now.line.now < 2 ^ 32 }
+{
+    let mut script = *script;
+    script.failing_write = Some(call);
+    let (status, host) = ran(rt, alloc, &script);
+    if status == 0 {
+        return false;
+    }
+    assert_eq!(rt; status, 4);
+    assert_eq!(rt; host.err(), b"write fault\n".as_slice());
+    assert!(rt; host.made().is_none());
+    assert!(rt; has_prefix(&host, whole));
+    true
+}
+
+// How many writes the run has, each of which fails in its turn.
+fn failing_writes(rt: &impl Abort, alloc: Global, script: &Script) -> u64
+    requires { length script.now.line.now < 2 ^ 32 }
+{
+    let whole = output(rt, alloc, script);
+    for call in 0..MANY_CALLS {
+        if !write_fails(rt, alloc, script, call, &whole) {
+            return call;
+        }
+    }
+    MANY_CALLS
+}
+
+#[test]
+fn each_print_fails_in_its_turn(rt: HostRuntime) {
+    let alloc = rt.alloc();
+    let whole = undisturbed(&["dump", "m"], false);
+    assert_eq!(rt; failing_writes(&rt, alloc, &whole), 1);
+}
+
+// A file is created, written byte by byte, and finished.
+#[test]
+fn each_write_of_a_file_fails_in_its_turn(rt: HostRuntime) {
+    let alloc = rt.alloc();
+    assert!(rt; failing_writes(&rt, alloc, &undisturbed(&LINK, false)) > 3);
+    let by_bytes = failing_writes(&rt, alloc, &undisturbed(&LINK, true));
+    assert_eq!(rt; by_bytes, 138);
+    assert!(rt; failing_writes(&rt, alloc, &undisturbed(&LOCATE, false)) > 3);
+}
+
+#[test]
+fn what_is_read_and_written_by_bytes_is_the_same(rt: HostRuntime) {
+    let alloc = rt.alloc();
+    let linked = output(&rt, alloc, &undisturbed(&LINK, true));
+    assert_eq!(rt; linked.as_slice(), LINKED.as_slice());
+    let whole = output(&rt, alloc, &undisturbed(&LOCATE, false));
+    let located = output(&rt, alloc, &undisturbed(&LOCATE, true));
+    assert_eq!(rt; located, whole);
+    let image = output(&rt, alloc, &undisturbed(&["dump", "m"], true));
+    let text = b"00001000: 4E 71 4E 75\nstart 00001000\n".as_slice();
+    assert_eq!(rt; image.as_slice(), text);
+}
