@@ -9,7 +9,7 @@ use std::process::Abort;
 const RAM: &[u8] =
     b"[[region]]\nname = \"ram\"\nbase = 256\nsize = 64\nsections = [\"t\"]\ncommon = true\n";
 
-/// Room for the two sections and five bytes behind them.
+/// Room for the two sections and five bytes after them.
 const TIGHT: &[u8] =
     b"[[region]]\nname = \"ram\"\nbase = 256\nsize = 13\nsections = [\"t\"]\ncommon = true\n";
 
@@ -18,7 +18,7 @@ const NO_COMMON: &[u8] = b"[[region]]\nname = \"ram\"\nbase = 256\nsize = 64\nse
 const NO_TRUTH: &[u8] =
     b"[[region]]\nname = \"ram\"\nbase = 256\nsize = 64\nsections = [\"t\"]\ncommon = 1\n";
 
-/// Both fields have the address behind the sections.
+/// Both fields have the address after the sections.
 const ROOM: &str = "00000100: 00 00 01 08 00 00 01 08\n";
 
 // A field of `c`, for which the module asks this many bytes.

@@ -87,7 +87,7 @@ fn reads_fail(rt: &impl Abort, alloc: Global, script: &Script, reads: (u64, u64)
     }
 }
 
-// The run has just this many reads: one behind them never fails.
+// The run has just this many reads: one after them never fails.
 fn has_reads(rt: &impl Abort, alloc: Global, script: &Script, reads: u64)
     requires { length script.now.line.now < 2 ^ 32 }
 {
