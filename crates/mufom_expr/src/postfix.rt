@@ -97,8 +97,8 @@ impl Postfix {
         }
     }
 
-    // The expression of tokens that are one.
-    pub(crate) fn of(tokens: Vec<Token>) -> Postfix
+    /// The expression of tokens that are one. Takes no memory.
+    pub fn of(tokens: Vec<Token>) -> Postfix
         requires one { LeaveOneTerm tokens.items }
         requires few { length tokens.items ≤ 255 }
         requires range { AllByRecursion IsInRange tokens.items }

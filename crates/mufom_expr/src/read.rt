@@ -8,6 +8,10 @@ ghost use Rattle.mufom_expr.specs.TokenAt.{token_at, variable_token};
 use crate::token::{Function, Letter, Token};
 use mufom_numbers::{Reason, Taken, codes, read_number};
 
+// The first byte that is no number by itself, but the lead of one.
+const FIRST_LEAD: u8 = 0x80;
+
+#[inline(always)]
 fn letter(b: u8) -> Option<Letter>
     ensures { result ≡ letter_of b }
 {
@@ -52,6 +56,7 @@ fn function(b: u8) -> Option<Function>
 /// left out, at offset 0 with `UnsupportedVariable` for every other byte that begins no number and is
 /// no letter that is read (the caller hands in bytes that begin a token), and at offset 1 with
 /// `BadNumber` where a letter is followed by no number or by one of 2^32 or more. Takes no memory.
+#[inline(always)]
 pub fn read_token(input: &[u8]) -> Taken<Token>
     // What is taken is the prefix of the input, and spells the token.
     ensures got { IfGot result (λ t used. (used ≤ length input.now) × SpellsToken t (take used input.now)) }
@@ -67,6 +72,7 @@ pub fn read_token(input: &[u8]) -> Taken<Token>
     token(input)
 }
 
+#[inline(always)]
 fn token(input: &[u8]) -> Taken<Token>
     ensures exact { result ≡ token_at input.now }
     ensures place { IfBad result (λ offset. offset ≤ 1) }
@@ -75,6 +81,9 @@ fn token(input: &[u8]) -> Taken<Token>
         return Taken::More;
     };
     let b = *first;
+    if b < FIRST_LEAD {
+        return Taken::Got(Token::Number(b as u64), 1);
+    }
     if b <= codes::LAST_NUMBER {
         return match read_number(input) {
             Taken::Got(n, used) => Taken::Got(Token::Number(n), used),
@@ -100,7 +109,23 @@ fn token(input: &[u8]) -> Taken<Token>
     }
 }
 
+// The variable of this letter, of which the index stands next: most have one byte.
+#[inline(always)]
 fn variable(letter: Letter, rest: &[u8]) -> Taken<Token>
+    ensures exact { result ≡ variable_token (Some letter) (number_at rest.now) }
+    ensures place { IfBad result (λ offset. offset ≤ 1) }
+{
+    if let [index, ..] = rest
+        && *index < FIRST_LEAD
+    {
+        return Taken::Got(Token::Var(letter, *index as u32), 2);
+    }
+    variable_of_number(letter, rest)
+}
+
+// The variable of this letter, of which the index is the number that stands next.
+#[inline(never)]
+fn variable_of_number(letter: Letter, rest: &[u8]) -> Taken<Token>
     ensures exact { result ≡ variable_token (Some letter) (number_at rest.now) }
     ensures place { IfBad result (λ offset. offset ≤ 1) }
 {

@@ -1,5 +1,5 @@
 -- Modest calls never fail.
-use Rattle.std.proofs.Common.{◌≡◌, refl, ◌∙◌, ap, ℕ, ◌+◌, ◌≤◌, min, false, nat_lt, List, [], ◌∷◌, ◌++◌, length, drop, Option, Some, None, arith, length-append}
+use Rattle.std.proofs.Common.{◌≡◌, refl, sym, subst, ◌∙◌, ap, ℕ, ◌+◌, ◌≤◌, min, false, nat_lt, List, [], ◌∷◌, ◌++◌, length, drop, Option, Some, None, arith, length-append}
 use Rattle.std.specs.List.{sum_by}
 use Rattle.std.proofs.lemmas.List.Sums.{sum_by-cons}
 use Rattle.std.proofs.lemmas.Bool.{le-ltb}
@@ -70,149 +70,126 @@ Begun-create : {making : Option NamedFile} {made : List NamedFile} {count : ℕ}
 Begun-create (unbegun h) n e = (refl, omega (arith, h, e))
 Begun-create begun n e = absurd (omega (arith, e))
 
+-- what a call leaves as it is
+record IsSameHost (m next : Memory) : Type 0 where
+  files : next.files ≡ m.files
+  room : next.room ≡ m.room
+  reads : next.fail_reads ≡ m.fail_reads
+  writes : next.fail_writes ≡ m.fail_writes
+
+-- what a call adds to the names, the file that is made and both outputs: no more than it may
+record AddsLittle (m next : Memory) (call : Call) (o c opened_names created_names : List (List ℕ)) : Type 0 where
+  opened : name_weight opened_names ≤ name_weight o + opened_by call
+  created : name_weight created_names ≤ name_weight c + created_by call
+  written : made_bytes next.making ≤ made_bytes m.making + written_by call
+  printed : length next.out ≤ length m.out + printed_by call
+  complained : length next.err ≤ length m.err + complained_by call
+
+ready-next : (m next : Memory) (call : Call) (calls : List Call) (o c opened_names created_names : List (List ℕ)) → IsReady m (call ∷ calls) o c → IsSameHost m next
+    → AddsLittle m next call o c opened_names created_names → next.opened ≡ Some opened_names → next.created ≡ Some created_names → Begun next.making next.made (sum_by begun_by calls)
+    → IsReady next calls opened_names created_names
+ready-next m next call calls o c opened_names created_names r same adds opened_known created_known one = record {
+  reads_pass = same.reads ∙ r.reads_pass;
+  writes_pass = same.writes ∙ r.writes_pass;
+  there = subst (λ (files : List NamedFile). AllOpenWhatIsThere files calls) (sym same.files) r.there.1;
+  opened_known = opened_known;
+  created_known = created_known;
+  opened = omega (arith, same.room, adds.opened, less opened_by call calls (name_weight o) m.room r.opened);
+  created = omega (arith, same.room, adds.created, less created_by call calls (name_weight c) m.room r.created);
+  written = omega (arith, same.room, adds.written, less written_by call calls (made_bytes m.making) m.room r.written);
+  printed = omega (arith, same.room, adds.printed, less printed_by call calls (length m.out) m.room r.printed);
+  complained = omega (arith, same.room, adds.complained, less complained_by call calls (length m.err) m.room r.complained);
+  one = one;
+}
+
+same_host : {m next : Memory} → next.files ≡ m.files → next.room ≡ m.room → next.fail_reads ≡ m.fail_reads → next.fail_writes ≡ m.fail_writes → IsSameHost m next
+same_host files room no_reads no_writes = record { files = files; room = room; reads = no_reads; writes = no_writes }
+
 module _ (m : Memory) (calls : List Call) (o c : List (List ℕ)) where
   read_step : (size : ℕ) → IsReady m (reads size ∷ calls) o c → Step m (reads size) calls
-  read_step size r = record {
-    next = record (read_called m) { left = drop (min size (length m.left)) m.left };
-    is_next = rw (unlisted m.read_number m.fail_reads r.reads_pass) refl;
-    faults = refl;
-    opened_names = o;
-    created_names = c;
-    ready = record {
-      reads_pass = r.reads_pass;
-      writes_pass = r.writes_pass;
-      there = r.there.1;
-      opened_known = r.opened_known;
-      created_known = r.created_known;
-      opened = omega (arith, less opened_by (reads size) calls (name_weight o) m.room r.opened);
-      created = omega (arith, less created_by (reads size) calls (name_weight c) m.room r.created);
-      written = omega (arith, less written_by (reads size) calls (made_bytes m.making) m.room r.written);
-      printed = omega (arith, less printed_by (reads size) calls (length m.out) m.room r.printed);
-      complained = omega (arith, less complained_by (reads size) calls (length m.err) m.room r.complained);
-      one = r.one;
-    };
-  }
+  read_step size r =
+      let next = record (read_called m) { left = drop (min size (length m.left)) m.left } in
+      let adds : AddsLittle m next (reads size) o c o c = record { opened = omega arith; created = omega arith; written = omega arith; printed = omega arith; complained = omega arith } in
+      record {
+        next = next;
+        is_next = rw (unlisted m.read_number m.fail_reads r.reads_pass) refl;
+        faults = refl;
+        opened_names = o;
+        created_names = c;
+        ready = ready-next m next (reads size) calls o c o c r (same_host refl refl refl refl) adds r.opened_known r.created_known r.one;
+      }
 
   open_step : (name : List ℕ) → IsReady m (opens name ∷ calls) o c → Step m (opens name) calls
   open_step name r =
       let fits = names_with-fits m.room o name (omega (arith, less opened_by (opens name) calls (name_weight o) m.room r.opened)) in
       let weight = name_weight-push o name in
       let known : names_with m.room m.opened name ≡ Some (o ++ name ∷ []) = rw r.opened_known fits in
+      let next = record (read_called m) { opened = names_with m.room m.opened name; left = bytes_after name m.files m.left } in
+      let adds : AddsLittle m next (opens name) o c (o ++ name ∷ []) c = record { opened = omega (arith, weight); created = omega arith; written = omega arith; printed = omega arith; complained = omega arith } in
       record {
-        next = record (read_called m) { opened = names_with m.room m.opened name; left = bytes_after name m.files m.left };
+        next = next;
         is_next = rw (unlisted m.read_number m.fail_reads r.reads_pass, known, r.there.0) refl;
         faults = refl;
         opened_names = o ++ name ∷ [];
         created_names = c;
-        ready = record {
-          reads_pass = r.reads_pass;
-          writes_pass = r.writes_pass;
-          there = r.there.1;
-          opened_known = known;
-          created_known = r.created_known;
-          opened = omega (arith, weight, less opened_by (opens name) calls (name_weight o) m.room r.opened);
-          created = omega (arith, less created_by (opens name) calls (name_weight c) m.room r.created);
-          written = omega (arith, less written_by (opens name) calls (made_bytes m.making) m.room r.written);
-          printed = omega (arith, less printed_by (opens name) calls (length m.out) m.room r.printed);
-          complained = omega (arith, less complained_by (opens name) calls (length m.err) m.room r.complained);
-          one = r.one;
-        };
+        ready = ready-next m next (opens name) calls o c (o ++ name ∷ []) c r (same_host refl refl refl refl) adds known r.created_known r.one;
       }
 
   write_step : (chunk : List ℕ) → IsReady m (writes chunk ∷ calls) o c → Step m (writes chunk) calls
   write_step chunk r =
       let fits = less written_by (writes chunk) calls (made_bytes m.making) m.room r.written in
+      let next = record (write_called m) { making = with_bytes m.making chunk } in
+      let adds : AddsLittle m next (writes chunk) o c o c = record { opened = omega arith; created = omega arith; written = grown m.making chunk; printed = omega arith; complained = omega arith } in
       record {
-        next = record (write_called m) { making = with_bytes m.making chunk };
+        next = next;
         is_next = rw (unlisted m.write_number m.fail_writes r.writes_pass, within m.making m.room (length chunk) (omega (arith, fits))) refl;
         faults = refl;
         opened_names = o;
         created_names = c;
-        ready = record {
-          reads_pass = r.reads_pass;
-          writes_pass = r.writes_pass;
-          there = r.there.1;
-          opened_known = r.opened_known;
-          created_known = r.created_known;
-          opened = omega (arith, less opened_by (writes chunk) calls (name_weight o) m.room r.opened);
-          created = omega (arith, less created_by (writes chunk) calls (name_weight c) m.room r.created);
-          written = omega (arith, fits, grown m.making chunk);
-          printed = omega (arith, less printed_by (writes chunk) calls (length m.out) m.room r.printed);
-          complained = omega (arith, less complained_by (writes chunk) calls (length m.err) m.room r.complained);
-          one = Begun-write chunk r.one;
-        };
+        ready = ready-next m next (writes chunk) calls o c o c r (same_host refl refl refl refl) adds r.opened_known r.created_known (Begun-write chunk r.one);
       }
 
   finish_step : IsReady m (finishes ∷ calls) o c → Step m finishes calls
-  finish_step r = record {
-    next = record (write_called m) { making = None; made = m.made ++ optional m.making };
-    is_next = rw (unlisted m.write_number m.fail_writes r.writes_pass) refl;
-    faults = refl;
-    opened_names = o;
-    created_names = c;
-    ready = record {
-      reads_pass = r.reads_pass;
-      writes_pass = r.writes_pass;
-      there = r.there.1;
-      opened_known = r.opened_known;
-      created_known = r.created_known;
-      opened = omega (arith, less opened_by (finishes) calls (name_weight o) m.room r.opened);
-      created = omega (arith, less created_by (finishes) calls (name_weight c) m.room r.created);
-      written = omega (arith, less written_by finishes calls (made_bytes m.making) m.room r.written);
-      printed = omega (arith, less printed_by (finishes) calls (length m.out) m.room r.printed);
-      complained = omega (arith, less complained_by (finishes) calls (length m.err) m.room r.complained);
-      one = Begun-finish r.one;
-    };
-  }
+  finish_step r =
+      let next = record (write_called m) { making = None; made = m.made ++ optional m.making } in
+      let adds : AddsLittle m next finishes o c o c = record { opened = omega arith; created = omega arith; written = omega arith; printed = omega arith; complained = omega arith } in
+      record {
+        next = next;
+        is_next = rw (unlisted m.write_number m.fail_writes r.writes_pass) refl;
+        faults = refl;
+        opened_names = o;
+        created_names = c;
+        ready = ready-next m next finishes calls o c o c r (same_host refl refl refl refl) adds r.opened_known r.created_known (Begun-finish r.one);
+      }
 
   print_step : (text : List ℕ) → IsReady m (prints text ∷ calls) o c → Step m (prints text) calls
   print_step text r =
       let fits = less printed_by (prints text) calls (length m.out) m.room r.printed in
       let passes : nat_lt m.room (length m.out + length text) ≡ false = le-ltb _ _ (omega (arith, fits)) in
+      let next = record (write_called m) { out = m.out ++ text } in
+      let adds : AddsLittle m next (prints text) o c o c = record { opened = omega arith; created = omega arith; written = omega arith; printed = rw length-append (omega arith); complained = omega arith } in
       record {
-        next = record (write_called m) { out = m.out ++ text };
+        next = next;
         is_next = rw (unlisted m.write_number m.fail_writes r.writes_pass, passes) refl;
         faults = refl;
         opened_names = o;
         created_names = c;
-        ready = record {
-          reads_pass = r.reads_pass;
-          writes_pass = r.writes_pass;
-          there = r.there.1;
-          opened_known = r.opened_known;
-          created_known = r.created_known;
-          opened = omega (arith, less opened_by (prints text) calls (name_weight o) m.room r.opened);
-          created = omega (arith, less created_by (prints text) calls (name_weight c) m.room r.created);
-          written = omega (arith, less written_by (prints text) calls (made_bytes m.making) m.room r.written);
-          printed = rw length-append (omega (arith, fits));
-          complained = omega (arith, less complained_by (prints text) calls (length m.err) m.room r.complained);
-          one = r.one;
-        };
+        ready = ready-next m next (prints text) calls o c o c r (same_host refl refl refl refl) adds r.opened_known r.created_known r.one;
       }
 
   complain_step : (text : List ℕ) → IsReady m (complains text ∷ calls) o c → Step m (complains text) calls
   complain_step text r =
       let fits = less complained_by (complains text) calls (length m.err) m.room r.complained in
       let passes : nat_lt m.room (length m.err + length text) ≡ false = le-ltb _ _ (omega (arith, fits)) in
+      let next = record (write_called m) { err = m.err ++ text } in
+      let adds : AddsLittle m next (complains text) o c o c = record { opened = omega arith; created = omega arith; written = omega arith; printed = omega arith; complained = rw length-append (omega arith) } in
       record {
-        next = record (write_called m) { err = m.err ++ text };
+        next = next;
         is_next = rw (unlisted m.write_number m.fail_writes r.writes_pass, passes) refl;
         faults = refl;
         opened_names = o;
         created_names = c;
-        ready = record {
-          reads_pass = r.reads_pass;
-          writes_pass = r.writes_pass;
-          there = r.there.1;
-          opened_known = r.opened_known;
-          created_known = r.created_known;
-          opened = omega (arith, less opened_by (complains text) calls (name_weight o) m.room r.opened);
-          created = omega (arith, less created_by (complains text) calls (name_weight c) m.room r.created);
-          written = omega (arith, less written_by (complains text) calls (made_bytes m.making) m.room r.written);
-          printed = omega (arith, less printed_by (complains text) calls (length m.out) m.room r.printed);
-          complained = rw length-append (omega (arith, fits));
-          one = r.one;
-        };
+        ready = ready-next m next (complains text) calls o c o c r (same_host refl refl refl refl) adds r.opened_known r.created_known r.one;
       }
 
   create_step : (name : List ℕ) → IsReady m (creates name ∷ calls) o c → Step m (creates name) calls
@@ -222,25 +199,15 @@ module _ (m : Memory) (calls : List Call) (o c : List (List ℕ)) where
       let known : names_with m.room m.created name ≡ Some (c ++ name ∷ []) = rw r.created_known fits in
       let count : sum_by begun_by (creates name ∷ calls) ≡ 1 + sum_by begun_by calls = sum_by-cons begun_by (creates name) calls in
       let first = Begun-create r.one (sum_by begun_by calls) count in
+      let next = record (write_called m) { created = names_with m.room m.created name; making = Some (name, []) } in
+      let adds : AddsLittle m next (creates name) o c o (c ++ name ∷ []) = record { opened = omega arith; created = omega (arith, weight); written = omega arith; printed = omega arith; complained = omega arith } in
       record {
-        next = record (write_called m) { created = names_with m.room m.created name; making = Some (name, []) };
+        next = next;
         is_next = rw (unlisted m.write_number m.fail_writes r.writes_pass, known, first.0) refl;
         faults = refl;
         opened_names = o;
         created_names = c ++ name ∷ [];
-        ready = record {
-          reads_pass = r.reads_pass;
-          writes_pass = r.writes_pass;
-          there = r.there.1;
-          opened_known = r.opened_known;
-          created_known = known;
-          opened = omega (arith, less opened_by (creates name) calls (name_weight o) m.room r.opened);
-          created = omega (arith, weight, less created_by (creates name) calls (name_weight c) m.room r.created);
-          written = omega (arith, less written_by (creates name) calls (made_bytes m.making) m.room r.written);
-          printed = omega (arith, less printed_by (creates name) calls (length m.out) m.room r.printed);
-          complained = omega (arith, less complained_by (creates name) calls (length m.err) m.room r.complained);
-          one = rw first.1 begun;
-        };
+        ready = ready-next m next (creates name) calls o c o (c ++ name ∷ []) r (same_host refl refl refl refl) adds r.opened_known known (rw first.1 begun);
       }
 
 step : (m : Memory) (call : Call) (calls : List Call) (o c : List (List ℕ)) → IsReady m (call ∷ calls) o c → Step m call calls

@@ -4,25 +4,20 @@ use crate::counts::Counts;
 use crate::{Failed, Host, Sink, Source, World};
 use std::fs;
 use std::fs::File;
-use std::io::{BufWriter, ErrorKind, Read, Write};
+use std::io::{ErrorKind, Read, Write};
 use std::marker::Model;
-
-// How many bytes of the file being made are kept before they are handed to the system.
-const BUFFER: usize = 65_536;
 
 /// The files and the standard streams of the process: the trusted edge. It reveals no content.
 ///
-/// The file being made is buffered: all of what was written is sure to stand only once
-/// [`finish`](Host::finish) has answered `Ok`. [`print`](Host::print) and
-/// [`complain`](Host::complain) hand the whole text to the system before they answer, so that
-/// nothing is left to write when the program ends: hand them large chunks. A call of the system
-/// that fails, also for out of memory for a buffer, is a counted fault. Of this host only the
-/// causes are proved; that files and streams hold what was written is tested.
+/// [`write`](Sink::write), [`print`](Host::print) and [`complain`](Host::complain) hand all that
+/// they are given to the system before they answer, so that nothing is left to write when the program
+/// ends: hand them large chunks. A call of the system that fails is a counted fault. Of this host only
+/// the causes are proved; that files and streams hold what was written is tested.
 #[derive(Drop)]
 pub struct RealHost {
     rt: HostRuntime,
     input: Option<File>,
-    output: Option<BufWriter<File>>,
+    output: Option<File>,
     counts: Counts,
 }
 
@@ -104,26 +99,13 @@ impl Host for RealHost {
         let Ok(file) = fs::create(&self.rt, name) else {
             return Err(self.counts.write_failed());
         };
-        match BufWriter::with_capacity(self.rt.alloc(), BUFFER, file) {
-            Ok(file) => {
-                self.output = Some(file);
-                Ok(())
-            }
-            Err(_) => Err(self.counts.write_failed()),
-        }
+        self.output = Some(file);
+        Ok(())
     }
 
     fn finish(&mut self) -> Result<(), Failed> {
-        let Some(file) = &mut self.output else {
-            return Ok(());
-        };
-        match file.flush() {
-            Ok(()) => {
-                self.output = None;
-                Ok(())
-            }
-            Err(_) => Err(self.counts.write_failed()),
-        }
+        self.output = None;
+        Ok(())
     }
 
     fn print(&mut self, text: &[u8]) -> Result<(), Failed> {

@@ -8,6 +8,7 @@ pub mod SpelledLaws
 pub mod OneModule
 pub mod Cutting
 mod Worked
+mod WorkedFile
 mod WorkedAbsolute
 mod WorkedProgram
 mod WorkedLibrary

@@ -1,214 +1,69 @@
 -- A small absolute module: 120 bytes are its file, and so are the 122 of its written form; with a debug part that is
 -- passed over, 124 bytes are its file too.
-use Rattle.std.proofs.Common.{ℕ, true, false, List, [], ◌∷◌, Some, None, refl, inl, inr}
+use Rattle.std.proofs.Common.{ℕ, true, false, List, [], ◌∷◌, refl, inl, inr}
 use Rattle.mufom_records.specs.declared.record.Record.TheVariants as r
 use Rattle.mufom_records.specs.Fields.{span_at}
-use Rattle.mufom_module.specs.RecordParts.{section_part, external_part, debug_part, data_part, trailer_part}
-use Rattle.mufom_module.specs.Grammar.{FileParts, header_of, module_end, after_header, from_externals, from_debug, from_loads, from_trailer, IsCutInto, indexes_of, records_of, HasNames, States, SpellsModule}
-use Rattle.mufom_module.proofs.Cutting.{spelled, is_part, is_header, is_within, follow-by_test}
+use Rattle.mufom_module.specs.SpelledRecords.{SpelledRecord}
+use Rattle.mufom_module.specs.Grammar.{FileParts, SpellsModule}
+use Rattle.mufom_module.proofs.Cutting.{spelled}
+use Rattle.mufom_module.proofs.WorkedFile.{absolute_code, begin_of, lettered_descriptor, offsets_from, spells}
 use Rattle.mufom_module.proofs.Worked.{small, small_is_valid}
+
+-- a file of the module: its offsets, a debug part that is passed over, and the start
+abbrev small_file : List ℕ → List ℕ → SpelledRecord → FileParts
+small_file offsets skipped start = record {
+  begin = begin_of (0x41 ∷ []);
+  descriptor = lettered_descriptor;
+  offsets = offsets_from 0 offsets;
+  extension = [];
+  environment = [];
+  sections = absolute_code;
+  externals = [];
+  debug = [];
+  skipped = skipped;
+  loads = spelled (r.SetSection 1) (0xE5 ∷ 0x01 ∷ [])
+      ∷ spelled (r.SetPc 1 (span_at 3 3)) (0xE2 ∷ 0xD0 ∷ 0x01 ∷ 0x82 ∷ 0x10 ∷ 0x00 ∷ [])
+      ∷ spelled (r.Constant (span_at 2 4)) (0xED ∷ 0x04 ∷ 0x4E ∷ 0x71 ∷ 0x4E ∷ 0x75 ∷ [])
+      ∷ [];
+  trailer = start ∷ [];
+}
 
 abbrev plain_bytes : List ℕ
 plain_bytes = 0xE0 ∷ 0x05 ∷ 0x36 ∷ 0x38 ∷ 0x30 ∷ 0x30 ∷ 0x30 ∷ 0x01 ∷ 0x41 ∷ 0xEC ∷ 0x08 ∷ 0x04 ∷ 0xCD ∷ 0xE2 ∷ 0xD7 ∷ 0x00 ∷ 0x84 ∷ 0x00 ∷ 0x00 ∷ 0x00 ∷ 0x00 ∷ 0xE2 ∷ 0xD7 ∷ 0x01 ∷ 0x84 ∷ 0x00 ∷ 0x00 ∷ 0x00 ∷ 0x00 ∷ 0xE2 ∷ 0xD7 ∷ 0x02 ∷ 0x84 ∷ 0x00 ∷ 0x00 ∷ 0x00 ∷ 0x4D ∷ 0xE2 ∷ 0xD7 ∷ 0x03 ∷ 0x84 ∷ 0x00 ∷ 0x00 ∷ 0x00 ∷ 0x00 ∷ 0xE2 ∷ 0xD7 ∷ 0x04 ∷ 0x84 ∷ 0x00 ∷ 0x00 ∷ 0x00 ∷ 0x00 ∷ 0xE2 ∷ 0xD7 ∷ 0x05 ∷ 0x84 ∷ 0x00 ∷ 0x00 ∷ 0x00 ∷ 0x64 ∷ 0xE2 ∷ 0xD7 ∷ 0x06 ∷ 0x84 ∷ 0x00 ∷ 0x00 ∷ 0x00 ∷ 0x72 ∷ 0xE2 ∷ 0xD7 ∷ 0x07 ∷ 0x84 ∷ 0x00 ∷ 0x00 ∷ 0x00 ∷ 0x77 ∷ 0xE6 ∷ 0x01 ∷ 0xC1 ∷ 0xD3 ∷ 0xD0 ∷ 0x04 ∷ 0x63 ∷ 0x6F ∷ 0x64 ∷ 0x65 ∷ 0xE7 ∷ 0x01 ∷ 0x02 ∷ 0xE2 ∷ 0xD3 ∷ 0x01 ∷ 0x04 ∷ 0xE2 ∷ 0xCC ∷ 0x01 ∷ 0x82 ∷ 0x10 ∷ 0x00 ∷ 0xE5 ∷ 0x01 ∷ 0xE2 ∷ 0xD0 ∷ 0x01 ∷ 0x82 ∷ 0x10 ∷ 0x00 ∷ 0xED ∷ 0x04 ∷ 0x4E ∷ 0x71 ∷ 0x4E ∷ 0x75 ∷ 0xE2 ∷ 0xC7 ∷ 0x82 ∷ 0x10 ∷ 0x00 ∷ 0xE1 ∷ []
 
 abbrev plain_file : FileParts
-plain_file = record {
-  begin = spelled (r.ModuleBegin (span_at 2 5) (span_at 8 1)) (0xE0 ∷ 0x05 ∷ 0x36 ∷ 0x38 ∷ 0x30 ∷ 0x30 ∷ 0x30 ∷ 0x01 ∷ 0x41 ∷ []);
-  descriptor = spelled (r.Descriptor 8 4 (Some 0xCD)) (0xEC ∷ 0x08 ∷ 0x04 ∷ 0xCD ∷ []);
-  offsets = spelled (r.Offset 0 0) (0xE2 ∷ 0xD7 ∷ 0x00 ∷ 0x84 ∷ 0x00 ∷ 0x00 ∷ 0x00 ∷ 0x00 ∷ [])
-      ∷ spelled (r.Offset 1 0) (0xE2 ∷ 0xD7 ∷ 0x01 ∷ 0x84 ∷ 0x00 ∷ 0x00 ∷ 0x00 ∷ 0x00 ∷ [])
-      ∷ spelled (r.Offset 2 77) (0xE2 ∷ 0xD7 ∷ 0x02 ∷ 0x84 ∷ 0x00 ∷ 0x00 ∷ 0x00 ∷ 0x4D ∷ [])
-      ∷ spelled (r.Offset 3 0) (0xE2 ∷ 0xD7 ∷ 0x03 ∷ 0x84 ∷ 0x00 ∷ 0x00 ∷ 0x00 ∷ 0x00 ∷ [])
-      ∷ spelled (r.Offset 4 0) (0xE2 ∷ 0xD7 ∷ 0x04 ∷ 0x84 ∷ 0x00 ∷ 0x00 ∷ 0x00 ∷ 0x00 ∷ [])
-      ∷ spelled (r.Offset 5 100) (0xE2 ∷ 0xD7 ∷ 0x05 ∷ 0x84 ∷ 0x00 ∷ 0x00 ∷ 0x00 ∷ 0x64 ∷ [])
-      ∷ spelled (r.Offset 6 114) (0xE2 ∷ 0xD7 ∷ 0x06 ∷ 0x84 ∷ 0x00 ∷ 0x00 ∷ 0x00 ∷ 0x72 ∷ [])
-      ∷ spelled (r.Offset 7 119) (0xE2 ∷ 0xD7 ∷ 0x07 ∷ 0x84 ∷ 0x00 ∷ 0x00 ∷ 0x00 ∷ 0x77 ∷ [])
-      ∷ [];
-  extension = [];
-  environment = [];
-  sections = spelled (r.SectionType 1 true (Some 0xD0) (span_at 6 4) None None None) (0xE6 ∷ 0x01 ∷ 0xC1 ∷ 0xD3 ∷ 0xD0 ∷ 0x04 ∷ 0x63 ∷ 0x6F ∷ 0x64 ∷ 0x65 ∷ [])
-      ∷ spelled (r.Alignment 1 2 None) (0xE7 ∷ 0x01 ∷ 0x02 ∷ [])
-      ∷ spelled (r.SectionSize 1 4) (0xE2 ∷ 0xD3 ∷ 0x01 ∷ 0x04 ∷ [])
-      ∷ spelled (r.SectionBase 1 4096) (0xE2 ∷ 0xCC ∷ 0x01 ∷ 0x82 ∷ 0x10 ∷ 0x00 ∷ [])
-      ∷ [];
-  externals = [];
-  debug = [];
-  skipped = [];
-  loads = spelled (r.SetSection 1) (0xE5 ∷ 0x01 ∷ [])
-      ∷ spelled (r.SetPc 1 (span_at 3 3)) (0xE2 ∷ 0xD0 ∷ 0x01 ∷ 0x82 ∷ 0x10 ∷ 0x00 ∷ [])
-      ∷ spelled (r.Constant (span_at 2 4)) (0xED ∷ 0x04 ∷ 0x4E ∷ 0x71 ∷ 0x4E ∷ 0x75 ∷ [])
-      ∷ [];
-  trailer = spelled (r.Start (span_at 2 3)) (0xE2 ∷ 0xC7 ∷ 0x82 ∷ 0x10 ∷ 0x00 ∷ [])
-      ∷ [];
-}
-
-plain_is_cut : IsCutInto plain_bytes true plain_file
-plain_is_cut = record {
-  all = refl;
-  limit = is_within plain_bytes refl;
-  header = is_header (header_of plain_file) (after_header plain_file) refl refl;
-  offsets = (inr (refl, refl), (inr (refl, refl), (inl refl, (inr (refl, refl), (inr (refl, refl), (inl refl, (inl refl, refl)))))));
-  sections = is_part section_part plain_file.sections (from_externals plain_file) refl refl refl;
-  externals = is_part external_part plain_file.externals (from_debug plain_file) refl refl refl;
-  debug = is_part debug_part plain_file.debug (from_loads plain_file) refl refl refl;
-  debug_read = refl;
-  loads = is_part data_part plain_file.loads (from_trailer plain_file) refl refl refl;
-  trailer = is_part trailer_part plain_file.trailer module_end refl refl refl;
-}
-
-plain_has_names : HasNames plain_file
-plain_has_names = record { follow = follow-by_test [] (records_of plain_file) refl; values = refl; valued = refl }
-
-plain_states : States plain_file (indexes_of plain_file) small
-plain_states = record {
-  begin = (refl, refl);
-  descriptor = (refl, refl, inl refl);
-  extension = refl;
-  environment = refl;
-  sections = refl;
-  publics = refl;
-  references = refl;
-  debug = refl;
-  loads = refl;
-  start = refl;
-}
+plain_file = small_file (0 ∷ 0 ∷ 77 ∷ 0 ∷ 0 ∷ 100 ∷ 114 ∷ 119 ∷ []) [] (spelled (r.Start (span_at 2 3)) (0xE2 ∷ 0xC7 ∷ 0x82 ∷ 0x10 ∷ 0x00 ∷ []))
 
 plain_spells : SpellsModule small plain_bytes true
-plain_spells = (plain_file, plain_is_cut, plain_has_names, plain_states, small_is_valid)
+plain_spells = spells small plain_bytes true plain_file small_is_valid
+    (inr (refl, refl), (inr (refl, refl), (inl refl, (inr (refl, refl), (inr (refl, refl), (inl refl, (inl refl, refl)))))))
+    (refl, refl, refl, refl, (refl, refl, refl), (refl, refl, refl), (refl, refl, refl), (refl, refl, refl), (refl, refl, refl), refl)
+    (refl, refl, refl)
+    ((refl, refl), (refl, refl, inl refl), refl, refl, refl, refl, refl, refl, refl, refl)
 
 abbrev located_bytes : List ℕ
 located_bytes = 0xE0 ∷ 0x05 ∷ 0x36 ∷ 0x38 ∷ 0x30 ∷ 0x30 ∷ 0x30 ∷ 0x01 ∷ 0x41 ∷ 0xEC ∷ 0x08 ∷ 0x04 ∷ 0xCD ∷ 0xE2 ∷ 0xD7 ∷ 0x00 ∷ 0x84 ∷ 0x00 ∷ 0x00 ∷ 0x00 ∷ 0x00 ∷ 0xE2 ∷ 0xD7 ∷ 0x01 ∷ 0x84 ∷ 0x00 ∷ 0x00 ∷ 0x00 ∷ 0x00 ∷ 0xE2 ∷ 0xD7 ∷ 0x02 ∷ 0x84 ∷ 0x00 ∷ 0x00 ∷ 0x00 ∷ 0x4D ∷ 0xE2 ∷ 0xD7 ∷ 0x03 ∷ 0x84 ∷ 0x00 ∷ 0x00 ∷ 0x00 ∷ 0x00 ∷ 0xE2 ∷ 0xD7 ∷ 0x04 ∷ 0x84 ∷ 0x00 ∷ 0x00 ∷ 0x00 ∷ 0x00 ∷ 0xE2 ∷ 0xD7 ∷ 0x05 ∷ 0x84 ∷ 0x00 ∷ 0x00 ∷ 0x00 ∷ 0x64 ∷ 0xE2 ∷ 0xD7 ∷ 0x06 ∷ 0x84 ∷ 0x00 ∷ 0x00 ∷ 0x00 ∷ 0x72 ∷ 0xE2 ∷ 0xD7 ∷ 0x07 ∷ 0x84 ∷ 0x00 ∷ 0x00 ∷ 0x00 ∷ 0x79 ∷ 0xE6 ∷ 0x01 ∷ 0xC1 ∷ 0xD3 ∷ 0xD0 ∷ 0x04 ∷ 0x63 ∷ 0x6F ∷ 0x64 ∷ 0x65 ∷ 0xE7 ∷ 0x01 ∷ 0x02 ∷ 0xE2 ∷ 0xD3 ∷ 0x01 ∷ 0x04 ∷ 0xE2 ∷ 0xCC ∷ 0x01 ∷ 0x82 ∷ 0x10 ∷ 0x00 ∷ 0xE5 ∷ 0x01 ∷ 0xE2 ∷ 0xD0 ∷ 0x01 ∷ 0x82 ∷ 0x10 ∷ 0x00 ∷ 0xED ∷ 0x04 ∷ 0x4E ∷ 0x71 ∷ 0x4E ∷ 0x75 ∷ 0xE2 ∷ 0xC7 ∷ 0xBE ∷ 0x82 ∷ 0x10 ∷ 0x00 ∷ 0xBF ∷ 0xE1 ∷ []
 
 abbrev located_file : FileParts
-located_file = record {
-  begin = spelled (r.ModuleBegin (span_at 2 5) (span_at 8 1)) (0xE0 ∷ 0x05 ∷ 0x36 ∷ 0x38 ∷ 0x30 ∷ 0x30 ∷ 0x30 ∷ 0x01 ∷ 0x41 ∷ []);
-  descriptor = spelled (r.Descriptor 8 4 (Some 0xCD)) (0xEC ∷ 0x08 ∷ 0x04 ∷ 0xCD ∷ []);
-  offsets = spelled (r.Offset 0 0) (0xE2 ∷ 0xD7 ∷ 0x00 ∷ 0x84 ∷ 0x00 ∷ 0x00 ∷ 0x00 ∷ 0x00 ∷ [])
-      ∷ spelled (r.Offset 1 0) (0xE2 ∷ 0xD7 ∷ 0x01 ∷ 0x84 ∷ 0x00 ∷ 0x00 ∷ 0x00 ∷ 0x00 ∷ [])
-      ∷ spelled (r.Offset 2 77) (0xE2 ∷ 0xD7 ∷ 0x02 ∷ 0x84 ∷ 0x00 ∷ 0x00 ∷ 0x00 ∷ 0x4D ∷ [])
-      ∷ spelled (r.Offset 3 0) (0xE2 ∷ 0xD7 ∷ 0x03 ∷ 0x84 ∷ 0x00 ∷ 0x00 ∷ 0x00 ∷ 0x00 ∷ [])
-      ∷ spelled (r.Offset 4 0) (0xE2 ∷ 0xD7 ∷ 0x04 ∷ 0x84 ∷ 0x00 ∷ 0x00 ∷ 0x00 ∷ 0x00 ∷ [])
-      ∷ spelled (r.Offset 5 100) (0xE2 ∷ 0xD7 ∷ 0x05 ∷ 0x84 ∷ 0x00 ∷ 0x00 ∷ 0x00 ∷ 0x64 ∷ [])
-      ∷ spelled (r.Offset 6 114) (0xE2 ∷ 0xD7 ∷ 0x06 ∷ 0x84 ∷ 0x00 ∷ 0x00 ∷ 0x00 ∷ 0x72 ∷ [])
-      ∷ spelled (r.Offset 7 121) (0xE2 ∷ 0xD7 ∷ 0x07 ∷ 0x84 ∷ 0x00 ∷ 0x00 ∷ 0x00 ∷ 0x79 ∷ [])
-      ∷ [];
-  extension = [];
-  environment = [];
-  sections = spelled (r.SectionType 1 true (Some 0xD0) (span_at 6 4) None None None) (0xE6 ∷ 0x01 ∷ 0xC1 ∷ 0xD3 ∷ 0xD0 ∷ 0x04 ∷ 0x63 ∷ 0x6F ∷ 0x64 ∷ 0x65 ∷ [])
-      ∷ spelled (r.Alignment 1 2 None) (0xE7 ∷ 0x01 ∷ 0x02 ∷ [])
-      ∷ spelled (r.SectionSize 1 4) (0xE2 ∷ 0xD3 ∷ 0x01 ∷ 0x04 ∷ [])
-      ∷ spelled (r.SectionBase 1 4096) (0xE2 ∷ 0xCC ∷ 0x01 ∷ 0x82 ∷ 0x10 ∷ 0x00 ∷ [])
-      ∷ [];
-  externals = [];
-  debug = [];
-  skipped = [];
-  loads = spelled (r.SetSection 1) (0xE5 ∷ 0x01 ∷ [])
-      ∷ spelled (r.SetPc 1 (span_at 3 3)) (0xE2 ∷ 0xD0 ∷ 0x01 ∷ 0x82 ∷ 0x10 ∷ 0x00 ∷ [])
-      ∷ spelled (r.Constant (span_at 2 4)) (0xED ∷ 0x04 ∷ 0x4E ∷ 0x71 ∷ 0x4E ∷ 0x75 ∷ [])
-      ∷ [];
-  trailer = spelled (r.Start (span_at 3 3)) (0xE2 ∷ 0xC7 ∷ 0xBE ∷ 0x82 ∷ 0x10 ∷ 0x00 ∷ 0xBF ∷ [])
-      ∷ [];
-}
-
-located_is_cut : IsCutInto located_bytes true located_file
-located_is_cut = record {
-  all = refl;
-  limit = is_within located_bytes refl;
-  header = is_header (header_of located_file) (after_header located_file) refl refl;
-  offsets = (inr (refl, refl), (inr (refl, refl), (inl refl, (inr (refl, refl), (inr (refl, refl), (inl refl, (inl refl, refl)))))));
-  sections = is_part section_part located_file.sections (from_externals located_file) refl refl refl;
-  externals = is_part external_part located_file.externals (from_debug located_file) refl refl refl;
-  debug = is_part debug_part located_file.debug (from_loads located_file) refl refl refl;
-  debug_read = refl;
-  loads = is_part data_part located_file.loads (from_trailer located_file) refl refl refl;
-  trailer = is_part trailer_part located_file.trailer module_end refl refl refl;
-}
-
-located_has_names : HasNames located_file
-located_has_names = record { follow = follow-by_test [] (records_of located_file) refl; values = refl; valued = refl }
-
-located_states : States located_file (indexes_of located_file) small
-located_states = record {
-  begin = (refl, refl);
-  descriptor = (refl, refl, inl refl);
-  extension = refl;
-  environment = refl;
-  sections = refl;
-  publics = refl;
-  references = refl;
-  debug = refl;
-  loads = refl;
-  start = refl;
-}
+located_file = small_file (0 ∷ 0 ∷ 77 ∷ 0 ∷ 0 ∷ 100 ∷ 114 ∷ 121 ∷ []) [] (spelled (r.Start (span_at 3 3)) (0xE2 ∷ 0xC7 ∷ 0xBE ∷ 0x82 ∷ 0x10 ∷ 0x00 ∷ 0xBF ∷ []))
 
 located_spells : SpellsModule small located_bytes true
-located_spells = (located_file, located_is_cut, located_has_names, located_states, small_is_valid)
+located_spells = spells small located_bytes true located_file small_is_valid
+    (inr (refl, refl), (inr (refl, refl), (inl refl, (inr (refl, refl), (inr (refl, refl), (inl refl, (inl refl, refl)))))))
+    (refl, refl, refl, refl, (refl, refl, refl), (refl, refl, refl), (refl, refl, refl), (refl, refl, refl), (refl, refl, refl), refl)
+    (refl, refl, refl)
+    ((refl, refl), (refl, refl, inl refl), refl, refl, refl, refl, refl, refl, refl, refl)
 
 -- the debug part is passed over
 abbrev skipped_bytes : List ℕ
 skipped_bytes = 0xE0 ∷ 0x05 ∷ 0x36 ∷ 0x38 ∷ 0x30 ∷ 0x30 ∷ 0x30 ∷ 0x01 ∷ 0x41 ∷ 0xEC ∷ 0x08 ∷ 0x04 ∷ 0xCD ∷ 0xE2 ∷ 0xD7 ∷ 0x00 ∷ 0x84 ∷ 0x00 ∷ 0x00 ∷ 0x00 ∷ 0x00 ∷ 0xE2 ∷ 0xD7 ∷ 0x01 ∷ 0x84 ∷ 0x00 ∷ 0x00 ∷ 0x00 ∷ 0x00 ∷ 0xE2 ∷ 0xD7 ∷ 0x02 ∷ 0x84 ∷ 0x00 ∷ 0x00 ∷ 0x00 ∷ 0x4D ∷ 0xE2 ∷ 0xD7 ∷ 0x03 ∷ 0x84 ∷ 0x00 ∷ 0x00 ∷ 0x00 ∷ 0x00 ∷ 0xE2 ∷ 0xD7 ∷ 0x04 ∷ 0x84 ∷ 0x00 ∷ 0x00 ∷ 0x00 ∷ 0x64 ∷ 0xE2 ∷ 0xD7 ∷ 0x05 ∷ 0x84 ∷ 0x00 ∷ 0x00 ∷ 0x00 ∷ 0x68 ∷ 0xE2 ∷ 0xD7 ∷ 0x06 ∷ 0x84 ∷ 0x00 ∷ 0x00 ∷ 0x00 ∷ 0x76 ∷ 0xE2 ∷ 0xD7 ∷ 0x07 ∷ 0x84 ∷ 0x00 ∷ 0x00 ∷ 0x00 ∷ 0x7B ∷ 0xE6 ∷ 0x01 ∷ 0xC1 ∷ 0xD3 ∷ 0xD0 ∷ 0x04 ∷ 0x63 ∷ 0x6F ∷ 0x64 ∷ 0x65 ∷ 0xE7 ∷ 0x01 ∷ 0x02 ∷ 0xE2 ∷ 0xD3 ∷ 0x01 ∷ 0x04 ∷ 0xE2 ∷ 0xCC ∷ 0x01 ∷ 0x82 ∷ 0x10 ∷ 0x00 ∷ 0xF2 ∷ 0x20 ∷ 0xCE ∷ 0x01 ∷ 0xE5 ∷ 0x01 ∷ 0xE2 ∷ 0xD0 ∷ 0x01 ∷ 0x82 ∷ 0x10 ∷ 0x00 ∷ 0xED ∷ 0x04 ∷ 0x4E ∷ 0x71 ∷ 0x4E ∷ 0x75 ∷ 0xE2 ∷ 0xC7 ∷ 0x82 ∷ 0x10 ∷ 0x00 ∷ 0xE1 ∷ []
 
 abbrev skipped_file : FileParts
-skipped_file = record {
-  begin = spelled (r.ModuleBegin (span_at 2 5) (span_at 8 1)) (0xE0 ∷ 0x05 ∷ 0x36 ∷ 0x38 ∷ 0x30 ∷ 0x30 ∷ 0x30 ∷ 0x01 ∷ 0x41 ∷ []);
-  descriptor = spelled (r.Descriptor 8 4 (Some 0xCD)) (0xEC ∷ 0x08 ∷ 0x04 ∷ 0xCD ∷ []);
-  offsets = spelled (r.Offset 0 0) (0xE2 ∷ 0xD7 ∷ 0x00 ∷ 0x84 ∷ 0x00 ∷ 0x00 ∷ 0x00 ∷ 0x00 ∷ [])
-      ∷ spelled (r.Offset 1 0) (0xE2 ∷ 0xD7 ∷ 0x01 ∷ 0x84 ∷ 0x00 ∷ 0x00 ∷ 0x00 ∷ 0x00 ∷ [])
-      ∷ spelled (r.Offset 2 77) (0xE2 ∷ 0xD7 ∷ 0x02 ∷ 0x84 ∷ 0x00 ∷ 0x00 ∷ 0x00 ∷ 0x4D ∷ [])
-      ∷ spelled (r.Offset 3 0) (0xE2 ∷ 0xD7 ∷ 0x03 ∷ 0x84 ∷ 0x00 ∷ 0x00 ∷ 0x00 ∷ 0x00 ∷ [])
-      ∷ spelled (r.Offset 4 100) (0xE2 ∷ 0xD7 ∷ 0x04 ∷ 0x84 ∷ 0x00 ∷ 0x00 ∷ 0x00 ∷ 0x64 ∷ [])
-      ∷ spelled (r.Offset 5 104) (0xE2 ∷ 0xD7 ∷ 0x05 ∷ 0x84 ∷ 0x00 ∷ 0x00 ∷ 0x00 ∷ 0x68 ∷ [])
-      ∷ spelled (r.Offset 6 118) (0xE2 ∷ 0xD7 ∷ 0x06 ∷ 0x84 ∷ 0x00 ∷ 0x00 ∷ 0x00 ∷ 0x76 ∷ [])
-      ∷ spelled (r.Offset 7 123) (0xE2 ∷ 0xD7 ∷ 0x07 ∷ 0x84 ∷ 0x00 ∷ 0x00 ∷ 0x00 ∷ 0x7B ∷ [])
-      ∷ [];
-  extension = [];
-  environment = [];
-  sections = spelled (r.SectionType 1 true (Some 0xD0) (span_at 6 4) None None None) (0xE6 ∷ 0x01 ∷ 0xC1 ∷ 0xD3 ∷ 0xD0 ∷ 0x04 ∷ 0x63 ∷ 0x6F ∷ 0x64 ∷ 0x65 ∷ [])
-      ∷ spelled (r.Alignment 1 2 None) (0xE7 ∷ 0x01 ∷ 0x02 ∷ [])
-      ∷ spelled (r.SectionSize 1 4) (0xE2 ∷ 0xD3 ∷ 0x01 ∷ 0x04 ∷ [])
-      ∷ spelled (r.SectionBase 1 4096) (0xE2 ∷ 0xCC ∷ 0x01 ∷ 0x82 ∷ 0x10 ∷ 0x00 ∷ [])
-      ∷ [];
-  externals = [];
-  debug = [];
-  skipped = 0xF2 ∷ 0x20 ∷ 0xCE ∷ 0x01 ∷ [];
-  loads = spelled (r.SetSection 1) (0xE5 ∷ 0x01 ∷ [])
-      ∷ spelled (r.SetPc 1 (span_at 3 3)) (0xE2 ∷ 0xD0 ∷ 0x01 ∷ 0x82 ∷ 0x10 ∷ 0x00 ∷ [])
-      ∷ spelled (r.Constant (span_at 2 4)) (0xED ∷ 0x04 ∷ 0x4E ∷ 0x71 ∷ 0x4E ∷ 0x75 ∷ [])
-      ∷ [];
-  trailer = spelled (r.Start (span_at 2 3)) (0xE2 ∷ 0xC7 ∷ 0x82 ∷ 0x10 ∷ 0x00 ∷ [])
-      ∷ [];
-}
-
-skipped_is_cut : IsCutInto skipped_bytes false skipped_file
-skipped_is_cut = record {
-  all = refl;
-  limit = is_within skipped_bytes refl;
-  header = is_header (header_of skipped_file) (after_header skipped_file) refl refl;
-  offsets = (inr (refl, refl), (inr (refl, refl), (inl refl, (inr (refl, refl), (inl refl, (inl refl, (inl refl, refl)))))));
-  sections = is_part section_part skipped_file.sections (from_externals skipped_file) refl refl refl;
-  externals = is_part external_part skipped_file.externals (from_debug skipped_file) refl refl refl;
-  debug = is_part debug_part skipped_file.debug (from_loads skipped_file) refl refl refl;
-  debug_read = refl;
-  loads = is_part data_part skipped_file.loads (from_trailer skipped_file) refl refl refl;
-  trailer = is_part trailer_part skipped_file.trailer module_end refl refl refl;
-}
-
-skipped_has_names : HasNames skipped_file
-skipped_has_names = record { follow = follow-by_test [] (records_of skipped_file) refl; values = refl; valued = refl }
-
-skipped_states : States skipped_file (indexes_of skipped_file) small
-skipped_states = record {
-  begin = (refl, refl);
-  descriptor = (refl, refl, inl refl);
-  extension = refl;
-  environment = refl;
-  sections = refl;
-  publics = refl;
-  references = refl;
-  debug = refl;
-  loads = refl;
-  start = refl;
-}
+skipped_file = small_file (0 ∷ 0 ∷ 77 ∷ 0 ∷ 100 ∷ 104 ∷ 118 ∷ 123 ∷ []) (0xF2 ∷ 0x20 ∷ 0xCE ∷ 0x01 ∷ []) (spelled (r.Start (span_at 2 3)) (0xE2 ∷ 0xC7 ∷ 0x82 ∷ 0x10 ∷ 0x00 ∷ []))
 
 skipped_spells : SpellsModule small skipped_bytes false
-skipped_spells = (skipped_file, skipped_is_cut, skipped_has_names, skipped_states, small_is_valid)
+skipped_spells = spells small skipped_bytes false skipped_file small_is_valid
+    (inr (refl, refl), (inr (refl, refl), (inl refl, (inr (refl, refl), (inl refl, (inl refl, (inl refl, refl)))))))
+    (refl, refl, refl, refl, (refl, refl, refl), (refl, refl, refl), (refl, refl, refl), (refl, refl, refl), (refl, refl, refl), refl)
+    (refl, refl, refl)
+    ((refl, refl), (refl, refl, inl refl), refl, refl, refl, refl, refl, refl, refl, refl)

@@ -1,12 +1,13 @@
 -- Files that are none: an offset a byte late, an index that is not declared, an index that is declared twice, a value that
 -- is stated twice, bytes before a section is set, and a record in another part.
-use Rattle.std.proofs.Common.{◌≡◌, ◌⊎◌, ℕ, true, false, List, [], ◌∷◌, Some, None, refl, inl, inr, arith}
+use Rattle.std.proofs.Common.{◌≡◌, ◌⊎◌, ℕ, true, false, List, [], ◌∷◌, None, refl, inl, inr, arith}
 use Rattle.mufom_records.specs.declared.record.Record.TheVariants as r
 use Rattle.mufom_records.specs.Fields.{span_at}
 use Rattle.mufom_module.specs.SpelledRecords.{SpelledRecord}
 use Rattle.mufom_module.specs.RecordParts.{external_part, stands_in}
 use Rattle.mufom_module.specs.Grammar.{StandAt, declares_again, states_again, names_unknown, has_no_section}
 use Rattle.mufom_module.proofs.Cutting.{spelled, cut}
+use Rattle.mufom_module.proofs.WorkedFile.{absolute_code}
 
 -- parts of 23, 14 and 5 bytes after a header of 77, where the data part is stated to begin at 101 and not at 100
 abbrev data_bytes : List ℕ
@@ -24,11 +25,7 @@ late h = elsewhere_than h.1.1.1.1.1.0 where
   elsewhere_than (inr e) = absurd (omega (arith, e.0))
 
 abbrev before : List SpelledRecord
-before = spelled (r.SectionType 1 true (Some 0xD0) (span_at 6 4) None None None) (0xE6 ∷ 0x01 ∷ 0xC1 ∷ 0xD3 ∷ 0xD0 ∷ 0x04 ∷ 0x63 ∷ 0x6F ∷ 0x64 ∷ 0x65 ∷ [])
-    ∷ spelled (r.Alignment 1 2 None) (0xE7 ∷ 0x01 ∷ 0x02 ∷ [])
-    ∷ spelled (r.SectionSize 1 4) (0xE2 ∷ 0xD3 ∷ 0x01 ∷ 0x04 ∷ [])
-    ∷ spelled (r.SectionBase 1 4096) (0xE2 ∷ 0xCC ∷ 0x01 ∷ 0x82 ∷ 0x10 ∷ 0x00 ∷ [])
-    ∷ []
+before = absolute_code
 
 -- SB of index 2, where 1 is declared
 unknown : names_unknown before (spelled (r.SetSection 2) (0xE5 ∷ 0x02 ∷ [])) ≡ true

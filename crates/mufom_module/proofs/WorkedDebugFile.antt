@@ -14,9 +14,9 @@ use Rattle.mufom_module.specs.declared.module.Order.TheVariants as orders
 use Rattle.mufom_module.specs.declared.module.Parts.{Parts}
 use Rattle.mufom_module.specs.Written.{weight}
 use Rattle.mufom_module.specs.Defects.{IsValid}
-use Rattle.mufom_module.specs.RecordParts.{section_part, external_part, debug_part, data_part, trailer_part}
-use Rattle.mufom_module.specs.Grammar.{FileParts, header_of, module_end, after_header, from_externals, from_debug, from_loads, from_trailer, IsCutInto, indexes_of, records_of, HasNames, States, SpellsModule}
-use Rattle.mufom_module.proofs.Cutting.{spelled, is_part, is_header, is_within, follow-by_test}
+use Rattle.mufom_module.specs.Grammar.{FileParts, SpellsModule}
+use Rattle.mufom_module.proofs.Cutting.{spelled}
+use Rattle.mufom_module.proofs.WorkedFile.{begin_of, lettered_descriptor, offsets_from, spells}
 
 -- the function inside the block of the module
 abbrev inner : List DebugItem
@@ -77,17 +77,9 @@ debugged_bytes = 0xE0 ∷ 0x05 ∷ 0x36 ∷ 0x38 ∷ 0x30 ∷ 0x30 ∷ 0x30 ∷ 
 
 abbrev debugged_file : FileParts
 debugged_file = record {
-  begin = spelled (r.ModuleBegin (span_at 2 5) (span_at 8 1)) (0xE0 ∷ 0x05 ∷ 0x36 ∷ 0x38 ∷ 0x30 ∷ 0x30 ∷ 0x30 ∷ 0x01 ∷ 0x41 ∷ []);
-  descriptor = spelled (r.Descriptor 8 4 (Some 0xCD)) (0xEC ∷ 0x08 ∷ 0x04 ∷ 0xCD ∷ []);
-  offsets = spelled (r.Offset 0 0) (0xE2 ∷ 0xD7 ∷ 0x00 ∷ 0x84 ∷ 0x00 ∷ 0x00 ∷ 0x00 ∷ 0x00 ∷ [])
-      ∷ spelled (r.Offset 1 0) (0xE2 ∷ 0xD7 ∷ 0x01 ∷ 0x84 ∷ 0x00 ∷ 0x00 ∷ 0x00 ∷ 0x00 ∷ [])
-      ∷ spelled (r.Offset 2 77) (0xE2 ∷ 0xD7 ∷ 0x02 ∷ 0x84 ∷ 0x00 ∷ 0x00 ∷ 0x00 ∷ 0x4D ∷ [])
-      ∷ spelled (r.Offset 3 0) (0xE2 ∷ 0xD7 ∷ 0x03 ∷ 0x84 ∷ 0x00 ∷ 0x00 ∷ 0x00 ∷ 0x00 ∷ [])
-      ∷ spelled (r.Offset 4 90) (0xE2 ∷ 0xD7 ∷ 0x04 ∷ 0x84 ∷ 0x00 ∷ 0x00 ∷ 0x00 ∷ 0x5A ∷ [])
-      ∷ spelled (r.Offset 5 0) (0xE2 ∷ 0xD7 ∷ 0x05 ∷ 0x84 ∷ 0x00 ∷ 0x00 ∷ 0x00 ∷ 0x00 ∷ [])
-      ∷ spelled (r.Offset 6 0) (0xE2 ∷ 0xD7 ∷ 0x06 ∷ 0x84 ∷ 0x00 ∷ 0x00 ∷ 0x00 ∷ 0x00 ∷ [])
-      ∷ spelled (r.Offset 7 138) (0xE2 ∷ 0xD7 ∷ 0x07 ∷ 0x84 ∷ 0x00 ∷ 0x00 ∷ 0x00 ∷ 0x8A ∷ [])
-      ∷ [];
+  begin = begin_of (0x41 ∷ []);
+  descriptor = lettered_descriptor;
+  offsets = offsets_from 0 (0 ∷ 0 ∷ 77 ∷ 0 ∷ 90 ∷ 0 ∷ 0 ∷ 138 ∷ []);
   extension = [];
   environment = [];
   sections = spelled (r.SectionType 1 false (Some 0xD0) (span_at 5 4) None None None) (0xE6 ∷ 0x01 ∷ 0xC3 ∷ 0xD0 ∷ 0x04 ∷ 0x63 ∷ 0x6F ∷ 0x64 ∷ 0x65 ∷ [])
@@ -108,36 +100,9 @@ debugged_file = record {
   trailer = [];
 }
 
-debugged_is_cut : IsCutInto debugged_bytes true debugged_file
-debugged_is_cut = record {
-  all = refl;
-  limit = is_within debugged_bytes refl;
-  header = is_header (header_of debugged_file) (after_header debugged_file) refl refl;
-  offsets = (inr (refl, refl), (inr (refl, refl), (inl refl, (inr (refl, refl), (inl refl, (inr (refl, refl), (inr (refl, refl), refl)))))));
-  sections = is_part section_part debugged_file.sections (from_externals debugged_file) refl refl refl;
-  externals = is_part external_part debugged_file.externals (from_debug debugged_file) refl refl refl;
-  debug = is_part debug_part debugged_file.debug (from_loads debugged_file) refl refl refl;
-  debug_read = refl;
-  loads = is_part data_part debugged_file.loads (from_trailer debugged_file) refl refl refl;
-  trailer = is_part trailer_part debugged_file.trailer module_end refl refl refl;
-}
-
-debugged_has_names : HasNames debugged_file
-debugged_has_names = record { follow = follow-by_test [] (records_of debugged_file) refl; values = refl; valued = refl }
-
-debugged_states : States debugged_file (indexes_of debugged_file) debugged
-debugged_states = record {
-  begin = (refl, refl);
-  descriptor = (refl, refl, inl refl);
-  extension = refl;
-  environment = refl;
-  sections = refl;
-  publics = refl;
-  references = refl;
-  debug = marks_are;
-  loads = refl;
-  start = refl;
-}
-
 debugged_spells : SpellsModule debugged debugged_bytes true
-debugged_spells = (debugged_file, debugged_is_cut, debugged_has_names, debugged_states, debugged_is_valid)
+debugged_spells = spells debugged debugged_bytes true debugged_file debugged_is_valid
+    (inr (refl, refl), (inr (refl, refl), (inl refl, (inr (refl, refl), (inl refl, (inr (refl, refl), (inr (refl, refl), refl)))))))
+    (refl, refl, refl, refl, (refl, refl, refl), (refl, refl, refl), (refl, refl, refl), (refl, refl, refl), (refl, refl, refl), refl)
+    (refl, refl, refl)
+    ((refl, refl), (refl, refl, inl refl), refl, refl, refl, refl, refl, marks_are, refl, refl)

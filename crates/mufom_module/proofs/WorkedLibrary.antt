@@ -11,9 +11,9 @@ use Rattle.mufom_module.specs.declared.module.Order.TheVariants as orders
 use Rattle.mufom_module.specs.declared.module.Parts.{Parts}
 use Rattle.mufom_module.specs.Written.{weight}
 use Rattle.mufom_module.specs.Defects.{IsValid}
-use Rattle.mufom_module.specs.RecordParts.{section_part, external_part, debug_part, data_part, trailer_part}
-use Rattle.mufom_module.specs.Grammar.{FileParts, header_of, module_end, after_header, from_externals, from_debug, from_loads, from_trailer, IsCutInto, indexes_of, records_of, HasNames, States, SpellsModule}
-use Rattle.mufom_module.proofs.Cutting.{spelled, is_part, is_header, is_within, follow-by_test}
+use Rattle.mufom_module.specs.Grammar.{FileParts, SpellsModule}
+use Rattle.mufom_module.proofs.Cutting.{spelled}
+use Rattle.mufom_module.proofs.WorkedFile.{begin_of, plain_descriptor, offsets_from, spells}
 
 abbrev library : Parts
 library = record {
@@ -42,17 +42,9 @@ library_bytes = 0xE0 ∷ 0x05 ∷ 0x36 ∷ 0x38 ∷ 0x30 ∷ 0x30 ∷ 0x30 ∷ 0
 
 abbrev library_file : FileParts
 library_file = record {
-  begin = spelled (r.ModuleBegin (span_at 2 5) (span_at 8 3)) (0xE0 ∷ 0x05 ∷ 0x36 ∷ 0x38 ∷ 0x30 ∷ 0x30 ∷ 0x30 ∷ 0x03 ∷ 0x6C ∷ 0x69 ∷ 0x62 ∷ []);
-  descriptor = spelled (r.Descriptor 8 4 None) (0xEC ∷ 0x08 ∷ 0x04 ∷ []);
-  offsets = spelled (r.Offset 0 0) (0xE2 ∷ 0xD7 ∷ 0x00 ∷ 0x84 ∷ 0x00 ∷ 0x00 ∷ 0x00 ∷ 0x00 ∷ [])
-      ∷ spelled (r.Offset 1 0) (0xE2 ∷ 0xD7 ∷ 0x01 ∷ 0x84 ∷ 0x00 ∷ 0x00 ∷ 0x00 ∷ 0x00 ∷ [])
-      ∷ spelled (r.Offset 2 78) (0xE2 ∷ 0xD7 ∷ 0x02 ∷ 0x84 ∷ 0x00 ∷ 0x00 ∷ 0x00 ∷ 0x4E ∷ [])
-      ∷ spelled (r.Offset 3 92) (0xE2 ∷ 0xD7 ∷ 0x03 ∷ 0x84 ∷ 0x00 ∷ 0x00 ∷ 0x00 ∷ 0x5C ∷ [])
-      ∷ spelled (r.Offset 4 0) (0xE2 ∷ 0xD7 ∷ 0x04 ∷ 0x84 ∷ 0x00 ∷ 0x00 ∷ 0x00 ∷ 0x00 ∷ [])
-      ∷ spelled (r.Offset 5 104) (0xE2 ∷ 0xD7 ∷ 0x05 ∷ 0x84 ∷ 0x00 ∷ 0x00 ∷ 0x00 ∷ 0x68 ∷ [])
-      ∷ spelled (r.Offset 6 0) (0xE2 ∷ 0xD7 ∷ 0x06 ∷ 0x84 ∷ 0x00 ∷ 0x00 ∷ 0x00 ∷ 0x00 ∷ [])
-      ∷ spelled (r.Offset 7 110) (0xE2 ∷ 0xD7 ∷ 0x07 ∷ 0x84 ∷ 0x00 ∷ 0x00 ∷ 0x00 ∷ 0x6E ∷ [])
-      ∷ [];
+  begin = begin_of (0x6C ∷ 0x69 ∷ 0x62 ∷ []);
+  descriptor = plain_descriptor;
+  offsets = offsets_from 0 (0 ∷ 0 ∷ 78 ∷ 92 ∷ 0 ∷ 104 ∷ 0 ∷ 110 ∷ []);
   extension = [];
   environment = [];
   sections = spelled (r.SectionType 1 false (Some 0xD0) (span_at 5 5) None None None) (0xE6 ∷ 0x01 ∷ 0xC3 ∷ 0xD0 ∷ 0x05 ∷ 0x2E ∷ 0x74 ∷ 0x65 ∷ 0x78 ∷ 0x74 ∷ [])
@@ -69,36 +61,9 @@ library_file = record {
   trailer = [];
 }
 
-library_is_cut : IsCutInto library_bytes true library_file
-library_is_cut = record {
-  all = refl;
-  limit = is_within library_bytes refl;
-  header = is_header (header_of library_file) (after_header library_file) refl refl;
-  offsets = (inr (refl, refl), (inr (refl, refl), (inl refl, (inl refl, (inr (refl, refl), (inl refl, (inr (refl, refl), refl)))))));
-  sections = is_part section_part library_file.sections (from_externals library_file) refl refl refl;
-  externals = is_part external_part library_file.externals (from_debug library_file) refl refl refl;
-  debug = is_part debug_part library_file.debug (from_loads library_file) refl refl refl;
-  debug_read = refl;
-  loads = is_part data_part library_file.loads (from_trailer library_file) refl refl refl;
-  trailer = is_part trailer_part library_file.trailer module_end refl refl refl;
-}
-
-library_has_names : HasNames library_file
-library_has_names = record { follow = follow-by_test [] (records_of library_file) refl; values = refl; valued = refl }
-
-library_states : States library_file (indexes_of library_file) library
-library_states = record {
-  begin = (refl, refl);
-  descriptor = (refl, refl, inr refl);
-  extension = refl;
-  environment = refl;
-  sections = refl;
-  publics = refl;
-  references = refl;
-  debug = refl;
-  loads = refl;
-  start = refl;
-}
-
 library_spells : SpellsModule library library_bytes true
-library_spells = (library_file, library_is_cut, library_has_names, library_states, library_is_valid)
+library_spells = spells library library_bytes true library_file library_is_valid
+    (inr (refl, refl), (inr (refl, refl), (inl refl, (inl refl, (inr (refl, refl), (inl refl, (inr (refl, refl), refl)))))))
+    (refl, refl, refl, refl, (refl, refl, refl), (refl, refl, refl), (refl, refl, refl), (refl, refl, refl), (refl, refl, refl), refl)
+    (refl, refl, refl)
+    ((refl, refl), (refl, refl, inr refl), refl, refl, refl, refl, refl, refl, refl, refl)

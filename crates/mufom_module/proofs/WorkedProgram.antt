@@ -12,9 +12,9 @@ use Rattle.mufom_module.specs.declared.module.Order.TheVariants as orders
 use Rattle.mufom_module.specs.declared.module.Parts.{Parts}
 use Rattle.mufom_module.specs.Written.{weight}
 use Rattle.mufom_module.specs.Defects.{IsValid}
-use Rattle.mufom_module.specs.RecordParts.{section_part, external_part, debug_part, data_part, trailer_part}
-use Rattle.mufom_module.specs.Grammar.{FileParts, header_of, module_end, after_header, from_externals, from_debug, from_loads, from_trailer, IsCutInto, indexes_of, records_of, HasNames, States, SpellsModule}
-use Rattle.mufom_module.proofs.Cutting.{spelled, is_part, is_header, is_within, follow-by_test}
+use Rattle.mufom_module.specs.Grammar.{FileParts, SpellsModule}
+use Rattle.mufom_module.proofs.Cutting.{spelled}
+use Rattle.mufom_module.proofs.WorkedFile.{begin_of, plain_descriptor, offsets_from, spells}
 
 -- the base of the section and 4
 abbrev entry : Tree
@@ -52,17 +52,9 @@ program_bytes = 0xE0 ∷ 0x05 ∷ 0x36 ∷ 0x38 ∷ 0x30 ∷ 0x30 ∷ 0x30 ∷ 0
 
 abbrev program_file : FileParts
 program_file = record {
-  begin = spelled (r.ModuleBegin (span_at 2 5) (span_at 8 4)) (0xE0 ∷ 0x05 ∷ 0x36 ∷ 0x38 ∷ 0x30 ∷ 0x30 ∷ 0x30 ∷ 0x04 ∷ 0x70 ∷ 0x72 ∷ 0x6F ∷ 0x67 ∷ []);
-  descriptor = spelled (r.Descriptor 8 4 None) (0xEC ∷ 0x08 ∷ 0x04 ∷ []);
-  offsets = spelled (r.Offset 0 79) (0xE2 ∷ 0xD7 ∷ 0x00 ∷ 0x84 ∷ 0x00 ∷ 0x00 ∷ 0x00 ∷ 0x4F ∷ [])
-      ∷ spelled (r.Offset 1 82) (0xE2 ∷ 0xD7 ∷ 0x01 ∷ 0x84 ∷ 0x00 ∷ 0x00 ∷ 0x00 ∷ 0x52 ∷ [])
-      ∷ spelled (r.Offset 2 85) (0xE2 ∷ 0xD7 ∷ 0x02 ∷ 0x84 ∷ 0x00 ∷ 0x00 ∷ 0x00 ∷ 0x55 ∷ [])
-      ∷ spelled (r.Offset 3 102) (0xE2 ∷ 0xD7 ∷ 0x03 ∷ 0x84 ∷ 0x00 ∷ 0x00 ∷ 0x00 ∷ 0x66 ∷ [])
-      ∷ spelled (r.Offset 4 0) (0xE2 ∷ 0xD7 ∷ 0x04 ∷ 0x84 ∷ 0x00 ∷ 0x00 ∷ 0x00 ∷ 0x00 ∷ [])
-      ∷ spelled (r.Offset 5 129) (0xE2 ∷ 0xD7 ∷ 0x05 ∷ 0x84 ∷ 0x00 ∷ 0x00 ∷ 0x00 ∷ 0x81 ∷ [])
-      ∷ spelled (r.Offset 6 155) (0xE2 ∷ 0xD7 ∷ 0x06 ∷ 0x84 ∷ 0x00 ∷ 0x00 ∷ 0x00 ∷ 0x9B ∷ [])
-      ∷ spelled (r.Offset 7 163) (0xE2 ∷ 0xD7 ∷ 0x07 ∷ 0x84 ∷ 0x00 ∷ 0x00 ∷ 0x00 ∷ 0xA3 ∷ [])
-      ∷ [];
+  begin = begin_of (0x70 ∷ 0x72 ∷ 0x6F ∷ 0x67 ∷ []);
+  descriptor = plain_descriptor;
+  offsets = offsets_from 0 (79 ∷ 82 ∷ 85 ∷ 102 ∷ 0 ∷ 129 ∷ 155 ∷ 163 ∷ []);
   extension = 0xF0 ∷ 0x20 ∷ 0x00 ∷ [];
   environment = 0xF0 ∷ 0x21 ∷ 0x00 ∷ [];
   sections = spelled (r.SectionType 1 false (Some 0xD0) (span_at 5 5) None None None) (0xE6 ∷ 0x01 ∷ 0xC3 ∷ 0xD0 ∷ 0x05 ∷ 0x2E ∷ 0x74 ∷ 0x65 ∷ 0x78 ∷ 0x74 ∷ [])
@@ -87,36 +79,9 @@ program_file = record {
       ∷ [];
 }
 
-program_is_cut : IsCutInto program_bytes true program_file
-program_is_cut = record {
-  all = refl;
-  limit = is_within program_bytes refl;
-  header = is_header (header_of program_file) (after_header program_file) refl refl;
-  offsets = (inl refl, (inl refl, (inl refl, (inl refl, (inr (refl, refl), (inl refl, (inl refl, refl)))))));
-  sections = is_part section_part program_file.sections (from_externals program_file) refl refl refl;
-  externals = is_part external_part program_file.externals (from_debug program_file) refl refl refl;
-  debug = is_part debug_part program_file.debug (from_loads program_file) refl refl refl;
-  debug_read = refl;
-  loads = is_part data_part program_file.loads (from_trailer program_file) refl refl refl;
-  trailer = is_part trailer_part program_file.trailer module_end refl refl refl;
-}
-
-program_has_names : HasNames program_file
-program_has_names = record { follow = follow-by_test [] (records_of program_file) refl; values = refl; valued = refl }
-
-program_states : States program_file (indexes_of program_file) program
-program_states = record {
-  begin = (refl, refl);
-  descriptor = (refl, refl, inr refl);
-  extension = refl;
-  environment = refl;
-  sections = refl;
-  publics = refl;
-  references = refl;
-  debug = refl;
-  loads = refl;
-  start = refl;
-}
-
 program_spells : SpellsModule program program_bytes true
-program_spells = (program_file, program_is_cut, program_has_names, program_states, program_is_valid)
+program_spells = spells program program_bytes true program_file program_is_valid
+    (inl refl, (inl refl, (inl refl, (inl refl, (inr (refl, refl), (inl refl, (inl refl, refl)))))))
+    (refl, refl, refl, refl, (refl, refl, refl), (refl, refl, refl), (refl, refl, refl), (refl, refl, refl), (refl, refl, refl), refl)
+    (refl, refl, refl)
+    ((refl, refl), (refl, refl, inr refl), refl, refl, refl, refl, refl, refl, refl, refl)

@@ -103,11 +103,7 @@ fn thirty_three_open_blocks_are_too_deep(rt: HostRuntime) {
 
 // Bytes that are one too many for a string.
 fn long(alloc: Global) -> Result<Bytes, NoMemory> {
-    let mut bytes = Bytes::new(alloc);
-    for _ in 0..65_536 {
-        bytes.push(0)?;
-    }
-    Ok(bytes)
+    Bytes::from_slice(alloc, &[0; 65_536])
 }
 
 #[test]

@@ -2,3 +2,4 @@ pub mod Values
 pub mod SpellingLaws
 pub mod StringLaws
 pub mod ShortestLaws
+pub mod LengthLaws

@@ -9,17 +9,17 @@ use Rattle.mufom_numbers.proofs.Values.{value_after-low, big_endian-below}
 
 -- ---- leading zeros state nothing
 
-without_leading_zeros-value : (bytes : List ℕ) → big_endian (without_leading_zeros bytes) ≡ big_endian bytes
+pub without_leading_zeros-value : (bytes : List ℕ) → big_endian (without_leading_zeros bytes) ≡ big_endian bytes
 without_leading_zeros-value [] = refl
 without_leading_zeros-value (zero ∷ bytes) = without_leading_zeros-value bytes
 without_leading_zeros-value (suc b ∷ bytes) = refl
 
-without_leading_zeros-bytes : (bytes : List ℕ) → AreBytes bytes → AreBytes (without_leading_zeros bytes)
+pub without_leading_zeros-bytes : (bytes : List ℕ) → AreBytes bytes → AreBytes (without_leading_zeros bytes)
 without_leading_zeros-bytes [] fits = tt
 without_leading_zeros-bytes (zero ∷ bytes) fits = without_leading_zeros-bytes bytes fits.1
 without_leading_zeros-bytes (suc b ∷ bytes) fits = fits
 
-without_leading_zeros-length : (bytes : List ℕ) → length (without_leading_zeros bytes) ≤ length bytes
+pub without_leading_zeros-length : (bytes : List ℕ) → length (without_leading_zeros bytes) ≤ length bytes
 without_leading_zeros-length [] = omega arith
 without_leading_zeros-length (zero ∷ bytes) = omega (arith, without_leading_zeros-length bytes)
 without_leading_zeros-length (suc b ∷ bytes) = omega arith
@@ -28,19 +28,19 @@ first : (b p w : ℕ) → (0 + suc b) * p ≤ w → p ≤ w
 first b p w h = omega arith
 
 -- bytes without leading zeros, of some value, are worth at least 256 for each byte but the first
-without_leading_zeros-high : (bytes : List ℕ) → 0 < big_endian bytes → 256 ^ (length (without_leading_zeros bytes) - 1) ≤ big_endian bytes
+pub without_leading_zeros-high : (bytes : List ℕ) → 0 < big_endian bytes → 256 ^ (length (without_leading_zeros bytes) - 1) ≤ big_endian bytes
 without_leading_zeros-high [] some = absurd (omega arith)
 without_leading_zeros-high (zero ∷ bytes) some = without_leading_zeros-high bytes some
 without_leading_zeros-high (suc b ∷ bytes) some = rw sub-one (first b (256 ^ length bytes) _ (value_after-low (0 + suc b) bytes))
 
 -- ---- the eight bytes of a number
 
-bytes_high_first-bytes : (k n : ℕ) → AreBytes (bytes_high_first k n)
+pub bytes_high_first-bytes : (k n : ℕ) → AreBytes (bytes_high_first k n)
 bytes_high_first-bytes zero n = tt
 bytes_high_first-bytes (suc zero) n = (omega arith, tt)
 bytes_high_first-bytes (suc (suc k)) n = (omega arith, bytes_high_first-bytes (suc k) n)
 
-to_be_bytes-value : (n : ℕ) → n < 2 ^ 64 → big_endian (to_be_bytes w64 n) ≡ n
+pub to_be_bytes-value : (n : ℕ) → n < 2 ^ 64 → big_endian (to_be_bytes w64 n) ≡ n
 to_be_bytes-value n fits = omega (arith, from_be_bytes-to_be_bytes_8 n fits)
 
 -- ---- the shortest spelling

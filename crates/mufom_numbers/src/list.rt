@@ -6,15 +6,12 @@ use std::marker::Model;
 
 /// A list that grows at its end, over `Vec`. Contracts see it as the list of its items.
 ///
-/// It can stand in a type that holds itself. Only [`push`](List::push) and
-/// [`from_slice`](List::from_slice) take memory.
+/// It can stand in a type that holds itself. Only [`push`](List::push),
+/// [`single`](List::single) and [`with_capacity`](List::with_capacity) take memory.
 #[derive(Debug, Drop)]
 pub struct List<T> {
     items: Vec<T>,
 }
-
-/// Bytes that are kept, of no character set.
-pub type Bytes = List<u8>;
 
 impl<T> Model for List<T> {
     ghost use Rattle.std.specs.Prelude.{List};
@@ -35,6 +32,14 @@ impl<T> List<T> {
         List {
             items: Vec::new(alloc),
         }
+    }
+
+    /// An empty list with room for `count` items, which are then added without taking memory.
+    pub fn with_capacity(alloc: Global, count: usize) -> Result<List<T>, NoMemory>
+        ensures { IfOk result (λ list. list ≡ []) }
+    {
+        let items = Vec::with_capacity(alloc, count)?;
+        Ok(List { items })
     }
 
     /// The list of the items of a `Vec`. Takes no memory.
@@ -90,6 +95,15 @@ impl<T> List<T> {
 }
 
 impl<T: Drop> List<T> {
+    /// The list of one item, in memory for just that one.
+    pub fn single(alloc: Global, item: T) -> Result<List<T>, NoMemory>
+        ensures { IfOk result (λ list. list ≡ item ∷ []) }
+    {
+        let mut list = List::with_capacity(alloc, 1)?;
+        list.push(item)?;
+        Ok(list)
+    }
+
     /// Adds an item at the end. Where there is no memory the list stays as it was.
     pub fn push(&mut self, item: T) -> Result<(), NoMemory>
         ensures ok { OnOk result (self.new ≡ self.old ++ item ∷ []) }
@@ -97,15 +111,5 @@ impl<T: Drop> List<T> {
     {
         self.items.push(item)?;
         Ok(())
-    }
-}
-
-impl List<u8> {
-    /// A copy of the bytes.
-    pub fn from_slice(alloc: Global, bytes: &[u8]) -> Result<Bytes, NoMemory>
-        ensures { IfOk result (λ list. list ≡ bytes.now) }
-    {
-        let items = Vec::from_slice(alloc, bytes)?;
-        Ok(List { items })
     }
 }

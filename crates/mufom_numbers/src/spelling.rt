@@ -1,4 +1,5 @@
 ghost use Rattle.std.specs.Prelude.{◌≡◌, ◌↔◌, ◌⊎◌, ◌+◌, ◌<◌, ◌≤◌, ◌^◌, ℕ, List, [], ◌∷◌, ◌++◌, length, take};
+ghost use Rattle.std.specs.Int.{w64, to_be_bytes};
 ghost use Rattle.mufom_numbers.specs.Spelling.{IsStringLead, SpellsNumber, SpellsString, number_at, string_at, string_after, shortest_number, shortest_lead, without_leading_zeros, big_endian, IfGot, IsCutOff, BeginsIn, NoneIsShorter};
 
 use crate::{Reason, Span, Taken};
@@ -101,16 +102,12 @@ fn string(input: &[u8]) -> Taken<Span>
     }
 }
 
-// The bytes from the first that is not 0 on.
-fn significant(bytes: &[u8]) -> &[u8]
-    ensures value { result.now ≡ without_leading_zeros bytes.now }
-    ensures length { length result.now ≤ length bytes.now }
+// How many bytes a number has from its first that is not 0 on.
+fn significant(value: u64) -> usize
+    ensures count { result ≡ length (without_leading_zeros (to_be_bytes w64 value)) }
+    ensures within { result ≤ 8 }
 {
-    let mut rest = bytes;
-    while let [0, after @ ..] = rest {
-        rest = after;
-    }
-    rest
+    8 - value.leading_zeros() as usize / 8
 }
 
 /// The shortest spelling of a number; of 0, which has two of one byte, the byte 00. Takes no memory.
@@ -131,13 +128,22 @@ fn shortest(value: u64) -> ArrayVec<u8, 9>
         spelling.push(value as u8);
         return spelling;
     }
-    let all = value.to_be_bytes();
-    let bytes = significant(&all);
-    spelling.push(128 + bytes.len() as u8);
-    for byte in bytes {
+    let count = significant(value);
+    spelling.push(128 + count as u8);
+    for byte in &value.to_be_bytes()[8 - count..] {
         spelling.push(*byte);
     }
     spelling
+}
+
+/// How many bytes the shortest spelling of a number has. Takes no memory.
+pub fn number_length(value: u64) -> usize
+    ensures { result ≡ length (shortest_number value) }
+{
+    if value >= 128 {
+        return 1 + significant(value);
+    }
+    1
 }
 
 /// The shortest lead of a string of this many bytes. Takes no memory.

@@ -74,6 +74,7 @@ fn lists_grow_and_shrink_at_the_end(rt: HostRuntime) -> Result<(), Fail> {
     assert_eq!(rt; list.pop(), Some(9));
     assert_eq!(rt; list.as_slice(), [7].as_slice());
     assert_eq!(rt; list.into_vec().as_slice(), [7].as_slice());
+    assert_eq!(rt; List::single(rt.alloc(), 5)?.as_slice(), [5].as_slice());
     Ok(())
 }
 
@@ -81,6 +82,10 @@ fn lists_grow_and_shrink_at_the_end(rt: HostRuntime) -> Result<(), Fail> {
 fn bytes_and_texts_are_copied(rt: HostRuntime) -> Result<(), Fail> {
     let bytes = Bytes::from_slice(rt.alloc(), &[0, 255])?;
     assert_eq!(rt; bytes.as_slice(), [0, 255].as_slice());
+    let long = Bytes::from_slice(rt.alloc(), b"twenty-six bytes of a name")?;
+    assert_eq!(rt; long.as_slice(), b"twenty-six bytes of a name".as_slice());
+    assert_eq!(rt; (long.len(), long.is_empty()), (26, false));
+    assert!(rt; Bytes::new(rt.alloc()).is_empty());
     let text = Text::from_str(rt.alloc(), "code")?;
     assert_eq!(rt; text.as_str(), "code");
     Ok(())

@@ -80,6 +80,7 @@ impl IndexTable {
     }
 
     /// The position of an index, from 0, and `None` where it is not declared. Takes no memory.
+    #[inline]
     pub fn position(&self, index: u32) -> Option<u32>
         ensures declared { IsSome result ↔ Contains self.now index }
         ensures there { IfSome result (λ place. slice_get self.now place ≡ Some index) }

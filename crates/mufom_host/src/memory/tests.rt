@@ -1,6 +1,6 @@
 use super::MemHost;
 use crate::{Host, Sink, Source, write_all};
-use mufom_numbers::{List, NoMemory, Text};
+use mufom_numbers::{Bytes, List, NoMemory, Text};
 use std::alloc::Global;
 use std::process::Abort;
 use std::test::Fail;
@@ -104,7 +104,7 @@ fn host(alloc: Global, reads: &[u64], writes: &[u64], room: usize) -> Result<Mem
     let mut files = List::new(alloc);
     for (name, bytes) in [("a", "hello"), ("b", "xyz")] {
         let name = Text::from_str(alloc, name)?;
-        let bytes = List::from_slice(alloc, bytes.as_bytes())?;
+        let bytes = Bytes::from_slice(alloc, bytes.as_bytes())?;
         files.push((name, bytes))?;
     }
     let fail_reads = numbers(alloc, reads)?;
