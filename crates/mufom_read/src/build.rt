@@ -16,7 +16,7 @@ use crate::prefix::Prefix;
 use crate::sections::Sections;
 use mufom_module::{Module, Parts};
 use mufom_names::NameTable;
-use mufom_numbers::{List, NoMemory};
+use mufom_numbers::{Bytes, List, NoMemory};
 
 // What the header states, which was read as a whole.
 fn whole_header(header: Header) -> (Names, Layout)
@@ -60,8 +60,8 @@ fn parts_of(prefix: Prefix) -> Result<Parts, NoMemory>
         name,
         maus: layout.maus,
         order: layout.order,
-        ext: List::from_vec(extension),
-        env: List::from_vec(environment),
+        ext: Bytes::from_vec(extension),
+        env: Bytes::from_vec(environment),
         sections: List::from_vec(list),
         names: NameTable {
             publics: publics.into_placed(&tables),

@@ -80,29 +80,6 @@ fn item_of(
     }
 }
 
-// What awaits items after a record that is no item.
-fn opened_by(alloc: Global, record: &Record) -> OpenLoad
-    ensures { result ≡ opened_by «record».now }
-{
-    match record {
-        Record::Relocate => OpenLoad::Relocate,
-        Record::RepeatRelocate(count) => OpenLoad::Repeat {
-            count: *count,
-            items: List::new(alloc),
-        },
-        _ => OpenLoad::Nothing,
-    }
-}
-
-// The list of one item.
-fn one_item(alloc: Global, item: Item) -> Result<List<Item>, NoMemory>
-    ensures { IfOk result (λ items. items ≡ item ∷ []) }
-{
-    let mut items = List::new(alloc);
-    items.push(item)?;
-    Ok(items)
-}
-
 // The load that sets the program counter of the section to this value.
 fn set_pc(tables: &Tables, index: u32, value: Option<Postfix>) -> Load
     requires { (tree : Tree) × (value ≡ Some tree) }
@@ -140,7 +117,7 @@ fn add_loads(
         }
         Record::RepeatConstant(count, run) => {
             let bytes = record.copy_text(alloc, *run)?;
-            let items = one_item(alloc, Item::Literal(bytes))?;
+            let items = List::single(alloc, Item::Literal(bytes))?;
             loads.push(Load::Repeat {
                 count: *count,
                 items,
@@ -174,10 +151,42 @@ impl Loads {
     fn close(&mut self) -> Result<(), NoMemory>
         ensures { OnOk result (self.new ≡ loads_and (closed self.old) open_load.Nothing) }
     {
+        match &self.awaiting {
+            OpenLoad::Repeat { .. } => self.close_repeat(),
+            OpenLoad::Relocate => {
+                self.awaiting = OpenLoad::Nothing;
+                Ok(())
+            }
+            OpenLoad::Nothing => Ok(()),
+        }
+    }
+
+    // The same where a repeat may await items.
+    #[inline(never)]
+    fn close_repeat(&mut self) -> Result<(), NoMemory>
+        ensures { OnOk result (self.new ≡ loads_and (closed self.old) open_load.Nothing) }
+    {
         match mem::replace(&mut self.awaiting, OpenLoad::Nothing) {
             OpenLoad::Repeat { count, items } => self.loads.push(Load::Repeat { count, items }),
             OpenLoad::Relocate => Ok(()),
             OpenLoad::Nothing => Ok(()),
+        }
+    }
+
+    // Lets what the record opens await items, where nothing does.
+    fn open(&mut self, alloc: Global, record: &Record)
+        requires { self.old.awaiting ≡ open_load.Nothing }
+        ensures { self.new ≡ loads_and self.old.loads (opened_by «record».now) }
+    {
+        match record {
+            Record::Relocate => self.awaiting = OpenLoad::Relocate,
+            Record::RepeatRelocate(count) => {
+                self.awaiting = OpenLoad::Repeat {
+                    count: *count,
+                    items: List::new(alloc),
+                }
+            }
+            _ => {}
         }
     }
 
@@ -208,7 +217,7 @@ impl Loads {
             (opened_by «record».now.row.now)) }
     {
         self.close()?;
-        self.awaiting = opened_by(alloc, record.row);
+        self.open(alloc, record.row);
         add_loads(alloc, tables, &mut self.loads, record, value)
     }
 

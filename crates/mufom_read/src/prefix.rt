@@ -1,6 +1,6 @@
 //! The records and unread bytes with which a stream begins, and the step after them.
 
-ghost use Rattle.std.specs.Prelude.{◌≡◌, ◌≢◌, ◌+◌, ◌-◌, ◌≤◌, ◌<◌, [], ◌++◌, ◌∷◌, ℕ, Bool, true, false, ◌==◌, ◌&&◌, not, if◌then◌else◌, Some, OnOk, List, length, take, None, option_map, IfOk, MatchOption};
+ghost use Rattle.std.specs.Prelude.{◌≡◌, ◌≢◌, ◌+◌, ◌-◌, ◌≤◌, ◌<◌, [], ◌++◌, ◌∷◌, ℕ, Bool, true, false, ◌==◌, ◌&&◌, not, if◌then◌else◌, Some, OnOk, List, length, take, None, option_map, IfOk, IsTrue, MatchOption};
 ghost use Rattle.std.specs.List.{cons_option};
 ghost use Rattle.mufom_module.specs.SpelledRecords as records;
 ghost use Rattle.mufom_module.specs.RecordParts as parts;
@@ -197,8 +197,21 @@ impl Prefix {
         }
     }
 
+    // Whether the byte after the prefix stands in the part that is kept as the location of the last step.
+    fn stays_in_part(&self) -> bool
+        ensures { IsTrue result → next_location (as_location self.now.location) self.now.offsets self.now.size
+            ≡ as_location self.now.location }
+    {
+        match self.location {
+            Location::Part(extent) => self.size < extent.to,
+            Location::Header(_) => false,
+            Location::End => false,
+        }
+    }
+
     // Where the byte after the prefix stands, whose last step stood in the location that is kept. It is found anew only where
     // a part ends.
+    #[inline(never)]
     fn next_location(&self) -> Location
         ensures { as_location result ≡ next_location (as_location self.now.location) self.now.offsets self.now.size }
     {
@@ -370,7 +383,9 @@ impl Prefix {
         self.awaits_items = opens_items(next.row);
         self.ended = is_module_end(next.row);
         self.size += next.bytes.len() as u64;
-        self.location = self.next_location();
+        if !self.stays_in_part() {
+            self.location = self.next_location();
+        }
         Ok(())
     }
 
@@ -436,7 +451,9 @@ impl Prefix {
             _ => {}
         }
         self.size += bytes.len() as u64;
-        self.location = self.next_location();
+        if !self.stays_in_part() {
+            self.location = self.next_location();
+        }
         Ok(())
     }
 

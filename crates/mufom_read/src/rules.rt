@@ -1,6 +1,6 @@
 //! The rules for a whole record in its part, after the records before it.
 
-ghost use Rattle.std.specs.Prelude.{◌≡◌, ◌∷◌, [], ◌&&◌, not, option_map, option_to_list, List};
+ghost use Rattle.std.specs.Prelude.{◌≡◌, ◌∷◌, [], ◌&&◌, not, option_map, option_to_list, List, None, Some, if◌then◌else◌};
 ghost use Rattle.std.specs.List.{list_any, list_all};
 ghost use Rattle.mufom_expr.specs.Mentions.{variables_in};
 ghost use Rattle.mufom_expr.specs.Value.{variables_of};
@@ -223,8 +223,87 @@ fn misplaces_counter(tables: &Tables, record: &Record, tree: Option<&Postfix>) -
     }
 }
 
+// The reason, where the rule is broken.
+fn broken_if(is_broken: bool, reason: Reason) -> Option<Reason>
+    ensures { result ≡ (if is_broken then Some reason else None) }
+{
+    if is_broken { Some(reason) } else { None }
+}
+
+// The first rule that a record without an expression breaks, where these blocks are open.
+fn first_broken_plainly(tables: &Tables, blocks: &[OpenBlock], record: &Record) -> Option<Reason>
+    ensures { result ≡ rule_broken_in tables.now (stacked [] blocks.now) «record».now None }
+{
+    match record {
+        Record::PublicName(i, _) => broken_if(has(&tables.publics, *i), Reason::DuplicateIndex),
+        Record::ReferenceName(i, _) => {
+            broken_if(has(&tables.references, *i), Reason::DuplicateIndex)
+        }
+        Record::DebugName(i, _) => broken_if(has(&tables.debug_names, *i), Reason::DuplicateIndex),
+        Record::SetSection(i) => broken_if(!has(&tables.sections, *i), Reason::UnknownIndex),
+        Record::Constant(_) => broken_if(tables.current.is_none(), Reason::NoSection),
+        Record::Relocate => broken_if(tables.current.is_none(), Reason::NoSection),
+        Record::RepeatConstant(..) => broken_if(tables.current.is_none(), Reason::NoSection),
+        Record::RepeatRelocate(_) => broken_if(tables.current.is_none(), Reason::NoSection),
+        Record::ConstantItem(_) => None,
+        _ => first_of_all_broken(tables, blocks, record, None),
+    }
+}
+
+// The first rule that a record with this expression breaks, where these blocks are open.
+fn first_broken_with(
+    tables: &Tables,
+    blocks: &[OpenBlock],
+    record: &Record,
+    tree: &Postfix,
+) -> Option<Reason>
+    ensures { result ≡ rule_broken_in tables.now (stacked [] blocks.now) «record».now (Some tree.now) }
+{
+    match record {
+        Record::PublicValue(i, _) => {
+            if !has(&tables.publics, *i) {
+                Some(Reason::UnknownIndex)
+            } else if has(&tables.values, *i) {
+                Some(Reason::DuplicateValue)
+            } else {
+                broken_if(has_other_counter(None, tree), Reason::BadP)
+            }
+        }
+        Record::SetPc(i, _) => {
+            if !has(&tables.sections, *i) || has_unknown_variable(tables, tree) {
+                Some(Reason::UnknownIndex)
+            } else {
+                broken_if(has_other_counter(Some(*i), tree), Reason::BadP)
+            }
+        }
+        Record::FieldItem(..) => {
+            if has_unknown_variable(tables, tree) {
+                Some(Reason::UnknownIndex)
+            } else {
+                broken_if(has_other_counter(tables.current, tree), Reason::BadP)
+            }
+        }
+        _ => first_of_all_broken(tables, blocks, record, Some(tree)),
+    }
+}
+
 // The first rule that the record, with this expression, breaks, where these blocks are open.
 fn first_broken(
+    tables: &Tables,
+    blocks: &[OpenBlock],
+    record: &Record,
+    tree: Option<&Postfix>,
+) -> Option<Reason>
+    ensures { result ≡ rule_broken_in tables.now (stacked [] blocks.now) «record».now (option_map (λ t. t.now) tree.entry) }
+{
+    match tree {
+        None => first_broken_plainly(tables, blocks, record),
+        Some(tree) => first_broken_with(tables, blocks, record, tree),
+    }
+}
+
+// The same, by all rules in turn.
+fn first_of_all_broken(
     tables: &Tables,
     blocks: &[OpenBlock],
     record: &Record,

@@ -1,16 +1,14 @@
 -- An input of which more is wanted is short: the longest record whose end may not stand yet is a module's begin, with two strings.
-use Rattle.std.proofs.Common.{◌≡◌, ◌≢◌, ◌⊎◌, ℕ, ◌+◌, ◌-◌, ◌*◌, ◌<◌, ◌≤◌, ◌==◌, Bool, true, false, List, [], ◌∷◌, ◌++◌, length, Option, Some, None, refl, sym, ap, subst, ◌∙◌, inl, inr, arith, length-append, if◌then◌else◌, nat_lt}
+use Rattle.std.proofs.Common.{◌≡◌, ◌≢◌, ℕ, ◌+◌, ◌-◌, ◌*◌, ◌<◌, ◌≤◌, ◌==◌, Bool, true, false, List, [], ◌∷◌, ◌++◌, length, Option, Some, None, refl, ap, ◌∙◌, inl, inr, arith, length-append, if◌then◌else◌}
 use Rattle.std.proofs.lemmas.Bool.{leb-true}
-use Rattle.std.proofs.Math.Dec.{leb}
-use Rattle.mufom_numbers.specs.Spelling.{AreBytes, SpellsNumber, SpellsString, IsStringLead, IsCutOff}
+use Rattle.mufom_numbers.specs.Spelling.{AreBytes, SpellsNumber, SpellsString, IsStringLead}
 use Rattle.mufom_expr.specs.declared.token.Token.{Token}
 use Rattle.mufom_expr.specs.declared.token.Token.TheVariants.{Number, Var, Fun}
-use Rattle.mufom_expr.specs.Codes.{letter_byte}
 use Rattle.mufom_expr.specs.Spelled.{SpellsToken, SpellsTokens, IsCutOffToken}
 use Rattle.mufom_records.specs.declared.record.Mode.{Mode}
 use Rattle.mufom_records.specs.declared.record.Mode.TheVariants as mode
-use Rattle.mufom_records.specs.Fields.{Field, ValueOf, byte, number, string, run, letter, optional_number, numbers, expression, optional_expression, is_one_of, SpellsField, SpellsNumbers, SpellsExpression, first_of}
-use Rattle.mufom_records.specs.Faults.{IsCutOffNumber, IsCutOffExpression, IsCutOffField, IsCutOffLayout, IsCutOffRecord}
+use Rattle.mufom_records.specs.Fields.{Field, ValueOf, byte, number, string, run, letter, optional_number, numbers, expression, optional_expression, is_one_of, SpellsField, SpellsNumbers}
+use Rattle.mufom_records.specs.Faults.{IsCutOffNumber, IsCutOffExpression, IsCutOffField, IsCutOffLayout}
 use Rattle.mufom_records.specs.declared.record.Record.{Record}
 use Rattle.mufom_records.specs.declared.record.Record.TheVariants as r
 use Rattle.mufom_numbers.specs.declared.taken.Span.{Span}

@@ -20,6 +20,7 @@ fn begins_token(b: u8) -> bool
 }
 
 // What the token at an offset makes of the terms before it, where `room` further tokens may stand.
+#[inline(always)]
 fn terms_at(room: usize, terms: usize, input: &[u8], at: usize) -> Result<(usize, usize), Stop>
     requires at { at ≤ length input.now }
     requires terms { terms ≤ 255 }
@@ -63,18 +64,27 @@ fn end_of(is_empty: bool, terms: usize, at: usize) -> Result<((), usize), Stop>
 }
 
 // The offset after the tokens from an offset on, where `room` of them may stand: at most 255.
-fn tokens(room: usize, terms: usize, input: &[u8], at: usize) -> Result<((), usize), Stop>
+fn tokens(
+    mut room: usize,
+    mut terms: usize,
+    input: &[u8],
+    mut at: usize,
+) -> Result<((), usize), Stop>
     requires at { at ≤ length input.now }
     requires few { room + terms ≤ 255 }
     ensures exact { result ≡ tokens_from room terms input.now at }
     ensures within { IfOk result (λ r. (at ≤ r.1) × (r.1 ≤ length input.now)) }
 {
-    let (b, _) = byte(input, at)?;
-    if !begins_token(b) {
-        return end_of(room == 255, terms, at);
+    loop {
+        let (b, _) = byte(input, at)?;
+        if !begins_token(b) {
+            return end_of(room == 255, terms, at);
+        }
+        let (left, after) = terms_at(room, terms, input, at)?;
+        room -= 1;
+        terms = left;
+        at = after;
     }
-    let (terms, after) = terms_at(room, terms, input, at)?;
-    tokens(room - 1, terms, input, after)
 }
 
 /// Where the bytes of an expression stand.

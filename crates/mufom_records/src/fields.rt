@@ -10,6 +10,9 @@ use crate::stop::Stop;
 use arrayvec::ArrayVec;
 use mufom_numbers::{Reason, Span, Taken, codes, read_id, read_number};
 
+// The first byte that is no number by itself, but the lead of one.
+const FIRST_LEAD: u8 = 0x80;
+
 /// A fault at an offset.
 pub(crate) fn bad(offset: usize, reason: Reason) -> Stop
     ensures { result ≡ Stop.Bad offset reason }
@@ -30,7 +33,21 @@ pub(crate) fn byte(input: &[u8], at: usize) -> Result<(u8, usize), Stop>
     }
 }
 
+// Any number: most are one byte.
 fn plain_number(input: &[u8], at: usize) -> Result<(u64, usize), Stop>
+    requires { at ≤ length input.now }
+    ensures exact { result ≡ plain_number_at input.now at }
+    ensures within { IfOk result (λ r. r.1 ≤ length input.now) }
+{
+    if at < input.len() && input[at] < FIRST_LEAD {
+        return Ok((input[at] as u64, at + 1));
+    }
+    number_with_lead(input, at)
+}
+
+// The number at an offset, where it is not one byte by itself.
+#[inline(never)]
+fn number_with_lead(input: &[u8], at: usize) -> Result<(u64, usize), Stop>
     requires { at ≤ length input.now }
     ensures exact { result ≡ plain_number_at input.now at }
     ensures within { IfOk result (λ r. r.1 ≤ length input.now) }

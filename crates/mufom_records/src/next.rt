@@ -24,13 +24,14 @@ use crate::rows::{
 use crate::stop::Stop;
 use mufom_numbers::{Reason, Taken, codes};
 
-// What stands after E2 and a second byte.
-fn assignment(second: u8, input: &[u8], at: usize) -> Read
-    requires low { 2 ≤ at }
+// What stands after E2: a second byte, and what it stands for.
+fn assigned(input: &[u8], at: usize) -> Read
+    requires low { 1 ≤ at }
     requires within { at ≤ length input.now }
-    ensures exact { result ≡ read (layouts.assignment second) input.now at }
+    ensures exact { result ≡ read layouts.assigned input.now at }
     ensures parts { IfOk result (λ r. HasParts input.now r.0) }
 {
+    let (second, at) = byte(input, at)?;
     match second {
         codes::LETTER_W => offset(input, at),
         codes::LETTER_S => section_size(input, at),
@@ -45,38 +46,19 @@ fn assignment(second: u8, input: &[u8], at: usize) -> Read
     }
 }
 
-// What stands after F1 and a second byte.
-fn noted(second: u8, input: &[u8], at: usize) -> Read
-    requires low { 1 ≤ at }
-    requires within { at ≤ length input.now }
-    ensures exact { result ≡ read (layouts.noted second) input.now at }
-    ensures parts { IfOk result (λ r. HasParts input.now r.0) }
-{
-    match second {
-        codes::LETTER_I => public_note(input, at),
-        codes::LETTER_X => reference_note(input, at),
-        codes::LETTER_N => debug_note(input, at),
-        _ => Err(bad(at - 1, Reason::BadRecord)),
-    }
-}
-
-fn assigned(input: &[u8], at: usize) -> Read
-    requires low { 1 ≤ at }
-    requires within { at ≤ length input.now }
-    ensures exact { result ≡ read layouts.assigned input.now at }
-    ensures parts { IfOk result (λ r. HasParts input.now r.0) }
-{
-    let (second, at) = byte(input, at)?;
-    assignment(second, input, at)
-}
-
+// What stands after F1: a second byte, and what it stands for.
 fn note(input: &[u8], at: usize) -> Read
     requires { at ≤ length input.now }
     ensures exact { result ≡ read layouts.any_note input.now at }
     ensures parts { IfOk result (λ r. HasParts input.now r.0) }
 {
     let (second, at) = byte(input, at)?;
-    noted(second, input, at)
+    match second {
+        codes::LETTER_I => public_note(input, at),
+        codes::LETTER_X => reference_note(input, at),
+        codes::LETTER_N => debug_note(input, at),
+        _ => Err(bad(at - 1, Reason::BadRecord)),
+    }
 }
 
 // What stands after a first byte.
@@ -162,14 +144,6 @@ fn header_offset(part: u8, input: &[u8]) -> Read
     }
 }
 
-fn body(input: &[u8]) -> Read
-    ensures exact { result ≡ read layouts.body input.now 0 }
-    ensures parts { IfOk result (λ r. HasParts input.now r.0) }
-{
-    let (code, at) = byte(input, 0)?;
-    coded(code, input, at)
-}
-
 fn record(input: &[u8], mode: Mode) -> Read
     ensures exact { result ≡ read (layouts.layout_of mode) input.now 0 }
     ensures parts { IfOk result (λ r. HasParts input.now r.0) }
@@ -178,7 +152,10 @@ fn record(input: &[u8], mode: Mode) -> Read
         Mode::Begin => header_begin(input),
         Mode::Descriptor => header_descriptor(input),
         Mode::Offset(part) => header_offset(part, input),
-        Mode::Body => body(input),
+        Mode::Body => {
+            let (code, at) = byte(input, 0)?;
+            coded(code, input, at)
+        }
         Mode::Items => item(input, 0),
     }
 }

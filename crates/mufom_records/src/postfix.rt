@@ -1,21 +1,22 @@
 //! The expression that bytes of a record spell.
 
 ghost use Rattle.std.specs.Prelude.{◌≡◌, ◌<◌, ◌≤◌, [], ◌∷◌, ◌++◌, length, drop, IfOk, OnOk, Some};
-ghost use Rattle.mufom_expr.specs.Tree.{Tree, tokens_of};
-ghost use Rattle.mufom_expr.specs.Terms.{leaves, the_term, FindsTooFew};
+ghost use Rattle.mufom_expr.specs.Tree.{Tree, tokens_of, IsInRange};
 ghost use Rattle.mufom_expr.specs.Spelled.{SpellsTree};
 ghost use Rattle.mufom_expr.specs.TokenAt.{token_at};
 ghost use Rattle.mufom_records.specs.Faults.{BeginsWithToken};
 
-use mufom_expr::{Builder, ExprFault, Postfix, Token, read_token};
+use mufom_expr::{Postfix, Token, read_token};
 use mufom_numbers::{NoMemory, Taken};
 use std::alloc::Global;
 
 // The token at the start, which is there, and how many bytes it takes.
+#[inline(always)]
 fn first_token(input: &[u8]) -> (Token, usize)
     requires { BeginsWithToken (λ token. Unit {0}) input.now }
     ensures token { token_at input.now ≡ Taken.Got result.0 result.1 }
     ensures within { result.1 ≤ length input.now }
+    ensures range { IsInRange result.0 }
 {
     match read_token(input) {
         Taken::Got(token, used) => (token, used),
@@ -28,30 +29,6 @@ fn after(input: &[u8], used: usize) -> &[u8]
     ensures { result.now ≡ drop used input.now }
 {
     &input[used..]
-}
-
-// Adds a token that finds its terms, where fewer than 255 stand.
-fn add(builder: &mut Builder, token: Token) -> Result<(), NoMemory>
-    requires room { length builder.old < 255 }
-    requires found { FindsTooFew builder.old token → ⊥ }
-    ensures { OnOk result (builder.new ≡ builder.old ++ token ∷ []) }
-{
-    match builder.push(token) {
-        Ok(()) => Ok(()),
-        Err(ExprFault::NoMemory) => Err(NoMemory),
-        Err(_) => unreachable!(),
-    }
-}
-
-// The expression of tokens that leave one term.
-fn finished(builder: Builder) -> Postfix
-    requires { leaves builder ≡ Some 1 }
-    ensures { result ≡ the_term builder }
-{
-    match builder.finish() {
-        Ok(postfix) => postfix,
-        Err(_) => unreachable!(),
-    }
 }
 
 // How many tokens the bytes of an expression spell.
@@ -74,14 +51,14 @@ fn all_tokens(alloc: Global, input: &[u8]) -> Result<Postfix, NoMemory>
     requires { (tree : Tree) × SpellsTree tree input.now }
     ensures { IfOk result (λ p. SpellsTree p input.now) }
 {
-    let mut builder = Builder::with_capacity(alloc, token_count(input))?;
+    let mut tokens = Vec::with_capacity(alloc, token_count(input))?;
     let mut rest = input;
     while !rest.is_empty() {
         let (token, used) = first_token(rest);
-        add(&mut builder, token)?;
+        tokens.push(token)?;
         rest = after(rest, used);
     }
-    Ok(finished(builder))
+    Ok(Postfix::of(tokens))
 }
 
 /// The expression that the bytes spell, which are all bytes of one without a fault, as those are that a

@@ -1,5 +1,5 @@
 -- Each record of a prefix keeps to the rules after those before it: what that makes known of what was stated of an index.
-use Rattle.std.proofs.Common.{◌≡◌, ℕ, ◌+◌, ◌<◌, ◌≤◌, arith, ◌==◌, ◌||◌, true, false, true≢false, cond, List, [], ◌∷◌, ◌++◌, filter_map, Option, Some, None, refl, sym, ap, subst, ◌∙◌, append-nil, append_assoc, ne_eqb}
+use Rattle.std.proofs.Common.{◌≡◌, ℕ, ◌+◌, ◌<◌, ◌≤◌, arith, ◌==◌, ◌||◌, Bool, true, false, true≢false, cond, List, [], ◌∷◌, ◌++◌, filter_map, Option, Some, None, refl, sym, ap, subst, ◌∙◌, append-nil, append_assoc, ne_eqb}
 use Rattle.std.specs.Prelude.{unwrap_or}
 use Rattle.std.specs.List.{cons_option, list_any}
 use Rattle.std.proofs.lemmas.Bool.{or_parts}
@@ -71,80 +71,65 @@ module _ (i : ℕ) (p : SpelledRecord) where
 
 -- ---- what was not stated yet
 
-unvalued_row : (i : ℕ) (p : SpelledRecord) (row : Record) (later : List Once) (vs : List Tree) → list_any (is_same_statement (value_of_public i)) (cons_option (assigned_by row) later) ≡ false
-    → (list_any (is_same_statement (value_of_public i)) later ≡ false → vs ≡ []) → cons_option (value_for i p row) vs ≡ []
-unvalued_row i p (r.PublicValue j value) later vs h more = let both = or_parts (i == j) _ h in (λ k. cons_option (cond (both.0 k) (Some (tree_in p value)) None) (more both.1 k))
-unvalued_row i p (r.WeakReference j n other) later vs h more = more h
-unvalued_row i p (r.Alignment j n other) later vs h more = more h
-unvalued_row i p (r.SectionSize j n) later vs h more = more h
-unvalued_row i p (r.SectionBase j n) later vs h more = more h
-unvalued_row i p (r.Start value) later vs h more = more h
-unvalued_row i p row later vs h more = more h
+-- a record states this
+abbrev states_it : Once → Option Once → Bool
+states_it once None = false
+states_it once (Some other) = is_same_statement once other
+
+neither : (once : Once) (first : Option Once) (more : List Once) → list_any (is_same_statement once) (cons_option first more) ≡ false
+    → (states_it once first ≡ false) × (list_any (is_same_statement once) more ≡ false)
+neither once None more h = (refl, h)
+neither once (Some other) more h = or_parts (is_same_statement once other) _ h
+
+-- Records of which none states this answer nothing, where an answer is given by a record that states it alone.
+unstated : {X : Type 0} (once : Once) (ask : SpelledRecord → Option X) → ((p : SpelledRecord) → states_it once (assigned_by p.row) ≡ false → ask p ≡ None)
+    → (ps : List SpelledRecord) → is_assigned ps once ≡ false → filter_map ask ps ≡ []
+unstated once ask silent [] h = refl
+unstated once ask silent (p ∷ ps) h =
+    let both = neither once (assigned_by p.row) (filter_map (λ q. assigned_by q.row) ps) h in
+    let none = silent p both.0 in
+    let rest = unstated once ask silent ps both.1 in
+    λ k. cons_option (none k) (rest k)
+
+unvalued : (i : ℕ) (p : SpelledRecord) (row : Record) → states_it (value_of_public i) (assigned_by row) ≡ false → value_for i p row ≡ None
+unvalued i p (r.PublicValue j value) h = ap (λ b. cond b (Some (tree_in p value)) None) h
+unvalued i p row h = refl
 
 -- no value is stated of the public where none was assigned
 pub value-unstated : (i : ℕ) (ps : List SpelledRecord) → is_assigned ps (value_of_public i) ≡ false → filter_map (λ p. value_for i p p.row) ps ≡ []
-value-unstated i [] h = refl
-value-unstated i (p ∷ ps) h = unvalued_row i p p.row (filter_map (λ q. assigned_by q.row) ps) _ h (value-unstated i ps)
+value-unstated i = unstated (value_of_public i) (λ p. value_for i p p.row) (λ p. unvalued i p p.row)
 
-strong_row : (i : ℕ) (row : Record) (later : List Once) (ws : List Weak) → list_any (is_same_statement (weakness i)) (cons_option (assigned_by row) later) ≡ false
-    → (list_any (is_same_statement (weakness i)) later ≡ false → ws ≡ []) → cons_option (weak_for i row) ws ≡ []
-strong_row i (r.WeakReference j n other) later ws h more = let both = or_parts (i == j) _ h in (λ k. cons_option (cond (both.0 k) (Some (weak_of n other)) None) (more both.1 k))
-strong_row i (r.PublicValue j value) later ws h more = more h
-strong_row i (r.Alignment j n other) later ws h more = more h
-strong_row i (r.SectionSize j n) later ws h more = more h
-strong_row i (r.SectionBase j n) later ws h more = more h
-strong_row i (r.Start value) later ws h more = more h
-strong_row i row later ws h more = more h
+strong : (i : ℕ) (row : Record) → states_it (weakness i) (assigned_by row) ≡ false → weak_for i row ≡ None
+strong i (r.WeakReference j n other) h = ap (λ b. cond b (Some (weak_of n other)) None) h
+strong i row h = refl
 
 -- nothing makes the reference weak where nothing was stated so
 pub weak-unstated : (i : ℕ) (ps : List SpelledRecord) → is_assigned ps (weakness i) ≡ false → answers (weak_for i) ps ≡ []
-weak-unstated i [] h = refl
-weak-unstated i (p ∷ ps) h = strong_row i p.row (filter_map (λ q. assigned_by q.row) ps) _ h (weak-unstated i ps)
+weak-unstated i = unstated (weakness i) (λ p. weak_for i p.row) (λ p. strong i p.row)
 
-unsized_row : (i : ℕ) (row : Record) (later : List Once) (ns : List ℕ) → list_any (is_same_statement (section_size i)) (cons_option (assigned_by row) later) ≡ false
-    → (list_any (is_same_statement (section_size i)) later ≡ false → ns ≡ []) → cons_option (size_for i row) ns ≡ []
-unsized_row i (r.SectionSize j n) later ns h more = let both = or_parts (i == j) _ h in (λ k. cons_option (cond (both.0 k) (Some n) None) (more both.1 k))
-unsized_row i (r.PublicValue j value) later ns h more = more h
-unsized_row i (r.WeakReference j n other) later ns h more = more h
-unsized_row i (r.Alignment j n other) later ns h more = more h
-unsized_row i (r.SectionBase j n) later ns h more = more h
-unsized_row i (r.Start value) later ns h more = more h
-unsized_row i row later ns h more = more h
+unsized : (i : ℕ) (row : Record) → states_it (section_size i) (assigned_by row) ≡ false → size_for i row ≡ None
+unsized i (r.SectionSize j n) h = ap (λ b. cond b (Some n) None) h
+unsized i row h = refl
 
 -- no size is stated of the section where none was assigned
 pub size-unstated : (i : ℕ) (ps : List SpelledRecord) → is_assigned ps (section_size i) ≡ false → answers (size_for i) ps ≡ []
-size-unstated i [] h = refl
-size-unstated i (p ∷ ps) h = unsized_row i p.row (filter_map (λ q. assigned_by q.row) ps) _ h (size-unstated i ps)
+size-unstated i = unstated (section_size i) (λ p. size_for i p.row) (λ p. unsized i p.row)
 
-unaligned_row : (i : ℕ) (row : Record) (later : List Once) (ns : List ℕ) → list_any (is_same_statement (alignment i)) (cons_option (assigned_by row) later) ≡ false
-    → (list_any (is_same_statement (alignment i)) later ≡ false → ns ≡ []) → cons_option (alignment_for i row) ns ≡ []
-unaligned_row i (r.Alignment j n other) later ns h more = let both = or_parts (i == j) _ h in (λ k. cons_option (cond (both.0 k) (Some n) None) (more both.1 k))
-unaligned_row i (r.PublicValue j value) later ns h more = more h
-unaligned_row i (r.WeakReference j n other) later ns h more = more h
-unaligned_row i (r.SectionSize j n) later ns h more = more h
-unaligned_row i (r.SectionBase j n) later ns h more = more h
-unaligned_row i (r.Start value) later ns h more = more h
-unaligned_row i row later ns h more = more h
+unaligned : (i : ℕ) (row : Record) → states_it (alignment i) (assigned_by row) ≡ false → alignment_for i row ≡ None
+unaligned i (r.Alignment j n other) h = ap (λ b. cond b (Some n) None) h
+unaligned i row h = refl
 
 -- no alignment is stated of the section where none was assigned
 pub alignment-unstated : (i : ℕ) (ps : List SpelledRecord) → is_assigned ps (alignment i) ≡ false → answers (alignment_for i) ps ≡ []
-alignment-unstated i [] h = refl
-alignment-unstated i (p ∷ ps) h = unaligned_row i p.row (filter_map (λ q. assigned_by q.row) ps) _ h (alignment-unstated i ps)
+alignment-unstated i = unstated (alignment i) (λ p. alignment_for i p.row) (λ p. unaligned i p.row)
 
-unbased_row : (i : ℕ) (row : Record) (later : List Once) (ns : List ℕ) → list_any (is_same_statement (section_base i)) (cons_option (assigned_by row) later) ≡ false
-    → (list_any (is_same_statement (section_base i)) later ≡ false → ns ≡ []) → cons_option (base_for i row) ns ≡ []
-unbased_row i (r.SectionBase j n) later ns h more = let both = or_parts (i == j) _ h in (λ k. cons_option (cond (both.0 k) (Some n) None) (more both.1 k))
-unbased_row i (r.PublicValue j value) later ns h more = more h
-unbased_row i (r.WeakReference j n other) later ns h more = more h
-unbased_row i (r.Alignment j n other) later ns h more = more h
-unbased_row i (r.SectionSize j n) later ns h more = more h
-unbased_row i (r.Start value) later ns h more = more h
-unbased_row i row later ns h more = more h
+unbased : (i : ℕ) (row : Record) → states_it (section_base i) (assigned_by row) ≡ false → base_for i row ≡ None
+unbased i (r.SectionBase j n) h = ap (λ b. cond b (Some n) None) h
+unbased i row h = refl
 
 -- no base is stated of the section where none was assigned
 pub base-unstated : (i : ℕ) (ps : List SpelledRecord) → is_assigned ps (section_base i) ≡ false → answers (base_for i) ps ≡ []
-base-unstated i [] h = refl
-base-unstated i (p ∷ ps) h = unbased_row i p.row (filter_map (λ q. assigned_by q.row) ps) _ h (base-unstated i ps)
+base-unstated i = unstated (section_base i) (λ p. base_for i p.row) (λ p. unbased i p.row)
 
 -- ---- offsets that rise
 
