@@ -1,15 +1,19 @@
-//! Copies of what a module states: texts, notes, sections and debug items.
+//! Copies of what a module states, and of modules.
 //!
-//! Linking and locating leave their modules as they are and answer new ones, so they copy what
-//! stays the same. Debug items are copied as they are, or with other expressions by an
-//! [`ExpressionMap`]. It stands on the crates of a module's values. Each clause states that the copy
-//! is what was copied; out of memory is the only other answer.
+//! Partial links and locations of modules that stay as they are need copies of what stays the same.
+//! Debug items are copied as they are, or with other expressions by an [`ExpressionMap`]. It stands
+//! on `mufom_module` and the crates of a module's values. Each clause states that the copy is what
+//! was copied; out of memory is the only other answer.
 #![tactic(auto)]
 
 mod debug;
 mod entries;
+mod module;
 #[cfg(test)]
 mod tests;
 
 pub use debug::{ExpressionMap, copy_debug_items, map_debug_items};
-pub use entries::{copy_bytes, copy_note, copy_notes, copy_section};
+pub use entries::{
+    copy_bytes, copy_load, copy_note, copy_notes, copy_public, copy_reference, copy_section,
+};
+pub use module::copy_module;

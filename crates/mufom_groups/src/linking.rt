@@ -1,7 +1,7 @@
 //! Linking the modules of a command: each group as its bracket closes, the roots, and then the roots with
 //! the members that are selected for them.
 
-ghost use Rattle.std.specs.Prelude.{◌≡◌, ◌+◌, ◌++◌, ◌<◌, ◌≤◌, ◌^◌, [], ◌∷◌, length, map, drop, slice_get, unwrap_or, None, IfOk, IfErr, IfSome, OnOk};
+ghost use Rattle.std.specs.Prelude.{◌≡◌, ◌+◌, ◌++◌, ◌<◌, ◌≤◌, ◌^◌, [], ◌∷◌, length, map, take, drop, slice_get, unwrap_or, None, IfOk, IfErr, IfSome, OnOk};
 ghost use Rattle.std.specs.Vec.Iter.{into_iter_items};
 ghost use Rattle.mufom_module.specs.Defects.{IsValid};
 ghost use Rattle.mufom_module.specs.Written.{weight};
@@ -19,9 +19,9 @@ ghost use Rattle.mufom_groups.specs.Work.{gives};
 ghost use Rattle.mufom_groups.specs.Groups.{elements, files_of, last_of, most_weight, AreInPlaceOf, AreRootsLinked, BeginsWithLink, HasSelected, StopsWork};
 ghost use Rattle.mufom_groups.specs.Groups.{HasRoot, IsClosed, IsLinkedFrom, IsNextOf, IsRefusedMark, IsTaken};
 
-use mufom_link::{LinkRefusal, link};
+use mufom_link::{LinkRefusal, link_owned};
 use mufom_module::Module;
-use mufom_numbers::List;
+use mufom_numbers::{Bytes, List};
 use mufom_select::select;
 use mufom_words::{Command, Mark};
 use std::alloc::Global;
@@ -86,12 +86,30 @@ fn module_after(rest: &mut IntoIter<Module>, count: usize) -> Option<Module>
     next_of(rest)
 }
 
-// The modules from this position on.
-fn from_position(linked: &[Module], start: usize) -> &[Module]
-    requires { start ≤ length linked.now }
-    ensures { result.now ≡ drop start linked.now }
+// Takes the modules from this position on off the list.
+fn take_from(linked: &mut Vec<Module>, start: usize) -> Result<Vec<Module>, LinkRefusal>
+    requires { start ≤ length linked.old.items }
+    ensures taken { IfOk result (λ group. group.items ≡ drop start linked.old.items) }
+    ensures left { OnOk result (linked.new.items ≡ take start linked.old.items) }
+    ensures err { IfErr result (λ e. e ≡ LinkRefusal.NoMemory) }
 {
-    &linked[start..]
+    match linked.split_off(start) {
+        Ok(group) => Ok(group),
+        Err(_) => Err(LinkRefusal::NoMemory),
+    }
+}
+
+// The name of the first module.
+fn copy_first_name(alloc: Global, list: &[Module]) -> Result<Bytes, LinkRefusal>
+    requires { 0 < length list.now }
+    ensures name { IfOk result (λ name. name ≡ first_name list.now) }
+    ensures short { IfOk result (λ name. length name < 2 ^ 16) }
+    ensures err { IfErr result (λ e. e ≡ LinkRefusal.NoMemory) }
+{
+    match Bytes::from_slice(alloc, name_of(&list[0])) {
+        Ok(name) => Ok(name),
+        Err(_) => Err(LinkRefusal::NoMemory),
+    }
 }
 
 // Links the modules from this position on into one, which takes their place. It has the name of the
@@ -102,10 +120,9 @@ fn link_from(alloc: Global, linked: &mut Vec<Module>, start: usize) -> Result<()
     ensures ok { OnOk result (IsLinkedFrom start linked.old.items linked.new.items) }
     ensures refused { IfErr result (λ e. IsRefusalOf (drop start linked.old.items) e) }
 {
-    let group = from_position(linked, start);
-    let entry = link(alloc, group, name_of(&group[0]))?;
-    linked.truncate(start);
-    add(linked, entry)
+    let group = take_from(linked, start)?;
+    let name = copy_first_name(alloc, &group)?;
+    add(linked, link_owned(alloc, group, name.as_slice())?)
 }
 
 // Links the modules of the innermost open group, which closes.
@@ -241,7 +258,8 @@ fn link_unnamed(alloc: Global, flat: Vec<Module>) -> Result<Module, LinkRefusal>
     if flat.len() == 1 {
         Ok(only_of(flat))
     } else {
-        link(alloc, &flat, name_of(&flat[0]))
+        let name = copy_first_name(alloc, &flat)?;
+        link_owned(alloc, flat, name.as_slice())
     }
 }
 
@@ -257,7 +275,7 @@ fn link_flat(alloc: Global, command: &Command, flat: Vec<Module>) -> Result<Modu
     ensures refused { IfErr result (λ e. IsRefusalOf flat.items e) }
 {
     match &command.name {
-        Some(name) => link(alloc, &flat, name.as_slice()),
+        Some(name) => link_owned(alloc, flat, name.as_slice()),
         None => link_unnamed(alloc, flat),
     }
 }

@@ -1,29 +1,24 @@
 -- The lists of a link, module by module, come to those of the partial link.
-use Rattle.std.proofs.Common.{◌≡◌, ℕ, ◌+◌, ◌<◌, ◌≤◌, ◌^◌, subst, Bool, List, [], ◌∷◌, ◌++◌, length, map, flat_map, Option, Some, None, option_to_list, refl, sym, ap, ◌∙◌, append_assoc, append-nil, length-append, sum_by, arith}
-use Rattle.std.specs.List.{AllByRecursion}
+use Rattle.std.proofs.Common.{◌≡◌, ℕ, ◌+◌, ◌<◌, ◌≤◌, ◌^◌, Bool, List, [], ◌∷◌, ◌++◌, length, map, flat_map, Option, Some, None, option_to_list, refl, sym, ap, ◌∙◌, append_assoc, append-nil, length-append, sum_by, arith}
 use Rattle.std.proofs.lemmas.List.{length-map}
 use Rattle.std.proofs.lemmas.List.Sums.{sum_by-cons}
 use Rattle.mufom_expr.specs.declared.token.Letter.{Letter}
 use Rattle.mufom_expr.specs.Tree.{Tree}
 use Rattle.mufom_names.specs.declared.name.Public.{Public}
-use Rattle.mufom_names.specs.declared.name.Reference.{Reference}
-use Rattle.mufom_names.specs.Keys.{IsShortReference}
 use Rattle.mufom_loads.specs.declared.load.Load.{Load}
 use Rattle.mufom_debug.specs.Marks.{DebugMark, marks_of, names_after_all}
 use Rattle.mufom_module.specs.declared.module.Parts.{Parts}
 use Rattle.mufom_module.specs.Contents.{any_of}
 use Rattle.mufom_module.specs.Defects.{IsValid, counts_of, names_outside}
-use Rattle.mufom_module.specs.Made.{IsMade}
-use Rattle.mufom_meaning.specs.Flat.{Sited, sited_from, sited, name_count, flat_sections, flat_references, flat_starts, public_names}
+use Rattle.mufom_meaning.specs.Flat.{Sited, sited_from, sited, name_count, flat_sections, flat_starts, public_names}
 use Rattle.mufom_meaning.specs.Joined.{joined_tree, joined_public, joined_load, joined_mark, kept_references}
 use Rattle.mufom_meaning.specs.Staging.{AreValid}
 use Rattle.mufom_meaning.specs.StagingLaws.{total_weight}
 use Rattle.mufom_link.specs.declared.joined.Joined.{Joined}
-use Rattle.mufom_link.specs.References.{kept_after, targets_after, target_in}
+use Rattle.mufom_link.specs.References.{target_in}
 use Rattle.mufom_link.specs.Renaming.{Renaming, renamed_tree, renamed_public, renamed_load, renamed_mark}
 use Rattle.mufom_link.specs.Joining.{start_after, IsEmpty, next_renaming, IsAppended, HasLists}
-use Rattle.mufom_link.proofs.CountLaws.{all-sections, all-publics, all-references, all-names, short-references}
-use Rattle.mufom_link.proofs.ReferenceLaws.{kept-all, kept_after-append, targets-stay, kept-longer, kept-has}
+use Rattle.mufom_link.proofs.CountLaws.{all-sections, all-publics, all-names}
 use Rattle.mufom_link.proofs.RenamingLaws.{Agrees, Places, places, tree-agrees, publics-agree, loads-agree, marks-agree, names-counted, site-agrees}
 
 -- the debug names of all modules
@@ -46,25 +41,22 @@ module _ (ms : List Parts) where
 
 -- the modules that are left, with the numbers of their first entries
 abbrev pub sites_left : Joined → List Parts → List Sited
-sites_left all rest = sited_from (length all.sections) (length all.publics) all.debug_names rest
+sites_left all rest = sited_from (length all.sections.items) (length all.publics.items) all.debug_names rest
 
 -- What is joined, with what the modules that are left have, is the whole.
-pub record IsUnderway (ms rest : List Parts) (all : Joined) (kept : List Reference) : Type 0 where
+pub record IsUnderway (ms rest : List Parts) (all : Joined) : Type 0 where
   pub valid : AreValid rest → AreValid ms
-  pub sections : all.sections ++ flat_sections rest ≡ flat_sections ms
-  pub publics : all.publics ++ publics_at ms (sites_left all rest) ≡ publics_at ms (sited ms)
-  pub loads : all.loads ++ loads_at ms (sites_left all rest) ≡ loads_at ms (sited ms)
+  pub sections : all.sections.items ++ flat_sections rest ≡ flat_sections ms
+  pub publics : all.publics.items ++ publics_at ms (sites_left all rest) ≡ publics_at ms (sited ms)
+  pub loads : all.loads.items ++ loads_at ms (sites_left all rest) ≡ loads_at ms (sited ms)
   pub start : option_to_list all.start ++ starts_at ms (sites_left all rest) ≡ starts_at ms (sited ms)
-  pub debug : marks_of all.debug ++ marks_at ms (sites_left all rest) ≡ marks_at ms (sited ms)
+  pub debug : marks_of all.debug.items ++ marks_at ms (sites_left all rest) ≡ marks_at ms (sited ms)
   pub names : all.debug_names + names_in rest ≡ names_in ms
-  pub kept_left : kept_after (public_names ms) kept (flat_references rest) ≡ kept_references ms
-  pub kept_short : AllByRecursion IsShortReference kept
-  pub few : length kept + length (flat_references rest) ≤ length (flat_references ms)
 
 -- ---- the begin and the end
 
-pub begun : (ms : List Parts) (all : Joined) (kept : List Reference) → IsEmpty all → kept ≡ [] → IsUnderway ms ms all kept
-begun ms all kept empty none = record {
+pub begun : (ms : List Parts) (all : Joined) → IsEmpty all → IsUnderway ms ms all
+begun ms all empty = record {
   valid = λ v. v;
   sections = ap (λ xs. xs ++ flat_sections ms) empty.sections;
   publics = (λ i. empty.publics i ++ publics_at ms (whole i));
@@ -72,26 +64,18 @@ begun ms all kept empty none = record {
   start = (λ i. option_to_list (empty.start i) ++ starts_at ms (whole i));
   debug = (λ i. marks_of (empty.debug i) ++ marks_at ms (whole i));
   names = let e = empty.debug_names in omega (arith, e);
-  kept_left = ap (λ rs. kept_after (public_names ms) rs (flat_references ms)) none ∙ kept-all (public_names ms) (flat_references ms);
-  kept_short = short kept none;
-  few = let e : length kept ≡ 0 = ap length none in omega (arith, e);
 }
   where
     whole : sites_left all ms ≡ sited ms
     whole = λ i. sited_from (length (empty.sections i)) (length (empty.publics i)) (empty.debug_names i) ms
 
-    short : (rs : List Reference) → rs ≡ [] → AllByRecursion IsShortReference rs
-    short [] e = tt
-    short (r ∷ rs) e = absurd cc
-
-pub ended : (ms : List Parts) (all : Joined) (kept : List Reference) → IsUnderway ms [] all kept → HasLists ms all kept
-ended ms all kept u = record {
-  sections = sym (append-nil all.sections) ∙ u.sections;
-  publics = sym (append-nil all.publics) ∙ u.publics;
-  references = u.kept_left;
-  loads = sym (append-nil all.loads) ∙ u.loads;
+pub ended : (ms : List Parts) (all : Joined) → IsUnderway ms [] all → HasLists ms all
+ended ms all u = record {
+  sections = sym (append-nil all.sections.items) ∙ u.sections;
+  publics = sym (append-nil all.publics.items) ∙ u.publics;
+  loads = sym (append-nil all.loads.items) ∙ u.loads;
   start = sym (append-nil (option_to_list all.start)) ∙ u.start;
-  debug = sym (append-nil (marks_of all.debug)) ∙ u.debug;
+  debug = sym (append-nil (marks_of all.debug.items)) ∙ u.debug;
 }
 
 -- ---- one module more
@@ -114,27 +98,27 @@ flat-length own into s p d (m ∷ ms) =
     let later = flat-length own into (s + length m.sections) (p + length m.names.publics) (d + name_count (marks_of m.debug)) ms in
     omega (arith, a, b, c, later)
 
-module _ (ms : List Parts) (light : total_weight ms < 2 ^ 32) (m : Parts) (rest : List Parts) (all : Joined) (kept : List Reference)
-    (u : IsUnderway ms (m ∷ rest) all kept) where
+module _ (ms : List Parts) (light : total_weight ms < 2 ^ 32) (m : Parts) (rest : List Parts) (all : Joined)
+    (u : IsUnderway ms (m ∷ rest) all) where
   abbrev site : Sited
-  site = record { parts = m; first_section = length all.sections; first_public = length all.publics; first_name = all.debug_names }
+  site = record { parts = m; first_section = length all.sections.items; first_public = length all.publics.items; first_name = all.debug_names }
 
   abbrev after : List Sited
-  after = sited_from (length all.sections + length m.sections) (length all.publics + length m.names.publics) (all.debug_names + name_count (marks_of m.debug)) rest
+  after = sited_from (length all.sections.items + length m.sections) (length all.publics.items + length m.names.publics) (all.debug_names + name_count (marks_of m.debug)) rest
 
   -- ---- all numbers fit
 
-  pub sections-fit : length all.sections + length m.sections < 2 ^ 32
+  pub sections-fit : length all.sections.items + length m.sections < 2 ^ 32
   sections-fit =
-      let a = length-append all.sections (m.sections ++ flat_sections rest) in
+      let a = length-append all.sections.items (m.sections ++ flat_sections rest) in
       let b = length-append m.sections (flat_sections rest) in
       let c = ap length u.sections in
       let d = all-sections ms in
       omega (arith, a, b, c, d, light)
 
-  pub publics-fit : length all.publics + length m.names.publics < 2 ^ 32
+  pub publics-fit : length all.publics.items + length m.names.publics < 2 ^ 32
   publics-fit =
-      let a = length-append all.publics (map (joined_public ms site) m.names.publics ++ publics_at ms after) in
+      let a = length-append all.publics.items (map (joined_public ms site) m.names.publics ++ publics_at ms after) in
       let b = length-append (map (joined_public ms site) m.names.publics) (publics_at ms after) in
       let c = length-map m.names.publics (joined_public ms site) in
       let d = ap length u.publics in
@@ -152,27 +136,14 @@ module _ (ms : List Parts) (light : total_weight ms < 2 ^ 32) (m : Parts) (rest 
   pub declared-fit : names_after_all all.debug_names (marks_of m.debug) < 2 ^ 32
   declared-fit = let a = names-counted all.debug_names (marks_of m.debug) in let b = names-fit in omega (arith, a, b)
 
-  pub references-fit : length kept + length m.names.references < 2 ^ 32
-  references-fit =
-      let a = length-append m.names.references (flat_references rest) in
-      let b = u.few in
-      let c = all-references ms in
-      omega (arith, a, b, c, light)
-
   -- ---- the module is appended
 
-  module _ (valid : IsValid m) (made : IsMade m) (starts : length (flat_starts ms) ≤ 1)
-      (targets : List (Letter × ℕ)) (new : Joined) (later : List Reference)
-      (its : targets ≡ targets_after (public_names ms) kept m.names.references)
-      (kept_now : later ≡ kept_after (public_names ms) kept m.names.references)
+  module _ (valid : IsValid m) (starts : length (flat_starts ms) ≤ 1)
+      (targets : List (Letter × ℕ)) (new : Joined)
+      (found : targets ≡ map (target_in (public_names ms) (kept_references ms)) m.names.references)
       (a : IsAppended targets m all new) where
     abbrev r : Renaming
     r = next_renaming targets all
-
-    found : targets ≡ map (target_in (public_names ms) (kept_references ms)) m.names.references
-    found =
-        its ∙ targets-stay (public_names ms) kept m.names.references (flat_references rest)
-        ∙ ap (λ end. map (target_in (public_names ms) end) m.names.references) u.kept_left
 
     agrees : Agrees ms site r
     agrees = site-agrees ms site targets sections-fit publics-fit names-fit found
@@ -182,9 +153,9 @@ module _ (ms : List Parts) (light : total_weight ms < 2 ^ 32) (m : Parts) (rest 
 
     left : sites_left new rest ≡ after
     left =
-        let s : length new.sections ≡ length all.sections + length m.sections = ap length a.sections ∙ length-append all.sections m.sections in
-        let p : length new.publics ≡ length all.publics + length m.names.publics =
-        ap length a.publics ∙ length-append all.publics (map (renamed_public r) m.names.publics) ∙ ap (λ k. length all.publics + k) (length-map m.names.publics (renamed_public r)) in
+        let s : length new.sections.items ≡ length all.sections.items + length m.sections = ap length a.sections ∙ length-append all.sections.items m.sections in
+        let p : length new.publics.items ≡ length all.publics.items + length m.names.publics =
+        ap length a.publics ∙ length-append all.publics.items (map (renamed_public r) m.names.publics) ∙ ap (λ k. length all.publics.items + k) (length-map m.names.publics (renamed_public r)) in
         let d : new.debug_names ≡ all.debug_names + name_count (marks_of m.debug) = a.debug_names ∙ names-counted all.debug_names (marks_of m.debug) in
         λ i. sited_from (s i) (p i) (d i) rest
 
@@ -204,16 +175,16 @@ module _ (ms : List Parts) (light : total_weight ms < 2 ^ 32) (m : Parts) (rest 
       any_start : Option Tree → Bool
       any_start o = any_of (names_outside (counts_of m)) o
 
-    pub joined : IsUnderway ms rest new later
+    pub joined : IsUnderway ms rest new
     joined = record {
       valid = λ v. u.valid (valid, v);
-      sections = appended all.sections m.sections m.sections new.sections (flat_sections rest) (flat_sections rest) (flat_sections ms) a.sections refl refl u.sections;
-      publics = appended all.publics (map (renamed_public r) m.names.publics) (map (joined_public ms site) m.names.publics) new.publics (publics_at ms (sites_left new rest)) (publics_at ms after) (publics_at ms (sited ms))
+      sections = appended all.sections.items m.sections m.sections new.sections.items (flat_sections rest) (flat_sections rest) (flat_sections ms) a.sections refl refl u.sections;
+      publics = appended all.publics.items (map (renamed_public r) m.names.publics) (map (joined_public ms site) m.names.publics) new.publics.items (publics_at ms (sites_left new rest)) (publics_at ms after) (publics_at ms (sited ms))
           a.publics (publics-agree ms site r agrees m.names.publics own.publics) (ap (publics_at ms) left) u.publics;
-      loads = appended all.loads (map (renamed_load r) m.loads) (map (joined_load ms site) m.loads) new.loads (loads_at ms (sites_left new rest)) (loads_at ms after) (loads_at ms (sited ms))
+      loads = appended all.loads.items (map (renamed_load r) m.loads) (map (joined_load ms site) m.loads) new.loads.items (loads_at ms (sites_left new rest)) (loads_at ms after) (loads_at ms (sited ms))
           a.loads (loads-agree ms site r agrees m.loads own.loads) (ap (loads_at ms) left) u.loads;
       start = (λ i. option_to_list (a.start i) ++ starts_at ms (left i)) ∙ start-joined m.start all.start u.start (start-same m.start refl);
-      debug = appended (marks_of all.debug) (map (renamed_mark r) (marks_of m.debug)) (map (joined_mark ms site) (marks_of m.debug)) (marks_of new.debug) (marks_at ms (sites_left new rest)) (marks_at ms after) (marks_at ms (sited ms))
+      debug = appended (marks_of all.debug.items) (map (renamed_mark r) (marks_of m.debug)) (map (joined_mark ms site) (marks_of m.debug)) (marks_of new.debug.items) (marks_at ms (sites_left new rest)) (marks_at ms after) (marks_at ms (sited ms))
           a.debug (marks-agree ms site r agrees 0 (marks_of m.debug) own.marks own.names (let e = names-counted 0 (marks_of m.debug) in omega (arith, e))) (ap (marks_at ms) left) u.debug;
       names =
           let b = sum_by-cons (λ (q : Parts). name_count (marks_of q.debug)) m rest in
@@ -221,17 +192,4 @@ module _ (ms : List Parts) (light : total_weight ms < 2 ^ 32) (m : Parts) (rest 
           let d = a.debug_names in
           let e = names-counted all.debug_names (marks_of m.debug) in
           omega (arith, b, c, d, e);
-      kept_left =
-          ap (λ rs. kept_after (public_names ms) rs (flat_references rest)) kept_now
-          ∙ sym (kept_after-append (public_names ms) kept m.names.references (flat_references rest))
-          ∙ u.kept_left;
-      kept_short = short later kept_now;
-      few =
-          let b = length-append m.names.references (flat_references rest) in
-          let c = kept-longer (public_names ms) kept m.names.references in
-          let d = ap length kept_now in
-          let e = u.few in
-          omega (arith, b, c, d, e);
-    } where
-      short : (rs : List Reference) → rs ≡ kept_after (public_names ms) kept m.names.references → AllByRecursion IsShortReference rs
-      short rs e = subst (AllByRecursion IsShortReference) (sym e) (kept-has (public_names ms) IsShortReference kept m.names.references u.kept_short (short-references m valid made))
+    }

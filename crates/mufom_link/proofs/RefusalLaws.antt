@@ -1,5 +1,5 @@
 -- The facts that a link finds, one after another, come to the answer in its place.
-use Rattle.std.proofs.Common.{◌≡◌, ◌<◌, ◌≤◌, List, [], ◌∷◌, length, Some, None, option_map, refl, sym, ◌∙◌, arith, Ok, subst, ℕ}
+use Rattle.std.proofs.Common.{◌≡◌, ◌<◌, ◌≤◌, List, [], ◌∷◌, length, Some, None, option_map, refl, sym, arith, Ok, subst, ℕ}
 use Rattle.mufom_expr.specs.Tree.{Tree}
 use Rattle.mufom_module.specs.declared.module.Parts.{Parts}
 use Rattle.mufom_place.specs.Facts.{◌or_else◌}

@@ -5,8 +5,7 @@ use Rattle.mufom_expr.specs.Tree.{Tree}
 use Rattle.mufom_debug.specs.Marks.{marks_of, names_after_all}
 use Rattle.mufom_module.specs.declared.module.Parts.{Parts}
 use Rattle.mufom_meaning.specs.Flat.{sited, flat_sections}
-use Rattle.mufom_meaning.specs.Joined.{joined_tree, joined_public, joined_load, joined_mark, kept_references}
-use Rattle.mufom_names.specs.declared.name.Reference.{Reference}
+use Rattle.mufom_meaning.specs.Joined.{joined_tree, joined_public, joined_load, joined_mark}
 use Rattle.mufom_link.specs.declared.joined.Joined.{Joined}
 use Rattle.mufom_link.specs.Renaming.{Renaming, renaming, renamed_tree, renamed_public, renamed_load, renamed_mark}
 
@@ -17,31 +16,30 @@ start_after r (Some t) start = Some (renamed_tree r t)
 
 -- nothing was joined yet
 pub record IsEmpty (all : Joined) : Type 0 where
-  pub sections : all.sections ≡ []
-  pub publics : all.publics ≡ []
-  pub loads : all.loads ≡ []
+  pub sections : all.sections.items ≡ []
+  pub publics : all.publics.items ≡ []
+  pub loads : all.loads.items ≡ []
   pub start : all.start ≡ None
-  pub debug : all.debug ≡ []
+  pub debug : all.debug.items ≡ []
   pub debug_names : all.debug_names ≡ 0
 
 -- what the entries of the next module become, where these variables stand for its references
 abbrev pub next_renaming : List (Letter × ℕ) → Joined → Renaming
-next_renaming targets all = renaming (length all.sections) (length all.publics) all.debug_names targets
+next_renaming targets all = renaming (length all.sections.items) (length all.publics.items) all.debug_names targets
 
 -- the entries of the module were appended
 pub record IsAppended (targets : List (Letter × ℕ)) (m : Parts) (old new : Joined) : Type 0 where
-  pub sections : new.sections ≡ old.sections ++ m.sections
-  pub publics : new.publics ≡ old.publics ++ map (renamed_public (next_renaming targets old)) m.names.publics
-  pub loads : new.loads ≡ old.loads ++ map (renamed_load (next_renaming targets old)) m.loads
+  pub sections : new.sections.items ≡ old.sections.items ++ m.sections
+  pub publics : new.publics.items ≡ old.publics.items ++ map (renamed_public (next_renaming targets old)) m.names.publics
+  pub loads : new.loads.items ≡ old.loads.items ++ map (renamed_load (next_renaming targets old)) m.loads
   pub start : new.start ≡ start_after (next_renaming targets old) m.start old.start
-  pub debug : marks_of new.debug ≡ marks_of old.debug ++ map (renamed_mark (next_renaming targets old)) (marks_of m.debug)
+  pub debug : marks_of new.debug.items ≡ marks_of old.debug.items ++ map (renamed_mark (next_renaming targets old)) (marks_of m.debug)
   pub debug_names : new.debug_names ≡ names_after_all old.debug_names (marks_of m.debug)
 
--- these are the lists of the partial link of the modules, and these its references
-pub record HasLists (ms : List Parts) (all : Joined) (kept : List Reference) : Type 0 where
-  pub sections : all.sections ≡ flat_sections ms
-  pub publics : all.publics ≡ flat_map (λ site. map (joined_public ms site) site.parts.names.publics) (sited ms)
-  pub references : kept ≡ kept_references ms
-  pub loads : all.loads ≡ flat_map (λ site. map (joined_load ms site) site.parts.loads) (sited ms)
+-- these are the lists of the partial link of the modules
+pub record HasLists (ms : List Parts) (all : Joined) : Type 0 where
+  pub sections : all.sections.items ≡ flat_sections ms
+  pub publics : all.publics.items ≡ flat_map (λ site. map (joined_public ms site) site.parts.names.publics) (sited ms)
+  pub loads : all.loads.items ≡ flat_map (λ site. map (joined_load ms site) site.parts.loads) (sited ms)
   pub start : option_to_list all.start ≡ flat_map (λ site. map (joined_tree ms site) (option_to_list site.parts.start)) (sited ms)
-  pub debug : marks_of all.debug ≡ flat_map (λ site. map (joined_mark ms site) (marks_of site.parts.debug)) (sited ms)
+  pub debug : marks_of all.debug.items ≡ flat_map (λ site. map (joined_mark ms site) (marks_of site.parts.debug)) (sited ms)

@@ -1,5 +1,5 @@
 -- The references that a link keeps, one after another, and what each reference becomes.
-use Rattle.std.specs.Prelude.{ℕ, List, [], ◌∷◌, ◌++◌, map, if◌then◌else◌, Bool}
+use Rattle.std.specs.Prelude.{◌≡◌, ℕ, List, [], ◌∷◌, ◌++◌, map, if◌then◌else◌, Bool}
 use Rattle.std.specs.List.{list_any}
 use Rattle.std.specs.Str.{bytes_eq}
 use Rattle.mufom_expr.specs.declared.token.Letter.{Letter}
@@ -7,8 +7,10 @@ use Rattle.mufom_expr.specs.declared.token.Letter.TheVariants as letters
 use Rattle.mufom_names.specs.declared.name.Reference.{Reference}
 use Rattle.mufom_names.specs.Index.{Entry, numbered_from}
 use Rattle.mufom_names.specs.Keys.{reference_key}
+use Rattle.mufom_module.specs.declared.module.Parts.{Parts}
 use Rattle.mufom_plan.specs.Names.{has_name}
-use Rattle.mufom_meaning.specs.Joined.{position_of as place_of, same_reference}
+use Rattle.mufom_meaning.specs.Flat.{flat_references, public_names}
+use Rattle.mufom_meaning.specs.Joined.{kept_references, position_of as place_of, same_reference}
 
 -- an equal reference is kept
 abbrev pub is_kept : List Reference → Reference → Bool
@@ -40,3 +42,12 @@ targets_after names kept (r ∷ rs) = target_in names kept r ∷ targets_after n
 -- the keys of references with their positions
 abbrev pub keyed : List Reference → List Entry
 keyed kept = numbered_from 0 (map reference_key kept)
+
+-- the variables that stand for all references of a list in its link, module by module
+abbrev pub targets_of : List Parts → List (Letter × ℕ)
+targets_of ms = map (target_in (public_names ms) (kept_references ms)) (flat_references ms)
+
+-- what the references of a list come to in its link: these variables stand for them, and these are kept
+pub record AreResolved (ms : List Parts) (targets : List (Letter × ℕ)) (kept : List Reference) : Type 0 where
+  pub variables : targets ≡ targets_of ms
+  pub references : kept ≡ kept_references ms

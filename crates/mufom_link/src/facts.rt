@@ -15,11 +15,11 @@ use mufom_numbers::Bytes;
 use std::alloc::Global;
 
 // The descriptor of a module.
-fn descriptor_of(module: &Module) -> Descriptor
-    ensures maus { result.maus ≡ module.now.maus }
-    ensures order { result.order ≡ module.now.order }
+fn descriptor_of(entry: &Module) -> Descriptor
+    ensures maus { result.maus ≡ entry.now.maus }
+    ensures order { result.order ≡ entry.now.order }
 {
-    let parts = module.parts();
+    let parts = entry.parts();
     Descriptor {
         maus: parts.maus,
         order: parts.order,

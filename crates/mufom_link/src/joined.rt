@@ -1,139 +1,123 @@
 //! The lists of a link, joined module by module.
 
-ghost use Rattle.std.specs.Prelude.{◌≡◌, ◌++◌, ◌<◌, ◌^◌, [], None, length, map, OnOk};
+ghost use Rattle.std.specs.Prelude.{◌≡◌, ◌++◌, ◌<◌, ◌^◌, [], None, length, IfOk, OnOk};
 ghost use Rattle.mufom_debug.specs.Marks.{marks_of, names_after_all};
-ghost use Rattle.mufom_link.specs.Renaming.{renaming, renaming_of, renamed_public, renamed_load};
-ghost use Rattle.mufom_link.specs.Joining.{IsAppended, IsEmpty, start_after};
+ghost use Rattle.mufom_link.specs.Joining.{IsAppended, IsEmpty};
 
-use crate::copies::{copy_load, copy_optional, copy_public};
-use crate::debug_copies::{copy_debug_items, names_after};
+use crate::debug_renaming::{names_after, renamed_items};
+use crate::renaming::{rename_loads, rename_publics, take_start};
 use crate::site::Site;
-use mufom_copies::copy_section;
 use mufom_debug::DebugItem;
 use mufom_expr::{Letter, Postfix};
 use mufom_loads::Load;
-use mufom_module::Module;
+use mufom_module::{Module, Parts};
 use mufom_names::Public;
-use mufom_numbers::{List, NoMemory};
+use mufom_numbers::NoMemory;
 use mufom_sections::Section;
 use std::alloc::Global;
 
 /// What a link has of the modules so far, except its references.
 #[derive(Drop)]
 pub(crate) struct Joined {
-    pub sections: List<Section>,
-    pub publics: List<Public>,
-    pub loads: List<Load>,
+    pub sections: Vec<Section>,
+    pub publics: Vec<Public>,
+    pub loads: Vec<Load>,
     pub start: Option<Postfix>,
-    pub debug: List<DebugItem>,
+    pub debug: Vec<DebugItem>,
     // How many debug names the items declare.
     debug_names: u32,
 }
 
-// Appends copies of the sections.
-fn append_sections(
-    alloc: Global,
-    sections: &[Section],
-    all: &mut List<Section>,
-) -> Result<(), NoMemory>
-    ensures { OnOk result (all.new ≡ all.old ++ sections.now) }
-{
-    for section in sections {
-        all.push(copy_section(alloc, section)?)?;
-    }
-    Ok(())
+// How many entries of each kind modules have.
+#[derive(Clone, Copy)]
+struct Counts {
+    sections: usize,
+    publics: usize,
+    loads: usize,
+    debug: usize,
 }
 
-// Appends copies of the publics.
-fn append_publics(
-    alloc: Global,
-    site: &Site<'_>,
-    publics: &[Public],
-    all: &mut List<Public>,
-) -> Result<(), NoMemory>
-    ensures { OnOk result (all.new ≡ all.old ++ map (renamed_public (renaming_of site.now)) publics.now) }
-{
-    for public in publics {
-        all.push(copy_public(alloc, site, public)?)?;
+// How many entries of each kind the modules have, for the memory that their link takes.
+fn count_entries(list: &[Module]) -> Counts {
+    let mut all = Counts {
+        sections: 0,
+        publics: 0,
+        loads: 0,
+        debug: 0,
+    };
+    for entry in list {
+        let parts = entry.parts();
+        all.sections = all.sections.saturating_add(parts.sections.len());
+        all.publics = all.publics.saturating_add(parts.names.publics.len());
+        all.loads = all.loads.saturating_add(parts.loads.len());
+        all.debug = all.debug.saturating_add(parts.debug.len());
     }
-    Ok(())
+    all
 }
 
-// Appends copies of the loads.
-fn append_loads(
-    alloc: Global,
-    site: &Site<'_>,
-    loads: &[Load],
-    all: &mut List<Load>,
-) -> Result<(), NoMemory>
-    ensures { OnOk result (all.new ≡ all.old ++ map (renamed_load (renaming_of site.now)) loads.now) }
+// Moves the items to the end of the list.
+fn append<T: Drop>(all: &mut Vec<T>, mut items: Vec<T>) -> Result<(), NoMemory>
+    ensures { OnOk result (all.new.items ≡ all.old.items ++ items.items) }
 {
-    for load in loads {
-        all.push(copy_load(alloc, site, load)?)?;
-    }
-    Ok(())
-}
-
-// Takes over the start, where there is one.
-fn take_start(
-    alloc: Global,
-    site: &Site<'_>,
-    start: &Option<Postfix>,
-    whole: &mut Option<Postfix>,
-) -> Result<(), NoMemory>
-    ensures { OnOk result (whole.new ≡ start_after (renaming_of site.now) start.now whole.old) }
-{
-    if start.is_some() {
-        *whole = copy_optional(alloc, site, start)?;
-    }
+    all.append(&mut items)?;
     Ok(())
 }
 
 impl Joined {
-    // A link that has no module yet.
-    pub(crate) fn new(alloc: Global) -> Joined
-        ensures { IsEmpty result }
+    // A link that has no module yet, with room for the entries of these.
+    pub(crate) fn with_room(alloc: Global, list: &[Module]) -> Result<Joined, NoMemory>
+        ensures { IfOk result (λ all. IsEmpty all) }
     {
-        Joined {
-            sections: List::new(alloc),
-            publics: List::new(alloc),
-            loads: List::new(alloc),
+        let counts = count_entries(list);
+        Ok(Joined {
+            sections: Vec::with_capacity(alloc, counts.sections)?,
+            publics: Vec::with_capacity(alloc, counts.publics)?,
+            loads: Vec::with_capacity(alloc, counts.loads)?,
             start: None,
-            debug: List::new(alloc),
+            debug: Vec::with_capacity(alloc, counts.debug)?,
             debug_names: 0,
-        }
+        })
     }
 
     // Appends the entries of a module, where these variables stand for its references.
     pub(crate) fn append(
         &mut self,
         alloc: Global,
-        module: &Module,
+        entry: Module,
         targets: &[(Letter, u32)],
     ) -> Result<(), NoMemory>
-        requires sections { length self.old.sections < 2 ^ 32 }
-        requires publics { length self.old.publics < 2 ^ 32 }
-        requires names { names_after_all self.old.debug_names (marks_of module.now.debug) < 2 ^ 32 }
-        ensures { OnOk result (IsAppended targets.now module.now self.old self.new) }
+        requires sections { length self.old.sections.items < 2 ^ 32 }
+        requires publics { length self.old.publics.items < 2 ^ 32 }
+        requires names { names_after_all self.old.debug_names (marks_of entry.debug) < 2 ^ 32 }
+        ensures { OnOk result (IsAppended targets.now entry self.old self.new) }
     {
-        let parts = module.parts();
+        let Parts {
+            sections,
+            names,
+            debug,
+            loads,
+            start,
+            ..
+        } = entry.into_parts();
         let site = Site {
             first_section: self.sections.len() as u32,
             first_public: self.publics.len() as u32,
             first_name: self.debug_names,
             targets,
         };
-        append_sections(alloc, parts.sections.as_slice(), &mut self.sections)?;
-        append_publics(
-            alloc,
-            &site,
-            parts.names.publics.as_slice(),
+        self.debug_names = names_after(self.debug_names, debug.as_slice());
+        append(&mut self.sections, sections.into_vec())?;
+        append(
             &mut self.publics,
+            rename_publics(&site, names.publics.into_vec()),
         )?;
-        append_loads(alloc, &site, parts.loads.as_slice(), &mut self.loads)?;
-        take_start(alloc, &site, &parts.start, &mut self.start)?;
-        copy_debug_items(alloc, &site, parts.debug.as_slice(), &mut self.debug)?;
-        self.debug_names = names_after(self.debug_names, parts.debug.as_slice());
+        append(
+            &mut self.loads,
+            rename_loads(alloc, &site, loads.into_vec()),
+        )?;
+        take_start(&site, start, &mut self.start);
+        let items = renamed_items(alloc, &site, debug)?;
+        append(&mut self.debug, items.into_vec())?;
         Ok(())
     }
 }

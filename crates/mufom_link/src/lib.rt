@@ -1,6 +1,6 @@
 //! Partial links: one module in the place of a list of modules.
 //!
-//! [`link`] joins the sections, public symbols, loads and debug items of all modules in their order,
+//! [`link_owned`] joins the sections, public symbols, loads and debug items of all modules in their order,
 //! turns each reference that a public symbol of the list meets into that symbol, and keeps of the
 //! other references each one once. No expression is evaluated. Names are found by hashing, so the
 //! time grows with the sizes of the modules and not with their square.
@@ -10,15 +10,16 @@
 #![tactic(auto)]
 
 mod conditions;
-mod copies;
-mod debug_copies;
+mod debug_renaming;
 mod facts;
 mod joined;
 mod linking;
 mod references;
 mod refusal;
+mod renaming;
+mod resolved;
 mod site;
 
 pub use conditions::may_be_linked;
-pub use linking::link;
+pub use linking::{link, link_owned};
 pub use refusal::LinkRefusal;

@@ -1,24 +1,25 @@
 ghost use Rattle.std.specs.Prelude.{◌≡◌, ◌≢◌, ◌+◌, ◌<◌, ◌≤◌, ◌^◌, [], ◌∷◌, None, length, IfOk, IfErr};
-ghost use Rattle.mufom_names.specs.Index.{numbered_from};
 ghost use Rattle.mufom_module.specs.Written.{weight};
 ghost use Rattle.mufom_meaning.specs.Flat.{flat_sections, flat_starts, public_names};
-ghost use Rattle.mufom_meaning.specs.Joined.{IsJoined};
+ghost use Rattle.mufom_meaning.specs.Joined.{IsJoined, kept_references};
 ghost use Rattle.mufom_meaning.specs.LinkAnswer.{link_answer};
 ghost use Rattle.mufom_meaning.specs.Staging.{AreValid, StandsFor, HasSettledReferences};
 ghost use Rattle.mufom_meaning.specs.StagingLaws.{JoinedStandsFor, JoinedIsValid, total_weight, first_name_length};
 ghost use Rattle.mufom_meaning.specs.FactLaws.{NoLinkAnswerIsLinkable};
 ghost use Rattle.mufom_link.specs.Conditions.{MayBeLinked};
 ghost use Rattle.mufom_link.specs.Joining.{HasLists};
+ghost use Rattle.mufom_link.specs.Linking.{IsPartialLink};
+ghost use Rattle.mufom_link.specs.References.{AreResolved, targets_of};
 ghost use Rattle.mufom_link.specs.Refusals.{IsRefusalOf};
 
-use crate::facts::{first_mismatch, index_publics, start_count};
 use crate::joined::Joined;
-use crate::references::References;
 use crate::refusal::LinkRefusal;
-use mufom_copies::copy_bytes;
+use crate::resolved::{Resolved, resolve};
+use mufom_copies::{copy_bytes, copy_module};
+use mufom_expr::Letter;
 use mufom_meaning::{joined_is_valid, joined_stands_for, no_link_answer_is_linkable};
 use mufom_module::{Module, Parts};
-use mufom_names::{NameIndex, NameTable, Reference};
+use mufom_names::NameTable;
 use mufom_numbers::{Bytes, List, NoMemory};
 use std::alloc::Global;
 
@@ -33,60 +34,95 @@ fn laws()
     no_link_answer_is_linkable();
 }
 
-// The lists of the partial link, and the references that it keeps.
+// The lists of the partial link, where these variables stand for the references of the modules.
 fn join_lists(
     alloc: Global,
-    list: &[Module],
-    publics: &NameIndex<'_>,
-) -> Result<(Joined, List<Reference>), NoMemory>
-    requires publics { publics.now ≡ numbered_from 0 (public_names list.now) }
-    requires light { total_weight list.now < 2 ^ 32 }
-    requires starts { length (flat_starts list.now) ≤ 1 }
-    ensures lists { IfOk result (λ all. HasLists list.now all.0 all.1) }
-    ensures valid { IfOk result (λ _. AreValid list.now) }
+    list: Vec<Module>,
+    targets: &[(Letter, u32)],
+) -> Result<Joined, NoMemory>
+    requires targets { targets.now ≡ targets_of list.items }
+    requires light { total_weight list.items < 2 ^ 32 }
+    requires starts { length (flat_starts list.items) ≤ 1 }
+    ensures lists { IfOk result (λ all. HasLists list.items all) }
+    ensures valid { IfOk result (λ _. AreValid list.items) }
 {
-    let mut references = References::new(alloc);
-    let mut joined = Joined::new(alloc);
-    for module in list {
-        let own = module.parts().names.references.as_slice();
-        let targets = references.targets(alloc, publics, own)?;
-        joined.append(alloc, module, targets.as_slice())?;
+    let mut joined = Joined::with_room(alloc, &list)?;
+    let mut rest = targets;
+    for entry in list {
+        let (own, after) = rest.split_at(entry.parts().names.references.len());
+        joined.append(alloc, entry, own)?;
+        rest = after;
     }
-    Ok((joined, references.into_kept()))
+    Ok(joined)
 }
 
 // The parts of the partial link under this name.
 fn join(
     alloc: Global,
-    list: &[Module],
+    list: Vec<Module>,
     name: &[u8],
-    publics: &NameIndex<'_>,
+    references: Resolved,
 ) -> Result<Parts, NoMemory>
-    requires some { 0 < length list.now }
-    requires publics { publics.now ≡ numbered_from 0 (public_names list.now) }
-    requires light { total_weight list.now < 2 ^ 32 }
-    requires starts { length (flat_starts list.now) ≤ 1 }
-    ensures joined { IfOk result (λ M. IsJoined M list.now name.now) }
-    ensures valid { IfOk result (λ _. AreValid list.now) }
+    requires some { 0 < length list.items }
+    requires resolved { AreResolved list.items references.targets references.kept }
+    requires light { total_weight list.items < 2 ^ 32 }
+    requires starts { length (flat_starts list.items) ≤ 1 }
+    ensures joined { IfOk result (λ M. IsJoined M list.items name.now) }
+    ensures valid { IfOk result (λ _. AreValid list.items) }
 {
-    let (joined, references) = join_lists(alloc, list, publics)?;
+    let Resolved { targets, kept } = references;
     let first = list[0].parts();
+    let processor = copy_bytes(alloc, &first.processor)?;
+    let ext = copy_bytes(alloc, &first.ext)?;
+    let env = copy_bytes(alloc, &first.env)?;
+    let maus = first.maus;
+    let order = first.order;
+    let joined = join_lists(alloc, list, targets.as_slice())?;
     Ok(Parts {
-        processor: copy_bytes(alloc, &first.processor)?,
+        processor,
         name: Bytes::from_slice(alloc, name)?,
-        maus: first.maus,
-        order: first.order,
-        ext: copy_bytes(alloc, &first.ext)?,
-        env: copy_bytes(alloc, &first.env)?,
-        sections: joined.sections,
+        maus,
+        order,
+        ext,
+        env,
+        sections: List::from_vec(joined.sections),
         names: NameTable {
-            publics: joined.publics,
-            references,
+            publics: List::from_vec(joined.publics),
+            references: kept,
         },
-        debug: joined.debug,
-        loads: joined.loads,
+        debug: List::from_vec(joined.debug),
+        loads: List::from_vec(joined.loads),
         start: joined.start,
     })
+}
+
+// The partial link of modules that nothing keeps from being linked.
+fn linked(
+    alloc: Global,
+    list: Vec<Module>,
+    name: &[u8],
+    references: Resolved,
+) -> Result<Module, NoMemory>
+    requires conditions { MayBeLinked list.items name.now }
+    requires resolved { AreResolved list.items references.targets references.kept }
+    requires linkable { link_answer list.items ≡ None }
+    requires starts { length (flat_starts list.items) ≤ 1 }
+    ensures { IfOk result (λ M. IsPartialLink M list.items name.now) }
+{
+    let parts = join(alloc, list, name, references)?;
+    laws();
+    Ok(Module::sound(parts))
+}
+
+// Copies of the modules.
+fn copy_modules(alloc: Global, list: &[Module]) -> Result<Vec<Module>, NoMemory>
+    ensures { IfOk result (λ copies. copies.items ≡ list.now) }
+{
+    let mut copies = Vec::with_capacity(alloc, list.len())?;
+    for entry in list {
+        copies.push(copy_module(alloc, entry)?)?;
+    }
+    Ok(copies)
 }
 
 /// The partial link of a list of modules under a name.
@@ -96,7 +132,7 @@ fn join(
 /// of the first module. Each reference whose name a public symbol of the list has is gone, and the
 /// symbol stands in its place; of the other references equal ones are one. It means what the list
 /// means, whatever modules stand around it and wherever its sections are placed. The modules of the
-/// list stay as they are.
+/// list stay as they are; [`link_owned`] takes them, and copies only the references that it keeps.
 ///
 /// The answer is a refusal exactly where the list can't be linked, and the first that applies:
 /// `Mismatch`, then `Duplicate`, then `DuplicateStart`.
@@ -115,14 +151,24 @@ pub fn link(alloc: Global, list: &[Module], name: &[u8]) -> Result<Module, LinkR
     ensures settled { IfOk result (λ M. HasSettledReferences M) }
     ensures weighs { IfOk result (λ M. weight M + first_name_length list.now ≤ total_weight list.now + length name.now) }
 {
-    if let Some((first, other)) = first_mismatch(list) {
-        return Err(LinkRefusal::Mismatch(first, other));
-    }
-    let publics = index_publics(alloc, list)?;
-    if start_count(list) > 1 {
-        return Err(LinkRefusal::DuplicateStart);
-    }
-    let parts = join(alloc, list, name, &publics)?;
-    laws();
-    Ok(Module::sound(parts))
+    let references = resolve(alloc, list)?;
+    let copies = copy_modules(alloc, list)?;
+    Ok(linked(alloc, copies, name, references)?)
+}
+
+/// The partial link of a list of modules under a name, made of their entries: as [`link`], and the
+/// modules are let go.
+pub fn link_owned(alloc: Global, list: Vec<Module>, name: &[u8]) -> Result<Module, LinkRefusal>
+    requires { MayBeLinked list.items name.now }
+    ensures joined { IfOk result (λ M. IsJoined M list.items name.now) }
+    ensures linkable { IfOk result (λ _. link_answer list.items ≡ None) }
+    ensures refused { IfErr result (λ e. IsRefusalOf list.items e) }
+    ensures stands { IfOk result (λ M. StandsFor M list.items) }
+    ensures sections { IfOk result (λ M. M.sections ≡ flat_sections list.items) }
+    ensures names { IfOk result (λ M. public_names (M ∷ []) ≡ public_names list.items) }
+    ensures settled { IfOk result (λ M. HasSettledReferences M) }
+    ensures weighs { IfOk result (λ M. weight M + first_name_length list.items ≤ total_weight list.items + length name.now) }
+{
+    let references = resolve(alloc, &list)?;
+    Ok(linked(alloc, list, name, references)?)
 }

@@ -1,13 +1,13 @@
 //! The references of a link: which publics meet them, and which are kept.
 
-ghost use Rattle.std.specs.Prelude.{◌≡◌, [], ◌+◌, ◌<◌, ◌^◌, length, IfOk, OnOk};
+ghost use Rattle.std.specs.Prelude.{◌≡◌, [], ◌+◌, ◌++◌, ◌<◌, ◌^◌, length, IfOk, OnOk};
 ghost use Rattle.std.specs.List.{AllByRecursion};
 ghost use Rattle.mufom_names.specs.Index.{keys_of, numbered_from};
 ghost use Rattle.mufom_names.specs.Keys.{IsShortReference};
 ghost use Rattle.mufom_meaning.specs.Joined.{position_of as place_of, same_reference};
 ghost use Rattle.mufom_link.specs.References.{merged_with, kept_with, kept_after, target_in, targets_after, keyed};
 
-use crate::copies::copy_reference;
+use mufom_copies::copy_reference;
 use mufom_expr::Letter;
 use mufom_names::{KeyIndex, NameIndex, Reference, reference_key};
 use mufom_numbers::{List, NoMemory};
@@ -83,26 +83,26 @@ impl References {
         }
     }
 
-    // The variables that stand for the references in the link, in order.
-    pub(crate) fn targets(
+    // Adds the variables that stand for the references in the link, in order.
+    pub(crate) fn resolve(
         &mut self,
         alloc: Global,
         publics: &NameIndex<'_>,
         references: &[Reference],
-    ) -> Result<List<(Letter, u32)>, NoMemory>
+        targets: &mut List<(Letter, u32)>,
+    ) -> Result<(), NoMemory>
         requires publics { publics.now ≡ numbered_from 0 (keys_of publics.now) }
         requires keyed { self.old.keys ≡ keyed self.old.kept }
         requires short { AllByRecursion IsShortReference references.now }
         requires kept_short { AllByRecursion IsShortReference self.old.kept }
         requires room { length self.old.kept + length references.now < 2 ^ 32 }
-        ensures targets { IfOk result (λ targets. targets ≡ targets_after (keys_of publics.now) self.old.kept references.now) }
+        ensures targets { OnOk result (targets.new ≡ targets.old ++ targets_after (keys_of publics.now) self.old.kept references.now) }
         ensures kept { OnOk result (self.new.kept ≡ kept_after (keys_of publics.now) self.old.kept references.now) }
         ensures keys { OnOk result (self.new.keys ≡ keyed self.new.kept) }
     {
-        let mut targets = List::new(alloc);
         for reference in references {
             targets.push(self.target(alloc, publics, reference)?)?;
         }
-        Ok(targets)
+        Ok(())
     }
 }

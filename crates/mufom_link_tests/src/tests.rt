@@ -4,13 +4,14 @@
 use arrayvec::ArrayVec;
 use mufom_debug::{Block, BlockHead, DebugItem};
 use mufom_expr::{Builder, FieldKind, Function, Letter, Postfix, Token};
-use mufom_link::{LinkRefusal, link, may_be_linked};
+use mufom_link::{LinkRefusal, link, link_owned, may_be_linked};
 use mufom_loads::{Item, Load};
 use mufom_module::{Module, Order, Parts, assemble};
 use mufom_names::{NameTable, Note, Public, Reference, Weak};
 use mufom_numbers::{Bytes, List, NoMemory};
 use mufom_sections::{Purpose, Section};
 use std::alloc::Global;
+use std::process::Abort;
 
 pub(crate) const PLUS: Token = Token::Fun(Function::Plus);
 
@@ -154,6 +155,14 @@ pub(crate) fn try_link(alloc: Global, list: &[Module], name: &[u8]) -> Result<Mo
         return Err(LinkRefusal::NoMemory);
     }
     link(alloc, list, name)
+}
+
+// The link that takes the modules of the list, where the list may be linked.
+fn try_link_owned(alloc: Global, list: Vec<Module>, name: &[u8]) -> Result<Module, LinkRefusal> {
+    if !may_be_linked(&list, name) {
+        return Err(LinkRefusal::NoMemory);
+    }
+    link_owned(alloc, list, name)
 }
 
 // Whether the expression has these tokens.
@@ -599,12 +608,8 @@ fn section_block(item: &DebugItem) -> Option<&Block> {
     }
 }
 
-#[test]
-fn publics_are_moved_and_references_merged(rt: HostRuntime) {
-    let alloc = rt.alloc();
-    let list = three(alloc).expect(&rt, "memory");
-    let linked = try_link(alloc, &list, b"whole").expect(&rt, "linked");
-    let parts = linked.parts();
+// The publics of the link of the three are moved, and its references merged.
+fn expect_names(rt: &impl Abort, parts: &Parts) {
     assert_eq!(rt; parts.ext.as_slice(), &b"a"[..]);
     assert_eq!(rt; parts.sections.len(), 6);
     let publics = parts.names.publics.as_slice();
@@ -631,12 +636,8 @@ fn publics_are_moved_and_references_merged(rt: HostRuntime) {
     assert_eq!(rt; references[0].notes.len(), 1);
 }
 
-#[test]
-fn loads_are_moved(rt: HostRuntime) {
-    let alloc = rt.alloc();
-    let list = three(alloc).expect(&rt, "memory");
-    let linked = try_link(alloc, &list, b"whole").expect(&rt, "linked");
-    let loads = linked.parts().loads.as_slice();
+// The loads of the link of the three are moved.
+fn expect_loads(rt: &impl Abort, loads: &[Load]) {
     assert_eq!(rt; loads.len(), 15);
     assert!(rt; sets_section(loads, 10, 5));
     assert!(rt;
@@ -688,12 +689,9 @@ pub(crate) fn gives_value(block: &Block, wanted: u32, tokens: &[Token]) -> bool 
     }
 }
 
-#[test]
-fn debug_items_are_moved(rt: HostRuntime) {
-    let alloc = rt.alloc();
-    let list = three(alloc).expect(&rt, "memory");
-    let linked = try_link(alloc, &list, b"whole").expect(&rt, "linked");
-    let Some(last) = linked.parts().debug.get(2) else {
+// The debug items of the link of the three are moved.
+fn expect_debug_items(rt: &impl Abort, items: &List<DebugItem>) {
+    let Some(last) = items.get(2) else {
         panic!(rt; "no item");
     };
     let Some(part) = section_block(last) else {
@@ -703,4 +701,39 @@ fn debug_items_are_moved(rt: HostRuntime) {
     assert!(rt; notes_name(part, 5));
     assert!(rt; gives_value(part, 4, &[Token::Var(Letter::X, 0), Token::Number(3), PLUS]));
     assert!(rt; ends_with(part, &[Token::Var(Letter::R, 4), Token::Number(2), PLUS]));
+}
+
+#[test]
+fn publics_are_moved_and_references_merged(rt: HostRuntime) {
+    let alloc = rt.alloc();
+    let list = three(alloc).expect(&rt, "memory");
+    let linked = try_link(alloc, &list, b"whole").expect(&rt, "linked");
+    expect_names(&rt, linked.parts());
+}
+
+#[test]
+fn loads_are_moved(rt: HostRuntime) {
+    let alloc = rt.alloc();
+    let list = three(alloc).expect(&rt, "memory");
+    let linked = try_link(alloc, &list, b"whole").expect(&rt, "linked");
+    expect_loads(&rt, linked.parts().loads.as_slice());
+}
+
+#[test]
+fn debug_items_are_moved(rt: HostRuntime) {
+    let alloc = rt.alloc();
+    let list = three(alloc).expect(&rt, "memory");
+    let linked = try_link(alloc, &list, b"whole").expect(&rt, "linked");
+    expect_debug_items(&rt, &linked.parts().debug);
+}
+
+#[test]
+fn a_link_that_takes_its_modules_is_the_same(rt: HostRuntime) {
+    let alloc = rt.alloc();
+    let list = three(alloc).expect(&rt, "memory");
+    let linked = try_link_owned(alloc, list, b"whole").expect(&rt, "linked");
+    let parts = linked.parts();
+    expect_names(&rt, parts);
+    expect_loads(&rt, parts.loads.as_slice());
+    expect_debug_items(&rt, &parts.debug);
 }

@@ -115,14 +115,12 @@ link-of-all count ms M few staged joined named own all =
       light = omega (arith, own, all, most);
     }
 
-pub all-found : {E : Type 0} (r : Result Parts E) (count : ℕ) (list pairs : List Parts) → count ≤ 65536 → list ≡ pairs → IsStaged pairs (made_modules count)
+pub all-found : {E : Type 0} (r : Result Parts E) (count : ℕ) (pairs : List Parts) → count ≤ 65536 → IsStaged pairs (made_modules count)
     → total_weight pairs ≤ most_weight * count
-    → IfOk r (λ M. IsJoined M list M.name) → IfOk r (λ M. NameStays [] M list) → IfOk r (λ M. weight M ≤ total_weight list)
+    → IfOk r (λ M. IsJoined M pairs M.name) → IfOk r (λ M. NameStays [] M pairs) → IfOk r (λ M. weight M ≤ total_weight pairs)
     → IfOk r (λ M. IsLinkOf M (made_modules count))
-all-found (Err e) count list pairs few same staged light joined named own = tt
-all-found (Ok M) count list pairs few same staged light joined named own =
-    let weighs = ap total_weight same in
-    link-of-all count list M few (subst (λ (ms : List Parts). IsStaged ms (made_modules count)) (sym same) staged) joined named own (omega (arith, light, weighs))
+all-found (Err e) count pairs few staged light joined named own = tt
+all-found (Ok M) count pairs few staged light joined named own = link-of-all count pairs M few staged joined named own light
 
 -- the link alone means what the generated modules mean
 pub link-means : (count : ℕ) (M : Parts) → count ≤ 65536 → IsLinkOf M (made_modules count) → MeansTheSame (M ∷ []) (made_modules count)

@@ -7,6 +7,7 @@ ghost use Rattle.mufom_expr.specs.declared.token.FieldKind.TheVariants.{Either};
 ghost use Rattle.mufom_make.specs.declared.generated.TheConstants.{MOST_MODULES};
 ghost use Rattle.mufom_make.specs.Generated.{code_section, entry_at, loads_at, made_plan, module_at, name_at, next_value, references_at};
 
+use itoa::Buffer;
 use mufom_expr::{Builder, ExprFault, FieldKind, Function, Letter, Postfix, Token};
 use mufom_loads::{Item, Load};
 use mufom_module::{Module, Order, Parts};
@@ -14,6 +15,7 @@ use mufom_names::{NameTable, Public, Reference};
 use mufom_numbers::{Bytes, List, NoMemory};
 use mufom_plan::{Plan, Region};
 use mufom_sections::{Purpose, Section};
+use smallvec::SmallVec;
 use std::alloc::Global;
 
 /// How many modules can be generated.
@@ -31,6 +33,9 @@ const SECTION_ALIGNMENT: u64 = 4;
 // How often the lowest byte of its number and a byte 0 are loaded by a module.
 const REPEAT_COUNT: u64 = 2;
 
+// How many loads a module has.
+const LOAD_COUNT: usize = 5;
+
 // How many units an address has.
 const ADDRESS_SIZE: u8 = 4;
 
@@ -41,8 +46,10 @@ const FIRST_BASE: u64 = 4096;
 fn name_at(alloc: Global, letter: &str, number: u32) -> Result<Bytes, NoMemory>
     ensures { IfOk result (λ name. name ≡ name_at letter.now number) }
 {
-    let name = format!(in alloc; "{letter}{number}")?;
-    Ok(List::from_vec(name.into_bytes()))
+    let mut digits = Buffer::new();
+    let mut name: SmallVec<u8, 16> = SmallVec::from_slice(alloc, letter.as_bytes())?;
+    name.extend_from_slice(digits.format(number).as_bytes())?;
+    Bytes::from_slice(alloc, name.as_slice())
 }
 
 // The one section of a module.
@@ -102,15 +109,15 @@ fn references_at(alloc: Global, last: bool, number: u32) -> Result<List<Referenc
     requires { number < 2 ^ 31 }
     ensures { IfOk result (λ references. references ≡ references_at last number) }
 {
-    let mut references = List::new(alloc);
-    if !last {
-        references.push(Reference {
-            name: name_at(alloc, "f", number + 1)?,
-            weak: None,
-            notes: List::new(alloc),
-        })?;
+    if last {
+        return Ok(List::new(alloc));
     }
-    Ok(references)
+    let next = Reference {
+        name: name_at(alloc, "f", number + 1)?,
+        weak: None,
+        notes: List::new(alloc),
+    };
+    List::single(alloc, next)
 }
 
 // The address of the public of the next module, and 0 in the last.
@@ -139,17 +146,15 @@ fn address_load(value: Postfix) -> Load
 fn low_bytes(alloc: Global, number: u32) -> Result<List<Item>, NoMemory>
     ensures { IfOk result (λ items. items ≡ Literal (number % 256 ∷ 0 ∷ []) ∷ []) }
 {
-    let mut items = List::new(alloc);
     let bytes = Bytes::from_slice(alloc, &[(number % 256) as u8, 0])?;
-    items.push(Item::Literal(bytes))?;
-    Ok(items)
+    List::single(alloc, Item::Literal(bytes))
 }
 
 // The loads of the module with this number.
 fn loads_at(alloc: Global, last: bool, number: u32) -> Result<List<Load>, NoMemory>
     ensures { IfOk result (λ loads. loads ≡ loads_at last number) }
 {
-    let mut loads = List::new(alloc);
+    let mut loads = List::with_capacity(alloc, LOAD_COUNT)?;
     loads.push(Load::SetSection(0))?;
     loads.push(address_load(next_value(last)))?;
     let own = Bytes::from_slice(alloc, &number.to_be_bytes())?;
@@ -160,15 +165,6 @@ fn loads_at(alloc: Global, last: bool, number: u32) -> Result<List<Load>, NoMemo
         items: low_bytes(alloc, number)?,
     })?;
     Ok(loads)
-}
-
-// A list of one item.
-fn single<T: Drop>(alloc: Global, item: T) -> Result<List<T>, NoMemory>
-    ensures { IfOk result (λ list. list ≡ item ∷ []) }
-{
-    let mut list = List::new(alloc);
-    list.push(item)?;
-    Ok(list)
 }
 
 // What the module with this number states.
@@ -183,9 +179,9 @@ fn parts_at(alloc: Global, last: bool, number: u32) -> Result<Parts, NoMemory>
         order: Order::Most,
         ext: Bytes::new(alloc),
         env: Bytes::new(alloc),
-        sections: single(alloc, code_section(alloc)?)?,
+        sections: List::single(alloc, code_section(alloc)?)?,
         names: NameTable {
-            publics: single(alloc, entry_at(alloc, number)?)?,
+            publics: List::single(alloc, entry_at(alloc, number)?)?,
             references: references_at(alloc, last, number)?,
         },
         debug: List::new(alloc),
@@ -211,7 +207,7 @@ fn region(alloc: Global, count: u32) -> Result<Region, NoMemory>
         name: Bytes::from_slice(alloc, b"all")?,
         base: FIRST_BASE,
         size: SECTION_SIZE * count as u64,
-        sections: single(alloc, Bytes::from_slice(alloc, b"*")?)?,
+        sections: List::single(alloc, Bytes::from_slice(alloc, b"*")?)?,
         common: false,
     })
 }
@@ -221,6 +217,6 @@ pub(crate) fn made_plan(alloc: Global, count: u32) -> Result<Plan, NoMemory>
     ensures { IfOk result (λ plan. plan ≡ made_plan count) }
 {
     Ok(Plan {
-        regions: single(alloc, region(alloc, count)?)?,
+        regions: List::single(alloc, region(alloc, count)?)?,
     })
 }

@@ -12,17 +12,17 @@ ghost use Rattle.mufom_make.specs.Generated.{made_modules, modules_from};
 ghost use Rattle.mufom_make.specs.Links.{IsLinkOf, most_weight};
 
 use crate::generated::module_at;
-use mufom_link::{LinkRefusal, link};
+use mufom_link::{LinkRefusal, link_owned};
 use mufom_module::Module;
-use mufom_numbers::NoMemory;
+use mufom_numbers::{Bytes, NoMemory};
 use std::alloc::Global;
 
 // The name of a module.
-fn name_of(module: &Module) -> &[u8]
-    ensures name { result.now ≡ «module».now.name }
-    ensures valid { IsValid «module».now }
+fn name_of(entry: &Module) -> &[u8]
+    ensures name { result.now ≡ entry.now.name }
+    ensures valid { IsValid entry.now }
 {
-    module.parts().name.as_slice()
+    entry.parts().name.as_slice()
 }
 
 // The modules with the numbers from `first` up to `end`, of `count`.
@@ -31,7 +31,7 @@ fn modules_between(alloc: Global, count: u32, first: u32, end: u32) -> Result<Ve
     requires few { end ≤ MOST_MODULES }
     ensures { IfOk result (λ modules. modules.items ≡ modules_from count (end - first) first) }
 {
-    let mut modules = Vec::new(alloc);
+    let mut modules = Vec::with_capacity(alloc, (end - first) as usize)?;
     for number in first..end {
         modules.push(module_at(alloc, count, number)?)?;
     }
@@ -39,16 +39,17 @@ fn modules_between(alloc: Global, count: u32, first: u32, end: u32) -> Result<Ve
 }
 
 // The link of modules against which no link fact stands, under the name of the first.
-fn linked(alloc: Global, list: &[Module]) -> Result<Module, NoMemory>
-    requires some { 0 < length list.now }
-    requires light { total_weight list.now ≤ 2 ^ 31 }
-    requires linkable { link_answer list.now ≡ None }
-    ensures joined { IfOk result (λ M. IsJoined M list.now M.name) }
-    ensures named { IfOk result (λ M. NameStays [] M list.now) }
-    ensures light { IfOk result (λ M. weight M ≤ total_weight list.now) }
+fn linked(alloc: Global, list: Vec<Module>) -> Result<Module, NoMemory>
+    requires some { 0 < length list.items }
+    requires light { total_weight list.items ≤ 2 ^ 31 }
+    requires linkable { link_answer list.items ≡ None }
+    ensures joined { IfOk result (λ M. IsJoined M list.items M.name) }
+    ensures named { IfOk result (λ M. NameStays [] M list.items) }
+    ensures light { IfOk result (λ M. weight M ≤ total_weight list.items) }
 {
-    match link(alloc, list, name_of(&list[0])) {
-        Ok(module) => Ok(module),
+    let name = Bytes::from_slice(alloc, name_of(&list[0]))?;
+    match link_owned(alloc, list, name.as_slice()) {
+        Ok(link) => Ok(link),
         Err(LinkRefusal::NoMemory) => Err(NoMemory),
         Err(_) => unreachable!(),
     }
@@ -61,7 +62,7 @@ fn linked_between(alloc: Global, count: u32, first: u32, end: u32) -> Result<Mod
     ensures { IfOk result (λ M. IsLinkOf M (modules_from count (end - first) first)) }
 {
     let modules = modules_between(alloc, count, first, end)?;
-    linked(alloc, &modules)
+    linked(alloc, modules)
 }
 
 // The links of two modules each, and of a last one alone.
@@ -72,7 +73,7 @@ fn linked_pairs(alloc: Global, count: u32) -> Result<Vec<Module>, NoMemory>
     ensures staged { IfOk result (λ linked. IsStaged linked.items (made_modules count)) }
     ensures light { IfOk result (λ linked. total_weight linked.items ≤ most_weight * count) }
 {
-    let mut pairs = Vec::new(alloc);
+    let mut pairs = Vec::with_capacity(alloc, count.div_ceil(2) as usize)?;
     let mut first = 0;
     while first < count {
         let end = count.min(first + 2);
@@ -90,5 +91,5 @@ pub(crate) fn linked_modules(alloc: Global, count: u32) -> Result<Module, NoMemo
     ensures { IfOk result (λ M. IsLinkOf M (made_modules count)) }
 {
     let pairs = linked_pairs(alloc, count)?;
-    linked(alloc, &pairs)
+    linked(alloc, pairs)
 }

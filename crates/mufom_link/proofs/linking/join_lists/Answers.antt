@@ -1,91 +1,57 @@
-use Rattle.std.proofs.Common.{◌≡◌, ℕ, ◌+◌, List, ◌∷◌, ◌∙◌, ap, sym, subst, length, drop, arith}
-use Rattle.std.specs.List.{AllByRecursion}
-use Rattle.std.proofs.lemmas.List.{drop_more, drop_all}
-use Rattle.mufom_names.specs.Index.{Entry, keys_of, numbered_from}
-use Rattle.mufom_names.specs.Keys.{IsShortReference}
-use Rattle.mufom_names.proofs.PositionLaws.{keys-numbered}
+use Rattle.std.proofs.Common.{◌≡◌, List, [], ◌∷◌, ◌++◌, ◌∙◌, refl, ap, subst, length, map, take, drop, arith}
+use Rattle.std.specs.Vec.Iter.{into_iter_items}
 use Rattle.mufom_module.specs.declared.module.Parts.{Parts}
-use Rattle.mufom_meaning.specs.Flat.{public_names}
-use Rattle.mufom_link.specs.References.{kept_after, targets_after, keyed}
-use Rattle.mufom_link.specs.Joining.{HasLists}
-use Rattle.mufom_link.proofs.CountLaws.{short-references}
-use Rattle.mufom_link.proofs.JoiningLaws.{IsUnderway, begun, ended, sections-fit, publics-fit, declared-fit, references-fit, joined}
+use Rattle.mufom_meaning.specs.Flat.{flat_references, public_names}
+use Rattle.mufom_meaning.specs.Joined.{kept_references}
+use Rattle.mufom_link.specs.References.{target_in}
+use Rattle.mufom_link.proofs.JoiningLaws.{IsUnderway, sections-fit, publics-fit, declared-fit, joined}
 use Rattle.mufom_link.proofs.linking.join_lists.Goals as goal
 
-names-are : (entries : List Entry) (names : List (List ℕ)) → entries ≡ numbered_from 0 names → keys_of entries ≡ names
-names-are entries names e = ap keys_of e ∙ keys-numbered 0 names
+-- what stands for the references of the next module, and of those after it
+own-targets : {A B : Type 0} (f : A → B) (xs ys : List A) → take (length xs) (map f (xs ++ ys)) ≡ map f xs
+own-targets f [] ys = refl
+own-targets f (x ∷ xs) ys = ap (λ rest. f x ∷ rest) (own-targets f xs ys)
 
-pub loop-module-init : goal.loop-module-init
-loop-module-init c =
-    let h = c.new-references.ensures in
-    (begun c.args.list.now c.new-joined.result c.new-references.result.kept c.new-joined.ensures h.kept, h.keys ∙ ap keyed (sym h.kept))
-
-pub targets-requires : goal.targets-requires
-targets-requires c =
-    let modules = c.args.list.now in
-    let i = c.loop-module.module-index in
-    let m = c.module-item.result in
-    let rest = drop (i + 1) modules in
-    let all = c.loop-module.joined in
-    let kept = c.loop-module.references.kept in
-    let left : drop i modules ≡ m ∷ rest = drop_more modules i m c.loop-module-test.true ∙ ap (λ (q : Parts). q ∷ rest) (sym c.module-item.is) in
-    let underway = subst (λ xs. IsUnderway modules xs all kept) left c.loop-module.invariant.0 in
-    let own = c.as_slice-own.ensures ∙ ap (λ (q : Parts). q.names.references) c.parts.ensures.same in
-    let many = ap length own in
-    let fit = references-fit modules c.requires.light m rest all kept underway in
-    record {
-      publics = c.requires.publics ∙ sym (ap (numbered_from 0) (names-are c.args.publics.now (public_names modules) c.requires.publics));
-      keyed = c.loop-module.invariant.1;
-      short = subst (AllByRecursion IsShortReference) (sym own) (short-references m c.parts.ensures.valid c.parts.ensures.made);
-      kept_short = underway.kept_short;
-      room = omega (arith, many, fit);
-    }
+later-targets : {A B : Type 0} (f : A → B) (xs ys : List A) → drop (length xs) (map f (xs ++ ys)) ≡ map f ys
+later-targets f [] ys = refl
+later-targets f (x ∷ xs) ys = later-targets f xs ys
 
 pub append-requires : goal.append-requires
 append-requires c =
-    let modules = c.args.list.now in
-    let i = c.loop-module.module-index in
-    let m = c.module-item.result in
-    let rest = drop (i + 1) modules in
-    let all = c.loop-module.joined in
-    let kept = c.loop-module.references.kept in
-    let left : drop i modules ≡ m ∷ rest = drop_more modules i m c.loop-module-test.true ∙ ap (λ (q : Parts). q ∷ rest) (sym c.module-item.is) in
-    let underway = subst (λ xs. IsUnderway modules xs all kept) left c.loop-module.invariant.0 in
-    let sections = sections-fit modules c.requires.light m rest all kept underway in
-    let publics = publics-fit modules c.requires.light m rest all kept underway in
+    let ms = c.args.list.items in
+    let m = c.in-Some.entry in
+    let rest = into_iter_items c.next.new.self in
+    let all = c.loop-entry.joined in
+    let underway = subst (λ xs. IsUnderway ms xs all) c.in-Some.ensures.steps.0 c.loop-entry.invariant.underway in
+    let sections = sections-fit ms c.requires.light m rest all underway in
+    let publics = publics-fit ms c.requires.light m rest all underway in
     record {
       sections = omega (arith, sections);
       publics = omega (arith, publics);
-      names = declared-fit modules c.requires.light m rest all kept underway;
+      names = declared-fit ms c.requires.light m rest all underway;
     }
 
-pub loop-module-preserved : goal.loop-module-preserved
-loop-module-preserved c =
-    let modules = c.args.list.now in
-    let i = c.loop-module.module-index in
-    let m = c.module-item.result in
-    let rest = drop (i + 1) modules in
-    let all = c.loop-module.joined in
-    let kept = c.loop-module.references.kept in
-    let left : drop i modules ≡ m ∷ rest = drop_more modules i m c.loop-module-test.true ∙ ap (λ (q : Parts). q ∷ rest) (sym c.module-item.is) in
-    let underway = subst (λ xs. IsUnderway modules xs all kept) left c.loop-module.invariant.0 in
-    let own = c.as_slice-own.ensures ∙ ap (λ (q : Parts). q.names.references) c.parts.ensures.same in
-    let names = names-are c.args.publics.now (public_names modules) c.requires.publics in
-    let targets = c.as_slice.ensures ∙ c.in_ok-targets.ensures.targets ∙ (λ j. targets_after (names j) kept (own j)) in
-    let later = c.in_ok-targets.ensures.kept ∙ (λ j. kept_after (names j) kept (own j)) in (
-      joined modules c.requires.light m rest all kept underway c.parts.ensures.valid c.parts.ensures.made c.requires.starts
-          c.as_slice.result.now c.append.new.self c.targets.new.self.kept targets later c.in_ok-append.ensures,
-      c.in_ok-targets.ensures.keys,
-    )
-
-pub returns : goal.returns
-returns c =
-    let modules = c.args.list.now in
-    let all = c.loop-module.joined in
-    let kept = c.loop-module.references.kept in
-    let none = drop_all c.loop-module.module-index modules c.loop-module-test.false in
-    let underway = subst (λ xs. IsUnderway modules xs all kept) none c.loop-module.invariant.0 in
+pub loop-entry-preserved : goal.loop-entry-preserved
+loop-entry-preserved c =
+    let ms = c.args.list.items in
+    let m = c.in-Some.entry in
+    let rest = into_iter_items c.next.new.self in
+    let all = c.loop-entry.joined in
+    let steps = c.in-Some.ensures.steps in
+    let underway = subst (λ xs. IsUnderway ms xs all) steps.0 c.loop-entry.invariant.underway in
+    let target = target_in (public_names ms) (kept_references ms) in
+    let left : c.loop-entry.rest.now ≡ map target (m.names.references ++ flat_references rest) =
+    c.loop-entry.invariant.variables ∙ ap (λ xs. map target (flat_references xs)) steps.0 in
+    let many : c.len.result ≡ length m.names.references = c.len.ensures ∙ ap (λ (q : Parts). length q.names.references) c.parts.ensures.same in
+    let own : c.split_at.result.0.now ≡ map target m.names.references =
+    c.split_at.ensures.front ∙ (λ i. take (many i) (left i)) ∙ own-targets target m.names.references (flat_references rest) in
+    let later : c.split_at.result.1.now ≡ map target (flat_references rest) =
+    c.split_at.ensures.back ∙ (λ i. drop (many i) (left i)) ∙ later-targets target m.names.references (flat_references rest) in
+    let short = ap length steps.0 in
+    let gone = steps.1 in
+    let counted = c.loop-entry.invariant.counted in
     record {
-      lists = subst (HasLists modules all) (sym c.into_kept.ensures) (ended modules all kept underway);
-      valid = underway.valid tt;
+      underway = joined ms c.requires.light m rest all underway c.parts.ensures.valid c.requires.starts c.split_at.result.0.now c.append.new.self own c.in_ok-append.ensures;
+      variables = later;
+      counted = omega (arith, short, gone, counted);
     }

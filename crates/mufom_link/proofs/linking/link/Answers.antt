@@ -1,59 +1,37 @@
-use Rattle.std.proofs.Common.{sym, subst, rules, arith}
+use Rattle.std.proofs.Common.{List, ◌≤◌, length, None, ◌≡◌, sym, subst}
 use Rattle.mufom_module.specs.declared.module.Parts.{Parts}
-use Rattle.mufom_meaning.specs.Flat.{public_names}
-use Rattle.mufom_meaning.specs.Joined.{IsJoined}
-use Rattle.mufom_link.specs.Refusals.{IsRefusalOf}
-use Rattle.mufom_link.proofs.CountLaws.{all-public-names}
-use Rattle.mufom_link.proofs.PublicsLaws.{indexed-all}
-use Rattle.mufom_link.proofs.RefusalLaws.{names-refused, starts-refused, linkable, stands}
+use Rattle.mufom_meaning.specs.Flat.{flat_starts}
+use Rattle.mufom_meaning.specs.LinkAnswer.{link_answer}
+use Rattle.mufom_link.specs.Conditions.{MayBeLinked}
+use Rattle.mufom_link.specs.Linking.{IsPartialLink}
+use Rattle.mufom_link.specs.References.{AreResolved}
 use Rattle.mufom_link.proofs.linking.link.Goals as goal
 
-pub index_publics-requires : goal.index_publics-requires
-index_publics-requires c =
-    let few = all-public-names c.args.list.now in
-    let light = c.requires.light in
-    omega (arith, few, light)
+pub linked-requires : goal.linked-requires
+linked-requires c =
+    let same = sym c.in_ok-copies.ensures in
+    let all = c.in_ok-references.ensures in
+    record {
+      conditions = subst (λ (ms : List Parts). MayBeLinked ms c.args.name.now) same c.requires;
+      resolved = subst (λ (ms : List Parts). AreResolved ms c.in_ok-references.references.targets c.in_ok-references.references.kept) same all.resolved;
+      linkable = subst (λ (ms : List Parts). link_answer ms ≡ None) same all.linkable;
+      starts = subst (λ (ms : List Parts). length (flat_starts ms) ≤ 1) same all.starts;
+    }
 
-pub returns-in_err-publics-clause-refused : goal.returns-in_err-publics-clause-refused
-returns-in_err-publics-clause-refused c =
-    let refused : IsRefusalOf c.args.list.now c.in_err-publics.field-0.0 = names-refused c.args.list.now (sym c.in_default.ensures) c.in_err-publics.field-0.0 c.in_err-publics.ensures in
-    search (rules, refused)
-
-pub returns-then-start_count-gt1-clause-refused : goal.returns-then-start_count-gt1-clause-refused
-returns-then-start_count-gt1-clause-refused c =
-    let once = (indexed-all (public_names c.args.list.now) c.in_ok-publics.publics c.in_ok-publics.ensures).0 in
-    let count = c.start_count.ensures in
-    starts-refused c.args.list.now (sym c.in_default.ensures) once (omega (arith, count, c.if-start_count-gt1.true))
-
-pub join-requires-clause-publics : goal.join-requires-clause-publics
-join-requires-clause-publics c = (indexed-all (public_names c.args.list.now) c.in_ok-publics.publics c.in_ok-publics.ensures).1
-
-pub sound-requires : goal.sound-requires
-sound-requires c = (c.laws.ensures.valid c.in_ok-parts.parts c.args.list.now c.args.name.now c.in_ok-parts.ensures.joined c.in_ok-parts.ensures.valid).valid c.requires.short c.requires.light
-
-pub returns-clause-linkable : goal.returns-clause-linkable
-returns-clause-linkable c =
-    linkable c.args.list.now c.in_ok-publics.publics c.start_count.result c.in_default.ensures c.in_ok-publics.ensures c.start_count.ensures c.if-start_count-gt1.false
+pub returns-clause-joined : goal.returns-clause-joined
+returns-clause-joined c = (subst (λ (ms : List Parts). IsPartialLink c.in_ok-linked.field-0 ms c.args.name.now) c.in_ok-copies.ensures c.in_ok-linked.ensures).joined
 
 pub returns-clause-stands : goal.returns-clause-stands
-returns-clause-stands c =
-    let none = linkable c.args.list.now c.in_ok-publics.publics c.start_count.result c.in_default.ensures c.in_ok-publics.ensures c.start_count.ensures c.if-start_count-gt1.false in
-    (stands c.args.list.now c.sound.result c.in_ok-parts.parts c.args.name.now c.laws.ensures.stands c.laws.ensures.linkable none
-    c.sound.ensures.same c.in_ok-parts.ensures.joined c.in_ok-parts.ensures.valid).0
+returns-clause-stands c = (subst (λ (ms : List Parts). IsPartialLink c.in_ok-linked.field-0 ms c.args.name.now) c.in_ok-copies.ensures c.in_ok-linked.ensures).stands
+
+pub returns-clause-sections : goal.returns-clause-sections
+returns-clause-sections c = (subst (λ (ms : List Parts). IsPartialLink c.in_ok-linked.field-0 ms c.args.name.now) c.in_ok-copies.ensures c.in_ok-linked.ensures).sections
 
 pub returns-clause-names : goal.returns-clause-names
-returns-clause-names c =
-    let none = linkable c.args.list.now c.in_ok-publics.publics c.start_count.result c.in_default.ensures c.in_ok-publics.ensures c.start_count.ensures c.if-start_count-gt1.false in
-    (stands c.args.list.now c.sound.result c.in_ok-parts.parts c.args.name.now c.laws.ensures.stands c.laws.ensures.linkable none
-    c.sound.ensures.same c.in_ok-parts.ensures.joined c.in_ok-parts.ensures.valid).2
+returns-clause-names c = (subst (λ (ms : List Parts). IsPartialLink c.in_ok-linked.field-0 ms c.args.name.now) c.in_ok-copies.ensures c.in_ok-linked.ensures).names
 
 pub returns-clause-settled : goal.returns-clause-settled
-returns-clause-settled c =
-    let none = linkable c.args.list.now c.in_ok-publics.publics c.start_count.result c.in_default.ensures c.in_ok-publics.ensures c.start_count.ensures c.if-start_count-gt1.false in
-    (stands c.args.list.now c.sound.result c.in_ok-parts.parts c.args.name.now c.laws.ensures.stands c.laws.ensures.linkable none
-    c.sound.ensures.same c.in_ok-parts.ensures.joined c.in_ok-parts.ensures.valid).3
+returns-clause-settled c = (subst (λ (ms : List Parts). IsPartialLink c.in_ok-linked.field-0 ms c.args.name.now) c.in_ok-copies.ensures c.in_ok-linked.ensures).settled
 
 pub returns-clause-weighs : goal.returns-clause-weighs
-returns-clause-weighs c =
-    let linked = subst (λ (M : Parts). IsJoined M c.args.list.now c.args.name.now) (sym c.sound.ensures.same) c.in_ok-parts.ensures.joined in
-    (c.laws.ensures.valid c.sound.result c.args.list.now c.args.name.now linked c.in_ok-parts.ensures.valid).weighs
+returns-clause-weighs c = (subst (λ (ms : List Parts). IsPartialLink c.in_ok-linked.field-0 ms c.args.name.now) c.in_ok-copies.ensures c.in_ok-linked.ensures).weighs

@@ -8,7 +8,7 @@ use Rattle.mufom_make.proofs.linking.linked_pairs.Goals as goal
 
 pub loop-first-init : goal.loop-first-init
 loop-first-init c =
-    let none = c.new-pairs.ensures.items in
+    let none = c.in_ok-pairs.ensures.items in
     let all : c.args.count - 0 ≡ c.args.count = omega arith in
     let weighs = ap total_weight none in
     record {

@@ -1,0 +1,130 @@
+//! Debug items by the numbers of the link, and how many debug names they declare.
+
+ghost use Rattle.std.specs.Prelude.{◌≡◌, ◌<◌, ◌^◌, map, option_map, IfOk};
+ghost use Rattle.mufom_debug.specs.Marks.{marks_of, marks_of_item, names_after_all};
+ghost use Rattle.mufom_link.specs.Renaming.{renaming_of, renamed_tree, renamed_head, renamed_mark};
+
+use crate::site::Site;
+use mufom_debug::{Block, BlockHead, DebugItem};
+use mufom_expr::Postfix;
+use mufom_numbers::{List, NoMemory};
+use std::alloc::Global;
+
+fn renamed_head(site: &Site<'_>, head: BlockHead) -> BlockHead
+    ensures { result ≡ renamed_head (renaming_of site.now) head }
+{
+    match head {
+        BlockHead::Module => BlockHead::Module,
+        BlockHead::Global {
+            stack,
+            type_index,
+            offset,
+        } => BlockHead::Global {
+            stack,
+            type_index,
+            offset: offset.renamed(site),
+        },
+        BlockHead::Local {
+            stack,
+            type_index,
+            offset,
+        } => BlockHead::Local {
+            stack,
+            type_index,
+            offset: offset.renamed(site),
+        },
+        BlockHead::Source { numbers } => BlockHead::Source { numbers },
+        BlockHead::Section {
+            section_type,
+            section,
+            offset,
+        } => BlockHead::Section {
+            section_type,
+            section: site.section(section),
+            offset: offset.renamed(site),
+        },
+    }
+}
+
+fn renamed_end(site: &Site<'_>, end: Option<Postfix>) -> Option<Postfix>
+    ensures { result ≡ option_map (renamed_tree (renaming_of site.now)) end }
+{
+    match end {
+        Some(value) => Some(value.renamed(site)),
+        None => None,
+    }
+}
+
+#[cycle(renaming)]
+fn renamed_item(alloc: Global, site: &Site<'_>, item: DebugItem) -> Result<DebugItem, NoMemory>
+    ensures { IfOk result (λ other. marks_of_item other ≡ map (renamed_mark (renaming_of site.now)) (marks_of_item item)) }
+{
+    match item {
+        DebugItem::Block(block) => {
+            let Block {
+                head,
+                name,
+                items,
+                end,
+            } = block;
+            Ok(DebugItem::Block(Block {
+                head: renamed_head(site, head),
+                name,
+                items: renamed_items(alloc, site, items)?,
+                end: renamed_end(site, end),
+            }))
+        }
+        DebugItem::Name(name) => Ok(DebugItem::Name(name)),
+        DebugItem::Note { name, note } => Ok(DebugItem::Note {
+            name: site.debug_name(name),
+            note,
+        }),
+        DebugItem::Value { name, value } => Ok(DebugItem::Value {
+            name: site.debug_name(name),
+            value: value.renamed(site),
+        }),
+    }
+}
+
+// The items, with their variables, sections and names by the numbers of the link.
+#[cycle(renaming)]
+pub(crate) fn renamed_items(
+    alloc: Global,
+    site: &Site<'_>,
+    items: List<DebugItem>,
+) -> Result<List<DebugItem>, NoMemory>
+    ensures { IfOk result (λ others. marks_of others ≡ map (renamed_mark (renaming_of site.now)) (marks_of items)) }
+{
+    let mut others = List::with_capacity(alloc, items.len())?;
+    for item in items.into_vec() {
+        others.push(renamed_item(alloc, site, item)?)?;
+    }
+    Ok(others)
+}
+
+// How many debug names are declared after the item, where there are `before` before it.
+#[cycle(names)]
+fn names_after_item(before: u32, item: &DebugItem) -> u32
+    requires { names_after_all before (marks_of_item item.now) < 2 ^ 32 }
+    ensures { result ≡ names_after_all before (marks_of_item item.now) }
+{
+    match item {
+        DebugItem::Block(block) => names_after(before, block.items.as_slice()),
+        DebugItem::Name(_) => before + 1,
+        DebugItem::Note { .. } => before,
+        DebugItem::Value { .. } => before,
+    }
+}
+
+// How many debug names are declared after the items, where there are `before` before them.
+#[cycle(names)]
+pub(crate) fn names_after(before: u32, items: &[DebugItem]) -> u32
+    requires { names_after_all before (marks_of items.now) < 2 ^ 32 }
+    ensures { result ≡ names_after_all before (marks_of items.now) }
+{
+    let mut count = before;
+    for item in items {
+        count = names_after_item(count, item);
+    }
+    count
+}

@@ -1,0 +1,76 @@
+//! What the references of a list of modules come to in its link.
+
+ghost use Rattle.std.specs.Prelude.{◌≡◌, ◌<◌, ◌≤◌, ◌^◌, None, length, IfOk, IfErr};
+ghost use Rattle.mufom_names.specs.Index.{numbered_from};
+ghost use Rattle.mufom_meaning.specs.Flat.{flat_starts, public_names};
+ghost use Rattle.mufom_meaning.specs.LinkAnswer.{link_answer};
+ghost use Rattle.mufom_meaning.specs.StagingLaws.{total_weight};
+ghost use Rattle.mufom_link.specs.Refusals.{IsRefusalOf};
+ghost use Rattle.mufom_link.specs.References.{AreResolved};
+
+use crate::facts::{first_mismatch, index_publics, start_count};
+use crate::references::References;
+use crate::refusal::LinkRefusal;
+use mufom_expr::Letter;
+use mufom_module::Module;
+use mufom_names::{NameIndex, Reference};
+use mufom_numbers::{List, NoMemory};
+use std::alloc::Global;
+
+/// The references of a list of modules in its link.
+#[derive(Drop)]
+pub(crate) struct Resolved {
+    /// The variables that stand for them, module by module.
+    pub targets: List<(Letter, u32)>,
+    /// The references that the link keeps.
+    pub kept: List<Reference>,
+}
+
+// How many references the modules have, for the memory of what stands for them.
+fn reference_count(list: &[Module]) -> usize {
+    let mut count: usize = 0;
+    for entry in list {
+        count = count.saturating_add(entry.parts().names.references.len());
+    }
+    count
+}
+
+// What the references of the modules come to, where these are all publics.
+fn resolved_by(
+    alloc: Global,
+    list: &[Module],
+    publics: &NameIndex<'_>,
+) -> Result<Resolved, NoMemory>
+    requires publics { publics.now ≡ numbered_from 0 (public_names list.now) }
+    requires light { total_weight list.now < 2 ^ 32 }
+    ensures { IfOk result (λ all. AreResolved list.now all.targets all.kept) }
+{
+    let mut references = References::new(alloc);
+    let mut targets = List::with_capacity(alloc, reference_count(list))?;
+    for entry in list {
+        let own = entry.parts().names.references.as_slice();
+        references.resolve(alloc, publics, own, &mut targets)?;
+    }
+    Ok(Resolved {
+        targets,
+        kept: references.into_kept(),
+    })
+}
+
+/// What the references of the modules come to in their link, or what keeps them from being linked.
+pub(crate) fn resolve(alloc: Global, list: &[Module]) -> Result<Resolved, LinkRefusal>
+    requires { total_weight list.now < 2 ^ 32 }
+    ensures resolved { IfOk result (λ all. AreResolved list.now all.targets all.kept) }
+    ensures linkable { IfOk result (λ _. link_answer list.now ≡ None) }
+    ensures starts { IfOk result (λ _. length (flat_starts list.now) ≤ 1) }
+    ensures refused { IfErr result (λ e. IsRefusalOf list.now e) }
+{
+    if let Some((first, other)) = first_mismatch(list) {
+        return Err(LinkRefusal::Mismatch(first, other));
+    }
+    let publics = index_publics(alloc, list)?;
+    if start_count(list) > 1 {
+        return Err(LinkRefusal::DuplicateStart);
+    }
+    Ok(resolved_by(alloc, list, &publics)?)
+}
