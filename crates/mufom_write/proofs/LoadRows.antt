@@ -13,7 +13,7 @@ use Rattle.mufom_records.specs.declared.record.Mode.TheVariants as mode
 use Rattle.mufom_records.specs.declared.record.Record.{Record}
 use Rattle.mufom_records.specs.declared.record.Record.TheVariants as r
 use Rattle.mufom_records.specs.Fields.{span_at, is_one_of, Stops, first_of}
-use Rattle.mufom_records.specs.Layouts.{comma, opening_brackets, constant, SpellsRecord, IsWholeRecord}
+use Rattle.mufom_records.specs.Layouts.{whole, comma, opening_brackets, kind_of, closed_by, constant, SpellsRecord, IsWholeRecord}
 use Rattle.mufom_records.proofs.NumberLaws.{number_first}
 use Rattle.mufom_module.specs.Written.{shortest}
 use Rattle.mufom_module.specs.Written as w
@@ -113,75 +113,41 @@ constant_item-whole bytes short are next =
 size-fits : (size : ℕ) → ((size == 0) || nat_lt 8 size) ≡ false → (nat_le 1 size && nat_le size 8) ≡ true
 size-fits size h = grind arith
 
+-- a field in these brackets
+bracketed-whole : (bracket close : ℕ) → is_one_of opening_brackets bracket ≡ true → ((row : Record) (at : ℕ) (next : Option ℕ) → SpellsRecord (closed_by bracket (whole row)) row at (close ∷ []) next)
+    → (tree value : Tree) (size : ℕ) → SpellsTree tree (w.expression shortest value) → size < 2 ^ 64 → ((size == 0) || nat_lt 8 size) ≡ false
+    → IsWholeItem (r.FieldItem (kind_of bracket) (span_at 1 (length (w.expression shortest value))) (Some size)) (bracket ∷ (w.expression shortest value ++ (comma ∷ (w.number shortest size ++ close ∷ []))))
+bracketed-whole bracket close opens closes tree value size spelled fits good next =
+    let text = w.expression shortest value in
+    let span = span_at 1 (length text) in (
+      Some bracket,
+      bracket ∷ [],
+      text ++ (comma ∷ (w.number shortest size ++ close ∷ [])),
+      (refl, opens),
+      (
+        span,
+        text,
+        comma ∷ (w.number shortest size ++ close ∷ []),
+        spells_expression tree text 1 (Some comma) spelled refl,
+        (
+          Some comma,
+          comma ∷ [],
+          w.number shortest size ++ close ∷ [],
+          (refl, refl),
+          (size, w.number shortest size, close ∷ [], (spells size fits, size-fits size good), closes (r.FieldItem (kind_of bracket) span (Some size)) (1 + length text + 1 + length (w.number shortest size)) next, refl),
+          refl,
+        ),
+        refl,
+      ),
+      refl,
+    )
+
 -- a field
 pub field-whole : (kind : FieldKind) (tree : Tree) (value : Tree) (size : ℕ) → SpellsTree tree (w.expression shortest value) → size < 2 ^ 64 → ((size == 0) || nat_lt 8 size) ≡ false
     → IsWholeItem (r.FieldItem kind (span_at 1 (length (w.expression shortest value))) (Some size)) (w.field shortest kind value size)
-field-whole Signed tree value size spelled fits good next = (
-  Some 0xBA,
-  0xBA ∷ [],
-  w.expression shortest value ++ (comma ∷ (w.number shortest size ++ 0xBB ∷ [])),
-  (refl, refl),
-  (
-    span_at 1 (length (w.expression shortest value)),
-    w.expression shortest value,
-    comma ∷ (w.number shortest size ++ 0xBB ∷ []),
-    spells_expression tree (w.expression shortest value) 1 (Some comma) spelled refl,
-    (
-      Some comma,
-      comma ∷ [],
-      w.number shortest size ++ 0xBB ∷ [],
-      (refl, refl),
-      (size, w.number shortest size, 0xBB ∷ [], (spells size fits, size-fits size good), (0xBB, 0xBB ∷ [], [], refl, (refl, refl), refl), refl),
-      refl,
-    ),
-    refl,
-  ),
-  refl,
-)
-field-whole Unsigned tree value size spelled fits good next = (
-  Some 0xBC,
-  0xBC ∷ [],
-  w.expression shortest value ++ (comma ∷ (w.number shortest size ++ 0xBD ∷ [])),
-  (refl, refl),
-  (
-    span_at 1 (length (w.expression shortest value)),
-    w.expression shortest value,
-    comma ∷ (w.number shortest size ++ 0xBD ∷ []),
-    spells_expression tree (w.expression shortest value) 1 (Some comma) spelled refl,
-    (
-      Some comma,
-      comma ∷ [],
-      w.number shortest size ++ 0xBD ∷ [],
-      (refl, refl),
-      (size, w.number shortest size, 0xBD ∷ [], (spells size fits, size-fits size good), (0xBD, 0xBD ∷ [], [], refl, (refl, refl), refl), refl),
-      refl,
-    ),
-    refl,
-  ),
-  refl,
-)
-field-whole Either tree value size spelled fits good next = (
-  Some 0xBE,
-  0xBE ∷ [],
-  w.expression shortest value ++ (comma ∷ (w.number shortest size ++ 0xBF ∷ [])),
-  (refl, refl),
-  (
-    span_at 1 (length (w.expression shortest value)),
-    w.expression shortest value,
-    comma ∷ (w.number shortest size ++ 0xBF ∷ []),
-    spells_expression tree (w.expression shortest value) 1 (Some comma) spelled refl,
-    (
-      Some comma,
-      comma ∷ [],
-      w.number shortest size ++ 0xBF ∷ [],
-      (refl, refl),
-      (size, w.number shortest size, 0xBF ∷ [], (spells size fits, size-fits size good), (0xBF, 0xBF ∷ [], [], refl, (refl, refl), refl), refl),
-      refl,
-    ),
-    refl,
-  ),
-  refl,
-)
+field-whole Signed = bracketed-whole 0xBA 0xBB refl (λ row at next. (0xBB, 0xBB ∷ [], [], refl, (refl, refl), refl))
+field-whole Unsigned = bracketed-whole 0xBC 0xBD refl (λ row at next. (0xBD, 0xBD ∷ [], [], refl, (refl, refl), refl))
+field-whole Either = bracketed-whole 0xBE 0xBF refl (λ row at next. (0xBF, 0xBF ∷ [], [], refl, (refl, refl), refl))
 
 -- ---- the start
 

@@ -8,6 +8,8 @@ use Rattle.std.proofs.lemmas.Bool.{cases_lt, le-ltb, lt-ltb, ltb-false}
 use Rattle.arrayvec.specs.ArrayVec.{ArrayVec}
 use Rattle.mufom_numbers.specs.Spelling.{AreBytes, SpellsNumber, IsStringLead, shortest_lead}
 use Rattle.mufom_numbers.proofs.ShortestLaws.{shortest_number-spells}
+use Rattle.mufom_numbers.specs.declared.reason.Reason.{Reason}
+use Rattle.mufom_numbers.specs.declared.reason.Reason.TheVariants.{BadNumber, UnsupportedAttribute}
 use Rattle.mufom_numbers.specs.declared.taken.Span.{Span}
 use Rattle.mufom_expr.specs.Tree.{Tree}
 use Rattle.mufom_expr.specs.Spelled.{SpellsTree}
@@ -15,9 +17,9 @@ use Rattle.mufom_expr.specs.TokenAt.{begins_number, begins_token}
 use Rattle.mufom_records.specs.declared.record.Mode.TheVariants as mode
 use Rattle.mufom_records.specs.declared.record.Record.{Record}
 use Rattle.mufom_records.specs.declared.record.Record.TheVariants as r
-use Rattle.mufom_records.specs.Fields.{string, expression, Stops, is_one_of, span_at, SpellsField, SpellsNumbers, first_of}
+use Rattle.mufom_records.specs.Fields.{number, numbers, string, expression, Stops, is_one_of, span_at, SpellsField, SpellsNumbers, first_of}
 use Rattle.mufom_records.specs.Fields.{optional_number}
-use Rattle.mufom_records.specs.Layouts.{◌▹◌, whole, SpellsRecord, purposes, named_section, section_type, index_and_number, index_and_string, index_and_expression, note, debug_attributes, IsWholeRecord}
+use Rattle.mufom_records.specs.Layouts.{◌▹◌, whole, SpellsRecord, purposes, named_section, section_type, index_and_number, index_and_string, index_and_expression, debug_attributes, IsWholeRecord, any_number, assignment, here, index, noted}
 use Rattle.mufom_sections.specs.declared.section.Purpose.{Purpose}
 use Rattle.mufom_sections.specs.declared.section.Purpose.TheVariants as purpose
 use Rattle.mufom_sections.specs.declared.section.Section.{Section}
@@ -96,6 +98,14 @@ spells_expression tree text at next spelled stops = ((tree, spelled), refl, stop
 abbrev pub IsWhole : Record → List ℕ → Type 0
 IsWhole row bytes = (next : Option ℕ) → IsCode next → IsWholeRecord mode.Body row bytes next
 
+-- a record after E2 and a letter
+assigned-whole : (letter : ℕ) (row : Record) (rest : List ℕ) → ((next : Option ℕ) → IsCode next → SpellsRecord (assignment letter) row 2 rest next) → IsWhole row (0xE2 ∷ letter ∷ rest)
+assigned-whole letter row rest spelled next code = (0xE2, 0xE2 ∷ [], letter ∷ rest, refl, (letter, letter ∷ [], rest, refl, spelled next code, refl), refl)
+
+-- a record after F1 and a letter
+noted-whole : (letter : ℕ) (row : Record) (rest : List ℕ) → ((next : Option ℕ) → IsCode next → SpellsRecord (noted letter) row 2 rest next) → IsWhole row (0xF1 ∷ letter ∷ rest)
+noted-whole letter row rest spelled next code = (0xF1, 0xF1 ∷ [], letter ∷ rest, refl, (letter, letter ∷ [], rest, refl, spelled next code, refl), refl)
+
 -- SA
 pub alignment-whole : (i n : ℕ) → i < 2 ^ 32 → n < 2 ^ 64 → IsWhole (r.Alignment i n None) (0xE7 ∷ (w.number shortest i ++ w.number shortest n))
 alignment-whole i n hi hn next code = (
@@ -120,25 +130,13 @@ index_and_number-spells row i n at next hi hn =
 
 -- ASS
 pub size-whole : (i n : ℕ) → i < 2 ^ 32 → n < 2 ^ 64 → IsWhole (r.SectionSize i n) (0xE2 ∷ 0xD3 ∷ (w.number shortest i ++ w.number shortest n))
-size-whole i n hi hn next code = (
-  0xE2,
-  0xE2 ∷ [],
-  0xD3 ∷ (w.number shortest i ++ w.number shortest n),
-  refl,
-  (0xD3, 0xD3 ∷ [], w.number shortest i ++ w.number shortest n, refl, index_and_number-spells r.SectionSize i n 2 next hi hn, refl),
-  refl,
-)
+size-whole i n hi hn =
+    assigned-whole 0xD3 (r.SectionSize i n) (w.number shortest i ++ w.number shortest n) (λ next code. index_and_number-spells r.SectionSize i n 2 next hi hn)
 
 -- ASL
 pub base-whole : (i n : ℕ) → i < 2 ^ 32 → n < 2 ^ 64 → IsWhole (r.SectionBase i n) (0xE2 ∷ 0xCC ∷ (w.number shortest i ++ w.number shortest n))
-base-whole i n hi hn next code = (
-  0xE2,
-  0xE2 ∷ [],
-  0xCC ∷ (w.number shortest i ++ w.number shortest n),
-  refl,
-  (0xCC, 0xCC ∷ [], w.number shortest i ++ w.number shortest n, refl, index_and_number-spells r.SectionBase i n 2 next hi hn, refl),
-  refl,
-)
+base-whole i n hi hn =
+    assigned-whole 0xCC (r.SectionBase i n) (w.number shortest i ++ w.number shortest n) (λ next code. index_and_number-spells r.SectionBase i n 2 next hi hn)
 
 -- ---- ST
 
@@ -302,36 +300,18 @@ value_at i text = span_at (2 + length (w.number shortest i)) (length text)
 
 -- ASI
 pub public_value-whole : (i : ℕ) (tree : Tree) (text : List ℕ) → i < 2 ^ 32 → SpellsTree tree text → IsWhole (r.PublicValue i (value_at i text)) (0xE2 ∷ 0xC9 ∷ (w.number shortest i ++ text))
-public_value-whole i tree text hi spelled next code = (
-  0xE2,
-  0xE2 ∷ [],
-  0xC9 ∷ (w.number shortest i ++ text),
-  refl,
-  (0xC9, 0xC9 ∷ [], w.number shortest i ++ text, refl, index_and_expression-spells r.PublicValue i tree text next hi spelled code, refl),
-  refl,
-)
+public_value-whole i tree text hi spelled =
+    assigned-whole 0xC9 (r.PublicValue i (value_at i text)) (w.number shortest i ++ text) (λ next code. index_and_expression-spells r.PublicValue i tree text next hi spelled code)
 
 -- ASN
 pub debug_value-whole : (i : ℕ) (tree : Tree) (text : List ℕ) → i < 2 ^ 32 → SpellsTree tree text → IsWhole (r.DebugValue i (value_at i text)) (0xE2 ∷ 0xCE ∷ (w.number shortest i ++ text))
-debug_value-whole i tree text hi spelled next code = (
-  0xE2,
-  0xE2 ∷ [],
-  0xCE ∷ (w.number shortest i ++ text),
-  refl,
-  (0xCE, 0xCE ∷ [], w.number shortest i ++ text, refl, index_and_expression-spells r.DebugValue i tree text next hi spelled code, refl),
-  refl,
-)
+debug_value-whole i tree text hi spelled =
+    assigned-whole 0xCE (r.DebugValue i (value_at i text)) (w.number shortest i ++ text) (λ next code. index_and_expression-spells r.DebugValue i tree text next hi spelled code)
 
 -- ASP
 pub set_pc-whole : (i : ℕ) (tree : Tree) (text : List ℕ) → i < 2 ^ 32 → SpellsTree tree text → IsWhole (r.SetPc i (value_at i text)) (0xE2 ∷ 0xD0 ∷ (w.number shortest i ++ text))
-set_pc-whole i tree text hi spelled next code = (
-  0xE2,
-  0xE2 ∷ [],
-  0xD0 ∷ (w.number shortest i ++ text),
-  refl,
-  (0xD0, 0xD0 ∷ [], w.number shortest i ++ text, refl, index_and_expression-spells r.SetPc i tree text next hi spelled code, refl),
-  refl,
-)
+set_pc-whole i tree text hi spelled =
+    assigned-whole 0xD0 (r.SetPc i (value_at i text)) (w.number shortest i ++ text) (λ next code. index_and_expression-spells r.SetPc i tree text next hi spelled code)
 
 -- what the numbers of a note keep to
 pub record IsSpelledNote (note : Note) : Type 0 where
@@ -340,10 +320,15 @@ pub record IsSpelledNote (note : Note) : Type 0 where
   pub few : length note.numbers.items ≤ 4
   pub numbers : AllByRecursion (λ n. n < 2 ^ 64) note.numbers.items
 
-note-spells : (row : ℕ → ℕ → ℕ → ArrayVec ℕ → Record) (i : ℕ) (n : Note) (next : Option ℕ) → i < 2 ^ 32 → IsSpelledNote n → IsCode next
-    → SpellsRecord (note row) (row i n.type_index n.attribute n.numbers) 2
-    (w.number shortest i ++ (w.number shortest n.type_index ++ (w.number shortest n.attribute ++ w.numbers shortest n.numbers.items))) next
-note-spells row i n next hi spelled code = (
+-- the bytes of a note after its letter
+abbrev note_text : ℕ → Note → List ℕ
+note_text i n = w.number shortest i ++ (w.number shortest n.type_index ++ (w.number shortest n.attribute ++ w.numbers shortest n.numbers.items))
+
+-- a note whose attribute passes the test of its layout
+note-spells : (fits : ℕ → Bool) (fault : Reason) (row : ℕ → ℕ → ℕ → ArrayVec ℕ → Record) (i : ℕ) (n : Note) (next : Option ℕ) → i < 2 ^ 32 → IsSpelledNote n → fits n.attribute ≡ true → IsCode next
+    → SpellsRecord (index ▹ λ i. any_number ▹ λ type_index. number fits here fault ▹ λ attribute. numbers 4 ▹ λ ns. whole (row i type_index attribute ns))
+    (row i n.type_index n.attribute n.numbers) 2 (note_text i n) next
+note-spells fits fault row i n next hi spelled known code = (
   i,
   w.number shortest i,
   w.number shortest n.type_index ++ (w.number shortest n.attribute ++ w.numbers shortest n.numbers.items),
@@ -357,7 +342,7 @@ note-spells row i n next hi spelled code = (
       n.attribute,
       w.number shortest n.attribute,
       w.numbers shortest n.numbers.items,
-      (spells n.attribute spelled.attribute, refl),
+      (spells n.attribute spelled.attribute, known),
       (n.numbers, w.numbers shortest n.numbers.items, [], (spells_numbers 0 n.numbers.items spelled.numbers, spelled.few, λ _. stops-number next code), (refl, refl), sym (append-nil (w.numbers shortest n.numbers.items))),
       refl,
     ),
@@ -368,64 +353,18 @@ note-spells row i n next hi spelled code = (
 
 -- ATI
 pub public_note-whole : (i : ℕ) (n : Note) → i < 2 ^ 32 → IsSpelledNote n → IsWhole (r.PublicNote i n.type_index n.attribute n.numbers) (w.note shortest 0xC9 i n)
-public_note-whole i n hi spelled next code = (
-  0xF1,
-  0xF1 ∷ [],
-  0xC9 ∷ (w.number shortest i ++ (w.number shortest n.type_index ++ (w.number shortest n.attribute ++ w.numbers shortest n.numbers.items))),
-  refl,
-  (0xC9, 0xC9 ∷ [], w.number shortest i ++ (w.number shortest n.type_index ++ (w.number shortest n.attribute ++ w.numbers shortest n.numbers.items)), refl, note-spells r.PublicNote i n next hi spelled code, refl),
-  refl,
-)
+public_note-whole i n hi spelled =
+    noted-whole 0xC9 (r.PublicNote i n.type_index n.attribute n.numbers) (note_text i n) (λ next code. note-spells (λ _. true) BadNumber r.PublicNote i n next hi spelled refl code)
 
 -- ATX
 pub reference_note-whole : (i : ℕ) (n : Note) → i < 2 ^ 32 → IsSpelledNote n → IsWhole (r.ReferenceNote i n.type_index n.attribute n.numbers) (w.note shortest 0xD8 i n)
-reference_note-whole i n hi spelled next code = (
-  0xF1,
-  0xF1 ∷ [],
-  0xD8 ∷ (w.number shortest i ++ (w.number shortest n.type_index ++ (w.number shortest n.attribute ++ w.numbers shortest n.numbers.items))),
-  refl,
-  (0xD8, 0xD8 ∷ [], w.number shortest i ++ (w.number shortest n.type_index ++ (w.number shortest n.attribute ++ w.numbers shortest n.numbers.items)), refl, note-spells r.ReferenceNote i n next hi spelled code, refl),
-  refl,
-)
+reference_note-whole i n hi spelled =
+    noted-whole 0xD8 (r.ReferenceNote i n.type_index n.attribute n.numbers) (note_text i n) (λ next code. note-spells (λ _. true) BadNumber r.ReferenceNote i n next hi spelled refl code)
 
 -- ATN
 pub debug_note-whole : (i : ℕ) (n : Note) → i < 2 ^ 32 → IsSpelledNote n → is_one_of debug_attributes n.attribute ≡ true → IsWhole (r.DebugNote i n.type_index n.attribute n.numbers) (w.note shortest 0xCE i n)
-debug_note-whole i n hi spelled known next code = (
-  0xF1,
-  0xF1 ∷ [],
-  0xCE ∷ (w.number shortest i ++ (w.number shortest n.type_index ++ (w.number shortest n.attribute ++ w.numbers shortest n.numbers.items))),
-  refl,
-  (
-    0xCE,
-    0xCE ∷ [],
-    w.number shortest i ++ (w.number shortest n.type_index ++ (w.number shortest n.attribute ++ w.numbers shortest n.numbers.items)),
-    refl,
-    (
-      i,
-      w.number shortest i,
-      w.number shortest n.type_index ++ (w.number shortest n.attribute ++ w.numbers shortest n.numbers.items),
-      spells_index i hi,
-      (
-        n.type_index,
-        w.number shortest n.type_index,
-        w.number shortest n.attribute ++ w.numbers shortest n.numbers.items,
-        (spells n.type_index spelled.type_index, refl),
-        (
-          n.attribute,
-          w.number shortest n.attribute,
-          w.numbers shortest n.numbers.items,
-          (spells n.attribute spelled.attribute, known),
-          (n.numbers, w.numbers shortest n.numbers.items, [], (spells_numbers 0 n.numbers.items spelled.numbers, spelled.few, λ _. stops-number next code), (refl, refl), sym (append-nil (w.numbers shortest n.numbers.items))),
-          refl,
-        ),
-        refl,
-      ),
-      refl,
-    ),
-    refl,
-  ),
-  refl,
-)
+debug_note-whole i n hi spelled known =
+    noted-whole 0xCE (r.DebugNote i n.type_index n.attribute n.numbers) (note_text i n) (λ next code. note-spells (is_one_of debug_attributes) UnsupportedAttribute r.DebugNote i n next hi spelled known code)
 
 -- the default of a weak reference, as a record has it
 abbrev pub default_for : ℕ → Option ℕ

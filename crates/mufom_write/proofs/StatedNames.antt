@@ -26,20 +26,40 @@ use Rattle.mufom_write.proofs.Texts.{string-last, text-last, tree-back}
 
 -- ---- what is asked of records
 
+-- entries that an asking passes over
+passed : {X Y : Type 0} (ask : SpelledRecord → Option Y) (records_of : ℕ → X → List SpelledRecord) → ((n : ℕ) (x : X) → filter_map ask (records_of n x) ≡ []) → (n : ℕ) (xs : List X)
+    → filter_map ask (records_from n records_of xs) ≡ []
+passed ask records_of none n [] = refl
+passed ask records_of none n (x ∷ xs) =
+    let own = none n x in
+    let rest = passed ask records_of none (n + 1) xs in
+    filter_map-append ask (records_of n x) (records_from (n + 1) records_of xs) ∙ (λ k. own k ++ rest k)
+
+-- entries that answer an asking for an index below theirs with nothing
+none-below : {X Y : Type 0} (ask : SpelledRecord → Option Y) (records_of : ℕ → X → List SpelledRecord) (first i : ℕ) → ((n : ℕ) (x : X) → (i ≡ n + first → ⊥) → filter_map ask (records_of n x) ≡ [])
+    → (n : ℕ) (xs : List X) → i < n + first → filter_map ask (records_from n records_of xs) ≡ []
+none-below ask records_of first i silent n [] low = refl
+none-below ask records_of first i silent n (x ∷ xs) low =
+    let own = silent n x (λ same. omega (arith, same, low)) in
+    let rest = none-below ask records_of first i silent (n + 1) xs (omega (arith, low)) in
+    filter_map-append ask (records_of n x) (records_from (n + 1) records_of xs) ∙ (λ k. own k ++ rest k)
+
+-- notes of which each is answered
+kept : (ask : SpelledRecord → Option Note) (record_of : Note → SpelledRecord) → ((note : Note) → ask (record_of note) ≡ Some note) → (k : ℕ) (notes : List Note)
+    → filter_map ask (records_from k (λ _ note. record_of note ∷ []) notes) ≡ notes
+kept ask record_of some k [] = refl
+kept ask record_of some k (note ∷ notes) =
+    let rest = kept ask record_of some (k + 1) notes in
+    λ j. cons_option (some note j) (rest j)
+
 -- notes that an asking passes over
 pub public_notes-nothing : {Y : Type 0} (ask : SpelledRecord → Option Y) (k i : ℕ) (notes : List Note) → ((note : Note) → ask (public_note_record i note) ≡ None)
     → filter_map ask (records_from k (λ _ note. public_note_record i note ∷ []) notes) ≡ []
-public_notes-nothing ask k i [] none = refl
-public_notes-nothing {Y = Y} ask k i (note ∷ notes) none =
-    let rest = public_notes-nothing ask (k + 1) i notes none in
-    (λ j. cons_option (none note j) (rest j))
+public_notes-nothing ask k i notes none = passed ask (λ _ note. public_note_record i note ∷ []) (λ _ note. λ j. cons_option (none note j) []) k notes
 
 pub reference_notes-nothing : {Y : Type 0} (ask : SpelledRecord → Option Y) (k i : ℕ) (notes : List Note) → ((note : Note) → ask (reference_note_record i note) ≡ None)
     → filter_map ask (records_from k (λ _ note. reference_note_record i note ∷ []) notes) ≡ []
-reference_notes-nothing ask k i [] none = refl
-reference_notes-nothing {Y = Y} ask k i (note ∷ notes) none =
-    let rest = reference_notes-nothing ask (k + 1) i notes none in
-    (λ j. cons_option (none note j) (rest j))
+reference_notes-nothing ask k i notes none = passed ask (λ _ note. reference_note_record i note ∷ []) (λ _ note. λ j. cons_option (none note j) []) k notes
 
 pub public-nothing : {Y : Type 0} (ask : SpelledRecord → Option Y) (i : ℕ) (p : Public) → ((note : Note) → ask (public_note_record i note) ≡ None) → ask (public_value_record i p) ≡ None
     → filter_map ask (public_note_records i p.notes ++ public_value_record i p ∷ []) ≡ []
@@ -70,10 +90,9 @@ publics-declare n (p ∷ publics) =
     ∙ (λ k. (n + 32) ∷ (none k ++ rest k))
 
 publics-no_references : (n : ℕ) (publics : List Public) → declared reference (records_from n public_records publics) ≡ []
-publics-no_references n [] = refl
-publics-no_references n (p ∷ publics) =
-    let none = public-nothing (λ q. of_kind reference (declared_by q.row)) (n + 32) p (λ note. refl) refl in
-    filter_map-append (λ q. of_kind reference (declared_by q.row)) (public_records n p) (records_from (n + 1) public_records publics) ∙ (λ k. none k ++ publics-no_references (n + 1) publics k)
+publics-no_references n publics =
+    let ask = λ (q : SpelledRecord). of_kind reference (declared_by q.row) in
+    passed ask public_records (λ n p. public-nothing ask (n + 32) p (λ note. refl) refl) n publics
 
 references-declare : (n : ℕ) (references : List Reference) → declared reference (records_from n reference_records references) ≡ counting (n + 11) (length references)
 references-declare n [] = refl
@@ -85,10 +104,9 @@ references-declare n (r ∷ references) =
     ∙ (λ k. (n + 11) ∷ (none k ++ rest k))
 
 references-no_publics : (n : ℕ) (references : List Reference) → declared public (records_from n reference_records references) ≡ []
-references-no_publics n [] = refl
-references-no_publics n (r ∷ references) =
-    let none = reference-nothing (λ q. of_kind public (declared_by q.row)) (n + 11) r (λ note. refl) (λ x. refl) in
-    filter_map-append (λ q. of_kind public (declared_by q.row)) (reference_records n r) (records_from (n + 1) reference_records references) ∙ (λ k. none k ++ references-no_publics (n + 1) references k)
+references-no_publics n references =
+    let ask = λ (q : SpelledRecord). of_kind public (declared_by q.row) in
+    passed ask reference_records (λ n r. reference-nothing ask (n + 11) r (λ note. refl) (λ x. refl)) n references
 
 pub declared-publics : (publics : List Public) (references : List Reference) → declared public (external_records publics references) ≡ counting 32 (length publics)
 declared-publics publics references =
@@ -131,30 +149,15 @@ note-of_public i = record {
 }
 
 later-publics : {Y : Type 0} (ask : SpelledRecord → Option Y) (i : ℕ) → IsOfPublic ask i → (n : ℕ) (publics : List Public) → i < n + 32 → filter_map ask (records_from n public_records publics) ≡ []
-later-publics ask i of n [] low = refl
-later-publics ask i of n (p ∷ publics) low =
-    let own = of.silent n p (λ same. omega (arith, same, low)) in
-    let rest = later-publics ask i of (n + 1) publics (omega (arith, low)) in
-    filter_map-append ask (public_records n p) (records_from (n + 1) public_records publics) ∙ (λ k. own k ++ rest k)
+later-publics ask i of = none-below ask public_records 32 i of.silent
 
 passed-references : {Y : Type 0} (ask : SpelledRecord → Option Y) (i : ℕ) → IsOfPublic ask i → (n : ℕ) (references : List Reference) → filter_map ask (records_from n reference_records references) ≡ []
-passed-references ask i of n [] = refl
-passed-references ask i of n (r ∷ references) =
-    let own = of.passes n r in
-    let rest = passed-references ask i of (n + 1) references in
-    filter_map-append ask (reference_records n r) (records_from (n + 1) reference_records references) ∙ (λ k. own k ++ rest k)
-
-own-notes : (k i : ℕ) (notes : List Note) → filter_map (public_note_asked i) (records_from k (λ _ note. public_note_record i note ∷ []) notes) ≡ notes
-own-notes k i [] = refl
-own-notes k i (note ∷ notes) =
-    let first = same-index i note in
-    let rest = own-notes (k + 1) i notes in
-    λ j. cons_option (first j) (rest j)
+passed-references ask i of = passed ask reference_records of.passes
 
 public-notes : (n : ℕ) (p : Public) → filter_map (public_note_asked (n + 32)) (public_records n p) ≡ p.notes
 public-notes n p =
     filter_map-append (public_note_asked (n + 32)) (public_note_records (n + 32) p.notes) (public_value_record (n + 32) p ∷ [])
-    ∙ (λ j. own-notes 0 (n + 32) p.notes j ++ []) ∙ append-nil p.notes
+    ∙ (λ j. kept (public_note_asked (n + 32)) (public_note_record (n + 32)) (same-index (n + 32)) 0 p.notes j ++ []) ∙ append-nil p.notes
 
 public-value : (n : ℕ) (p : Public) → filter_map (value_asked (n + 32)) (public_records n p) ≡ tree_in (public_value_record (n + 32) p) (value_at (n + 32) (w.expression shortest p.value)) ∷ []
 public-value n p =
@@ -220,12 +223,9 @@ module _ (m : Parts) (k : ℕ) where
       filter_map-append ask (public_records n p) more ∙ (λ j. cons_option (own j) (none j) ++ later j)
 
   no-public : (part : List SpelledRecord) (n : ℕ) (references : List Reference) → filter_map (λ q. public_by (written_indexes m k) part q q.row) (records_from n reference_records references) ≡ []
-  no-public part n [] = refl
-  no-public part n (r ∷ references) =
+  no-public part n references =
       let ask : SpelledRecord → Option Public = λ q. public_by (written_indexes m k) part q q.row in
-      let own = reference-nothing ask (n + 11) r (λ note. refl) (λ x. refl) in
-      let rest = no-public part (n + 1) references in
-      filter_map-append ask (reference_records n r) (records_from (n + 1) reference_records references) ∙ (λ j. own j ++ rest j)
+      passed ask reference_records (λ n r. reference-nothing ask (n + 11) r (λ note. refl) (λ x. refl)) n references
 
   pub publics-back : (publics : List Public) (references : List Reference) → AllByRecursion IsFittingPublic publics → list_any (λ p. names_outside (counts_of m) p.value) publics ≡ false
       → publics_of (written_indexes m k) (external_records publics references) ≡ publics
@@ -262,31 +262,16 @@ note-of_reference i = record {
 }
 
 later-references : {Y : Type 0} (ask : SpelledRecord → Option Y) (i : ℕ) → IsOfReference ask i → (n : ℕ) (references : List Reference) → i < n + 11 → filter_map ask (records_from n reference_records references) ≡ []
-later-references ask i of n [] low = refl
-later-references ask i of n (r ∷ references) low =
-    let own = of.silent n r (λ same. omega (arith, same, low)) in
-    let rest = later-references ask i of (n + 1) references (omega (arith, low)) in
-    filter_map-append ask (reference_records n r) (records_from (n + 1) reference_records references) ∙ (λ k. own k ++ rest k)
+later-references ask i of = none-below ask reference_records 11 i of.silent
 
 passed-publics : {Y : Type 0} (ask : SpelledRecord → Option Y) (i : ℕ) → IsOfReference ask i → (n : ℕ) (publics : List Public) → filter_map ask (records_from n public_records publics) ≡ []
-passed-publics ask i of n [] = refl
-passed-publics ask i of n (p ∷ publics) =
-    let own = of.passes n p in
-    let rest = passed-publics ask i of (n + 1) publics in
-    filter_map-append ask (public_records n p) (records_from (n + 1) public_records publics) ∙ (λ k. own k ++ rest k)
-
-own-reference_notes : (k i : ℕ) (notes : List Note) → filter_map (reference_note_asked i) (records_from k (λ _ note. reference_note_record i note ∷ []) notes) ≡ notes
-own-reference_notes k i [] = refl
-own-reference_notes k i (note ∷ notes) =
-    let first = same-index i note in
-    let rest = own-reference_notes (k + 1) i notes in
-    λ j. cons_option (first j) (rest j)
+passed-publics ask i of = passed ask public_records of.passes
 
 reference-notes : (n : ℕ) (r : Reference) → filter_map (reference_note_asked (n + 11)) (reference_records n r) ≡ r.notes
 reference-notes n r =
     let none = weak-nothing (reference_note_asked (n + 11)) (n + 11) r.weak (λ x. refl) in
     filter_map-append (reference_note_asked (n + 11)) (reference_note_records (n + 11) r.notes) (weak_records (n + 11) r.weak)
-    ∙ (λ j. own-reference_notes 0 (n + 11) r.notes j ++ none j) ∙ append-nil r.notes
+    ∙ (λ j. kept (reference_note_asked (n + 11)) (reference_note_record (n + 11)) (same-index (n + 11)) 0 r.notes j ++ none j) ∙ append-nil r.notes
 
 -- a default that is not stated is 0
 default-back : (default : ℕ) → unwrap_or (default_for default) 0 ≡ default
@@ -347,12 +332,9 @@ references-from part before n (r ∷ references) is quiet =
     filter_map-append ask (reference_records n r) more ∙ (λ j. cons_option (own j) (none j) ++ later j)
 
 no-reference : (part : List SpelledRecord) (n : ℕ) (publics : List Public) → filter_map (λ q. reference_by part q q.row) (records_from n public_records publics) ≡ []
-no-reference part n [] = refl
-no-reference part n (p ∷ publics) =
+no-reference part n publics =
     let ask : SpelledRecord → Option Reference = λ q. reference_by part q q.row in
-    let own = public-nothing ask (n + 32) p (λ note. refl) refl in
-    let rest = no-reference part (n + 1) publics in
-    filter_map-append ask (public_records n p) (records_from (n + 1) public_records publics) ∙ (λ j. own j ++ rest j)
+    passed ask public_records (λ n p. public-nothing ask (n + 32) p (λ note. refl) refl) n publics
 
 pub references-back : (publics : List Public) (references : List Reference) → references_of (external_records publics references) ≡ references
 references-back publics references =

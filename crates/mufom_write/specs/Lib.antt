@@ -1,2 +1,4 @@
 pub mod Chains
+pub mod Holding
+pub mod HoldingChains
 pub mod Writing

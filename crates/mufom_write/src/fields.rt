@@ -10,7 +10,7 @@ ghost use Rattle.mufom_module.specs.Defects.{is_long};
 use crate::output::Output;
 use mufom_expr::{FieldKind, Function, Letter, Postfix, Token};
 use mufom_host::Failed;
-use mufom_numbers::{Bytes, codes, id_lead, number_spelling};
+use mufom_numbers::{Bytes, codes, id_lead};
 
 /// The index that the file has for its first section.
 pub(crate) const FIRST_SECTION: u64 = 1;
@@ -28,7 +28,7 @@ pub(crate) const FIRST_DEBUG_NAME: u64 = 32;
 pub(crate) fn number<K: Output>(out: &mut K, value: u64) -> Result<(), Failed>
     ensures { K.takes out.old out.new (written.number shortest value) result }
 {
-    out.put(number_spelling(value).as_slice())
+    out.number(value)
 }
 
 /// The bytes of a command, and a number after them.

@@ -2,7 +2,7 @@
 //!
 //! It stands on the crates of a module's entries, `mufom_module`, `mufom_host`, `thiserror` and,
 //! in its proofs, `arrayvec`. It takes no memory. All records are written by functions over one trait, whose two
-//! implementations write to a sink and count bytes. Its main clause is that of [`write_module`]: the
+//! implementations hold bytes that a sink gets in large chunks, and count bytes. Its main clause is that of [`write_module`]: the
 //! file being made grows by exactly the written form, or a write failed, its count of faults rose,
 //! and the file grew by a prefix of that form; and the form, where it is no longer than a file may be,
 //! is a file of the module. [`layout`] answers where the parts of the form begin and how long it is.
@@ -10,12 +10,14 @@
 
 mod debug;
 mod fields;
+mod held;
 mod loads;
 mod measure;
 mod names;
 mod output;
 mod parts;
 mod places;
+mod room;
 mod sections;
 mod write;
 

@@ -1,9 +1,11 @@
 ghost use Rattle.std.specs.Prelude.{◌≡◌, ◌+◌, ℕ, List, [], ◌++◌, length, Result, Ok, Err, IsErr};
 ghost use Rattle.mufom_host.specs.declared.world.Failed.{Failed};
-ghost use Rattle.mufom_write.specs.Writing.{Writes, Counts};
-ghost use Rattle.mufom_write.specs.Chains.{Writes-nothing, Writes-then, Writes-stopped, Counts-nothing, Counts-then, Counts-stopped};
+ghost use Rattle.mufom_numbers.specs.Spelling.{shortest_number};
+ghost use Rattle.mufom_write.specs.Writing.{Counts};
+ghost use Rattle.mufom_write.specs.Chains.{Counts-nothing, Counts-then, Counts-stopped};
 
-use mufom_host::{Failed, Sink, write_all};
+use mufom_host::Failed;
+use mufom_numbers::number_length;
 
 /// Where the bytes of a file go.
 pub(crate) trait Output {
@@ -14,6 +16,10 @@ pub(crate) trait Output {
     fn put(&mut self, bytes: &[u8]) -> Result<(), Failed>
         ensures { takes self.old self.new bytes.now result };
 
+    /// Adds the shortest spelling of a number, or on a failure a prefix of it.
+    fn number(&mut self, value: u64) -> Result<(), Failed>
+        ensures { takes self.old self.new (shortest_number value) result };
+
     ghost nothing: { (a : Self) → takes a a [] (Ok tt) };
 
     ghost joins: { (a b c : Self) (xs ys all : List ℕ) (r : Result (Unit {0}) Failed) → takes a b xs (Ok tt) → takes b c ys r
@@ -21,21 +27,6 @@ pub(crate) trait Output {
 
     ghost stops: { (a b : Self) (xs ys all : List ℕ) (e : Failed) (r : Result (Unit {0}) Failed) → takes a b xs (Err e) → IsErr r
         → all ≡ xs ++ ys → takes a b all r };
-}
-
-impl<K: Sink> Output for K {
-    ghost takes = { λ a b xs r. Writes (K.meaning a) (K.meaning b) (K.faults a) (K.faults b) xs r };
-
-    ghost nothing = { λ a. Writes-nothing (K.meaning a) (K.faults a) };
-
-    ghost joins = { λ a b c xs ys all r. Writes-then (K.meaning a) (K.meaning b) (K.meaning c) (K.faults a) (K.faults b) (K.faults c) xs ys all r };
-
-    ghost stops = { λ a b xs ys all e r. Writes-stopped (K.meaning a) (K.meaning b) (K.meaning b) (K.faults a) (K.faults b)
-        (K.faults b) xs ys all e r };
-
-    fn put(&mut self, bytes: &[u8]) -> Result<(), Failed> {
-        write_all(self, bytes)
-    }
 }
 
 /// Counts the bytes of a file and keeps none. The count stops at the greatest of 64 bits.
@@ -55,6 +46,11 @@ impl Output for Counter {
 
     fn put(&mut self, bytes: &[u8]) -> Result<(), Failed> {
         self.bytes = self.bytes.saturating_add(bytes.len() as u64);
+        Ok(())
+    }
+
+    fn number(&mut self, value: u64) -> Result<(), Failed> {
+        self.bytes = self.bytes.saturating_add(number_length(value) as u64);
         Ok(())
     }
 }

@@ -1,9 +1,11 @@
-ghost use Rattle.std.specs.Prelude.{◌≡◌, ◌≤◌, true, length, OnOk, OnErr};
+ghost use Rattle.std.specs.Prelude.{◌≡◌, ◌≤◌, [], true, length, OnOk, OnErr};
 ghost use Rattle.mufom_host.specs.World.{MakingGrowsBy, MakingGrowsByPrefix, OnlyWrites, Rose};
 ghost use Rattle.mufom_module.specs.Written.{written};
+ghost use Rattle.mufom_write.specs.Writing.{Writes};
 ghost use Rattle.mufom_module.specs.Defects.{IsValid};
 ghost use Rattle.mufom_module.specs.Grammar.{file_limit, SpellsModule};
 
+use crate::held::Held;
 use crate::measure::layout_of;
 use crate::output::Output;
 use crate::parts::{all_parts, module_begin, offset_records};
@@ -32,10 +34,32 @@ fn write_form<K: Output>(out: &mut K, parts: &Parts) -> Result<(), Failed>
     out.put(&[codes::MODULE_END])
 }
 
+// The whole file, where nothing was held; nothing of it is held then.
+fn write_through<K: Sink>(held: &mut Held<K>, parts: &Parts) -> Result<(), Failed>
+    requires valid { IsValid parts.now }
+    requires empty { held.old.room ≡ [] }
+    ensures same { held.new.sink.ghost_name ≡ held.old.sink.ghost_name }
+    ensures writes { Writes (K.meaning held.old.sink.now) (K.meaning held.new.sink.now) (K.faults held.old.sink.now)
+        (K.faults held.new.sink.now) (written parts.now) result }
+{
+    write_form(held, parts)?;
+    held.flush()
+}
+
+// The whole file, in large chunks.
+fn write_held<K: Sink>(sink: &mut K, parts: &Parts) -> Result<(), Failed>
+    requires { IsValid parts.now }
+    ensures { Writes (K.meaning sink.old) (K.meaning sink.new) (K.faults sink.old) (K.faults sink.new) (written parts.now) result }
+{
+    let mut held = Held::new(sink);
+    let answer = write_through(&mut held, parts);
+    let _sink = held.into_sink();
+    answer
+}
+
 /// Writes the written form of the module to the file being made. Takes no memory.
 ///
-/// Each record takes at least one `write`: the tests with a write that fails in turn show it, and no
-/// clause counts writes.
+/// The sink gets large chunks, about 65,536 bytes each; no clause counts writes.
 ///
 /// The written form, where it is no longer than a file may be, is a file of this module. `Fault` comes
 /// only where a write failed and the count of such faults rose; a prefix of the written form may then be
@@ -47,7 +71,7 @@ pub fn write_module<K: Sink>(module: &Module, sink: &mut K) -> Result<(), WriteS
     ensures only { OnlyWrites (K.meaning sink.old) (K.meaning sink.new) (K.faults sink.old) (K.faults sink.new) }
     ensures cause { OnErr result (Rose (K.faults sink.old).writes (K.faults sink.new).writes) }
 {
-    match write_form(sink, module.parts()) {
+    match write_held(sink, module.parts()) {
         Ok(()) => Ok(()),
         Err(Failed) => Err(WriteStop::Fault),
     }
