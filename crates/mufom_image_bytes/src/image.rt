@@ -24,7 +24,7 @@ use crate::values::Values;
 use crate::walk::Walk;
 use mufom_loads::Load;
 use mufom_meaning::Run;
-use mufom_numbers::{List, NoMemory};
+use mufom_numbers::{Bytes, List, NoMemory};
 use std::alloc::Global;
 
 // Sorts chunks by their addresses.
@@ -60,7 +60,7 @@ fn rows_of(alloc: Global, chunks: &[Chunk], bytes: Vec<u8>) -> Result<List<Run>,
         let mut runs = List::new(alloc);
         runs.push(Run {
             address: chunk.address,
-            bytes: List::from_vec(bytes),
+            bytes: Bytes::from_vec(bytes),
         })?;
         return Ok(runs);
     }

@@ -8,7 +8,7 @@ ghost use Rattle.mufom_image_bytes.specs.Spread.{AreSpread, IsAmong, first_row, 
 
 use crate::chunk::Chunk;
 use mufom_meaning::Run;
-use mufom_numbers::{List, NoMemory};
+use mufom_numbers::{Bytes, List, NoMemory};
 use std::alloc::Global;
 
 // The address after a chunk.
@@ -56,6 +56,18 @@ fn joined(alloc: Global, chunks: &[Chunk], bytes: &[u8]) -> Result<Vec<u8>, NoMe
     Ok(all)
 }
 
+// The bytes of a row of chunks. Those of a single chunk are copied at once, and take no memory where
+// they are few.
+fn row_bytes(alloc: Global, chunks: &[Chunk], bytes: &[u8]) -> Result<Bytes, NoMemory>
+    requires { All (IsAmong bytes.now) chunks.now }
+    ensures { IfOk result (λ all. all ≡ bytes_of_chunks bytes.now chunks.now) }
+{
+    match chunks {
+        [chunk] => Bytes::from_slice(alloc, &bytes[chunk.start..chunk.start + chunk.count]),
+        _ => Ok(Bytes::from_vec(joined(alloc, chunks, bytes)?)),
+    }
+}
+
 /// The maximal rows of the bytes of chunks, which go by address and share none.
 pub fn maximal_rows(alloc: Global, chunks: &[Chunk], bytes: &[u8]) -> Result<List<Run>, NoMemory>
     requires spread { AreSpread 0 chunks.now }
@@ -69,7 +81,7 @@ pub fn maximal_rows(alloc: Global, chunks: &[Chunk], bytes: &[u8]) -> Result<Lis
         let (row, after) = rest.split_at(row_count(rest));
         runs.push(Run {
             address: first.address,
-            bytes: List::from_vec(joined(alloc, row, bytes)?),
+            bytes: row_bytes(alloc, row, bytes)?,
         })?;
         rest = after;
     }

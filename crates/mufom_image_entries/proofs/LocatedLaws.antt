@@ -11,12 +11,17 @@ use Rattle.mufom_meaning.specs.Readings.{head_reading, mark_reading}
 use Rattle.mufom_meaning.specs.Location.{located_head, located_mark}
 use Rattle.mufom_meaning.proofs.Members.{In, In-left, In-right}
 use Rattle.mufom_image_values.specs.Evaluated.{alone}
-use Rattle.mufom_image_entries.specs.Valued.{valued_head, valued_mark}
+use Rattle.mufom_copies.specs.Mapped.{mapped_head}
+use Rattle.mufom_image_entries.specs.Valued.{valued_mark}
 
 module _ (s : Setting) (m : Parts) where
   -- the value, and 0 where there is none
   abbrev pub or_zero : Tree → ℕ
   or_zero t = unwrap_or (value s (alone m) None t) 0
+
+  -- the value as an expression of one number
+  abbrev number_or_zero : Tree → Tree
+  number_or_zero t = number (or_zero t)
 
   abbrev pub HaveValues : List Tree → Type 0
   HaveValues trees = (t : Tree) → In t trees → value s (alone m) None t ≢ None
@@ -27,7 +32,7 @@ module _ (s : Setting) (m : Parts) where
     by_case None e = absurd (some e)
     by_case (Some n) e = refl
 
-  the-head : (head : BlockHead) → HaveValues (option_to_list (offset_of head)) → located_head (head_reading s (alone m) head) ≡ Some (valued_head or_zero head)
+  the-head : (head : BlockHead) → HaveValues (option_to_list (offset_of head)) → located_head (head_reading s (alone m) head) ≡ Some (mapped_head number_or_zero head)
   the-head heads.Module some = refl
   the-head (heads.Global stack type_index t) some = ap (option_map (λ n. heads.Global stack type_index (number n))) (has-value t (some t (inl refl)))
   the-head (heads.Source numbers) some = refl

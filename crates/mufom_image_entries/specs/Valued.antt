@@ -1,10 +1,9 @@
 -- The entries of a module with the value of each expression in its place.
-use Rattle.std.specs.Prelude.{◌≡◌, ℕ, ◌<◌, List, Option, Some, None, option_map, unwrap_or, slice_get, Bool, true, false}
+use Rattle.std.specs.Prelude.{◌≡◌, ℕ, ◌<◌, List, Option, Some, None, unwrap_or, slice_get, Bool, true, false}
 use Rattle.mufom_expr.specs.Tree.{Tree, number}
 use Rattle.mufom_names.specs.declared.name.Public.{Public}
-use Rattle.mufom_debug.specs.declared.item.BlockHead.{BlockHead}
-use Rattle.mufom_debug.specs.declared.item.BlockHead.TheVariants as heads
-use Rattle.mufom_debug.specs.Marks.{DebugMark, block_begin, block_end, name_mark, note_mark, value_mark}
+use Rattle.mufom_debug.specs.Marks.{DebugMark}
+use Rattle.mufom_copies.specs.Mapped.{mapped_mark}
 use Rattle.mufom_module.specs.declared.module.Parts.{Parts}
 use Rattle.mufom_meaning.specs.declared.located.PublicValue.{PublicValue}
 use Rattle.mufom_meaning.specs.Values.{value, has_zero_divisor}
@@ -32,21 +31,13 @@ divides valued t = has_zero_divisor (setting_of valued.placed.now) (alone (parts
 abbrev pub valued_public : ValuedModule → Public → PublicValue
 valued_public valued p = record { name = p.name; value = value_of valued p.value; notes = p.notes }
 
--- the head of a block with the value of its expression
-abbrev pub valued_head : (Tree → ℕ) → BlockHead → BlockHead
-valued_head f heads.Module = heads.Module
-valued_head f (heads.Global stack type_index offset) = heads.Global stack type_index (number (f offset))
-valued_head f (heads.Source numbers) = heads.Source numbers
-valued_head f (heads.Local stack type_index offset) = heads.Local stack type_index (number (f offset))
-valued_head f (heads.Section section_type section offset) = heads.Section section_type section (number (f offset))
+-- the value of an expression as an expression of one number
+abbrev pub number_for : ValuedModule → Tree → Tree
+number_for valued t = number (value_of valued t)
 
 -- a debug mark with the values of its expressions
 abbrev pub valued_mark : (Tree → ℕ) → DebugMark → DebugMark
-valued_mark f (block_begin head name) = block_begin (valued_head f head) name
-valued_mark f (block_end end) = block_end (option_map (λ t. number (f t)) end)
-valued_mark f (name_mark name) = name_mark name
-valued_mark f (note_mark name note) = note_mark name note
-valued_mark f (value_mark name t) = value_mark name (number (f t))
+valued_mark f mark = mapped_mark (λ t. number (f t)) mark
 
 -- no expression before this position passes the test
 abbrev pub NoneBefore : (Tree → Bool) → List Tree → ℕ → Type 0

@@ -1,14 +1,15 @@
 //! A placed module with the values of its publics.
 
-ghost use Rattle.std.specs.Prelude.{◌≡◌, option_map, IfOk};
-ghost use Rattle.mufom_expr.specs.Tree.{number};
+ghost use Rattle.std.specs.Prelude.{◌≡◌};
 ghost use Rattle.mufom_image_entries.specs.Valued.{IsValued, parts_of, value_of};
 
+use mufom_copies::ExpressionMap;
 use mufom_expr::Postfix;
 use mufom_image_values::{Evaluation, PlacedModule};
 use mufom_module::Parts;
 use mufom_numbers::NoMemory;
 use std::alloc::Global;
+use std::marker::Model;
 
 /// A module whose sections and commons have bases, with the values of its publics.
 #[derive(Clone, Copy)]
@@ -36,27 +37,36 @@ impl<'a> ValuedModule<'a> {
             .value(self.values, None, expression)
             .unwrap_or(0)
     }
+}
 
-    /// The value as an expression of one number.
-    pub(crate) fn number(&self, alloc: Global, expression: &Postfix) -> Result<Postfix, NoMemory>
-        requires { IsValued self.now }
-        ensures { IfOk result (λ p. p ≡ number (value_of self.now expression.now)) }
-    {
-        Postfix::constant(alloc, self.value(expression))
-    }
+/// A module whose values stand, as what puts the number of each expression in its place.
+#[derive(Drop)]
+pub(crate) struct Numbers<'a> {
+    pub valued: ValuedModule<'a>,
+}
 
-    /// The same of an expression that may be missing.
-    pub(crate) fn number_of(
-        &self,
-        alloc: Global,
-        expression: &Option<Postfix>,
-    ) -> Result<Option<Postfix>, NoMemory>
-        requires { IsValued self.now }
-        ensures { IfOk result (λ p. p ≡ option_map (λ t. number (value_of self.now t)) expression.now) }
-    {
-        match expression {
-            Some(expression) => Ok(Some(self.number(alloc, expression)?)),
-            None => Ok(None),
-        }
+impl<'a> Model for Numbers<'a> {
+    ghost use Rattle.std.specs.Coded.{codes};
+    ghost use Rattle.mufom_expr.specs.TreeCode.{tree_code};
+    ghost use Rattle.mufom_debug.specs.contracts.item.DebugItem as debug_item;
+    ghost use Rattle.mufom_image_entries.specs.declared.valued.ValuedModule.{ValuedModule};
+    ghost use Rattle.mufom_image_entries.specs.Valued.{IsValued};
+
+    ghost coded = { Prim.hlevel (codes, tree_code, debug_item.the_row.coded) };
+
+    ghost Value = { ValuedModule };
+
+    ghost view = { λ n. n.valued };
+
+    ghost invariant = { λ n. IsValued n.valued };
+}
+
+impl<'a> ExpressionMap for Numbers<'a> {
+    ghost use Rattle.mufom_image_entries.specs.Valued.{number_for};
+
+    ghost meaning = { number_for };
+
+    fn expression(&self, alloc: Global, value: &Postfix) -> Result<Postfix, NoMemory> {
+        Postfix::constant(alloc, self.valued.value(value))
     }
 }

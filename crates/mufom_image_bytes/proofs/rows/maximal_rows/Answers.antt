@@ -9,5 +9,5 @@ loop-rest-preserved c =
     rw (c.in_ok-push.ensures.ok)
     (next_row c.args.bytes.now c.args.chunks.now rest c.split_at.result.1.now c.loop-rest.runs _ (record { address = 0; start = 0; count = 0 }) c.loop-rest.invariant
     (omega arith) refl
-    (c.from_vec.ensures ∙ c.in_ok-joined.ensures ∙ ap (bytes_of_chunks c.args.bytes.now) (c.split_at.ensures.front ∙ ap (λ n. take n rest) c.row_count.ensures.count))
+    (c.in_ok-row_bytes.ensures ∙ ap (bytes_of_chunks c.args.bytes.now) (c.split_at.ensures.front ∙ ap (λ n. take n rest) c.row_count.ensures.count))
     (c.split_at.ensures.back ∙ ap (λ n. drop n rest) c.row_count.ensures.count))
