@@ -52,7 +52,7 @@ fn references_of_one_name_stand_for_one_common(rt: HostRuntime) {
     );
     let misfit = "Place(Misfit { section: 2, region: Some(0) })";
     refuses(&rt, alloc, asking(&rt, alloc), TIGHT, misfit);
-    let unplaced = "CommonUnplaced(List { items: [99] })";
+    let unplaced = "CommonUnplaced(Bytes { held: [99] })";
     refuses(&rt, alloc, asking(&rt, alloc), NO_COMMON, unplaced);
 }
 

@@ -18,7 +18,7 @@ fn the_first_public_on_a_cycle_is_named(rt: HostRuntime) {
     draft.public(&rt, b"c", &[Var(Letter::I, 1)]);
     draft.public(&rt, b"a", &[Var(Letter::I, 2), Number(1), PLUS]);
     draft.public(&rt, b"b", &[Var(Letter::I, 1), Number(1), MINUS]);
-    refuses(&rt, alloc, draft, "", "Cycle(List { items: [97] })");
+    refuses(&rt, alloc, draft, "", "Cycle(Bytes { held: [97] })");
 }
 
 // A public that divides by 0, which nothing uses.
@@ -31,7 +31,7 @@ fn dividing(rt: &impl Abort, alloc: Global) -> Draft {
 #[test]
 fn the_earlier_of_two_facts_is_answered(rt: HostRuntime) {
     let alloc = rt.alloc();
-    let refusal = "DivideByZero(Public(List { items: [100] }))";
+    let refusal = "DivideByZero(Public(Bytes { held: [100] }))";
     refuses(&rt, alloc, dividing(&rt, alloc), "", refusal);
     let mut draft = dividing(&rt, alloc);
     let weak = Weak {
@@ -40,7 +40,7 @@ fn the_earlier_of_two_facts_is_answered(rt: HostRuntime) {
     };
     draft.reference(&rt, b"c", Some(weak));
     draft.reference(&rt, b"q", None);
-    refuses(&rt, alloc, draft, "", "Undefined(List { items: [113] })");
+    refuses(&rt, alloc, draft, "", "Undefined(Bytes { held: [113] })");
 }
 
 // Publics `0`, `1` and so on, each the sum of the next and of `more`, and the public `e` of this value.
@@ -65,7 +65,7 @@ fn a_thousand_publics_in_a_chain_have_values_and_a_ring_has_none(rt: HostRuntime
     let draft = chain(&rt, alloc, 1_000, Some(1), Number(0));
     values(&rt, alloc, draft, 0, 999);
     let ring = chain(&rt, alloc, 1_000, Some(1), Var(Letter::I, 0));
-    refuses(&rt, alloc, ring, "", "Cycle(List { items: [49] })");
+    refuses(&rt, alloc, ring, "", "Cycle(Bytes { held: [49] })");
 }
 
 #[test]

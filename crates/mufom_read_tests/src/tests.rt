@@ -49,17 +49,17 @@ const LIBRARY: [u8; 111] = [
 
 // What the program states.
 const PROGRAM_TEXT: &str =
-    "Parts { processor: List { items: [54, 56, 48, 48, 48] }, name: List { items: [112, \
-    114, 111, 103] }, maus: 4, order: Most, ext: List { items: [240, 32, 0] }, env: List \
-    { items: [240, 33, 0] }, sections: List { items: [Section { name: List { items: [46, \
-    116, 101, 120, 116] }, absolute: false, purpose: Some(Code), size: 12, align: 2, \
-    base: None }] }, names: NameTable { publics: List { items: [Public { name: List { \
-    items: [109, 97, 105, 110] }, value: Postfix { tokens: [Var(R, 0), Number(4), \
+    "Parts { processor: Bytes { held: [54, 56, 48, 48, 48] }, name: Bytes { held: [112, \
+    114, 111, 103] }, maus: 4, order: Most, ext: Bytes { held: [240, 32, 0] }, env: \
+    Bytes { held: [240, 33, 0] }, sections: List { items: [Section { name: Bytes { held: \
+    [46, 116, 101, 120, 116] }, absolute: false, purpose: Some(Code), size: 12, align: \
+    2, base: None }] }, names: NameTable { publics: List { items: [Public { name: Bytes \
+    { held: [109, 97, 105, 110] }, value: Postfix { tokens: [Var(R, 0), Number(4), \
     Fun(Plus)] }, notes: List { items: [Note { type_index: 15, attribute: 19, numbers: \
-    [1] }] } }] }, references: List { items: [Reference { name: List { items: [101, 120, \
+    [1] }] } }] }, references: List { items: [Reference { name: Bytes { held: [101, 120, \
     105, 116] }, weak: None, notes: List { items: [] } }] } }, debug: List { items: [] \
     }, loads: List { items: [SetSection(0), SetPc { section: 0, value: Postfix { tokens: \
-    [Var(R, 0)] } }, One(Literal(List { items: [78, 113, 78, 113] })), One(Field { kind: \
+    [Var(R, 0)] } }, One(Literal(Bytes { held: [78, 113, 78, 113] })), One(Field { kind: \
     Either, value: Postfix { tokens: [Var(R, 0), Number(4), Fun(Plus)] }, size: 4 }), \
     One(Field { kind: Signed, value: Postfix { tokens: [Var(X, 0), Var(P, 0), \
     Fun(Minus)] }, size: 4 })] }, start: Some(Postfix { tokens: [Var(R, 0), Number(4), \
@@ -76,20 +76,20 @@ const BLOCKS: [u8; 74] = [
 
 // What these state.
 const BLOCKS_TEXT: &str =
-    "List { items: [Name(List { items: [120] }), Note { name: 0, note: Note { \
-    type_index: 15, attribute: 7, numbers: [1] } }, Block(Block { head: Module, name: \
-    List { items: [109] }, items: List { items: [Block(Block { head: Source { numbers: \
-    [1, 2] }, name: List { items: [115] }, items: List { items: [Block(Block { head: \
-    Global { stack: 0, type_index: 15, offset: Postfix { tokens: [Var(R, 0)] } }, name: \
-    List { items: [102] }, items: List { items: [Block(Block { head: Local { stack: 2, \
-    type_index: 0, offset: Postfix { tokens: [Var(R, 0), Number(4), Fun(Plus)] } }, \
-    name: List { items: [103] }, items: List { items: [Value { name: 0, value: Postfix \
-    { tokens: [Var(R, 0)] } }] }, end: Some(Postfix { tokens: [Var(R, 0), Number(8), \
-    Fun(Plus)] }) })] }, end: Some(Postfix { tokens: [Var(R, 0), Number(12), Fun(Plus)] \
-    }) })] }, end: None }), Block(Block { head: Section { section_type: 1, section: 0, \
-    offset: Postfix { tokens: [Var(R, 0)] } }, name: List { items: [99] }, items: List \
-    { items: [] }, end: Some(Postfix { tokens: [Number(16)] }) })] }, end: None }), \
-    Value { name: 0, value: Postfix { tokens: [Number(1)] } }] }";
+    "List { items: [Name(Bytes { held: [120] }), Note { name: 0, note: Note { type_index: \
+    15, attribute: 7, numbers: [1] } }, Block(Block { head: Module, name: Bytes { held: \
+    [109] }, items: List { items: [Block(Block { head: Source { numbers: [1, 2] }, name: \
+    Bytes { held: [115] }, items: List { items: [Block(Block { head: Global { stack: 0, \
+    type_index: 15, offset: Postfix { tokens: [Var(R, 0)] } }, name: Bytes { held: [102] \
+    }, items: List { items: [Block(Block { head: Local { stack: 2, type_index: 0, \
+    offset: Postfix { tokens: [Var(R, 0), Number(4), Fun(Plus)] } }, name: Bytes { held: \
+    [103] }, items: List { items: [Value { name: 0, value: Postfix { tokens: [Var(R, 0)] \
+    } }] }, end: Some(Postfix { tokens: [Var(R, 0), Number(8), Fun(Plus)] }) })] }, end: \
+    Some(Postfix { tokens: [Var(R, 0), Number(12), Fun(Plus)] }) })] }, end: None }), \
+    Block(Block { head: Section { section_type: 1, section: 0, offset: Postfix { tokens: \
+    [Var(R, 0)] } }, name: Bytes { held: [99] }, items: List { items: [] }, end: \
+    Some(Postfix { tokens: [Number(16)] }) })] }, end: None }), Value { name: 0, value: \
+    Postfix { tokens: [Number(1)] } }] }";
 
 // Where a row's bytes go: in place of a byte of the plain module; or as its data, debug or external part.
 #[derive(Clone, Copy)]

@@ -213,14 +213,14 @@ fn each_print_fails_in_its_turn(rt: HostRuntime) {
     assert_eq!(rt; failing_writes(&rt, alloc, &whole), 1);
 }
 
-// A file is created, written byte by byte, and finished.
+// A file is created, written in one chunk or byte by byte, and finished.
 #[test]
 fn each_write_of_a_file_fails_in_its_turn(rt: HostRuntime) {
     let alloc = rt.alloc();
-    assert!(rt; failing_writes(&rt, alloc, &undisturbed(&LINK, false)) > 3);
+    assert_eq!(rt; failing_writes(&rt, alloc, &undisturbed(&LINK, false)), 3);
     let by_bytes = failing_writes(&rt, alloc, &undisturbed(&LINK, true));
     assert_eq!(rt; by_bytes, 138);
-    assert!(rt; failing_writes(&rt, alloc, &undisturbed(&LOCATE, false)) > 3);
+    assert_eq!(rt; failing_writes(&rt, alloc, &undisturbed(&LOCATE, false)), 3);
 }
 
 #[test]
