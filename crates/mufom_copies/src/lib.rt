@@ -9,8 +9,6 @@
 mod debug;
 mod entries;
 mod module;
-#[cfg(test)]
-mod tests;
 
 pub use debug::{ExpressionMap, copy_debug_items, map_debug_items};
 pub use entries::{

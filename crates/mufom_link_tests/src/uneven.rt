@@ -1,18 +1,21 @@
 //! Three modules with unlike numbers of sections, publics, references and debug names, so that each kind of
 //! position moves by another number in each. Names are met in both directions across all three.
 
-use crate::tests::{
-    PLUS, block, empty, ends_with, expression, field, gives_value, is_field, is_part_of, is_tokens,
-    module, name, note, notes_name, public, reference, repeats_field, section, sets_counter,
-    sets_section, try_link,
+use crate::checks::{
+    ends_with, gives_value, is_field, is_part_of, is_tokens, notes_name, repeats_field,
+    sets_counter, sets_section,
+};
+use crate::draft::{
+    PLUS, block, bytes, empty, expression, field, item, load, module, named, noted, only, part,
+    public, reference, section, try_link,
 };
 use mufom_debug::{Block, BlockHead, DebugItem};
 use mufom_expr::Token::{Fun, Number, Var};
-use mufom_expr::{FieldKind, Function, Letter, Postfix, Token};
+use mufom_expr::{FieldKind, Function, Letter, Token};
 use mufom_loads::{Item, Load};
 use mufom_module::{Module, Parts};
 use mufom_names::{Public, Reference, Weak};
-use mufom_numbers::{Bytes, List};
+use mufom_numbers::List;
 use mufom_sections::Section;
 use std::alloc::Global;
 use std::process::Abort;
@@ -34,20 +37,16 @@ const ROOM: Weak = Weak {
 fn sections(rt: &impl Abort, alloc: Global, names: &[&[u8]]) -> List<Section> {
     let mut list = List::new(alloc);
     for its in names {
-        let section = section(alloc, its, 16).expect(rt, "memory");
+        let section = section(rt, alloc, its, 16);
         list.push(section).expect(rt, "memory");
     }
     list
 }
 
-fn value(rt: &impl Abort, alloc: Global, tokens: &[Token]) -> Postfix {
-    expression(alloc, tokens).expect(rt, "memory")
-}
-
 fn publics(rt: &impl Abort, alloc: Global, entries: &[(&[u8], &[Token])]) -> List<Public> {
     let mut list = List::new(alloc);
     for (its, tokens) in entries {
-        let public = public(alloc, its, value(rt, alloc, tokens)).expect(rt, "memory");
+        let public = public(rt, alloc, its, expression(rt, alloc, tokens));
         list.push(public).expect(rt, "memory");
     }
     list
@@ -60,35 +59,15 @@ fn references(
 ) -> List<Reference> {
     let mut list = List::new(alloc);
     for (its, weak) in entries {
-        let reference = reference(alloc, its, *weak).expect(rt, "memory");
+        let reference = reference(rt, alloc, its, *weak);
         list.push(reference).expect(rt, "memory");
     }
     list
 }
 
-// One more load.
-fn load(rt: &impl Abort, loads: &mut List<Load>, load: Load) {
-    loads.push(load).expect(rt, "memory");
-}
-
-// One more debug item.
-fn item(rt: &impl Abort, items: &mut List<DebugItem>, item: DebugItem) {
-    items.push(item).expect(rt, "memory");
-}
-
-// One more debug name.
-fn named(rt: &impl Abort, alloc: Global, items: &mut List<DebugItem>, its: &[u8]) {
-    item(rt, items, name(alloc, its).expect(rt, "memory"));
-}
-
 // A field of four bytes.
 fn word(rt: &impl Abort, alloc: Global, tokens: &[Token]) -> Load {
-    field(FieldKind::Either, 4, value(rt, alloc, tokens))
-}
-
-// The module of these parts.
-fn made(rt: &impl Abort, parts: Parts) -> Module {
-    module(parts).expect(rt, "a module")
+    field(FieldKind::Either, 4, expression(rt, alloc, tokens))
 }
 
 fn first_loads(rt: &impl Abort, alloc: Global) -> List<Load> {
@@ -102,13 +81,13 @@ fn first_loads(rt: &impl Abort, alloc: Global) -> List<Load> {
 
 // One section, one public, and two references that the second and the third module meet.
 fn first(rt: &impl Abort, alloc: Global) -> Module {
-    let mut parts = empty(alloc).expect(rt, "memory");
+    let mut parts = empty(rt, alloc);
     parts.sections = sections(rt, alloc, &[b"a0"]);
     parts.names.publics = publics(rt, alloc, &[(b"one", &[Var(Letter::R, 0)])]);
     parts.names.references = references(rt, alloc, &[(b"three", None), (b"five", None)]);
     named(rt, alloc, &mut parts.debug, b"u");
     parts.loads = first_loads(rt, alloc);
-    made(rt, parts)
+    module(rt, parts)
 }
 
 // A public of a section, and one of a section, that public and a reference.
@@ -129,7 +108,7 @@ fn second_debug(rt: &impl Abort, alloc: Global) -> List<DebugItem> {
     let mut items = List::new(alloc);
     named(rt, alloc, &mut items, b"v");
     named(rt, alloc, &mut items, b"w");
-    let value = value(rt, alloc, &[Var(Letter::R, 2)]);
+    let value = expression(rt, alloc, &[Var(Letter::R, 2)]);
     item(rt, &mut items, DebugItem::Value { name: 1, value });
     items
 }
@@ -137,11 +116,11 @@ fn second_debug(rt: &impl Abort, alloc: Global) -> List<DebugItem> {
 // A literal, and a field of the program counter and of a weak reference.
 fn second_items(rt: &impl Abort, alloc: Global) -> List<Item> {
     let mut items = List::new(alloc);
-    let literal = Bytes::from_slice(alloc, &[9]).expect(rt, "memory");
+    let literal = bytes(rt, alloc, &[9]);
     items.push(Item::Literal(literal)).expect(rt, "memory");
     let field = Item::Field {
         kind: FieldKind::Signed,
-        value: value(rt, alloc, &[Var(Letter::P, 1), Var(Letter::X, 2), PLUS]),
+        value: expression(rt, alloc, &[Var(Letter::P, 1), Var(Letter::X, 2), PLUS]),
         size: 4,
     };
     items.push(field).expect(rt, "memory");
@@ -151,7 +130,7 @@ fn second_items(rt: &impl Abort, alloc: Global) -> List<Item> {
 fn second_loads(rt: &impl Abort, alloc: Global) -> List<Load> {
     let mut loads = List::new(alloc);
     load(rt, &mut loads, Load::SetSection(1));
-    let value = value(rt, alloc, &[Var(Letter::L, 1), Number(4), PLUS]);
+    let value = expression(rt, alloc, &[Var(Letter::L, 1), Number(4), PLUS]);
     load(rt, &mut loads, Load::SetPc { section: 1, value });
     load(rt, &mut loads, word(rt, alloc, &[Var(Letter::X, 1)]));
     let items = second_items(rt, alloc);
@@ -162,7 +141,7 @@ fn second_loads(rt: &impl Abort, alloc: Global) -> List<Load> {
 // Three sections and two publics. The first module meets its first reference, nothing its second, and the
 // third module its third.
 fn second(rt: &impl Abort, alloc: Global) -> Module {
-    let mut parts = empty(alloc).expect(rt, "memory");
+    let mut parts = empty(rt, alloc);
     parts.sections = sections(rt, alloc, &[b"b0", b"b1", b"b2"]);
     parts.names.publics = second_publics(rt, alloc);
     let wanted: [(&[u8], Option<Weak>); 3] = [
@@ -173,7 +152,7 @@ fn second(rt: &impl Abort, alloc: Global) -> Module {
     parts.names.references = references(rt, alloc, &wanted);
     parts.debug = second_debug(rt, alloc);
     parts.loads = second_loads(rt, alloc);
-    made(rt, parts)
+    module(rt, parts)
 }
 
 // A public of a section, one of a section and a reference, and one of these two.
@@ -198,59 +177,19 @@ fn third_loads(rt: &impl Abort, alloc: Global) -> List<Load> {
     loads
 }
 
-// A block with these items.
-fn whole(
-    rt: &impl Abort,
-    alloc: Global,
-    head: BlockHead,
-    items: List<DebugItem>,
-    end: Option<Postfix>,
-) -> DebugItem {
-    block(alloc, head, items, end).expect(rt, "memory")
-}
-
-// The block of this section from its base on, with these items.
-fn part(
-    rt: &impl Abort,
-    alloc: Global,
-    section: u32,
-    items: List<DebugItem>,
-    end: &[Token],
-) -> DebugItem {
-    let head = BlockHead::Section {
-        section_type: 1,
-        section,
-        offset: value(rt, alloc, &[Var(Letter::R, section)]),
-    };
-    whole(rt, alloc, head, items, Some(value(rt, alloc, end)))
-}
-
-// A debug name, a note of it, and a value of the name before it.
-fn noted(rt: &impl Abort, alloc: Global) -> List<DebugItem> {
-    let mut items = List::new(alloc);
-    named(rt, alloc, &mut items, b"y");
-    let note = DebugItem::Note {
-        name: 1,
-        note: note(7, 12),
-    };
-    item(rt, &mut items, note);
-    let value = value(rt, alloc, &[Var(Letter::X, 1), Number(1), PLUS]);
-    item(rt, &mut items, DebugItem::Value { name: 0, value });
-    items
-}
-
 // A block of the first section, in a global function.
 fn global(rt: &impl Abort, alloc: Global) -> DebugItem {
-    let mut items = List::new(alloc);
-    let end = [Var(Letter::R, 0), Number(2), PLUS];
-    item(rt, &mut items, part(rt, alloc, 0, noted(rt, alloc), &end));
+    let value = expression(rt, alloc, &[Var(Letter::X, 1), Number(1), PLUS]);
+    let items = noted(rt, alloc, b"y", value);
+    let end = expression(rt, alloc, &[Var(Letter::R, 0), Number(2), PLUS]);
+    let items = only(rt, alloc, part(rt, alloc, 0, items, end));
     let head = BlockHead::Global {
         stack: 7,
         type_index: 8,
-        offset: value(rt, alloc, &[Var(Letter::I, 1)]),
+        offset: expression(rt, alloc, &[Var(Letter::I, 1)]),
     };
-    let end = value(rt, alloc, &[Var(Letter::X, 3)]);
-    whole(rt, alloc, head, items, Some(end))
+    let end = expression(rt, alloc, &[Var(Letter::X, 3)]);
+    block(rt, alloc, head, items, Some(end))
 }
 
 // A module block with a name, the function, and a block of the second section.
@@ -258,18 +197,16 @@ fn third_debug(rt: &impl Abort, alloc: Global) -> List<DebugItem> {
     let mut items = List::new(alloc);
     named(rt, alloc, &mut items, b"x");
     item(rt, &mut items, global(rt, alloc));
-    let last = part(rt, alloc, 1, List::new(alloc), &[Number(5)]);
-    item(rt, &mut items, last);
-    let mut list = List::new(alloc);
-    let all = whole(rt, alloc, BlockHead::Module, items, None);
-    item(rt, &mut list, all);
-    list
+    let end = expression(rt, alloc, &[Number(5)]);
+    item(rt, &mut items, part(rt, alloc, 1, List::new(alloc), end));
+    let all = block(rt, alloc, BlockHead::Module, items, None);
+    only(rt, alloc, all)
 }
 
 // Two sections, three publics and a start. Nothing meets its first and its last reference; the first is that
 // of the second module.
 fn third(rt: &impl Abort, alloc: Global) -> Module {
-    let mut parts = empty(alloc).expect(rt, "memory");
+    let mut parts = empty(rt, alloc);
     parts.sections = sections(rt, alloc, &[b"c0", b"c1"]);
     parts.names.publics = third_publics(rt, alloc);
     let wanted: [(&[u8], Option<Weak>); 4] = [
@@ -282,8 +219,8 @@ fn third(rt: &impl Abort, alloc: Global) -> Module {
     parts.debug = third_debug(rt, alloc);
     parts.loads = third_loads(rt, alloc);
     let start = [Var(Letter::R, 1), Var(Letter::X, 1), PLUS];
-    parts.start = Some(value(rt, alloc, &start));
-    made(rt, parts)
+    parts.start = Some(expression(rt, alloc, &start));
+    module(rt, parts)
 }
 
 // The three in their order.

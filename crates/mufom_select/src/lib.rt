@@ -7,7 +7,5 @@
 
 mod choosing;
 mod providers;
-#[cfg(test)]
-mod tests;
 
 pub use choosing::select;
