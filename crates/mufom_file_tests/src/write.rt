@@ -5,12 +5,12 @@ mod every_kind;
 mod linked;
 mod located;
 
+use crate::entries::made;
 use disk::Disk;
-use mufom_module::{Module, Parts, assemble};
+use mufom_module::{Module, Parts};
 use mufom_write::{WriteStop, layout, write_module};
 use std::alloc::Global;
 use std::process::Abort;
-use std::test::Fail;
 
 // The module is written as these bytes, where `most` are taken at a call.
 fn writes_by(rt: &impl Abort, module: &Module, most: usize, bytes: &[u8]) {
@@ -33,17 +33,9 @@ fn stops_by(rt: &impl Abort, module: &Module, bytes: &[u8]) {
 
 // The module of the parts is written as these records, in hexadecimal, in records of any size and up
 // to each write that fails; and its layout has these offsets and their length.
-fn writes(
-    rt: &impl Abort,
-    alloc: Global,
-    parts: Parts,
-    offsets: [u64; 8],
-    records: &str,
-) -> Result<(), Fail> {
-    let Ok(module) = assemble(parts) else {
-        panic!(rt; "no module");
-    };
-    let bytes = hex::decode(alloc, records)?;
+fn writes(rt: &impl Abort, alloc: Global, parts: Parts, offsets: [u64; 8], records: &str) {
+    let module = made(rt, parts);
+    let bytes = hex::decode(alloc, records).expect(rt, "hexadecimal");
     let layout = layout(&module);
     assert_eq!(rt; layout.offsets, offsets);
     assert_eq!(rt; layout.length, bytes.len() as u64);
@@ -51,5 +43,4 @@ fn writes(
     writes_by(rt, &module, 3, &bytes);
     writes_by(rt, &module, 1, &bytes);
     stops_by(rt, &module, &bytes);
-    Ok(())
 }

@@ -17,8 +17,6 @@ mod laws;
 mod made;
 mod module;
 mod rules;
-#[cfg(test)]
-mod tests;
 mod validity;
 mod weight;
 

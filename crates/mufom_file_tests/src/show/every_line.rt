@@ -1,14 +1,14 @@
 //! The lines of a module with every kind of entry, and each function.
 
 use super::{joined, shows};
-use crate::entries::{expression, list, public, sections};
+use crate::entries::{bytes, expression, list, made, public, sections};
 use crate::every_kind::{SECTIONS, every_kind};
 use mufom_expr::{Function, Letter, Postfix, Token};
-use mufom_module::{Order, Parts, assemble};
+use mufom_module::{Order, Parts};
 use mufom_names::{NameTable, Public};
-use mufom_numbers::{Bytes, List, NoMemory};
+use mufom_numbers::{Bytes, List};
 use std::alloc::Global;
-use std::test::Fail;
+use std::process::Abort;
 
 const EVERY_LINE: [&str; 40] = [
     "module \"m\" processor \"P\" maus 2 order L",
@@ -54,12 +54,11 @@ const EVERY_LINE: [&str; 40] = [
 ];
 
 #[test]
-fn every_kind_of_line_is_printed(rt: HostRuntime) -> Result<(), Fail> {
-    let Ok(module) = assemble(every_kind(rt.alloc())?) else {
-        panic!(rt; "no module");
-    };
-    let text = joined(rt.alloc(), &EVERY_LINE)?;
-    shows(&rt, rt.alloc(), &module, text.as_slice())
+fn every_kind_of_line_is_printed(rt: HostRuntime) {
+    let alloc = rt.alloc();
+    let module = made(&rt, every_kind(&rt, alloc));
+    let text = joined(&rt, alloc, &EVERY_LINE);
+    shows(&rt, alloc, &module, text.as_slice());
 }
 
 // ---- functions
@@ -82,14 +81,14 @@ const OVER_TWO: [Function; 14] = [
 ];
 
 // The function over the size of the first section, and the greatest number.
-fn over_two(alloc: Global, function: Function) -> Result<Postfix, NoMemory> {
+fn over_two(rt: &impl Abort, alloc: Global, function: Function) -> Postfix {
     let greatest = Token::Number(18_446_744_073_709_551_615);
     let tokens = [Token::Var(Letter::S, 0), greatest, Token::Fun(function)];
-    expression(alloc, &tokens)
+    expression(rt, alloc, &tokens)
 }
 
 // The second operand of the outer difference is a term of four tokens.
-fn nested(alloc: Global) -> Result<Postfix, NoMemory> {
+fn nested(rt: &impl Abort, alloc: Global) -> Postfix {
     let tokens = [
         Token::Number(9),
         Token::Var(Letter::L, 1),
@@ -99,39 +98,38 @@ fn nested(alloc: Global) -> Result<Postfix, NoMemory> {
         Token::Fun(Function::Minus),
         Token::Fun(Function::Abs),
     ];
-    expression(alloc, &tokens)
+    expression(rt, alloc, &tokens)
 }
 
-fn functions(alloc: Global) -> Result<List<Public>, NoMemory> {
-    let mut publics = list(
-        alloc,
-        public(alloc, b"n", nested(alloc)?, List::new(alloc))?,
-    )?;
+fn functions(rt: &impl Abort, alloc: Global) -> List<Public> {
+    let value = nested(rt, alloc);
+    let mut publics = list(rt, alloc, public(rt, alloc, b"n", value, List::new(alloc)));
     for function in OVER_TWO {
-        let value = over_two(alloc, function)?;
-        publics.push(public(alloc, b"f", value, List::new(alloc))?)?;
+        let value = over_two(rt, alloc, function);
+        let next = public(rt, alloc, b"f", value, List::new(alloc));
+        publics.push(next).expect(rt, "memory");
     }
-    Ok(publics)
+    publics
 }
 
 // The sections of the module above, and these publics.
-fn with_functions(alloc: Global) -> Result<Parts, NoMemory> {
-    Ok(Parts {
-        processor: Bytes::from_slice(alloc, b"P")?,
-        name: Bytes::from_slice(alloc, b"m")?,
+fn with_functions(rt: &impl Abort, alloc: Global) -> Parts {
+    Parts {
+        processor: bytes(rt, alloc, b"P"),
+        name: bytes(rt, alloc, b"m"),
         maus: 2,
         order: Order::Least,
-        ext: Bytes::from_slice(alloc, &[])?,
-        env: Bytes::from_slice(alloc, &[])?,
-        sections: sections(alloc, &SECTIONS)?,
+        ext: Bytes::new(alloc),
+        env: Bytes::new(alloc),
+        sections: sections(rt, alloc, &SECTIONS),
         names: NameTable {
-            publics: functions(alloc)?,
+            publics: functions(rt, alloc),
             references: List::new(alloc),
         },
         debug: List::new(alloc),
         loads: List::new(alloc),
         start: None,
-    })
+    }
 }
 
 const FUNCTION_LINES: [&str; 20] = [
@@ -158,10 +156,9 @@ const FUNCTION_LINES: [&str; 20] = [
 ];
 
 #[test]
-fn each_function_is_printed_in_infix_form(rt: HostRuntime) -> Result<(), Fail> {
-    let Ok(module) = assemble(with_functions(rt.alloc())?) else {
-        panic!(rt; "no module");
-    };
-    let text = joined(rt.alloc(), &FUNCTION_LINES)?;
-    shows(&rt, rt.alloc(), &module, text.as_slice())
+fn each_function_is_printed_in_infix_form(rt: HostRuntime) {
+    let alloc = rt.alloc();
+    let module = made(&rt, with_functions(&rt, alloc));
+    let text = joined(&rt, alloc, &FUNCTION_LINES);
+    shows(&rt, alloc, &module, text.as_slice());
 }

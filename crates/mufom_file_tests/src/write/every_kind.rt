@@ -2,7 +2,6 @@
 
 use super::writes;
 use crate::every_kind::every_kind;
-use std::test::Fail;
 
 // 269 bytes.
 const EVERY_KIND: &str = "\
@@ -63,8 +62,8 @@ const EVERY_KIND: &str = "\
     E1";
 
 #[test]
-fn every_kind_of_record_is_written(rt: HostRuntime) -> Result<(), Fail> {
+fn every_kind_of_record_is_written(rt: HostRuntime) {
     let alloc = rt.alloc();
     let offsets = [0x49, 0x4C, 0x4D, 0x71, 0x9C, 0xDA, 0x106, 0x10C];
-    writes(&rt, alloc, every_kind(alloc)?, offsets, EVERY_KIND)
+    writes(&rt, alloc, every_kind(&rt, alloc), offsets, EVERY_KIND);
 }

@@ -2,69 +2,69 @@
 
 use super::writes;
 use crate::entries::{
-    SectionRow, base, base_and_four, expression, field, list, literal, note, public, reference,
-    sections, with,
+    SectionRow, base, base_and_four, bytes, expression, field, list, literal, note, public,
+    reference, sections, with,
 };
 use mufom_expr::{FieldKind, Function, Letter, Postfix, Token};
 use mufom_loads::Load;
 use mufom_module::{Order, Parts};
 use mufom_names::NameTable;
-use mufom_numbers::{Bytes, List, NoMemory};
+use mufom_numbers::{Bytes, List};
 use mufom_sections::Purpose;
 use std::alloc::Global;
-use std::test::Fail;
+use std::process::Abort;
 
 // ---- the program
 
 const PROGRAM_SECTIONS: [SectionRow; 1] = [(b".text", false, Some(Purpose::Code), 12, 2, None)];
 
-fn program_names(alloc: Global) -> Result<NameTable, NoMemory> {
-    let notes = list(alloc, note(15, 19, Some(1)))?;
-    let main = public(alloc, b"main", base_and_four(alloc)?, notes)?;
-    let exit = reference(alloc, b"exit", None, List::new(alloc))?;
-    Ok(NameTable {
-        publics: list(alloc, main)?,
-        references: list(alloc, exit)?,
-    })
+fn program_names(rt: &impl Abort, alloc: Global) -> NameTable {
+    let notes = list(rt, alloc, note(15, 19, Some(1)));
+    let main = public(rt, alloc, b"main", base_and_four(rt, alloc), notes);
+    let exit = reference(rt, alloc, b"exit", None, List::new(alloc));
+    NameTable {
+        publics: list(rt, alloc, main),
+        references: list(rt, alloc, exit),
+    }
 }
 
 // From the program counter to the first reference.
-fn distance(alloc: Global) -> Result<Postfix, NoMemory> {
+fn distance(rt: &impl Abort, alloc: Global) -> Postfix {
     let counter = Token::Var(Letter::P, 0);
     let tokens = [
         Token::Var(Letter::X, 0),
         counter,
         Token::Fun(Function::Minus),
     ];
-    expression(alloc, &tokens)
+    expression(rt, alloc, &tokens)
 }
 
-fn program_loads(alloc: Global) -> Result<List<Load>, NoMemory> {
-    let value = base(alloc)?;
-    let loads = list(alloc, Load::SetSection(0))?;
-    let loads = with(loads, Load::SetPc { section: 0, value })?;
-    let bytes = literal(alloc, &[0x4E, 0x71, 0x4E, 0x71])?;
-    let loads = with(loads, Load::One(bytes))?;
-    let address = field(FieldKind::Either, base_and_four(alloc)?, 4);
-    let loads = with(loads, Load::One(address))?;
-    let signed = field(FieldKind::Signed, distance(alloc)?, 4);
-    with(loads, Load::One(signed))
+fn program_loads(rt: &impl Abort, alloc: Global) -> List<Load> {
+    let value = base(rt, alloc);
+    let loads = list(rt, alloc, Load::SetSection(0));
+    let loads = with(rt, loads, Load::SetPc { section: 0, value });
+    let bytes = literal(rt, alloc, &[0x4E, 0x71, 0x4E, 0x71]);
+    let loads = with(rt, loads, Load::One(bytes));
+    let address = field(FieldKind::Either, base_and_four(rt, alloc), 4);
+    let loads = with(rt, loads, Load::One(address));
+    let signed = field(FieldKind::Signed, distance(rt, alloc), 4);
+    with(rt, loads, Load::One(signed))
 }
 
-fn program(alloc: Global) -> Result<Parts, NoMemory> {
-    Ok(Parts {
-        processor: Bytes::from_slice(alloc, b"68000")?,
-        name: Bytes::from_slice(alloc, b"prog")?,
+fn program(rt: &impl Abort, alloc: Global) -> Parts {
+    Parts {
+        processor: bytes(rt, alloc, b"68000"),
+        name: bytes(rt, alloc, b"prog"),
         maus: 4,
         order: Order::Most,
-        ext: Bytes::from_slice(alloc, &[0xF0, 0x20, 0x00])?,
-        env: Bytes::from_slice(alloc, &[0xF0, 0x21, 0x00])?,
-        sections: sections(alloc, &PROGRAM_SECTIONS)?,
-        names: program_names(alloc)?,
+        ext: bytes(rt, alloc, &[0xF0, 0x20, 0x00]),
+        env: bytes(rt, alloc, &[0xF0, 0x21, 0x00]),
+        sections: sections(rt, alloc, &PROGRAM_SECTIONS),
+        names: program_names(rt, alloc),
         debug: List::new(alloc),
-        loads: program_loads(alloc)?,
-        start: Some(base_and_four(alloc)?),
-    })
+        loads: program_loads(rt, alloc),
+        start: Some(base_and_four(rt, alloc)),
+    }
 }
 
 const PROGRAM: &str = "\
@@ -96,44 +96,44 @@ const PROGRAM: &str = "\
     E1";
 
 #[test]
-fn a_program_is_written(rt: HostRuntime) -> Result<(), Fail> {
+fn a_program_is_written(rt: HostRuntime) {
     let alloc = rt.alloc();
     let offsets = [0x50, 0x53, 0x56, 0x67, 0, 0x82, 0xA2, 0xAA];
-    writes(&rt, alloc, program(alloc)?, offsets, PROGRAM)
+    writes(&rt, alloc, program(&rt, alloc), offsets, PROGRAM);
 }
 
 // ---- the library
 
 const LIBRARY_SECTIONS: [SectionRow; 1] = [(b".text", false, Some(Purpose::Code), 2, 1, None)];
 
-fn library_loads(alloc: Global) -> Result<List<Load>, NoMemory> {
-    let bytes = literal(alloc, &[0x4E, 0x75])?;
-    let loads = list(alloc, Load::SetSection(0))?;
-    with(loads, Load::One(bytes))
+fn library_loads(rt: &impl Abort, alloc: Global) -> List<Load> {
+    let bytes = literal(rt, alloc, &[0x4E, 0x75]);
+    let loads = list(rt, alloc, Load::SetSection(0));
+    with(rt, loads, Load::One(bytes))
 }
 
-fn library_names(alloc: Global) -> Result<NameTable, NoMemory> {
-    let exit = public(alloc, b"exit", base(alloc)?, List::new(alloc))?;
-    Ok(NameTable {
-        publics: list(alloc, exit)?,
+fn library_names(rt: &impl Abort, alloc: Global) -> NameTable {
+    let exit = public(rt, alloc, b"exit", base(rt, alloc), List::new(alloc));
+    NameTable {
+        publics: list(rt, alloc, exit),
         references: List::new(alloc),
-    })
+    }
 }
 
-fn library(alloc: Global) -> Result<Parts, NoMemory> {
-    Ok(Parts {
-        processor: Bytes::from_slice(alloc, b"68000")?,
-        name: Bytes::from_slice(alloc, b"lib")?,
+fn library(rt: &impl Abort, alloc: Global) -> Parts {
+    Parts {
+        processor: bytes(rt, alloc, b"68000"),
+        name: bytes(rt, alloc, b"lib"),
         maus: 4,
         order: Order::Most,
         ext: Bytes::new(alloc),
         env: Bytes::new(alloc),
-        sections: sections(alloc, &LIBRARY_SECTIONS)?,
-        names: library_names(alloc)?,
+        sections: sections(rt, alloc, &LIBRARY_SECTIONS),
+        names: library_names(rt, alloc),
         debug: List::new(alloc),
-        loads: library_loads(alloc)?,
+        loads: library_loads(rt, alloc),
         start: None,
-    })
+    }
 }
 
 const LIBRARY: &str = "\
@@ -156,8 +156,8 @@ const LIBRARY: &str = "\
     E1";
 
 #[test]
-fn a_library_is_written(rt: HostRuntime) -> Result<(), Fail> {
+fn a_library_is_written(rt: HostRuntime) {
     let alloc = rt.alloc();
     let offsets = [0, 0, 0x4F, 0x5D, 0, 0x69, 0, 0x6F];
-    writes(&rt, alloc, library(alloc)?, offsets, LIBRARY)
+    writes(&rt, alloc, library(&rt, alloc), offsets, LIBRARY);
 }
