@@ -27,6 +27,3 @@ pub use module_image::image_of_module;
 pub use refusal::ImageRefusal;
 pub use stop::Stop;
 pub use values::Values;
-
-#[cfg(test)]
-mod tests;

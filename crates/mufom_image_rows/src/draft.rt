@@ -123,6 +123,12 @@ impl Draft {
         self.load(rt, Load::SetPc { section: 0, value });
     }
 
+    /// These bytes, in a load that repeats nothing.
+    pub(crate) fn once(&mut self, rt: &impl Abort, text: &[u8]) {
+        let item = Item::Literal(bytes(rt, self.alloc, text));
+        self.load(rt, Load::One(item));
+    }
+
     fn repeat(&mut self, rt: &impl Abort, count: u64, item: Item) {
         let mut items = List::new(self.alloc);
         items.push(item).expect(rt, "memory");
@@ -149,8 +155,8 @@ impl Draft {
     }
 }
 
-// The module that the draft has become.
-fn module(rt: &impl Abort, draft: Draft) -> Module {
+/// The module that the draft has become.
+pub(crate) fn module(rt: &impl Abort, draft: Draft) -> Module {
     let Draft { alloc: _, parts } = draft;
     match assemble(parts) {
         Ok(module) => module,

@@ -1,8 +1,9 @@
 //! Worked rows of `mufom_image` as tests: each is a module and a plan, and what locating the module by
 //! the plan comes to. The expected values come from outside. They state nothing that a contract
-//! states.
+//! states. Two more are rows of `mufom_image_bytes`: a module with a base for its section, and the
+//! bytes that its loads put at addresses.
 //!
-//! The crate has tests alone, so that the library is proved without them.
+//! The crate has tests alone, so that the libraries are proved without them.
 #![tactic(auto)]
 
 #[cfg(test)]
@@ -15,3 +16,5 @@ mod draft;
 mod images;
 #[cfg(test)]
 mod names;
+#[cfg(test)]
+mod walks;

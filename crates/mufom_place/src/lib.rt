@@ -18,6 +18,3 @@ mod site;
 pub use laws::place_refusals_are_facts;
 pub use placement::place;
 pub use refusal::PlaceRefusal;
-
-#[cfg(test)]
-mod tests;

@@ -17,6 +17,3 @@ pub use index::NameList;
 pub use plan::{Plan, Region};
 pub use read::read_plan;
 pub use refusal::{PlanField, PlanRefusal};
-
-#[cfg(test)]
-mod tests;

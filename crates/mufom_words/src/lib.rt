@@ -20,6 +20,3 @@ pub use command::{Command, Mark, Verb};
 pub use laws::{commands_are_sound, trees_are_spelled};
 pub use read::read_words;
 pub use stop::{UsageFault, WordsStop};
-
-#[cfg(test)]
-mod tests;

@@ -1,0 +1,98 @@
+//! One walk over the loads: each copy of a field has a counter of its own, and of the bytes that
+//! are loaded twice the first goes by the order of the loads.
+
+use crate::draft::{COUNTER, Draft, module};
+use mufom_expr::FieldKind::Unsigned;
+use mufom_expr::Token::Number;
+use mufom_expr::{Env, Letter, Postfix};
+use mufom_image_bytes::{ImageRefusal, Stop, Values, image_of_module};
+use std::alloc::Global;
+use std::process::Abort;
+
+// The program counter, which each variable stands for.
+#[derive(Drop)]
+struct Counter(u64);
+
+impl Env for Counter {
+    ghost use Rattle.std.specs.Prelude.{Some};
+
+    ghost meaning = { λ counter letter n. Some counter.0 };
+
+    fn lookup(&self, _letter: Letter, _index: u32) -> Option<u64> {
+        Some(self.0)
+    }
+}
+
+// The values where each variable is the program counter.
+#[derive(Drop)]
+struct Counted;
+
+impl Values for Counted {
+    ghost use Rattle.std.specs.Prelude.{◌^◌, Some};
+    ghost use Rattle.mufom_expr.specs.Value.{value_at};
+
+    ghost meaning = { λ _ width at t. value_at (2 ^ width) (λ letter n. Some at) t };
+
+    fn value(&self, width: u32, counter: u64, expression: &Postfix) -> Option<u64> {
+        expression.value(&Counter(counter), width)
+    }
+}
+
+// One section of 16 bytes, into which all is put.
+fn section(rt: &impl Abort, alloc: Global) -> Draft {
+    let mut draft = Draft::new(alloc, 2);
+    draft.section(rt, 16, None);
+    draft.select(rt, 0);
+    draft
+}
+
+// One byte at an address.
+fn byte_at(rt: &impl Abort, draft: &mut Draft, address: u64) {
+    draft.counter(rt, &[Number(address)]);
+    draft.once(rt, b"x");
+}
+
+// A byte at 264, and a field of two bytes with the counter, three times from 256 on.
+fn copies(rt: &impl Abort, alloc: Global) -> Draft {
+    let mut draft = section(rt, alloc);
+    byte_at(rt, &mut draft, 264);
+    draft.counter(rt, &[Number(256)]);
+    draft.field(rt, 3, Unsigned, 2, &[COUNTER]);
+    draft
+}
+
+// Bytes at 260 and 256, and again both.
+fn doubles(rt: &impl Abort, alloc: Global) -> Draft {
+    let mut draft = section(rt, alloc);
+    byte_at(rt, &mut draft, 260);
+    byte_at(rt, &mut draft, 256);
+    byte_at(rt, &mut draft, 260);
+    byte_at(rt, &mut draft, 256);
+    draft
+}
+
+#[test]
+fn copies_of_a_field_have_their_own_counters(rt: HostRuntime) {
+    let alloc = rt.alloc();
+    let module = module(&rt, copies(&rt, alloc));
+    let Ok(runs) = image_of_module(alloc, module.parts(), &[256], &Counted) else {
+        panic!(rt; "no image");
+    };
+    let [first, second] = runs.as_slice() else {
+        panic!(rt; "not two rows");
+    };
+    assert_eq!(rt; first.address, 256);
+    assert_eq!(rt; first.bytes.as_slice(), &[1, 0, 1, 2, 1, 4][..]);
+    assert_eq!(rt; second.address, 264);
+    assert_eq!(rt; second.bytes.as_slice(), &b"x"[..]);
+}
+
+#[test]
+fn the_first_double_goes_by_the_order_of_the_loads(rt: HostRuntime) {
+    let alloc = rt.alloc();
+    let module = module(&rt, doubles(&rt, alloc));
+    match image_of_module(alloc, module.parts(), &[256], &Counted) {
+        Err(ImageRefusal::Stopped(Stop::Twice { address })) => assert_eq!(rt; address, 260),
+        _ => panic!(rt; "no double"),
+    }
+}
