@@ -6,12 +6,10 @@
 
 ghost use Rattle.std.specs.Prelude.{◌<◌};
 
-use crate::tests::{read, stop};
+use crate::tests::{read, refused, stop};
 use mufom_module::Module;
 use mufom_numbers::Reason;
-use mufom_read::{ReadRefusal, ReadStop};
 use std::alloc::Global;
-use std::test::Fail;
 
 // Absolute sections for the 68020.
 const M68K_ABSOLUTE: &[u8] = b"\
@@ -258,7 +256,7 @@ fn figures_of(alloc: Global, stream: &[u8], size: usize, reads_debug: bool) -> O
 }
 
 #[test]
-fn files_of_a_toolchain_are_modules(rt: HostRuntime) -> Result<(), Fail> {
+fn files_of_a_toolchain_are_modules(rt: HostRuntime) {
     let alloc = rt.alloc();
     for (file, reads_debug, sections, publics, references, loads) in [
         (M68K_ABSOLUTE, true, 5, 18, 0, 13),
@@ -276,19 +274,17 @@ fn files_of_a_toolchain_are_modules(rt: HostRuntime) -> Result<(), Fail> {
         assert_eq!(rt; figures_of(alloc, file, 65_536, reads_debug), wanted);
         assert_eq!(rt; figures_of(alloc, file, 1, reads_debug), wanted);
     }
-    Ok(())
 }
 
 #[test]
-fn files_beyond_the_profile_are_refused(rt: HostRuntime) -> Result<(), Fail> {
+fn files_beyond_the_profile_are_refused(rt: HostRuntime) {
     let alloc = rt.alloc();
     for (file, place, reason) in [
         (H8300_DEBUG, 621, Reason::UnsupportedBlock),
         (M68K_NO_COMMA, 381, Reason::SurplusTerms),
     ] {
-        let wanted = Some(ReadStop::Refused(ReadRefusal { place, reason }));
+        let wanted = refused(place, reason);
         assert_eq!(rt; stop(alloc, file, 65_536, true), wanted);
         assert_eq!(rt; stop(alloc, file, 1, true), wanted);
     }
-    Ok(())
 }

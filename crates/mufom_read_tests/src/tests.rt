@@ -2,12 +2,13 @@
 
 ghost use Rattle.std.specs.Prelude.{◌<◌};
 
+use crate::records::long_expression;
 use mufom_host::{Host, MemHost};
 use mufom_module::Module;
 use mufom_numbers::{Bytes, List, Reason, Text};
 use mufom_read::{ReadRefusal, ReadStop, Reader, SourceStop, read_module};
 use std::alloc::Global;
-use std::test::Fail;
+use std::process::Abort;
 
 // An absolute section of four bytes at 1000, loaded whole, with its start address.
 pub(crate) const PLAIN: [u8; 120] = [
@@ -324,41 +325,47 @@ const REFUSED: [Refused; 66] = [
 ];
 
 // The bytes of the parts, one after another, with some bytes changed: each by its offset.
-fn changed(alloc: Global, parts: &[&[u8]], changes: &[(usize, u8)]) -> Result<Vec<u8>, Fail> {
+fn changed(rt: &impl Abort, alloc: Global, parts: &[&[u8]], changes: &[(usize, u8)]) -> Vec<u8> {
     let mut all = Vec::new(alloc);
     for part in parts {
-        all.extend_from_slice(part)?;
+        all.extend_from_slice(part).expect(rt, "memory");
     }
     for (place, byte) in changes {
         if let Some(old) = all.get_mut(*place) {
             *old = *byte;
         }
     }
-    Ok(all)
+    all
 }
 
 // The header of the plain module with other offsets.
-fn header(alloc: Global, offsets: [u16; 8]) -> Result<Vec<u8>, Fail> {
-    let mut all = changed(alloc, &[&PLAIN[..13]], &[])?;
+fn header(rt: &impl Abort, alloc: Global, offsets: [u16; 8]) -> Vec<u8> {
+    let mut all = changed(rt, alloc, &[&PLAIN[..13]], &[]);
     for number in 0..8u8 {
         let [high, low] = offsets[number as usize].to_be_bytes();
-        all.extend_from_slice(&[0xE2, 0xD7, number, 0x84, 0, 0, high, low])?;
+        all.extend_from_slice(&[0xE2, 0xD7, number, 0x84, 0, 0, high, low])
+            .expect(rt, "memory");
     }
-    Ok(all)
+    all
 }
 
 // The plain module with this header and part, and with no other part after its section.
-fn with_part(alloc: Global, offsets: [u16; 8], part: &[u8]) -> Result<Vec<u8>, Fail> {
-    let header = header(alloc, offsets)?;
-    changed(alloc, &[&header, &PLAIN[77..100], part, &[0xE1]], &[])
+fn with_part(rt: &impl Abort, alloc: Global, offsets: [u16; 8], part: &[u8]) -> Vec<u8> {
+    let header = header(rt, alloc, offsets);
+    changed(rt, alloc, &[&header, &PLAIN[77..100], part, &[0xE1]], &[])
 }
 
-fn stream(alloc: Global, row: Row) -> Result<Vec<u8>, Fail> {
+fn stream(rt: &impl Abort, alloc: Global, row: Row) -> Vec<u8> {
     match row {
-        Row::Byte(place, byte) => changed(alloc, &[&PLAIN], &[(place, byte)]),
-        Row::Data(part) => with_part(alloc, [0, 0, 77, 0, 0, 100, 0, end_after(part)], part),
-        Row::Debug(part) => with_part(alloc, [0, 0, 77, 0, 100, 0, 0, end_after(part)], part),
-        Row::External(part) => with_part(alloc, [0, 0, 77, 100, 0, 0, 0, end_after(part)], part),
+        Row::Byte(place, byte) => changed(rt, alloc, &[&PLAIN], &[(place, byte)]),
+        Row::Data(part) => with_part(rt, alloc, [0, 0, 77, 0, 0, 100, 0, end_after(part)], part),
+        Row::Debug(part) => with_part(rt, alloc, [0, 0, 77, 0, 100, 0, 0, end_after(part)], part),
+        Row::External(part) => with_part(
+            rt,
+            alloc,
+            [0, 0, 77, 100, 0, 0, 0, end_after(part)],
+            part,
+        ),
     }
 }
 
@@ -385,7 +392,7 @@ pub(crate) fn read(
     reader.finish()
 }
 
-fn refused(place: u64, reason: Reason) -> Option<ReadStop> {
+pub(crate) fn refused(place: u64, reason: Reason) -> Option<ReadStop> {
     Some(ReadStop::Refused(ReadRefusal { place, reason }))
 }
 
@@ -399,43 +406,40 @@ pub(crate) fn stop(alloc: Global, stream: &[u8], size: usize, reads_debug: bool)
 }
 
 #[test]
-fn each_reason_has_its_place(rt: HostRuntime) -> Result<(), Fail> {
+fn each_reason_has_its_place(rt: HostRuntime) {
     let alloc = rt.alloc();
     for (row, place, reason) in &REFUSED {
-        let stream = stream(alloc, *row)?;
+        let stream = stream(&rt, alloc, *row);
         let wanted = refused(*place, *reason);
         assert_eq!(rt; stop(alloc, &stream, 1000, true), wanted, "{stream:?}");
         assert_eq!(rt; stop(alloc, &stream, 1, true), wanted, "{stream:?}");
         assert_eq!(rt; stop(alloc, &stream, 7, true), wanted, "{stream:?}");
     }
-    Ok(())
 }
 
 #[test]
-fn modules_are_read_whole_and_byte_by_byte(rt: HostRuntime) -> Result<(), Fail> {
+fn modules_are_read_whole_and_byte_by_byte(rt: HostRuntime) {
     let alloc = rt.alloc();
     for stream in [PLAIN.as_slice(), PROGRAM.as_slice(), LIBRARY.as_slice()] {
         assert_eq!(rt; stop(alloc, stream, 1000, true), None);
         assert_eq!(rt; stop(alloc, stream, 1, true), None);
         assert_eq!(rt; stop(alloc, stream, 3, false), None);
     }
-    Ok(())
 }
 
 #[test]
-fn a_prefix_of_a_module_is_truncated(rt: HostRuntime) -> Result<(), Fail> {
+fn a_prefix_of_a_module_is_truncated(rt: HostRuntime) {
     let alloc = rt.alloc();
     for length in 0..PROGRAM.len() {
         let stop = stop(alloc, &PROGRAM[..length], 1000, true);
         assert_eq!(rt; stop, refused(length as u64, Reason::Truncated));
     }
-    Ok(())
 }
 
 #[test]
-fn a_byte_after_the_end_is_refused(rt: HostRuntime) -> Result<(), Fail> {
+fn a_byte_after_the_end_is_refused(rt: HostRuntime) {
     let alloc = rt.alloc();
-    let stream = changed(alloc, &[&PLAIN, &[0]], &[])?;
+    let stream = changed(&rt, alloc, &[&PLAIN, &[0]], &[]);
     assert_eq!(rt;
         stop(alloc, &stream, 1000, true),
         refused(120, Reason::AfterEnd)
@@ -444,12 +448,11 @@ fn a_byte_after_the_end_is_refused(rt: HostRuntime) -> Result<(), Fail> {
         stop(alloc, &stream, 1, true),
         refused(120, Reason::AfterEnd)
     );
-    Ok(())
 }
 
 #[test]
-fn a_stop_is_answered_again(rt: HostRuntime) -> Result<(), Fail> {
-    let mut reader = Reader::new(rt.alloc(), true)?;
+fn a_stop_is_answered_again(rt: HostRuntime) {
+    let mut reader = Reader::new(rt.alloc(), true).expect(&rt, "memory");
     let stop = ReadStop::Refused(ReadRefusal {
         place: 0,
         reason: Reason::BadHeader,
@@ -458,14 +461,13 @@ fn a_stop_is_answered_again(rt: HostRuntime) -> Result<(), Fail> {
     assert_eq!(rt; reader.feed(&[]), Err(stop));
     assert_eq!(rt; reader.feed(&PLAIN), Err(stop));
     assert!(rt; matches!(reader.finish(), Err(again) if again == stop));
-    Ok(())
 }
 
 #[test]
-fn a_second_start_is_refused(rt: HostRuntime) -> Result<(), Fail> {
+fn a_second_start_is_refused(rt: HostRuntime) {
     let alloc = rt.alloc();
     let start: &[u8] = &[0xE2, 0xC7, 0x00, 0xE1];
-    let stream = changed(alloc, &[&PLAIN[..119], start], &[(76, 0x7A)])?;
+    let stream = changed(&rt, alloc, &[&PLAIN[..119], start], &[(76, 0x7A)]);
     assert_eq!(rt;
         stop(alloc, &stream, 1000, true),
         refused(119, Reason::DuplicateValue)
@@ -474,14 +476,13 @@ fn a_second_start_is_refused(rt: HostRuntime) -> Result<(), Fail> {
         stop(alloc, &stream, 1, true),
         refused(119, Reason::DuplicateValue)
     );
-    Ok(())
 }
 
 #[test]
-fn an_absolute_section_has_a_base(rt: HostRuntime) -> Result<(), Fail> {
+fn an_absolute_section_has_a_base(rt: HostRuntime) {
     let alloc = rt.alloc();
     let changes = [(60, 0), (68, 0), (76, 0x5E)];
-    let stream = changed(alloc, &[&PLAIN[..94], &[0xE1]], &changes)?;
+    let stream = changed(&rt, alloc, &[&PLAIN[..94], &[0xE1]], &changes);
     assert_eq!(rt;
         stop(alloc, &stream, 1000, true),
         refused(77, Reason::MissingBase)
@@ -490,25 +491,14 @@ fn an_absolute_section_has_a_base(rt: HostRuntime) -> Result<(), Fail> {
         stop(alloc, &stream, 1, true),
         refused(77, Reason::MissingBase)
     );
-    Ok(())
-}
-
-// A counter that is set to an expression of 256 tokens.
-fn long_expression(alloc: Global) -> Result<Vec<u8>, Fail> {
-    let mut part = changed(alloc, &[&[0xE2, 0xD0, 0x01, 0x00]], &[])?;
-    for _ in 0..127 {
-        part.extend_from_slice(&[0x00, 0xA5])?;
-    }
-    part.push(0x00)?;
-    Ok(part)
 }
 
 #[test]
-fn a_256th_token_is_refused(rt: HostRuntime) -> Result<(), Fail> {
+fn a_256th_token_is_refused(rt: HostRuntime) {
     let alloc = rt.alloc();
-    let part = long_expression(alloc)?;
+    let part = long_expression(1);
     let offsets = [0, 0, 77, 0, 0, 100, 0, end_after(&part)];
-    let mut stream = with_part(alloc, offsets, &part)?;
+    let mut stream = with_part(&rt, alloc, offsets, &part);
     assert_eq!(rt;
         stop(alloc, &stream, 1000, true),
         refused(358, Reason::TooLong)
@@ -522,26 +512,25 @@ fn a_256th_token_is_refused(rt: HostRuntime) -> Result<(), Fail> {
         stop(alloc, &stream, 1000, true),
         refused(358, Reason::Truncated)
     );
-    Ok(())
 }
 
-fn zeros(alloc: Global, count: usize) -> Result<Vec<u8>, Fail> {
-    Ok(vec![in alloc; 0u8; count]?)
+fn zeros(rt: &impl Abort, alloc: Global, count: usize) -> Vec<u8> {
+    vec![in alloc; 0u8; count].expect(rt, "memory")
 }
 
 // A reader that has read 66,060,365 bytes of a module whose extension part is raw bytes, and then so
 // many more of them: 1,048,499 more are as many as a file may have.
-fn nearly_full(alloc: Global, more: usize) -> Result<Reader, Fail> {
+fn nearly_full(rt: &impl Abort, alloc: Global, more: usize) -> Reader {
     let changes = [(20, 0x4D), (36, 0), (60, 0), (68, 0), (73, 4), (76, 0)];
-    let header = changed(alloc, &[&PLAIN[..77]], &changes)?;
-    let chunk = zeros(alloc, 1_048_576)?;
-    let mut reader = Reader::new(alloc, true)?;
+    let header = changed(rt, alloc, &[&PLAIN[..77]], &changes);
+    let chunk = zeros(rt, alloc, 1_048_576);
+    let mut reader = Reader::new(alloc, true).expect(rt, "memory");
     let _ = reader.feed(&header);
     for _ in 0..63 {
         let _ = reader.feed(&chunk);
     }
-    let _ = reader.feed(&zeros(alloc, more)?);
-    Ok(reader)
+    let _ = reader.feed(&zeros(rt, alloc, more));
+    reader
 }
 
 const BEYOND_THE_LIMIT: ReadStop = ReadStop::Refused(ReadRefusal {
@@ -550,89 +539,81 @@ const BEYOND_THE_LIMIT: ReadStop = ReadStop::Refused(ReadRefusal {
 });
 
 #[test]
-fn a_stream_beyond_the_limit_is_refused(rt: HostRuntime) -> Result<(), Fail> {
+fn a_stream_beyond_the_limit_is_refused(rt: HostRuntime) {
     let alloc = rt.alloc();
-    let chunk = zeros(alloc, 1_048_576)?;
-    let mut reader = nearly_full(alloc, 0)?;
+    let chunk = zeros(&rt, alloc, 1_048_576);
+    let mut reader = nearly_full(&rt, alloc, 0);
     assert_eq!(rt; reader.feed(&chunk), Err(BEYOND_THE_LIMIT));
-    Ok(())
 }
 
 #[test]
-fn the_byte_beyond_the_limit_is_refused(rt: HostRuntime) -> Result<(), Fail> {
+fn the_byte_beyond_the_limit_is_refused(rt: HostRuntime) {
     let alloc = rt.alloc();
-    let mut reader = nearly_full(alloc, 1_048_498)?;
+    let mut reader = nearly_full(&rt, alloc, 1_048_498);
     assert_eq!(rt; reader.feed(&[0]), Ok(()));
     assert_eq!(rt; reader.feed(&[0]), Err(BEYOND_THE_LIMIT));
-    Ok(())
 }
 
 #[test]
-fn a_debug_part_is_passed_over(rt: HostRuntime) -> Result<(), Fail> {
+fn a_debug_part_is_passed_over(rt: HostRuntime) {
     let alloc = rt.alloc();
-    let stream = stream(alloc, Row::Debug(&[0x00, 0x89, 0xFF]))?;
+    let stream = stream(&rt, alloc, Row::Debug(&[0x00, 0x89, 0xFF]));
     assert_eq!(rt; stop(alloc, &stream, 1000, false), None);
     assert_eq!(rt; stop(alloc, &stream, 1, false), None);
     assert_eq!(rt;
         stop(alloc, &stream, 1, true),
         refused(100, Reason::BadRecord)
     );
-    Ok(())
 }
 
 // How many bytes wait after a stream.
-fn pending_after(alloc: Global, stream: &[u8]) -> Result<usize, Fail> {
-    let mut reader = Reader::new(alloc, true)?;
+fn pending_after(rt: &impl Abort, alloc: Global, stream: &[u8]) -> usize {
+    let mut reader = Reader::new(alloc, true).expect(rt, "memory");
     let _ = reader.feed(stream);
-    Ok(reader.pending())
+    reader.pending()
 }
 
 #[test]
-fn bytes_after_whole_records_are_pending(rt: HostRuntime) -> Result<(), Fail> {
+fn bytes_after_whole_records_are_pending(rt: HostRuntime) {
     let alloc = rt.alloc();
-    assert_eq!(rt; pending_after(alloc, &[])?, 0);
-    assert_eq!(rt; pending_after(alloc, &PROGRAM[..8])?, 8);
-    assert_eq!(rt; pending_after(alloc, &PROGRAM[..81])?, 0);
-    assert_eq!(rt; pending_after(alloc, &PROGRAM[..96])?, 1);
-    Ok(())
+    assert_eq!(rt; pending_after(&rt, alloc, &[]), 0);
+    assert_eq!(rt; pending_after(&rt, alloc, &PROGRAM[..8]), 8);
+    assert_eq!(rt; pending_after(&rt, alloc, &PROGRAM[..81]), 0);
+    assert_eq!(rt; pending_after(&rt, alloc, &PROGRAM[..96]), 1);
 }
 
 #[test]
-fn what_the_records_say_is_what_the_module_has(rt: HostRuntime) -> Result<(), Fail> {
+fn what_the_records_say_is_what_the_module_has(rt: HostRuntime) {
     let module = read(rt.alloc(), &PROGRAM, 5, true).expect(&rt, "a module");
-    let parts = format!(in rt.alloc(); "{:?}", module.parts())?;
+    let parts = format!(in rt.alloc(); "{:?}", module.parts()).expect(&rt, "memory");
     assert_eq!(rt; parts.as_str(), PROGRAM_TEXT);
-    Ok(())
 }
 
 #[test]
-fn blocks_of_each_kind_are_the_debug_items(rt: HostRuntime) -> Result<(), Fail> {
-    let stream = stream(rt.alloc(), Row::Debug(&BLOCKS))?;
+fn blocks_of_each_kind_are_the_debug_items(rt: HostRuntime) {
+    let stream = stream(&rt, rt.alloc(), Row::Debug(&BLOCKS));
     let module = read(rt.alloc(), &stream, 5, true).expect(&rt, "a module");
-    let items = format!(in rt.alloc(); "{:?}", module.parts().debug)?;
+    let items = format!(in rt.alloc(); "{:?}", module.parts().debug).expect(&rt, "memory");
     assert_eq!(rt; items.as_str(), BLOCKS_TEXT);
-    Ok(())
 }
 
-fn host(alloc: Global) -> Result<MemHost, Fail> {
+fn host(rt: &impl Abort, alloc: Global) -> MemHost {
+    let name = Text::from_str(alloc, "a").expect(rt, "memory");
+    let bytes = Bytes::from_slice(alloc, &PLAIN).expect(rt, "memory");
     let mut files = List::new(alloc);
-    files.push((
-        Text::from_str(alloc, "a")?,
-        Bytes::from_slice(alloc, &PLAIN)?,
-    ))?;
-    Ok(MemHost::new(alloc, files, List::new(alloc), List::new(alloc), 1000)?)
+    files.push((name, bytes)).expect(rt, "memory");
+    MemHost::new(alloc, files, List::new(alloc), List::new(alloc), 1000).expect(rt, "memory")
 }
 
 #[test]
-fn a_source_is_read_within_its_limit(rt: HostRuntime) -> Result<(), Fail> {
+fn a_source_is_read_within_its_limit(rt: HostRuntime) {
     let alloc = rt.alloc();
-    let mut source = host(alloc)?;
+    let mut source = host(&rt, alloc);
     let _ = source.open("a");
     let stop = read_module(alloc, &mut source, 119, true);
     assert!(rt; matches!(stop, Err(SourceStop::Limit)));
-    let mut source = host(alloc)?;
+    let mut source = host(&rt, alloc);
     let _ = source.open("a");
     let read = read_module(alloc, &mut source, 120, true);
     assert!(rt; matches!(read, Ok((_, 120))));
-    Ok(())
 }

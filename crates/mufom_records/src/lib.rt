@@ -23,6 +23,3 @@ pub use laws::{
 pub use next::next_record;
 pub use postfix::postfix_of;
 pub use record::{BlockTail, Mode, Record};
-
-#[cfg(test)]
-mod tests;

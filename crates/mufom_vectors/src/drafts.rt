@@ -3,9 +3,7 @@
 
 ghost use Rattle.std.specs.Prelude.{◌<◌, ◌^◌, length};
 
-use crate::files::{host, words};
-use mufom_command::run;
-use mufom_host::MemHost;
+use crate::files::{made_bytes, ran};
 use std::alloc::Global;
 use std::process::Abort;
 
@@ -104,22 +102,6 @@ pub(crate) fn one_section(
     module(rt, alloc, 4, records)
 }
 
-// The host after these words over these files, which are answered with this status.
-fn ran(
-    rt: &impl Abort,
-    alloc: Global,
-    files: &[(&str, &[u8])],
-    line: &[&str],
-    status: u8,
-) -> MemHost
-    requires { length line.now < 2 ^ 32 }
-{
-    let mut host = host(alloc, files).expect(rt, "memory");
-    let words = words(alloc, line).expect(rt, "memory");
-    assert_eq!(rt; run(alloc, words.as_slice(), &mut host).status(), status);
-    host
-}
-
 /// These words over these files print this text and no complaint.
 pub(crate) fn prints(
     rt: &impl Abort,
@@ -161,8 +143,5 @@ pub(crate) fn made(
     requires { length line.now < 2 ^ 32 }
 {
     let host = ran(rt, alloc, files, line, 0);
-    match host.made() {
-        Some((_, bytes)) => Vec::from_slice(alloc, bytes).expect(rt, "memory"),
-        None => panic!(rt; "no file is made"),
-    }
+    made_bytes(rt, alloc, &host)
 }

@@ -3,13 +3,13 @@
 
 ghost use Rattle.std.specs.Prelude.{◌≡◌, ◌<◌, ◌^◌, length};
 
-use crate::files::{ABSOLUTE, ROOM, words};
+use crate::files::{ABSOLUTE, failing_host, numbers, words};
 use crate::link::{FIRST, LINKED, SECOND};
 use crate::locate::PAGE;
 use crate::veiled::Veiled;
 use mufom_command::run;
 use mufom_host::MemHost;
-use mufom_numbers::{Bytes, List, NoMemory, Text};
+use mufom_numbers::List;
 use std::alloc::Global;
 use std::process::Abort;
 
@@ -25,38 +25,30 @@ struct Script<'a> {
     failing_write: Option<u64>,
 }
 
-fn listed(alloc: Global, call: Option<u64>) -> Result<List<u64>, NoMemory> {
-    let mut list = List::new(alloc);
-    if let Some(call) = call {
-        list.push(call)?;
+fn listed(rt: &impl Abort, alloc: Global, call: Option<u64>) -> List<u64> {
+    match call {
+        Some(call) => numbers(rt, alloc, &[call]),
+        None => List::new(alloc),
     }
-    Ok(list)
 }
 
 // A host with the absolute module, the two that need each other, and a plan for them.
-fn host(alloc: Global, script: &Script) -> Result<Veiled, NoMemory> {
-    let mut files = List::new(alloc);
-    let known: [(&str, &[u8]); 4] = [("m", &ABSOLUTE), ("a", &FIRST), ("b", &SECOND), ("p", PAGE)];
-    for (name, bytes) in known {
-        files.push((
-            Text::from_str(alloc, name)?,
-            Bytes::from_slice(alloc, bytes)?,
-        ))?;
-    }
-    let reads = listed(alloc, script.failing_read)?;
-    let writes = listed(alloc, script.failing_write)?;
-    Ok(Veiled {
-        inner: MemHost::new(alloc, files, reads, writes, ROOM)?,
+fn host(rt: &impl Abort, alloc: Global, script: &Script) -> Veiled {
+    let files: [(&str, &[u8]); 4] = [("m", &ABSOLUTE), ("a", &FIRST), ("b", &SECOND), ("p", PAGE)];
+    let reads = listed(rt, alloc, script.failing_read);
+    let writes = listed(rt, alloc, script.failing_write);
+    Veiled {
+        inner: failing_host(rt, alloc, &files, reads, writes),
         by_bytes: script.by_bytes,
-    })
+    }
 }
 
 // The status that the run ends with, and the host after it.
 fn ran(rt: &impl Abort, alloc: Global, script: &Script) -> (u8, MemHost)
     requires { length script.now.line.now < 2 ^ 32 }
 {
-    let mut host = host(alloc, script).expect(rt, "memory");
-    let words = words(alloc, script.line).expect(rt, "memory");
+    let mut host = host(rt, alloc, script);
+    let words = words(rt, alloc, script.line);
     let status = run(alloc, words.as_slice(), &mut host).status();
     (status, host.inner)
 }

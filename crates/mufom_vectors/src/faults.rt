@@ -1,30 +1,16 @@
 use crate::drafts::complains;
-use crate::files::{ABSOLUTE, ROOM, words};
+use crate::files::{ABSOLUTE, failing_host, numbers, words};
 use mufom_command::{Input, Outcome, Refusal, run};
 use mufom_host::MemHost;
-use mufom_numbers::{Bytes, List, Text};
 use mufom_words::UsageFault;
 use std::alloc::Global;
 use std::process::Abort;
-use std::test::Fail;
-
-fn numbers(alloc: Global, calls: &[u64]) -> Result<List<u64>, Fail> {
-    let mut list = List::new(alloc);
-    for call in calls {
-        list.push(*call)?;
-    }
-    Ok(list)
-}
 
 // A host with the absolute module in the file `a`, on which the calls with these numbers fail.
-fn host(alloc: Global, reads: &[u64], writes: &[u64]) -> Result<MemHost, Fail> {
-    let mut files = List::new(alloc);
-    files.push((
-        Text::from_str(alloc, "a")?,
-        Bytes::from_slice(alloc, &ABSOLUTE)?,
-    ))?;
-    let (reads, writes) = (numbers(alloc, reads)?, numbers(alloc, writes)?);
-    Ok(MemHost::new(alloc, files, reads, writes, ROOM)?)
+fn host(rt: &impl Abort, alloc: Global, reads: &[u64], writes: &[u64]) -> MemHost {
+    let reads = numbers(rt, alloc, reads);
+    let writes = numbers(rt, alloc, writes);
+    failing_host(rt, alloc, &[("a", &ABSOLUTE)], reads, writes)
 }
 
 // The answer to three words on this host, with what must be printed to both outputs.
@@ -34,50 +20,48 @@ fn ends(
     mut host: MemHost,
     line: &[&str; 2],
     wanted: (u8, &[u8], &[u8]),
-) -> Result<(), Fail> {
-    let words = words(alloc, line)?;
+) {
+    let words = words(rt, alloc, line);
     assert_eq!(rt; run(alloc, words.as_slice(), &mut host).status(), wanted.0);
     assert_eq!(rt; host.out(), wanted.1);
     assert_eq!(rt; host.err(), wanted.2);
-    Ok(())
 }
 
 #[test]
-fn a_failed_open_or_read_is_a_read_fault(rt: HostRuntime) -> Result<(), Fail> {
+fn a_failed_open_or_read_is_a_read_fault(rt: HostRuntime) {
     let alloc = rt.alloc();
     let line = b"read fault: file 0\n";
     ends(
         &rt,
         alloc,
-        host(alloc, &[0], &[])?,
+        host(&rt, alloc, &[0], &[]),
         &["check", "a"],
         (3, b"", line),
-    )?;
+    );
     ends(
         &rt,
         alloc,
-        host(alloc, &[1], &[])?,
+        host(&rt, alloc, &[1], &[]),
         &["dump", "a"],
         (3, b"", line),
-    )?;
+    );
     ends(
         &rt,
         alloc,
-        host(alloc, &[2], &[])?,
+        host(&rt, alloc, &[2], &[]),
         &["show", "a"],
         (3, b"", line),
-    )
+    );
 }
 
 #[test]
-fn a_plan_that_is_not_there_is_a_read_fault_of_the_plan(rt: HostRuntime) -> Result<(), Fail> {
-    let mut host = host(rt.alloc(), &[], &[])?;
-    let words = words(rt.alloc(), &["dump", "--plan", "p", "a"])?;
+fn a_plan_that_is_not_there_is_a_read_fault_of_the_plan(rt: HostRuntime) {
+    let mut host = host(&rt, rt.alloc(), &[], &[]);
+    let words = words(&rt, rt.alloc(), &["dump", "--plan", "p", "a"]);
     let outcome = run(rt.alloc(), words.as_slice(), &mut host);
     assert_eq!(rt; outcome.status(), 3);
     let line: &[u8] = b"read fault: plan\n";
     assert_eq!(rt; host.err(), line);
-    Ok(())
 }
 
 #[test]
@@ -87,37 +71,37 @@ fn a_file_that_is_not_there_is_a_read_fault(rt: HostRuntime) {
 }
 
 #[test]
-fn a_failed_print_is_a_write_fault(rt: HostRuntime) -> Result<(), Fail> {
+fn a_failed_print_is_a_write_fault(rt: HostRuntime) {
     let alloc = rt.alloc();
     let line = b"write fault\n";
     ends(
         &rt,
         alloc,
-        host(alloc, &[], &[0])?,
+        host(&rt, alloc, &[], &[0]),
         &["check", "a"],
         (4, b"", line),
-    )?;
+    );
     ends(
         &rt,
         alloc,
-        host(alloc, &[], &[0])?,
+        host(&rt, alloc, &[], &[0]),
         &["dump", "a"],
         (4, b"", line),
-    )?;
+    );
     ends(
         &rt,
         alloc,
-        host(alloc, &[], &[0])?,
+        host(&rt, alloc, &[], &[0]),
         &["show", "a"],
         (4, b"", line),
-    )?;
+    );
     ends(
         &rt,
         alloc,
-        host(alloc, &[], &[0, 1])?,
+        host(&rt, alloc, &[], &[0, 1]),
         &["dump", "a"],
         (4, b"", b""),
-    )
+    );
 }
 
 #[test]

@@ -1,15 +1,16 @@
-//! Module files that were made by hand, from the format's tables, and the runs of tests over them.
+//! Module files that were made by hand, from the format's tables, and the runs of tests over them. Where there
+//! is no memory, a test fails.
 
-ghost use Rattle.std.specs.Prelude.{◌<◌, ◌^◌, IfOk, length, vec_len};
+ghost use Rattle.std.specs.Prelude.{◌<◌, ◌^◌, length, vec_len};
 
 use mufom_command::run;
 use mufom_host::MemHost;
-use mufom_numbers::{Bytes, List, NoMemory, Text};
+use mufom_numbers::{Bytes, List, Text};
 use std::alloc::Global;
 use std::process::Abort;
-use std::test::Fail;
 
-pub(crate) const ROOM: usize = 1_048_576;
+/// How many bytes a host has room for.
+const ROOM: usize = 1_048_576;
 
 /// An absolute section of four bytes at 1000, loaded whole, with its start address.
 pub(crate) const ABSOLUTE: [u8; 120] = [
@@ -90,27 +91,72 @@ pub(crate) const BLOCKS: [u8; 158] = [
     0x01, 0x63, 0x01, 0x01, 0xD2, 0x01, 0xF9, 0x10, 0xF9, 0xE2, 0xCE, 0x20, 0x01, 0xE1,
 ];
 
-pub(crate) fn words(alloc: Global, words: &[&str]) -> Result<Vec<String>, NoMemory>
+/// These words.
+pub(crate) fn words(rt: &impl Abort, alloc: Global, words: &[&str]) -> Vec<String>
     requires { length words.now < 2 ^ 32 }
-    ensures { IfOk result (λ list. vec_len list < 2 ^ 32) }
+    ensures { vec_len result < 2 ^ 32 }
 {
     let mut list = Vec::new(alloc);
     for word in words {
-        list.push(word.to_string(alloc)?)?;
+        let text = word.to_string(alloc).expect(rt, "memory");
+        list.push(text).expect(rt, "memory");
     }
-    Ok(list)
+    list
+}
+
+/// The numbers of these calls.
+pub(crate) fn numbers(rt: &impl Abort, alloc: Global, calls: &[u64]) -> List<u64> {
+    let mut list = List::new(alloc);
+    for call in calls {
+        list.push(*call).expect(rt, "memory");
+    }
+    list
+}
+
+/// A host with these files, each with its name, on which the reads and writes with these numbers fail.
+pub(crate) fn failing_host(
+    rt: &impl Abort,
+    alloc: Global,
+    files: &[(&str, &[u8])],
+    reads: List<u64>,
+    writes: List<u64>,
+) -> MemHost {
+    let mut list = List::new(alloc);
+    for (name, bytes) in files {
+        let name = Text::from_str(alloc, name).expect(rt, "memory");
+        let bytes = Bytes::from_slice(alloc, bytes).expect(rt, "memory");
+        list.push((name, bytes)).expect(rt, "memory");
+    }
+    MemHost::new(alloc, list, reads, writes, ROOM).expect(rt, "memory")
 }
 
 /// A host with these files, each with its name, on which no call fails.
-pub(crate) fn host(alloc: Global, files: &[(&str, &[u8])]) -> Result<MemHost, NoMemory> {
-    let mut list = List::new(alloc);
-    for (name, bytes) in files {
-        list.push((
-            Text::from_str(alloc, name)?,
-            Bytes::from_slice(alloc, bytes)?,
-        ))?;
+pub(crate) fn host(rt: &impl Abort, alloc: Global, files: &[(&str, &[u8])]) -> MemHost {
+    failing_host(rt, alloc, files, List::new(alloc), List::new(alloc))
+}
+
+/// The bytes of the file that the host has made.
+pub(crate) fn made_bytes(rt: &impl Abort, alloc: Global, host: &MemHost) -> Vec<u8> {
+    match host.made() {
+        Some((_, bytes)) => Vec::from_slice(alloc, bytes).expect(rt, "memory"),
+        None => panic!(rt; "no file is made"),
     }
-    MemHost::new(alloc, list, List::new(alloc), List::new(alloc), ROOM)
+}
+
+/// The host after these words over these files, which are answered with this status.
+pub(crate) fn ran(
+    rt: &impl Abort,
+    alloc: Global,
+    files: &[(&str, &[u8])],
+    line: &[&str],
+    status: u8,
+) -> MemHost
+    requires { length line.now < 2 ^ 32 }
+{
+    let mut host = host(rt, alloc, files);
+    let words = words(rt, alloc, line);
+    assert_eq!(rt; run(alloc, words.as_slice(), &mut host).status(), status);
+    host
 }
 
 /// These words over these files are answered with this status, and what must be printed to both outputs.
@@ -120,14 +166,17 @@ pub(crate) fn answers(
     files: &[(&str, &[u8])],
     line: &[&str],
     wanted: (u8, &[u8], &[u8]),
-) -> Result<(), Fail>
+)
     requires { length line.now < 2 ^ 32 }
 {
-    let mut host = host(alloc, files)?;
-    let words = words(alloc, line)?;
-    let outcome = run(alloc, words.as_slice(), &mut host);
-    assert_eq!(rt; outcome.status(), wanted.0);
+    let host = ran(rt, alloc, files, line, wanted.0);
     assert_eq!(rt; host.out(), wanted.1);
     assert_eq!(rt; host.err(), wanted.2);
-    Ok(())
+}
+
+/// These words over the absolute module are no command, for this reason.
+pub(crate) fn faulty(rt: &impl Abort, alloc: Global, line: &[&str], known: &[u8])
+    requires { length line.now < 2 ^ 32 }
+{
+    answers(rt, alloc, &[("m1", &ABSOLUTE)], line, (2, b"", known));
 }

@@ -1,12 +1,9 @@
 ghost use Rattle.std.specs.Prelude.{◌<◌, ◌^◌, length};
 
-use crate::files::{ABSOLUTE, EMPTY, host, words};
-use mufom_command::run;
+use crate::files::{ABSOLUTE, EMPTY, ran};
 use mufom_host::MemHost;
-use mufom_numbers::NoMemory;
 use std::alloc::Global;
 use std::process::Abort;
-use std::test::Fail;
 
 /// A module `a` with the public `f`, and a field of the reference `g`.
 pub(crate) const FIRST: [u8; 109] = [
@@ -44,11 +41,6 @@ pub(crate) const LINKED: [u8; 136] = [
     0xC9, 0x20, 0x02, 0xA5, 0x90, 0x04, 0xBF, 0xE1,
 ];
 
-// The files `a`, `b` and `m`.
-fn linkable(alloc: Global) -> Result<MemHost, NoMemory> {
-    host(alloc, &[("a", &FIRST), ("b", &SECOND), ("m", &EMPTY)])
-}
-
 // Whether the host has made this file.
 fn is_made(host: &MemHost, wanted: &[u8], content: &[u8]) -> bool {
     match host.made() {
@@ -58,63 +50,55 @@ fn is_made(host: &MemHost, wanted: &[u8], content: &[u8]) -> bool {
 }
 
 // The words make the file `c`, of these bytes, of the files `a`, `b` and `m`.
-fn links(rt: &impl Abort, alloc: Global, line: &[&str], made: &[u8]) -> Result<(), Fail>
+fn links(rt: &impl Abort, alloc: Global, line: &[&str], made: &[u8])
     requires { length line.now < 2 ^ 32 }
 {
-    let mut host = linkable(alloc)?;
-    let words = words(alloc, line)?;
-    assert_eq!(rt; run(alloc, words.as_slice(), &mut host).status(), 0);
+    let files: [(&str, &[u8]); 3] = [("a", &FIRST), ("b", &SECOND), ("m", &EMPTY)];
+    let host = ran(rt, alloc, &files, line, 0);
     assert!(rt; is_made(&host, b"c", made));
     assert_eq!(rt; host.out(), b"".as_slice());
-    Ok(())
 }
 
 #[test]
-fn two_modules_are_linked_wherever_the_groups_stand(rt: HostRuntime) -> Result<(), Fail> {
+fn two_modules_are_linked_wherever_the_groups_stand(rt: HostRuntime) {
     let alloc = rt.alloc();
-    links(&rt, alloc, &["link", "-o", "c", "a", "b"], &LINKED)?;
+    links(&rt, alloc, &["link", "-o", "c", "a", "b"], &LINKED);
     links(
         &rt,
         alloc,
         &["link", "[", "[", "a", "]", "b", "]", "-oc"],
         &LINKED,
-    )?;
-    links(&rt, alloc, &["link", "a", "[", "b", "]", "-o=c"], &LINKED)
+    );
+    links(&rt, alloc, &["link", "a", "[", "b", "]", "-o=c"], &LINKED);
 }
 
 #[test]
-fn a_member_is_linked_where_the_roots_need_it(rt: HostRuntime) -> Result<(), Fail> {
+fn a_member_is_linked_where_the_roots_need_it(rt: HostRuntime) {
     let line = ["link", "-o", "c", "a", "+", "m", "b"];
-    links(&rt, rt.alloc(), &line, &LINKED)
+    links(&rt, rt.alloc(), &line, &LINKED);
 }
 
-// The files `a`, `s`, whose addresses are shorter, and `m1`, which has a start.
-fn unlike(alloc: Global) -> Result<MemHost, NoMemory> {
-    let mut small = EMPTY;
-    small[11] = 0x02;
-    host(alloc, &[("a", &FIRST), ("s", &small), ("m1", &ABSOLUTE)])
-}
-
-// These words are refused with this line, and no file is made.
-fn refuses(rt: &impl Abort, alloc: Global, line: &[&str], refusal: &[u8]) -> Result<(), Fail>
+// These words over the files `a`, `s`, whose addresses are shorter, and `m1`, which has a start, are
+// refused with this line, and no file is made.
+fn refuses(rt: &impl Abort, alloc: Global, line: &[&str], refusal: &[u8])
     requires { length line.now < 2 ^ 32 }
 {
-    let mut host = unlike(alloc)?;
-    let words = words(alloc, line)?;
-    assert_eq!(rt; run(alloc, words.as_slice(), &mut host).status(), 1);
+    let mut small = EMPTY;
+    small[11] = 0x02;
+    let files: [(&str, &[u8]); 3] = [("a", &FIRST), ("s", &small), ("m1", &ABSOLUTE)];
+    let host = ran(rt, alloc, &files, line, 1);
     assert_eq!(rt; host.err(), refusal);
     assert!(rt; host.made().is_none());
     assert!(rt; host.making().is_none());
-    Ok(())
 }
 
 #[test]
-fn lists_that_cannot_be_linked_are_refused(rt: HostRuntime) -> Result<(), Fail> {
+fn lists_that_cannot_be_linked_are_refused(rt: HostRuntime) {
     let alloc = rt.alloc();
     let line = b"refused: link: Duplicate \"f\"\n";
-    refuses(&rt, alloc, &["link", "-o", "c", "a", "[", "a", "]"], line)?;
+    refuses(&rt, alloc, &["link", "-o", "c", "a", "[", "a", "]"], line);
     let line = b"refused: link: Mismatch 4 M 2 M\n";
-    refuses(&rt, alloc, &["link", "-o", "c", "a", "s"], line)?;
+    refuses(&rt, alloc, &["link", "-o", "c", "a", "s"], line);
     let line = b"refused: link: DuplicateStart\n";
-    refuses(&rt, alloc, &["link", "-o", "c", "m1", "m1"], line)
+    refuses(&rt, alloc, &["link", "-o", "c", "m1", "m1"], line);
 }

@@ -1,4 +1,4 @@
-use crate::files::{ABSOLUTE, BLOCKS, EMPTY, EVERY_KIND, LIBRARY, RELOCATABLE, host};
+use crate::files::{ABSOLUTE, BLOCKS, EMPTY, EVERY_KIND, LIBRARY, RELOCATABLE, host, made_bytes};
 use crate::show::{ABSOLUTE_TEXT, RELOCATABLE_TEXT, shows};
 use mufom_host::{Host, MemHost};
 use mufom_module::Module;
@@ -6,7 +6,6 @@ use mufom_read::Reader;
 use mufom_write::write_module;
 use std::alloc::Global;
 use std::process::Abort;
-use std::test::Fail;
 
 const LIBRARY_TEXT: &[u8] =
     b"module \"lib\" processor \"68000\" maus 4 order M\nsection 0 \".text\" CP size 2 align 1\npublic 0 \"exit\" = R0\nselect 0\nbytes 2 4E75\n";
@@ -60,13 +59,13 @@ const BLOCKS_TEXT: &[u8] = b"\
       value 0 = 1\n";
 
 // The module of a file that comes in these chunks.
-fn read(rt: &impl Abort, alloc: Global, fed: &[&[u8]]) -> Result<Module, Fail> {
-    let mut reader = Reader::new(alloc, true)?;
+fn read(rt: &impl Abort, alloc: Global, fed: &[&[u8]]) -> Module {
+    let mut reader = Reader::new(alloc, true).expect(rt, "memory");
     for chunk in fed {
         assert_eq!(rt; reader.feed(chunk), Ok(()));
     }
     match reader.finish() {
-        Ok(module) => Ok(module),
+        Ok(module) => module,
         Err(stop) => panic!(rt; "{stop:?}"),
     }
 }
@@ -78,77 +77,64 @@ fn make(rt: &impl Abort, module: &Module, host: &mut MemHost) {
     assert_eq!(rt; host.finish(), Ok(()));
 }
 
-// The bytes of the file that was made.
-fn made(alloc: Global, host: &MemHost) -> Result<Vec<u8>, Fail> {
-    let mut bytes = Vec::new(alloc);
-    if let Some((_, file)) = host.made() {
-        bytes.extend_from_slice(file)?;
-    }
-    Ok(bytes)
-}
-
 // What is written of the module of a file that comes in these chunks.
-fn rewritten(rt: &impl Abort, alloc: Global, fed: &[&[u8]]) -> Result<Vec<u8>, Fail> {
-    let module = read(rt, alloc, fed)?;
-    let mut host = host(alloc, &[])?;
+fn rewritten(rt: &impl Abort, alloc: Global, fed: &[&[u8]]) -> Vec<u8> {
+    let module = read(rt, alloc, fed);
+    let mut host = host(rt, alloc, &[]);
     make(rt, &module, &mut host);
-    made(alloc, &host)
+    made_bytes(rt, alloc, &host)
 }
 
 // The module of a file is shown as this text; so is what is written of it, which is written again as
 // it is.
-fn returns(rt: &impl Abort, alloc: Global, file: &[u8], text: &[u8]) -> Result<(), Fail> {
+fn returns(rt: &impl Abort, alloc: Global, file: &[u8], text: &[u8]) {
     let line = ["show", "a"];
-    shows(rt, alloc, "a", file, &line, text)?;
-    let written = rewritten(rt, alloc, &[file])?;
-    shows(rt, alloc, "a", &written, &line, text)?;
-    assert_eq!(rt; rewritten(rt, alloc, &[&written])?, written);
-    Ok(())
+    shows(rt, alloc, "a", file, &line, text);
+    let written = rewritten(rt, alloc, &[file]);
+    shows(rt, alloc, "a", &written, &line, text);
+    assert_eq!(rt; rewritten(rt, alloc, &[&written]), written);
 }
 
 #[test]
-fn hand_made_modules_are_read_back(rt: HostRuntime) -> Result<(), Fail> {
+fn hand_made_modules_are_read_back(rt: HostRuntime) {
     let alloc = rt.alloc();
-    returns(&rt, alloc, &ABSOLUTE, ABSOLUTE_TEXT)?;
-    returns(&rt, alloc, &RELOCATABLE, RELOCATABLE_TEXT)?;
-    returns(&rt, alloc, &LIBRARY, LIBRARY_TEXT)?;
-    returns(&rt, alloc, &EMPTY, EMPTY_TEXT)
+    returns(&rt, alloc, &ABSOLUTE, ABSOLUTE_TEXT);
+    returns(&rt, alloc, &RELOCATABLE, RELOCATABLE_TEXT);
+    returns(&rt, alloc, &LIBRARY, LIBRARY_TEXT);
+    returns(&rt, alloc, &EMPTY, EMPTY_TEXT);
 }
 
 #[test]
-fn a_module_with_every_kind_of_record_is_read_back(rt: HostRuntime) -> Result<(), Fail> {
+fn a_module_with_every_kind_of_record_is_read_back(rt: HostRuntime) {
     let alloc = rt.alloc();
-    returns(&rt, alloc, &EVERY_KIND, EVERY_KIND_TEXT)?;
+    returns(&rt, alloc, &EVERY_KIND, EVERY_KIND_TEXT);
     assert_eq!(rt;
-        rewritten(&rt, alloc, &[&EVERY_KIND])?.as_slice(),
+        rewritten(&rt, alloc, &[&EVERY_KIND]).as_slice(),
         EVERY_KIND.as_slice()
     );
-    Ok(())
 }
 
 #[test]
-fn a_module_with_blocks_of_every_kind_is_read_back(rt: HostRuntime) -> Result<(), Fail> {
+fn a_module_with_blocks_of_every_kind_is_read_back(rt: HostRuntime) {
     let alloc = rt.alloc();
-    returns(&rt, alloc, &BLOCKS, BLOCKS_TEXT)?;
+    returns(&rt, alloc, &BLOCKS, BLOCKS_TEXT);
     assert_eq!(rt;
-        rewritten(&rt, alloc, &[&BLOCKS])?.as_slice(),
+        rewritten(&rt, alloc, &[&BLOCKS]).as_slice(),
         BLOCKS.as_slice()
     );
-    Ok(())
 }
 
 // The record of the offset of the section part begins at 31, with the bytes E2, D7, 2 and 84.
 #[test]
-fn a_file_that_is_cut_anywhere_gives_the_same_module(rt: HostRuntime) -> Result<(), Fail> {
+fn a_file_that_is_cut_anywhere_gives_the_same_module(rt: HostRuntime) {
     let alloc = rt.alloc();
     let file: &[u8] = &RELOCATABLE;
-    let whole = rewritten(&rt, alloc, &[file])?;
+    let whole = rewritten(&rt, alloc, &[file]);
     let cut = [&file[..32], &file[32..35], &file[35..]];
-    assert_eq!(rt; rewritten(&rt, alloc, &cut)?, whole);
+    assert_eq!(rt; rewritten(&rt, alloc, &cut), whole);
     let mut bytes = Vec::new(alloc);
     for byte in file.chunks(1) {
-        bytes.push(byte)?;
+        bytes.push(byte).expect(&rt, "memory");
     }
-    assert_eq!(rt; rewritten(&rt, alloc, &bytes)?, whole);
-    Ok(())
+    assert_eq!(rt; rewritten(&rt, alloc, &bytes), whole);
 }

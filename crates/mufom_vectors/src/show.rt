@@ -1,9 +1,8 @@
 ghost use Rattle.std.specs.Prelude.{◌<◌, ◌^◌, length};
 
-use crate::files::{ABSOLUTE, RELOCATABLE, answers};
+use crate::files::{ABSOLUTE, RELOCATABLE, answers, faulty};
 use std::alloc::Global;
 use std::process::Abort;
-use std::test::Fail;
 
 pub(crate) const ABSOLUTE_TEXT: &[u8] = b"\
       module \"A\" processor \"68000\" maus 4 order M\n\
@@ -36,22 +35,22 @@ pub(crate) fn shows(
     file: &[u8],
     line: &[&str],
     text: &[u8],
-) -> Result<(), Fail>
+)
     requires { length line.now < 2 ^ 32 }
 {
-    answers(rt, alloc, &[(name, file)], line, (0, text, b""))
+    answers(rt, alloc, &[(name, file)], line, (0, text, b""));
 }
 
 #[test]
-fn an_absolute_module_is_shown(rt: HostRuntime) -> Result<(), Fail> {
+fn an_absolute_module_is_shown(rt: HostRuntime) {
     let alloc = rt.alloc();
-    shows(&rt, alloc, "m1", &ABSOLUTE, &["show", "m1"], ABSOLUTE_TEXT)?;
+    shows(&rt, alloc, "m1", &ABSOLUTE, &["show", "m1"], ABSOLUTE_TEXT);
     let line = ["show", "m1", "--no-debug"];
-    shows(&rt, alloc, "m1", &ABSOLUTE, &line, ABSOLUTE_TEXT)
+    shows(&rt, alloc, "m1", &ABSOLUTE, &line, ABSOLUTE_TEXT);
 }
 
 #[test]
-fn a_relocatable_module_is_shown(rt: HostRuntime) -> Result<(), Fail> {
+fn a_relocatable_module_is_shown(rt: HostRuntime) {
     shows(
         &rt,
         rt.alloc(),
@@ -59,11 +58,11 @@ fn a_relocatable_module_is_shown(rt: HostRuntime) -> Result<(), Fail> {
         &RELOCATABLE,
         &["show", "a"],
         RELOCATABLE_TEXT,
-    )
+    );
 }
 
 #[test]
-fn names_after_two_dashes_and_a_dash_alone_are_files(rt: HostRuntime) -> Result<(), Fail> {
+fn names_after_two_dashes_and_a_dash_alone_are_files(rt: HostRuntime) {
     let alloc = rt.alloc();
     shows(
         &rt,
@@ -72,36 +71,29 @@ fn names_after_two_dashes_and_a_dash_alone_are_files(rt: HostRuntime) -> Result<
         &ABSOLUTE,
         &["show", "--", "-x"],
         ABSOLUTE_TEXT,
-    )?;
-    shows(&rt, alloc, "-", &ABSOLUTE, &["show", "-"], ABSOLUTE_TEXT)
-}
-
-// These words are no command, for this reason.
-fn faulty(rt: &impl Abort, alloc: Global, line: &[&str], known: &[u8]) -> Result<(), Fail>
-    requires { length line.now < 2 ^ 32 }
-{
-    answers(rt, alloc, &[("m1", &ABSOLUTE)], line, (2, b"", known))
+    );
+    shows(&rt, alloc, "-", &ABSOLUTE, &["show", "-"], ABSOLUTE_TEXT);
 }
 
 #[test]
-fn words_without_a_command_or_a_file_are_usage_faults(rt: HostRuntime) -> Result<(), Fail> {
+fn words_without_a_command_or_a_file_are_usage_faults(rt: HostRuntime) {
     let alloc = rt.alloc();
     let known = b"usage: no command\n";
-    faulty(&rt, alloc, &[], known)?;
-    faulty(&rt, alloc, &["dmup", "a"], known)?;
+    faulty(&rt, alloc, &[], known);
+    faulty(&rt, alloc, &["dmup", "a"], known);
     let known = b"usage: no file\n";
-    faulty(&rt, alloc, &["dump"], known)
+    faulty(&rt, alloc, &["dump"], known);
 }
 
 #[test]
-fn words_that_name_not_one_file_are_usage_faults(rt: HostRuntime) -> Result<(), Fail> {
+fn words_that_name_not_one_file_are_usage_faults(rt: HostRuntime) {
     let alloc = rt.alloc();
     let known = b"usage: file count\n";
-    faulty(&rt, alloc, &["show", "m1", "m1"], known)?;
+    faulty(&rt, alloc, &["show", "m1", "m1"], known);
     let known = b"usage: stray bracket\n";
-    faulty(&rt, alloc, &["show", "["], known)?;
+    faulty(&rt, alloc, &["show", "["], known);
     let known = b"usage: bad words\n";
-    faulty(&rt, alloc, &["show", "--help"], known)?;
+    faulty(&rt, alloc, &["show", "--help"], known);
     let twice = ["show", "--no-debug", "--no-debug", "m1"];
-    faulty(&rt, alloc, &twice, known)
+    faulty(&rt, alloc, &twice, known);
 }

@@ -1,7 +1,9 @@
-use crate::{Mode, Record, next_record, postfix_of};
+//! Records from bytes, one by one: whole ones with their values, each fault at its place, and an expression.
+
 use mufom_expr::{Function, Letter, Token};
 use mufom_numbers::{Reason, Taken};
-use std::test::Fail;
+use mufom_records::{Mode, Record, next_record, postfix_of};
+use std::process::Abort;
 
 // Whole records, each with the byte E1 after it, in the mode that reads them, and their values.
 const RECORDS: [(Mode, &[u8], &str); 54] = [
@@ -269,20 +271,25 @@ const RECORDS: [(Mode, &[u8], &str); 54] = [
     ),
 ];
 
+// Of each shorter part of the bytes of a record, with one byte after it, more is wanted.
+fn is_wanted_whole(rt: &impl Abort, mode: Mode, bytes: &[u8], want: &str) {
+    for end in 0..bytes.len().saturating_sub(1) {
+        let answer = next_record(&bytes[..end], mode);
+        assert!(rt; matches!(answer, Taken::More), "{want} of {end}");
+    }
+}
+
 #[test]
-fn records_are_read_whole_and_wanted_whole(rt: HostRuntime) -> Result<(), Fail> {
+fn records_are_read_whole_and_wanted_whole(rt: HostRuntime) {
     for (mode, bytes, want) in &RECORDS {
-        for end in 0..bytes.len().saturating_sub(1) {
-            let answer = next_record(&bytes[..end], *mode);
-            assert!(rt; matches!(answer, Taken::More), "{want} of {end}");
-        }
+        is_wanted_whole(&rt, *mode, bytes, want);
         let Taken::Got(record, used) = next_record(bytes, *mode) else {
             panic!(rt; "{want}");
         };
-        assert_eq!(rt; format!(in rt.alloc(); "{record:?}")?.as_str(), *want);
+        let text = format!(in rt.alloc(); "{record:?}").expect(&rt, "memory");
+        assert_eq!(rt; text.as_str(), *want);
         assert_eq!(rt; used + 1, bytes.len());
     }
-    Ok(())
 }
 
 // Inputs with a fault, the position at which it is named, and its reason.
@@ -451,11 +458,12 @@ fn the_first_fault_is_named_at_its_place(rt: HostRuntime) {
     }
 }
 
-// The program counter set to an expression of 255 tokens, and one token more.
-fn long_expression() -> [u8; 259] {
+/// The program counter of a section set to an expression of 255 tokens, and one token more.
+pub(crate) fn long_expression(section: u8) -> [u8; 259] {
     let mut bytes = [0; 259];
     bytes[0] = 0xE2;
     bytes[1] = 0xD0;
+    bytes[2] = section;
     for i in 0..127 {
         bytes[2 * i + 5] = 0xA5;
     }
@@ -464,7 +472,7 @@ fn long_expression() -> [u8; 259] {
 
 #[test]
 fn an_expression_has_at_most_255_tokens(rt: HostRuntime) {
-    let mut bytes = long_expression();
+    let mut bytes = long_expression(0);
     assert!(rt;
         matches!(
             next_record(&bytes, Mode::Body),

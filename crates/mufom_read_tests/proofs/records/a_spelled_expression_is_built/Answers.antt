@@ -2,7 +2,7 @@ use Rattle.std.proofs.Common.{[], ◌∷◌, refl, inl, arith}
 use Rattle.mufom_expr.specs.declared.token.Letter.TheVariants.{P, X}
 use Rattle.mufom_expr.specs.Tree.{Tree, variable, two, minus}
 use Rattle.mufom_expr.specs.Spelled.{SpellsTree}
-use Rattle.mufom_records.proofs.tests.a_spelled_expression_is_built.Goals as goal
+use Rattle.mufom_read_tests.proofs.records.a_spelled_expression_is_built.Goals as goal
 
 -- X 11, P 1, -
 abbrev difference : Tree
