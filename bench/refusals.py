@@ -1,10 +1,10 @@
-"""Tries the examples of docs/REFUSALS.md with the program.
+"""Tries the examples of docs/REFUSALS.md that are written in one of the forms of that page.
 
     python3 bench/refusals.py PROGRAM
 
-Makes each example of the tables, gives it to `check`, and compares the line on standard error with
-the row. The last line has the number of examples that hold and of those that do not; the status is
-0 where all hold.
+Makes each of them, gives it to the program, and compares the line on standard error with the row.
+Examples that are told in words are passed over. The last line has the number of examples that hold
+and of those that do not; the status is 0 where all hold.
 """
 
 import os

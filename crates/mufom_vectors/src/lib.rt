@@ -1,8 +1,8 @@
-//! Worked runs of the program as tests, each named by what it shows: the files and texts come from
-//! outside. They state nothing that a contract states.
+//! Worked runs of the program as tests, each named by what it shows: the files and texts were not made
+//! by the program. They state nothing that a contract states.
 //!
-//! It stands on all other crates, and so has the one law that joins the reader and the writer: what is
-//! written of a module is read back ([`read_back`]).
+//! It stands on the reader, the writer and the top call, and so has the one law that joins reading and
+//! writing: what is written of a module is read back ([`read_back`]).
 #![tactic(auto)]
 
 #[cfg(test)]
