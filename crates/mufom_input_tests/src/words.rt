@@ -226,6 +226,10 @@ fn options_of_the_other_commands(rt: HostRuntime) {
     assert_eq!(rt; (make.count, make.files.len()), (65_536, 0));
 }
 
+fn line_fails(rt: &impl Abort, alloc: Global, line: &[&str; 5], fault: UsageFault) {
+    fails(rt, alloc, line, fault);
+}
+
 #[test]
 fn faults_of_groups_and_members(rt: HostRuntime) {
     let alloc = rt.alloc();
@@ -243,7 +247,7 @@ fn faults_of_groups_and_members(rt: HostRuntime) {
         (["dump", "--", "[", "]", "-o"], UsageFault::EmptyGroup),
         (["dump", "[", "]", "-x", "a"], UsageFault::BadWords),
     ] {
-        fails(&rt, alloc, &line, fault);
+        line_fails(&rt, alloc, &line, fault);
     }
 }
 
