@@ -1,65 +1,67 @@
 use crate::*;
 use arrayvec::ArrayVec;
-use mufom_expr::{Builder, ExprFault, Postfix, Token};
+use mufom_expr::{Postfix, Token};
 use mufom_numbers::{Bytes, List};
 use std::alloc::Global;
+use std::process::Abort;
 
 // The expression that is this number.
-fn expression(alloc: Global, number: u64) -> Result<Postfix, ExprFault> {
-    let mut builder = Builder::new(alloc);
-    builder.push(Token::Number(number))?;
-    builder.finish()
+fn expression(rt: &impl Abort, alloc: Global, number: u64) -> Postfix {
+    Postfix::constant(alloc, number).expect(rt, "memory")
 }
 
 // A list of one value of the name 0.
-fn value(alloc: Global, number: u64) -> Result<List<DebugItem>, ExprFault> {
-    let mut items = List::new(alloc);
-    let value = expression(alloc, number)?;
-    items
-        .push(DebugItem::Value { name: 0, value })
-        .map_err(|_| ExprFault::NoMemory)?;
-    Ok(items)
+fn value(rt: &impl Abort, alloc: Global, number: u64) -> List<DebugItem> {
+    let value = expression(rt, alloc, number);
+    List::single(alloc, DebugItem::Value { name: 0, value }).expect(rt, "memory")
 }
 
-// A function whose begin is at 1 and whose end at 4, with a value 2 and a source file that holds a
-// value 3.
-fn function(alloc: Global) -> Result<List<DebugItem>, ExprFault> {
-    let source = Block {
+// A source file that holds a value 3.
+fn source(rt: &impl Abort, alloc: Global) -> Block {
+    Block {
         head: BlockHead::Source {
             numbers: ArrayVec::new(),
         },
         name: Bytes::new(alloc),
-        items: value(alloc, 3)?,
+        items: value(rt, alloc, 3),
         end: None,
-    };
-    let mut inner = value(alloc, 2)?;
+    }
+}
+
+// A function whose begin is at 1 and whose end at 4, with a value 2 and a source file that holds a
+// value 3.
+fn function(rt: &impl Abort, alloc: Global) -> List<DebugItem> {
+    let mut inner = value(rt, alloc, 2);
     inner
-        .push(DebugItem::Block(source))
-        .map_err(|_| ExprFault::NoMemory)?;
+        .push(DebugItem::Block(source(rt, alloc)))
+        .expect(rt, "memory");
     let function = Block {
         head: BlockHead::Global {
             stack: 0,
             type_index: 0,
-            offset: expression(alloc, 1)?,
+            offset: expression(rt, alloc, 1),
         },
         name: Bytes::new(alloc),
         items: inner,
-        end: Some(expression(alloc, 4)?),
+        end: Some(expression(rt, alloc, 4)),
     };
-    let mut items = List::new(alloc);
-    items
-        .push(DebugItem::Block(function))
-        .map_err(|_| ExprFault::NoMemory)?;
-    Ok(items)
+    List::single(alloc, DebugItem::Block(function)).expect(rt, "memory")
 }
 
 #[test]
-fn addresses_come_in_order(rt: HostRuntime) {
-    let items = function(rt.alloc()).expect(&rt, "memory");
+fn a_block_in_a_block_is_two_deep(rt: HostRuntime) {
+    let items = function(&rt, rt.alloc());
     let items = items.as_slice();
     assert!(rt; !is_within_depth(items, 1));
     assert!(rt; is_within_depth(items, 2));
     assert_eq!(rt; depth(items), 2);
+}
+
+#[test]
+fn addresses_come_in_order(rt: HostRuntime) {
+    let items = function(&rt, rt.alloc());
+    let items = items.as_slice();
+    assert!(rt; is_within_depth(items, 2));
     let mut found = addresses(rt.alloc(), items).expect(&rt, "memory");
     for number in 1..5u64 {
         let expression = found.next().expect(&rt, "an address");
@@ -69,15 +71,18 @@ fn addresses_come_in_order(rt: HostRuntime) {
 }
 
 #[test]
-fn block_heads_have_kinds_and_offsets(rt: HostRuntime) {
-    let offset = expression(rt.alloc(), 7).expect(&rt, "memory");
+fn a_part_of_a_section_has_a_kind_and_an_offset(rt: HostRuntime) {
     let head = BlockHead::Section {
         section_type: 0,
         section: 0,
-        offset,
+        offset: expression(&rt, rt.alloc(), 7),
     };
     assert_eq!(rt; head.kind(), 11);
     assert!(rt; head.offset().is_some());
+}
+
+#[test]
+fn a_module_has_a_kind_and_no_offset(rt: HostRuntime) {
     assert_eq!(rt; BlockHead::Module.kind(), 3);
     assert!(rt; BlockHead::Module.offset().is_none());
 }
