@@ -390,6 +390,7 @@ impl Prefix {
     }
 
     // Judges the record that begins after the prefix, and adds it.
+    #[inline(always)]
     fn take(&mut self, alloc: Global, place: Location, next: &SeenRecord) -> Result<Next, NoMemory>
         requires known { (prefix : List prefixes.Step) × IsPrefixOf self.old prefix
             × (as_location place ≡ prefixes.location_after prefix) }
@@ -413,6 +414,7 @@ impl Prefix {
     }
 
     // Takes the record at the start of the rest.
+    #[inline(always)]
     fn read(&mut self, alloc: Global, place: Location, rest: &[u8]) -> Result<Next, NoMemory>
         requires known { (prefix : List prefixes.Step) × IsPrefixOf self.old prefix
             × (as_location place ≡ prefixes.location_after prefix) }
@@ -493,6 +495,7 @@ impl Prefix {
     }
 
     // Takes what stands after the prefix.
+    #[inline(always)]
     fn step(&mut self, alloc: Global, reads_debug: bool, rest: &[u8]) -> Result<Next, NoMemory>
         requires known { (prefix : List prefixes.Step) × IsPrefixOf self.old prefix }
         requires fits { self.old.size + length rest.now ≤ file_limit }
