@@ -15,6 +15,6 @@ pub mod SameWorks
 pub mod StageLaws
 pub mod MadeLaws
 pub mod Determined
-pub mod Headline
+pub mod LocatingDone
 pub mod AddressLaws
 pub mod MakeLaws

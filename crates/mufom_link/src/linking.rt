@@ -134,8 +134,9 @@ fn copy_modules(alloc: Global, list: &[Module]) -> Result<Vec<Module>, NoMemory>
 /// means, whatever modules stand around it and wherever its sections are placed. The modules of the
 /// list stay as they are; [`link_owned`] takes them, and copies only the references that it keeps.
 ///
-/// The answer is a refusal exactly where the list can't be linked, and the first that applies:
-/// `Mismatch`, then `Duplicate`, then `DuplicateStart`.
+/// A refusal other than `NoMemory` is answered only where the list can't be linked, and is the first that
+/// applies: `Mismatch`, then `Duplicate`, then `DuplicateStart`. A list that can't be linked is never linked.
+/// `NoMemory` may be answered of any list.
 ///
 /// The list must not be empty, the name must have at most 65,535 bytes, and the weights of the
 /// modules and the length of the name must add up to less than 2^32:

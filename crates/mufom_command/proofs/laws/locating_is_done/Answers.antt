@@ -1,4 +1,4 @@
-use Rattle.mufom_command.proofs.Headline.{locating-done}
+use Rattle.mufom_command.proofs.LocatingDone.{locating-done}
 use Rattle.mufom_command.proofs.laws.locating_is_done.Goals as goal
 
 pub returns : goal.returns
