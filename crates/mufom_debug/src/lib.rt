@@ -12,8 +12,6 @@ mod gather;
 mod item;
 mod iterator;
 mod laws;
-#[cfg(test)]
-mod tests;
 
 pub use deepest::{depth, is_within_depth};
 pub use gather::addresses;

@@ -32,6 +32,3 @@ pub use mentions::Mentions;
 pub use postfix::Postfix;
 pub use read::read_token;
 pub use token::{FieldKind, Function, Letter, Token, operands};
-
-#[cfg(test)]
-mod tests;

@@ -3,8 +3,6 @@ mod calls;
 mod files;
 mod names;
 mod output;
-#[cfg(test)]
-mod tests;
 
 ghost use Rattle.std.specs.Prelude.{◌≡◌, ◌||◌, min, length, IfOk, is_err, option_map};
 ghost use Rattle.mufom_host.specs.World.{optional, HasCause, AtMost, Reads, Opens, Writes, Creates, Finishes, Grows, KeepsAllButLeft, KeepsAllButOpened, KeepsAllButMaking, KeepsAllButCreated, KeepsAllButMade, KeepsAllButOut, KeepsAllButErr, KeepsAllButReads, KeepsAllButWrites, KeepsAllButComplaints};

@@ -81,22 +81,3 @@ impl<'a> NameIndex<'a> {
         Some(self.positions[slot])
     }
 }
-
-#[cfg(test)]
-mod tests {
-    use super::*;
-
-    // Names, and their positions in an index to which `f` was added as 7 and then as 9, and `g` as 9.
-    const PLACES: [(&[u8], Option<u32>); 3] = [(b"f", Some(7)), (b"g", Some(9)), (b"h", None)];
-
-    #[test]
-    fn a_name_keeps_its_first_position(rt: HostRuntime) {
-        let mut index = NameIndex::new(rt.alloc());
-        assert_eq!(rt; index.add(b"f", 7), Ok(None));
-        assert_eq!(rt; index.add(b"f", 9), Ok(Some(7)));
-        assert_eq!(rt; index.add(b"g", 9), Ok(None));
-        for (name, want) in &PLACES {
-            assert_eq!(rt; &index.find(name), want, "{name:?}");
-        }
-    }
-}

@@ -26,6 +26,3 @@ pub use reason::Reason;
 pub use spelling::{id_lead, number_length, number_spelling, read_id, read_number};
 pub use taken::{Span, Taken};
 pub use text::Text;
-
-#[cfg(test)]
-mod tests;

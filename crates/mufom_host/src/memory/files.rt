@@ -83,10 +83,3 @@ impl Files {
         count
     }
 }
-
-#[cfg(test)]
-impl Files {
-    pub fn left(&self) -> &[u8] {
-        rest(self.files.as_slice(), self.place, self.at)
-    }
-}

@@ -60,15 +60,3 @@ impl Names {
         true
     }
 }
-
-#[cfg(test)]
-impl Names {
-    /// The bytes of all names after one another, where they are known.
-    pub fn known(&self) -> Option<&[u8]> {
-        if self.is_known {
-            Some(self.bytes.as_slice())
-        } else {
-            None
-        }
-    }
-}

@@ -1,4 +1,6 @@
-use crate::{
+//! Numbers and strings in each spelling, and lists, byte strings and texts.
+
+use mufom_numbers::{
     Bytes, List, Reason, Span, Taken, Text, id_lead, number_spelling, read_id, read_number,
 };
 use std::alloc::Global;

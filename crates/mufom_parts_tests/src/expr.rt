@@ -1,13 +1,16 @@
-ghost use Rattle.std.specs.Prelude.{◌≡◌};
+//! Tokens and expressions: their bytes, values, texts, copies, and the sequences that are refused.
 
-use crate::Function::{
+use mufom_expr::Function::{
     Abs, And, Divide, Equal, Greater, Less, Max, Min, Minus, Mod, Neg, Or, Plus, Times, Unequal,
     Xor,
 };
-use crate::Token::{Fun, Number, Var};
-use crate::{Builder, Env, ExprFault, Function, Letter, Postfix, Token, VarMap, infix, read_token};
+use mufom_expr::Token::{Fun, Number, Var};
+use mufom_expr::{
+    Builder, Env, ExprFault, Function, Letter, Postfix, Token, VarMap, infix, read_token,
+};
 use mufom_numbers::{Reason, Taken};
 use std::alloc::Global;
+use std::process::Abort;
 
 const R0: Token = Var(Letter::R, 0);
 
@@ -195,15 +198,26 @@ fn a_builder_refuses_what_is_no_expression(rt: HostRuntime) {
     assert_eq!(rt; refused(&[Number(1)]), None);
 }
 
+// Why the builder does not take the token, where it does not.
+fn fault(builder: &mut Builder, token: Token) -> Option<ExprFault> {
+    builder.push(token).err()
+}
+
+// A builder of 255 tokens.
+fn full(rt: &impl Abort, alloc: Global) -> Builder {
+    let mut builder = Builder::new(alloc);
+    assert!(rt; fault(&mut builder, Number(1)).is_none());
+    for _ in 0..254 {
+        assert!(rt; fault(&mut builder, Fun(Neg)).is_none());
+    }
+    builder
+}
+
 #[test]
 fn a_builder_takes_255_tokens(rt: HostRuntime) {
-    let mut builder = Builder::new(rt.alloc());
-    assert_eq!(rt; builder.push(Number(1)), Ok(()));
-    for _ in 0..254 {
-        assert_eq!(rt; builder.push(Fun(Neg)), Ok(()));
-    }
-    assert_eq!(rt; builder.push(Number(1)), Err(ExprFault::TooLong));
-    assert_eq!(rt; builder.push(Fun(Plus)), Err(ExprFault::TooLong));
+    let mut builder = full(&rt, rt.alloc());
+    assert_eq!(rt; fault(&mut builder, Number(1)), Some(ExprFault::TooLong));
+    assert_eq!(rt; fault(&mut builder, Fun(Plus)), Some(ExprFault::TooLong));
     assert!(rt; builder.finish().is_ok());
 }
 
@@ -368,16 +382,34 @@ fn expressions_are_copied_and_renamed(rt: HostRuntime) {
     assert_eq!(rt; five.tokens(), [Number(5)].as_slice());
 }
 
+// Whether a division of the expression of these tokens has a divisor of value 0.
+fn divides_by_zero(alloc: Global, tokens: &[Token], r0: Option<u64>, width: u32) -> Option<bool> {
+    if !(8..=64).contains(&width) {
+        return None;
+    }
+    match built(alloc, tokens) {
+        Ok(expression) => Some(expression.divides_by_zero(&All(r0), width)),
+        Err(_) => None,
+    }
+}
+
+const BY_VARIABLE: &[Token] = &[Number(5), R0, Fun(Mod)];
+
+const INSIDE: &[Token] = &[Number(5), Number(0), Fun(Divide), Number(1), Fun(Plus)];
+
+// Tokens, the value of the variable, the width, and whether a divisor has the value 0.
+const DIVISORS: [(&[Token], Option<u64>, u32, bool); 5] = [
+    (BY_VARIABLE, Some(256), 8, true),
+    (BY_VARIABLE, Some(257), 8, false),
+    (BY_VARIABLE, None, 8, false),
+    (INSIDE, None, 16, true),
+    (&[Number(0)], None, 16, false),
+];
+
 #[test]
 fn a_divisor_of_value_0_is_found(rt: HostRuntime) {
-    let alloc = rt.alloc();
-    let by_zero = built(alloc, &[Number(5), R0, Fun(Mod)]).expect(&rt, "an expression");
-    assert!(rt; by_zero.divides_by_zero(&All(Some(256)), 8));
-    assert!(rt; !by_zero.divides_by_zero(&All(Some(257)), 8));
-    assert!(rt; !by_zero.divides_by_zero(&All(None), 8));
-    let two = [Number(5), Number(0), Fun(Divide), Number(1), Fun(Plus)];
-    let inside = built(alloc, &two).expect(&rt, "an expression");
-    assert!(rt; inside.divides_by_zero(&All(None), 16));
-    let zero = built(alloc, &[Number(0)]).expect(&rt, "an expression");
-    assert!(rt; !zero.divides_by_zero(&All(None), 16));
+    for (tokens, r0, width, want) in &DIVISORS {
+        let found = divides_by_zero(rt.alloc(), tokens, *r0, *width);
+        assert_eq!(rt; found, Some(*want), "{tokens:?} at {width}");
+    }
 }

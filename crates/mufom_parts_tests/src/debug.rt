@@ -1,5 +1,7 @@
-use crate::*;
+//! How deep debug items stand, and their addresses in order.
+
 use arrayvec::ArrayVec;
+use mufom_debug::{Block, BlockHead, DebugItem, addresses, depth, is_within_depth};
 use mufom_expr::{Postfix, Token};
 use mufom_numbers::{Bytes, List};
 use std::alloc::Global;

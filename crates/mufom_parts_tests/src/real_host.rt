@@ -1,0 +1,47 @@
+//! A file of the system that is written and read back, and texts that are printed.
+
+use mufom_host::{Failed, Host, RealHost, Sink, Source};
+use std::fs;
+use std::test::Fail;
+
+const NAME: &str = "real_host_test.tmp";
+
+// Makes the file with these bytes in two chunks, and states whether all went well.
+fn makes(host: &mut RealHost, first: &[u8], second: &[u8]) -> bool {
+    host.create(NAME).is_ok()
+        && host.write(first) == Ok(first.len())
+        && host.write(second) == Ok(second.len())
+        && host.finish().is_ok()
+}
+
+// How many bytes of the file one read gives, where it opens.
+fn reads(host: &mut RealHost, buffer: &mut [u8]) -> Result<usize, Failed> {
+    host.open(NAME)?;
+    host.read(buffer)
+}
+
+#[test]
+fn a_file_is_written_and_read_back(rt: HostRuntime) -> Result<(), Fail> {
+    let mut host = RealHost::new(rt.clone()?);
+    let mut buffer = [0u8; 16];
+    assert_eq!(rt;
+        reads(&mut host, &mut buffer),
+        Err(Failed),
+        "it is not there"
+    );
+    assert!(rt; makes(&mut host, b"written ", b"in two"));
+    assert_eq!(rt; reads(&mut host, &mut buffer), Ok(14));
+    assert_eq!(rt; buffer, *b"written in two\0\0");
+    assert!(rt; makes(&mut host, b"", b""), "it is emptied");
+    assert_eq!(rt; reads(&mut host, &mut buffer), Ok(0));
+    fs::remove_file(&rt, NAME)?;
+    Ok(())
+}
+
+#[test]
+fn texts_are_printed(rt: HostRuntime) -> Result<(), Fail> {
+    let mut host = RealHost::new(rt.clone()?);
+    assert_eq!(rt; host.print(b"printed\n"), Ok(()));
+    assert_eq!(rt; host.complain(b"complained\n"), Ok(()));
+    Ok(())
+}
