@@ -1,37 +1,28 @@
 //! Copies of a section and of debug items.
 
-use crate::draft::{bytes, constant, item, named};
+use crate::files::{FOUR, Records, module};
 use mufom_copies::{copy_debug_items, copy_section};
-use mufom_debug::{Block, BlockHead, DebugItem};
-use mufom_numbers::List;
-use mufom_sections::Section;
-use std::alloc::Global;
-use std::process::Abort;
 
-// A block of a global function with a name in it.
-fn items(rt: &impl Abort, alloc: Global) -> List<DebugItem> {
-    let mut inner = List::new(alloc);
-    named(rt, alloc, &mut inner, b"n");
-    let head = BlockHead::Global {
-        stack: 1,
-        type_index: 2,
-        offset: constant(rt, alloc, 3),
-    };
-    let block = DebugItem::Block(Block {
-        head,
-        name: bytes(rt, alloc, b"f"),
-        items: inner,
-        end: Some(constant(rt, alloc, 7)),
-    });
-    let mut items = List::new(alloc);
-    item(rt, &mut items, block);
-    items
-}
+// An absolute section `code` of four bytes at 0100, aligned to 2, and a block of a global function, which ends at 7,
+// with a name in it.
+const ENTRIES: Records<'static> = (
+    FOUR,
+    [
+        b"",
+        b"",
+        b"\xE6\x01\xC1\xD3\x04code\xE7\x01\x02\xE2\xD3\x01\x04\xE2\xCC\x01\x82\x01\x00",
+        b"",
+        b"\xF8\x04\x00\x01f\x01\x02\x03\xF0\x20\x01n\xF9\x07",
+        b"",
+        b"",
+    ],
+);
 
 #[test]
 fn debug_items_are_copied(rt: HostRuntime) {
     let alloc = rt.alloc();
-    let items = items(&rt, alloc);
+    let module = module(&rt, alloc, &ENTRIES);
+    let items = &module.parts().debug;
     let copies = copy_debug_items(alloc, items.as_slice()).expect(&rt, "memory");
     let text = format!(in alloc; "{copies:?}").expect(&rt, "memory");
     let wanted = format!(in alloc; "{items:?}").expect(&rt, "memory");
@@ -41,15 +32,9 @@ fn debug_items_are_copied(rt: HostRuntime) {
 #[test]
 fn a_section_is_copied(rt: HostRuntime) {
     let alloc = rt.alloc();
-    let section = Section {
-        name: bytes(&rt, alloc, b"code"),
-        absolute: true,
-        purpose: None,
-        size: 4,
-        align: 2,
-        base: Some(256),
-    };
-    let copy = copy_section(alloc, &section).expect(&rt, "memory");
+    let module = module(&rt, alloc, &ENTRIES);
+    let section = module.parts().sections.get(0).expect(&rt, "a section");
+    let copy = copy_section(alloc, section).expect(&rt, "memory");
     assert_eq!(rt; copy.name.as_slice(), b"code".as_slice());
     assert_eq!(rt; (copy.size, copy.align, copy.base), (4, 2, Some(256)));
 }

@@ -1,277 +1,185 @@
 //! Three modules with something of every kind, linked from copies and from the modules themselves.
 
-use crate::checks::{
-    ends_with, gives_value, has_value, is_field, is_part_of, notes_name, repeats_field,
-    sets_counter, sets_section,
-};
-use crate::draft::{
-    PLUS, block, bytes, empty, field, item, load, module, named, note, noted, only, part, public,
-    reference, section, sum, try_link, variable,
-};
-use arrayvec::ArrayVec;
-use mufom_debug::{Block, BlockHead, DebugItem};
-use mufom_expr::{FieldKind, Letter, Token};
-use mufom_link::{LinkRefusal, link_owned, may_be_linked};
-use mufom_loads::{Item, Load};
-use mufom_module::{Module, Parts};
-use mufom_names::{Public, Reference, Weak};
-use mufom_numbers::List;
-use mufom_sections::{Purpose, Section};
-use std::alloc::Global;
-use std::process::Abort;
+use crate::files::{FOUR, Records, links_to};
 
-// The block of a section, with a name, a note of it, and a value of the name before it.
-fn section_part(rt: &impl Abort, alloc: Global) -> DebugItem {
-    let items = noted(rt, alloc, b"v", sum(rt, alloc, Letter::X, 0, 3));
-    part(rt, alloc, 0, items, sum(rt, alloc, Letter::R, 0, 2))
-}
+// An absolute section `p` of eight bytes of read-only memory at 0100, and `t` of 40 bytes.
+const SECTIONS: &[u8] = b"\
+    \xE6\x01\xC1\xD3\xD2\x01p\xE2\xD3\x01\x08\xE2\xCC\x01\x82\x01\x00\
+    \xE6\x02\xC3\x01t\xE2\xD3\x02\x28";
 
-// That block in one of a local function.
-fn local_part(rt: &impl Abort, alloc: Global) -> DebugItem {
-    let head = BlockHead::Local {
-        stack: 5,
-        type_index: 6,
-        offset: variable(rt, alloc, Letter::I, 0),
-    };
-    let items = only(rt, alloc, section_part(rt, alloc));
-    block(rt, alloc, head, items, None)
-}
-
-// That block in one of a global function.
-fn global_part(rt: &impl Abort, alloc: Global) -> DebugItem {
-    let head = BlockHead::Global {
-        stack: 7,
-        type_index: 8,
-        offset: variable(rt, alloc, Letter::R, 0),
-    };
-    let items = only(rt, alloc, local_part(rt, alloc));
-    let end = variable(rt, alloc, Letter::S, 0);
-    block(rt, alloc, head, items, Some(end))
-}
-
-// That block in one of a source file.
-fn source_part(rt: &impl Abort, alloc: Global) -> DebugItem {
-    let mut numbers: ArrayVec<u64, 6> = ArrayVec::new();
-    numbers.push(9);
-    let items = only(rt, alloc, global_part(rt, alloc));
-    block(rt, alloc, BlockHead::Source { numbers }, items, None)
-}
-
-// Blocks of all kinds, each in the one before it, with two names, a note and a value.
-fn debug_items(rt: &impl Abort, alloc: Global) -> List<DebugItem> {
-    let mut items = List::new(alloc);
-    named(rt, alloc, &mut items, b"u");
-    item(rt, &mut items, source_part(rt, alloc));
-    let whole = block(rt, alloc, BlockHead::Module, items, None);
-    only(rt, alloc, whole)
-}
-
-// A placed section of read-only memory, and one that is not placed.
-fn two_sections(rt: &impl Abort, alloc: Global) -> List<Section> {
-    let mut sections = List::new(alloc);
-    let mut placed = section(rt, alloc, b"p", 8);
-    placed.absolute = true;
-    placed.base = Some(256);
-    placed.purpose = Some(Purpose::Rom);
-    sections.push(placed).expect(rt, "memory");
-    let other = section(rt, alloc, b"t", 40);
-    sections.push(other).expect(rt, "memory");
-    sections
-}
-
-// A public of this name, with a note.
-fn noted_public(rt: &impl Abort, alloc: Global, its: &[u8]) -> List<Public> {
-    let mut publics = List::new(alloc);
-    let value = sum(rt, alloc, Letter::L, 1, 4);
-    let mut its = public(rt, alloc, its, value);
-    its.notes.push(note(7, 3)).expect(rt, "memory");
-    publics.push(its).expect(rt, "memory");
-    publics
-}
-
-// A weak reference with a note, and a strong one to b.
-fn two_references(rt: &impl Abort, alloc: Global) -> List<Reference> {
-    let mut references = List::new(alloc);
-    let weak = Weak {
-        size: 2,
-        default: 9,
-    };
-    let mut wanted = reference(rt, alloc, b"w", Some(weak));
-    wanted.notes.push(note(8, 4)).expect(rt, "memory");
-    references.push(wanted).expect(rt, "memory");
-    let strong = reference(rt, alloc, b"b", None);
-    references.push(strong).expect(rt, "memory");
-    references
-}
-
-// A literal, and a field of the program counter.
-fn two_items(rt: &impl Abort, alloc: Global) -> List<Item> {
-    let mut items = List::new(alloc);
-    let literal = Item::Literal(bytes(rt, alloc, &[4]));
-    items.push(literal).expect(rt, "memory");
-    let field = Item::Field {
-        kind: FieldKind::Signed,
-        value: variable(rt, alloc, Letter::P, 1),
-        size: 2,
-    };
-    items.push(field).expect(rt, "memory");
-    items
-}
+// Blocks of all kinds, each in the one before it: a module with the name `u`, a source file, a global function, a
+// local one, and a part of the first section. There stand the name `v`, a note of it, and a value of `u`.
+const DEBUG: &[u8] = b"\
+    \xF8\x03\x00\x01b\
+    \xF0\x20\x01u\
+    \xF8\x05\x00\x01b\x09\
+    \xF8\x04\x00\x01b\x07\x08\xD2\x01\
+    \xF8\x06\x00\x01b\x05\x06\xC9\x20\
+    \xF8\x0B\x00\x01b\x01\x01\xD2\x01\
+    \xF0\x21\x01v\
+    \xF1\xCE\x21\x00\x07\x0C\
+    \xE2\xCE\x20\xD8\x0B\x03\xA5\
+    \xF9\xD2\x01\x02\xA5\
+    \xF9\
+    \xF9\xD3\x01\
+    \xF9\
+    \xF9";
 
 // A load of each kind, and a field of the second reference.
-fn all_loads(rt: &impl Abort, alloc: Global) -> List<Load> {
-    let mut loads = List::new(alloc);
-    load(rt, &mut loads, Load::SetSection(1));
-    let value = sum(rt, alloc, Letter::R, 1, 2);
-    load(rt, &mut loads, Load::SetPc { section: 1, value });
-    let literal = bytes(rt, alloc, &[1, 2, 3]);
-    load(rt, &mut loads, Load::One(Item::Literal(literal)));
-    let items = two_items(rt, alloc);
-    load(rt, &mut loads, Load::Repeat { count: 3, items });
-    let value = variable(rt, alloc, Letter::X, 1);
-    load(rt, &mut loads, field(FieldKind::Unsigned, 4, value));
-    loads
-}
+const LOADS: &[u8] = b"\
+    \xE5\x02\
+    \xE2\xD0\x02\xD2\x02\x02\xA5\
+    \xED\x03\x01\x02\x03\
+    \xF7\x03\xE4\x01\x04\xBA\xD0\x02\x90\x02\xBB\
+    \xE4\xBC\xD8\x0C\x90\x04\xBD";
 
-// A module with something of every kind, whose public has this name.
-fn full(rt: &impl Abort, alloc: Global, its: &[u8]) -> Module {
-    let mut parts = empty(rt, alloc);
-    parts.ext = bytes(rt, alloc, its);
-    parts.sections = two_sections(rt, alloc);
-    parts.names.publics = noted_public(rt, alloc, its);
-    parts.names.references = two_references(rt, alloc);
-    parts.debug = debug_items(rt, alloc);
-    parts.loads = all_loads(rt, alloc);
-    module(rt, parts)
-}
+// The public `a` with a note, a common `w` with a note, and the reference `b`.
+const A: Records<'static> = (
+    FOUR,
+    [
+        b"a",
+        b"",
+        SECTIONS,
+        b"\
+    \xE8\x20\x01a\xF1\xC9\x20\x00\x07\x03\xE2\xC9\x20\xCC\x02\x04\xA5\
+    \xE9\x0B\x01w\xF1\xD8\x0B\x00\x08\x04\xF4\x0B\x02\x09\
+    \xE9\x0C\x01b",
+        DEBUG,
+        LOADS,
+        b"",
+    ],
+);
 
-// Three of them, with the publics a, b and c.
-fn three(rt: &impl Abort, alloc: Global) -> Vec<Module> {
-    let mut list = Vec::new(alloc);
-    list.push(full(rt, alloc, b"a")).expect(rt, "memory");
-    list.push(full(rt, alloc, b"b")).expect(rt, "memory");
-    list.push(full(rt, alloc, b"c")).expect(rt, "memory");
-    list
-}
+// As that one, with the public `b`.
+const B: Records<'static> = (
+    FOUR,
+    [
+        b"b",
+        b"",
+        SECTIONS,
+        b"\
+    \xE8\x20\x01b\xF1\xC9\x20\x00\x07\x03\xE2\xC9\x20\xCC\x02\x04\xA5\
+    \xE9\x0B\x01w\xF1\xD8\x0B\x00\x08\x04\xF4\x0B\x02\x09\
+    \xE9\x0C\x01b",
+        DEBUG,
+        LOADS,
+        b"",
+    ],
+);
 
-// The link that takes the modules of the list, where the list may be linked.
-fn try_link_owned(alloc: Global, list: Vec<Module>, name: &[u8]) -> Result<Module, LinkRefusal> {
-    if !may_be_linked(&list, name) {
-        return Err(LinkRefusal::NoMemory);
-    }
-    link_owned(alloc, list, name)
-}
+// As that one, with the public `c`.
+const C: Records<'static> = (
+    FOUR,
+    [
+        b"c",
+        b"",
+        SECTIONS,
+        b"\
+    \xE8\x20\x01c\xF1\xC9\x20\x00\x07\x03\xE2\xC9\x20\xCC\x02\x04\xA5\
+    \xE9\x0B\x01w\xF1\xD8\x0B\x00\x08\x04\xF4\x0B\x02\x09\
+    \xE9\x0C\x01b",
+        DEBUG,
+        LOADS,
+        b"",
+    ],
+);
 
-// The blocks of the module, each by its only or its second item, down to the block of a section.
-fn section_block(item: &DebugItem) -> Option<&Block> {
-    let DebugItem::Block(whole) = item else {
-        return None;
-    };
-    let Some(DebugItem::Block(source)) = whole.items.get(1) else {
-        return None;
-    };
-    let Some(DebugItem::Block(global)) = source.items.get(0) else {
-        return None;
-    };
-    let Some(DebugItem::Block(local)) = global.items.get(0) else {
-        return None;
-    };
-    match local.items.get(0) {
-        Some(DebugItem::Block(part)) => Some(part),
-        _ => None,
-    }
-}
+// The sections of the second module are 3 and 4, those of the third 5 and 6.
+const ALL_SECTIONS: &[u8] = b"\
+    \xE6\x01\xC1\xD3\xD2\x01p\xE2\xD3\x01\x08\xE2\xCC\x01\x82\x01\x00\
+    \xE6\x02\xC3\x01t\xE2\xD3\x02\x28\
+    \xE6\x03\xC1\xD3\xD2\x01p\xE2\xD3\x03\x08\xE2\xCC\x03\x82\x01\x00\
+    \xE6\x04\xC3\x01t\xE2\xD3\x04\x28\
+    \xE6\x05\xC1\xD3\xD2\x01p\xE2\xD3\x05\x08\xE2\xCC\x05\x82\x01\x00\
+    \xE6\x06\xC3\x01t\xE2\xD3\x06\x28";
 
-// The publics of the link of the three are moved, and its references merged.
-fn expect_names(rt: &impl Abort, parts: &Parts) {
-    assert_eq!(rt; parts.ext.as_slice(), &b"a"[..]);
-    assert_eq!(rt; parts.sections.len(), 6);
-    let publics = parts.names.publics.as_slice();
-    assert_eq!(rt; publics.len(), 3);
-    assert_eq!(rt; publics[2].name.as_slice(), &b"c"[..]);
-    assert_eq!(rt; publics[2].notes.len(), 1);
-    assert!(rt;
-        has_value(
-            publics,
-            2,
-            &[Token::Var(Letter::L, 5), Token::Number(4), PLUS]
-        )
-    );
-    // the weak reference is one in all three, and the public b meets the other
-    let references = parts.names.references.as_slice();
-    assert_eq!(rt; references.len(), 1);
-    assert_eq!(rt;
-        references[0].weak,
-        Some(Weak {
-            size: 2,
-            default: 9
-        })
-    );
-    assert_eq!(rt; references[0].notes.len(), 1);
-}
+// `b` is 21 and `c` is 22, and their values go by their sections, L 4 and L 6. The common is one in all three, 0B,
+// and `b` meets the other reference.
+const ALL_NAMES: &[u8] = b"\
+    \xE8\x20\x01a\xF1\xC9\x20\x00\x07\x03\xE2\xC9\x20\xCC\x02\x04\xA5\
+    \xE8\x21\x01b\xF1\xC9\x21\x00\x07\x03\xE2\xC9\x21\xCC\x04\x04\xA5\
+    \xE8\x22\x01c\xF1\xC9\x22\x00\x07\x03\xE2\xC9\x22\xCC\x06\x04\xA5\
+    \xE9\x0B\x01w\xF1\xD8\x0B\x00\x08\x04\xF4\x0B\x02\x09";
 
-// The loads of the link of the three are moved.
-fn expect_loads(rt: &impl Abort, loads: &[Load]) {
-    assert_eq!(rt; loads.len(), 15);
-    assert!(rt; sets_section(loads, 10, 5));
-    assert!(rt;
-        sets_counter(
-            loads,
-            11,
-            5,
-            &[Token::Var(Letter::R, 5), Token::Number(2), PLUS]
-        )
-    );
-    assert!(rt; repeats_field(loads, 13, &[Token::Var(Letter::P, 5)]));
-    assert!(rt; is_field(loads, 4, &[Token::Var(Letter::I, 1)]));
-    assert!(rt; is_field(loads, 14, &[Token::Var(Letter::I, 1)]));
-}
+// In the second module section 1 is 3, the public is 21, and the names are 22 and 23; in the third they are 5, 22,
+// 24 and 25. X 0B is the common in all three.
+const ALL_DEBUG: &[u8] = b"\
+    \xF8\x03\x00\x01b\
+    \xF0\x20\x01u\
+    \xF8\x05\x00\x01b\x09\
+    \xF8\x04\x00\x01b\x07\x08\xD2\x01\
+    \xF8\x06\x00\x01b\x05\x06\xC9\x20\
+    \xF8\x0B\x00\x01b\x01\x01\xD2\x01\
+    \xF0\x21\x01v\
+    \xF1\xCE\x21\x00\x07\x0C\
+    \xE2\xCE\x20\xD8\x0B\x03\xA5\
+    \xF9\xD2\x01\x02\xA5\
+    \xF9\
+    \xF9\xD3\x01\
+    \xF9\
+    \xF9\
+    \xF8\x03\x00\x01b\
+    \xF0\x22\x01u\
+    \xF8\x05\x00\x01b\x09\
+    \xF8\x04\x00\x01b\x07\x08\xD2\x03\
+    \xF8\x06\x00\x01b\x05\x06\xC9\x21\
+    \xF8\x0B\x00\x01b\x01\x03\xD2\x03\
+    \xF0\x23\x01v\
+    \xF1\xCE\x23\x00\x07\x0C\
+    \xE2\xCE\x22\xD8\x0B\x03\xA5\
+    \xF9\xD2\x03\x02\xA5\
+    \xF9\
+    \xF9\xD3\x03\
+    \xF9\
+    \xF9\
+    \xF8\x03\x00\x01b\
+    \xF0\x24\x01u\
+    \xF8\x05\x00\x01b\x09\
+    \xF8\x04\x00\x01b\x07\x08\xD2\x05\
+    \xF8\x06\x00\x01b\x05\x06\xC9\x22\
+    \xF8\x0B\x00\x01b\x01\x05\xD2\x05\
+    \xF0\x25\x01v\
+    \xF1\xCE\x25\x00\x07\x0C\
+    \xE2\xCE\x24\xD8\x0B\x03\xA5\
+    \xF9\xD2\x05\x02\xA5\
+    \xF9\
+    \xF9\xD3\x05\
+    \xF9\
+    \xF9";
 
-// The debug items of the link of the three are moved.
-fn expect_debug_items(rt: &impl Abort, items: &List<DebugItem>) {
-    let Some(last) = items.get(2) else {
-        panic!(rt; "no item");
-    };
-    let Some(part) = section_block(last) else {
-        panic!(rt; "no block");
-    };
-    assert!(rt; is_part_of(part, 4, &[Token::Var(Letter::R, 4)]));
-    assert!(rt; notes_name(part, 5));
-    assert!(rt; gives_value(part, 4, &[Token::Var(Letter::X, 0), Token::Number(3), PLUS]));
-    assert!(rt; ends_with(part, &[Token::Var(Letter::R, 4), Token::Number(2), PLUS]));
-}
+// Section 2 is 4 in the second module, and 6 in the third. I 21 is `b`, which meets the second reference of each.
+const ALL_LOADS: &[u8] = b"\
+    \xE5\x02\
+    \xE2\xD0\x02\xD2\x02\x02\xA5\
+    \xED\x03\x01\x02\x03\
+    \xF7\x03\xE4\x01\x04\xBA\xD0\x02\x90\x02\xBB\
+    \xE4\xBC\xC9\x21\x90\x04\xBD\
+    \xE5\x04\
+    \xE2\xD0\x04\xD2\x04\x02\xA5\
+    \xED\x03\x01\x02\x03\
+    \xF7\x03\xE4\x01\x04\xBA\xD0\x04\x90\x02\xBB\
+    \xE4\xBC\xC9\x21\x90\x04\xBD\
+    \xE5\x06\
+    \xE2\xD0\x06\xD2\x06\x02\xA5\
+    \xED\x03\x01\x02\x03\
+    \xF7\x03\xE4\x01\x04\xBA\xD0\x06\x90\x02\xBB\
+    \xE4\xBC\xC9\x21\x90\x04\xBD";
+
+// The extension is that of the first module.
+const ALL: Records<'static> = (
+    FOUR,
+    [
+        b"a",
+        b"",
+        ALL_SECTIONS,
+        ALL_NAMES,
+        ALL_DEBUG,
+        ALL_LOADS,
+        b"",
+    ],
+);
 
 #[test]
-fn publics_are_moved_and_references_merged(rt: HostRuntime) {
-    let alloc = rt.alloc();
-    let list = three(&rt, alloc);
-    let linked = try_link(alloc, &list, b"whole").expect(&rt, "linked");
-    expect_names(&rt, linked.parts());
-}
-
-#[test]
-fn loads_are_moved(rt: HostRuntime) {
-    let alloc = rt.alloc();
-    let list = three(&rt, alloc);
-    let linked = try_link(alloc, &list, b"whole").expect(&rt, "linked");
-    expect_loads(&rt, linked.parts().loads.as_slice());
-}
-
-#[test]
-fn debug_items_are_moved(rt: HostRuntime) {
-    let alloc = rt.alloc();
-    let list = three(&rt, alloc);
-    let linked = try_link(alloc, &list, b"whole").expect(&rt, "linked");
-    expect_debug_items(&rt, &linked.parts().debug);
-}
-
-#[test]
-fn a_link_that_takes_its_modules_is_the_same(rt: HostRuntime) {
-    let alloc = rt.alloc();
-    let list = three(&rt, alloc);
-    let linked = try_link_owned(alloc, list, b"whole").expect(&rt, "linked");
-    let parts = linked.parts();
-    expect_names(&rt, parts);
-    expect_loads(&rt, parts.loads.as_slice());
-    expect_debug_items(&rt, &parts.debug);
+fn modules_with_every_kind_of_entry_are_linked(rt: HostRuntime) {
+    links_to(&rt, rt.alloc(), &[&A, &B, &C], &ALL);
 }

@@ -1,233 +1,262 @@
 //! Lists of two modules that are linked: two halves that need each other, each refusal, and
 //! references that become one, stay apart or are met.
 
-use crate::checks::{has_value, is_field, sets_section};
-use crate::draft::{
-    PLUS, constant, empty, field, load, module, note, public, reference, section, sum, try_link,
-    variable,
-};
-use mufom_expr::{FieldKind, Letter, Postfix, Token};
-use mufom_link::{LinkRefusal, may_be_linked};
-use mufom_loads::Load;
-use mufom_module::Module;
-use mufom_names::Weak;
-use std::alloc::Global;
-use std::process::Abort;
-
-// A section, a public, a strong reference and a field of that reference.
-fn half(
-    rt: &impl Abort,
-    alloc: Global,
-    public_name: &[u8],
-    value: Postfix,
-    reference_name: &[u8],
-    field_value: Postfix,
-) -> Module {
-    let mut parts = empty(rt, alloc);
-    let section = section(rt, alloc, b"t", 4);
-    parts.sections.push(section).expect(rt, "memory");
-    let public = public(rt, alloc, public_name, value);
-    parts.names.publics.push(public).expect(rt, "memory");
-    let reference = reference(rt, alloc, reference_name, None);
-    parts.names.references.push(reference).expect(rt, "memory");
-    load(rt, &mut parts.loads, Load::SetSection(0));
-    let field = field(FieldKind::Either, 4, field_value);
-    load(rt, &mut parts.loads, field);
-    module(rt, parts)
-}
-
-fn pair(rt: &impl Abort, alloc: Global, first: Module, second: Module) -> Vec<Module> {
-    let mut list = Vec::new(alloc);
-    list.push(first).expect(rt, "memory");
-    list.push(second).expect(rt, "memory");
-    list
-}
-
-// Two modules, each with a reference to the public of the other.
-fn halves(rt: &impl Abort, alloc: Global) -> Vec<Module> {
-    let value = variable(rt, alloc, Letter::R, 0);
-    let used = variable(rt, alloc, Letter::X, 0);
-    let first = half(rt, alloc, b"f", value, b"g", used);
-    let value = sum(rt, alloc, Letter::R, 0, 1);
-    let used = sum(rt, alloc, Letter::X, 0, 2);
-    let second = half(rt, alloc, b"g", value, b"f", used);
-    pair(rt, alloc, first, second)
-}
+use crate::files::{FOUR, Records, links_to, refuses};
+use mufom_link::may_be_linked;
 
 #[test]
 fn an_empty_list_may_not_be_linked(rt: HostRuntime) {
     assert_eq!(rt; may_be_linked(&[], b"a"), false);
 }
 
+// ---- two halves
+
+// A section `t` of four bytes.
+const FOUR_BYTES: &[u8] = b"\xE6\x01\xC3\x01t\xE2\xD3\x01\x04";
+
+// It has the public `f`, which is the base of its section, and a field of the reference `g`.
+const F_HALF: Records<'static> = (
+    FOUR,
+    [
+        b"",
+        b"",
+        FOUR_BYTES,
+        b"\xE8\x20\x01f\xE2\xC9\x20\xD2\x01\xE9\x0B\x01g",
+        b"",
+        b"\xE5\x01\xE4\xBE\xD8\x0B\x90\x04\xBF",
+        b"",
+    ],
+);
+
+// It has the public `g`, which is one more than the base of its section, and a field of the reference `f` and 2.
+const G_HALF: Records<'static> = (
+    FOUR,
+    [
+        b"",
+        b"",
+        FOUR_BYTES,
+        b"\xE8\x20\x01g\xE2\xC9\x20\xD2\x01\x01\xA5\xE9\x0B\x01f",
+        b"",
+        b"\xE5\x01\xE4\xBE\xD8\x0B\x02\xA5\x90\x04\xBF",
+        b"",
+    ],
+);
+
+// The section of the second half is 2 here, and its public 21. Both references are gone, and the publics stand in
+// their places: I 21 for `g`, and I 20 for `f`.
+const HALVES: Records<'static> = (
+    FOUR,
+    [
+        b"",
+        b"",
+        b"\xE6\x01\xC3\x01t\xE2\xD3\x01\x04\xE6\x02\xC3\x01t\xE2\xD3\x02\x04",
+        b"\xE8\x20\x01f\xE2\xC9\x20\xD2\x01\
+    \xE8\x21\x01g\xE2\xC9\x21\xD2\x02\x01\xA5",
+        b"",
+        b"\xE5\x01\xE4\xBE\xC9\x21\x90\x04\xBF\
+    \xE5\x02\xE4\xBE\xC9\x20\x02\xA5\x90\x04\xBF",
+        b"",
+    ],
+);
+
 #[test]
 fn references_become_the_publics_that_meet_them(rt: HostRuntime) {
-    let alloc = rt.alloc();
-    let list = halves(&rt, alloc);
-    let linked = try_link(alloc, &list, b"c").expect(&rt, "linked");
-    let parts = linked.parts();
-    assert_eq!(rt; parts.name.as_slice(), &b"c"[..]);
-    assert_eq!(rt; parts.sections.len(), 2);
-    assert_eq!(rt; parts.names.publics.len(), 2);
-    assert_eq!(rt; parts.names.references.len(), 0);
-    let publics = parts.names.publics.as_slice();
-    assert!(rt; has_value(publics, 0, &[Token::Var(Letter::R, 0)]));
-    assert!(rt;
-        has_value(
-            publics,
-            1,
-            &[Token::Var(Letter::R, 1), Token::Number(1), PLUS]
-        )
-    );
-    let loads = parts.loads.as_slice();
-    assert_eq!(rt; loads.len(), 4);
-    assert!(rt; sets_section(loads, 0, 0));
-    assert!(rt; is_field(loads, 1, &[Token::Var(Letter::I, 1)]));
-    assert!(rt; sets_section(loads, 2, 1));
-    assert!(rt;
-        is_field(
-            loads,
-            3,
-            &[Token::Var(Letter::I, 0), Token::Number(2), PLUS]
-        )
-    );
-    assert_eq!(rt; list.len(), 2);
+    links_to(&rt, rt.alloc(), &[&F_HALF, &G_HALF], &HALVES);
 }
 
-// A module with a public of this name, which is this number.
-fn defining(rt: &impl Abort, alloc: Global, name: &[u8], number: u64) -> Module {
-    let mut parts = empty(rt, alloc);
-    let public = public(rt, alloc, name, constant(rt, alloc, number));
-    parts.names.publics.push(public).expect(rt, "memory");
-    module(rt, parts)
-}
+// ---- refusals
 
-// A module with this many units in an address, and with a start where one is wanted.
-fn other_module(rt: &impl Abort, alloc: Global, maus: u8, has_start: bool) -> Module {
-    let mut parts = empty(rt, alloc);
-    parts.maus = maus;
-    if has_start {
-        parts.start = Some(constant(rt, alloc, 4096));
-    }
-    module(rt, parts)
-}
+// The public `main`, which is 0.
+const MAIN: &[u8] = b"\xE8\x20\x04main\xE2\xC9\x20\x00";
 
-// The name of the answer.
-fn refusal(alloc: Global, list: &[Module]) -> &'static str {
-    match try_link(alloc, list, b"") {
-        Ok(_) => "linked",
-        Err(LinkRefusal::Mismatch(first, other)) => {
-            if first.maus == 4 && other.maus == 2 {
-                "Mismatch 4 2"
-            } else {
-                "Mismatch"
-            }
-        }
-        Err(LinkRefusal::Duplicate(name)) => {
-            if name.as_slice() == b"main".as_slice() {
-                "Duplicate main"
-            } else {
-                "Duplicate"
-            }
-        }
-        Err(LinkRefusal::DuplicateStart) => "DuplicateStart",
-        Err(LinkRefusal::NoMemory) => "NoMemory",
-    }
-}
+// The start is 1000.
+const START: &[u8] = b"\xE2\xC7\xBE\x82\x10\x00\xBF";
+
+const DEFINING: Records<'static> = (FOUR, [b"", b"", b"", MAIN, b"", b"", b""]);
+
+const STARTING: Records<'static> = (FOUR, [b"", b"", b"", b"", b"", b"", START]);
+
+const BOTH: Records<'static> = (FOUR, [b"", b"", b"", MAIN, b"", b"", START]);
+
+// As that one, with two units in an address.
+const TWO_UNITS: Records<'static> = (b"\xEC\x08\x02\xCD", [b"", b"", b"", MAIN, b"", b"", START]);
+
+// As that one, with the least significant byte first.
+const LEAST_FIRST: Records<'static> = (b"\xEC\x08\x04\xCC", [b"", b"", b"", MAIN, b"", b"", START]);
+
+// Two modules, and why they are not linked.
+const REFUSED: [([&Records<'static>; 2], &str); 5] = [
+    (
+        [&DEFINING, &DEFINING],
+        "Duplicate(Bytes { held: [109, 97, 105, 110] })",
+    ),
+    (
+        [&BOTH, &BOTH],
+        "Duplicate(Bytes { held: [109, 97, 105, 110] })",
+    ),
+    (
+        [&BOTH, &TWO_UNITS],
+        "Mismatch(Descriptor { maus: 4, order: Most }, Descriptor { maus: 2, order: Most })",
+    ),
+    (
+        [&BOTH, &LEAST_FIRST],
+        "Mismatch(Descriptor { maus: 4, order: Most }, Descriptor { maus: 4, order: Least })",
+    ),
+    ([&STARTING, &STARTING], "DuplicateStart"),
+];
 
 #[test]
 fn lists_are_refused_in_order(rt: HostRuntime) {
-    let alloc = rt.alloc();
-    let first = defining(&rt, alloc, b"main", 0);
-    let second = defining(&rt, alloc, b"main", 0);
-    let list = pair(&rt, alloc, first, second);
-    assert_eq!(rt; refusal(alloc, &list), "Duplicate main");
-    let first = other_module(&rt, alloc, 4, true);
-    let second = other_module(&rt, alloc, 2, true);
-    let list = pair(&rt, alloc, first, second);
-    assert_eq!(rt; refusal(alloc, &list), "Mismatch 4 2");
-    let first = other_module(&rt, alloc, 4, true);
-    let second = other_module(&rt, alloc, 4, true);
-    let list = pair(&rt, alloc, first, second);
-    assert_eq!(rt; refusal(alloc, &list), "DuplicateStart");
+    for (list, why) in &REFUSED {
+        refuses(&rt, rt.alloc(), list, why);
+    }
 }
 
-// A module with a reference q, noted where that is wanted, and a field of it.
-fn asking(rt: &impl Abort, alloc: Global, weak: Option<Weak>, noted: bool) -> Module {
-    let mut parts = empty(rt, alloc);
-    let section = section(rt, alloc, b"t", 1);
-    parts.sections.push(section).expect(rt, "memory");
-    let mut q = reference(rt, alloc, b"q", weak);
-    if noted {
-        q.notes.push(note(7, 1)).expect(rt, "memory");
-    }
-    parts.names.references.push(q).expect(rt, "memory");
-    load(rt, &mut parts.loads, Load::SetSection(0));
-    let value = variable(rt, alloc, Letter::X, 0);
-    load(rt, &mut parts.loads, field(FieldKind::Unsigned, 1, value));
-    module(rt, parts)
-}
+// ---- references of one name
+
+// A section `t` of one byte.
+const ONE_BYTE: &[u8] = b"\xE6\x01\xC3\x01t\xE2\xD3\x01\x01";
+
+const TWO_OF_ONE_BYTE: &[u8] =
+    b"\xE6\x01\xC3\x01t\xE2\xD3\x01\x01\xE6\x02\xC3\x01t\xE2\xD3\x02\x01";
+
+// A field of one byte, which has the value of the first reference.
+const FIELD: &[u8] = b"\xE5\x01\xE4\xBC\xD8\x0B\x90\x01\xBD";
+
+// Two such fields, of the first reference and of the second.
+const FIRST_AND_SECOND: &[u8] =
+    b"\xE5\x01\xE4\xBC\xD8\x0B\x90\x01\xBD\xE5\x02\xE4\xBC\xD8\x0C\x90\x01\xBD";
+
+// The reference `q`.
+const STRONG: Records<'static> = (
+    FOUR,
+    [b"", b"", ONE_BYTE, b"\xE9\x0B\x01q", b"", FIELD, b""],
+);
+
+// The reference `q` with a note.
+const NOTED: Records<'static> = (
+    FOUR,
+    [
+        b"",
+        b"",
+        ONE_BYTE,
+        b"\xE9\x0B\x01q\xF1\xD8\x0B\x00\x07\x01",
+        b"",
+        FIELD,
+        b"",
+    ],
+);
+
+// The weak reference `q`, which is 1 where nothing meets it.
+const WEAK_ONE: Records<'static> = (
+    FOUR,
+    [
+        b"",
+        b"",
+        ONE_BYTE,
+        b"\xE9\x0B\x01q\xF4\x0B\x00\x01",
+        b"",
+        FIELD,
+        b"",
+    ],
+);
+
+// The weak reference `q`, which is 2 where nothing meets it.
+const WEAK_TWO: Records<'static> = (
+    FOUR,
+    [
+        b"",
+        b"",
+        ONE_BYTE,
+        b"\xE9\x0B\x01q\xF4\x0B\x00\x02",
+        b"",
+        FIELD,
+        b"",
+    ],
+);
+
+// The public `q`, which is 7.
+const PUBLIC: Records<'static> = (
+    FOUR,
+    [
+        b"",
+        b"",
+        b"",
+        b"\xE8\x20\x01q\xE2\xC9\x20\x07",
+        b"",
+        b"",
+        b"",
+    ],
+);
+
+// The field of the second module has the one reference too.
+const ONE_REFERENCE: Records<'static> = (
+    FOUR,
+    [
+        b"",
+        b"",
+        TWO_OF_ONE_BYTE,
+        b"\xE9\x0B\x01q",
+        b"",
+        b"\xE5\x01\xE4\xBC\xD8\x0B\x90\x01\xBD\xE5\x02\xE4\xBC\xD8\x0B\x90\x01\xBD",
+        b"",
+    ],
+);
 
 #[test]
 fn equal_references_become_one(rt: HostRuntime) {
-    let alloc = rt.alloc();
-    let first = asking(&rt, alloc, None, false);
-    let second = asking(&rt, alloc, None, false);
-    let list = pair(&rt, alloc, first, second);
-    let linked = try_link(alloc, &list, b"").expect(&rt, "linked");
-    let loads = linked.parts().loads.as_slice();
-    assert_eq!(rt; linked.parts().names.references.len(), 1);
-    assert!(rt; is_field(loads, 1, &[Token::Var(Letter::X, 0)]));
-    assert!(rt; is_field(loads, 3, &[Token::Var(Letter::X, 0)]));
+    links_to(&rt, rt.alloc(), &[&STRONG, &STRONG], &ONE_REFERENCE);
 }
+
+// The second reference, with its note, is 0C here.
+const NOTED_APART: Records<'static> = (
+    FOUR,
+    [
+        b"",
+        b"",
+        TWO_OF_ONE_BYTE,
+        b"\xE9\x0B\x01q\xE9\x0C\x01q\xF1\xD8\x0C\x00\x07\x01",
+        b"",
+        FIRST_AND_SECOND,
+        b"",
+    ],
+);
 
 #[test]
 fn a_note_keeps_references_apart(rt: HostRuntime) {
-    let alloc = rt.alloc();
-    let first = asking(&rt, alloc, None, false);
-    let second = asking(&rt, alloc, None, true);
-    let list = pair(&rt, alloc, first, second);
-    let linked = try_link(alloc, &list, b"").expect(&rt, "linked");
-    let references = linked.parts().names.references.as_slice();
-    assert_eq!(rt; references.len(), 2);
-    assert_eq!(rt; references[0].notes.len(), 0);
-    assert_eq!(rt; references[1].notes.len(), 1);
-    assert!(rt;
-        is_field(
-            linked.parts().loads.as_slice(),
-            3,
-            &[Token::Var(Letter::X, 1)]
-        )
-    );
+    links_to(&rt, rt.alloc(), &[&STRONG, &NOTED], &NOTED_APART);
 }
+
+// The second reference, with its default, is 0C here.
+const DEFAULTS_APART: Records<'static> = (
+    FOUR,
+    [
+        b"",
+        b"",
+        TWO_OF_ONE_BYTE,
+        b"\xE9\x0B\x01q\xF4\x0B\x00\x01\xE9\x0C\x01q\xF4\x0C\x00\x02",
+        b"",
+        FIRST_AND_SECOND,
+        b"",
+    ],
+);
+
+// I 20 stands for both references.
+const BOTH_MET: Records<'static> = (
+    FOUR,
+    [
+        b"",
+        b"",
+        TWO_OF_ONE_BYTE,
+        b"\xE8\x20\x01q\xE2\xC9\x20\x07",
+        b"",
+        b"\xE5\x01\xE4\xBC\xC9\x20\x90\x01\xBD\xE5\x02\xE4\xBC\xC9\x20\x90\x01\xBD",
+        b"",
+    ],
+);
 
 #[test]
 fn weak_references_stay_apart_and_a_public_meets_both(rt: HostRuntime) {
-    let alloc = rt.alloc();
-    let one = Weak {
-        size: 0,
-        default: 1,
-    };
-    let two = Weak {
-        size: 0,
-        default: 2,
-    };
-    let first = asking(&rt, alloc, Some(one), false);
-    let second = asking(&rt, alloc, Some(two), false);
-    let mut list = pair(&rt, alloc, first, second);
-    let linked = try_link(alloc, &list, b"").expect(&rt, "linked");
-    assert_eq!(rt; linked.parts().names.references.len(), 2);
-    assert!(rt;
-        is_field(
-            linked.parts().loads.as_slice(),
-            3,
-            &[Token::Var(Letter::X, 1)]
-        )
-    );
-    list.push(defining(&rt, alloc, b"q", 7))
-        .expect(&rt, "memory");
-    let linked = try_link(alloc, &list, b"").expect(&rt, "linked");
-    let loads = linked.parts().loads.as_slice();
-    assert_eq!(rt; linked.parts().names.references.len(), 0);
-    assert!(rt; is_field(loads, 1, &[Token::Var(Letter::I, 0)]));
-    assert!(rt; is_field(loads, 3, &[Token::Var(Letter::I, 0)]));
+    links_to(&rt, rt.alloc(), &[&WEAK_ONE, &WEAK_TWO], &DEFAULTS_APART);
+    links_to(&rt, rt.alloc(), &[&WEAK_ONE, &WEAK_TWO, &PUBLIC], &BOTH_MET);
 }

@@ -1,116 +1,107 @@
 //! Members that are selected for roots: for members, for weak and defined names, in a circle and in
 //! a chain.
 
-use crate::draft::{constant, empty, module, public, reference};
+use crate::files::{FOUR, module};
 use mufom_module::Module;
-use mufom_names::{Public, Reference, Weak};
-use mufom_numbers::List;
 use mufom_select::select;
 use std::alloc::Global;
 use std::process::Abort;
 
-// The names that a module defines, those that it needs and those to which it refers weakly, each a byte.
-#[derive(Clone, Copy)]
-struct Row<'a> {
-    defines: &'a [u8],
-    needs: &'a [u8],
-    wants: &'a [u8],
+// The names that a module defines, those that it needs and those to which it refers weakly, each a byte below 128.
+type Row<'a> = [&'a [u8]; 3];
+
+// Adds records.
+fn add(rt: &impl Abort, external: &mut Vec<u8>, records: &[u8]) {
+    external.extend_from_slice(records).expect(rt, "memory");
 }
 
-fn entry<'a>(defines: &'a [u8], needs: &'a [u8], wants: &'a [u8]) -> Row<'a> {
-    Row {
-        defines,
-        needs,
-        wants,
-    }
-}
-
-fn publics(rt: &impl Abort, alloc: Global, names: &[u8]) -> List<Public> {
-    let mut publics = List::new(alloc);
+// Adds publics of these names, each worth 0. A name is its own index.
+fn add_publics(rt: &impl Abort, external: &mut Vec<u8>, names: &[u8]) {
     for name in names {
-        let public = public(rt, alloc, &[*name], constant(rt, alloc, 0));
-        publics.push(public).expect(rt, "memory");
+        add(rt, external, &[0xE8, *name, 1, *name, 0xE2, 0xC9, *name, 0]);
     }
-    publics
 }
 
-fn add_references(
-    rt: &impl Abort,
-    alloc: Global,
-    names: &[u8],
-    weak: Option<Weak>,
-    references: &mut List<Reference>,
-) {
+// Adds references to these names.
+fn add_references(rt: &impl Abort, external: &mut Vec<u8>, names: &[u8]) {
     for name in names {
-        let reference = reference(rt, alloc, &[*name], weak);
-        references.push(reference).expect(rt, "memory");
+        add(rt, external, &[0xE9, *name, 1, *name]);
     }
 }
 
-fn references(rt: &impl Abort, alloc: Global, row: Row<'_>) -> List<Reference> {
-    let weak = Weak {
-        size: 0,
-        default: 0,
-    };
-    let mut references = List::new(alloc);
-    add_references(rt, alloc, row.needs, None, &mut references);
-    add_references(rt, alloc, row.wants, Some(weak), &mut references);
-    references
+// Adds weak references to these names, each of no size.
+fn add_weak(rt: &impl Abort, external: &mut Vec<u8>, names: &[u8]) {
+    for name in names {
+        add(rt, external, &[0xE9, *name, 1, *name, 0xF4, *name, 0]);
+    }
 }
 
 // The module of this row.
-fn made(rt: &impl Abort, alloc: Global, row: Row<'_>) -> Module {
-    let mut parts = empty(rt, alloc);
-    parts.names.publics = publics(rt, alloc, row.defines);
-    parts.names.references = references(rt, alloc, row);
-    module(rt, parts)
+fn made(rt: &impl Abort, alloc: Global, row: &Row<'_>) -> Module {
+    let mut external = Vec::new(alloc);
+    let [defines, needs, wants] = row;
+    add_publics(rt, &mut external, defines);
+    add_references(rt, &mut external, needs);
+    add_weak(rt, &mut external, wants);
+    let none = b"".as_slice();
+    let parts = [none, none, none, &external, none, none, none];
+    module(rt, alloc, &(FOUR, parts))
+}
+
+// The modules of these rows.
+fn all_made(rt: &impl Abort, alloc: Global, rows: &[Row<'_>]) -> Vec<Module> {
+    let mut all = Vec::new(alloc);
+    for row in rows {
+        all.push(made(rt, alloc, row)).expect(rt, "memory");
+    }
+    all
 }
 
 // Of these members the ones at the wanted positions are selected for the roots.
-fn selects(rt: &impl Abort, alloc: Global, roots: Row<'_>, members: &[Row<'_>], wanted: &[u32]) {
+fn selects(rt: &impl Abort, alloc: Global, roots: &Row<'_>, members: &[Row<'_>], wanted: &[u32]) {
     let roots = made(rt, alloc, roots);
-    let mut all = Vec::new(alloc);
-    for row in members {
-        all.push(made(rt, alloc, *row)).expect(rt, "memory");
-    }
+    let all = all_made(rt, alloc, members);
     assert!(rt; all.len() < 1 << 32);
     let chosen = select(alloc, &roots, &all).expect(rt, "memory");
     assert_eq!(rt; chosen.as_slice(), wanted);
 }
 
+const NEEDS_F: Row<'static> = [b"", b"f", b""];
+
+const FIRST_AND_SECOND: [Row<'static>; 2] = [[b"f", b"g", b""], [b"fg", b"", b""]];
+
+const SECOND_ALONE: [Row<'static>; 2] = [[b"h", b"", b""], [b"fg", b"", b""]];
+
 #[test]
 fn members_are_selected_for_members(rt: HostRuntime) {
-    let roots = entry(b"", b"f", b"");
-    let second = entry(b"fg", b"", b"");
-    let first = [entry(b"f", b"g", b""), second];
-    selects(&rt, rt.alloc(), roots, &first, &[0, 1]);
-    let other = [entry(b"h", b"", b""), second];
-    selects(&rt, rt.alloc(), roots, &other, &[1]);
+    selects(&rt, rt.alloc(), &NEEDS_F, &FIRST_AND_SECOND, &[0, 1]);
+    selects(&rt, rt.alloc(), &NEEDS_F, &SECOND_ALONE, &[1]);
 }
+
+const DEFINES_A: Row<'static> = [b"a", b"ab", b"c"];
+
+const MEMBERS: [Row<'static>; 4] = [
+    [b"a", b"", b""],
+    [b"c", b"", b""],
+    [b"d", b"e", b""],
+    [b"b", b"ad", b"c"],
+];
 
 #[test]
 fn weak_and_defined_names_select_nothing(rt: HostRuntime) {
-    let roots = entry(b"a", b"ab", b"c");
-    let members = [
-        entry(b"a", b"", b""),
-        entry(b"c", b"", b""),
-        entry(b"d", b"e", b""),
-        entry(b"b", b"ad", b"c"),
-    ];
-    selects(&rt, rt.alloc(), roots, &members, &[2, 3]);
+    selects(&rt, rt.alloc(), &DEFINES_A, &MEMBERS, &[2, 3]);
 }
+
+const NEEDS_B: Row<'static> = [b"", b"b", b""];
+
+const CIRCLE: [Row<'static>; 3] = [[b"a", b"b", b""], [b"b", b"c", b""], [b"c", b"a", b""]];
 
 #[test]
 fn a_circle_is_selected_whole(rt: HostRuntime) {
-    let members = [
-        entry(b"a", b"b", b""),
-        entry(b"b", b"c", b""),
-        entry(b"c", b"a", b""),
-    ];
-    selects(&rt, rt.alloc(), entry(b"", b"b", b""), &members, &[0, 1, 2]);
+    selects(&rt, rt.alloc(), &NEEDS_B, &CIRCLE, &[0, 1, 2]);
 }
 
-// The numbers from the first up to the last.
+// The numbers from 0 to the last.
 fn numbers(rt: &impl Abort, alloc: Global, last: u8) -> Vec<u8> {
     let mut names = Vec::new(alloc);
     for name in 0..last {
@@ -125,11 +116,18 @@ fn chain<'a>(rt: &impl Abort, alloc: Global, names: &'a [u8]) -> Vec<Row<'a>> {
     let mut members = Vec::new(alloc);
     for pair in names.windows(2) {
         let (needs, defines) = pair.split_at(1);
-        members
-            .push(entry(defines, needs, b""))
-            .expect(rt, "memory");
+        members.push([defines, needs, b""]).expect(rt, "memory");
     }
     members
+}
+
+// The positions below the last.
+fn positions(rt: &impl Abort, alloc: Global, last: u32) -> Vec<u32> {
+    let mut positions = Vec::new(alloc);
+    for position in 0..last {
+        positions.push(position).expect(rt, "memory");
+    }
+    positions
 }
 
 #[test]
@@ -137,9 +135,6 @@ fn a_chain_is_selected_from_its_end(rt: HostRuntime) {
     let alloc = rt.alloc();
     let names = numbers(&rt, alloc, 100);
     let members = chain(&rt, alloc, &names);
-    let mut wanted = Vec::new(alloc);
-    for position in 0..100u32 {
-        wanted.push(position).expect(&rt, "memory");
-    }
-    selects(&rt, alloc, entry(b"", &[100], b""), &members, &wanted);
+    let wanted = positions(&rt, alloc, 100);
+    selects(&rt, alloc, &[b"", &[100], b""], &members, &wanted);
 }

@@ -1,448 +1,166 @@
 //! Three modules with unlike numbers of sections, publics, references and debug names, so that each kind of
 //! position moves by another number in each. Names are met in both directions across all three.
 
-use crate::checks::{
-    ends_with, gives_value, is_field, is_part_of, is_tokens, notes_name, repeats_field,
-    sets_counter, sets_section,
-};
-use crate::draft::{
-    PLUS, block, bytes, empty, expression, field, item, load, module, named, noted, only, part,
-    public, reference, section, try_link,
-};
-use mufom_debug::{Block, BlockHead, DebugItem};
-use mufom_expr::Token::{Fun, Number, Var};
-use mufom_expr::{FieldKind, Function, Letter, Token};
-use mufom_loads::{Item, Load};
-use mufom_module::{Module, Parts};
-use mufom_names::{Public, Reference, Weak};
-use mufom_numbers::List;
-use mufom_sections::Section;
-use std::alloc::Global;
-use std::process::Abort;
+use crate::files::{FOUR, Records, links_to};
 
-const MINUS: Token = Fun(Function::Minus);
+// One section and the public `one`, which is its base. The second module meets the reference `three`, and the third
+// one `five`; there is a field of each.
+const FIRST: Records<'static> = (
+    FOUR,
+    [
+        b"",
+        b"",
+        b"\xE6\x01\xC3\x02a0\xE2\xD3\x01\x10",
+        b"\
+    \xE8\x20\x03one\xE2\xC9\x20\xD2\x01\
+    \xE9\x0B\x05three\
+    \xE9\x0C\x04five",
+        b"\xF0\x20\x01u",
+        b"\
+    \xE5\x01\
+    \xE4\xBE\xD8\x0B\x90\x04\xBF\
+    \xE4\xBE\xD8\x0C\xD0\x01\xA6\x90\x04\xBF",
+        b"",
+    ],
+);
 
-/// Of no size, so that its default counts where nothing meets it.
-const OPTIONAL: Weak = Weak {
-    size: 0,
-    default: 3,
-};
+// Three sections and two publics: `three` of a section, and `four` of a section, that public and a reference. The
+// first module meets the reference `one`, nothing `lost`, which is 3 then, and the third module `six`, which asks for
+// four bytes. There are two debug names and a value of the second, and in the data a counter, a field of `lost`, and
+// repeats of a byte and a field of the counter and `six`.
+const SECOND: Records<'static> = (
+    FOUR,
+    [
+        b"",
+        b"",
+        b"\xE6\x01\xC3\x02b0\xE2\xD3\x01\x10\xE6\x02\xC3\x02b1\xE2\xD3\x02\x10\xE6\x03\xC3\x02b2\xE2\xD3\x03\x10",
+        b"\
+    \xE8\x20\x05three\xE2\xC9\x20\xD2\x01\x08\xA5\
+    \xE8\x21\x04four\xE2\xC9\x21\xD2\x03\xC9\x20\xA5\xD8\x0B\xA6\
+    \xE9\x0B\x03one\
+    \xE9\x0C\x04lost\xF4\x0C\x00\x03\
+    \xE9\x0D\x03six\xF4\x0D\x04\x01",
+        b"\xF0\x20\x01v\xF0\x21\x01w\xE2\xCE\x21\xD2\x03",
+        b"\
+    \xE5\x02\
+    \xE2\xD0\x02\xCC\x02\x04\xA5\
+    \xE4\xBE\xD8\x0C\x90\x04\xBF\
+    \xF7\x02\xE4\x01\x09\xBA\xD0\x02\xD8\x0D\xA5\x90\x04\xBB",
+        b"",
+    ],
+);
 
-/// Room for four bytes, where nothing meets it.
-const ROOM: Weak = Weak {
-    size: 4,
-    default: 1,
-};
+// Two sections and three publics: `five` of a section, `six` of a section and a reference, and `seven` of these two.
+// Nothing meets the references `lost`, which is that of the second module, and `gone`; the second module meets `four`
+// and the first one `one`. A module block holds a name, a function and a part of the second section; the function
+// holds a part of the first section with a name, a note of it, and a value of the name before. The start is of a
+// section and `four`.
+const THIRD: Records<'static> = (
+    FOUR,
+    [
+        b"",
+        b"",
+        b"\xE6\x01\xC3\x02c0\xE2\xD3\x01\x10\xE6\x02\xC3\x02c1\xE2\xD3\x02\x10",
+        b"\
+    \xE8\x20\x04five\xE2\xC9\x20\xD2\x02\
+    \xE8\x21\x03six\xE2\xC9\x21\xD3\x01\xD8\x0C\xA5\
+    \xE8\x22\x05seven\xE2\xC9\x22\xC9\x20\xC9\x21\xA5\
+    \xE9\x0B\x04lost\xF4\x0B\x00\x03\
+    \xE9\x0C\x04four\
+    \xE9\x0D\x03one\
+    \xE9\x0E\x04gone",
+        b"\
+    \xF8\x03\x00\x01b\
+    \xF0\x20\x01x\
+    \xF8\x04\x00\x01b\x07\x08\xC9\x21\
+    \xF8\x0B\x00\x01b\x01\x01\xD2\x01\
+    \xF0\x21\x01y\
+    \xF1\xCE\x21\x00\x07\x0C\
+    \xE2\xCE\x20\xD8\x0C\x01\xA5\
+    \xF9\xD2\x01\x02\xA5\
+    \xF9\xD8\x0E\
+    \xF8\x0B\x00\x01b\x01\x02\xD2\x02\
+    \xF9\x05\
+    \xF9",
+        b"\
+    \xE5\x01\
+    \xE4\xBE\xD8\x0D\xD8\x0E\xA5\x90\x04\xBF\
+    \xE5\x02\
+    \xE4\xBE\xD8\x0B\x90\x04\xBF",
+        b"\xE2\xC7\xBE\xD2\x02\xD8\x0C\xA5\xBF",
+    ],
+);
 
-fn sections(rt: &impl Abort, alloc: Global, names: &[&[u8]]) -> List<Section> {
-    let mut list = List::new(alloc);
-    for its in names {
-        let section = section(rt, alloc, its, 16);
-        list.push(section).expect(rt, "memory");
-    }
-    list
-}
+// Their link. The sections of the second module are 2 to 4, those of the third 5 and 6.
+const SECTIONS: &[u8] = b"\
+    \xE6\x01\xC3\x02a0\xE2\xD3\x01\x10\
+    \xE6\x02\xC3\x02b0\xE2\xD3\x02\x10\
+    \xE6\x03\xC3\x02b1\xE2\xD3\x03\x10\
+    \xE6\x04\xC3\x02b2\xE2\xD3\x04\x10\
+    \xE6\x05\xC3\x02c0\xE2\xD3\x05\x10\
+    \xE6\x06\xC3\x02c1\xE2\xD3\x06\x10";
 
-fn publics(rt: &impl Abort, alloc: Global, entries: &[(&[u8], &[Token])]) -> List<Public> {
-    let mut list = List::new(alloc);
-    for (its, tokens) in entries {
-        let public = public(rt, alloc, its, expression(rt, alloc, tokens));
-        list.push(public).expect(rt, "memory");
-    }
-    list
-}
+// The publics are 20 to 25 in their order. In `four` the section moves by 1, `three` is 21, and `one`, 20, meets the
+// reference; in `five` and `six` the section moves by 4, and `four`, 22, meets the reference; `seven` is the sum of 23
+// and 24. The two references that nothing meets are 0B and 0C.
+const NAMES: &[u8] = b"\
+    \xE8\x20\x03one\xE2\xC9\x20\xD2\x01\
+    \xE8\x21\x05three\xE2\xC9\x21\xD2\x02\x08\xA5\
+    \xE8\x22\x04four\xE2\xC9\x22\xD2\x04\xC9\x21\xA5\xC9\x20\xA6\
+    \xE8\x23\x04five\xE2\xC9\x23\xD2\x06\
+    \xE8\x24\x03six\xE2\xC9\x24\xD3\x05\xC9\x22\xA5\
+    \xE8\x25\x05seven\xE2\xC9\x25\xC9\x23\xC9\x24\xA5\
+    \xE9\x0B\x04lost\xF4\x0B\x00\x03\
+    \xE9\x0C\x04gone";
 
-fn references(
-    rt: &impl Abort,
-    alloc: Global,
-    entries: &[(&[u8], Option<Weak>)],
-) -> List<Reference> {
-    let mut list = List::new(alloc);
-    for (its, weak) in entries {
-        let reference = reference(rt, alloc, its, *weak);
-        list.push(reference).expect(rt, "memory");
-    }
-    list
-}
+// The names of the second module move by 1, those of the third by 3. The function goes from `six`, 24, to `gone`, 0C,
+// and the value in it is `four`, 22, and 1.
+const DEBUG: &[u8] = b"\
+    \xF0\x20\x01u\
+    \xF0\x21\x01v\xF0\x22\x01w\xE2\xCE\x22\xD2\x04\
+    \xF8\x03\x00\x01b\
+    \xF0\x23\x01x\
+    \xF8\x04\x00\x01b\x07\x08\xC9\x24\
+    \xF8\x0B\x00\x01b\x01\x05\xD2\x05\
+    \xF0\x24\x01y\
+    \xF1\xCE\x24\x00\x07\x0C\
+    \xE2\xCE\x23\xC9\x22\x01\xA5\
+    \xF9\xD2\x05\x02\xA5\
+    \xF9\xD8\x0C\
+    \xF8\x0B\x00\x01b\x01\x06\xD2\x06\
+    \xF9\x05\
+    \xF9";
 
-// A field of four bytes.
-fn word(rt: &impl Abort, alloc: Global, tokens: &[Token]) -> Load {
-    field(FieldKind::Either, 4, expression(rt, alloc, tokens))
-}
+// In the first module `three`, 21, and `five`, 23, meet the references; in the second `lost` is 0B, and `six`, 24, is
+// met; in the third `one`, 20, is met, and `gone` is 0C. `lost` is that of the second module.
+const LOADS: &[u8] = b"\
+    \xE5\x01\
+    \xE4\xBE\xC9\x21\x90\x04\xBF\
+    \xE4\xBE\xC9\x23\xD0\x01\xA6\x90\x04\xBF\
+    \xE5\x03\
+    \xE2\xD0\x03\xCC\x03\x04\xA5\
+    \xE4\xBE\xD8\x0B\x90\x04\xBF\
+    \xF7\x02\xE4\x01\x09\xBA\xD0\x03\xC9\x24\xA5\x90\x04\xBB\
+    \xE5\x05\
+    \xE4\xBE\xC9\x20\xD8\x0C\xA5\x90\x04\xBF\
+    \xE5\x06\
+    \xE4\xBE\xD8\x0B\x90\x04\xBF";
 
-fn first_loads(rt: &impl Abort, alloc: Global) -> List<Load> {
-    let mut loads = List::new(alloc);
-    load(rt, &mut loads, Load::SetSection(0));
-    load(rt, &mut loads, word(rt, alloc, &[Var(Letter::X, 0)]));
-    let distance = [Var(Letter::X, 1), Var(Letter::P, 0), MINUS];
-    load(rt, &mut loads, word(rt, alloc, &distance));
-    loads
-}
-
-// One section, one public, and two references that the second and the third module meet.
-fn first(rt: &impl Abort, alloc: Global) -> Module {
-    let mut parts = empty(rt, alloc);
-    parts.sections = sections(rt, alloc, &[b"a0"]);
-    parts.names.publics = publics(rt, alloc, &[(b"one", &[Var(Letter::R, 0)])]);
-    parts.names.references = references(rt, alloc, &[(b"three", None), (b"five", None)]);
-    named(rt, alloc, &mut parts.debug, b"u");
-    parts.loads = first_loads(rt, alloc);
-    module(rt, parts)
-}
-
-// A public of a section, and one of a section, that public and a reference.
-fn second_publics(rt: &impl Abort, alloc: Global) -> List<Public> {
-    let three = [Var(Letter::R, 0), Number(8), PLUS];
-    let four = [
-        Var(Letter::R, 2),
-        Var(Letter::I, 0),
-        PLUS,
-        Var(Letter::X, 0),
-        MINUS,
-    ];
-    publics(rt, alloc, &[(b"three", &three), (b"four", &four)])
-}
-
-// Two debug names, and a value of the second.
-fn second_debug(rt: &impl Abort, alloc: Global) -> List<DebugItem> {
-    let mut items = List::new(alloc);
-    named(rt, alloc, &mut items, b"v");
-    named(rt, alloc, &mut items, b"w");
-    let value = expression(rt, alloc, &[Var(Letter::R, 2)]);
-    item(rt, &mut items, DebugItem::Value { name: 1, value });
-    items
-}
-
-// A literal, and a field of the program counter and of a weak reference.
-fn second_items(rt: &impl Abort, alloc: Global) -> List<Item> {
-    let mut items = List::new(alloc);
-    let literal = bytes(rt, alloc, &[9]);
-    items.push(Item::Literal(literal)).expect(rt, "memory");
-    let field = Item::Field {
-        kind: FieldKind::Signed,
-        value: expression(rt, alloc, &[Var(Letter::P, 1), Var(Letter::X, 2), PLUS]),
-        size: 4,
-    };
-    items.push(field).expect(rt, "memory");
-    items
-}
-
-fn second_loads(rt: &impl Abort, alloc: Global) -> List<Load> {
-    let mut loads = List::new(alloc);
-    load(rt, &mut loads, Load::SetSection(1));
-    let value = expression(rt, alloc, &[Var(Letter::L, 1), Number(4), PLUS]);
-    load(rt, &mut loads, Load::SetPc { section: 1, value });
-    load(rt, &mut loads, word(rt, alloc, &[Var(Letter::X, 1)]));
-    let items = second_items(rt, alloc);
-    load(rt, &mut loads, Load::Repeat { count: 2, items });
-    loads
-}
-
-// Three sections and two publics. The first module meets its first reference, nothing its second, and the
-// third module its third.
-fn second(rt: &impl Abort, alloc: Global) -> Module {
-    let mut parts = empty(rt, alloc);
-    parts.sections = sections(rt, alloc, &[b"b0", b"b1", b"b2"]);
-    parts.names.publics = second_publics(rt, alloc);
-    let wanted: [(&[u8], Option<Weak>); 3] = [
-        (b"one", None),
-        (b"lost", Some(OPTIONAL)),
-        (b"six", Some(ROOM)),
-    ];
-    parts.names.references = references(rt, alloc, &wanted);
-    parts.debug = second_debug(rt, alloc);
-    parts.loads = second_loads(rt, alloc);
-    module(rt, parts)
-}
-
-// A public of a section, one of a section and a reference, and one of these two.
-fn third_publics(rt: &impl Abort, alloc: Global) -> List<Public> {
-    let five = [Var(Letter::R, 1)];
-    let six = [Var(Letter::S, 0), Var(Letter::X, 1), PLUS];
-    let seven = [Var(Letter::I, 0), Var(Letter::I, 1), PLUS];
-    publics(
-        rt,
-        alloc,
-        &[(b"five", &five), (b"six", &six), (b"seven", &seven)],
-    )
-}
-
-fn third_loads(rt: &impl Abort, alloc: Global) -> List<Load> {
-    let mut loads = List::new(alloc);
-    load(rt, &mut loads, Load::SetSection(0));
-    let both = [Var(Letter::X, 2), Var(Letter::X, 3), PLUS];
-    load(rt, &mut loads, word(rt, alloc, &both));
-    load(rt, &mut loads, Load::SetSection(1));
-    load(rt, &mut loads, word(rt, alloc, &[Var(Letter::X, 0)]));
-    loads
-}
-
-// A block of the first section, in a global function.
-fn global(rt: &impl Abort, alloc: Global) -> DebugItem {
-    let value = expression(rt, alloc, &[Var(Letter::X, 1), Number(1), PLUS]);
-    let items = noted(rt, alloc, b"y", value);
-    let end = expression(rt, alloc, &[Var(Letter::R, 0), Number(2), PLUS]);
-    let items = only(rt, alloc, part(rt, alloc, 0, items, end));
-    let head = BlockHead::Global {
-        stack: 7,
-        type_index: 8,
-        offset: expression(rt, alloc, &[Var(Letter::I, 1)]),
-    };
-    let end = expression(rt, alloc, &[Var(Letter::X, 3)]);
-    block(rt, alloc, head, items, Some(end))
-}
-
-// A module block with a name, the function, and a block of the second section.
-fn third_debug(rt: &impl Abort, alloc: Global) -> List<DebugItem> {
-    let mut items = List::new(alloc);
-    named(rt, alloc, &mut items, b"x");
-    item(rt, &mut items, global(rt, alloc));
-    let end = expression(rt, alloc, &[Number(5)]);
-    item(rt, &mut items, part(rt, alloc, 1, List::new(alloc), end));
-    let all = block(rt, alloc, BlockHead::Module, items, None);
-    only(rt, alloc, all)
-}
-
-// Two sections, three publics and a start. Nothing meets its first and its last reference; the first is that
-// of the second module.
-fn third(rt: &impl Abort, alloc: Global) -> Module {
-    let mut parts = empty(rt, alloc);
-    parts.sections = sections(rt, alloc, &[b"c0", b"c1"]);
-    parts.names.publics = third_publics(rt, alloc);
-    let wanted: [(&[u8], Option<Weak>); 4] = [
-        (b"lost", Some(OPTIONAL)),
-        (b"four", None),
-        (b"one", None),
-        (b"gone", None),
-    ];
-    parts.names.references = references(rt, alloc, &wanted);
-    parts.debug = third_debug(rt, alloc);
-    parts.loads = third_loads(rt, alloc);
-    let start = [Var(Letter::R, 1), Var(Letter::X, 1), PLUS];
-    parts.start = Some(expression(rt, alloc, &start));
-    module(rt, parts)
-}
-
-// The three in their order.
-fn uneven(rt: &impl Abort, alloc: Global) -> Vec<Module> {
-    let mut list = Vec::new(alloc);
-    list.push(first(rt, alloc)).expect(rt, "memory");
-    list.push(second(rt, alloc)).expect(rt, "memory");
-    list.push(third(rt, alloc)).expect(rt, "memory");
-    list
-}
-
-// Their link.
-fn linked(rt: &impl Abort, alloc: Global) -> Module {
-    let list = uneven(rt, alloc);
-    try_link(alloc, &list, b"whole").expect(rt, "linked")
-}
-
-// Whether the sections have these names.
-fn are_named(sections: &[Section], wanted: &[&[u8]]) -> bool {
-    if sections.len() != wanted.len() {
-        return false;
-    }
-    for (section, name) in sections.iter().zip(wanted) {
-        if section.name.as_slice() != *name {
-            return false;
-        }
-    }
-    true
-}
+// The start is that of the third module: its section moves by 4, and `four` meets the reference.
+const ALL: Records<'static> = (
+    FOUR,
+    [
+        b"",
+        b"",
+        SECTIONS,
+        NAMES,
+        DEBUG,
+        LOADS,
+        b"\xE2\xC7\xBE\xD2\x06\xC9\x22\xA5\xBF",
+    ],
+);
 
 #[test]
-fn sections_stand_in_the_order_of_the_modules(rt: HostRuntime) {
-    let alloc = rt.alloc();
-    let linked = linked(&rt, alloc);
-    let wanted: [&[u8]; 6] = [b"a0", b"b0", b"b1", b"b2", b"c0", b"c1"];
-    assert!(rt; are_named(linked.parts().sections.as_slice(), &wanted));
-}
-
-// Whether the publics have these values.
-fn have_values(publics: &[Public], wanted: &[&[Token]]) -> bool {
-    if publics.len() != wanted.len() {
-        return false;
-    }
-    for (public, tokens) in publics.iter().zip(wanted) {
-        if !is_tokens(&public.value, tokens) {
-            return false;
-        }
-    }
-    true
-}
-
-#[test]
-fn values_of_publics_are_moved_and_met(rt: HostRuntime) {
-    let alloc = rt.alloc();
-    let linked = linked(&rt, alloc);
-    let three = [Var(Letter::R, 1), Number(8), PLUS];
-    let four = [
-        Var(Letter::R, 3),
-        Var(Letter::I, 1),
-        PLUS,
-        Var(Letter::I, 0),
-        MINUS,
-    ];
-    let six = [Var(Letter::S, 4), Var(Letter::I, 2), PLUS];
-    let seven = [Var(Letter::I, 3), Var(Letter::I, 4), PLUS];
-    let wanted: [&[Token]; 6] = [
-        &[Var(Letter::R, 0)],
-        &three,
-        &four,
-        &[Var(Letter::R, 5)],
-        &six,
-        &seven,
-    ];
-    assert!(rt; have_values(linked.parts().names.publics.as_slice(), &wanted));
-}
-
-// Whether the reference at this position has this name and weak part.
-fn is_reference(
-    references: &[Reference],
-    position: usize,
-    wanted: &[u8],
-    weak: Option<Weak>,
-) -> bool {
-    match references.get(position) {
-        Some(reference) => reference.name.as_slice() == wanted && reference.weak == weak,
-        None => false,
-    }
-}
-
-#[test]
-fn names_met_before_and_after_leave_no_reference(rt: HostRuntime) {
-    let alloc = rt.alloc();
-    let linked = linked(&rt, alloc);
-    let references = linked.parts().names.references.as_slice();
-    assert_eq!(rt; references.len(), 2);
-    assert!(rt; is_reference(references, 0, b"lost", Some(OPTIONAL)));
-    assert!(rt; is_reference(references, 1, b"gone", None));
-}
-
-// Whether the loads at these positions are fields of these expressions.
-fn are_fields(loads: &[Load], wanted: &[(usize, &[Token])]) -> bool {
-    for (position, tokens) in wanted {
-        if !is_field(loads, *position, tokens) {
-            return false;
-        }
-    }
-    true
-}
-
-#[test]
-fn fields_of_references_are_met_or_merged(rt: HostRuntime) {
-    let alloc = rt.alloc();
-    let linked = linked(&rt, alloc);
-    let distance = [Var(Letter::I, 3), Var(Letter::P, 0), MINUS];
-    let both = [Var(Letter::I, 0), Var(Letter::X, 1), PLUS];
-    let wanted: [(usize, &[Token]); 5] = [
-        (1, &[Var(Letter::I, 1)]),
-        (2, &distance),
-        (5, &[Var(Letter::X, 0)]),
-        (8, &both),
-        (10, &[Var(Letter::X, 0)]),
-    ];
-    assert!(rt; are_fields(linked.parts().loads.as_slice(), &wanted));
-}
-
-#[test]
-fn loads_of_the_second_module_are_moved(rt: HostRuntime) {
-    let alloc = rt.alloc();
-    let linked = linked(&rt, alloc);
-    let loads = linked.parts().loads.as_slice();
-    assert!(rt; sets_section(loads, 3, 2));
-    assert!(rt; sets_counter(loads, 4, 2, &[Var(Letter::L, 2), Number(4), PLUS]));
-    assert!(rt; repeats_field(loads, 6, &[Var(Letter::P, 2), Var(Letter::I, 4), PLUS]));
-}
-
-// Whether the start is this expression.
-fn starts_at(parts: &Parts, tokens: &[Token]) -> bool {
-    match &parts.start {
-        Some(start) => is_tokens(start, tokens),
-        None => false,
-    }
-}
-
-#[test]
-fn loads_and_the_start_of_the_last_module_are_moved(rt: HostRuntime) {
-    let alloc = rt.alloc();
-    let linked = linked(&rt, alloc);
-    let loads = linked.parts().loads.as_slice();
-    assert_eq!(rt; loads.len(), 11);
-    assert!(rt; sets_section(loads, 7, 4));
-    assert!(rt; sets_section(loads, 9, 5));
-    assert!(rt;
-        starts_at(
-            linked.parts(),
-            &[Var(Letter::R, 5), Var(Letter::I, 2), PLUS]
-        )
-    );
-}
-
-// The item of a block at this position, where it is a block.
-fn inner(block: &Block, position: usize) -> Option<&Block> {
-    match block.items.get(position) {
-        Some(DebugItem::Block(its)) => Some(its),
-        _ => None,
-    }
-}
-
-// The block at this position of a list.
-fn outer(items: &[DebugItem], position: usize) -> Option<&Block> {
-    match items.get(position) {
-        Some(DebugItem::Block(its)) => Some(its),
-        _ => None,
-    }
-}
-
-// Whether the block is of a global function from this expression on.
-fn is_global(block: &Block, tokens: &[Token]) -> bool {
-    match &block.head {
-        BlockHead::Global { offset, .. } => is_tokens(offset, tokens),
-        _ => false,
-    }
-}
-
-// Whether the item gives this value to this debug name.
-fn is_value(item: &DebugItem, wanted: u32, tokens: &[Token]) -> bool {
-    match item {
-        DebugItem::Value { name, value } => *name == wanted && is_tokens(value, tokens),
-        _ => false,
-    }
-}
-
-#[test]
-fn values_of_debug_names_before_the_last_module_are_moved(rt: HostRuntime) {
-    let alloc = rt.alloc();
-    let linked = linked(&rt, alloc);
-    let items = linked.parts().debug.as_slice();
-    assert_eq!(rt; items.len(), 5);
-    let value = items.get(3).expect(&rt, "a value");
-    assert!(rt; is_value(value, 2, &[Var(Letter::R, 3)]));
-}
-
-// Whether the function begins and ends where that of the last module does.
-fn is_moved_function(function: &Block) -> bool {
-    is_global(function, &[Var(Letter::I, 4)]) && ends_with(function, &[Var(Letter::X, 1)])
-}
-
-// Whether the block in the function is a part of the first section of the last module, with the names there.
-fn is_moved_part(part: &Block) -> bool {
-    is_part_of(part, 4, &[Var(Letter::R, 4)])
-        && notes_name(part, 4)
-        && gives_value(part, 3, &[Var(Letter::I, 2), Number(1), PLUS])
-        && ends_with(part, &[Var(Letter::R, 4), Number(2), PLUS])
-}
-
-#[test]
-fn nested_blocks_of_the_last_module_are_moved(rt: HostRuntime) {
-    let alloc = rt.alloc();
-    let linked = linked(&rt, alloc);
-    let whole = outer(linked.parts().debug.as_slice(), 4).expect(&rt, "the module block");
-    let function = inner(whole, 1).expect(&rt, "the function");
-    assert!(rt; is_moved_function(function));
-    assert!(rt; is_moved_part(inner(function, 0).expect(&rt, "a part of it")));
-    let last = inner(whole, 2).expect(&rt, "the second part");
-    assert!(rt; is_part_of(last, 5, &[Var(Letter::R, 5)]) && ends_with(last, &[Number(5)]));
+fn positions_move_in_each_module_by_numbers_of_its_own(rt: HostRuntime) {
+    links_to(&rt, rt.alloc(), &[&FIRST, &SECOND, &THIRD], &ALL);
 }

@@ -1,0 +1,142 @@
+//! The files of modules, and the links of the modules that are read from them. Where there is no memory,
+//! a test fails.
+
+use mufom_host::{Host, MemHost};
+use mufom_link::{LinkRefusal, link, link_owned, may_be_linked};
+use mufom_module::Module;
+use mufom_numbers::List;
+use mufom_read::Reader;
+use mufom_write::write_module;
+use std::alloc::Global;
+use std::process::Abort;
+
+/// The descriptor of a module, and the records of its parts: the extension, the environment, the sections, the
+/// external part, the debug part, the data and the trailer. A part with none is absent.
+pub(crate) type Records<'a> = (&'a [u8], [&'a [u8]; 7]);
+
+/// The descriptor of a module whose addresses have four units, with the most significant byte first.
+pub(crate) const FOUR: &[u8] = b"\xEC\x08\x04\xCD";
+
+/// The name of each link.
+const NAME: &[u8] = b"whole";
+
+/// Room for the file of a link.
+const ROOM: usize = 4096;
+
+// Adds bytes to a file.
+fn add(rt: &impl Abort, file: &mut Vec<u8>, bytes: &[u8]) {
+    file.extend_from_slice(bytes).expect(rt, "memory");
+}
+
+// Adds the offset with this number, where the file goes on.
+fn add_offset(rt: &impl Abort, file: &mut Vec<u8>, number: u8, offset: u64) {
+    let [_, _, _, _, a, b, c, d] = offset.to_be_bytes();
+    add(rt, file, &[0xE2, 0xD7, number, 0x84, a, b, c, d]);
+}
+
+// Adds the offsets of these parts, and that of the end.
+fn add_offsets(rt: &impl Abort, file: &mut Vec<u8>, parts: &[&[u8]]) {
+    // After eight offsets of eight bytes the first part begins.
+    let mut place = (file.len() as u64).saturating_add(64);
+    let mut number = 0u8;
+    for part in parts {
+        let offset = if part.is_empty() { 0 } else { place };
+        add_offset(rt, file, number, offset);
+        place = place.saturating_add(part.len() as u64);
+        number = number.saturating_add(1);
+    }
+    add_offset(rt, file, 7, place);
+}
+
+/// The file of the module with these records, under a name of less than 128 bytes.
+pub(crate) fn file(rt: &impl Abort, alloc: Global, name: &[u8], records: &Records<'_>) -> Vec<u8> {
+    let mut file = Vec::new(alloc);
+    add(rt, &mut file, b"\xE0\x0568000");
+    add(rt, &mut file, &[u8::try_from(name.len()).unwrap_or(0)]);
+    add(rt, &mut file, name);
+    let (descriptor, parts) = records;
+    add(rt, &mut file, descriptor);
+    add_offsets(rt, &mut file, parts);
+    add_all(rt, &mut file, parts);
+    add(rt, &mut file, b"\xE1");
+    file
+}
+
+// Adds the bytes of these parts.
+fn add_all(rt: &impl Abort, file: &mut Vec<u8>, parts: &[&[u8]]) {
+    for part in parts {
+        add(rt, file, part);
+    }
+}
+
+/// The module of this file.
+pub(crate) fn read(rt: &impl Abort, alloc: Global, file: &[u8]) -> Module {
+    let mut reader = Reader::new(alloc, true).expect(rt, "memory");
+    reader.feed(file).expect(rt, "the bytes of a module");
+    reader.finish().expect(rt, "a module")
+}
+
+/// The module with these records.
+pub(crate) fn module(rt: &impl Abort, alloc: Global, records: &Records<'_>) -> Module {
+    read(rt, alloc, &file(rt, alloc, b"m", records))
+}
+
+// The modules with these records.
+fn modules(rt: &impl Abort, alloc: Global, list: &[&Records<'_>]) -> Vec<Module> {
+    let mut modules = Vec::new(alloc);
+    for records in list {
+        modules
+            .push(module(rt, alloc, records))
+            .expect(rt, "memory");
+    }
+    modules
+}
+
+// The module is written as this file.
+fn is_written(rt: &impl Abort, alloc: Global, module: &Module, file: &[u8]) {
+    let mut host = host(rt, alloc);
+    assert_eq!(rt; host.create("m"), Ok(()));
+    assert_eq!(rt; write_module(module, &mut host), Ok(()));
+    let (_, bytes) = host.making().expect(rt, "a file");
+    assert_eq!(rt; bytes, file);
+}
+
+// A host without files, on which nothing fails.
+fn host(rt: &impl Abort, alloc: Global) -> MemHost {
+    let (files, reads, writes) = (List::new(alloc), List::new(alloc), List::new(alloc));
+    MemHost::new(alloc, files, reads, writes, ROOM).expect(rt, "memory")
+}
+
+// The link of the list, where the list may be linked.
+fn try_link(alloc: Global, list: &[Module]) -> Result<Module, LinkRefusal> {
+    if !may_be_linked(list, NAME) {
+        return Err(LinkRefusal::NoMemory);
+    }
+    link(alloc, list, NAME)
+}
+
+// The link that takes the modules of the list, where the list may be linked.
+fn try_link_owned(alloc: Global, list: Vec<Module>) -> Result<Module, LinkRefusal> {
+    if !may_be_linked(&list, NAME) {
+        return Err(LinkRefusal::NoMemory);
+    }
+    link_owned(alloc, list, NAME)
+}
+
+/// The link of these modules is this one, from copies and from the modules themselves.
+pub(crate) fn links_to(rt: &impl Abort, alloc: Global, list: &[&Records<'_>], whole: &Records<'_>) {
+    let modules = modules(rt, alloc, list);
+    let file = file(rt, alloc, NAME, whole);
+    let linked = try_link(alloc, &modules).expect(rt, "linked");
+    is_written(rt, alloc, &linked, &file);
+    let linked = try_link_owned(alloc, modules).expect(rt, "linked");
+    is_written(rt, alloc, &linked, &file);
+}
+
+/// These modules are not linked, and this is why.
+pub(crate) fn refuses(rt: &impl Abort, alloc: Global, list: &[&Records<'_>], why: &str) {
+    let modules = modules(rt, alloc, list);
+    let refusal = try_link(alloc, &modules).err().expect(rt, "a refusal");
+    let text = format!(in alloc; "{refusal:?}").expect(rt, "memory");
+    assert_eq!(rt; text.as_str(), why);
+}
