@@ -22,6 +22,14 @@ fn refusal(parts: Parts) -> Option<Defect> {
     }
 }
 
+fn is_refused(rt: &impl Abort, parts: Parts, defect: Defect) {
+    assert_eq!(rt; refusal(parts), Some(defect));
+}
+
+fn is_taken(rt: &impl Abort, parts: Parts) {
+    assert_eq!(rt; refusal(parts), None);
+}
+
 #[test]
 fn a_module_has_its_parts_and_weight(rt: HostRuntime) {
     let module = made(&rt, small(&rt, rt.alloc()));
@@ -45,10 +53,10 @@ fn thirty_three_open_blocks_are_too_deep(rt: HostRuntime) {
     let alloc = rt.alloc();
     let mut parts = small(&rt, alloc);
     parts.debug = nested(&rt, alloc, 32);
-    assert_eq!(rt; refusal(parts), None);
+    is_taken(&rt, parts);
     let mut parts = small(&rt, alloc);
     parts.debug = nested(&rt, alloc, 33);
-    assert_eq!(rt; refusal(parts), Some(Defect::Depth));
+    is_refused(&rt, parts, Defect::Depth);
 }
 
 // Bytes that are one too many for a string.
@@ -61,14 +69,14 @@ fn a_name_of_65536_bytes_is_too_long(rt: HostRuntime) {
     let alloc = rt.alloc();
     let mut parts = small(&rt, alloc);
     parts.name = long(&rt, alloc);
-    assert_eq!(rt; refusal(parts), Some(Defect::LongId));
+    is_refused(&rt, parts, Defect::LongId);
 }
 
 #[test]
 fn nine_units_are_no_address(rt: HostRuntime) {
     let mut parts = small(&rt, rt.alloc());
     parts.maus = 9;
-    assert_eq!(rt; refusal(parts), Some(Defect::BadMaus));
+    is_refused(&rt, parts, Defect::BadMaus);
 }
 
 #[test]
@@ -78,7 +86,7 @@ fn alignment_zero_is_refused(rt: HostRuntime) {
     let mut bad = section(&rt, alloc, &CODE);
     bad.align = 0;
     parts.sections = list(&rt, alloc, bad);
-    assert_eq!(rt; refusal(parts), Some(Defect::BadAlign));
+    is_refused(&rt, parts, Defect::BadAlign);
 }
 
 #[test]
@@ -88,7 +96,7 @@ fn an_absolute_section_wants_a_base(rt: HostRuntime) {
     let mut bad = section(&rt, alloc, &CODE);
     bad.base = None;
     parts.sections = list(&rt, alloc, bad);
-    assert_eq!(rt; refusal(parts), Some(Defect::MissingBase));
+    is_refused(&rt, parts, Defect::MissingBase);
 }
 
 #[test]
@@ -96,7 +104,7 @@ fn a_second_section_is_not_there(rt: HostRuntime) {
     let alloc = rt.alloc();
     let mut parts = small(&rt, alloc);
     parts.loads = list(&rt, alloc, Load::SetSection(1));
-    assert_eq!(rt; refusal(parts), Some(Defect::Position));
+    is_refused(&rt, parts, Defect::Position);
 }
 
 // A note of the debug name 0.
@@ -113,7 +121,7 @@ fn a_note_before_its_name_has_a_bad_position(rt: HostRuntime) {
     let mut parts = small(&rt, alloc);
     let debug = list(&rt, alloc, noted(1));
     parts.debug = with(&rt, debug, DebugItem::Name(Bytes::new(alloc)));
-    assert_eq!(rt; refusal(parts), Some(Defect::Position));
+    is_refused(&rt, parts, Defect::Position);
 }
 
 #[test]
@@ -122,7 +130,7 @@ fn attribute_six_is_not_known(rt: HostRuntime) {
     let mut parts = small(&rt, alloc);
     let debug = list(&rt, alloc, DebugItem::Name(Bytes::new(alloc)));
     parts.debug = with(&rt, debug, noted(6));
-    assert_eq!(rt; refusal(parts), Some(Defect::Attribute));
+    is_refused(&rt, parts, Defect::Attribute);
 }
 
 #[test]
@@ -131,7 +139,7 @@ fn a_start_has_no_program_counter(rt: HostRuntime) {
     let mut parts = small(&rt, alloc);
     let counter = expression(&rt, alloc, &[Token::Var(Letter::P, 0)]);
     parts.start = Some(counter);
-    assert_eq!(rt; refusal(parts), Some(Defect::MisplacedP));
+    is_refused(&rt, parts, Defect::MisplacedP);
 }
 
 #[test]
@@ -140,7 +148,7 @@ fn an_item_before_the_first_section_is_refused(rt: HostRuntime) {
     let mut parts = small(&rt, alloc);
     let item = Item::Literal(Bytes::new(alloc));
     parts.loads = list(&rt, alloc, Load::One(item));
-    assert_eq!(rt; refusal(parts), Some(Defect::NoSection));
+    is_refused(&rt, parts, Defect::NoSection);
 }
 
 #[test]
@@ -150,7 +158,7 @@ fn a_literal_of_65536_bytes_is_too_long(rt: HostRuntime) {
     let item = Item::Literal(long(&rt, alloc));
     let loads = list(&rt, alloc, Load::SetSection(0));
     parts.loads = with(&rt, loads, Load::One(item));
-    assert_eq!(rt; refusal(parts), Some(Defect::LongRun));
+    is_refused(&rt, parts, Defect::LongRun);
 }
 
 // An absolute section of four bytes at 4, without a purpose.
@@ -178,9 +186,9 @@ fn with_field(rt: &impl Abort, alloc: Global, size: u8) -> Parts {
 fn a_field_of_nine_bytes_is_refused(rt: HostRuntime) {
     let alloc = rt.alloc();
     let parts = with_field(&rt, alloc, 4);
-    assert_eq!(rt; refusal(parts), None);
+    is_taken(&rt, parts);
     let parts = with_field(&rt, alloc, 9);
-    assert_eq!(rt; refusal(parts), Some(Defect::FieldSize));
+    is_refused(&rt, parts, Defect::FieldSize);
 }
 
 #[test]
@@ -190,7 +198,7 @@ fn a_module_block_has_no_end_expression(rt: HostRuntime) {
     let end = Some(constant(&rt, alloc, 0));
     let block = block(&rt, alloc, BlockHead::Module, b"", List::new(alloc), end);
     parts.debug = list(&rt, alloc, block);
-    assert_eq!(rt; refusal(parts), Some(Defect::Nesting));
+    is_refused(&rt, parts, Defect::Nesting);
 }
 
 // A public that has the value of the one at this position.

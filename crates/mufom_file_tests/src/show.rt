@@ -3,6 +3,7 @@
 mod every_line;
 mod plain;
 
+use crate::entries::list;
 use mufom_host::MemHost;
 use mufom_module::Module;
 use mufom_numbers::List;
@@ -13,35 +14,20 @@ use std::process::Abort;
 const ROOM: usize = 131_072;
 
 // A host on which the calls with these numbers fail.
-fn host(rt: &impl Abort, alloc: Global, calls: &[u64]) -> MemHost {
-    let mut failing = List::new(alloc);
-    for call in calls {
-        failing.push(*call).expect(rt, "memory");
-    }
-    let (files, reads) = (List::new(alloc), List::new(alloc));
-    MemHost::new(alloc, files, reads, failing, ROOM).expect(rt, "memory")
-}
-
-// The lines, each with its end.
-fn joined(rt: &impl Abort, alloc: Global, lines: &[&str]) -> Vec<u8> {
-    let mut all = Vec::new(alloc);
-    for line in lines {
-        all.extend_from_slice(line.as_bytes()).expect(rt, "memory");
-        all.push(b'\n').expect(rt, "memory");
-    }
-    all
+fn host(rt: &impl Abort, alloc: Global, failing: List<u64>) -> MemHost {
+    MemHost::new(alloc, List::new(alloc), List::new(alloc), failing, ROOM).expect(rt, "memory")
 }
 
 // The module is printed as this text.
 fn shows(rt: &impl Abort, alloc: Global, module: &Module, text: &[u8]) {
-    let mut host = host(rt, alloc, &[]);
+    let mut host = host(rt, alloc, List::new(alloc));
     assert_eq!(rt; print_module(alloc, &mut host, module), Ok(()));
     assert_eq!(rt; host.out(), text);
 }
 
 // Where the call with this number fails, this much of the text is printed.
 fn stops(rt: &impl Abort, alloc: Global, module: &Module, call: u64, text: &[u8]) {
-    let mut host = host(rt, alloc, &[call]);
+    let mut host = host(rt, alloc, list(rt, alloc, call));
     let outcome = print_module(alloc, &mut host, module);
     assert_eq!(rt; outcome, Err(PrintStop::Fault));
     assert_eq!(rt; host.out(), text);

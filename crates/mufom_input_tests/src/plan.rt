@@ -1,267 +1,216 @@
 //! Memory plans: the regions that documents state, and the first thing that is wrong with them.
 //! Lists of names too.
 
-use mufom_plan::{NameList, PlanField, PlanRefusal, read_plan};
+use mufom_plan::{NameList, PlanRefusal, read_plan};
 use std::alloc::Global;
+use std::process::Abort;
 
-fn refusal(alloc: Global, text: &str) -> Option<PlanRefusal> {
-    match read_plan(alloc, text.as_bytes()) {
-        Ok(_) => None,
-        Err(refusal) => Some(refusal),
-    }
+// A document comes to this: the plan that it states, or why it states none.
+fn comes_to(rt: &impl Abort, alloc: Global, document: &str, want: &str) {
+    let text = match read_plan(alloc, document.as_bytes()) {
+        Ok(plan) => format!(in alloc; "{plan:?}").expect(rt, "memory"),
+        Err(refusal) => format!(in alloc; "{refusal:?}").expect(rt, "memory"),
+    };
+    assert_eq!(rt; text.as_str(), want, "{document}");
 }
 
-fn shape(region: u32, field: PlanField) -> Option<PlanRefusal> {
-    Some(PlanRefusal::Shape {
-        region: Some(region),
-        field,
-    })
-}
-
-fn document(field: PlanField) -> Option<PlanRefusal> {
-    Some(PlanRefusal::Shape {
-        region: None,
-        field,
-    })
-}
-
-// The first examples of the guide to plans.
-#[test]
-fn reads_regions(rt: HostRuntime) {
-    let alloc = rt.alloc();
-    let plan = read_plan(
-        alloc,
-        b"[[region]]\nname = \"rom\"\nbase = 0x2000\nsize = 256\nsections = [\"*\"]\n",
-    )
-    .expect(&rt, "a plan");
-    assert_eq!(rt; plan.regions.len(), 1);
-    let rom = plan.regions.get(0).expect(&rt, "no region");
-    assert!(rt; rom.name.as_slice() == "rom".as_bytes());
-    assert_eq!(rt; (rom.base, rom.size), (8192, 256));
-    assert_eq!(rt; rom.sections.len(), 1);
-    assert!(rt; rom.sections.get(0).expect(&rt, "no name").as_slice() == "*".as_bytes());
-
-    let two = read_plan(
-        alloc,
-        b"region = [
-    { name = \"rom\", base = 0, size = 0x10000, sections = [\"vectors\", \"*\", \"tail\"] },
-    { name = \"ram\", base = 0x10000, size = 0x8000, sections = [\"data\", \"\"] },
-]
-",
-    )
-    .expect(&rt, "a plan");
-    assert_eq!(rt; two.regions.len(), 2);
-    let ram = two.regions.get(1).expect(&rt, "no region");
-    assert_eq!(rt; (ram.base, ram.size, ram.sections.len()), (65536, 32768, 2));
-    assert!(rt; ram.sections.get(0).expect(&rt, "no name").as_slice() == "data".as_bytes());
-    assert!(rt; ram.sections.get(1).expect(&rt, "no name").as_slice() == "".as_bytes());
-}
-
-#[test]
-fn reads_no_regions(rt: HostRuntime) {
-    for text in ["", "region = []", "# nothing\n"] {
-        assert_eq!(rt;
-            read_plan(rt.alloc(), text.as_bytes())
-                .expect(&rt, "a plan")
-                .regions
-                .len(),
-            0,
-            "{text}"
-        );
-    }
-}
-
-#[test]
-fn refuses_documents(rt: HostRuntime) {
-    for (text, want) in [
-        ("[[", Some(PlanRefusal::Syntax)),
-        ("region = []\nregion = []", Some(PlanRefusal::Syntax)),
-        ("regions = []", document(PlanField::Extra)),
-        ("entry = 1\nregion = 1", document(PlanField::Extra)),
-        ("region = 1", document(PlanField::Region)),
-        ("[region]", document(PlanField::Region)),
-        ("region = [{}, 1]", document(PlanField::Region)),
-    ] {
-        assert_eq!(rt; refusal(rt.alloc(), text), want, "{text}");
-    }
-    assert!(rt; matches!(read_plan(rt.alloc(), b"# \xFF"), Err(PlanRefusal::Syntax)));
-}
-
-// Documents of one region, with the part of it that is wrong first.
-const WRONG_REGIONS: [(&str, PlanField); 14] = [
+const PLANS: [(&str, &str); 8] = [
+    // The first examples of the guide to plans.
     (
-        "region = [{ name = '', base = -1, colour = 1 }]",
-        PlanField::Extra,
+        "[[region]]\nname = \"rom\"\nbase = 0x2000\nsize = 256\nsections = [\"*\"]\n",
+        "Plan { regions: List { items: [Region { name: Bytes { held: [114, 111, 109] }, base: 8192, size: 256, \
+            sections: List { items: [Bytes { held: [42] }] }, common: false }] } }",
     ),
     (
-        "region = [{ base = -1, size = -1, sections = 1 }]",
-        PlanField::Name,
+        "region = [\n    { name = \"rom\", base = 0, size = 0x10000, sections = [\"vectors\", \"*\", \
+            \"tail\"] },\n    { name = \"ram\", base = 0x10000, size = 0x8000, sections = [\"data\", \"\"] },\n]\n",
+        "Plan { regions: List { items: [Region { name: Bytes { held: [114, 111, 109] }, base: 0, size: 65536, \
+            sections: List { items: [Bytes { held: [118, 101, 99, 116, 111, 114, 115] }, Bytes { held: [42] }, \
+            Bytes { held: [116, 97, 105, 108] }] }, common: false }, Region { name: Bytes { held: [114, 97, 109] }, \
+            base: 65536, size: 32768, sections: List { items: [Bytes { held: [100, 97, 116, 97] }, \
+            Bytes { held: [] }] }, common: false }] } }",
     ),
+    // No regions.
+    ("", "Plan { regions: List { items: [] } }"),
+    ("region = []", "Plan { regions: List { items: [] } }"),
+    ("# nothing\n", "Plan { regions: List { items: [] } }"),
+    // The greatest end.
     (
-        "region = [{ name = 7, base = 0, size = 0, sections = [] }]",
-        PlanField::Name,
+        "region = [{ name = 'a', base = 9223372036854775807, size = 0, sections = [] }]",
+        "Plan { regions: List { items: [Region { name: Bytes { held: [97] }, base: 9223372036854775807, size: 0, \
+            sections: List { items: [] }, common: false }] } }",
     ),
+    // A region with other names than the one before it.
     (
-        "region = [{ name = '', base = -1, size = 0, sections = [] }]",
-        PlanField::Name,
+        "region = [{ name = 'a', base = 0, size = 1, sections = ['t', '*'] }, { name = 'b', base = 0, size = 1, \
+            sections = ['u'] }]",
+        "Plan { regions: List { items: [Region { name: Bytes { held: [97] }, base: 0, size: 1, \
+            sections: List { items: [Bytes { held: [116] }, Bytes { held: [42] }] }, common: false }, \
+            Region { name: Bytes { held: [98] }, base: 0, size: 1, \
+            sections: List { items: [Bytes { held: [117] }] }, common: false }] } }",
     ),
+    // The region that takes the commons.
     (
-        "region = [{ name = 'a', size = -1, sections = 1 }]",
-        PlanField::Base,
-    ),
-    (
-        "region = [{ name = 'a', base = -1, size = 0, sections = [] }]",
-        PlanField::Base,
-    ),
-    (
-        "region = [{ name = 'a', base = 1.0, size = 0, sections = [] }]",
-        PlanField::Base,
-    ),
-    (
-        "region = [{ name = 'a', base = 0, sections = 1 }]",
-        PlanField::Size,
-    ),
-    (
-        "region = [{ name = 'a', base = 0, size = '1', sections = [] }]",
-        PlanField::Size,
-    ),
-    (
-        "region = [{ name = 'a', base = 9223372036854775807, size = 1 }]",
-        PlanField::Sections,
-    ),
-    (
-        "region = [{ name = 'a', base = 0, size = 1, sections = 't' }]",
-        PlanField::Sections,
-    ),
-    (
-        "region = [{ name = 'a', base = 0, size = 1, sections = ['t', 1] }]",
-        PlanField::Sections,
-    ),
-    (
-        "region = [{ name = 'a', base = 0, size = 1, sections = ['t', 't'] }]",
-        PlanField::Sections,
-    ),
-    (
-        "region = [{ name = 'a', base = 0, size = 1, sections = ['*', 't', '*'] }]",
-        PlanField::Sections,
+        "region = [\n    { name = 'a', base = 0, size = 1, sections = [], common = false },\n    { name = 'b', \
+            base = 0, size = 1, sections = [], common = true },\n    { name = 'c', base = 0, size = 1, \
+            sections = [] },\n]",
+        "Plan { regions: List { items: [Region { name: Bytes { held: [97] }, base: 0, size: 1, \
+            sections: List { items: [] }, common: false }, Region { name: Bytes { held: [98] }, base: 0, size: 1, \
+            sections: List { items: [] }, common: true }, Region { name: Bytes { held: [99] }, base: 0, size: 1, \
+            sections: List { items: [] }, common: false }] } }",
     ),
 ];
 
 #[test]
-fn refuses_regions_in_order(rt: HostRuntime) {
-    for (text, field) in WRONG_REGIONS {
-        assert_eq!(rt; refusal(rt.alloc(), text), shape(0, field), "{text}");
+fn documents_state_plans(rt: HostRuntime) {
+    for (document, want) in &PLANS {
+        comes_to(&rt, rt.alloc(), document, want);
     }
 }
 
+const REFUSED: [(&str, &str); 30] = [
+    // Documents that have not the shape of a plan.
+    ("[[", "Syntax"),
+    ("region = []\nregion = []", "Syntax"),
+    ("regions = []", "Shape { region: None, field: Extra }"),
+    (
+        "entry = 1\nregion = 1",
+        "Shape { region: None, field: Extra }",
+    ),
+    ("region = 1", "Shape { region: None, field: Region }"),
+    ("[region]", "Shape { region: None, field: Region }"),
+    ("region = [{}, 1]", "Shape { region: None, field: Region }"),
+    // Documents of one region: the part of it that is wrong first.
+    (
+        "region = [{ name = '', base = -1, colour = 1 }]",
+        "Shape { region: Some(0), field: Extra }",
+    ),
+    (
+        "region = [{ base = -1, size = -1, sections = 1 }]",
+        "Shape { region: Some(0), field: Name }",
+    ),
+    (
+        "region = [{ name = 7, base = 0, size = 0, sections = [] }]",
+        "Shape { region: Some(0), field: Name }",
+    ),
+    (
+        "region = [{ name = '', base = -1, size = 0, sections = [] }]",
+        "Shape { region: Some(0), field: Name }",
+    ),
+    (
+        "region = [{ name = 'a', size = -1, sections = 1 }]",
+        "Shape { region: Some(0), field: Base }",
+    ),
+    (
+        "region = [{ name = 'a', base = -1, size = 0, sections = [] }]",
+        "Shape { region: Some(0), field: Base }",
+    ),
+    (
+        "region = [{ name = 'a', base = 1.0, size = 0, sections = [] }]",
+        "Shape { region: Some(0), field: Base }",
+    ),
+    (
+        "region = [{ name = 'a', base = 0, sections = 1 }]",
+        "Shape { region: Some(0), field: Size }",
+    ),
+    (
+        "region = [{ name = 'a', base = 0, size = '1', sections = [] }]",
+        "Shape { region: Some(0), field: Size }",
+    ),
+    (
+        "region = [{ name = 'a', base = 9223372036854775807, size = 1 }]",
+        "Shape { region: Some(0), field: Sections }",
+    ),
+    (
+        "region = [{ name = 'a', base = 0, size = 1, sections = 't' }]",
+        "Shape { region: Some(0), field: Sections }",
+    ),
+    (
+        "region = [{ name = 'a', base = 0, size = 1, sections = ['t', 1] }]",
+        "Shape { region: Some(0), field: Sections }",
+    ),
+    (
+        "region = [{ name = 'a', base = 0, size = 1, sections = ['t', 't'] }]",
+        "Shape { region: Some(0), field: Sections }",
+    ),
+    (
+        "region = [{ name = 'a', base = 0, size = 1, sections = ['*', 't', '*'] }]",
+        "Shape { region: Some(0), field: Sections }",
+    ),
+    // Names of earlier regions.
+    (
+        "region = [{ name = 'a', base = 0, size = 1, sections = ['t', '*'] }, { name = 'a', base = 0, size = 1, \
+            sections = ['u'] }]",
+        "Shape { region: Some(1), field: Name }",
+    ),
+    (
+        "region = [{ name = 'a', base = 0, size = 1, sections = ['t', '*'] }, { name = 'b', base = 0, size = 1, \
+            sections = ['u', 't'] }]",
+        "Shape { region: Some(1), field: Sections }",
+    ),
+    (
+        "region = [{ name = 'a', base = 0, size = 1, sections = ['t', '*'] }, { name = 'b', base = 0, size = 1, \
+            sections = ['*'] }]",
+        "Shape { region: Some(1), field: Sections }",
+    ),
+    // The truth value of a region, and a second one that is true.
+    (
+        "region = [{ name = 'a', base = 0, size = 0, sections = [], common = 1 }]",
+        "Shape { region: Some(0), field: Common }",
+    ),
+    (
+        "region = [{ name = 'a', base = 0, size = 0, sections = 1, common = 1 }]",
+        "Shape { region: Some(0), field: Sections }",
+    ),
+    (
+        "region = [{ name = 'a', base = 9223372036854775807, size = 1, sections = [], common = 'no' }]",
+        "Shape { region: Some(0), field: Common }",
+    ),
+    (
+        "region = [\n    { name = 'a', base = 0, size = 0, sections = [], common = true },\n    { name = 'b', \
+            base = 0, size = 0, sections = [], common = false },\n    { name = 'c', base = 0, size = 0, \
+            sections = [], common = true },\n]",
+        "Shape { region: Some(2), field: Common }",
+    ),
+    // Ends beyond the greatest.
+    (
+        "region = [{ name = 'a', base = 9223372036854775807, size = 1, sections = [] }]",
+        "Beyond(0)",
+    ),
+    (
+        "region = [{ name = 'a', base = 1, size = 9223372036854775807, sections = [] }]",
+        "Beyond(0)",
+    ),
+];
+
 #[test]
-fn refuses_names_of_earlier_regions(rt: HostRuntime) {
-    for (second, want) in [
-        ("{ name = 'b', base = 0, size = 1, sections = ['u'] }", None),
-        (
-            "{ name = 'a', base = 0, size = 1, sections = ['u'] }",
-            shape(1, PlanField::Name),
-        ),
-        (
-            "{ name = 'b', base = 0, size = 1, sections = ['u', 't'] }",
-            shape(1, PlanField::Sections),
-        ),
-        (
-            "{ name = 'b', base = 0, size = 1, sections = ['*'] }",
-            shape(1, PlanField::Sections),
-        ),
-    ] {
-        let alloc = rt.alloc();
-        let text = format!(in alloc;
-            "region = [{{ name = 'a', base = 0, size = 1, sections = ['t', '*'] }}, {second}]"
-        ).expect(&rt, "memory");
-        assert_eq!(rt; refusal(alloc, text.as_str()), want, "{second}");
+fn documents_are_refused_for_the_first_thing_that_is_wrong(rt: HostRuntime) {
+    for (document, want) in &REFUSED {
+        comes_to(&rt, rt.alloc(), document, want);
     }
 }
 
-// Which region takes the commons: a truth value, which is true in one region at most.
+// Why bytes are no plan.
+fn refusal(alloc: Global, bytes: &[u8]) -> Option<PlanRefusal> {
+    read_plan(alloc, bytes).err()
+}
+
 #[test]
-fn reads_the_common_region(rt: HostRuntime) {
+fn bytes_are_bounded_and_are_text(rt: HostRuntime) {
     let alloc = rt.alloc();
-    let plan = read_plan(
-        alloc,
-        b"region = [
-    { name = 'a', base = 0, size = 1, sections = [], common = false },
-    { name = 'b', base = 0, size = 1, sections = [], common = true },
-    { name = 'c', base = 0, size = 1, sections = [] },
-]",
-    )
-    .expect(&rt, "a plan");
-    assert_eq!(rt; plan.regions.len(), 3);
-    for (place, want) in [(0, false), (1, true), (2, false)] {
-        assert_eq!(rt;
-            plan.regions.get(place).expect(&rt, "no region").common,
-            want,
-            "{place}"
-        );
-    }
-}
-
-#[test]
-fn refuses_a_second_common_region(rt: HostRuntime) {
-    for (text, want) in [
-        (
-            "region = [{ name = 'a', base = 0, size = 0, sections = [], common = 1 }]",
-            shape(0, PlanField::Common),
-        ),
-        (
-            "region = [{ name = 'a', base = 0, size = 0, sections = 1, common = 1 }]",
-            shape(0, PlanField::Sections),
-        ),
-        (
-            "region = [{ name = 'a', base = 9223372036854775807, size = 1, sections = [], \
-                common = 'no' }]",
-            shape(0, PlanField::Common),
-        ),
-        (
-            "region = [
-    { name = 'a', base = 0, size = 0, sections = [], common = true },
-    { name = 'b', base = 0, size = 0, sections = [], common = false },
-    { name = 'c', base = 0, size = 0, sections = [], common = true },
-]",
-            shape(2, PlanField::Common),
-        ),
-    ] {
-        assert_eq!(rt; refusal(rt.alloc(), text), want, "{text}");
-    }
-}
-
-#[test]
-fn bounds_ends_and_bytes(rt: HostRuntime) {
-    let alloc = rt.alloc();
-    for (ends, want) in [
-        ("base = 9223372036854775807, size = 0", None),
-        (
-            "base = 9223372036854775807, size = 1",
-            Some(PlanRefusal::Beyond(0)),
-        ),
-        (
-            "base = 1, size = 9223372036854775807",
-            Some(PlanRefusal::Beyond(0)),
-        ),
-    ] {
-        let text = format!(in alloc; "region = [{{ name = 'a', {ends}, sections = [] }}]").expect(
-            &rt, "memory",
-        );
-        assert_eq!(rt; refusal(alloc, text.as_str()), want, "{ends}");
-    }
     let spaces = vec![in alloc; b' '; 65_537].expect(&rt, "memory");
-    assert!(rt; read_plan(alloc, &spaces[1..]).is_ok());
-    assert!(rt; matches!(read_plan(alloc, &spaces), Err(PlanRefusal::TooLong)));
+    assert_eq!(rt; refusal(alloc, &spaces[1..]), None);
+    assert_eq!(rt; refusal(alloc, &spaces), Some(PlanRefusal::TooLong));
+    assert_eq!(rt; refusal(alloc, b"# \xFF"), Some(PlanRefusal::Syntax));
 }
 
 #[test]
 fn finds_names_by_position(rt: HostRuntime) {
     let mut names = NameList::new(rt.alloc());
     assert!(rt; names.is_empty());
-    assert!(rt; names.add(b"code").expect(&rt, "memory"));
-    assert!(rt; names.add(b"data").expect(&rt, "memory"));
-    assert!(rt; !names.add(b"code").expect(&rt, "memory"));
+    for (name, is_new) in [(b"code", true), (b"data", true), (b"code", false)] {
+        assert_eq!(rt; names.add(name).expect(&rt, "memory"), is_new);
+    }
     assert_eq!(rt; names.len(), 2);
     assert_eq!(rt; names.position(b"data"), Some(1));
     assert_eq!(rt; names.position(b"bss"), None);

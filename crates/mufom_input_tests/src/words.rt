@@ -1,288 +1,231 @@
 //! Words of command lines: the commands that they give, and the first thing that is wrong with
 //! them.
 
-use mufom_words::{
-    Command, Mark, UsageFault, Verb, WordsStop, commands_are_sound, read_words, trees_are_spelled,
-};
+use mufom_words::{commands_are_sound, read_words, trees_are_spelled};
 use std::alloc::Global;
 use std::process::Abort;
 
-// What these words come to.
-fn answer(rt: &impl Abort, alloc: Global, line: &[&str]) -> Result<Command, WordsStop> {
+// The words of a line, with one blank between each two.
+fn words_of(rt: &impl Abort, alloc: Global, line: &str) -> Vec<String> {
     let mut words = Vec::new(alloc);
-    for word in line {
+    for word in line.split(' ') {
         let word = word.to_string(alloc).expect(rt, "memory");
         words.push(word).expect(rt, "memory");
     }
+    words
+}
+
+// What words come to: a command with all that it gives, or why they are none.
+fn answer(rt: &impl Abort, alloc: Global, words: &[String]) -> String {
     assert!(rt; words.len() < 1 << 32);
-    read_words(alloc, words.as_slice())
-}
-
-fn command(rt: &impl Abort, alloc: Global, line: &[&str]) -> Command {
-    answer(rt, alloc, line).expect(rt, "the words are a command")
-}
-
-// Why the words are no command.
-fn stop(rt: &impl Abort, alloc: Global, line: &[&str]) -> Option<WordsStop> {
-    answer(rt, alloc, line).err()
-}
-
-fn gives(
-    rt: &impl Abort,
-    alloc: Global,
-    line: &[&str],
-    verb: Verb,
-    no_debug: bool,
-    files: &[&str],
-) {
-    let command = command(rt, alloc, line);
-    assert_eq!(rt; command.verb, verb);
-    assert_eq!(rt; command.no_debug, no_debug);
-    assert_eq!(rt; command.files.len(), files.len());
-    for (name, file) in command.files.as_slice().iter().zip(files) {
-        assert_eq!(rt; name.as_str(), *file);
+    match read_words(alloc, words) {
+        Ok(command) => format!(in alloc; "{command:?}").expect(rt, "memory"),
+        Err(stop) => format!(in alloc; "{stop:?}").expect(rt, "memory"),
     }
 }
 
-fn fails(rt: &impl Abort, alloc: Global, line: &[&str], fault: UsageFault) {
-    assert_eq!(rt; stop(rt, alloc, line), Some(WordsStop::Usage(fault)));
+// The words of a line come to this.
+fn comes_to(rt: &impl Abort, alloc: Global, line: &str, want: &str) {
+    let words = words_of(rt, alloc, line);
+    let text = answer(rt, alloc, &words);
+    assert_eq!(rt; text.as_str(), want, "{line}");
 }
 
-#[test]
-fn commands_have_their_files_in_order(rt: HostRuntime) {
-    let alloc = rt.alloc();
-    gives(&rt, alloc, &["show", "a"], Verb::Show, false, &["a"]);
-    gives(&rt, alloc, &["dump", "a"], Verb::Dump, false, &["a"]);
-    gives(
-        &rt,
-        alloc,
-        &["check", "b", "a", "b"],
-        Verb::Check,
-        false,
-        &["b", "a", "b"],
-    );
-}
+// Lines and the commands that they give.
+const COMMANDS: [(&str, &str); 14] = [
+    // Files in their order.
+    (
+        "show a",
+        "Command { verb: Show, no_debug: false, name: None, out: None, plan: None, marks: List { items: [File(0)] }, \
+            files: List { items: [Text { text: \"a\" }] }, count: 0 }",
+    ),
+    (
+        "dump a",
+        "Command { verb: Dump, no_debug: false, name: None, out: None, plan: None, marks: List { items: [File(0)] }, \
+            files: List { items: [Text { text: \"a\" }] }, count: 0 }",
+    ),
+    (
+        "check b a b",
+        "Command { verb: Check, no_debug: false, name: None, out: None, plan: None, marks: List { items: [File(0), File(1), File(2)] }, \
+            files: List { items: [Text { text: \"b\" }, Text { text: \"a\" }, Text { text: \"b\" }] }, count: 0 }",
+    ),
+    // An option before, between and after files.
+    (
+        "show --no-debug a",
+        "Command { verb: Show, no_debug: true, name: None, out: None, plan: None, marks: List { items: [File(0)] }, \
+            files: List { items: [Text { text: \"a\" }] }, count: 0 }",
+    ),
+    (
+        "check a --no-debug b",
+        "Command { verb: Check, no_debug: true, name: None, out: None, plan: None, marks: List { items: [File(0), File(1)] }, \
+            files: List { items: [Text { text: \"a\" }, Text { text: \"b\" }] }, count: 0 }",
+    ),
+    (
+        "check a b --no-debug",
+        "Command { verb: Check, no_debug: true, name: None, out: None, plan: None, marks: List { items: [File(0), File(1)] }, \
+            files: List { items: [Text { text: \"a\" }, Text { text: \"b\" }] }, count: 0 }",
+    ),
+    // Two dashes end the options, and one dash names a file.
+    (
+        "check -- --no-debug -x",
+        "Command { verb: Check, no_debug: false, name: None, out: None, plan: None, marks: List { items: [File(0), File(1)] }, \
+            files: List { items: [Text { text: \"--no-debug\" }, Text { text: \"-x\" }] }, count: 0 }",
+    ),
+    (
+        "check - a",
+        "Command { verb: Check, no_debug: false, name: None, out: None, plan: None, marks: List { items: [File(0), File(1)] }, \
+            files: List { items: [Text { text: \"-\" }, Text { text: \"a\" }] }, count: 0 }",
+    ),
+    (
+        "show help",
+        "Command { verb: Show, no_debug: false, name: None, out: None, plan: None, marks: List { items: [File(0)] }, \
+            files: List { items: [Text { text: \"help\" }] }, count: 0 }",
+    ),
+    (
+        "show ",
+        "Command { verb: Show, no_debug: false, name: None, out: None, plan: None, marks: List { items: [File(0)] }, \
+            files: List { items: [Text { text: \"\" }] }, count: 0 }",
+    ),
+    // Groups and members, with a plan.
+    (
+        "dump [ [ a ] b ] c + --plan p d",
+        "Command { verb: Dump, no_debug: false, name: None, out: None, plan: Some(Text { text: \"p\" }), \
+            marks: List { items: [Open, Open, File(0), Close, File(1), Close, File(2)] }, \
+            files: List { items: [Text { text: \"a\" }, Text { text: \"b\" }, Text { text: \"c\" }, Text { text: \"d\" }] }, count: 0 }",
+    ),
+    // Options with values.
+    (
+        "link --name=n -oc a --no-debug",
+        "Command { verb: Link, no_debug: true, name: Some(Bytes { held: [110] }), out: Some(Text { text: \"c\" }), plan: None, \
+            marks: List { items: [File(0)] }, files: List { items: [Text { text: \"a\" }] }, count: 0 }",
+    ),
+    (
+        "locate -o=c --plan  a",
+        "Command { verb: Locate, no_debug: false, name: None, out: Some(Text { text: \"c\" }), plan: Some(Text { text: \"\" }), \
+            marks: List { items: [File(0)] }, files: List { items: [Text { text: \"a\" }] }, count: 0 }",
+    ),
+    (
+        "make 0065536",
+        "Command { verb: Make, no_debug: false, name: None, out: None, plan: None, marks: List { items: [] }, \
+            files: List { items: [] }, count: 65536 }",
+    ),
+];
 
 #[test]
-fn an_option_stands_before_between_and_after_files(rt: HostRuntime) {
-    let alloc = rt.alloc();
-    gives(
-        &rt,
-        alloc,
-        &["show", "--no-debug", "a"],
-        Verb::Show,
-        true,
-        &["a"],
-    );
-    gives(
-        &rt,
-        alloc,
-        &["check", "a", "--no-debug", "b"],
-        Verb::Check,
-        true,
-        &["a", "b"],
-    );
-    gives(
-        &rt,
-        alloc,
-        &["check", "a", "b", "--no-debug"],
-        Verb::Check,
-        true,
-        &["a", "b"],
-    );
-}
-
-#[test]
-fn two_dashes_end_the_options_and_one_names_a_file(rt: HostRuntime) {
-    let alloc = rt.alloc();
-    gives(
-        &rt,
-        alloc,
-        &["check", "--", "--no-debug", "-x"],
-        Verb::Check,
-        false,
-        &["--no-debug", "-x"],
-    );
-    gives(
-        &rt,
-        alloc,
-        &["check", "-", "a"],
-        Verb::Check,
-        false,
-        &["-", "a"],
-    );
-    gives(&rt, alloc, &["show", "help"], Verb::Show, false, &["help"]);
-    gives(&rt, alloc, &["show", ""], Verb::Show, false, &[""]);
-}
-
-#[test]
-fn words_without_a_command_are_refused(rt: HostRuntime) {
-    let alloc = rt.alloc();
-    fails(&rt, alloc, &[], UsageFault::NoCommand);
-    fails(&rt, alloc, &["dmup", "a"], UsageFault::NoCommand);
-    fails(&rt, alloc, &["--help"], UsageFault::NoCommand);
-    fails(&rt, alloc, &["Show", "a"], UsageFault::NoCommand);
-}
-
-#[test]
-fn options_that_a_command_has_not_are_refused(rt: HostRuntime) {
-    let alloc = rt.alloc();
-    fails(&rt, alloc, &["check", "-x"], UsageFault::BadWords);
-    fails(&rt, alloc, &["show", "--help"], UsageFault::BadWords);
-    fails(&rt, alloc, &["show", "-h", "a"], UsageFault::BadWords);
-    fails(&rt, alloc, &["dump", "-o", "c", "a"], UsageFault::BadWords);
-    fails(
-        &rt,
-        alloc,
-        &["show", "--no-debug=true", "a"],
-        UsageFault::BadWords,
-    );
-    fails(
-        &rt,
-        alloc,
-        &["show", "--no-debug", "a", "--no-debug"],
-        UsageFault::BadWords,
-    );
-}
-
-#[test]
-fn words_that_name_no_file_are_refused(rt: HostRuntime) {
-    let alloc = rt.alloc();
-    fails(&rt, alloc, &["dump"], UsageFault::NoFile);
-    fails(&rt, alloc, &["show"], UsageFault::NoFile);
-    fails(&rt, alloc, &["check", "--"], UsageFault::NoFile);
-    fails(&rt, alloc, &["show", "]"], UsageFault::StrayBracket);
-    fails(&rt, alloc, &["check", "+"], UsageFault::BadMembers);
-    fails(&rt, alloc, &["show", "a", "b"], UsageFault::FileCount);
-}
-
-#[test]
-fn the_first_fault_is_answered(rt: HostRuntime) {
-    let alloc = rt.alloc();
-    fails(&rt, alloc, &["check", "]", "-x"], UsageFault::BadWords);
-    fails(&rt, alloc, &["check", "+", "["], UsageFault::BadMembers);
-    fails(
-        &rt,
-        alloc,
-        &["check", "a", "[", "+"],
-        UsageFault::StrayBracket,
-    );
-    fails(&rt, alloc, &["dump", "a", "b", "+"], UsageFault::BadMembers);
-}
-
-#[test]
-fn files_are_at_most_1024(rt: HostRuntime) {
-    let alloc = rt.alloc();
-    let mut line = ["a"; 1026];
-    line[0] = "check";
-    let most = command(&rt, alloc, &line[..1025]);
-    assert_eq!(rt; most.files.len(), 1024);
-    assert_eq!(rt;
-        stop(&rt, alloc, &line),
-        Some(WordsStop::TooManyFiles(1025))
-    );
-    line[0] = "show";
-    fails(&rt, alloc, &line, UsageFault::FileCount);
-}
-
-#[test]
-fn groups_and_members_have_marks_and_files(rt: HostRuntime) {
-    let alloc = rt.alloc();
-    let line = [
-        "dump", "[", "[", "a", "]", "b", "]", "c", "+", "--plan", "p", "d",
-    ];
-    let dump = command(&rt, alloc, &line);
-    let marks = [
-        Mark::Open,
-        Mark::Open,
-        Mark::File(0),
-        Mark::Close,
-        Mark::File(1),
-        Mark::Close,
-        Mark::File(2),
-    ];
-    assert!(rt; dump.marks.as_slice() == marks.as_slice());
-    assert_eq!(rt; dump.files.len(), 4);
-    assert_eq!(rt; dump.files.get(3).expect(&rt, "no member").as_str(), "d");
-    assert_eq!(rt; dump.plan.expect(&rt, "no plan").as_str(), "p");
-    assert_eq!(rt; dump.count, 0);
+fn lines_give_commands(rt: HostRuntime) {
+    for (line, want) in &COMMANDS {
+        comes_to(&rt, rt.alloc(), line, want);
+    }
     trees_are_spelled();
     commands_are_sound();
 }
 
-#[test]
-fn options_of_the_other_commands(rt: HostRuntime) {
-    let alloc = rt.alloc();
-    let line = ["link", "--name=n", "-oc", "a", "--no-debug"];
-    let link = command(&rt, alloc, &line);
-    assert_eq!(rt; link.verb, Verb::Link);
-    assert!(rt; link.no_debug);
-    assert!(rt; link.name.expect(&rt, "no name").as_slice() == "n".as_bytes());
-    assert_eq!(rt; link.out.expect(&rt, "no output").as_str(), "c");
-    let locate = command(&rt, alloc, &["locate", "-o=c", "--plan", "", "a"]);
-    assert_eq!(rt; locate.plan.expect(&rt, "no plan").as_str(), "");
-    assert_eq!(rt; locate.out.expect(&rt, "no output").as_str(), "c");
-    let make = command(&rt, alloc, &["make", "0065536"]);
-    assert_eq!(rt; (make.count, make.files.len()), (65_536, 0));
-}
+// Lines that give none, and the first thing that is wrong with each.
+const FAULTS: [(&str, &str); 40] = [
+    // Without a command.
+    ("dmup a", "Usage(NoCommand)"),
+    ("--help", "Usage(NoCommand)"),
+    ("Show a", "Usage(NoCommand)"),
+    // Options that a command has not.
+    ("check -x", "Usage(BadWords)"),
+    ("show --help", "Usage(BadWords)"),
+    ("show -h a", "Usage(BadWords)"),
+    ("dump -o c a", "Usage(BadWords)"),
+    ("show --no-debug=true a", "Usage(BadWords)"),
+    ("show --no-debug a --no-debug", "Usage(BadWords)"),
+    // Words that name no file, and too many files.
+    ("dump", "Usage(NoFile)"),
+    ("show", "Usage(NoFile)"),
+    ("check --", "Usage(NoFile)"),
+    ("show ]", "Usage(StrayBracket)"),
+    ("check +", "Usage(BadMembers)"),
+    ("show a b", "Usage(FileCount)"),
+    // The first fault.
+    ("check ] -x", "Usage(BadWords)"),
+    ("check + [", "Usage(BadMembers)"),
+    ("check a [ +", "Usage(StrayBracket)"),
+    ("dump a b +", "Usage(BadMembers)"),
+    // Groups and members.
+    ("dump [ ] ] ]", "Usage(EmptyGroup)"),
+    ("dump ] [ ] +", "Usage(StrayBracket)"),
+    ("dump a [ b c", "Usage(OpenGroup)"),
+    ("dump [ a + ]", "Usage(BadMembers)"),
+    ("dump a + b +", "Usage(BadMembers)"),
+    ("dump a b c +", "Usage(BadMembers)"),
+    ("dump a + [ b", "Usage(BadMembers)"),
+    ("dump a + ] b", "Usage(StrayBracket)"),
+    ("dump + a ] b", "Usage(BadMembers)"),
+    ("dump a ] + +", "Usage(StrayBracket)"),
+    ("dump -- [ ] -o", "Usage(EmptyGroup)"),
+    ("dump [ ] -x a", "Usage(BadWords)"),
+    // Single lines.
+    ("locate [ a", "Usage(BadWords)"),
+    ("make", "Usage(FileCount)"),
+    ("make 0 ]", "Usage(FileCount)"),
+    ("make 0", "Usage(BadCount)"),
+    ("make 65537", "Usage(BadCount)"),
+    ("make +1", "Usage(BadCount)"),
+    ("make 1a", "Usage(BadCount)"),
+    ("make ", "Usage(BadCount)"),
+    ("make 99999999999999999999", "Usage(BadCount)"),
+];
 
-fn line_fails(rt: &impl Abort, alloc: Global, line: &[&str; 5], fault: UsageFault) {
-    fails(rt, alloc, line, fault);
-}
-
 #[test]
-fn faults_of_groups_and_members(rt: HostRuntime) {
-    let alloc = rt.alloc();
-    for (line, fault) in [
-        (["dump", "[", "]", "]", "]"], UsageFault::EmptyGroup),
-        (["dump", "]", "[", "]", "+"], UsageFault::StrayBracket),
-        (["dump", "a", "[", "b", "c"], UsageFault::OpenGroup),
-        (["dump", "[", "a", "+", "]"], UsageFault::BadMembers),
-        (["dump", "a", "+", "b", "+"], UsageFault::BadMembers),
-        (["dump", "a", "b", "c", "+"], UsageFault::BadMembers),
-        (["dump", "a", "+", "[", "b"], UsageFault::BadMembers),
-        (["dump", "a", "+", "]", "b"], UsageFault::StrayBracket),
-        (["dump", "+", "a", "]", "b"], UsageFault::BadMembers),
-        (["dump", "a", "]", "+", "+"], UsageFault::StrayBracket),
-        (["dump", "--", "[", "]", "-o"], UsageFault::EmptyGroup),
-        (["dump", "[", "]", "-x", "a"], UsageFault::BadWords),
-    ] {
-        line_fails(&rt, alloc, &line, fault);
+fn lines_are_refused_for_their_first_fault(rt: HostRuntime) {
+    for (line, want) in &FAULTS {
+        comes_to(&rt, rt.alloc(), line, want);
     }
 }
 
 #[test]
-fn faults_of_single_lines(rt: HostRuntime) {
-    let alloc = rt.alloc();
-    fails(&rt, alloc, &["dump"], UsageFault::NoFile);
-    fails(&rt, alloc, &["locate", "[", "a"], UsageFault::BadWords);
-    fails(&rt, alloc, &["make"], UsageFault::FileCount);
-    fails(&rt, alloc, &["make", "0", "]"], UsageFault::FileCount);
-    for count in ["0", "65537", "+1", "1a", "", "99999999999999999999"] {
-        fails(&rt, alloc, &["make", count], UsageFault::BadCount);
+fn no_words_are_no_command(rt: HostRuntime) {
+    let text = answer(&rt, rt.alloc(), &[]);
+    assert_eq!(rt; text.as_str(), "Usage(NoCommand)");
+}
+
+// A word, and then some words a number of times, each text with the blank before it.
+fn long_line(rt: &impl Abort, alloc: Global, first: &str, rest: &[(&str, u32)]) -> String {
+    let mut line = first.to_string(alloc).expect(rt, "memory");
+    for (words, count) in rest {
+        for _ in 0..*count {
+            line.push_str(words).expect(rt, "memory");
+        }
     }
+    line
+}
+
+// How many files the command of a line has, and how many marks.
+fn counts(rt: &impl Abort, alloc: Global, line: &str) -> (usize, usize) {
+    let words = words_of(rt, alloc, line);
+    assert!(rt; words.len() < 1 << 32);
+    let command = read_words(alloc, &words).expect(rt, "a command");
+    (command.files.len(), command.marks.len())
 }
 
 #[test]
-fn groups_65_deep_are_too_deep(rt: HostRuntime) {
-    let alloc = rt.alloc();
-    let mut line = ["["; 132];
-    line[0] = "dump";
-    line[66] = "a";
-    for at in 67..132 {
-        line[at] = "]";
-    }
-    assert_eq!(rt; stop(&rt, alloc, &line), Some(WordsStop::TooDeep(65)));
+fn files_are_at_most_1024(rt: HostRuntime) {
+    let line = long_line(&rt, rt.alloc(), "check", &[(" a", 1024)]);
+    assert_eq!(rt; counts(&rt, rt.alloc(), &line), (1024, 1024));
+    let line = long_line(&rt, rt.alloc(), "check", &[(" a", 1025)]);
+    comes_to(&rt, rt.alloc(), &line, "TooManyFiles(1025)");
+    let line = long_line(&rt, rt.alloc(), "show", &[(" a", 1025)]);
+    comes_to(&rt, rt.alloc(), &line, "Usage(FileCount)");
 }
 
 #[test]
-fn groups_64_deep_are_taken(rt: HostRuntime) {
-    let alloc = rt.alloc();
-    let mut line = ["["; 130];
-    line[0] = "dump";
-    line[65] = "a";
-    for at in 66..130 {
-        line[at] = "]";
-    }
-    assert_eq!(rt; stop(&rt, alloc, &line), None);
+fn groups_are_at_most_64_deep(rt: HostRuntime) {
+    let line = long_line(
+        &rt,
+        rt.alloc(),
+        "dump",
+        &[(" [", 64), (" a", 1), (" ]", 64)],
+    );
+    assert_eq!(rt; counts(&rt, rt.alloc(), &line), (1, 129));
+    let line = long_line(
+        &rt,
+        rt.alloc(),
+        "dump",
+        &[(" [", 65), (" a", 1), (" ]", 65)],
+    );
+    comes_to(&rt, rt.alloc(), &line, "TooDeep(65)");
 }

@@ -6,10 +6,11 @@
 
 ghost use Rattle.std.specs.Prelude.{◌<◌};
 
-use crate::tests::{read, refused, stop};
+use crate::tests::{comes_to, read, refused};
 use mufom_module::Module;
 use mufom_numbers::Reason;
 use std::alloc::Global;
+use std::process::Abort;
 
 // Absolute sections for the 68020.
 const M68K_ABSOLUTE: &[u8] = b"\
@@ -255,36 +256,40 @@ fn figures_of(alloc: Global, stream: &[u8], size: usize, reads_debug: bool) -> O
     }
 }
 
-#[test]
-fn files_of_a_toolchain_are_modules(rt: HostRuntime) {
-    let alloc = rt.alloc();
-    for (file, reads_debug, sections, publics, references, loads) in [
-        (M68K_ABSOLUTE, true, 5, 18, 0, 13),
-        (M68K_OBJECT, true, 3, 4, 3, 15),
-        (M68K_OBJECT_ELF, true, 3, 4, 3, 15),
-        (H8300_OBJECT, true, 3, 2, 0, 11),
-        (H8300_DEBUG, false, 6, 15, 0, 6),
-    ] {
-        let wanted = Some(Figures {
-            sections,
-            publics,
-            references,
-            loads,
-        });
-        assert_eq!(rt; figures_of(alloc, file, 65_536, reads_debug), wanted);
-        assert_eq!(rt; figures_of(alloc, file, 1, reads_debug), wanted);
+// Whole and byte by byte, the file is a module with these figures.
+fn has_figures(rt: &impl Abort, alloc: Global, file: &[u8], reads_debug: bool, wanted: Figures) {
+    assert_eq!(rt; figures_of(alloc, file, 65_536, reads_debug), Some(wanted));
+    assert_eq!(rt; figures_of(alloc, file, 1, reads_debug), Some(wanted));
+}
+
+fn counted(sections: usize, publics: usize, references: usize, loads: usize) -> Figures {
+    Figures {
+        sections,
+        publics,
+        references,
+        loads,
     }
 }
 
 #[test]
-fn files_beyond_the_profile_are_refused(rt: HostRuntime) {
+fn files_of_a_toolchain_are_modules(rt: HostRuntime) {
     let alloc = rt.alloc();
-    for (file, place, reason) in [
-        (H8300_DEBUG, 621, Reason::UnsupportedBlock),
-        (M68K_NO_COMMA, 381, Reason::SurplusTerms),
-    ] {
-        let wanted = refused(place, reason);
-        assert_eq!(rt; stop(alloc, file, 65_536, true), wanted);
-        assert_eq!(rt; stop(alloc, file, 1, true), wanted);
-    }
+    has_figures(&rt, alloc, M68K_ABSOLUTE, true, counted(5, 18, 0, 13));
+    has_figures(&rt, alloc, M68K_OBJECT, true, counted(3, 4, 3, 15));
+    has_figures(&rt, alloc, M68K_OBJECT_ELF, true, counted(3, 4, 3, 15));
+    has_figures(&rt, alloc, H8300_OBJECT, true, counted(3, 2, 0, 11));
+    has_figures(&rt, alloc, H8300_DEBUG, false, counted(6, 15, 0, 6));
+}
+
+// Whole and byte by byte, the file is refused there for this reason.
+fn is_refused(rt: &impl Abort, alloc: Global, file: &[u8], place: u64, reason: Reason) {
+    let wanted = refused(place, reason);
+    comes_to(rt, alloc, file, 65_536, true, wanted);
+    comes_to(rt, alloc, file, 1, true, wanted);
+}
+
+#[test]
+fn files_beyond_the_profile_are_refused(rt: HostRuntime) {
+    is_refused(&rt, rt.alloc(), H8300_DEBUG, 621, Reason::UnsupportedBlock);
+    is_refused(&rt, rt.alloc(), M68K_NO_COMMA, 381, Reason::SurplusTerms);
 }

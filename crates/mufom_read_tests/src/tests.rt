@@ -11,42 +11,30 @@ use std::alloc::Global;
 use std::process::Abort;
 
 // An absolute section of four bytes at 1000, loaded whole, with its start address.
-pub(crate) const PLAIN: [u8; 120] = [
-    0xE0, 0x05, 0x36, 0x38, 0x30, 0x30, 0x30, 0x01, 0x41, 0xEC, 0x08, 0x04, 0xCD, 0xE2, 0xD7, 0x00,
-    0x84, 0x00, 0x00, 0x00, 0x00, 0xE2, 0xD7, 0x01, 0x84, 0x00, 0x00, 0x00, 0x00, 0xE2, 0xD7, 0x02,
-    0x84, 0x00, 0x00, 0x00, 0x4D, 0xE2, 0xD7, 0x03, 0x84, 0x00, 0x00, 0x00, 0x00, 0xE2, 0xD7, 0x04,
-    0x84, 0x00, 0x00, 0x00, 0x00, 0xE2, 0xD7, 0x05, 0x84, 0x00, 0x00, 0x00, 0x64, 0xE2, 0xD7, 0x06,
-    0x84, 0x00, 0x00, 0x00, 0x72, 0xE2, 0xD7, 0x07, 0x84, 0x00, 0x00, 0x00, 0x77, 0xE6, 0x01, 0xC1,
-    0xD3, 0xD0, 0x04, 0x63, 0x6F, 0x64, 0x65, 0xE7, 0x01, 0x02, 0xE2, 0xD3, 0x01, 0x04, 0xE2, 0xCC,
-    0x01, 0x82, 0x10, 0x00, 0xE5, 0x01, 0xE2, 0xD0, 0x01, 0x82, 0x10, 0x00, 0xED, 0x04, 0x4E, 0x71,
-    0x4E, 0x75, 0xE2, 0xC7, 0x82, 0x10, 0x00, 0xE1,
-];
+pub(crate) const PLAIN: &[u8; 120] = b"\
+    \xE0\x05\x36\x38\x30\x30\x30\x01\x41\xEC\x08\x04\xCD\xE2\xD7\x00\x84\x00\x00\x00\x00\xE2\xD7\x01\x84\x00\x00\x00\x00\xE2\xD7\x02\
+    \x84\x00\x00\x00\x4D\xE2\xD7\x03\x84\x00\x00\x00\x00\xE2\xD7\x04\x84\x00\x00\x00\x00\xE2\xD7\x05\x84\x00\x00\x00\x64\xE2\xD7\x06\
+    \x84\x00\x00\x00\x72\xE2\xD7\x07\x84\x00\x00\x00\x77\xE6\x01\xC1\xD3\xD0\x04\x63\x6F\x64\x65\xE7\x01\x02\xE2\xD3\x01\x04\xE2\xCC\
+    \x01\x82\x10\x00\xE5\x01\xE2\xD0\x01\x82\x10\x00\xED\x04\x4E\x71\x4E\x75\xE2\xC7\x82\x10\x00\xE1\
+    ";
 
 // A relocatable section with raw parts, a public with a note, a reference, fields and a start.
-const PROGRAM: [u8; 164] = [
-    0xE0, 0x05, 0x36, 0x38, 0x30, 0x30, 0x30, 0x04, 0x70, 0x72, 0x6F, 0x67, 0xEC, 0x08, 0x04, 0xE2,
-    0xD7, 0x00, 0x84, 0x00, 0x00, 0x00, 0x4F, 0xE2, 0xD7, 0x01, 0x84, 0x00, 0x00, 0x00, 0x52, 0xE2,
-    0xD7, 0x02, 0x84, 0x00, 0x00, 0x00, 0x55, 0xE2, 0xD7, 0x03, 0x84, 0x00, 0x00, 0x00, 0x66, 0xE2,
-    0xD7, 0x04, 0x84, 0x00, 0x00, 0x00, 0x00, 0xE2, 0xD7, 0x05, 0x84, 0x00, 0x00, 0x00, 0x81, 0xE2,
-    0xD7, 0x06, 0x84, 0x00, 0x00, 0x00, 0x9B, 0xE2, 0xD7, 0x07, 0x84, 0x00, 0x00, 0x00, 0xA3, 0xF0,
-    0x20, 0x00, 0xF0, 0x21, 0x00, 0xE6, 0x01, 0xC3, 0xD0, 0x05, 0x2E, 0x74, 0x65, 0x78, 0x74, 0xE7,
-    0x01, 0x02, 0xE2, 0xD3, 0x01, 0x0C, 0xE8, 0x20, 0x04, 0x6D, 0x61, 0x69, 0x6E, 0xF1, 0xC9, 0x20,
-    0x0F, 0x13, 0x01, 0xE2, 0xC9, 0x20, 0xD2, 0x01, 0x04, 0xA5, 0xE9, 0x0B, 0x04, 0x65, 0x78, 0x69,
-    0x74, 0xE5, 0x01, 0xE2, 0xD0, 0x01, 0xD2, 0x01, 0xE4, 0x04, 0x4E, 0x71, 0x4E, 0x71, 0xBE, 0xD2,
-    0x01, 0x04, 0xA5, 0xBF, 0xBA, 0xD8, 0x0B, 0xD0, 0x01, 0xA6, 0xBB, 0xE2, 0xC7, 0xBE, 0xD2, 0x01,
-    0x04, 0xA5, 0xBF, 0xE1,
-];
+const PROGRAM: &[u8; 164] = b"\
+    \xE0\x05\x36\x38\x30\x30\x30\x04\x70\x72\x6F\x67\xEC\x08\x04\xE2\xD7\x00\x84\x00\x00\x00\x4F\xE2\xD7\x01\x84\x00\x00\x00\x52\xE2\
+    \xD7\x02\x84\x00\x00\x00\x55\xE2\xD7\x03\x84\x00\x00\x00\x66\xE2\xD7\x04\x84\x00\x00\x00\x00\xE2\xD7\x05\x84\x00\x00\x00\x81\xE2\
+    \xD7\x06\x84\x00\x00\x00\x9B\xE2\xD7\x07\x84\x00\x00\x00\xA3\xF0\x20\x00\xF0\x21\x00\xE6\x01\xC3\xD0\x05\x2E\x74\x65\x78\x74\xE7\
+    \x01\x02\xE2\xD3\x01\x0C\xE8\x20\x04\x6D\x61\x69\x6E\xF1\xC9\x20\x0F\x13\x01\xE2\xC9\x20\xD2\x01\x04\xA5\xE9\x0B\x04\x65\x78\x69\
+    \x74\xE5\x01\xE2\xD0\x01\xD2\x01\xE4\x04\x4E\x71\x4E\x71\xBE\xD2\x01\x04\xA5\xBF\xBA\xD8\x0B\xD0\x01\xA6\xBB\xE2\xC7\xBE\xD2\x01\
+    \x04\xA5\xBF\xE1\
+    ";
 
 // A relocatable section and the public that the program refers to.
-const LIBRARY: [u8; 111] = [
-    0xE0, 0x05, 0x36, 0x38, 0x30, 0x30, 0x30, 0x03, 0x6C, 0x69, 0x62, 0xEC, 0x08, 0x04, 0xE2, 0xD7,
-    0x00, 0x84, 0x00, 0x00, 0x00, 0x00, 0xE2, 0xD7, 0x01, 0x84, 0x00, 0x00, 0x00, 0x00, 0xE2, 0xD7,
-    0x02, 0x84, 0x00, 0x00, 0x00, 0x4E, 0xE2, 0xD7, 0x03, 0x84, 0x00, 0x00, 0x00, 0x5C, 0xE2, 0xD7,
-    0x04, 0x84, 0x00, 0x00, 0x00, 0x00, 0xE2, 0xD7, 0x05, 0x84, 0x00, 0x00, 0x00, 0x68, 0xE2, 0xD7,
-    0x06, 0x84, 0x00, 0x00, 0x00, 0x00, 0xE2, 0xD7, 0x07, 0x84, 0x00, 0x00, 0x00, 0x6E, 0xE6, 0x01,
-    0xC3, 0xD0, 0x05, 0x2E, 0x74, 0x65, 0x78, 0x74, 0xE2, 0xD3, 0x01, 0x02, 0xE8, 0x20, 0x04, 0x65,
-    0x78, 0x69, 0x74, 0xE2, 0xC9, 0x20, 0xD2, 0x01, 0xE5, 0x01, 0xED, 0x02, 0x4E, 0x75, 0xE1,
-];
+const LIBRARY: &[u8; 111] = b"\
+    \xE0\x05\x36\x38\x30\x30\x30\x03\x6C\x69\x62\xEC\x08\x04\xE2\xD7\x00\x84\x00\x00\x00\x00\xE2\xD7\x01\x84\x00\x00\x00\x00\xE2\xD7\
+    \x02\x84\x00\x00\x00\x4E\xE2\xD7\x03\x84\x00\x00\x00\x5C\xE2\xD7\x04\x84\x00\x00\x00\x00\xE2\xD7\x05\x84\x00\x00\x00\x68\xE2\xD7\
+    \x06\x84\x00\x00\x00\x00\xE2\xD7\x07\x84\x00\x00\x00\x6E\xE6\x01\xC3\xD0\x05\x2E\x74\x65\x78\x74\xE2\xD3\x01\x02\xE8\x20\x04\x65\
+    \x78\x69\x74\xE2\xC9\x20\xD2\x01\xE5\x01\xED\x02\x4E\x75\xE1\
+    ";
 
 // What the program states.
 const PROGRAM_TEXT: &str =
@@ -67,13 +55,11 @@ const PROGRAM_TEXT: &str =
     Fun(Plus)] }) }";
 
 // Blocks of each kind, a name, its note and its values.
-const BLOCKS: [u8; 74] = [
-    0xF0, 0x20, 0x01, 0x78, 0xF1, 0xCE, 0x20, 0x0F, 0x07, 0x01, 0xF8, 0x03, 0x00, 0x01, 0x6D, 0xF8,
-    0x05, 0x00, 0x01, 0x73, 0x01, 0x02, 0xF8, 0x04, 0x00, 0x01, 0x66, 0x00, 0x0F, 0xD2, 0x01, 0xF8,
-    0x06, 0x00, 0x01, 0x67, 0x02, 0x00, 0xD2, 0x01, 0x04, 0xA5, 0xE2, 0xCE, 0x20, 0xD2, 0x01, 0xF9,
-    0xD2, 0x01, 0x08, 0xA5, 0xF9, 0xD2, 0x01, 0x0C, 0xA5, 0xF9, 0xF8, 0x0B, 0x00, 0x01, 0x63, 0x01,
-    0x01, 0xD2, 0x01, 0xF9, 0x10, 0xF9, 0xE2, 0xCE, 0x20, 0x01,
-];
+const BLOCKS: &[u8; 74] = b"\
+    \xF0\x20\x01\x78\xF1\xCE\x20\x0F\x07\x01\xF8\x03\x00\x01\x6D\xF8\x05\x00\x01\x73\x01\x02\xF8\x04\x00\x01\x66\x00\x0F\xD2\x01\xF8\
+    \x06\x00\x01\x67\x02\x00\xD2\x01\x04\xA5\xE2\xCE\x20\xD2\x01\xF9\xD2\x01\x08\xA5\xF9\xD2\x01\x0C\xA5\xF9\xF8\x0B\x00\x01\x63\x01\
+    \x01\xD2\x01\xF9\x10\xF9\xE2\xCE\x20\x01\
+    ";
 
 // What these state.
 const BLOCKS_TEXT: &str =
@@ -92,280 +78,22 @@ const BLOCKS_TEXT: &str =
     Some(Postfix { tokens: [Number(16)] }) })] }, end: None }), Value { name: 0, value: \
     Postfix { tokens: [Number(1)] } }] }";
 
-// Where a row's bytes go: in place of a byte of the plain module; or as its data, debug or external part.
-#[derive(Clone, Copy)]
-enum Row {
-    Byte(usize, u8),
-    Data(&'static [u8]),
-    Debug(&'static [u8]),
-    External(&'static [u8]),
+// ---- streams
+
+/// These bytes.
+pub(crate) fn copied(rt: &impl Abort, alloc: Global, bytes: &[u8]) -> Vec<u8> {
+    Vec::from_slice(alloc, bytes).expect(rt, "memory")
 }
 
-// A row, the offset at which it is refused, and why.
-type Refused = (Row, u64, Reason);
-
-const REFUSED: [Refused; 66] = [
-    (Row::Byte(0, 0xE1), 0, Reason::BadHeader),
-    (Row::Byte(9, 0xE2), 9, Reason::BadHeader),
-    (Row::Byte(15, 0x01), 13, Reason::BadHeader),
-    (Row::Byte(14, 0xD3), 13, Reason::BadHeader),
-    (Row::Byte(10, 0x89), 10, Reason::BadNumber),
-    (Row::Byte(10, 0x10), 9, Reason::BadDescriptor),
-    (Row::Byte(11, 0x09), 9, Reason::BadDescriptor),
-    (Row::Byte(76, 0x00), 69, Reason::OffsetOrder),
-    (Row::Byte(60, 0x40), 53, Reason::OffsetOrder),
-    (Row::Byte(36, 0x4E), 77, Reason::PartGap),
-    (Row::Byte(60, 0x63), 94, Reason::PartGap),
-    (Row::Byte(78, 0x02), 87, Reason::UnknownIndex),
-    (Row::Byte(89, 0x00), 87, Reason::BadAlignment),
-    (Row::Byte(101, 0x02), 100, Reason::UnknownIndex),
-    (Row::Byte(108, 0xE0), 114, Reason::BadId),
-    (Row::Byte(79, 0xC2), 79, Reason::BadSectionType),
-    (Row::Byte(52, 0x01), 45, Reason::OffsetOrder),
-    (Row::Byte(52, 0x4E), 77, Reason::PartGap),
-    (Row::Byte(119, 0xE4), 119, Reason::WrongPart),
-    (Row::Data(&[0xE5, 0x89]), 101, Reason::BadNumber),
-    (Row::Data(&[0xE2, 0xAA]), 101, Reason::BadRecord),
-    (Row::Data(&[0xF2]), 100, Reason::UnsupportedRecord),
-    (
-        Row::Data(&[0xE2, 0xD0, 0x01, 0x01, 0x02, 0xB9]),
-        105,
-        Reason::UnsupportedFunction,
-    ),
-    (
-        Row::Data(&[0xE2, 0xD0, 0x01, 0xC1, 0x01]),
-        103,
-        Reason::UnsupportedVariable,
-    ),
-    (Row::Data(&[0xE2, 0xD0, 0x01, 0xA5]), 103, Reason::Underflow),
-    (
-        Row::Data(&[0xE2, 0xD0, 0x01, 0x01, 0x02, 0xE5, 0x01]),
-        105,
-        Reason::SurplusTerms,
-    ),
-    (
-        Row::Data(&[0xE2, 0xD0, 0x01, 0xE5, 0x01]),
-        103,
-        Reason::Empty,
-    ),
-    (
-        Row::Data(&[0xED, 0x83, 0x01, 0x00, 0x00]),
-        101,
-        Reason::LongRun,
-    ),
-    (
-        Row::Data(&[0xE5, 0x01, 0xE4, 0xBE, 0x00, 0x90, 0x09, 0xBF]),
-        106,
-        Reason::BadFieldSize,
-    ),
-    (
-        Row::Data(&[0xE5, 0x01, 0xE4, 0xBE, 0x00, 0xBB]),
-        105,
-        Reason::BracketMismatch,
-    ),
-    (Row::Data(&[0xE7, 0x01, 0x02]), 100, Reason::WrongPart),
-    (Row::Data(&[0xED, 0x01, 0xAA]), 100, Reason::NoSection),
-    (Row::Data(&[0xE4]), 100, Reason::NoSection),
-    (Row::Data(&[0xE5, 0x01, 0xE1]), 102, Reason::WrongPart),
-    (
-        Row::Data(&[0xE5, 0x01, 0xE2, 0xD0, 0x01, 0xD0, 0x02]),
-        102,
-        Reason::UnknownIndex,
-    ),
-    (
-        Row::Data(&[0xE5, 0x01, 0xE2, 0xD0, 0x01, 0xE0]),
-        105,
-        Reason::Empty,
-    ),
-    (Row::Data(&[0x00]), 100, Reason::BadRecord),
-    (
-        Row::Data(&[0xF8, 0x07, 0x00, 0x00]),
-        101,
-        Reason::UnsupportedBlock,
-    ),
-    (
-        Row::Data(&[0xF1, 0xCE, 0x20, 0x00, 0x06]),
-        104,
-        Reason::UnsupportedAttribute,
-    ),
-    (Row::Debug(&[0xF9]), 100, Reason::BlockNesting),
-    (
-        Row::Debug(&[0xF8, 0x03, 0x00, 0x01, 0x61, 0xF9, 0x00]),
-        105,
-        Reason::BlockNesting,
-    ),
-    (
-        Row::Debug(&[0xF8, 0x05, 0x00, 0x01, 0x61, 0xF9, 0x00]),
-        105,
-        Reason::BlockNesting,
-    ),
-    (
-        Row::Debug(&[0xF8, 0x03, 0x00, 0x01, 0x61, 0xF8, 0x03, 0x00, 0x01, 0x62]),
-        105,
-        Reason::BlockNesting,
-    ),
-    (Row::Debug(&[0xF9, 0xD2, 0x02]), 100, Reason::UnknownIndex),
-    (
-        Row::Debug(&[0xF8, 0x0B, 0x00, 0x00, 0x00, 0x02, 0x00]),
-        100,
-        Reason::UnknownIndex,
-    ),
-    (
-        Row::Debug(&[0xF0, 0x20, 0x01, 0x61, 0xF0, 0x20, 0x01, 0x62]),
-        104,
-        Reason::DuplicateIndex,
-    ),
-    (
-        Row::Debug(&[0xE2, 0xCE, 0x20, 0x00]),
-        100,
-        Reason::UnknownIndex,
-    ),
-    (
-        Row::Debug(&[0xF0, 0x20, 0x01, 0x61, 0xE2, 0xCE, 0x20, 0xD0, 0x01]),
-        104,
-        Reason::BadP,
-    ),
-    (
-        Row::Debug(&[0xE8, 0x20, 0x01, 0x61]),
-        100,
-        Reason::WrongPart,
-    ),
-    (
-        Row::Debug(&[0xF8, 0x07, 0x00, 0x01, 0x61]),
-        101,
-        Reason::UnsupportedBlock,
-    ),
-    (
-        Row::Debug(&[0xF1, 0xCE, 0x20, 0x00, 0x06]),
-        104,
-        Reason::UnsupportedAttribute,
-    ),
-    (
-        Row::External(&[0xE8, 0x20, 0x01, 0x61]),
-        100,
-        Reason::MissingValue,
-    ),
-    (
-        Row::External(&[0xE8, 0x20, 0x01, 0x61, 0xE2, 0xC9, 0x20, 0xD0, 0x01]),
-        104,
-        Reason::BadP,
-    ),
-    (
-        Row::External(&[0xE8, 0x20, 0x01, 0x61, 0xE2, 0xC9, 0x20, 0xC9, 0x21]),
-        104,
-        Reason::UnknownIndex,
-    ),
-    (
-        Row::External(&[0xE8, 0x20, 0x01, 0x61, 0xE8, 0x20, 0x01, 0x62]),
-        104,
-        Reason::DuplicateIndex,
-    ),
-    (
-        Row::External(&[
-            0xE8, 0x20, 0x01, 0x61, 0xE2, 0xC9, 0x20, 0x00, 0xE2, 0xC9, 0x20, 0x01,
-        ]),
-        108,
-        Reason::DuplicateValue,
-    ),
-    (
-        Row::External(&[0xE2, 0xC9, 0x20, 0x00]),
-        100,
-        Reason::UnknownIndex,
-    ),
-    (
-        Row::External(&[0xE9, 0x0B, 0x01, 0x61, 0xF4, 0x0B, 0x04, 0xF4, 0x0B, 0x04]),
-        107,
-        Reason::DuplicateValue,
-    ),
-    (
-        Row::External(&[0xF1, 0xC9, 0x20, 0x00, 0x00, 0x00, 0x00]),
-        100,
-        Reason::UnknownIndex,
-    ),
-    (
-        Row::External(&[
-            0xE8, 0x20, 0x01, 0x61, 0xE8, 0x21, 0x01, 0x62, 0xE2, 0xC9, 0x21, 0xC9, 0x22,
-        ]),
-        100,
-        Reason::MissingValue,
-    ),
-    // Two faults each, of which the one that is judged first counts.
-    (
-        Row::External(&[0xE8, 0x20, 0x01, 0x61, 0xE2, 0xC9, 0x20, 0xD0, 0x09]),
-        104,
-        Reason::BadP,
-    ),
-    (
-        Row::External(&[0xE2, 0xC9, 0x20, 0xD0, 0x09]),
-        100,
-        Reason::UnknownIndex,
-    ),
-    (
-        Row::External(&[
-            0xE8, 0x20, 0x01, 0x61, 0xE2, 0xC9, 0x20, 0x00, 0xE2, 0xC9, 0x20, 0xD0, 0x01,
-        ]),
-        108,
-        Reason::DuplicateValue,
-    ),
-    (
-        Row::External(&[0xE9, 0x0B, 0x01, 0x61, 0xF4, 0x0B, 0x04, 0xF4, 0x0C, 0x04]),
-        107,
-        Reason::UnknownIndex,
-    ),
-    (
-        Row::Data(&[0xE5, 0x01, 0xE4, 0xBE, 0x01, 0x02, 0xBB]),
-        106,
-        Reason::SurplusTerms,
-    ),
-    (
-        Row::Data(&[0xE5, 0x01, 0xE4, 0xBE, 0xBB]),
-        104,
-        Reason::Empty,
-    ),
-];
-
-// The bytes of the parts, one after another, with some bytes changed: each by its offset.
-fn changed(rt: &impl Abort, alloc: Global, parts: &[&[u8]], changes: &[(usize, u8)]) -> Vec<u8> {
-    let mut all = Vec::new(alloc);
-    for part in parts {
-        all.extend_from_slice(part).expect(rt, "memory");
-    }
-    for (place, byte) in changes {
-        if let Some(old) = all.get_mut(*place) {
-            *old = *byte;
-        }
-    }
-    all
+/// Adds bytes at the end.
+pub(crate) fn add(rt: &impl Abort, stream: &mut Vec<u8>, bytes: &[u8]) {
+    stream.extend_from_slice(bytes).expect(rt, "memory");
 }
 
-// The header of the plain module with other offsets.
-fn header(rt: &impl Abort, alloc: Global, offsets: [u16; 8]) -> Vec<u8> {
-    let mut all = changed(rt, alloc, &[&PLAIN[..13]], &[]);
-    for number in 0..8u8 {
-        let [high, low] = offsets[number as usize].to_be_bytes();
-        all.extend_from_slice(&[0xE2, 0xD7, number, 0x84, 0, 0, high, low])
-            .expect(rt, "memory");
-    }
-    all
-}
-
-// The plain module with this header and part, and with no other part after its section.
-fn with_part(rt: &impl Abort, alloc: Global, offsets: [u16; 8], part: &[u8]) -> Vec<u8> {
-    let header = header(rt, alloc, offsets);
-    changed(rt, alloc, &[&header, &PLAIN[77..100], part, &[0xE1]], &[])
-}
-
-fn stream(rt: &impl Abort, alloc: Global, row: Row) -> Vec<u8> {
-    match row {
-        Row::Byte(place, byte) => changed(rt, alloc, &[&PLAIN], &[(place, byte)]),
-        Row::Data(part) => with_part(rt, alloc, [0, 0, 77, 0, 0, 100, 0, end_after(part)], part),
-        Row::Debug(part) => with_part(rt, alloc, [0, 0, 77, 0, 100, 0, 0, end_after(part)], part),
-        Row::External(part) => with_part(
-            rt,
-            alloc,
-            [0, 0, 77, 100, 0, 0, 0, end_after(part)],
-            part,
-        ),
+/// Changes one byte.
+pub(crate) fn set(stream: &mut Vec<u8>, place: usize, byte: u8) {
+    if let Some(old) = stream.get_mut(place) {
+        *old = byte;
     }
 }
 
@@ -374,7 +102,28 @@ fn end_after(part: &[u8]) -> u16 {
     u16::try_from(part.len().saturating_add(100)).unwrap_or(u16::MAX)
 }
 
-// The module of a stream that is fed in chunks of the given number of bytes, or why there is none.
+// Where the plain module has the low byte of the offset of a part.
+const EXTERNAL: usize = 44;
+
+const DEBUG: usize = 52;
+
+const DATA: usize = 60;
+
+// The plain module with this part, whose offset stands there, and with no other after its section.
+fn with_part(rt: &impl Abort, alloc: Global, offset: usize, part: &[u8]) -> Vec<u8> {
+    let [high, low] = end_after(part).to_be_bytes();
+    let mut stream = copied(rt, alloc, &PLAIN[..100]);
+    for (place, byte) in [(DATA, 0), (offset, 100), (68, 0), (75, high), (76, low)] {
+        set(&mut stream, place, byte);
+    }
+    add(rt, &mut stream, part);
+    add(rt, &mut stream, b"\xE1");
+    stream
+}
+
+// ---- what streams come to
+
+/// The module of a stream that is fed in chunks of the given number of bytes, or why there is none.
 pub(crate) fn read(
     alloc: Global,
     stream: &[u8],
@@ -396,7 +145,7 @@ pub(crate) fn refused(place: u64, reason: Reason) -> Option<ReadStop> {
     Some(ReadStop::Refused(ReadRefusal { place, reason }))
 }
 
-pub(crate) fn stop(alloc: Global, stream: &[u8], size: usize, reads_debug: bool) -> Option<ReadStop>
+fn stop(alloc: Global, stream: &[u8], size: usize, reads_debug: bool) -> Option<ReadStop>
     requires { 0 < size }
 {
     match read(alloc, stream, size, reads_debug) {
@@ -405,131 +154,384 @@ pub(crate) fn stop(alloc: Global, stream: &[u8], size: usize, reads_debug: bool)
     }
 }
 
+/// The text of the parts of a module whose stream is fed in chunks of the given number of bytes.
+pub(crate) fn text_of(rt: &impl Abort, alloc: Global, stream: &[u8], size: usize) -> String
+    requires { 0 < size }
+{
+    match read(alloc, stream, size, true) {
+        Ok(module) => format!(in alloc; "{:?}", module.parts()).expect(rt, "memory"),
+        Err(stop) => panic!(rt; "{stop:?}"),
+    }
+}
+
+/// A stream that is fed in chunks of the given number of bytes comes to this: a module, if none.
+pub(crate) fn comes_to(
+    rt: &impl Abort,
+    alloc: Global,
+    stream: &[u8],
+    size: usize,
+    reads_debug: bool,
+    wanted: Option<ReadStop>,
+)
+    requires { 0 < size }
+{
+    assert_eq!(rt; stop(alloc, stream, size, reads_debug), wanted);
+}
+
+// A stream, whole and in chunks of one byte and of seven, is refused there for this reason.
+fn is_refused(rt: &impl Abort, alloc: Global, stream: &[u8], place: u64, reason: Reason) {
+    let wanted = refused(place, reason);
+    comes_to(rt, alloc, stream, 1000, true, wanted);
+    comes_to(rt, alloc, stream, 1, true, wanted);
+    comes_to(rt, alloc, stream, 7, true, wanted);
+}
+
+fn is_module(rt: &impl Abort, alloc: Global, stream: &[u8]) {
+    comes_to(rt, alloc, stream, 1000, true, None);
+    comes_to(rt, alloc, stream, 1, true, None);
+    comes_to(rt, alloc, stream, 3, false, None);
+}
+
+// ---- refused streams
+
+// The place and the value of a byte of the plain module, the offset at which it is refused, and why.
+type Changed = (usize, u8, u64, Reason);
+
+const CHANGED: [Changed; 19] = [
+    (0, 0xE1, 0, Reason::BadHeader),
+    (9, 0xE2, 9, Reason::BadHeader),
+    (15, 0x01, 13, Reason::BadHeader),
+    (14, 0xD3, 13, Reason::BadHeader),
+    (10, 0x89, 10, Reason::BadNumber),
+    (10, 0x10, 9, Reason::BadDescriptor),
+    (11, 0x09, 9, Reason::BadDescriptor),
+    (76, 0x00, 69, Reason::OffsetOrder),
+    (60, 0x40, 53, Reason::OffsetOrder),
+    (36, 0x4E, 77, Reason::PartGap),
+    (60, 0x63, 94, Reason::PartGap),
+    (78, 0x02, 87, Reason::UnknownIndex),
+    (89, 0x00, 87, Reason::BadAlignment),
+    (101, 0x02, 100, Reason::UnknownIndex),
+    (108, 0xE0, 114, Reason::BadId),
+    (79, 0xC2, 79, Reason::BadSectionType),
+    (52, 0x01, 45, Reason::OffsetOrder),
+    (52, 0x4E, 77, Reason::PartGap),
+    (119, 0xE4, 119, Reason::WrongPart),
+];
+
+fn changed_is_refused(rt: &impl Abort, alloc: Global, row: &Changed) {
+    let mut stream = copied(rt, alloc, PLAIN);
+    set(&mut stream, row.0, row.1);
+    is_refused(rt, alloc, &stream, row.2, row.3);
+}
+
+#[test]
+fn a_changed_byte_is_refused_at_its_place(rt: HostRuntime) {
+    for row in &CHANGED {
+        changed_is_refused(&rt, rt.alloc(), row);
+    }
+}
+
+// A part, the offset at which it is refused, and why.
+type Part = (usize, &'static [u8], u64, Reason);
+
+const PARTS: [Part; 47] = [
+    (DATA, b"\xE5\x89", 101, Reason::BadNumber),
+    (DATA, b"\xE2\xAA", 101, Reason::BadRecord),
+    (DATA, b"\xF2", 100, Reason::UnsupportedRecord),
+    (
+        DATA,
+        b"\xE2\xD0\x01\x01\x02\xB9",
+        105,
+        Reason::UnsupportedFunction,
+    ),
+    (
+        DATA,
+        b"\xE2\xD0\x01\xC1\x01",
+        103,
+        Reason::UnsupportedVariable,
+    ),
+    (DATA, b"\xE2\xD0\x01\xA5", 103, Reason::Underflow),
+    (
+        DATA,
+        b"\xE2\xD0\x01\x01\x02\xE5\x01",
+        105,
+        Reason::SurplusTerms,
+    ),
+    (DATA, b"\xE2\xD0\x01\xE5\x01", 103, Reason::Empty),
+    (DATA, b"\xED\x83\x01\x00\x00", 101, Reason::LongRun),
+    (
+        DATA,
+        b"\xE5\x01\xE4\xBE\x00\x90\x09\xBF",
+        106,
+        Reason::BadFieldSize,
+    ),
+    (
+        DATA,
+        b"\xE5\x01\xE4\xBE\x00\xBB",
+        105,
+        Reason::BracketMismatch,
+    ),
+    (DATA, b"\xE7\x01\x02", 100, Reason::WrongPart),
+    (DATA, b"\xED\x01\xAA", 100, Reason::NoSection),
+    (DATA, b"\xE4", 100, Reason::NoSection),
+    (DATA, b"\xE5\x01\xE1", 102, Reason::WrongPart),
+    (
+        DATA,
+        b"\xE5\x01\xE2\xD0\x01\xD0\x02",
+        102,
+        Reason::UnknownIndex,
+    ),
+    (DATA, b"\xE5\x01\xE2\xD0\x01\xE0", 105, Reason::Empty),
+    (DATA, b"\x00", 100, Reason::BadRecord),
+    (DATA, b"\xF8\x07\x00\x00", 101, Reason::UnsupportedBlock),
+    (
+        DATA,
+        b"\xF1\xCE\x20\x00\x06",
+        104,
+        Reason::UnsupportedAttribute,
+    ),
+    (DEBUG, b"\xF9", 100, Reason::BlockNesting),
+    (
+        DEBUG,
+        b"\xF8\x03\x00\x01\x61\xF9\x00",
+        105,
+        Reason::BlockNesting,
+    ),
+    (
+        DEBUG,
+        b"\xF8\x05\x00\x01\x61\xF9\x00",
+        105,
+        Reason::BlockNesting,
+    ),
+    (
+        DEBUG,
+        b"\xF8\x03\x00\x01\x61\xF8\x03\x00\x01\x62",
+        105,
+        Reason::BlockNesting,
+    ),
+    (DEBUG, b"\xF9\xD2\x02", 100, Reason::UnknownIndex),
+    (
+        DEBUG,
+        b"\xF8\x0B\x00\x00\x00\x02\x00",
+        100,
+        Reason::UnknownIndex,
+    ),
+    (
+        DEBUG,
+        b"\xF0\x20\x01\x61\xF0\x20\x01\x62",
+        104,
+        Reason::DuplicateIndex,
+    ),
+    (DEBUG, b"\xE2\xCE\x20\x00", 100, Reason::UnknownIndex),
+    (
+        DEBUG,
+        b"\xF0\x20\x01\x61\xE2\xCE\x20\xD0\x01",
+        104,
+        Reason::BadP,
+    ),
+    (DEBUG, b"\xE8\x20\x01\x61", 100, Reason::WrongPart),
+    (
+        DEBUG,
+        b"\xF8\x07\x00\x01\x61",
+        101,
+        Reason::UnsupportedBlock,
+    ),
+    (
+        DEBUG,
+        b"\xF1\xCE\x20\x00\x06",
+        104,
+        Reason::UnsupportedAttribute,
+    ),
+    (EXTERNAL, b"\xE8\x20\x01\x61", 100, Reason::MissingValue),
+    (
+        EXTERNAL,
+        b"\xE8\x20\x01\x61\xE2\xC9\x20\xD0\x01",
+        104,
+        Reason::BadP,
+    ),
+    (
+        EXTERNAL,
+        b"\xE8\x20\x01\x61\xE2\xC9\x20\xC9\x21",
+        104,
+        Reason::UnknownIndex,
+    ),
+    (
+        EXTERNAL,
+        b"\xE8\x20\x01\x61\xE8\x20\x01\x62",
+        104,
+        Reason::DuplicateIndex,
+    ),
+    (
+        EXTERNAL,
+        b"\xE8\x20\x01\x61\xE2\xC9\x20\x00\xE2\xC9\x20\x01",
+        108,
+        Reason::DuplicateValue,
+    ),
+    (EXTERNAL, b"\xE2\xC9\x20\x00", 100, Reason::UnknownIndex),
+    (
+        EXTERNAL,
+        b"\xE9\x0B\x01\x61\xF4\x0B\x04\xF4\x0B\x04",
+        107,
+        Reason::DuplicateValue,
+    ),
+    (
+        EXTERNAL,
+        b"\xF1\xC9\x20\x00\x00\x00\x00",
+        100,
+        Reason::UnknownIndex,
+    ),
+    (
+        EXTERNAL,
+        b"\xE8\x20\x01\x61\xE8\x21\x01\x62\xE2\xC9\x21\xC9\x22",
+        100,
+        Reason::MissingValue,
+    ),
+    // Two faults each, of which the one that is judged first counts.
+    (
+        EXTERNAL,
+        b"\xE8\x20\x01\x61\xE2\xC9\x20\xD0\x09",
+        104,
+        Reason::BadP,
+    ),
+    (EXTERNAL, b"\xE2\xC9\x20\xD0\x09", 100, Reason::UnknownIndex),
+    (
+        EXTERNAL,
+        b"\xE8\x20\x01\x61\xE2\xC9\x20\x00\xE2\xC9\x20\xD0\x01",
+        108,
+        Reason::DuplicateValue,
+    ),
+    (
+        EXTERNAL,
+        b"\xE9\x0B\x01\x61\xF4\x0B\x04\xF4\x0C\x04",
+        107,
+        Reason::UnknownIndex,
+    ),
+    (
+        DATA,
+        b"\xE5\x01\xE4\xBE\x01\x02\xBB",
+        106,
+        Reason::SurplusTerms,
+    ),
+    (DATA, b"\xE5\x01\xE4\xBE\xBB", 104, Reason::Empty),
+];
+
+fn part_is_refused(rt: &impl Abort, alloc: Global, row: &Part) {
+    let stream = with_part(rt, alloc, row.0, row.1);
+    is_refused(rt, alloc, &stream, row.2, row.3);
+}
+
 #[test]
 fn each_reason_has_its_place(rt: HostRuntime) {
-    let alloc = rt.alloc();
-    for (row, place, reason) in &REFUSED {
-        let stream = stream(&rt, alloc, *row);
-        let wanted = refused(*place, *reason);
-        assert_eq!(rt; stop(alloc, &stream, 1000, true), wanted, "{stream:?}");
-        assert_eq!(rt; stop(alloc, &stream, 1, true), wanted, "{stream:?}");
-        assert_eq!(rt; stop(alloc, &stream, 7, true), wanted, "{stream:?}");
+    for row in &PARTS {
+        part_is_refused(&rt, rt.alloc(), row);
     }
 }
 
 #[test]
 fn modules_are_read_whole_and_byte_by_byte(rt: HostRuntime) {
-    let alloc = rt.alloc();
-    for stream in [PLAIN.as_slice(), PROGRAM.as_slice(), LIBRARY.as_slice()] {
-        assert_eq!(rt; stop(alloc, stream, 1000, true), None);
-        assert_eq!(rt; stop(alloc, stream, 1, true), None);
-        assert_eq!(rt; stop(alloc, stream, 3, false), None);
-    }
+    is_module(&rt, rt.alloc(), PLAIN);
+    is_module(&rt, rt.alloc(), PROGRAM);
+    is_module(&rt, rt.alloc(), LIBRARY);
+}
+
+fn is_truncated(rt: &impl Abort, alloc: Global, stream: &[u8]) {
+    let wanted = refused(stream.len() as u64, Reason::Truncated);
+    comes_to(rt, alloc, stream, 1000, true, wanted);
 }
 
 #[test]
 fn a_prefix_of_a_module_is_truncated(rt: HostRuntime) {
-    let alloc = rt.alloc();
-    for length in 0..PROGRAM.len() {
-        let stop = stop(alloc, &PROGRAM[..length], 1000, true);
-        assert_eq!(rt; stop, refused(length as u64, Reason::Truncated));
+    for length in 0..164 {
+        is_truncated(&rt, rt.alloc(), &PROGRAM[..length]);
     }
 }
 
 #[test]
 fn a_byte_after_the_end_is_refused(rt: HostRuntime) {
-    let alloc = rt.alloc();
-    let stream = changed(&rt, alloc, &[&PLAIN, &[0]], &[]);
-    assert_eq!(rt;
-        stop(alloc, &stream, 1000, true),
-        refused(120, Reason::AfterEnd)
-    );
-    assert_eq!(rt;
-        stop(alloc, &stream, 1, true),
-        refused(120, Reason::AfterEnd)
-    );
+    let mut stream = copied(&rt, rt.alloc(), PLAIN);
+    add(&rt, &mut stream, b"\x00");
+    is_refused(&rt, rt.alloc(), &stream, 120, Reason::AfterEnd);
 }
+
+fn feeds(rt: &impl Abort, reader: &mut Reader, chunk: &[u8], wanted: Result<(), ReadStop>) {
+    assert_eq!(rt; reader.feed(chunk), wanted);
+}
+
+// Why a reader ends with no module.
+fn end(reader: Reader) -> Option<ReadStop> {
+    match reader.finish() {
+        Ok(_) => None,
+        Err(stop) => Some(stop),
+    }
+}
+
+const BAD_HEADER: ReadStop = ReadStop::Refused(ReadRefusal {
+    place: 0,
+    reason: Reason::BadHeader,
+});
 
 #[test]
 fn a_stop_is_answered_again(rt: HostRuntime) {
     let mut reader = Reader::new(rt.alloc(), true).expect(&rt, "memory");
-    let stop = ReadStop::Refused(ReadRefusal {
-        place: 0,
-        reason: Reason::BadHeader,
-    });
-    assert_eq!(rt; reader.feed(&[0xE1]), Err(stop));
-    assert_eq!(rt; reader.feed(&[]), Err(stop));
-    assert_eq!(rt; reader.feed(&PLAIN), Err(stop));
-    assert!(rt; matches!(reader.finish(), Err(again) if again == stop));
+    feeds(&rt, &mut reader, b"\xE1", Err(BAD_HEADER));
+    feeds(&rt, &mut reader, b"", Err(BAD_HEADER));
+    feeds(&rt, &mut reader, PLAIN, Err(BAD_HEADER));
+    assert_eq!(rt; end(reader), Some(BAD_HEADER));
 }
 
 #[test]
 fn a_second_start_is_refused(rt: HostRuntime) {
-    let alloc = rt.alloc();
-    let start: &[u8] = &[0xE2, 0xC7, 0x00, 0xE1];
-    let stream = changed(&rt, alloc, &[&PLAIN[..119], start], &[(76, 0x7A)]);
-    assert_eq!(rt;
-        stop(alloc, &stream, 1000, true),
-        refused(119, Reason::DuplicateValue)
-    );
-    assert_eq!(rt;
-        stop(alloc, &stream, 1, true),
-        refused(119, Reason::DuplicateValue)
-    );
+    let mut stream = copied(&rt, rt.alloc(), &PLAIN[..119]);
+    add(&rt, &mut stream, b"\xE2\xC7\x00\xE1");
+    set(&mut stream, 76, 0x7A);
+    is_refused(&rt, rt.alloc(), &stream, 119, Reason::DuplicateValue);
 }
 
 #[test]
 fn an_absolute_section_has_a_base(rt: HostRuntime) {
-    let alloc = rt.alloc();
-    let changes = [(60, 0), (68, 0), (76, 0x5E)];
-    let stream = changed(&rt, alloc, &[&PLAIN[..94], &[0xE1]], &changes);
-    assert_eq!(rt;
-        stop(alloc, &stream, 1000, true),
-        refused(77, Reason::MissingBase)
-    );
-    assert_eq!(rt;
-        stop(alloc, &stream, 1, true),
-        refused(77, Reason::MissingBase)
-    );
+    let mut stream = copied(&rt, rt.alloc(), &PLAIN[..94]);
+    add(&rt, &mut stream, b"\xE1");
+    for (place, byte) in [(60, 0), (68, 0), (76, 0x5E)] {
+        set(&mut stream, place, byte);
+    }
+    is_refused(&rt, rt.alloc(), &stream, 77, Reason::MissingBase);
 }
 
 #[test]
 fn a_256th_token_is_refused(rt: HostRuntime) {
-    let alloc = rt.alloc();
-    let part = long_expression(1);
-    let offsets = [0, 0, 77, 0, 0, 100, 0, end_after(&part)];
-    let mut stream = with_part(&rt, alloc, offsets, &part);
-    assert_eq!(rt;
-        stop(alloc, &stream, 1000, true),
-        refused(358, Reason::TooLong)
-    );
-    assert_eq!(rt;
-        stop(alloc, &stream, 1, true),
-        refused(358, Reason::TooLong)
-    );
+    let mut stream = with_part(&rt, rt.alloc(), DATA, &long_expression(1));
+    is_refused(&rt, rt.alloc(), &stream, 358, Reason::TooLong);
     stream.truncate(358);
-    assert_eq!(rt;
-        stop(alloc, &stream, 1000, true),
-        refused(358, Reason::Truncated)
-    );
+    is_refused(&rt, rt.alloc(), &stream, 358, Reason::Truncated);
 }
+
+// ---- the limit of a file
 
 fn zeros(rt: &impl Abort, alloc: Global, count: usize) -> Vec<u8> {
     vec![in alloc; 0u8; count].expect(rt, "memory")
 }
 
-// A reader that has read 66,060,365 bytes of a module whose extension part is raw bytes, and then so
-// many more of them: 1,048,499 more are as many as a file may have.
-fn nearly_full(rt: &impl Abort, alloc: Global, more: usize) -> Reader {
-    let changes = [(20, 0x4D), (36, 0), (60, 0), (68, 0), (73, 4), (76, 0)];
-    let header = changed(rt, alloc, &[&PLAIN[..77]], &changes);
-    let chunk = zeros(rt, alloc, 1_048_576);
-    let mut reader = Reader::new(alloc, true).expect(rt, "memory");
-    let _ = reader.feed(&header);
-    for _ in 0..63 {
-        let _ = reader.feed(&chunk);
+// The header of a module whose extension part is raw bytes, up to the end of a file.
+fn raw_header(rt: &impl Abort, alloc: Global) -> Vec<u8> {
+    let mut header = copied(rt, alloc, &PLAIN[..77]);
+    for (place, byte) in [(20, 0x4D), (36, 0), (60, 0), (68, 0), (73, 4), (76, 0)] {
+        set(&mut header, place, byte);
     }
-    let _ = reader.feed(&zeros(rt, alloc, more));
+    header
+}
+
+// A reader that has read 66,060,365 bytes of a module whose extension part is raw bytes, and `more` bytes after
+// these. A file may have 1,048,499 more.
+fn nearly_full(rt: &impl Abort, alloc: Global, more: usize) -> Reader {
+    let mut reader = Reader::new(alloc, true).expect(rt, "memory");
+    let header = raw_header(rt, alloc);
+    feeds(rt, &mut reader, &header, Ok(()));
+    let chunk = zeros(rt, alloc, 1_048_576);
+    for _ in 0..63 {
+        feeds(rt, &mut reader, &chunk, Ok(()));
+    }
+    feeds(rt, &mut reader, &zeros(rt, alloc, more), Ok(()));
     reader
 }
 
@@ -540,80 +542,103 @@ const BEYOND_THE_LIMIT: ReadStop = ReadStop::Refused(ReadRefusal {
 
 #[test]
 fn a_stream_beyond_the_limit_is_refused(rt: HostRuntime) {
-    let alloc = rt.alloc();
-    let chunk = zeros(&rt, alloc, 1_048_576);
-    let mut reader = nearly_full(&rt, alloc, 0);
-    assert_eq!(rt; reader.feed(&chunk), Err(BEYOND_THE_LIMIT));
+    let mut reader = nearly_full(&rt, rt.alloc(), 0);
+    let chunk = zeros(&rt, rt.alloc(), 1_048_576);
+    feeds(&rt, &mut reader, &chunk, Err(BEYOND_THE_LIMIT));
 }
 
 #[test]
 fn the_byte_beyond_the_limit_is_refused(rt: HostRuntime) {
-    let alloc = rt.alloc();
-    let mut reader = nearly_full(&rt, alloc, 1_048_498);
-    assert_eq!(rt; reader.feed(&[0]), Ok(()));
-    assert_eq!(rt; reader.feed(&[0]), Err(BEYOND_THE_LIMIT));
+    let mut reader = nearly_full(&rt, rt.alloc(), 1_048_498);
+    feeds(&rt, &mut reader, b"\x00", Ok(()));
+    feeds(&rt, &mut reader, b"\x00", Err(BEYOND_THE_LIMIT));
 }
+
+// ---- modules
 
 #[test]
 fn a_debug_part_is_passed_over(rt: HostRuntime) {
     let alloc = rt.alloc();
-    let stream = stream(&rt, alloc, Row::Debug(&[0x00, 0x89, 0xFF]));
-    assert_eq!(rt; stop(alloc, &stream, 1000, false), None);
-    assert_eq!(rt; stop(alloc, &stream, 1, false), None);
-    assert_eq!(rt;
-        stop(alloc, &stream, 1, true),
-        refused(100, Reason::BadRecord)
-    );
+    let stream = with_part(&rt, alloc, DEBUG, b"\x00\x89\xFF");
+    comes_to(&rt, alloc, &stream, 1000, false, None);
+    comes_to(&rt, alloc, &stream, 1, false, None);
+    is_refused(&rt, alloc, &stream, 100, Reason::BadRecord);
 }
 
-// How many bytes wait after a stream.
-fn pending_after(rt: &impl Abort, alloc: Global, stream: &[u8]) -> usize {
+// After this stream `count` bytes wait for the rest of their record.
+fn are_pending(rt: &impl Abort, alloc: Global, stream: &[u8], count: usize) {
     let mut reader = Reader::new(alloc, true).expect(rt, "memory");
     let _ = reader.feed(stream);
-    reader.pending()
+    assert_eq!(rt; reader.pending(), count);
 }
 
 #[test]
 fn bytes_after_whole_records_are_pending(rt: HostRuntime) {
-    let alloc = rt.alloc();
-    assert_eq!(rt; pending_after(&rt, alloc, &[]), 0);
-    assert_eq!(rt; pending_after(&rt, alloc, &PROGRAM[..8]), 8);
-    assert_eq!(rt; pending_after(&rt, alloc, &PROGRAM[..81]), 0);
-    assert_eq!(rt; pending_after(&rt, alloc, &PROGRAM[..96]), 1);
+    are_pending(&rt, rt.alloc(), b"", 0);
+    are_pending(&rt, rt.alloc(), &PROGRAM[..8], 8);
+    are_pending(&rt, rt.alloc(), &PROGRAM[..81], 0);
+    are_pending(&rt, rt.alloc(), &PROGRAM[..96], 1);
 }
 
 #[test]
 fn what_the_records_say_is_what_the_module_has(rt: HostRuntime) {
-    let module = read(rt.alloc(), &PROGRAM, 5, true).expect(&rt, "a module");
-    let parts = format!(in rt.alloc(); "{:?}", module.parts()).expect(&rt, "memory");
-    assert_eq!(rt; parts.as_str(), PROGRAM_TEXT);
+    let text = text_of(&rt, rt.alloc(), PROGRAM, 5);
+    assert_eq!(rt; text.as_str(), PROGRAM_TEXT);
+}
+
+// The text of the debug items of a module.
+fn debug_text(rt: &impl Abort, alloc: Global, stream: &[u8]) -> String {
+    match read(alloc, stream, 5, true) {
+        Ok(module) => format!(in alloc; "{:?}", module.parts().debug).expect(rt, "memory"),
+        Err(stop) => panic!(rt; "{stop:?}"),
+    }
 }
 
 #[test]
 fn blocks_of_each_kind_are_the_debug_items(rt: HostRuntime) {
-    let stream = stream(&rt, rt.alloc(), Row::Debug(&BLOCKS));
-    let module = read(rt.alloc(), &stream, 5, true).expect(&rt, "a module");
-    let items = format!(in rt.alloc(); "{:?}", module.parts().debug).expect(&rt, "memory");
+    let stream = with_part(&rt, rt.alloc(), DEBUG, BLOCKS);
+    let items = debug_text(&rt, rt.alloc(), &stream);
     assert_eq!(rt; items.as_str(), BLOCKS_TEXT);
 }
 
-fn host(rt: &impl Abort, alloc: Global) -> MemHost {
+// ---- sources
+
+// The plain module, by its name.
+fn file(rt: &impl Abort, alloc: Global) -> (Text, Bytes) {
     let name = Text::from_str(alloc, "a").expect(rt, "memory");
-    let bytes = Bytes::from_slice(alloc, &PLAIN).expect(rt, "memory");
+    let bytes = Bytes::from_slice(alloc, PLAIN).expect(rt, "memory");
+    (name, bytes)
+}
+
+fn files(rt: &impl Abort, alloc: Global) -> List<(Text, Bytes)> {
     let mut files = List::new(alloc);
-    files.push((name, bytes)).expect(rt, "memory");
+    files.push(file(rt, alloc)).expect(rt, "memory");
+    files
+}
+
+// A host with the plain module.
+fn host(rt: &impl Abort, alloc: Global) -> MemHost {
+    let files = files(rt, alloc);
     MemHost::new(alloc, files, List::new(alloc), List::new(alloc), 1000).expect(rt, "memory")
+}
+
+// A host with the plain module, which is open.
+fn opened(rt: &impl Abort, alloc: Global) -> MemHost {
+    let mut host = host(rt, alloc);
+    assert_eq!(rt; host.open("a"), Ok(()));
+    host
 }
 
 #[test]
 fn a_source_is_read_within_its_limit(rt: HostRuntime) {
-    let alloc = rt.alloc();
-    let mut source = host(&rt, alloc);
-    let _ = source.open("a");
-    let stop = read_module(alloc, &mut source, 119, true);
-    assert!(rt; matches!(stop, Err(SourceStop::Limit)));
-    let mut source = host(&rt, alloc);
-    let _ = source.open("a");
-    let read = read_module(alloc, &mut source, 120, true);
+    let mut source = opened(&rt, rt.alloc());
+    let read = read_module(rt.alloc(), &mut source, 120, true);
     assert!(rt; matches!(read, Ok((_, 120))));
+}
+
+#[test]
+fn a_source_is_not_read_past_its_limit(rt: HostRuntime) {
+    let mut source = opened(&rt, rt.alloc());
+    let stop = read_module(rt.alloc(), &mut source, 119, true);
+    assert!(rt; matches!(stop, Err(SourceStop::Limit)));
 }

@@ -1,9 +1,6 @@
 //! Debug parts: addresses of a located one, and one of another form that is passed over.
 
-use crate::drafts::{Records, complains, module, prints};
-use crate::files::ABSOLUTE;
-use std::alloc::Global;
-use std::process::Abort;
+use crate::runs::{File, Held, Run, comes_to};
 
 /// A module block with a name and a global function, which has a name with a note and a value.
 const BLOCKS: &[u8] =
@@ -26,53 +23,57 @@ const SHOWN: &str = "module \"m\" processor \"68000\" maus 4 order M\n\
     \x20\x20end = (R0 + 15)\n\
     end\n";
 
-// A section `code` of 16 bytes, and the blocks.
-fn blocks(rt: &impl Abort, alloc: Global) -> Vec<u8> {
-    let records = Records {
-        sections: b"\xE6\x01\xC3\xD0\x04code\xE2\xD3\x01\x10",
-        external: b"",
-        debug: BLOCKS,
-        loads: b"",
-    };
-    module(rt, alloc, 4, records)
-}
+/// A section `code` of 16 bytes, and the blocks; and a plan.
+const LOCAL: &[File] = &[
+    (
+        "a",
+        Held::Records(4, b"\xE6\x01\xC3\xD0\x04code\xE2\xD3\x01\x10", BLOCKS, b""),
+    ),
+    ("p", Held::Bytes(AT_256)),
+];
+
+/// The absolute module with a debug part of another form before its loads.
+const OTHER_FORM: &[File] = &[(
+    "a",
+    Held::Bytes(
+        b"\
+    \xE0\x05\x36\x38\x30\x30\x30\x01\x41\xEC\x08\x04\xCD\xE2\xD7\x00\x84\x00\x00\x00\x00\xE2\xD7\x01\x84\x00\x00\x00\x00\xE2\xD7\x02\
+    \x84\x00\x00\x00\x4D\xE2\xD7\x03\x84\x00\x00\x00\x00\xE2\xD7\x04\x84\x00\x00\x00\x64\xE2\xD7\x05\x84\x00\x00\x00\x68\xE2\xD7\x06\
+    \x84\x00\x00\x00\x76\xE2\xD7\x07\x84\x00\x00\x00\x7B\xE6\x01\xC1\xD3\xD0\x04\x63\x6F\x64\x65\xE7\x01\x02\xE2\xD3\x01\x04\xE2\xCC\
+    \x01\x82\x10\x00\xF2\x20\xCE\x01\xE5\x01\xE2\xD0\x01\x82\x10\x00\xED\x04\x4E\x71\x4E\x75\xE2\xC7\x82\x10\x00\xE1\
+    ",
+    ),
+)];
+
+const RUNS: [Run; 5] = [
+    (LOCAL, "", "dump --plan p a", 0, ADDRESSES),
+    (LOCAL, "", "show a", 0, SHOWN),
+    (
+        LOCAL,
+        "",
+        "check a",
+        0,
+        "file 0 \"m\": sections 1 publics 0 references 0 loads 0 debug 6\n",
+    ),
+    (
+        OTHER_FORM,
+        "",
+        "dump a",
+        1,
+        "refused: file 0 at 100: UnsupportedRecord\n",
+    ),
+    (
+        OTHER_FORM,
+        "",
+        "dump --no-debug a",
+        0,
+        "00001000: 4E 71 4E 75\nstart 00001000\n",
+    ),
+];
 
 #[test]
-fn debug_addresses_are_printed_in_their_order(rt: HostRuntime) {
-    let alloc = rt.alloc();
-    let file = blocks(&rt, alloc);
-    let files: [(&str, &[u8]); 2] = [("a", &file), ("p", AT_256)];
-    prints(&rt, alloc, &files, &["dump", "--plan", "p", "a"], ADDRESSES);
-    prints(&rt, alloc, &files, &["show", "a"], SHOWN);
-    let line = "file 0 \"m\": sections 1 publics 0 references 0 loads 0 debug 6\n";
-    prints(&rt, alloc, &files, &["check", "a"], line);
-}
-
-// The absolute module with a debug part of another form before its loads.
-fn other_form() -> [u8; 124] {
-    let mut file = [0u8; 124];
-    file[..100].copy_from_slice(&ABSOLUTE[..100]);
-    file[100..104].copy_from_slice(b"\xF2\x20\xCE\x01");
-    file[104..].copy_from_slice(&ABSOLUTE[100..]);
-    file[52] = 0x64;
-    file[60] = 0x68;
-    file[68] = 0x76;
-    file[76] = 0x7B;
-    file
-}
-
-#[test]
-fn a_debug_part_of_another_form_is_refused_or_passed_over(rt: HostRuntime) {
-    let alloc = rt.alloc();
-    let file = other_form();
-    let refusal = "refused: file 0 at 100: UnsupportedRecord\n";
-    complains(&rt, alloc, &[("a", &file)], &["dump", "a"], (1, refusal));
-    let text = "00001000: 4E 71 4E 75\nstart 00001000\n";
-    prints(
-        &rt,
-        alloc,
-        &[("a", &file)],
-        &["dump", "--no-debug", "a"],
-        text,
-    );
+fn debug_parts_are_located_or_refused_or_passed_over(rt: HostRuntime) {
+    for run in &RUNS {
+        comes_to(&rt, rt.alloc(), run);
+    }
 }

@@ -1,9 +1,6 @@
-//! Modules that are put together from the records of their parts, and runs of the program over them.
+//! Modules that are put together from the records of their parts.
 //! Where there is no memory, a test fails.
 
-ghost use Rattle.std.specs.Prelude.{◌<◌, ◌^◌, length};
-
-use crate::files::{made_bytes, ran};
 use std::alloc::Global;
 use std::process::Abort;
 
@@ -72,76 +69,4 @@ pub(crate) fn module(rt: &impl Abort, alloc: Global, maus: u8, records: Records)
     add(rt, &mut file, records.loads);
     add(rt, &mut file, END);
     file
-}
-
-/// A module with nothing but these external records.
-pub(crate) fn names(rt: &impl Abort, alloc: Global, external: &[u8]) -> Vec<u8> {
-    let records = Records {
-        sections: b"",
-        external,
-        debug: b"",
-        loads: b"",
-    };
-    module(rt, alloc, 4, records)
-}
-
-/// A module with one section, these external records and these loads.
-pub(crate) fn one_section(
-    rt: &impl Abort,
-    alloc: Global,
-    sections: &[u8],
-    external: &[u8],
-    loads: &[u8],
-) -> Vec<u8> {
-    let records = Records {
-        sections,
-        external,
-        debug: b"",
-        loads,
-    };
-    module(rt, alloc, 4, records)
-}
-
-/// These words over these files print this text and no complaint.
-pub(crate) fn prints(
-    rt: &impl Abort,
-    alloc: Global,
-    files: &[(&str, &[u8])],
-    line: &[&str],
-    text: &str,
-)
-    requires { length line.now < 2 ^ 32 }
-{
-    let host = ran(rt, alloc, files, line, 0);
-    assert_eq!(rt; host.out(), text.as_bytes());
-    assert!(rt; host.err().is_empty());
-}
-
-/// These words over these files are answered with this status and this complaint alone.
-pub(crate) fn complains(
-    rt: &impl Abort,
-    alloc: Global,
-    files: &[(&str, &[u8])],
-    line: &[&str],
-    wanted: (u8, &str),
-)
-    requires { length line.now < 2 ^ 32 }
-{
-    let host = ran(rt, alloc, files, line, wanted.0);
-    assert_eq!(rt; host.err(), wanted.1.as_bytes());
-    assert!(rt; host.out().is_empty());
-    assert!(rt; host.made().is_none());
-}
-
-/// The bytes of the file that these words make of these files.
-pub(crate) fn made(
-    rt: &impl Abort,
-    alloc: Global,
-    files: &[(&str, &[u8])],
-    line: &[&str],
-) -> Vec<u8>
-    requires { length line.now < 2 ^ 32 }
-{
-    let host = ran(rt, alloc, files, line, 0);
-    made_bytes(rt, alloc, &host)
 }

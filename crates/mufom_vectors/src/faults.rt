@@ -1,5 +1,5 @@
-use crate::drafts::complains;
 use crate::files::{ABSOLUTE, failing_host, numbers, words};
+use crate::runs::complains_of;
 use mufom_command::{Input, Outcome, Refusal, run};
 use mufom_host::MemHost;
 use mufom_words::UsageFault;
@@ -67,7 +67,7 @@ fn a_plan_that_is_not_there_is_a_read_fault_of_the_plan(rt: HostRuntime) {
 #[test]
 fn a_file_that_is_not_there_is_a_read_fault(rt: HostRuntime) {
     let line = "read fault: file 0\n";
-    complains(&rt, rt.alloc(), &[], &["dump", "nowhere"], (3, line));
+    complains_of(&rt, rt.alloc(), "dump nowhere", 3, line);
 }
 
 #[test]

@@ -3,14 +3,13 @@
 
 ghost use Rattle.std.specs.Prelude.{◌<◌, ◌^◌, length, vec_len};
 
-use mufom_command::run;
 use mufom_host::MemHost;
 use mufom_numbers::{Bytes, List, Text};
 use std::alloc::Global;
 use std::process::Abort;
 
 /// How many bytes a host has room for.
-const ROOM: usize = 1_048_576;
+pub(crate) const ROOM: usize = 1_048_576;
 
 /// An absolute section of four bytes at 1000, loaded whole, with its start address.
 pub(crate) const ABSOLUTE: [u8; 120] = [
@@ -141,42 +140,4 @@ pub(crate) fn made_bytes(rt: &impl Abort, alloc: Global, host: &MemHost) -> Vec<
         Some((_, bytes)) => Vec::from_slice(alloc, bytes).expect(rt, "memory"),
         None => panic!(rt; "no file is made"),
     }
-}
-
-/// The host after these words over these files, which are answered with this status.
-pub(crate) fn ran(
-    rt: &impl Abort,
-    alloc: Global,
-    files: &[(&str, &[u8])],
-    line: &[&str],
-    status: u8,
-) -> MemHost
-    requires { length line.now < 2 ^ 32 }
-{
-    let mut host = host(rt, alloc, files);
-    let words = words(rt, alloc, line);
-    assert_eq!(rt; run(alloc, words.as_slice(), &mut host).status(), status);
-    host
-}
-
-/// These words over these files are answered with this status, and what must be printed to both outputs.
-pub(crate) fn answers(
-    rt: &impl Abort,
-    alloc: Global,
-    files: &[(&str, &[u8])],
-    line: &[&str],
-    wanted: (u8, &[u8], &[u8]),
-)
-    requires { length line.now < 2 ^ 32 }
-{
-    let host = ran(rt, alloc, files, line, wanted.0);
-    assert_eq!(rt; host.out(), wanted.1);
-    assert_eq!(rt; host.err(), wanted.2);
-}
-
-/// These words over the absolute module are no command, for this reason.
-pub(crate) fn faulty(rt: &impl Abort, alloc: Global, line: &[&str], known: &[u8])
-    requires { length line.now < 2 ^ 32 }
-{
-    answers(rt, alloc, &[("m1", &ABSOLUTE)], line, (2, b"", known));
 }

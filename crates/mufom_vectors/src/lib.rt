@@ -31,6 +31,8 @@ mod round_trip;
 #[cfg(test)]
 mod round_trip_tests;
 #[cfg(test)]
+mod runs;
+#[cfg(test)]
 mod show;
 #[cfg(test)]
 mod usage;

@@ -1,9 +1,6 @@
-ghost use Rattle.std.specs.Prelude.{◌<◌, ◌^◌, length};
+//! Lists of modules that are linked.
 
-use crate::files::{ABSOLUTE, EMPTY, ran};
-use mufom_host::MemHost;
-use std::alloc::Global;
-use std::process::Abort;
+use crate::runs::{File, Held, Run, comes_to, makes};
 
 /// A module `a` with the public `f`, and a field of the reference `g`.
 pub(crate) const FIRST: [u8; 109] = [
@@ -41,64 +38,66 @@ pub(crate) const LINKED: [u8; 136] = [
     0xC9, 0x20, 0x02, 0xA5, 0x90, 0x04, 0xBF, 0xE1,
 ];
 
-// Whether the host has made this file.
-fn is_made(host: &MemHost, wanted: &[u8], content: &[u8]) -> bool {
-    match host.made() {
-        Some((name, bytes)) => name == wanted && bytes == content,
-        None => false,
-    }
-}
+const FILES: &[File] = &[("a", Held::First), ("b", Held::Second), ("m", Held::Empty)];
 
-// The words make the file `c`, of these bytes, of the files `a`, `b` and `m`.
-fn links(rt: &impl Abort, alloc: Global, line: &[&str], made: &[u8])
-    requires { length line.now < 2 ^ 32 }
-{
-    let files: [(&str, &[u8]); 3] = [("a", &FIRST), ("b", &SECOND), ("m", &EMPTY)];
-    let host = ran(rt, alloc, &files, line, 0);
-    assert!(rt; is_made(&host, b"c", made));
-    assert_eq!(rt; host.out(), b"".as_slice());
-}
+const LINES: [&str; 4] = [
+    "link -o c a b",
+    "link [ [ a ] b ] -oc",
+    "link a [ b ] -o=c",
+    // A member that the roots need.
+    "link -o c a + m b",
+];
 
 #[test]
 fn two_modules_are_linked_wherever_the_groups_stand(rt: HostRuntime) {
-    let alloc = rt.alloc();
-    links(&rt, alloc, &["link", "-o", "c", "a", "b"], &LINKED);
-    links(
-        &rt,
-        alloc,
-        &["link", "[", "[", "a", "]", "b", "]", "-oc"],
-        &LINKED,
-    );
-    links(&rt, alloc, &["link", "a", "[", "b", "]", "-o=c"], &LINKED);
+    for line in &LINES {
+        makes(&rt, rt.alloc(), FILES, line, &LINKED);
+    }
 }
 
-#[test]
-fn a_member_is_linked_where_the_roots_need_it(rt: HostRuntime) {
-    let line = ["link", "-o", "c", "a", "+", "m", "b"];
-    links(&rt, rt.alloc(), &line, &LINKED);
-}
+/// A module, one with shorter addresses, and one with a start.
+const UNLIKE: &[File] = &[
+    ("a", Held::First),
+    (
+        "s",
+        Held::Bytes(
+            b"\
+        \xE0\x05\x36\x38\x30\x30\x30\x01\x41\xEC\x08\x02\xCD\xE2\xD7\x00\x84\x00\x00\x00\x00\xE2\xD7\x01\x84\x00\x00\x00\x00\xE2\xD7\x02\
+        \x84\x00\x00\x00\x00\xE2\xD7\x03\x84\x00\x00\x00\x00\xE2\xD7\x04\x84\x00\x00\x00\x00\xE2\xD7\x05\x84\x00\x00\x00\x00\xE2\xD7\x06\
+        \x84\x00\x00\x00\x00\xE2\xD7\x07\x84\x00\x00\x00\x4D\xE1\
+        ",
+        ),
+    ),
+    ("m1", Held::Absolute),
+];
 
-// These words over the files `a`, `s`, whose addresses are shorter, and `m1`, which has a start, are
-// refused with this line, and no file is made.
-fn refuses(rt: &impl Abort, alloc: Global, line: &[&str], refusal: &[u8])
-    requires { length line.now < 2 ^ 32 }
-{
-    let mut small = EMPTY;
-    small[11] = 0x02;
-    let files: [(&str, &[u8]); 3] = [("a", &FIRST), ("s", &small), ("m1", &ABSOLUTE)];
-    let host = ran(rt, alloc, &files, line, 1);
-    assert_eq!(rt; host.err(), refusal);
-    assert!(rt; host.made().is_none());
-    assert!(rt; host.making().is_none());
-}
+const REFUSED: [Run; 3] = [
+    (
+        UNLIKE,
+        "",
+        "link -o c a [ a ]",
+        1,
+        "refused: link: Duplicate \"f\"\n",
+    ),
+    (
+        UNLIKE,
+        "",
+        "link -o c a s",
+        1,
+        "refused: link: Mismatch 4 M 2 M\n",
+    ),
+    (
+        UNLIKE,
+        "",
+        "link -o c m1 m1",
+        1,
+        "refused: link: DuplicateStart\n",
+    ),
+];
 
 #[test]
 fn lists_that_cannot_be_linked_are_refused(rt: HostRuntime) {
-    let alloc = rt.alloc();
-    let line = b"refused: link: Duplicate \"f\"\n";
-    refuses(&rt, alloc, &["link", "-o", "c", "a", "[", "a", "]"], line);
-    let line = b"refused: link: Mismatch 4 M 2 M\n";
-    refuses(&rt, alloc, &["link", "-o", "c", "a", "s"], line);
-    let line = b"refused: link: DuplicateStart\n";
-    refuses(&rt, alloc, &["link", "-o", "c", "m1", "m1"], line);
+    for run in &REFUSED {
+        comes_to(&rt, rt.alloc(), run);
+    }
 }

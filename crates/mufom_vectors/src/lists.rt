@@ -1,174 +1,191 @@
 //! What a list of modules comes to, wherever its groups stand.
 
-ghost use Rattle.std.specs.Prelude.{◌<◌, ◌^◌, length};
-
-use crate::drafts::{complains, made, names, one_section, prints};
-use crate::link::{FIRST, SECOND};
 use crate::locate::PAGE;
-use std::alloc::Global;
-use std::process::Abort;
+use crate::runs::{File, Held, Run, comes_to};
 
-// The image of two modules that need each other, each at its place on the page.
-fn dumps_page(rt: &impl Abort, alloc: Global, line: &[&str])
-    requires { length line.now < 2 ^ 32 }
-{
-    let files: [(&str, &[u8]); 3] = [("a", &FIRST), ("b", &SECOND), ("p", PAGE)];
-    let text = "00000100: 00 00 01 05 00 00 01 02\npublic 00000100 \"f\"\npublic 00000105 \"g\"\n";
-    prints(rt, alloc, &files, line, text);
-}
+/// Two modules that need each other, each at its place on the page.
+const PAGED: &[File] = &[
+    ("a", Held::First),
+    ("b", Held::Second),
+    ("p", Held::Bytes(PAGE)),
+];
+
+const PAGE_TEXT: &str =
+    "00000100: 00 00 01 05 00 00 01 02\npublic 00000100 \"f\"\npublic 00000105 \"g\"\n";
+
+/// Two modules, each with a public that is the other's and a little more or less.
+const CIRCLE: &[File] = &[
+    (
+        "a",
+        Held::Names(b"\xE8\x20\x01a\xE2\xC9\x20\xD8\x0B\x01\xA5\xE9\x0B\x01b"),
+    ),
+    (
+        "b",
+        Held::Names(b"\xE8\x20\x01b\xE2\xC9\x20\xD8\x0B\x01\xA6\xE9\x0B\x01a"),
+    ),
+];
+
+/// Two modules with a public `main`, and one with nothing.
+const NAMESAKES: &[File] = &[
+    ("a", Held::Names(b"\xE8\x20\x04main\xE2\xC9\x20\x00")),
+    ("b", Held::Names(b"\xE8\x20\x04main\xE2\xC9\x20\x00")),
+    ("c", Held::Names(b"")),
+];
+
+const GROUPS: [Run; 9] = [
+    (PAGED, "", "dump --plan=p a b", 0, PAGE_TEXT),
+    (PAGED, "", "dump --plan=p [ a b ]", 0, PAGE_TEXT),
+    (PAGED, "", "dump --plan=p [ [ a ] b ]", 0, PAGE_TEXT),
+    (CIRCLE, "", "dump a b", 1, "refused: locate: Cycle \"a\"\n"),
+    (
+        CIRCLE,
+        "",
+        "dump [ a ] b",
+        1,
+        "refused: locate: Cycle \"a\"\n",
+    ),
+    (
+        CIRCLE,
+        "",
+        "dump [ a b ]",
+        1,
+        "refused: locate: Cycle \"a\"\n",
+    ),
+    (
+        NAMESAKES,
+        "",
+        "dump a b",
+        1,
+        "refused: link: Duplicate \"main\"\n",
+    ),
+    (
+        NAMESAKES,
+        "",
+        "dump a [ b ]",
+        1,
+        "refused: link: Duplicate \"main\"\n",
+    ),
+    (
+        NAMESAKES,
+        "",
+        "dump [ a b ] c",
+        1,
+        "refused: link: Duplicate \"main\"\n",
+    ),
+];
 
 #[test]
-fn two_modules_have_one_image_wherever_the_groups_stand(rt: HostRuntime) {
-    let alloc = rt.alloc();
-    dumps_page(&rt, alloc, &["dump", "--plan=p", "a", "b"]);
-    dumps_page(&rt, alloc, &["dump", "--plan=p", "[", "a", "b", "]"]);
-    dumps_page(
-        &rt,
-        alloc,
-        &["dump", "--plan=p", "[", "[", "a", "]", "b", "]"],
-    );
-}
-
-// Two modules, each with a public that is the other's and a little more or less.
-fn circle(rt: &impl Abort, alloc: Global, line: &[&str])
-    requires { length line.now < 2 ^ 32 }
-{
-    let a = names(
-        rt,
-        alloc,
-        b"\xE8\x20\x01a\xE2\xC9\x20\xD8\x0B\x01\xA5\xE9\x0B\x01b",
-    );
-    let b = names(
-        rt,
-        alloc,
-        b"\xE8\x20\x01b\xE2\xC9\x20\xD8\x0B\x01\xA6\xE9\x0B\x01a",
-    );
-    let refusal = "refused: locate: Cycle \"a\"\n";
-    complains(rt, alloc, &[("a", &a), ("b", &b)], line, (1, refusal));
-}
-
-#[test]
-fn a_cycle_through_two_files_is_named_wherever_the_groups_stand(rt: HostRuntime) {
-    let alloc = rt.alloc();
-    circle(&rt, alloc, &["dump", "a", "b"]);
-    circle(&rt, alloc, &["dump", "[", "a", "]", "b"]);
-    circle(&rt, alloc, &["dump", "[", "a", "b", "]"]);
-}
-
-// Two modules with a public `main`, and one with nothing.
-fn namesakes(rt: &impl Abort, alloc: Global, line: &[&str])
-    requires { length line.now < 2 ^ 32 }
-{
-    let main = names(rt, alloc, b"\xE8\x20\x04main\xE2\xC9\x20\x00");
-    let c = names(rt, alloc, b"");
-    let refusal = "refused: link: Duplicate \"main\"\n";
-    let files: [(&str, &[u8]); 3] = [("a", &main), ("b", &main), ("c", &c)];
-    complains(rt, alloc, &files, line, (1, refusal));
-}
-
-#[test]
-fn a_name_that_two_files_define_is_refused_wherever_the_groups_stand(rt: HostRuntime) {
-    let alloc = rt.alloc();
-    namesakes(&rt, alloc, &["dump", "a", "b"]);
-    namesakes(&rt, alloc, &["dump", "a", "[", "b", "]"]);
-    namesakes(&rt, alloc, &["dump", "[", "a", "b", "]", "c"]);
+fn lists_come_to_the_same_wherever_the_groups_stand(rt: HostRuntime) {
+    for run in &GROUPS {
+        comes_to(&rt, rt.alloc(), run);
+    }
 }
 
 const AT_ZERO: &[u8] = b"[[region]]\nname = \"r\"\nbase = 0\nsize = 16\nsections = [\"*\"]\n";
 
-// A section of one byte, which holds a weak reference `x` of no size. The bytes are its default.
-fn weak(rt: &impl Abort, alloc: Global, external: &[u8]) -> Vec<u8> {
-    let section = b"\xE6\x01\xC3\x01t\xE2\xD3\x01\x01";
-    let loads = b"\xE5\x01\xE4\xBC\xD8\x0B\x90\x01\xBD";
-    one_section(rt, alloc, section, external, loads)
-}
+/// Two sections of one byte, each of which holds a weak reference `x` of no size, with the defaults 1
+/// and 2, and a public for them.
+const WEAK: &[File] = &[
+    (
+        "a",
+        Held::Section(
+            b"\xE6\x01\xC3\x01t\xE2\xD3\x01\x01",
+            b"\xE9\x0B\x01x\xF4\x0B\x00\x01",
+            b"\xE5\x01\xE4\xBC\xD8\x0B\x90\x01\xBD",
+        ),
+    ),
+    (
+        "b",
+        Held::Section(
+            b"\xE6\x01\xC3\x01t\xE2\xD3\x01\x01",
+            b"\xE9\x0B\x01x\xF4\x0B\x00\x02",
+            b"\xE5\x01\xE4\xBC\xD8\x0B\x90\x01\xBD",
+        ),
+    ),
+    ("x", Held::Names(b"\xE8\x20\x01x\xE2\xC9\x20\x07")),
+    ("p", Held::Bytes(AT_ZERO)),
+];
 
-// Two weak references with the defaults 1 and 2, a public for them, and the link of the two.
-fn prints_weak(rt: &impl Abort, alloc: Global, line: &[&str], text: &str)
-    requires { length line.now < 2 ^ 32 }
-{
-    let a = weak(rt, alloc, b"\xE9\x0B\x01x\xF4\x0B\x00\x01");
-    let b = weak(rt, alloc, b"\xE9\x0B\x01x\xF4\x0B\x00\x02");
-    let x = names(rt, alloc, b"\xE8\x20\x01x\xE2\xC9\x20\x07");
-    let c = made(
-        rt,
-        alloc,
-        &[("a", &a), ("b", &b)],
-        &["link", "-o", "c", "a", "b"],
-    );
-    let files: [(&str, &[u8]); 5] = [("a", &a), ("b", &b), ("x", &x), ("c", &c), ("p", AT_ZERO)];
-    prints(rt, alloc, &files, line, text);
-}
+/// A module with a reference `q`, another with it, and one that has a note of it.
+const REFERENCES: &[File] = &[
+    ("a", Held::Names(b"\xE9\x0B\x01q")),
+    ("b", Held::Names(b"\xE9\x0B\x01q")),
+    ("n", Held::Names(b"\xE9\x0B\x01q\xF1\xD8\x0B\x01\x02\x03")),
+];
 
-#[test]
-fn weak_references_keep_their_defaults_until_a_public_meets_them(rt: HostRuntime) {
-    let alloc = rt.alloc();
-    prints_weak(
-        &rt,
-        alloc,
-        &["dump", "--plan", "p", "a", "b"],
+/// A module that needs `f`, two that define it, of which the first needs `g`, and one that nothing needs.
+const MEMBERS: &[File] = &[
+    ("r", Held::Names(b"\xE9\x0B\x01f")),
+    (
+        "a",
+        Held::Names(b"\xE8\x20\x01f\xE2\xC9\x20\x00\xE9\x0B\x01g"),
+    ),
+    (
+        "b",
+        Held::Names(b"\xE8\x20\x01f\xE2\xC9\x20\x00\xE8\x21\x01g\xE2\xC9\x21\x00"),
+    ),
+    (
+        "h",
+        Held::Names(b"\xE8\x20\x01h\xE2\xC9\x20\x00\xE9\x0B\x01g"),
+    ),
+];
+
+const TWO_REFERENCES: &str = "module \"m\" processor \"68000\" maus 4 order M\n\
+    reference 0 \"q\"\nreference 1 \"q\"\nnote type 1 attribute 2 3\n";
+
+const REFERRED: [Run; 8] = [
+    // Weak references keep their defaults until a public meets them.
+    (WEAK, "", "dump --plan p a b", 0, "00000000: 01 02\n"),
+    (
+        WEAK,
+        "link -o c a b",
+        "dump --plan p c",
+        0,
         "00000000: 01 02\n",
-    );
-    prints_weak(
-        &rt,
-        alloc,
-        &["dump", "--plan", "p", "c"],
-        "00000000: 01 02\n",
-    );
-    let met = "00000000: 07 07\npublic 00000007 \"x\"\n";
-    prints_weak(&rt, alloc, &["dump", "--plan", "p", "a", "b", "x"], met);
-    prints_weak(&rt, alloc, &["dump", "--plan", "p", "c", "x"], met);
-}
-
-// What `show` prints of the link of a module with a reference `q` and one with these external records.
-fn shows_links(rt: &impl Abort, alloc: Global, external: &[u8], text: &str) {
-    let a = names(rt, alloc, b"\xE9\x0B\x01q");
-    let b = names(rt, alloc, external);
-    let c = made(
-        rt,
-        alloc,
-        &[("a", &a), ("b", &b)],
-        &["link", "-o", "c", "a", "b"],
-    );
-    prints(rt, alloc, &[("c", &c)], &["show", "c"], text);
-}
-
-#[test]
-fn equal_references_are_one_in_a_link_and_a_note_keeps_them_apart(rt: HostRuntime) {
-    let alloc = rt.alloc();
-    let one = "module \"m\" processor \"68000\" maus 4 order M\nreference 0 \"q\"\n";
-    shows_links(&rt, alloc, b"\xE9\x0B\x01q", one);
-    let two = "module \"m\" processor \"68000\" maus 4 order M\n\
-               reference 0 \"q\"\nreference 1 \"q\"\nnote type 1 attribute 2 3\n";
-    shows_links(&rt, alloc, b"\xE9\x0B\x01q\xF1\xD8\x0B\x01\x02\x03", two);
-}
-
-const DEFINES_F_AND_G: &[u8] = b"\xE8\x20\x01f\xE2\xC9\x20\x00\xE8\x21\x01g\xE2\xC9\x21\x00";
-
-#[test]
-fn members_that_define_one_name_clash(rt: HostRuntime) {
-    let alloc = rt.alloc();
-    let root = names(&rt, alloc, b"\xE9\x0B\x01f");
-    let first = names(&rt, alloc, b"\xE8\x20\x01f\xE2\xC9\x20\x00\xE9\x0B\x01g");
-    let second = names(&rt, alloc, DEFINES_F_AND_G);
-    let files: [(&str, &[u8]); 3] = [("r", &root), ("a", &first), ("b", &second)];
-    let refusal = "refused: link: Duplicate \"f\"\n";
-    complains(
-        &rt,
-        alloc,
-        &files,
-        &["dump", "r", "+", "a", "b"],
-        (1, refusal),
-    );
-}
+    ),
+    (
+        WEAK,
+        "",
+        "dump --plan p a b x",
+        0,
+        "00000000: 07 07\npublic 00000007 \"x\"\n",
+    ),
+    (
+        WEAK,
+        "link -o c a b",
+        "dump --plan p c x",
+        0,
+        "00000000: 07 07\npublic 00000007 \"x\"\n",
+    ),
+    // Equal references are one in a link, and a note keeps them apart.
+    (
+        REFERENCES,
+        "link -o c a b",
+        "show c",
+        0,
+        "module \"m\" processor \"68000\" maus 4 order M\nreference 0 \"q\"\n",
+    ),
+    (REFERENCES, "link -o c a n", "show c", 0, TWO_REFERENCES),
+    // Members that define one name clash, and one that nothing needs is passed over.
+    (
+        MEMBERS,
+        "",
+        "dump r + a b",
+        1,
+        "refused: link: Duplicate \"f\"\n",
+    ),
+    (
+        MEMBERS,
+        "",
+        "dump r + h b",
+        0,
+        "public 00000000 \"f\"\npublic 00000000 \"g\"\n",
+    ),
+];
 
 #[test]
-fn a_member_that_nothing_needs_is_passed_over(rt: HostRuntime) {
-    let alloc = rt.alloc();
-    let root = names(&rt, alloc, b"\xE9\x0B\x01f");
-    let first = names(&rt, alloc, b"\xE8\x20\x01h\xE2\xC9\x20\x00\xE9\x0B\x01g");
-    let second = names(&rt, alloc, DEFINES_F_AND_G);
-    let files: [(&str, &[u8]); 3] = [("r", &root), ("a", &first), ("b", &second)];
-    let text = "public 00000000 \"f\"\npublic 00000000 \"g\"\n";
-    prints(&rt, alloc, &files, &["dump", "r", "+", "a", "b"], text);
+fn references_and_members_come_to_this(rt: HostRuntime) {
+    for run in &REFERRED {
+        comes_to(&rt, rt.alloc(), run);
+    }
 }

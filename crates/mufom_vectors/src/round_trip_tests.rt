@@ -1,5 +1,6 @@
 use crate::files::{ABSOLUTE, BLOCKS, EMPTY, EVERY_KIND, LIBRARY, RELOCATABLE, host, made_bytes};
-use crate::show::{ABSOLUTE_TEXT, RELOCATABLE_TEXT, shows};
+use crate::runs::shows;
+use crate::show::{ABSOLUTE_TEXT, RELOCATABLE_TEXT};
 use mufom_host::{Host, MemHost};
 use mufom_module::Module;
 use mufom_read::Reader;
@@ -7,12 +8,12 @@ use mufom_write::write_module;
 use std::alloc::Global;
 use std::process::Abort;
 
-const LIBRARY_TEXT: &[u8] =
-    b"module \"lib\" processor \"68000\" maus 4 order M\nsection 0 \".text\" CP size 2 align 1\npublic 0 \"exit\" = R0\nselect 0\nbytes 2 4E75\n";
+const LIBRARY_TEXT: &str =
+    "module \"lib\" processor \"68000\" maus 4 order M\nsection 0 \".text\" CP size 2 align 1\npublic 0 \"exit\" = R0\nselect 0\nbytes 2 4E75\n";
 
-const EMPTY_TEXT: &[u8] = b"module \"A\" processor \"68000\" maus 4 order M\n";
+const EMPTY_TEXT: &str = "module \"A\" processor \"68000\" maus 4 order M\n";
 
-const EVERY_KIND_TEXT: &[u8] = b"\
+const EVERY_KIND_TEXT: &str = "\
       module \"m\" processor \"P\" maus 2 order L\n\
       extension 3 bytes\n\
       environment 1 bytes\n\
@@ -40,7 +41,7 @@ const EVERY_KIND_TEXT: &[u8] = b"\
       repeat 0\n\
       start = R0\n";
 
-const BLOCKS_TEXT: &[u8] = b"\
+const BLOCKS_TEXT: &str = "\
       module \"d\" processor \"P\" maus 4 order M\n\
       section 0 \"c\" CP size 16 align 1\n\
       name 0 \"x\"\n\
@@ -87,11 +88,10 @@ fn rewritten(rt: &impl Abort, alloc: Global, fed: &[&[u8]]) -> Vec<u8> {
 
 // The module of a file is shown as this text; so is what is written of it, which is written again as
 // it is.
-fn returns(rt: &impl Abort, alloc: Global, file: &[u8], text: &[u8]) {
-    let line = ["show", "a"];
-    shows(rt, alloc, "a", file, &line, text);
+fn returns(rt: &impl Abort, alloc: Global, file: &[u8], text: &str) {
+    shows(rt, alloc, file, text);
     let written = rewritten(rt, alloc, &[file]);
-    shows(rt, alloc, "a", &written, &line, text);
+    shows(rt, alloc, &written, text);
     assert_eq!(rt; rewritten(rt, alloc, &[&written]), written);
 }
 

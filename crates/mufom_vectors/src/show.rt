@@ -1,10 +1,8 @@
-ghost use Rattle.std.specs.Prelude.{◌<◌, ◌^◌, length};
+//! Texts of modules, and words that show none.
 
-use crate::files::{ABSOLUTE, RELOCATABLE, answers, faulty};
-use std::alloc::Global;
-use std::process::Abort;
+use crate::runs::{Held, Run, comes_to, complains_of_no_words};
 
-pub(crate) const ABSOLUTE_TEXT: &[u8] = b"\
+pub(crate) const ABSOLUTE_TEXT: &str = "\
       module \"A\" processor \"68000\" maus 4 order M\n\
       section 0 \"code\" ASP size 4 align 2 base 4096\n\
       select 0\n\
@@ -12,7 +10,7 @@ pub(crate) const ABSOLUTE_TEXT: &[u8] = b"\
       bytes 4 4E714E75\n\
       start = 4096\n";
 
-pub(crate) const RELOCATABLE_TEXT: &[u8] = b"\
+pub(crate) const RELOCATABLE_TEXT: &str = "\
       module \"prog\" processor \"68000\" maus 4 order M\n\
       extension 3 bytes\n\
       environment 3 bytes\n\
@@ -27,73 +25,89 @@ pub(crate) const RELOCATABLE_TEXT: &[u8] = b"\
       field signed 4 = (X0 - P0)\n\
       start = (R0 + 4)\n";
 
-// The text of a file that is named by these words.
-pub(crate) fn shows(
-    rt: &impl Abort,
-    alloc: Global,
-    name: &str,
-    file: &[u8],
-    line: &[&str],
-    text: &[u8],
-)
-    requires { length line.now < 2 ^ 32 }
-{
-    answers(rt, alloc, &[(name, file)], line, (0, text, b""));
-}
-
-#[test]
-fn an_absolute_module_is_shown(rt: HostRuntime) {
-    let alloc = rt.alloc();
-    shows(&rt, alloc, "m1", &ABSOLUTE, &["show", "m1"], ABSOLUTE_TEXT);
-    let line = ["show", "m1", "--no-debug"];
-    shows(&rt, alloc, "m1", &ABSOLUTE, &line, ABSOLUTE_TEXT);
-}
-
-#[test]
-fn a_relocatable_module_is_shown(rt: HostRuntime) {
-    shows(
-        &rt,
-        rt.alloc(),
-        "a",
-        &RELOCATABLE,
-        &["show", "a"],
-        RELOCATABLE_TEXT,
-    );
-}
-
-#[test]
-fn names_after_two_dashes_and_a_dash_alone_are_files(rt: HostRuntime) {
-    let alloc = rt.alloc();
-    shows(
-        &rt,
-        alloc,
-        "-x",
-        &ABSOLUTE,
-        &["show", "--", "-x"],
+const SHOWN: [Run; 5] = [
+    (&[("m1", Held::Absolute)], "", "show m1", 0, ABSOLUTE_TEXT),
+    (
+        &[("m1", Held::Absolute)],
+        "",
+        "show m1 --no-debug",
+        0,
         ABSOLUTE_TEXT,
-    );
-    shows(&rt, alloc, "-", &ABSOLUTE, &["show", "-"], ABSOLUTE_TEXT);
+    ),
+    (
+        &[("a", Held::Relocatable)],
+        "",
+        "show a",
+        0,
+        RELOCATABLE_TEXT,
+    ),
+    // Names after two dashes, and a dash alone.
+    (
+        &[("-x", Held::Absolute)],
+        "",
+        "show -- -x",
+        0,
+        ABSOLUTE_TEXT,
+    ),
+    (&[("-", Held::Absolute)], "", "show -", 0, ABSOLUTE_TEXT),
+];
+
+#[test]
+fn modules_are_shown(rt: HostRuntime) {
+    for run in &SHOWN {
+        comes_to(&rt, rt.alloc(), run);
+    }
+}
+
+const USAGE: [Run; 6] = [
+    // Without a command or a file.
+    (
+        &[("m1", Held::Absolute)],
+        "",
+        "dmup a",
+        2,
+        "usage: no command\n",
+    ),
+    (&[("m1", Held::Absolute)], "", "dump", 2, "usage: no file\n"),
+    // Not one file.
+    (
+        &[("m1", Held::Absolute)],
+        "",
+        "show m1 m1",
+        2,
+        "usage: file count\n",
+    ),
+    (
+        &[("m1", Held::Absolute)],
+        "",
+        "show [",
+        2,
+        "usage: stray bracket\n",
+    ),
+    (
+        &[("m1", Held::Absolute)],
+        "",
+        "show --help",
+        2,
+        "usage: bad words\n",
+    ),
+    (
+        &[("m1", Held::Absolute)],
+        "",
+        "show --no-debug --no-debug m1",
+        2,
+        "usage: bad words\n",
+    ),
+];
+
+#[test]
+fn words_that_show_no_file_are_usage_faults(rt: HostRuntime) {
+    for run in &USAGE {
+        comes_to(&rt, rt.alloc(), run);
+    }
 }
 
 #[test]
-fn words_without_a_command_or_a_file_are_usage_faults(rt: HostRuntime) {
-    let alloc = rt.alloc();
-    let known = b"usage: no command\n";
-    faulty(&rt, alloc, &[], known);
-    faulty(&rt, alloc, &["dmup", "a"], known);
-    let known = b"usage: no file\n";
-    faulty(&rt, alloc, &["dump"], known);
-}
-
-#[test]
-fn words_that_name_not_one_file_are_usage_faults(rt: HostRuntime) {
-    let alloc = rt.alloc();
-    let known = b"usage: file count\n";
-    faulty(&rt, alloc, &["show", "m1", "m1"], known);
-    let known = b"usage: stray bracket\n";
-    faulty(&rt, alloc, &["show", "["], known);
-    let known = b"usage: bad words\n";
-    faulty(&rt, alloc, &["show", "--help"], known);
-    let twice = ["show", "--no-debug", "--no-debug", "m1"];
-    faulty(&rt, alloc, &twice, known);
+fn no_words_are_a_usage_fault(rt: HostRuntime) {
+    complains_of_no_words(&rt, rt.alloc(), "usage: no command\n");
 }

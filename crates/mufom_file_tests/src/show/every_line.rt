@@ -1,6 +1,6 @@
 //! The lines of a module with every kind of entry, and each function.
 
-use super::{joined, shows};
+use super::shows;
 use crate::entries::{bytes, expression, list, made, public, sections};
 use crate::every_kind::{SECTIONS, every_kind};
 use mufom_expr::{Function, Letter, Postfix, Token};
@@ -10,55 +10,54 @@ use mufom_numbers::{Bytes, List};
 use std::alloc::Global;
 use std::process::Abort;
 
-const EVERY_LINE: [&str; 40] = [
-    "module \"m\" processor \"P\" maus 2 order L",
-    "extension 3 bytes",
-    "environment 1 bytes",
-    "section 0 \"c\" CP size 12 align 2",
-    "section 1 \"d\" ASD size 0 align 1 base 4096",
-    "section 2 \"\" CR size 0 align 1",
-    "section 3 \"n\" C size 0 align 1",
-    "public 0 \"f\" = (R0 + 4)",
-    "note type 15 attribute 19 1",
-    "reference 0 \"x\" weak size 8 default 300",
-    "note type 1 attribute 2",
-    "reference 1 \"y\" weak size 0 default 0",
-    "reference 2 \"z\"",
-    "block 4 \"g\" stack 0 type 0 offset R0",
-    "  name 0 \"i\"",
-    "  note 0 type 0 attribute 1",
-    "  value 0 = 5",
-    "  block 6 \"l\" stack 1 type 2 offset 3",
-    "    name 1 \"j\"",
-    "  end = 7",
-    "end = R0",
-    "block 5 \"s\" 1 2",
-    "end",
-    "block 3 \"m\"",
-    "end",
-    "block 11 \"t\" section-type 1 section 1 offset 0",
-    "end",
-    "select 0",
-    "counter 0 = R0",
-    "bytes 2 4E71",
-    "field either 4 = X0",
-    "repeat 3",
-    "  bytes 1 00",
-    "repeat 4",
-    "  field signed 2 = 6",
-    "repeat 2",
-    "  field unsigned 1 = 1",
-    "  bytes 1 09",
-    "repeat 0",
-    "start = R0",
-];
+const EVERY_LINE: &str = "\
+    module \"m\" processor \"P\" maus 2 order L\n\
+    extension 3 bytes\n\
+    environment 1 bytes\n\
+    section 0 \"c\" CP size 12 align 2\n\
+    section 1 \"d\" ASD size 0 align 1 base 4096\n\
+    section 2 \"\" CR size 0 align 1\n\
+    section 3 \"n\" C size 0 align 1\n\
+    public 0 \"f\" = (R0 + 4)\n\
+    note type 15 attribute 19 1\n\
+    reference 0 \"x\" weak size 8 default 300\n\
+    note type 1 attribute 2\n\
+    reference 1 \"y\" weak size 0 default 0\n\
+    reference 2 \"z\"\n\
+    block 4 \"g\" stack 0 type 0 offset R0\n\
+    \x20\x20name 0 \"i\"\n\
+    \x20\x20note 0 type 0 attribute 1\n\
+    \x20\x20value 0 = 5\n\
+    \x20\x20block 6 \"l\" stack 1 type 2 offset 3\n\
+    \x20\x20\x20\x20name 1 \"j\"\n\
+    \x20\x20end = 7\n\
+    end = R0\n\
+    block 5 \"s\" 1 2\n\
+    end\n\
+    block 3 \"m\"\n\
+    end\n\
+    block 11 \"t\" section-type 1 section 1 offset 0\n\
+    end\n\
+    select 0\n\
+    counter 0 = R0\n\
+    bytes 2 4E71\n\
+    field either 4 = X0\n\
+    repeat 3\n\
+    \x20\x20bytes 1 00\n\
+    repeat 4\n\
+    \x20\x20field signed 2 = 6\n\
+    repeat 2\n\
+    \x20\x20field unsigned 1 = 1\n\
+    \x20\x20bytes 1 09\n\
+    repeat 0\n\
+    start = R0\n\
+    ";
 
 #[test]
 fn every_kind_of_line_is_printed(rt: HostRuntime) {
     let alloc = rt.alloc();
     let module = made(&rt, every_kind(&rt, alloc));
-    let text = joined(&rt, alloc, &EVERY_LINE);
-    shows(&rt, alloc, &module, text.as_slice());
+    shows(&rt, alloc, &module, EVERY_LINE.as_bytes());
 }
 
 // ---- functions
@@ -132,33 +131,32 @@ fn with_functions(rt: &impl Abort, alloc: Global) -> Parts {
     }
 }
 
-const FUNCTION_LINES: [&str; 20] = [
-    "module \"m\" processor \"P\" maus 2 order L",
-    "section 0 \"c\" CP size 12 align 2",
-    "section 1 \"d\" ASD size 0 align 1 base 4096",
-    "section 2 \"\" CR size 0 align 1",
-    "section 3 \"n\" C size 0 align 1",
-    "public 0 \"n\" = abs((9 - neg((L1 - I0))))",
-    "public 1 \"f\" = (S0 + 18446744073709551615)",
-    "public 2 \"f\" = (S0 - 18446744073709551615)",
-    "public 3 \"f\" = (S0 / 18446744073709551615)",
-    "public 4 \"f\" = (S0 * 18446744073709551615)",
-    "public 5 \"f\" = max(S0, 18446744073709551615)",
-    "public 6 \"f\" = min(S0, 18446744073709551615)",
-    "public 7 \"f\" = mod(S0, 18446744073709551615)",
-    "public 8 \"f\" = (S0 < 18446744073709551615)",
-    "public 9 \"f\" = (S0 > 18446744073709551615)",
-    "public 10 \"f\" = (S0 = 18446744073709551615)",
-    "public 11 \"f\" = (S0 <> 18446744073709551615)",
-    "public 12 \"f\" = and(S0, 18446744073709551615)",
-    "public 13 \"f\" = or(S0, 18446744073709551615)",
-    "public 14 \"f\" = xor(S0, 18446744073709551615)",
-];
+const FUNCTION_LINES: &str = "\
+    module \"m\" processor \"P\" maus 2 order L\n\
+    section 0 \"c\" CP size 12 align 2\n\
+    section 1 \"d\" ASD size 0 align 1 base 4096\n\
+    section 2 \"\" CR size 0 align 1\n\
+    section 3 \"n\" C size 0 align 1\n\
+    public 0 \"n\" = abs((9 - neg((L1 - I0))))\n\
+    public 1 \"f\" = (S0 + 18446744073709551615)\n\
+    public 2 \"f\" = (S0 - 18446744073709551615)\n\
+    public 3 \"f\" = (S0 / 18446744073709551615)\n\
+    public 4 \"f\" = (S0 * 18446744073709551615)\n\
+    public 5 \"f\" = max(S0, 18446744073709551615)\n\
+    public 6 \"f\" = min(S0, 18446744073709551615)\n\
+    public 7 \"f\" = mod(S0, 18446744073709551615)\n\
+    public 8 \"f\" = (S0 < 18446744073709551615)\n\
+    public 9 \"f\" = (S0 > 18446744073709551615)\n\
+    public 10 \"f\" = (S0 = 18446744073709551615)\n\
+    public 11 \"f\" = (S0 <> 18446744073709551615)\n\
+    public 12 \"f\" = and(S0, 18446744073709551615)\n\
+    public 13 \"f\" = or(S0, 18446744073709551615)\n\
+    public 14 \"f\" = xor(S0, 18446744073709551615)\n\
+    ";
 
 #[test]
 fn each_function_is_printed_in_infix_form(rt: HostRuntime) {
     let alloc = rt.alloc();
     let module = made(&rt, with_functions(&rt, alloc));
-    let text = joined(&rt, alloc, &FUNCTION_LINES);
-    shows(&rt, alloc, &module, text.as_slice());
+    shows(&rt, alloc, &module, FUNCTION_LINES.as_bytes());
 }

@@ -1,27 +1,26 @@
 //! A small module, names of all bytes, and a text that fills more than a page.
 
-use super::{joined, shows, stops};
+use super::{shows, stops};
 use crate::entries::made;
 use crate::small::{CODE, loads, parts, small};
 use mufom_module::Parts;
 use std::alloc::Global;
 use std::process::Abort;
 
-const PLAIN_TEXT: [&str; 6] = [
-    "module \"A\" processor \"68000\" maus 4 order M",
-    "section 0 \"code\" ASP size 4 align 2 base 4096",
-    "select 0",
-    "counter 0 = 4096",
-    "bytes 4 4E714E75",
-    "start = 4096",
-];
+const PLAIN_TEXT: &str = "\
+    module \"A\" processor \"68000\" maus 4 order M\n\
+    section 0 \"code\" ASP size 4 align 2 base 4096\n\
+    select 0\n\
+    counter 0 = 4096\n\
+    bytes 4 4E714E75\n\
+    start = 4096\n\
+    ";
 
 #[test]
 fn a_small_module_is_printed(rt: HostRuntime) {
     let alloc = rt.alloc();
     let module = made(&rt, small(&rt, alloc));
-    let text = joined(&rt, alloc, &PLAIN_TEXT);
-    shows(&rt, alloc, &module, text.as_slice());
+    shows(&rt, alloc, &module, PLAIN_TEXT.as_bytes());
     stops(&rt, alloc, &module, 0, b"");
 }
 
@@ -29,35 +28,35 @@ fn a_small_module_is_printed(rt: HostRuntime) {
 
 const ODD: &[u8] = &[0x61, 0x22, 0x62, 0x5C, 0x7F, 0x1F, 0xE9, 0x20, 0x7E, 0x00];
 
+const ODD_TEXT: &str = "\
+    module \"a\\x22b\\x5C\\x7F\\x1F\\xE9 ~\\x00\" processor \"68000\" maus 4 order M\n\
+    section 0 \"a\\x22b\\x5C\\x7F\\x1F\\xE9 ~\\x00\" C size 0 align 1\n\
+    select 0\n\
+    counter 0 = 4096\n\
+    bytes 0\n\
+    ";
+
 #[test]
 fn bytes_that_do_not_stand_for_themselves_are_printed_by_their_digits(rt: HostRuntime) {
     let alloc = rt.alloc();
     let row = (ODD, false, None, 0, 1, None);
     let loads = loads(&rt, alloc, &[]);
     let module = made(&rt, parts(&rt, alloc, ODD, &[row], loads, None));
-    let lines = [
-        "module \"a\\x22b\\x5C\\x7F\\x1F\\xE9 ~\\x00\" processor \"68000\" maus 4 order M",
-        "section 0 \"a\\x22b\\x5C\\x7F\\x1F\\xE9 ~\\x00\" C size 0 align 1",
-        "select 0",
-        "counter 0 = 4096",
-        "bytes 0",
-    ];
-    let text = joined(&rt, alloc, &lines);
-    shows(&rt, alloc, &module, text.as_slice());
+    shows(&rt, alloc, &module, ODD_TEXT.as_bytes());
 }
 
 // ---- more than a page
 
-const LONG: [&str; 4] = [
-    "module \"A\" processor \"68000\" maus 4 order M",
-    "section 0 \"code\" ASP size 4 align 2 base 4096",
-    "select 0",
-    "counter 0 = 4096",
-];
+const LONG: &str = "\
+    module \"A\" processor \"68000\" maus 4 order M\n\
+    section 0 \"code\" ASP size 4 align 2 base 4096\n\
+    select 0\n\
+    counter 0 = 4096\n\
+    ";
 
 // The text of a module of 40,000 bytes of one value.
 fn long_text(rt: &impl Abort, alloc: Global) -> Vec<u8> {
-    let mut text = joined(rt, alloc, &LONG);
+    let mut text = Vec::from_slice(alloc, LONG.as_bytes()).expect(rt, "memory");
     text.extend_from_slice(b"bytes 40000 ").expect(rt, "memory");
     for _ in 0..40_000 {
         text.extend_from_slice(b"A5").expect(rt, "memory");

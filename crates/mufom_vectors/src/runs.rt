@@ -1,0 +1,214 @@
+//! Runs of the program in tables: words over files, and what they come to. Where there is no memory, a
+//! test fails.
+
+use crate::drafts::{Records, module};
+use crate::files::{ABSOLUTE, EMPTY, LIBRARY, RELOCATABLE, ROOM, made_bytes};
+use crate::link::{FIRST, LINKED, SECOND};
+use mufom_command::run;
+use mufom_host::MemHost;
+use mufom_numbers::{Bytes, List, Text};
+use std::alloc::Global;
+use std::process::Abort;
+
+/// What a file holds.
+#[derive(Clone, Copy)]
+pub(crate) enum Held {
+    Absolute,
+    /// The absolute module with another byte at this place.
+    Changed(usize, u8),
+    /// The first bytes of the absolute module, up to this count, and then these.
+    Cut(usize, &'static [u8]),
+    Relocatable,
+    Library,
+    Empty,
+    First,
+    Second,
+    Linked,
+    Bytes(&'static [u8]),
+    /// A module with nothing but these external records.
+    Names(&'static [u8]),
+    /// A module with these sections, these external records and these loads.
+    Section(&'static [u8], &'static [u8], &'static [u8]),
+    /// A module with this number of units in an address, these sections, these debug records and these loads.
+    Records(u8, &'static [u8], &'static [u8], &'static [u8]),
+}
+
+/// A file's name and what it holds.
+pub(crate) type File = (&'static str, Held);
+
+/// Files; the words that make the file `c` of them first, if any; the words of the run; the status that
+/// they are answered with, and what is printed: of a run that is done to the output, else to the
+/// complaints. Nothing is printed to the other.
+pub(crate) type Run = (
+    &'static [File],
+    &'static str,
+    &'static str,
+    u8,
+    &'static str,
+);
+
+// What the whole files hold that were made by hand.
+fn whole(held: &Held) -> &'static [u8] {
+    match held {
+        Held::Relocatable => &RELOCATABLE,
+        Held::Library => &LIBRARY,
+        Held::Empty => &EMPTY,
+        Held::First => &FIRST,
+        Held::Second => &SECOND,
+        Held::Linked => &LINKED,
+        Held::Bytes(bytes) => bytes,
+        _ => &ABSOLUTE,
+    }
+}
+
+fn drafted(
+    rt: &impl Abort,
+    alloc: Global,
+    maus: u8,
+    sections: &[u8],
+    external: &[u8],
+    debug: &[u8],
+    loads: &[u8],
+) -> Vec<u8> {
+    let records = Records {
+        sections,
+        external,
+        debug,
+        loads,
+    };
+    module(rt, alloc, maus, records)
+}
+
+fn cut(rt: &impl Abort, alloc: Global, count: usize, rest: &[u8]) -> Vec<u8> {
+    let mut bytes = Vec::from_slice(alloc, &ABSOLUTE).expect(rt, "memory");
+    bytes.truncate(count);
+    bytes.extend_from_slice(rest).expect(rt, "memory");
+    bytes
+}
+
+fn changed(rt: &impl Abort, alloc: Global, place: usize, byte: u8) -> Vec<u8> {
+    let mut bytes = Vec::from_slice(alloc, &ABSOLUTE).expect(rt, "memory");
+    if let Some(old) = bytes.get_mut(place) {
+        *old = byte;
+    }
+    bytes
+}
+
+fn content(rt: &impl Abort, alloc: Global, held: &Held) -> Vec<u8> {
+    match held {
+        Held::Changed(place, byte) => changed(rt, alloc, *place, *byte),
+        Held::Cut(count, rest) => cut(rt, alloc, *count, rest),
+        Held::Names(external) => drafted(rt, alloc, 4, b"", external, b"", b""),
+        Held::Section(sections, external, loads) => drafted(
+            rt, alloc, 4, sections, external, b"", loads,
+        ),
+        Held::Records(maus, sections, debug, loads) => drafted(
+            rt, alloc, *maus, sections, b"", debug, loads,
+        ),
+        _ => Vec::from_slice(alloc, whole(held)).expect(rt, "memory"),
+    }
+}
+
+fn add(rt: &impl Abort, alloc: Global, files: &mut List<(Text, Bytes)>, name: &str, bytes: &[u8]) {
+    let name = Text::from_str(alloc, name).expect(rt, "memory");
+    let bytes = Bytes::from_slice(alloc, bytes).expect(rt, "memory");
+    files.push((name, bytes)).expect(rt, "memory");
+}
+
+fn listed(rt: &impl Abort, alloc: Global, files: &[File]) -> List<(Text, Bytes)> {
+    let mut list = List::new(alloc);
+    for (name, held) in files {
+        let bytes = content(rt, alloc, held);
+        add(rt, alloc, &mut list, name, &bytes);
+    }
+    list
+}
+
+fn host_of(rt: &impl Abort, alloc: Global, files: List<(Text, Bytes)>) -> MemHost {
+    MemHost::new(alloc, files, List::new(alloc), List::new(alloc), ROOM).expect(rt, "memory")
+}
+
+// The words of a line, with one blank between each two.
+fn words_of(rt: &impl Abort, alloc: Global, line: &str) -> Vec<String> {
+    let mut words = Vec::new(alloc);
+    for word in line.split(' ') {
+        let word = word.to_string(alloc).expect(rt, "memory");
+        words.push(word).expect(rt, "memory");
+    }
+    words
+}
+
+/// The status that the words of a line end with.
+pub(crate) fn status_of(rt: &impl Abort, alloc: Global, host: &mut MemHost, line: &str) -> u8 {
+    let words = words_of(rt, alloc, line);
+    assert!(rt; words.len() < 1 << 32);
+    run(alloc, words.as_slice(), host).status()
+}
+
+/// The bytes of the file that the words of a line make of these files. They print nothing.
+pub(crate) fn made_of(rt: &impl Abort, alloc: Global, files: &[File], line: &str) -> Vec<u8> {
+    let files = listed(rt, alloc, files);
+    let mut host = host_of(rt, alloc, files);
+    assert_eq!(rt; status_of(rt, alloc, &mut host, line), 0, "{line}");
+    assert!(rt; host.out().is_empty());
+    made_bytes(rt, alloc, &host)
+}
+
+// A run that is done prints this text alone.
+fn is_done(rt: &impl Abort, host: &MemHost, text: &str) {
+    assert_eq!(rt; host.out(), text.as_bytes());
+    assert!(rt; host.err().is_empty());
+}
+
+// A run that is not done complains by this text alone, and no file is made or begun.
+fn is_not_done(rt: &impl Abort, host: &MemHost, text: &str) {
+    assert_eq!(rt; host.err(), text.as_bytes());
+    assert!(rt; host.out().is_empty());
+    assert!(rt; host.made().is_none());
+    assert!(rt; host.making().is_none());
+}
+
+/// A run comes to what stands with it.
+pub(crate) fn comes_to(rt: &impl Abort, alloc: Global, run: &Run) {
+    let (files, link, line, status, text) = run;
+    let mut list = listed(rt, alloc, files);
+    if !link.is_empty() {
+        let linked = made_of(rt, alloc, files, link);
+        add(rt, alloc, &mut list, "c", &linked);
+    }
+    let mut host = host_of(rt, alloc, list);
+    assert_eq!(rt; status_of(rt, alloc, &mut host, line), *status, "{line}");
+    match status {
+        0 => is_done(rt, &host, text),
+        _ => is_not_done(rt, &host, text),
+    }
+}
+
+/// These words make a file of these bytes.
+pub(crate) fn makes(rt: &impl Abort, alloc: Global, files: &[File], line: &str, bytes: &[u8]) {
+    let made = made_of(rt, alloc, files, line);
+    assert!(rt; made.as_slice() == bytes, "{line}");
+}
+
+/// The words of a line over no files are answered with this status and this complaint alone.
+pub(crate) fn complains_of(rt: &impl Abort, alloc: Global, line: &str, status: u8, text: &str) {
+    let mut host = host_of(rt, alloc, List::new(alloc));
+    assert_eq!(rt; status_of(rt, alloc, &mut host, line), status);
+    is_not_done(rt, &host, text);
+}
+
+/// No words are a usage fault, with this complaint alone.
+pub(crate) fn complains_of_no_words(rt: &impl Abort, alloc: Global, text: &str) {
+    let mut host = host_of(rt, alloc, List::new(alloc));
+    assert_eq!(rt; run(alloc, &[], &mut host).status(), 2);
+    is_not_done(rt, &host, text);
+}
+
+/// The file of these bytes is shown as this text.
+pub(crate) fn shows(rt: &impl Abort, alloc: Global, bytes: &[u8], text: &str) {
+    let mut files = List::new(alloc);
+    add(rt, alloc, &mut files, "a", bytes);
+    let mut host = host_of(rt, alloc, files);
+    assert_eq!(rt; status_of(rt, alloc, &mut host, "show a"), 0);
+    is_done(rt, &host, text);
+}
