@@ -1,6 +1,6 @@
 //! Copies of modules.
 
-ghost use Rattle.std.specs.Prelude.{◌≡◌, IfOk};
+ghost use Rattle.std.specs.Prelude.{◌≡◌, IfOk, OnOk};
 
 use crate::debug::copy_debug_items;
 use crate::entries::{
@@ -63,23 +63,31 @@ fn copy_names(alloc: Global, names: &NameTable) -> Result<NameTable, NoMemory>
     })
 }
 
-// A copy of what a module states.
+// Replaces what parts state by copies of what a module states.
+fn copy_into(alloc: Global, copy: &mut Parts, parts: &Parts) -> Result<(), NoMemory>
+    ensures { OnOk result (copy.new ≡ parts.now) }
+{
+    copy.processor = copy_bytes(alloc, &parts.processor)?;
+    copy.name = copy_bytes(alloc, &parts.name)?;
+    copy.maus = parts.maus;
+    copy.order = parts.order;
+    copy.ext = copy_bytes(alloc, &parts.ext)?;
+    copy.env = copy_bytes(alloc, &parts.env)?;
+    copy.sections = copy_sections(alloc, parts.sections.as_slice())?;
+    copy.names = copy_names(alloc, &parts.names)?;
+    copy.debug = copy_debug_items(alloc, parts.debug.as_slice())?;
+    copy.loads = copy_loads(alloc, parts.loads.as_slice())?;
+    copy.start = copy_optional(alloc, &parts.start)?;
+    Ok(())
+}
+
+// A copy of what a module states, made in place: see "Drops" in docs/ARCHITECTURE.md.
 fn copy_parts(alloc: Global, parts: &Parts) -> Result<Parts, NoMemory>
     ensures { IfOk result (λ copy. copy ≡ parts.now) }
 {
-    Ok(Parts {
-        processor: copy_bytes(alloc, &parts.processor)?,
-        name: copy_bytes(alloc, &parts.name)?,
-        maus: parts.maus,
-        order: parts.order,
-        ext: copy_bytes(alloc, &parts.ext)?,
-        env: copy_bytes(alloc, &parts.env)?,
-        sections: copy_sections(alloc, parts.sections.as_slice())?,
-        names: copy_names(alloc, &parts.names)?,
-        debug: copy_debug_items(alloc, parts.debug.as_slice())?,
-        loads: copy_loads(alloc, parts.loads.as_slice())?,
-        start: copy_optional(alloc, &parts.start)?,
-    })
+    let mut copy = Parts::new(alloc, parts.maus, parts.order);
+    copy_into(alloc, &mut copy, parts)?;
+    Ok(copy)
 }
 
 /// A copy of a module.

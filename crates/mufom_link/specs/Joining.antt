@@ -7,7 +7,19 @@ use Rattle.mufom_module.specs.declared.module.Parts.{Parts}
 use Rattle.mufom_meaning.specs.Flat.{sited, flat_sections}
 use Rattle.mufom_meaning.specs.Joined.{joined_tree, joined_public, joined_load, joined_mark}
 use Rattle.mufom_link.specs.declared.joined.Joined.{Joined}
+use Rattle.mufom_link.specs.declared.linking.Header.{Header}
 use Rattle.mufom_link.specs.Renaming.{Renaming, renaming, renamed_tree, renamed_public, renamed_load, renamed_mark}
+
+-- the header of a partial link under this name, whose first module is this
+abbrev pub header_of : Parts → List ℕ → Header
+header_of first name = record {
+  processor = first.processor;
+  name = name;
+  maus = first.maus;
+  order = first.order;
+  ext = first.ext;
+  env = first.env;
+}
 
 -- the start after that of a module was taken over, where it has one
 abbrev pub start_after : Renaming → Option Tree → Option Tree → Option Tree

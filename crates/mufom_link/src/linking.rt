@@ -7,7 +7,7 @@ ghost use Rattle.mufom_meaning.specs.Staging.{AreValid, StandsFor, HasSettledRef
 ghost use Rattle.mufom_meaning.specs.StagingLaws.{JoinedStandsFor, JoinedIsValid, total_weight, first_name_length};
 ghost use Rattle.mufom_meaning.specs.FactLaws.{NoLinkAnswerIsLinkable};
 ghost use Rattle.mufom_link.specs.Conditions.{MayBeLinked};
-ghost use Rattle.mufom_link.specs.Joining.{HasLists};
+ghost use Rattle.mufom_link.specs.Joining.{HasLists, header_of};
 ghost use Rattle.mufom_link.specs.Linking.{IsPartialLink};
 ghost use Rattle.mufom_link.specs.References.{AreResolved, targets_of};
 ghost use Rattle.mufom_link.specs.Refusals.{IsRefusalOf};
@@ -18,7 +18,7 @@ use crate::resolved::{Resolved, resolve};
 use mufom_copies::{copy_bytes, copy_module};
 use mufom_expr::Letter;
 use mufom_meaning::{joined_is_valid, joined_stands_for, no_link_answer_is_linkable};
-use mufom_module::{Module, Parts};
+use mufom_module::{Module, Order, Parts};
 use mufom_names::NameTable;
 use mufom_numbers::{Bytes, List, NoMemory};
 use std::alloc::Global;
@@ -56,6 +56,32 @@ fn join_lists(
     Ok(joined)
 }
 
+// What a partial link states before its lists.
+#[derive(Drop)]
+struct Header {
+    processor: Bytes,
+    name: Bytes,
+    maus: u8,
+    order: Order,
+    ext: Bytes,
+    env: Bytes,
+}
+
+// The header of a partial link under this name, copied from its first module.
+fn copy_header(alloc: Global, first: &Module, name: &[u8]) -> Result<Header, NoMemory>
+    ensures { IfOk result (λ h. h ≡ header_of first.now name.now) }
+{
+    let first = first.parts();
+    Ok(Header {
+        processor: copy_bytes(alloc, &first.processor)?,
+        name: Bytes::from_slice(alloc, name)?,
+        maus: first.maus,
+        order: first.order,
+        ext: copy_bytes(alloc, &first.ext)?,
+        env: copy_bytes(alloc, &first.env)?,
+    })
+}
+
 // The parts of the partial link under this name.
 fn join(
     alloc: Global,
@@ -70,25 +96,19 @@ fn join(
     ensures joined { IfOk result (λ M. IsJoined M list.items name.now) }
     ensures valid { IfOk result (λ _. AreValid list.items) }
 {
-    let Resolved { targets, kept } = references;
-    let first = list[0].parts();
-    let processor = copy_bytes(alloc, &first.processor)?;
-    let ext = copy_bytes(alloc, &first.ext)?;
-    let env = copy_bytes(alloc, &first.env)?;
-    let maus = first.maus;
-    let order = first.order;
-    let joined = join_lists(alloc, list, targets.as_slice())?;
+    let header = copy_header(alloc, &list[0], name)?;
+    let joined = join_lists(alloc, list, references.targets.as_slice())?;
     Ok(Parts {
-        processor,
-        name: Bytes::from_slice(alloc, name)?,
-        maus,
-        order,
-        ext,
-        env,
+        processor: header.processor,
+        name: header.name,
+        maus: header.maus,
+        order: header.order,
+        ext: header.ext,
+        env: header.env,
         sections: List::from_vec(joined.sections),
         names: NameTable {
             publics: List::from_vec(joined.publics),
-            references: kept,
+            references: references.kept,
         },
         debug: List::from_vec(joined.debug),
         loads: List::from_vec(joined.loads),

@@ -1,7 +1,8 @@
 //! The absolute module of a location.
 
-ghost use Rattle.std.specs.Prelude.{◌≡◌, ◌<◌, ◌^◌, [], ◌∷◌, map, option_map, IfOk};
+ghost use Rattle.std.specs.Prelude.{◌≡◌, ◌<◌, ◌^◌, [], ◌∷◌, map, option_map, IfOk, OnOk};
 ghost use Rattle.mufom_expr.specs.Tree.{number};
+ghost use Rattle.mufom_module.specs.Bare.{bare_parts};
 ghost use Rattle.mufom_module.specs.Written.{weight};
 ghost use Rattle.mufom_meaning.specs.Absolute.{absolute_of, absolute_public, no_regions};
 ghost use Rattle.mufom_meaning.specs.Location.{IsLocation};
@@ -16,8 +17,8 @@ use mufom_meaning::{
     modules_may_be_placed,
 };
 use mufom_module::{Module, Parts};
-use mufom_names::{NameTable, Public};
-use mufom_numbers::{Bytes, List, NoMemory};
+use mufom_names::Public;
+use mufom_numbers::{List, NoMemory};
 use mufom_sections::Section;
 use std::alloc::Global;
 
@@ -60,27 +61,31 @@ fn absolute_start(alloc: Global, start: Option<u64>) -> Result<Option<Postfix>, 
     }
 }
 
-fn absolute_parts(alloc: Global, parts: &LocatedParts) -> Result<Parts, NoMemory>
-    requires { IsLocated parts.now }
-    ensures { IfOk result (λ made. made ≡ absolute_of parts.now) }
+// States in bare parts what the absolute module of a location states.
+fn state_location(alloc: Global, made: &mut Parts, location: &LocatedParts) -> Result<(), NoMemory>
+    requires located { IsLocated location.now }
+    requires bare { made.old ≡ bare_parts location.now.maus location.now.order }
+    ensures { OnOk result (made.new ≡ absolute_of location.now) }
 {
     modules_may_be_placed();
-    Ok(Parts {
-        processor: copy_bytes(alloc, &parts.processor)?,
-        name: copy_bytes(alloc, &parts.name)?,
-        maus: parts.maus,
-        order: parts.order,
-        ext: Bytes::new(alloc),
-        env: Bytes::new(alloc),
-        sections: copy_sections(alloc, parts.sections.as_slice())?,
-        names: NameTable {
-            publics: absolute_publics(alloc, parts.publics.as_slice())?,
-            references: List::new(alloc),
-        },
-        debug: copy_debug_items(alloc, parts.debug.as_slice())?,
-        loads: absolute_loads(alloc, parts.sections.as_slice(), parts.runs.as_slice())?,
-        start: absolute_start(alloc, parts.start)?,
-    })
+    let sections = location.sections.as_slice();
+    made.processor = copy_bytes(alloc, &location.processor)?;
+    made.name = copy_bytes(alloc, &location.name)?;
+    made.sections = copy_sections(alloc, sections)?;
+    made.names.publics = absolute_publics(alloc, location.publics.as_slice())?;
+    made.debug = copy_debug_items(alloc, location.debug.as_slice())?;
+    made.loads = absolute_loads(alloc, sections, location.runs.as_slice())?;
+    made.start = absolute_start(alloc, location.start)?;
+    Ok(())
+}
+
+fn absolute_parts(alloc: Global, location: &LocatedParts) -> Result<Parts, NoMemory>
+    requires { IsLocated location.now }
+    ensures { IfOk result (λ made. made ≡ absolute_of location.now) }
+{
+    let mut made = Parts::new(alloc, location.maus, location.order);
+    state_location(alloc, &mut made, location)?;
+    Ok(made)
 }
 
 /// The module that a location is written as: no extension, no environment and no references, one

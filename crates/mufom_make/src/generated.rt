@@ -4,6 +4,8 @@ ghost use Rattle.std.specs.Prelude.{◌≡◌, ◌+◌, ◌<◌, ◌^◌, ◌==�
 ghost use Rattle.mufom_expr.specs.Terms.{FindsTooFew};
 ghost use Rattle.mufom_loads.specs.declared.load.Item.TheVariants.{Literal, Field};
 ghost use Rattle.mufom_expr.specs.declared.token.FieldKind.TheVariants.{Either};
+ghost use Rattle.mufom_module.specs.declared.module.Order.TheVariants.{Most};
+ghost use Rattle.mufom_module.specs.Bare.{bare_parts};
 ghost use Rattle.mufom_make.specs.declared.generated.TheConstants.{MOST_MODULES};
 ghost use Rattle.mufom_make.specs.Generated.{code_section, entry_at, loads_at, made_plan, module_at, name_at, next_value, references_at};
 
@@ -11,7 +13,7 @@ use itoa::Buffer;
 use mufom_expr::{Builder, ExprFault, FieldKind, Function, Letter, Postfix, Token};
 use mufom_loads::{Item, Load};
 use mufom_module::{Module, Order, Parts};
-use mufom_names::{NameTable, Public, Reference};
+use mufom_names::{Public, Reference};
 use mufom_numbers::{Bytes, List, NoMemory};
 use mufom_plan::{Plan, Region};
 use mufom_sections::{Purpose, Section};
@@ -167,27 +169,29 @@ fn loads_at(alloc: Global, last: bool, number: u32) -> Result<List<Load>, NoMemo
     Ok(loads)
 }
 
+// States in bare parts what the module with this number states.
+fn state_module(alloc: Global, parts: &mut Parts, last: bool, number: u32) -> Result<(), NoMemory>
+    requires number { number < 2 ^ 31 }
+    requires bare { parts.old ≡ bare_parts 4 Most }
+    ensures { OnOk result (parts.new ≡ module_at last number) }
+{
+    parts.processor = Bytes::from_slice(alloc, b"MADE")?;
+    parts.name = name_at(alloc, "m", number)?;
+    parts.sections = List::single(alloc, code_section(alloc)?)?;
+    parts.names.publics = List::single(alloc, entry_at(alloc, number)?)?;
+    parts.names.references = references_at(alloc, last, number)?;
+    parts.loads = loads_at(alloc, last, number)?;
+    Ok(())
+}
+
 // What the module with this number states.
 fn parts_at(alloc: Global, last: bool, number: u32) -> Result<Parts, NoMemory>
     requires { number < 2 ^ 31 }
     ensures { IfOk result (λ parts. parts ≡ module_at last number) }
 {
-    Ok(Parts {
-        processor: Bytes::from_slice(alloc, b"MADE")?,
-        name: name_at(alloc, "m", number)?,
-        maus: ADDRESS_SIZE,
-        order: Order::Most,
-        ext: Bytes::new(alloc),
-        env: Bytes::new(alloc),
-        sections: List::single(alloc, code_section(alloc)?)?,
-        names: NameTable {
-            publics: List::single(alloc, entry_at(alloc, number)?)?,
-            references: references_at(alloc, last, number)?,
-        },
-        debug: List::new(alloc),
-        loads: loads_at(alloc, last, number)?,
-        start: None,
-    })
+    let mut parts = Parts::new(alloc, ADDRESS_SIZE, Order::Most);
+    state_module(alloc, &mut parts, last, number)?;
+    Ok(parts)
 }
 
 /// The module with this number of `count` generated modules.

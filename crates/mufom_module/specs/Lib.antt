@@ -1,4 +1,5 @@
 pub mod Contents
+pub mod Bare
 pub mod Written
 pub mod Weights
 pub mod Defects

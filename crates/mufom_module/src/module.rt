@@ -1,4 +1,5 @@
 ghost use Rattle.std.specs.Prelude.{◌≡◌, ◌<◌, ◌^◌};
+ghost use Rattle.mufom_module.specs.Bare.{bare_parts};
 ghost use Rattle.mufom_module.specs.Written.{weight};
 ghost use Rattle.mufom_module.specs.Defects.{IsValid};
 ghost use Rattle.mufom_module.specs.Made.{IsMade};
@@ -11,6 +12,7 @@ use mufom_loads::Load;
 use mufom_names::NameTable;
 use mufom_numbers::{Bytes, List};
 use mufom_sections::Section;
+use std::alloc::Global;
 use std::marker::Model;
 
 /// The order of the bytes of a field and of an address.
@@ -40,6 +42,31 @@ pub struct Parts {
     pub loads: List<Load>,
     /// The start address.
     pub start: Option<Postfix>,
+}
+
+impl Parts {
+    /// Parts that state nothing but the size of an address, in MAUs, and the order of bytes. Takes no
+    /// memory.
+    pub fn new(alloc: Global, maus: u8, order: Order) -> Parts
+        ensures { result ≡ bare_parts maus order }
+    {
+        Parts {
+            processor: Bytes::new(alloc),
+            name: Bytes::new(alloc),
+            maus,
+            order,
+            ext: Bytes::new(alloc),
+            env: Bytes::new(alloc),
+            sections: List::new(alloc),
+            names: NameTable {
+                publics: List::new(alloc),
+                references: List::new(alloc),
+            },
+            debug: List::new(alloc),
+            loads: List::new(alloc),
+            start: None,
+        }
+    }
 }
 
 /// What keeps parts from being a module, in the order in which it is looked for.
@@ -75,7 +102,7 @@ pub enum Defect {
 }
 
 /// A module: parts without a defect. Contracts see it as its parts.
-#[derive(Debug, Drop)]
+#[derive(Debug)]
 pub struct Module {
     parts: Parts,
 }
@@ -95,6 +122,13 @@ impl Model for Module {
     ghost view = { λ m. m.parts };
 
     ghost invariant = { λ m. IsValid m.parts × IsMade m.parts };
+}
+
+// Written out so that whoever drops one makes one call: see "Drops" in docs/ARCHITECTURE.md.
+impl Drop for Module {
+    fn drop(self) {
+        let Module { parts: _ } = self;
+    }
 }
 
 impl Module {

@@ -6,7 +6,6 @@ use std::marker::Model;
 /// An index from keys of its own to positions, which finds a key by hashing it. Contracts see the
 /// list of the pairs of keys and positions, in the order in which they were added; no key stands
 /// twice.
-#[derive(Drop)]
 pub struct KeyIndex {
     keys: IndexSet<Vec<u8>>,
     positions: Vec<u32>,
@@ -24,6 +23,16 @@ impl Model for KeyIndex {
 
     ghost invariant = { λ index. (length index.keys.keys ≡ length index.positions.items)
         × IsDistinct (λ key other. bytes_eq key.items other.items) index.keys.keys };
+}
+
+// Written out so that whoever drops one makes one call: see "Drops" in docs/ARCHITECTURE.md.
+impl Drop for KeyIndex {
+    fn drop(self) {
+        let KeyIndex {
+            keys: _,
+            positions: _,
+        } = self;
+    }
 }
 
 impl KeyIndex {

@@ -6,7 +6,6 @@ use std::marker::Model;
 /// An index from names to positions, which finds a name by hashing its bytes. The names stay where
 /// they are, and the index borrows them. Contracts see the list of the pairs of names and positions,
 /// in the order in which they were added; no name stands twice.
-#[derive(Drop)]
 pub struct NameIndex<'a> {
     names: IndexSet<&'a [u8]>,
     positions: Vec<u32>,
@@ -24,6 +23,16 @@ impl<'a> Model for NameIndex<'a> {
 
     ghost invariant = { λ index. (length index.names.keys ≡ length index.positions.items)
         × IsDistinct (λ name other. bytes_eq name.now other.now) index.names.keys };
+}
+
+// Written out so that whoever drops one makes one call: see "Drops" in docs/ARCHITECTURE.md.
+impl Drop for NameIndex<'_> {
+    fn drop(self) {
+        let NameIndex {
+            names: _,
+            positions: _,
+        } = self;
+    }
 }
 
 impl<'a> NameIndex<'a> {

@@ -10,10 +10,8 @@ ghost use Rattle.mufom_read.specs.Prefixes.{Step};
 ghost use Rattle.mufom_read.specs.Built.{IsStatedByKept, IsWhole};
 
 use crate::contents::Contents;
-use crate::debug::Debugs;
 use crate::header::{Header, Layout, Names};
 use crate::prefix::Prefix;
-use crate::sections::Sections;
 use mufom_module::{Module, Parts};
 use mufom_names::NameTable;
 use mufom_numbers::{Bytes, List, NoMemory};
@@ -52,8 +50,9 @@ fn parts_of(prefix: Prefix) -> Result<Parts, NoMemory>
     } = contents;
     let (names, layout) = whole_header(header);
     let Names { processor, name } = names;
-    let Sections { list, .. } = sections;
-    let Debugs { items, .. } = debug;
+    let sections = sections.into_list();
+    let publics = publics.into_placed(tables);
+    let items = debug.into_items();
     let loads = loads.into_closed()?;
     Ok(Parts {
         processor,
@@ -62,9 +61,9 @@ fn parts_of(prefix: Prefix) -> Result<Parts, NoMemory>
         order: layout.order,
         ext: Bytes::from_vec(extension),
         env: Bytes::from_vec(environment),
-        sections: List::from_vec(list),
+        sections,
         names: NameTable {
-            publics: publics.into_placed(&tables),
+            publics,
             references: List::from_vec(references),
         },
         debug: items,

@@ -203,6 +203,14 @@ impl Debugs {
         }
     }
 
+    /// The items of the part, where no block is open. Takes no memory.
+    pub(crate) fn into_items(self) -> List<DebugItem>
+        ensures { result ≡ self.items }
+    {
+        let Debugs { items, .. } = self;
+        items
+    }
+
     // Adds an item to the innermost open block.
     fn add(&mut self, item: DebugItem) -> Result<(), NoMemory>
         ensures marks { OnOk result (marks_kept self.new ≡ marks_kept self.old ++ marks_of_item item) }

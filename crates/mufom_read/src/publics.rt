@@ -159,10 +159,10 @@ impl Publics {
     }
 
     /// The publics, with positions in place of the indexes of the file. Takes no memory.
-    pub(crate) fn into_placed(self, tables: &Tables) -> List<Public>
-        ensures { result ≡ map (placed_public (indexes_by tables.now)) self.list.items }
+    pub(crate) fn into_placed(self, tables: Tables) -> List<Public>
+        ensures { result ≡ map (placed_public (indexes_by tables)) self.list.items }
     {
-        List::from_vec(place_all(tables, self.list))
+        List::from_vec(place_all(&tables, self.list))
     }
 
     /// The fault of the publics with the smallest offset: none that has no value, or a value with a variable that names no entry.

@@ -18,7 +18,7 @@ use std::marker::Model;
 
 /// A reader of the bytes of a module, which come in chunks. How they are cut makes no difference.
 /// Contracts see it as what it keeps of the stream.
-#[derive(Debug, Drop)]
+#[derive(Debug)]
 pub struct Reader {
     state: State,
 }
@@ -40,6 +40,13 @@ impl Model for Reader {
 
     // It has read a stream.
     ghost invariant = { λ r. (stream : List ℕ) × HasRead r.state stream };
+}
+
+// Written out so that whoever drops one makes one call: see "Drops" in docs/ARCHITECTURE.md.
+impl Drop for Reader {
+    fn drop(self) {
+        let Reader { state: _ } = self;
+    }
 }
 
 impl Reader {
@@ -98,8 +105,7 @@ impl Reader {
         if !state.prefix.is_ended() {
             return Err(refused(state.len(), Reason::Truncated));
         }
-        let State { prefix, .. } = state;
-        match module_of(prefix) {
+        match module_of(state.into_prefix()) {
             Ok(module) => Ok(module),
             Err(NoMemory) => Err(ReadStop::NoMemory),
         }

@@ -10,7 +10,7 @@ ghost use Rattle.mufom_read.specs.SectionsSoFar.{AreSectionsOf, AreSectionsBefor
 use crate::publics::declared_position;
 use crate::refusal::ReadRefusal;
 use crate::seen::SeenRecord;
-use mufom_numbers::{NoMemory, Reason, codes};
+use mufom_numbers::{List, NoMemory, Reason, codes};
 use mufom_records::Record;
 use mufom_sections::{IndexTable, Purpose, Section};
 use std::alloc::Global;
@@ -87,6 +87,14 @@ impl Sections {
             list: Vec::new(alloc),
             starts: Vec::new(alloc),
         }
+    }
+
+    /// The sections alone. Takes no memory.
+    pub(crate) fn into_list(self) -> List<Section>
+        ensures { result ≡ self.list.items }
+    {
+        let Sections { list, .. } = self;
+        List::from_vec(list)
     }
 
     // Adds a section, whose declaration begins at an offset.

@@ -25,7 +25,7 @@ use mufom_numbers::{NoMemory, Reason};
 use std::alloc::Global;
 
 /// What a reader keeps of its stream.
-#[derive(Debug, Drop)]
+#[derive(Debug)]
 pub(crate) struct State {
     pub alloc: Global,
     pub reads_debug: bool,
@@ -96,7 +96,34 @@ fn take_all(
     Ok(taken)
 }
 
+// Written out so that whoever drops one makes one call: see "Drops" in docs/ARCHITECTURE.md.
+impl Drop for State {
+    fn drop(self) {
+        let State {
+            alloc: _,
+            reads_debug: _,
+            prefix: _,
+            rest: _,
+            stop: _,
+        } = self;
+    }
+}
+
 impl State {
+    /// The prefix alone. Takes no memory.
+    pub(crate) fn into_prefix(self) -> Prefix
+        ensures { result ≡ self.prefix }
+    {
+        let State {
+            alloc: _,
+            reads_debug: _,
+            prefix,
+            rest: _,
+            stop: _,
+        } = self;
+        prefix
+    }
+
     /// How many bytes were read.
     pub(crate) fn len(&self) -> usize
         requires { self.now.prefix.size + length self.now.rest.items ≤ file_limit }

@@ -21,7 +21,7 @@ pub enum AddFault {
 ///
 /// Files mostly declare indexes in a row, as 1, 2, 3. The table keeps such a row as two numbers, and
 /// hashes only the indexes from the first that does not continue it.
-#[derive(Debug, Drop)]
+#[derive(Debug)]
 pub struct IndexTable {
     row: Row,
     // Those after the row.
@@ -37,6 +37,13 @@ impl Model for IndexTable {
     ghost view = { λ table. table.row ++ table.others.keys };
 
     ghost invariant = { λ table. (length (table.row ++ table.others.keys) < 2 ^ 32) × IsDistinct nat_eq (table.row ++ table.others.keys) };
+}
+
+// Written out so that whoever drops one makes one call: see "Drops" in docs/ARCHITECTURE.md.
+impl Drop for IndexTable {
+    fn drop(self) {
+        let IndexTable { row: _, others: _ } = self;
+    }
 }
 
 impl IndexTable {

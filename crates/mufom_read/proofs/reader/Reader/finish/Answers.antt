@@ -1,6 +1,8 @@
 use Rattle.std.proofs.Common.{◌≡◌, ◌+◌, ◌∙◌, true, false, Option, Ok, Err, length, sym, ap, subst, arith, length-drop}
+use Rattle.mufom_read.specs.declared.prefix.Prefix.{Prefix}
 use Rattle.mufom_read.specs.declared.refusal.ReadStop.{ReadStop}
 use Rattle.mufom_read.specs.declared.state.State.{State}
+use Rattle.mufom_read.specs.Built.{IsWhole}
 use Rattle.mufom_read.specs.Prefixes.{size_of, is_ended}
 use Rattle.mufom_read.specs.PrefixOfCode.{IsPrefixOf}
 use Rattle.mufom_read.specs.Judging.{IsModule}
@@ -31,8 +33,12 @@ module_of-requires c =
     let stream = c.self.invariant.0 in
     let has = c.self.invariant.1 in
     let is : IsReading it stream = subst (λ (o : Option ReadStop). Knows it stream o) c.in_default.is has.1 in
-    let ended : is_ended is.prefix ≡ true = sym (c.is_ended.ensures.prefix is.prefix is.kept) ∙ c.if-not-is_ended.false in
-    (it.reads_debug, is.prefix, stream, is-whole it stream is has.0 ended)
+    let ended : is_ended is.prefix ≡ true = sym (c.is_ended.ensures.prefix is.prefix is.kept) ∙ c.if-not-is_ended.false in (
+      it.reads_debug,
+      is.prefix,
+      stream,
+      subst (λ (f : Prefix). IsWhole it.reads_debug f is.prefix stream) (sym c.into_prefix.ensures) (is-whole it stream is has.0 ended),
+    )
 
 pub returns-in-Ok-clause-ok : goal.returns-in-Ok-clause-ok
 returns-in-Ok-clause-ok c = λ stream given_.
@@ -40,7 +46,8 @@ returns-in-Ok-clause-ok c = λ stream given_.
     let has = subst (λ (s : State). HasRead s stream) (sym c.self.view_is) given_ in
     let is : IsReading it stream = subst (λ (o : Option ReadStop). Knows it stream o) c.in_default.is has.1 in
     let ended : is_ended is.prefix ≡ true = sym (c.is_ended.ensures.prefix is.prefix is.kept) ∙ c.if-not-is_ended.false in
-    subst (λ (s : State). IsModule s.reads_debug stream c.in-Ok.module) c.self.view_is (c.in-Ok.ensures it.reads_debug is.prefix stream (is-whole it stream is has.0 ended))
+    let whole = subst (λ (f : Prefix). IsWhole it.reads_debug f is.prefix stream) (sym c.into_prefix.ensures) (is-whole it stream is has.0 ended) in
+    subst (λ (s : State). IsModule s.reads_debug stream c.in-Ok.module) c.self.view_is (c.in-Ok.ensures it.reads_debug is.prefix stream whole)
 
 pub returns-in-Ok-clause-refused : goal.returns-in-Ok-clause-refused
 returns-in-Ok-clause-refused c = λ place reason stream has memory.

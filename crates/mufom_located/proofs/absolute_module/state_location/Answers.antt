@@ -2,13 +2,13 @@ use Rattle.std.proofs.Common.{◌≡◌, ◌<◌, ◌^◌, [], ◌∷◌, length
 use Rattle.mufom_meaning.specs.declared.located.Run.{Run}
 use Rattle.mufom_located.specs.Located.{AreRows}
 use Rattle.mufom_located.proofs.WeightLaws.{sections-few}
-use Rattle.mufom_located.proofs.absolute_module.absolute_parts.Goals as goal
+use Rattle.mufom_located.proofs.absolute_module.state_location.Goals as goal
 
 pub absolute_loads-requires-clause-rows : goal.absolute_loads-requires-clause-rows
-absolute_loads-requires-clause-rows c = subst AreRows (sym c.as_slice-5.ensures) (0, c.requires.is.rows.apart)
+absolute_loads-requires-clause-rows c = subst AreRows (sym c.as_slice-3.ensures) (0, c.requires.located.is.rows.apart)
 
 pub absolute_loads-requires-clause-count : goal.absolute_loads-requires-clause-count
 absolute_loads-requires-clause-count c =
-    let few = sections-few c.modules_may_be_placed.ensures c.args.parts.now c.requires in
-    let same = ap length c.as_slice-4.ensures in
+    let few = sections-few c.modules_may_be_placed.ensures c.args.location.now c.requires.located in
+    let same = ap length c.as_slice-sections.ensures in
     omega (arith, few, same)

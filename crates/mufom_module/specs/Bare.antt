@@ -1,0 +1,20 @@
+-- Parts that state next to nothing.
+use Rattle.std.specs.Prelude.{ℕ, [], None}
+use Rattle.mufom_module.specs.declared.module.Order.{Order}
+use Rattle.mufom_module.specs.declared.module.Parts.{Parts}
+
+-- the parts that state nothing but the size of an address and the order of bytes
+abbrev pub bare_parts : ℕ → Order → Parts
+bare_parts maus order = record {
+  processor = [];
+  name = [];
+  maus = maus;
+  order = order;
+  ext = [];
+  env = [];
+  sections = [];
+  names = record { publics = []; references = [] };
+  debug = [];
+  loads = [];
+  start = None;
+}
