@@ -6,7 +6,7 @@ use mufom_expr::{Builder, FieldKind, Function, Letter, Postfix, Token};
 use mufom_image::{LocateRefusal, Located, locate};
 use mufom_loads::{Item, Load};
 use mufom_module::{Module, Order, Parts, assemble};
-use mufom_names::{NameTable, Public, Reference, Weak};
+use mufom_names::{Public, Reference, Weak};
 use mufom_numbers::{Bytes, List};
 use mufom_plan::read_plan;
 use mufom_sections::Section;
@@ -44,22 +44,7 @@ pub(crate) fn expression(rt: &impl Abort, alloc: Global, tokens: &[Token]) -> Po
 impl Draft {
     /// A module with nothing in it, and `maus` bytes for an address.
     pub(crate) fn new(alloc: Global, maus: u8) -> Draft {
-        let parts = Parts {
-            processor: Bytes::new(alloc),
-            name: Bytes::new(alloc),
-            maus,
-            order: Order::Most,
-            ext: Bytes::new(alloc),
-            env: Bytes::new(alloc),
-            sections: List::new(alloc),
-            names: NameTable {
-                publics: List::new(alloc),
-                references: List::new(alloc),
-            },
-            debug: List::new(alloc),
-            loads: List::new(alloc),
-            start: None,
-        };
+        let parts = Parts::new(alloc, maus, Order::Most);
         Draft { alloc, parts }
     }
 

@@ -34,55 +34,49 @@ const LOADS: &[u8] = b"\
     \xE4\xBC\xD8\x0C\x90\x04\xBD";
 
 // The public `a` with a note, a common `w` with a note, and the reference `b`.
-const A: Records<'static> = (
-    FOUR,
-    [
-        b"a",
-        b"",
-        SECTIONS,
-        b"\
+const A: Records<'static> = Records {
+    descriptor: FOUR,
+    extension: b"a",
+    environment: b"",
+    sections: SECTIONS,
+    external: b"\
     \xE8\x20\x01a\xF1\xC9\x20\x00\x07\x03\xE2\xC9\x20\xCC\x02\x04\xA5\
     \xE9\x0B\x01w\xF1\xD8\x0B\x00\x08\x04\xF4\x0B\x02\x09\
     \xE9\x0C\x01b",
-        DEBUG,
-        LOADS,
-        b"",
-    ],
-);
+    debug: DEBUG,
+    data: LOADS,
+    trailer: b"",
+};
 
 // As that one, with the public `b`.
-const B: Records<'static> = (
-    FOUR,
-    [
-        b"b",
-        b"",
-        SECTIONS,
-        b"\
+const B: Records<'static> = Records {
+    descriptor: FOUR,
+    extension: b"b",
+    environment: b"",
+    sections: SECTIONS,
+    external: b"\
     \xE8\x20\x01b\xF1\xC9\x20\x00\x07\x03\xE2\xC9\x20\xCC\x02\x04\xA5\
     \xE9\x0B\x01w\xF1\xD8\x0B\x00\x08\x04\xF4\x0B\x02\x09\
     \xE9\x0C\x01b",
-        DEBUG,
-        LOADS,
-        b"",
-    ],
-);
+    debug: DEBUG,
+    data: LOADS,
+    trailer: b"",
+};
 
 // As that one, with the public `c`.
-const C: Records<'static> = (
-    FOUR,
-    [
-        b"c",
-        b"",
-        SECTIONS,
-        b"\
+const C: Records<'static> = Records {
+    descriptor: FOUR,
+    extension: b"c",
+    environment: b"",
+    sections: SECTIONS,
+    external: b"\
     \xE8\x20\x01c\xF1\xC9\x20\x00\x07\x03\xE2\xC9\x20\xCC\x02\x04\xA5\
     \xE9\x0B\x01w\xF1\xD8\x0B\x00\x08\x04\xF4\x0B\x02\x09\
     \xE9\x0C\x01b",
-        DEBUG,
-        LOADS,
-        b"",
-    ],
-);
+    debug: DEBUG,
+    data: LOADS,
+    trailer: b"",
+};
 
 // The sections of the second module are 3 and 4, those of the third 5 and 6.
 const ALL_SECTIONS: &[u8] = b"\
@@ -166,18 +160,16 @@ const ALL_LOADS: &[u8] = b"\
     \xE4\xBC\xC9\x21\x90\x04\xBD";
 
 // The extension is that of the first module.
-const ALL: Records<'static> = (
-    FOUR,
-    [
-        b"a",
-        b"",
-        ALL_SECTIONS,
-        ALL_NAMES,
-        ALL_DEBUG,
-        ALL_LOADS,
-        b"",
-    ],
-);
+const ALL: Records<'static> = Records {
+    descriptor: FOUR,
+    extension: b"a",
+    environment: b"",
+    sections: ALL_SECTIONS,
+    external: ALL_NAMES,
+    debug: ALL_DEBUG,
+    data: ALL_LOADS,
+    trailer: b"",
+};
 
 #[test]
 fn modules_with_every_kind_of_entry_are_linked(rt: HostRuntime) {

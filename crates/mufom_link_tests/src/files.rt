@@ -10,9 +10,33 @@ use mufom_write::write_module;
 use std::alloc::Global;
 use std::process::Abort;
 
-/// The descriptor of a module, and the records of its parts: the extension, the environment, the sections, the
-/// external part, the debug part, the data and the trailer. A part with none is absent.
-pub(crate) type Records<'a> = (&'a [u8], [&'a [u8]; 7]);
+/// The descriptor of a module, and the records of its parts. A part with none is absent.
+#[derive(Clone, Copy)]
+pub(crate) struct Records<'a> {
+    pub descriptor: &'a [u8],
+    pub extension: &'a [u8],
+    pub environment: &'a [u8],
+    pub sections: &'a [u8],
+    pub external: &'a [u8],
+    pub debug: &'a [u8],
+    pub data: &'a [u8],
+    pub trailer: &'a [u8],
+}
+
+impl<'a> Records<'a> {
+    // The records of each part, in the order of the file.
+    fn parts(&self) -> [&'a [u8]; 7] {
+        [
+            self.extension,
+            self.environment,
+            self.sections,
+            self.external,
+            self.debug,
+            self.data,
+            self.trailer,
+        ]
+    }
+}
 
 /// The descriptor of a module whose addresses have four units, with the most significant byte first.
 pub(crate) const FOUR: &[u8] = b"\xEC\x08\x04\xCD";
@@ -54,10 +78,10 @@ pub(crate) fn file(rt: &impl Abort, alloc: Global, name: &[u8], records: &Record
     add(rt, &mut file, b"\xE0\x0568000");
     add(rt, &mut file, &[u8::try_from(name.len()).unwrap_or(0)]);
     add(rt, &mut file, name);
-    let (descriptor, parts) = records;
-    add(rt, &mut file, descriptor);
-    add_offsets(rt, &mut file, parts);
-    add_all(rt, &mut file, parts);
+    add(rt, &mut file, records.descriptor);
+    let parts = records.parts();
+    add_offsets(rt, &mut file, &parts);
+    add_all(rt, &mut file, &parts);
     add(rt, &mut file, b"\xE1");
     file
 }

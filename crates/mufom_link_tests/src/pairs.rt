@@ -15,49 +15,43 @@ fn an_empty_list_may_not_be_linked(rt: HostRuntime) {
 const FOUR_BYTES: &[u8] = b"\xE6\x01\xC3\x01t\xE2\xD3\x01\x04";
 
 // It has the public `f`, which is the base of its section, and a field of the reference `g`.
-const F_HALF: Records<'static> = (
-    FOUR,
-    [
-        b"",
-        b"",
-        FOUR_BYTES,
-        b"\xE8\x20\x01f\xE2\xC9\x20\xD2\x01\xE9\x0B\x01g",
-        b"",
-        b"\xE5\x01\xE4\xBE\xD8\x0B\x90\x04\xBF",
-        b"",
-    ],
-);
+const F_HALF: Records<'static> = Records {
+    descriptor: FOUR,
+    extension: b"",
+    environment: b"",
+    sections: FOUR_BYTES,
+    external: b"\xE8\x20\x01f\xE2\xC9\x20\xD2\x01\xE9\x0B\x01g",
+    debug: b"",
+    data: b"\xE5\x01\xE4\xBE\xD8\x0B\x90\x04\xBF",
+    trailer: b"",
+};
 
 // It has the public `g`, which is one more than the base of its section, and a field of the reference `f` and 2.
-const G_HALF: Records<'static> = (
-    FOUR,
-    [
-        b"",
-        b"",
-        FOUR_BYTES,
-        b"\xE8\x20\x01g\xE2\xC9\x20\xD2\x01\x01\xA5\xE9\x0B\x01f",
-        b"",
-        b"\xE5\x01\xE4\xBE\xD8\x0B\x02\xA5\x90\x04\xBF",
-        b"",
-    ],
-);
+const G_HALF: Records<'static> = Records {
+    descriptor: FOUR,
+    extension: b"",
+    environment: b"",
+    sections: FOUR_BYTES,
+    external: b"\xE8\x20\x01g\xE2\xC9\x20\xD2\x01\x01\xA5\xE9\x0B\x01f",
+    debug: b"",
+    data: b"\xE5\x01\xE4\xBE\xD8\x0B\x02\xA5\x90\x04\xBF",
+    trailer: b"",
+};
 
 // The section of the second half is 2 here, and its public 21. Both references are gone, and the publics stand in
 // their places: I 21 for `g`, and I 20 for `f`.
-const HALVES: Records<'static> = (
-    FOUR,
-    [
-        b"",
-        b"",
-        b"\xE6\x01\xC3\x01t\xE2\xD3\x01\x04\xE6\x02\xC3\x01t\xE2\xD3\x02\x04",
-        b"\xE8\x20\x01f\xE2\xC9\x20\xD2\x01\
+const HALVES: Records<'static> = Records {
+    descriptor: FOUR,
+    extension: b"",
+    environment: b"",
+    sections: b"\xE6\x01\xC3\x01t\xE2\xD3\x01\x04\xE6\x02\xC3\x01t\xE2\xD3\x02\x04",
+    external: b"\xE8\x20\x01f\xE2\xC9\x20\xD2\x01\
     \xE8\x21\x01g\xE2\xC9\x21\xD2\x02\x01\xA5",
-        b"",
-        b"\xE5\x01\xE4\xBE\xC9\x21\x90\x04\xBF\
+    debug: b"",
+    data: b"\xE5\x01\xE4\xBE\xC9\x21\x90\x04\xBF\
     \xE5\x02\xE4\xBE\xC9\x20\x02\xA5\x90\x04\xBF",
-        b"",
-    ],
-);
+    trailer: b"",
+};
 
 #[test]
 fn references_become_the_publics_that_meet_them(rt: HostRuntime) {
@@ -72,17 +66,62 @@ const MAIN: &[u8] = b"\xE8\x20\x04main\xE2\xC9\x20\x00";
 // The start is 1000.
 const START: &[u8] = b"\xE2\xC7\xBE\x82\x10\x00\xBF";
 
-const DEFINING: Records<'static> = (FOUR, [b"", b"", b"", MAIN, b"", b"", b""]);
+const DEFINING: Records<'static> = Records {
+    descriptor: FOUR,
+    extension: b"",
+    environment: b"",
+    sections: b"",
+    external: MAIN,
+    debug: b"",
+    data: b"",
+    trailer: b"",
+};
 
-const STARTING: Records<'static> = (FOUR, [b"", b"", b"", b"", b"", b"", START]);
+const STARTING: Records<'static> = Records {
+    descriptor: FOUR,
+    extension: b"",
+    environment: b"",
+    sections: b"",
+    external: b"",
+    debug: b"",
+    data: b"",
+    trailer: START,
+};
 
-const BOTH: Records<'static> = (FOUR, [b"", b"", b"", MAIN, b"", b"", START]);
+const BOTH: Records<'static> = Records {
+    descriptor: FOUR,
+    extension: b"",
+    environment: b"",
+    sections: b"",
+    external: MAIN,
+    debug: b"",
+    data: b"",
+    trailer: START,
+};
 
 // As that one, with two units in an address.
-const TWO_UNITS: Records<'static> = (b"\xEC\x08\x02\xCD", [b"", b"", b"", MAIN, b"", b"", START]);
+const TWO_UNITS: Records<'static> = Records {
+    descriptor: b"\xEC\x08\x02\xCD",
+    extension: b"",
+    environment: b"",
+    sections: b"",
+    external: MAIN,
+    debug: b"",
+    data: b"",
+    trailer: START,
+};
 
 // As that one, with the least significant byte first.
-const LEAST_FIRST: Records<'static> = (b"\xEC\x08\x04\xCC", [b"", b"", b"", MAIN, b"", b"", START]);
+const LEAST_FIRST: Records<'static> = Records {
+    descriptor: b"\xEC\x08\x04\xCC",
+    extension: b"",
+    environment: b"",
+    sections: b"",
+    external: MAIN,
+    debug: b"",
+    data: b"",
+    trailer: START,
+};
 
 // Two modules, and why they are not linked.
 const REFUSED: [([&Records<'static>; 2], &str); 5] = [
@@ -128,80 +167,76 @@ const FIRST_AND_SECOND: &[u8] =
     b"\xE5\x01\xE4\xBC\xD8\x0B\x90\x01\xBD\xE5\x02\xE4\xBC\xD8\x0C\x90\x01\xBD";
 
 // The reference `q`.
-const STRONG: Records<'static> = (
-    FOUR,
-    [b"", b"", ONE_BYTE, b"\xE9\x0B\x01q", b"", FIELD, b""],
-);
+const STRONG: Records<'static> = Records {
+    descriptor: FOUR,
+    extension: b"",
+    environment: b"",
+    sections: ONE_BYTE,
+    external: b"\xE9\x0B\x01q",
+    debug: b"",
+    data: FIELD,
+    trailer: b"",
+};
 
 // The reference `q` with a note.
-const NOTED: Records<'static> = (
-    FOUR,
-    [
-        b"",
-        b"",
-        ONE_BYTE,
-        b"\xE9\x0B\x01q\xF1\xD8\x0B\x00\x07\x01",
-        b"",
-        FIELD,
-        b"",
-    ],
-);
+const NOTED: Records<'static> = Records {
+    descriptor: FOUR,
+    extension: b"",
+    environment: b"",
+    sections: ONE_BYTE,
+    external: b"\xE9\x0B\x01q\xF1\xD8\x0B\x00\x07\x01",
+    debug: b"",
+    data: FIELD,
+    trailer: b"",
+};
 
 // The weak reference `q`, which is 1 where nothing meets it.
-const WEAK_ONE: Records<'static> = (
-    FOUR,
-    [
-        b"",
-        b"",
-        ONE_BYTE,
-        b"\xE9\x0B\x01q\xF4\x0B\x00\x01",
-        b"",
-        FIELD,
-        b"",
-    ],
-);
+const WEAK_ONE: Records<'static> = Records {
+    descriptor: FOUR,
+    extension: b"",
+    environment: b"",
+    sections: ONE_BYTE,
+    external: b"\xE9\x0B\x01q\xF4\x0B\x00\x01",
+    debug: b"",
+    data: FIELD,
+    trailer: b"",
+};
 
 // The weak reference `q`, which is 2 where nothing meets it.
-const WEAK_TWO: Records<'static> = (
-    FOUR,
-    [
-        b"",
-        b"",
-        ONE_BYTE,
-        b"\xE9\x0B\x01q\xF4\x0B\x00\x02",
-        b"",
-        FIELD,
-        b"",
-    ],
-);
+const WEAK_TWO: Records<'static> = Records {
+    descriptor: FOUR,
+    extension: b"",
+    environment: b"",
+    sections: ONE_BYTE,
+    external: b"\xE9\x0B\x01q\xF4\x0B\x00\x02",
+    debug: b"",
+    data: FIELD,
+    trailer: b"",
+};
 
 // The public `q`, which is 7.
-const PUBLIC: Records<'static> = (
-    FOUR,
-    [
-        b"",
-        b"",
-        b"",
-        b"\xE8\x20\x01q\xE2\xC9\x20\x07",
-        b"",
-        b"",
-        b"",
-    ],
-);
+const PUBLIC: Records<'static> = Records {
+    descriptor: FOUR,
+    extension: b"",
+    environment: b"",
+    sections: b"",
+    external: b"\xE8\x20\x01q\xE2\xC9\x20\x07",
+    debug: b"",
+    data: b"",
+    trailer: b"",
+};
 
 // The field of the second module has the one reference too.
-const ONE_REFERENCE: Records<'static> = (
-    FOUR,
-    [
-        b"",
-        b"",
-        TWO_OF_ONE_BYTE,
-        b"\xE9\x0B\x01q",
-        b"",
-        b"\xE5\x01\xE4\xBC\xD8\x0B\x90\x01\xBD\xE5\x02\xE4\xBC\xD8\x0B\x90\x01\xBD",
-        b"",
-    ],
-);
+const ONE_REFERENCE: Records<'static> = Records {
+    descriptor: FOUR,
+    extension: b"",
+    environment: b"",
+    sections: TWO_OF_ONE_BYTE,
+    external: b"\xE9\x0B\x01q",
+    debug: b"",
+    data: b"\xE5\x01\xE4\xBC\xD8\x0B\x90\x01\xBD\xE5\x02\xE4\xBC\xD8\x0B\x90\x01\xBD",
+    trailer: b"",
+};
 
 #[test]
 fn equal_references_become_one(rt: HostRuntime) {
@@ -209,18 +244,16 @@ fn equal_references_become_one(rt: HostRuntime) {
 }
 
 // The second reference, with its note, is 0C here.
-const NOTED_APART: Records<'static> = (
-    FOUR,
-    [
-        b"",
-        b"",
-        TWO_OF_ONE_BYTE,
-        b"\xE9\x0B\x01q\xE9\x0C\x01q\xF1\xD8\x0C\x00\x07\x01",
-        b"",
-        FIRST_AND_SECOND,
-        b"",
-    ],
-);
+const NOTED_APART: Records<'static> = Records {
+    descriptor: FOUR,
+    extension: b"",
+    environment: b"",
+    sections: TWO_OF_ONE_BYTE,
+    external: b"\xE9\x0B\x01q\xE9\x0C\x01q\xF1\xD8\x0C\x00\x07\x01",
+    debug: b"",
+    data: FIRST_AND_SECOND,
+    trailer: b"",
+};
 
 #[test]
 fn a_note_keeps_references_apart(rt: HostRuntime) {
@@ -228,32 +261,28 @@ fn a_note_keeps_references_apart(rt: HostRuntime) {
 }
 
 // The second reference, with its default, is 0C here.
-const DEFAULTS_APART: Records<'static> = (
-    FOUR,
-    [
-        b"",
-        b"",
-        TWO_OF_ONE_BYTE,
-        b"\xE9\x0B\x01q\xF4\x0B\x00\x01\xE9\x0C\x01q\xF4\x0C\x00\x02",
-        b"",
-        FIRST_AND_SECOND,
-        b"",
-    ],
-);
+const DEFAULTS_APART: Records<'static> = Records {
+    descriptor: FOUR,
+    extension: b"",
+    environment: b"",
+    sections: TWO_OF_ONE_BYTE,
+    external: b"\xE9\x0B\x01q\xF4\x0B\x00\x01\xE9\x0C\x01q\xF4\x0C\x00\x02",
+    debug: b"",
+    data: FIRST_AND_SECOND,
+    trailer: b"",
+};
 
 // I 20 stands for both references.
-const BOTH_MET: Records<'static> = (
-    FOUR,
-    [
-        b"",
-        b"",
-        TWO_OF_ONE_BYTE,
-        b"\xE8\x20\x01q\xE2\xC9\x20\x07",
-        b"",
-        b"\xE5\x01\xE4\xBC\xC9\x20\x90\x01\xBD\xE5\x02\xE4\xBC\xC9\x20\x90\x01\xBD",
-        b"",
-    ],
-);
+const BOTH_MET: Records<'static> = Records {
+    descriptor: FOUR,
+    extension: b"",
+    environment: b"",
+    sections: TWO_OF_ONE_BYTE,
+    external: b"\xE8\x20\x01q\xE2\xC9\x20\x07",
+    debug: b"",
+    data: b"\xE5\x01\xE4\xBC\xC9\x20\x90\x01\xBD\xE5\x02\xE4\xBC\xC9\x20\x90\x01\xBD",
+    trailer: b"",
+};
 
 #[test]
 fn weak_references_stay_apart_and_a_public_meets_both(rt: HostRuntime) {

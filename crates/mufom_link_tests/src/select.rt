@@ -1,7 +1,7 @@
 //! Members that are selected for roots: for members, for weak and defined names, in a circle and in
 //! a chain.
 
-use crate::files::{FOUR, module};
+use crate::files::{FOUR, Records, module};
 use mufom_module::Module;
 use mufom_select::select;
 use std::alloc::Global;
@@ -43,9 +43,17 @@ fn made(rt: &impl Abort, alloc: Global, row: &Row<'_>) -> Module {
     add_publics(rt, &mut external, defines);
     add_references(rt, &mut external, needs);
     add_weak(rt, &mut external, wants);
-    let none = b"".as_slice();
-    let parts = [none, none, none, &external, none, none, none];
-    module(rt, alloc, &(FOUR, parts))
+    let records = Records {
+        descriptor: FOUR,
+        extension: b"",
+        environment: b"",
+        sections: b"",
+        external: &external,
+        debug: b"",
+        data: b"",
+        trailer: b"",
+    };
+    module(rt, alloc, &records)
 }
 
 // The modules of these rows.

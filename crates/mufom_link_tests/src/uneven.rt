@@ -5,63 +5,58 @@ use crate::files::{FOUR, Records, links_to};
 
 // One section and the public `one`, which is its base. The second module meets the reference `three`, and the third
 // one `five`; there is a field of each.
-const FIRST: Records<'static> = (
-    FOUR,
-    [
-        b"",
-        b"",
-        b"\xE6\x01\xC3\x02a0\xE2\xD3\x01\x10",
-        b"\
+const FIRST: Records<'static> = Records {
+    descriptor: FOUR,
+    extension: b"",
+    environment: b"",
+    sections: b"\xE6\x01\xC3\x02a0\xE2\xD3\x01\x10",
+    external: b"\
     \xE8\x20\x03one\xE2\xC9\x20\xD2\x01\
     \xE9\x0B\x05three\
     \xE9\x0C\x04five",
-        b"\xF0\x20\x01u",
-        b"\
+    debug: b"\xF0\x20\x01u",
+    data: b"\
     \xE5\x01\
     \xE4\xBE\xD8\x0B\x90\x04\xBF\
     \xE4\xBE\xD8\x0C\xD0\x01\xA6\x90\x04\xBF",
-        b"",
-    ],
-);
+    trailer: b"",
+};
 
 // Three sections and two publics: `three` of a section, and `four` of a section, that public and a reference. The
 // first module meets the reference `one`, nothing `lost`, which is 3 then, and the third module `six`, which asks for
 // four bytes. There are two debug names and a value of the second, and in the data a counter, a field of `lost`, and
 // repeats of a byte and a field of the counter and `six`.
-const SECOND: Records<'static> = (
-    FOUR,
-    [
-        b"",
-        b"",
-        b"\xE6\x01\xC3\x02b0\xE2\xD3\x01\x10\xE6\x02\xC3\x02b1\xE2\xD3\x02\x10\xE6\x03\xC3\x02b2\xE2\xD3\x03\x10",
-        b"\
+const SECOND: Records<'static> = Records {
+    descriptor: FOUR,
+    extension: b"",
+    environment: b"",
+    sections: b"\xE6\x01\xC3\x02b0\xE2\xD3\x01\x10\xE6\x02\xC3\x02b1\xE2\xD3\x02\x10\xE6\x03\xC3\x02b2\xE2\xD3\x03\x10",
+    external: b"\
     \xE8\x20\x05three\xE2\xC9\x20\xD2\x01\x08\xA5\
     \xE8\x21\x04four\xE2\xC9\x21\xD2\x03\xC9\x20\xA5\xD8\x0B\xA6\
     \xE9\x0B\x03one\
     \xE9\x0C\x04lost\xF4\x0C\x00\x03\
     \xE9\x0D\x03six\xF4\x0D\x04\x01",
-        b"\xF0\x20\x01v\xF0\x21\x01w\xE2\xCE\x21\xD2\x03",
-        b"\
+    debug: b"\xF0\x20\x01v\xF0\x21\x01w\xE2\xCE\x21\xD2\x03",
+    data: b"\
     \xE5\x02\
     \xE2\xD0\x02\xCC\x02\x04\xA5\
     \xE4\xBE\xD8\x0C\x90\x04\xBF\
     \xF7\x02\xE4\x01\x09\xBA\xD0\x02\xD8\x0D\xA5\x90\x04\xBB",
-        b"",
-    ],
-);
+    trailer: b"",
+};
 
 // Two sections and three publics: `five` of a section, `six` of a section and a reference, and `seven` of these two.
 // Nothing meets the references `lost`, which is that of the second module, and `gone`; the second module meets `four`
 // and the first one `one`. A module block holds a name, a function and a part of the second section; the function
 // holds a part of the first section with a name, a note of it, and a value of the name before. The start is of a
 // section and `four`.
-const THIRD: Records<'static> = (
-    FOUR,
-    [
-        b"",
-        b"",
-        b"\xE6\x01\xC3\x02c0\xE2\xD3\x01\x10\xE6\x02\xC3\x02c1\xE2\xD3\x02\x10",
-        b"\
+const THIRD: Records<'static> = Records {
+    descriptor: FOUR,
+    extension: b"",
+    environment: b"",
+    sections: b"\xE6\x01\xC3\x02c0\xE2\xD3\x01\x10\xE6\x02\xC3\x02c1\xE2\xD3\x02\x10",
+    external: b"\
     \xE8\x20\x04five\xE2\xC9\x20\xD2\x02\
     \xE8\x21\x03six\xE2\xC9\x21\xD3\x01\xD8\x0C\xA5\
     \xE8\x22\x05seven\xE2\xC9\x22\xC9\x20\xC9\x21\xA5\
@@ -69,7 +64,7 @@ const THIRD: Records<'static> = (
     \xE9\x0C\x04four\
     \xE9\x0D\x03one\
     \xE9\x0E\x04gone",
-        b"\
+    debug: b"\
     \xF8\x03\x00\x01b\
     \xF0\x20\x01x\
     \xF8\x04\x00\x01b\x07\x08\xC9\x21\
@@ -82,14 +77,13 @@ const THIRD: Records<'static> = (
     \xF8\x0B\x00\x01b\x01\x02\xD2\x02\
     \xF9\x05\
     \xF9",
-        b"\
+    data: b"\
     \xE5\x01\
     \xE4\xBE\xD8\x0D\xD8\x0E\xA5\x90\x04\xBF\
     \xE5\x02\
     \xE4\xBE\xD8\x0B\x90\x04\xBF",
-        b"\xE2\xC7\xBE\xD2\x02\xD8\x0C\xA5\xBF",
-    ],
-);
+    trailer: b"\xE2\xC7\xBE\xD2\x02\xD8\x0C\xA5\xBF",
+};
 
 // Their link. The sections of the second module are 2 to 4, those of the third 5 and 6.
 const SECTIONS: &[u8] = b"\
@@ -147,18 +141,16 @@ const LOADS: &[u8] = b"\
     \xE4\xBE\xD8\x0B\x90\x04\xBF";
 
 // The start is that of the third module: its section moves by 4, and `four` meets the reference.
-const ALL: Records<'static> = (
-    FOUR,
-    [
-        b"",
-        b"",
-        SECTIONS,
-        NAMES,
-        DEBUG,
-        LOADS,
-        b"\xE2\xC7\xBE\xD2\x06\xC9\x22\xA5\xBF",
-    ],
-);
+const ALL: Records<'static> = Records {
+    descriptor: FOUR,
+    extension: b"",
+    environment: b"",
+    sections: SECTIONS,
+    external: NAMES,
+    debug: DEBUG,
+    data: LOADS,
+    trailer: b"\xE2\xC7\xBE\xD2\x06\xC9\x22\xA5\xBF",
+};
 
 #[test]
 fn positions_move_in_each_module_by_numbers_of_its_own(rt: HostRuntime) {

@@ -8,7 +8,7 @@ use mufom_expr::Token::{Fun, Number, Var};
 use mufom_expr::{
     Builder, Env, ExprFault, Function, Letter, Postfix, Token, VarMap, infix, read_token,
 };
-use mufom_numbers::{Reason, Taken};
+use mufom_numbers::{Bytes, Reason, Taken};
 use std::alloc::Global;
 use std::process::Abort;
 
@@ -146,36 +146,40 @@ const VALUES: [([Token; 3], [Option<u64>; 4]); 26] = [
     ([Number(32_768), Fun(Abs), Fun(Abs)], [Some(32_768); 4]),
 ];
 
+// The values of the expression of these tokens at 16, 24, 32 and 64 bits.
+fn values(alloc: Global, tokens: &[Token]) -> [Option<u64>; 4] {
+    let at = |width| valued(alloc, tokens, Some(4_096), width);
+    [at(16), at(24), at(32), at(64)]
+}
+
 #[test]
 fn each_function_has_its_value_at_each_width(rt: HostRuntime) {
     for (tokens, want) in &VALUES {
-        for (at, width) in [16, 24, 32, 64].iter().enumerate() {
-            let value = valued(rt.alloc(), tokens.as_slice(), Some(4_096), *width);
-            assert_eq!(rt; Some(&value), want.get(at), "{tokens:?} at {width}");
-        }
+        assert_eq!(rt; values(rt.alloc(), tokens.as_slice()), *want, "{tokens:?}");
     }
-    assert_eq!(rt;
-        valued(rt.alloc(), &[Number(65_531), Fun(Abs)], None, 16),
-        Some(5)
-    );
-    assert_eq!(rt;
-        valued(rt.alloc(), &[R0, Number(1), Fun(Plus)], None, 16),
-        None
-    );
+}
+
+// Tokens, the value of the variable, the width, and the value.
+type ValuedCase = (&'static [Token], Option<u64>, u32, Option<u64>);
+
+const VALUED: [ValuedCase; 4] = [
+    (&[Number(65_531), Fun(Abs)], None, 16, Some(5)),
+    (&[R0, Number(1), Fun(Plus)], None, 16, None),
     // The least and the greatest width.
-    assert_eq!(rt;
-        valued(rt.alloc(), &[Number(255), Number(2), Fun(Plus)], None, 8),
-        Some(1)
-    );
-    assert_eq!(rt;
-        valued(
-            rt.alloc(),
-            &[Number(u64::MAX), Number(u64::MAX), Fun(Times)],
-            None,
-            64
-        ),
-        Some(1)
-    );
+    (&[Number(255), Number(2), Fun(Plus)], None, 8, Some(1)),
+    (
+        &[Number(u64::MAX), Number(u64::MAX), Fun(Times)],
+        None,
+        64,
+        Some(1),
+    ),
+];
+
+#[test]
+fn a_value_needs_those_of_its_variables(rt: HostRuntime) {
+    for (tokens, r0, width, want) in &VALUED {
+        assert_eq!(rt; valued(rt.alloc(), tokens, *r0, *width), *want);
+    }
 }
 
 #[test]
@@ -349,36 +353,56 @@ const TEXTS: [([Token; 3], &str); 18] = [
     ),
 ];
 
+// The infix form of the expression of these tokens.
+fn infix_of(rt: &impl Abort, alloc: Global, tokens: &[Token]) -> Bytes {
+    let expression = built(alloc, tokens).expect(rt, "an expression");
+    let expr = expression.to_expr(alloc).expect(rt, "memory");
+    infix(alloc, &expr).expect(rt, "memory")
+}
+
 #[test]
 fn expressions_are_shown_in_infix_form(rt: HostRuntime) {
-    let alloc = rt.alloc();
     for (tokens, want) in &TEXTS {
-        let expression = built(alloc, tokens.as_slice()).expect(&rt, "an expression");
-        let expr = expression.to_expr(alloc).expect(&rt, "memory");
-        let text = infix(alloc, &expr).expect(&rt, "memory");
+        let text = infix_of(&rt, rt.alloc(), tokens.as_slice());
         assert_eq!(rt; text.as_slice(), want.as_bytes());
     }
 }
 
+// R0 less X7.
+const DIFFERENCE: [Token; 3] = [R0, Var(Letter::X, 7), Fun(Minus)];
+
 #[test]
-fn expressions_are_copied_and_renamed(rt: HostRuntime) {
-    let alloc = rt.alloc();
-    let tokens = [R0, Var(Letter::X, 7), Fun(Minus)];
-    let expression = built(alloc, &tokens).expect(&rt, "an expression");
-    let copy = expression.copy(alloc).expect(&rt, "memory");
-    assert_eq!(rt; copy.tokens(), tokens.as_slice());
+fn expressions_are_copied(rt: HostRuntime) {
+    let expression = built(rt.alloc(), &DIFFERENCE).expect(&rt, "an expression");
+    let copy = expression.copy(rt.alloc()).expect(&rt, "memory");
+    assert_eq!(rt; copy.tokens(), DIFFERENCE.as_slice());
     assert!(rt; copy.equals(&expression));
-    let mut mentions = copy.mentions();
+}
+
+#[test]
+fn variables_are_mentioned_in_order(rt: HostRuntime) {
+    let expression = built(rt.alloc(), &DIFFERENCE).expect(&rt, "an expression");
+    let mut mentions = expression.mentions();
     assert_eq!(rt; mentions.next(), Some((Letter::R, 0)));
     assert_eq!(rt; mentions.next(), Some((Letter::X, 7)));
     assert_eq!(rt; mentions.next(), None);
-    let mapped = copy
+}
+
+#[test]
+fn expressions_are_renamed(rt: HostRuntime) {
+    let alloc = rt.alloc();
+    let expression = built(alloc, &DIFFERENCE).expect(&rt, "an expression");
+    let mapped = expression
         .map_vars(alloc, &AllAre(Letter::I, 3))
         .expect(&rt, "memory");
     let renamed = [Var(Letter::I, 3), Var(Letter::I, 3), Fun(Minus)];
     assert_eq!(rt; mapped.tokens(), renamed.as_slice());
     assert!(rt; !mapped.equals(&expression));
-    let five = Postfix::constant(alloc, 5).expect(&rt, "memory");
+}
+
+#[test]
+fn a_number_is_an_expression(rt: HostRuntime) {
+    let five = Postfix::constant(rt.alloc(), 5).expect(&rt, "memory");
     assert_eq!(rt; five.tokens(), [Number(5)].as_slice());
 }
 

@@ -2,7 +2,7 @@
 
 use mufom_expr::{Function, Letter, Token};
 use mufom_numbers::{Reason, Taken};
-use mufom_records::{Mode, Record, next_record, postfix_of};
+use mufom_records::{Mode, next_record, postfix_of};
 use std::alloc::Global;
 use std::process::Abort;
 
@@ -252,37 +252,47 @@ const RECORDS: [(Mode, &[u8], &str); 54] = [
     ),
 ];
 
+// What the bytes begin with, a record by its text.
+fn beginning(rt: &impl Abort, alloc: Global, mode: Mode, bytes: &[u8]) -> Taken<String> {
+    match next_record(bytes, mode) {
+        Taken::Got(record, length) => {
+            let text = format!(in alloc; "{record:?}").expect(rt, "memory");
+            Taken::Got(text, length)
+        }
+        Taken::More => Taken::More,
+        Taken::Bad { offset, reason } => Taken::Bad { offset, reason },
+    }
+}
+
 // Of each shorter part of the bytes of a record, with one byte after it, more is wanted.
-fn is_wanted_whole(rt: &impl Abort, mode: Mode, bytes: &[u8], want: &str) {
+fn is_wanted_whole(rt: &impl Abort, alloc: Global, mode: Mode, bytes: &[u8], want: &str) {
     for end in 0..bytes.len().saturating_sub(1) {
-        let answer = next_record(&bytes[..end], mode);
+        let answer = beginning(rt, alloc, mode, &bytes[..end]);
         assert!(rt; matches!(answer, Taken::More), "{want} of {end}");
     }
 }
 
 // The bytes of a record but the last one are that record.
 fn is_read_whole(rt: &impl Abort, alloc: Global, mode: Mode, bytes: &[u8], want: &str) {
-    let Taken::Got(record, used) = next_record(bytes, mode) else {
+    let Taken::Got(text, length) = beginning(rt, alloc, mode, bytes) else {
         panic!(rt; "{want}");
     };
-    let text = format!(in alloc; "{record:?} {used}").expect(rt, "memory");
-    let end = bytes.len().saturating_sub(1);
-    let want = format!(in alloc; "{want} {end}").expect(rt, "memory");
-    assert_eq!(rt; text.as_str(), want.as_str());
+    assert_eq!(rt; text.as_str(), want);
+    assert_eq!(rt; length, bytes.len().saturating_sub(1), "{want}");
 }
 
 #[test]
 fn records_are_read_whole_and_wanted_whole(rt: HostRuntime) {
     for (mode, bytes, want) in &RECORDS {
-        is_wanted_whole(&rt, *mode, bytes, want);
+        is_wanted_whole(&rt, rt.alloc(), *mode, bytes, want);
         is_read_whole(&rt, rt.alloc(), *mode, bytes, want);
     }
 }
 
 // Inputs with a fault, the position at which it is named, and its reason.
-type Fault = (Mode, &'static [u8], usize, Reason);
+type Fault<'a> = (Mode, &'a [u8], usize, Reason);
 
-const FAULTS: [Fault; 47] = [
+const FAULTS: [Fault<'static>; 47] = [
     (Mode::Body, b"\xE5\x89", 1, Reason::BadNumber),
     (
         Mode::Body,
@@ -382,9 +392,9 @@ const FAULTS: [Fault; 47] = [
     (Mode::Body, b"\xED\x83\x01\x00\x00\x89", 1, Reason::LongRun),
 ];
 
-fn is_named(rt: &impl Abort, row: &Fault) {
+fn is_named(rt: &impl Abort, alloc: Global, row: &Fault<'_>) {
     let (mode, bytes, place, reason) = row;
-    match next_record(bytes, *mode) {
+    match beginning(rt, alloc, *mode, bytes) {
         Taken::Bad {
             offset,
             reason: why,
@@ -396,7 +406,7 @@ fn is_named(rt: &impl Abort, row: &Fault) {
 #[test]
 fn the_first_fault_is_named_at_its_place(rt: HostRuntime) {
     for row in &FAULTS {
-        is_named(&rt, row);
+        is_named(&rt, rt.alloc(), row);
     }
 }
 
@@ -415,22 +425,11 @@ pub(crate) fn long_expression(section: u8) -> [u8; 259] {
 #[test]
 fn an_expression_has_at_most_255_tokens(rt: HostRuntime) {
     let mut bytes = long_expression(0);
-    assert!(rt;
-        matches!(
-            next_record(&bytes, Mode::Body),
-            Taken::Bad {
-                offset: 258,
-                reason: Reason::TooLong
-            }
-        )
-    );
+    let fault = (Mode::Body, bytes.as_slice(), 258, Reason::TooLong);
+    is_named(&rt, rt.alloc(), &fault);
     bytes[258] = 0xE1;
-    assert!(rt;
-        matches!(
-            next_record(&bytes, Mode::Body),
-            Taken::Got(Record::SetPc(0, _), 258)
-        )
-    );
+    let want = "SetPc(0, Span { start: 3, len: 255 })";
+    is_read_whole(&rt, rt.alloc(), Mode::Body, &bytes, want);
 }
 
 #[test]
