@@ -32,10 +32,7 @@ pub(crate) fn bytes(rt: &impl Abort, alloc: Global, text: &[u8]) -> Bytes {
 
 /// The module of these parts.
 pub(crate) fn made(rt: &impl Abort, parts: Parts) -> Module {
-    let Ok(module) = assemble(parts) else {
-        panic!(rt; "no module");
-    };
-    module
+    assemble(parts).ok().expect(rt, "a module")
 }
 
 // ---- expressions

@@ -16,7 +16,7 @@ use std::alloc::Global;
 use std::process::Abort;
 
 /// Its sections.
-pub(crate) const SECTIONS: [SectionRow; 4] = [
+pub(crate) static SECTIONS: [SectionRow; 4] = [
     (b"c", false, Some(Purpose::Code), 12, 2, None),
     (b"d", true, Some(Purpose::Data), 0, 1, Some(4096)),
     (b"", false, Some(Purpose::Rom), 0, 1, None),

@@ -30,12 +30,17 @@ fn is_taken(rt: &impl Abort, parts: Parts) {
     assert_eq!(rt; refusal(parts), None);
 }
 
+// How many items the loads of these parts have.
+fn load_count(parts: Parts) -> usize {
+    parts.loads.len()
+}
+
 #[test]
 fn a_module_has_its_parts_and_weight(rt: HostRuntime) {
     let module = made(&rt, small(&rt, rt.alloc()));
     assert_eq!(rt; module.weight(), 298);
     assert_eq!(rt; module.parts().name.as_slice(), &b"A"[..]);
-    assert_eq!(rt; module.into_parts().loads.len(), 3);
+    assert_eq!(rt; load_count(module.into_parts()), 3);
 }
 
 // Blocks, each in the one before it.

@@ -104,7 +104,7 @@ fn comes_to(rt: &impl Abort, alloc: Global, case: &Case) {
 }
 
 // Sections that have bases.
-const PLACED: [Case; 13] = [
+static PLACED: [Case; 13] = [
     (
         32,
         WIDE,
@@ -231,7 +231,7 @@ fn sections_are_placed_by_the_plan(rt: HostRuntime) {
 }
 
 // Sections that have none, for the first thing that keeps them from it.
-const REFUSED: [Case; 18] = [
+static REFUSED: [Case; 18] = [
     // A section past the 32 bits of an address, by its end or by its base too.
     (
         32,

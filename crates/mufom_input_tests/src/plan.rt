@@ -14,7 +14,7 @@ fn comes_to(rt: &impl Abort, alloc: Global, document: &str, want: &str) {
     assert_eq!(rt; text.as_str(), want, "{document}");
 }
 
-const PLANS: [(&str, &str); 8] = [
+static PLANS: [(&str, &str); 8] = [
     // The first examples of the guide to plans.
     (
         "[[region]]\nname = \"rom\"\nbase = 0x2000\nsize = 256\nsections = [\"*\"]\n",
@@ -68,7 +68,7 @@ fn documents_state_plans(rt: HostRuntime) {
     }
 }
 
-const REFUSED: [(&str, &str); 30] = [
+static REFUSED: [(&str, &str); 30] = [
     // Documents that have not the shape of a plan.
     ("[[", "Syntax"),
     ("region = []\nregion = []", "Syntax"),

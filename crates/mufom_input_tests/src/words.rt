@@ -32,7 +32,7 @@ fn comes_to(rt: &impl Abort, alloc: Global, line: &str, want: &str) {
 }
 
 // Lines and the commands that they give.
-const COMMANDS: [(&str, &str); 14] = [
+static COMMANDS: [(&str, &str); 14] = [
     // Files in their order.
     (
         "show a",
@@ -121,7 +121,7 @@ fn lines_give_commands(rt: HostRuntime) {
 }
 
 // Lines that give none, and the first thing that is wrong with each.
-const FAULTS: [(&str, &str); 40] = [
+static FAULTS: [(&str, &str); 40] = [
     // Without a command.
     ("dmup a", "Usage(NoCommand)"),
     ("--help", "Usage(NoCommand)"),

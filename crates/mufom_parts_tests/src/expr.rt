@@ -57,15 +57,15 @@ fn valued(alloc: Global, tokens: &[Token], r0: Option<u64>, width: u32) -> Optio
 }
 
 // Tokens, and their values at 16, 24, 32 and 64 bits.
-const VALUES: [([Token; 3], [Option<u64>; 4]); 26] = [
-    ([Number(1), Number(65_531), Fun(Plus)], [Some(65_532); 4]),
+static VALUES: [([Token; 3], &[Option<u64>]); 26] = [
+    ([Number(1), Number(65_531), Fun(Plus)], &[Some(65_532); 4]),
     (
         [Number(65_535), Number(2), Fun(Plus)],
-        [Some(1), Some(65_537), Some(65_537), Some(65_537)],
+        &[Some(1), Some(65_537), Some(65_537), Some(65_537)],
     ),
     (
         [Number(3), Number(5), Fun(Minus)],
-        [
+        &[
             Some(65_534),
             Some(16_777_214),
             Some(4_294_967_294),
@@ -74,16 +74,16 @@ const VALUES: [([Token; 3], [Option<u64>; 4]); 26] = [
     ),
     (
         [Number(65_537), Number(3), Fun(Divide)],
-        [Some(0), Some(21_845), Some(21_845), Some(21_845)],
+        &[Some(0), Some(21_845), Some(21_845), Some(21_845)],
     ),
     (
         [Number(5), Number(65_536), Fun(Divide)],
-        [None, Some(0), Some(0), Some(0)],
+        &[None, Some(0), Some(0), Some(0)],
     ),
-    ([Number(5), Number(0), Fun(Divide)], [None; 4]),
+    ([Number(5), Number(0), Fun(Divide)], &[None; 4]),
     (
         [Number(65_535), Number(65_535), Fun(Times)],
-        [
+        &[
             Some(1),
             Some(16_646_145),
             Some(4_294_836_225),
@@ -92,58 +92,58 @@ const VALUES: [([Token; 3], [Option<u64>; 4]); 26] = [
     ),
     (
         [Number(u64::MAX), Number(u64::MAX), Fun(Times)],
-        [Some(1); 4],
+        &[Some(1); 4],
     ),
-    ([Number(65_531), Number(7), Fun(Max)], [Some(65_531); 4]),
-    ([Number(65_531), Number(7), Fun(Min)], [Some(7); 4]),
-    ([Number(7), Number(2), Fun(Mod)], [Some(1); 4]),
+    ([Number(65_531), Number(7), Fun(Max)], &[Some(65_531); 4]),
+    ([Number(65_531), Number(7), Fun(Min)], &[Some(7); 4]),
+    ([Number(7), Number(2), Fun(Mod)], &[Some(1); 4]),
     (
         [Number(65_543), Number(10), Fun(Mod)],
-        [Some(7), Some(3), Some(3), Some(3)],
+        &[Some(7), Some(3), Some(3), Some(3)],
     ),
-    ([Number(5), Number(0), Fun(Mod)], [None; 4]),
-    ([Number(65_531), Number(7), Fun(Less)], [Some(0); 4]),
-    ([Number(7), Number(65_531), Fun(Less)], [Some(1); 4]),
-    ([Number(65_531), Number(7), Fun(Greater)], [Some(1); 4]),
-    ([Number(7), Number(7), Fun(Greater)], [Some(0); 4]),
+    ([Number(5), Number(0), Fun(Mod)], &[None; 4]),
+    ([Number(65_531), Number(7), Fun(Less)], &[Some(0); 4]),
+    ([Number(7), Number(65_531), Fun(Less)], &[Some(1); 4]),
+    ([Number(65_531), Number(7), Fun(Greater)], &[Some(1); 4]),
+    ([Number(7), Number(7), Fun(Greater)], &[Some(0); 4]),
     (
         [Number(65_536), Number(0), Fun(Equal)],
-        [Some(1), Some(0), Some(0), Some(0)],
+        &[Some(1), Some(0), Some(0), Some(0)],
     ),
     (
         [Number(65_536), Number(0), Fun(Unequal)],
-        [Some(0), Some(1), Some(1), Some(1)],
+        &[Some(0), Some(1), Some(1), Some(1)],
     ),
     (
         [Number(65_548), Number(65_546), Fun(And)],
-        [Some(8), Some(65_544), Some(65_544), Some(65_544)],
+        &[Some(8), Some(65_544), Some(65_544), Some(65_544)],
     ),
     (
         [Number(65_548), Number(10), Fun(Or)],
-        [Some(14), Some(65_550), Some(65_550), Some(65_550)],
+        &[Some(14), Some(65_550), Some(65_550), Some(65_550)],
     ),
     (
         [Number(65_548), Number(10), Fun(Xor)],
-        [Some(6), Some(65_542), Some(65_542), Some(65_542)],
+        &[Some(6), Some(65_542), Some(65_542), Some(65_542)],
     ),
     (
         [R0, Number(65_531), Fun(Plus)],
-        [Some(4_091), Some(69_627), Some(69_627), Some(69_627)],
+        &[Some(4_091), Some(69_627), Some(69_627), Some(69_627)],
     ),
     (
         [Number(65_531), Fun(Neg), Fun(Abs)],
-        [Some(5), Some(65_531), Some(65_531), Some(65_531)],
+        &[Some(5), Some(65_531), Some(65_531), Some(65_531)],
     ),
     (
         [Number(65_531), Fun(Abs), Fun(Neg)],
-        [
+        &[
             Some(65_531),
             Some(16_711_685),
             Some(4_294_901_765),
             Some(u64::MAX - 65_530),
         ],
     ),
-    ([Number(32_768), Fun(Abs), Fun(Abs)], [Some(32_768); 4]),
+    ([Number(32_768), Fun(Abs), Fun(Abs)], &[Some(32_768); 4]),
 ];
 
 // The values of the expression of these tokens at 16, 24, 32 and 64 bits.
@@ -155,14 +155,18 @@ fn values(alloc: Global, tokens: &[Token]) -> [Option<u64>; 4] {
 #[test]
 fn each_function_has_its_value_at_each_width(rt: HostRuntime) {
     for (tokens, want) in &VALUES {
-        assert_eq!(rt; values(rt.alloc(), tokens.as_slice()), *want, "{tokens:?}");
+        assert_eq!(rt;
+            values(rt.alloc(), tokens.as_slice()).as_slice(),
+            *want,
+            "{tokens:?}"
+        );
     }
 }
 
 // Tokens, the value of the variable, the width, and the value.
 type ValuedCase = (&'static [Token], Option<u64>, u32, Option<u64>);
 
-const VALUED: [ValuedCase; 4] = [
+static VALUED: [ValuedCase; 4] = [
     (&[Number(65_531), Fun(Abs)], None, 16, Some(5)),
     (&[R0, Number(1), Fun(Plus)], None, 16, None),
     // The least and the greatest width.
@@ -226,7 +230,7 @@ fn a_builder_takes_255_tokens(rt: HostRuntime) {
 }
 
 // Bytes, and the token at their start.
-const TOKENS: [(&[u8], Taken<Token>); 11] = [
+static TOKENS: [(&[u8], Taken<Token>); 11] = [
     (&[0x81, 0x80, 0x00], Taken::Got(Number(128), 2)),
     (&[0xA5, 0x00], Taken::Got(Fun(Plus), 1)),
     (
@@ -281,7 +285,7 @@ fn tokens_are_read_by_their_first_byte(rt: HostRuntime) {
 }
 
 // The byte of each function, of each letter, and of those that are left out.
-const FUNCTIONS: [(u8, Function); 16] = [
+static FUNCTIONS: [(u8, Function); 16] = [
     (0xA2, Abs),
     (0xA3, Neg),
     (0xA5, Plus),
@@ -300,7 +304,7 @@ const FUNCTIONS: [(u8, Function); 16] = [
     (0xB2, Xor),
 ];
 
-const LETTERS: [(u8, Letter); 6] = [
+static LETTERS: [(u8, Letter); 6] = [
     (0xC9, Letter::I),
     (0xCC, Letter::L),
     (0xD0, Letter::P),
@@ -309,7 +313,7 @@ const LETTERS: [(u8, Letter); 6] = [
     (0xD8, Letter::X),
 ];
 
-const LEFT_OUT: [u8; 10] = [0xA0, 0xA1, 0xA4, 0xB3, 0xB4, 0xB5, 0xB6, 0xB7, 0xB8, 0xB9];
+static LEFT_OUT: [u8; 10] = [0xA0, 0xA1, 0xA4, 0xB3, 0xB4, 0xB5, 0xB6, 0xB7, 0xB8, 0xB9];
 
 #[test]
 fn each_function_and_letter_has_its_byte(rt: HostRuntime) {
@@ -329,7 +333,7 @@ fn each_function_and_letter_has_its_byte(rt: HostRuntime) {
 }
 
 // Tokens, and their text in infix form.
-const TEXTS: [([Token; 3], &str); 18] = [
+static TEXTS: [([Token; 3], &str); 18] = [
     ([R0, Number(4), Fun(Plus)], "(R0 + 4)"),
     ([Var(Letter::I, 1), Number(4), Fun(Minus)], "(I1 - 4)"),
     ([Var(Letter::L, 2), Number(4), Fun(Divide)], "(L2 / 4)"),
@@ -369,7 +373,7 @@ fn expressions_are_shown_in_infix_form(rt: HostRuntime) {
 }
 
 // R0 less X7.
-const DIFFERENCE: [Token; 3] = [R0, Var(Letter::X, 7), Fun(Minus)];
+static DIFFERENCE: [Token; 3] = [R0, Var(Letter::X, 7), Fun(Minus)];
 
 #[test]
 fn expressions_are_copied(rt: HostRuntime) {
@@ -422,7 +426,7 @@ const BY_VARIABLE: &[Token] = &[Number(5), R0, Fun(Mod)];
 const INSIDE: &[Token] = &[Number(5), Number(0), Fun(Divide), Number(1), Fun(Plus)];
 
 // Tokens, the value of the variable, the width, and whether a divisor has the value 0.
-const DIVISORS: [(&[Token], Option<u64>, u32, bool); 5] = [
+static DIVISORS: [(&[Token], Option<u64>, u32, bool); 5] = [
     (BY_VARIABLE, Some(256), 8, true),
     (BY_VARIABLE, Some(257), 8, false),
     (BY_VARIABLE, None, 8, false),

@@ -40,7 +40,7 @@ fn duplicate(rt: &impl Abort, table: &NameTable) -> Option<u32> {
 }
 
 // Names, and their positions in a table of `f`, `g` and `f` again.
-const PLACES: [(&[u8], Option<u32>); 3] = [(b"f", Some(0)), (b"g", Some(1)), (b"h", None)];
+static PLACES: [(&[u8], Option<u32>); 3] = [(b"f", Some(0)), (b"g", Some(1)), (b"h", None)];
 
 #[test]
 fn publics_are_found_by_name(rt: HostRuntime) {
@@ -60,7 +60,7 @@ fn a_name_that_stands_twice_is_found(rt: HostRuntime) {
 }
 
 // Names, and their positions in an index to which `f` was added as 7 and then as 9, and `g` as 9.
-const POSITIONS: [(&[u8], Option<u32>); 3] = [(b"f", Some(7)), (b"g", Some(9)), (b"h", None)];
+static POSITIONS: [(&[u8], Option<u32>); 3] = [(b"f", Some(7)), (b"g", Some(9)), (b"h", None)];
 
 #[test]
 fn a_name_keeps_its_first_position(rt: HostRuntime) {

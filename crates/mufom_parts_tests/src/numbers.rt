@@ -19,7 +19,7 @@ const BAD_STRING: Taken<Span> = Taken::Bad {
 };
 
 // Bytes, and the number at their start.
-const NUMBERS: [(&[u8], Taken<u64>); 9] = [
+static NUMBERS: [(&[u8], Taken<u64>); 9] = [
     (&[0x7F], Taken::Got(127, 1)),
     (&[0x80], Taken::Got(0, 1)),
     (&[0x81, 0x7F], Taken::Got(127, 2)),
@@ -39,7 +39,7 @@ fn numbers_are_read_in_every_spelling(rt: HostRuntime) {
 }
 
 // Numbers, and their shortest spellings.
-const SPELLINGS: [(u64, &[u8]); 5] = [
+static SPELLINGS: [(u64, &[u8]); 5] = [
     (0, &[0x00]),
     (127, &[0x7F]),
     (128, &[0x81, 0x80]),
@@ -55,7 +55,7 @@ fn numbers_are_spelled_shortest(rt: HostRuntime) {
 }
 
 // Bytes, and where the text of the string at their start stands.
-const STRINGS: [(&[u8], Taken<Span>); 10] = [
+static STRINGS: [(&[u8], Taken<Span>); 10] = [
     (&[0x00, 0x41], Taken::Got(Span { start: 1, len: 0 }, 1)),
     (
         &[0x02, 0x41, 0x42, 0x43],
@@ -85,7 +85,7 @@ fn strings_are_read_after_every_lead(rt: HostRuntime) {
 }
 
 // Lengths of strings, and their shortest leads.
-const LEADS: [(u16, &[u8]); 4] = [
+static LEADS: [(u16, &[u8]); 4] = [
     (127, &[0x7F]),
     (128, &[0xDE, 0x80]),
     (255, &[0xDE, 0xFF]),
@@ -131,7 +131,7 @@ fn a_list_of_one_item_holds_it(rt: HostRuntime) {
 }
 
 // The second is longer than what stands in place.
-const BYTES: [&[u8]; 2] = [&[0, 255], b"twenty-six bytes of a name"];
+static BYTES: [&[u8]; 2] = [&[0, 255], b"twenty-six bytes of a name"];
 
 #[test]
 fn bytes_are_copied(rt: HostRuntime) {

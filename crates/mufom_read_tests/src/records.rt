@@ -7,7 +7,7 @@ use std::alloc::Global;
 use std::process::Abort;
 
 // Whole records, each with the byte E1 after it, in the mode that reads them, and their values.
-const RECORDS: [(Mode, &[u8], &str); 54] = [
+static RECORDS: [(Mode, &[u8], &str); 54] = [
     (
         Mode::Begin,
         b"\xE0\x05\x36\x38\x30\x30\x30\x01\x41\xE1",
@@ -292,7 +292,7 @@ fn records_are_read_whole_and_wanted_whole(rt: HostRuntime) {
 // Inputs with a fault, the position at which it is named, and its reason.
 type Fault<'a> = (Mode, &'a [u8], usize, Reason);
 
-const FAULTS: [Fault<'static>; 47] = [
+static FAULTS: [Fault<'static>; 47] = [
     (Mode::Body, b"\xE5\x89", 1, Reason::BadNumber),
     (
         Mode::Body,

@@ -197,7 +197,7 @@ fn is_module(rt: &impl Abort, alloc: Global, stream: &[u8]) {
 // The place and the value of a byte of the plain module, the offset at which it is refused, and why.
 type Changed = (usize, u8, u64, Reason);
 
-const CHANGED: [Changed; 19] = [
+static CHANGED: [Changed; 19] = [
     (0, 0xE1, 0, Reason::BadHeader),
     (9, 0xE2, 9, Reason::BadHeader),
     (15, 0x01, 13, Reason::BadHeader),
@@ -235,7 +235,7 @@ fn a_changed_byte_is_refused_at_its_place(rt: HostRuntime) {
 // A part, the offset at which it is refused, and why.
 type Part = (usize, &'static [u8], u64, Reason);
 
-const PARTS: [Part; 47] = [
+static PARTS: [Part; 47] = [
     (DATA, b"\xE5\x89", 101, Reason::BadNumber),
     (DATA, b"\xE2\xAA", 101, Reason::BadRecord),
     (DATA, b"\xF2", 100, Reason::UnsupportedRecord),

@@ -1,6 +1,6 @@
 //! Lines of modules, and files that are refused.
 
-use crate::runs::{Held, Run, comes_to, complains_of};
+use crate::runs::{Held, Run, all_come_to, complains_of};
 use std::alloc::Global;
 use std::process::Abort;
 
@@ -9,7 +9,7 @@ const THREE_LINES: &str = "\
       file 1 \"prog\": sections 1 publics 1 references 1 loads 5 debug 0\n\
       file 2 \"lib\": sections 1 publics 1 references 0 loads 2 debug 0\n";
 
-const LINES: [Run; 3] = [
+static LINES: [Run; 3] = [
     (
         &[("m1", Held::Absolute)],
         "",
@@ -39,12 +39,10 @@ const LINES: [Run; 3] = [
 
 #[test]
 fn modules_have_their_lines_in_order(rt: HostRuntime) {
-    for run in &LINES {
-        comes_to(&rt, rt.alloc(), run);
-    }
+    all_come_to(&rt, rt.alloc(), &LINES);
 }
 
-const REFUSED: [Run; 16] = [
+static REFUSED: [Run; 16] = [
     // An offset in the middle of a part leaves a gap.
     (
         &[("a", Held::Changed(60, 0x65))],
@@ -166,12 +164,10 @@ const REFUSED: [Run; 16] = [
 
 #[test]
 fn files_are_refused_at_the_place_of_their_first_fault(rt: HostRuntime) {
-    for run in &REFUSED {
-        comes_to(&rt, rt.alloc(), run);
-    }
+    all_come_to(&rt, rt.alloc(), &REFUSED);
 }
 
-const USAGE: [Run; 4] = [
+static USAGE: [Run; 4] = [
     (
         &[("m1", Held::Absolute)],
         "",
@@ -204,9 +200,7 @@ const USAGE: [Run; 4] = [
 
 #[test]
 fn words_that_name_no_files_are_usage_faults(rt: HostRuntime) {
-    for run in &USAGE {
-        comes_to(&rt, rt.alloc(), run);
-    }
+    all_come_to(&rt, rt.alloc(), &USAGE);
 }
 
 // `check` of `count` files.

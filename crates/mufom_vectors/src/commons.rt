@@ -1,7 +1,7 @@
 //! Room that weak references ask for, over several files.
 
 use crate::drafts::{REFERENCE, SECTION};
-use crate::runs::{File, Held, Run, comes_to};
+use crate::runs::{File, Held, Run, all_come_to};
 
 const RAM: &[u8] =
     b"[[region]]\nname = \"ram\"\nbase = 256\nsize = 64\nsections = [\"t\"]\ncommon = true\n";
@@ -37,7 +37,7 @@ const FILES: &[File] = &[
     ("untrue", Held::Bytes(NO_TRUTH)),
 ];
 
-const RUNS: [Run; 8] = [
+static RUNS: [Run; 8] = [
     // Files that ask for one name have one room.
     (FILES, "", "dump --plan=p a b", 0, ROOM),
     (FILES, "", "dump --plan=p [ a b ]", 0, ROOM),
@@ -77,7 +77,5 @@ const RUNS: [Run; 8] = [
 
 #[test]
 fn room_is_shared_or_refused(rt: HostRuntime) {
-    for run in &RUNS {
-        comes_to(&rt, rt.alloc(), run);
-    }
+    all_come_to(&rt, rt.alloc(), &RUNS);
 }

@@ -1,6 +1,6 @@
 //! Debug parts: addresses of a located one, and one of another form that is passed over.
 
-use crate::runs::{File, Held, Run, comes_to};
+use crate::runs::{File, Held, Run, all_come_to};
 
 /// A module block with a name and a global function, which has a name with a note and a value.
 const BLOCKS: &[u8] =
@@ -45,7 +45,7 @@ const OTHER_FORM: &[File] = &[(
     ),
 )];
 
-const RUNS: [Run; 5] = [
+static RUNS: [Run; 5] = [
     (LOCAL, "", "dump --plan p a", 0, ADDRESSES),
     (LOCAL, "", "show a", 0, SHOWN),
     (
@@ -73,7 +73,5 @@ const RUNS: [Run; 5] = [
 
 #[test]
 fn debug_parts_are_located_or_refused_or_passed_over(rt: HostRuntime) {
-    for run in &RUNS {
-        comes_to(&rt, rt.alloc(), run);
-    }
+    all_come_to(&rt, rt.alloc(), &RUNS);
 }

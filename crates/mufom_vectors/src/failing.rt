@@ -112,9 +112,9 @@ fn each_read_of_one_file_fails_in_its_turn(rt: HostRuntime) {
     has_reads(&rt, alloc, &by_bytes, 122);
 }
 
-const LINK: [&str; 5] = ["link", "-o", "c", "a", "b"];
+static LINK: [&str; 5] = ["link", "-o", "c", "a", "b"];
 
-const LOCATE: [&str; 7] = ["locate", "--plan", "p", "-o", "d", "a", "b"];
+static LOCATE: [&str; 7] = ["locate", "--plan", "p", "-o", "d", "a", "b"];
 
 #[test]
 fn each_read_of_two_files_fails_in_its_turn(rt: HostRuntime) {

@@ -1,9 +1,9 @@
 //! Modules of one file that are located, and what keeps them from that.
 
 use crate::files::EMPTY;
-use crate::runs::{Held, Run, comes_to, makes};
+use crate::runs::{Held, Run, all_come_to, makes};
 
-const IMAGES: [Run; 6] = [
+static IMAGES: [Run; 6] = [
     (&[("a", Held::Empty)], "", "dump a", 0, ""),
     // A located module has the image of its source.
     (
@@ -77,12 +77,10 @@ const IMAGES: [Run; 6] = [
 
 #[test]
 fn modules_have_their_images(rt: HostRuntime) {
-    for run in &IMAGES {
-        comes_to(&rt, rt.alloc(), run);
-    }
+    all_come_to(&rt, rt.alloc(), &IMAGES);
 }
 
-const REFUSED: [Run; 8] = [
+static REFUSED: [Run; 8] = [
     // Past the last address.
     (
         &[(
@@ -185,9 +183,7 @@ const REFUSED: [Run; 8] = [
 
 #[test]
 fn modules_without_an_image_are_refused(rt: HostRuntime) {
-    for run in &REFUSED {
-        comes_to(&rt, rt.alloc(), run);
-    }
+    all_come_to(&rt, rt.alloc(), &REFUSED);
 }
 
 /// The absolute module as it is located.

@@ -1,7 +1,7 @@
 //! What a list of modules comes to, wherever its groups stand.
 
 use crate::locate::PAGE;
-use crate::runs::{File, Held, Run, comes_to};
+use crate::runs::{File, Held, Run, all_come_to};
 
 /// Two modules that need each other, each at its place on the page.
 const PAGED: &[File] = &[
@@ -32,7 +32,7 @@ const NAMESAKES: &[File] = &[
     ("c", Held::Names(b"")),
 ];
 
-const GROUPS: [Run; 9] = [
+static GROUPS: [Run; 9] = [
     (PAGED, "", "dump --plan=p a b", 0, PAGE_TEXT),
     (PAGED, "", "dump --plan=p [ a b ]", 0, PAGE_TEXT),
     (PAGED, "", "dump --plan=p [ [ a ] b ]", 0, PAGE_TEXT),
@@ -76,9 +76,7 @@ const GROUPS: [Run; 9] = [
 
 #[test]
 fn lists_come_to_the_same_wherever_the_groups_stand(rt: HostRuntime) {
-    for run in &GROUPS {
-        comes_to(&rt, rt.alloc(), run);
-    }
+    all_come_to(&rt, rt.alloc(), &GROUPS);
 }
 
 const AT_ZERO: &[u8] = b"[[region]]\nname = \"r\"\nbase = 0\nsize = 16\nsections = [\"*\"]\n";
@@ -133,7 +131,7 @@ const MEMBERS: &[File] = &[
 const TWO_REFERENCES: &str = "module \"m\" processor \"68000\" maus 4 order M\n\
     reference 0 \"q\"\nreference 1 \"q\"\nnote type 1 attribute 2 3\n";
 
-const REFERRED: [Run; 8] = [
+static REFERRED: [Run; 8] = [
     // Weak references keep their defaults until a public meets them.
     (WEAK, "", "dump --plan p a b", 0, "00000000: 01 02\n"),
     (
@@ -185,7 +183,5 @@ const REFERRED: [Run; 8] = [
 
 #[test]
 fn references_and_members_come_to_this(rt: HostRuntime) {
-    for run in &REFERRED {
-        comes_to(&rt, rt.alloc(), run);
-    }
+    all_come_to(&rt, rt.alloc(), &REFERRED);
 }

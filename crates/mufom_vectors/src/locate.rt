@@ -1,6 +1,6 @@
 //! Programs that are located by a plan.
 
-use crate::runs::{File, Held, Run, comes_to, made_of};
+use crate::runs::{File, Held, Run, all_come_to, made_of};
 
 /// A region for the sections of the program and its library.
 const BOARD: &[u8] =
@@ -44,7 +44,7 @@ const ALONE: &[File] = &[
     ("bad", Held::Bytes(b"[[")),
 ];
 
-const RUNS: [Run; 6] = [
+static RUNS: [Run; 6] = [
     (BOARDED, "", "dump --plan p m l", 0, BOARD_TEXT),
     // The located module is the file `c` here.
     (BOTH, "locate --plan p -o d a b", "dump c", 0, PAGE_TEXT),
@@ -76,9 +76,7 @@ const RUNS: [Run; 6] = [
 
 #[test]
 fn programs_are_located_by_their_plan(rt: HostRuntime) {
-    for run in &RUNS {
-        comes_to(&rt, rt.alloc(), run);
-    }
+    all_come_to(&rt, rt.alloc(), &RUNS);
 }
 
 #[test]

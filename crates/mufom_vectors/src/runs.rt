@@ -168,8 +168,8 @@ fn is_not_done(rt: &impl Abort, host: &MemHost, text: &str) {
     assert!(rt; host.making().is_none());
 }
 
-/// A run comes to what stands with it.
-pub(crate) fn comes_to(rt: &impl Abort, alloc: Global, run: &Run) {
+// A run comes to what stands with it.
+fn comes_to(rt: &impl Abort, alloc: Global, run: &Run) {
     let (files, link, line, status, text) = run;
     let mut list = listed(rt, alloc, files);
     if !link.is_empty() {
@@ -181,6 +181,13 @@ pub(crate) fn comes_to(rt: &impl Abort, alloc: Global, run: &Run) {
     match status {
         0 => is_done(rt, &host, text),
         _ => is_not_done(rt, &host, text),
+    }
+}
+
+/// Each of these runs comes to what stands with it.
+pub(crate) fn all_come_to(rt: &impl Abort, alloc: Global, runs: &[Run]) {
+    for run in runs {
+        comes_to(rt, alloc, run);
     }
 }
 

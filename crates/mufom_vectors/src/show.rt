@@ -1,6 +1,6 @@
 //! Texts of modules, and words that show none.
 
-use crate::runs::{Held, Run, comes_to, complains_of_no_words};
+use crate::runs::{Held, Run, all_come_to, complains_of_no_words};
 
 pub(crate) const ABSOLUTE_TEXT: &str = "\
       module \"A\" processor \"68000\" maus 4 order M\n\
@@ -25,7 +25,7 @@ pub(crate) const RELOCATABLE_TEXT: &str = "\
       field signed 4 = (X0 - P0)\n\
       start = (R0 + 4)\n";
 
-const SHOWN: [Run; 5] = [
+static SHOWN: [Run; 5] = [
     (&[("m1", Held::Absolute)], "", "show m1", 0, ABSOLUTE_TEXT),
     (
         &[("m1", Held::Absolute)],
@@ -54,12 +54,10 @@ const SHOWN: [Run; 5] = [
 
 #[test]
 fn modules_are_shown(rt: HostRuntime) {
-    for run in &SHOWN {
-        comes_to(&rt, rt.alloc(), run);
-    }
+    all_come_to(&rt, rt.alloc(), &SHOWN);
 }
 
-const USAGE: [Run; 6] = [
+static USAGE: [Run; 6] = [
     // Without a command or a file.
     (
         &[("m1", Held::Absolute)],
@@ -102,9 +100,7 @@ const USAGE: [Run; 6] = [
 
 #[test]
 fn words_that_show_no_file_are_usage_faults(rt: HostRuntime) {
-    for run in &USAGE {
-        comes_to(&rt, rt.alloc(), run);
-    }
+    all_come_to(&rt, rt.alloc(), &USAGE);
 }
 
 #[test]

@@ -1,10 +1,10 @@
 //! Words that are no command, and numbers and groups that a command does not take.
 
-use crate::runs::{Run, comes_to, complains_of};
+use crate::runs::{Run, all_come_to, complains_of};
 use std::alloc::Global;
 use std::process::Abort;
 
-const RUNS: [Run; 9] = [
+static RUNS: [Run; 9] = [
     // Groups and members that are not whole.
     (&[], "", "dump [ ]", 2, "usage: empty group\n"),
     (&[], "", "dump ]", 2, "usage: stray bracket\n"),
@@ -27,9 +27,7 @@ const RUNS: [Run; 9] = [
 
 #[test]
 fn words_come_to_this(rt: HostRuntime) {
-    for run in &RUNS {
-        comes_to(&rt, rt.alloc(), run);
-    }
+    all_come_to(&rt, rt.alloc(), &RUNS);
 }
 
 // A file in `count` groups, each in the one before it.

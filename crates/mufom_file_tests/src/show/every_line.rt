@@ -62,7 +62,7 @@ fn every_kind_of_line_is_printed(rt: HostRuntime) {
 
 // ---- functions
 
-const OVER_TWO: [Function; 14] = [
+static OVER_TWO: [Function; 14] = [
     Function::Plus,
     Function::Minus,
     Function::Divide,

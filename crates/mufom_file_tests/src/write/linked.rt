@@ -16,7 +16,7 @@ use std::process::Abort;
 
 // ---- the program
 
-const PROGRAM_SECTIONS: [SectionRow; 1] = [(b".text", false, Some(Purpose::Code), 12, 2, None)];
+static PROGRAM_SECTIONS: [SectionRow; 1] = [(b".text", false, Some(Purpose::Code), 12, 2, None)];
 
 fn program_names(rt: &impl Abort, alloc: Global) -> NameTable {
     let notes = list(rt, alloc, note(15, 19, Some(1)));
@@ -104,7 +104,7 @@ fn a_program_is_written(rt: HostRuntime) {
 
 // ---- the library
 
-const LIBRARY_SECTIONS: [SectionRow; 1] = [(b".text", false, Some(Purpose::Code), 2, 1, None)];
+static LIBRARY_SECTIONS: [SectionRow; 1] = [(b".text", false, Some(Purpose::Code), 2, 1, None)];
 
 fn library_loads(rt: &impl Abort, alloc: Global) -> List<Load> {
     let bytes = literal(rt, alloc, &[0x4E, 0x75]);
