@@ -1,8 +1,8 @@
 //! Copies of debug items, as they are or with other expressions.
 
-ghost use Rattle.std.specs.Prelude.{◌≡◌, map as mapped, option_map, IfOk};
+ghost use Rattle.std.specs.Prelude.{◌≡◌, ◌++◌, ◌∷◌, [], map as mapped, option_map, IfOk};
 ghost use Rattle.mufom_expr.specs.Tree.{Tree};
-ghost use Rattle.mufom_debug.specs.Marks.{marks_of, marks_of_item};
+ghost use Rattle.mufom_debug.specs.Marks.{block_begin, block_end, marks_of, marks_of_item};
 ghost use Rattle.mufom_copies.specs.Mapped.{mapped_head, mapped_mark};
 
 use crate::entries::{copy_bytes, copy_note};
@@ -87,6 +87,25 @@ fn map_end<M: ExpressionMap>(
     }
 }
 
+// The copy of a block that has these items, and whose other expressions are replaced.
+fn map_block<M: ExpressionMap>(
+    alloc: Global,
+    map: &M,
+    block: &Block,
+    items: List<DebugItem>,
+) -> Result<DebugItem, NoMemory>
+    ensures { IfOk result (λ copy. marks_of_item copy
+        ≡ block_begin (mapped_head (M.meaning map.now) block.now.head) block.now.name
+        ∷ (marks_of items ++ block_end (option_map (M.meaning map.now) block.now.end) ∷ [])) }
+{
+    Ok(DebugItem::Block(Block {
+        head: map_head(alloc, map, &block.head)?,
+        name: copy_bytes(alloc, &block.name)?,
+        items,
+        end: map_end(alloc, map, &block.end)?,
+    }))
+}
+
 #[cycle(copying)]
 fn map_debug_item<M: ExpressionMap>(
     alloc: Global,
@@ -96,12 +115,10 @@ fn map_debug_item<M: ExpressionMap>(
     ensures { IfOk result (λ copy. marks_of_item copy ≡ mapped (mapped_mark (M.meaning map.now)) (marks_of_item item.now)) }
 {
     match item {
-        DebugItem::Block(block) => Ok(DebugItem::Block(Block {
-            head: map_head(alloc, map, &block.head)?,
-            name: copy_bytes(alloc, &block.name)?,
-            items: map_debug_items(alloc, map, block.items.as_slice())?,
-            end: map_end(alloc, map, &block.end)?,
-        })),
+        DebugItem::Block(block) => {
+            let items = map_debug_items(alloc, map, block.items.as_slice())?;
+            map_block(alloc, map, block, items)
+        }
         DebugItem::Name(name) => Ok(DebugItem::Name(copy_bytes(alloc, name)?)),
         DebugItem::Note { name, note } => Ok(DebugItem::Note {
             name: *name,
