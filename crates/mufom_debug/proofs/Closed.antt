@@ -1,12 +1,12 @@
 -- Marks that end each block that they begin, and no other, are the marks of items.
-use Rattle.std.proofs.Common.{◌≡◌, ℕ, zero, suc, Bool, true, false, true≢false, List, [], ◌∷◌, ◌++◌, length, map, Option, refl, sym, ap, ◌∙◌, subst, rules, append_assoc, append-nil}
+use Rattle.std.proofs.Common.{◌≡◌, ℕ, true, true≢false, List, [], ◌∷◌, ◌++◌, length, map, Option, sym, ap, ◌∙◌, rules, append_assoc, append-nil}
 use Rattle.std.proofs.lemmas.List.{map-append}
 use Rattle.mufom_expr.specs.Tree.{Tree}
 use Rattle.mufom_names.specs.declared.name.Note.{Note}
 use Rattle.mufom_debug.specs.declared.item.BlockHead.{BlockHead}
 use Rattle.mufom_debug.specs.declared.item.DebugItem.{DebugItem, the_lemmas}
-use Rattle.mufom_debug.specs.declared.item.DebugItem.TheOpen.{Block-F, DebugItem-F}
-use Rattle.mufom_debug.specs.declared.item.DebugItem.TheViews.{roll-DebugItem, roll-Block}
+use Rattle.mufom_debug.specs.declared.item.DebugItem.TheOpen.{DebugItem-F}
+use Rattle.mufom_debug.specs.declared.item.DebugItem.TheViews.{roll-DebugItem}
 use Rattle.mufom_debug.specs.Marks.{DebugMark, block_begin, block_end, name_mark, note_mark, value_mark, closes, joined, marks_of_item, marks_of}
 use Rattle.mufom_debug.proofs.MarksLemmas.{joined-append}
 use Rattle.mufom_debug.proofs.Rebuilt.{Begun, block_item, rebuilt}

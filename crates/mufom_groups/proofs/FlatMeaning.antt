@@ -1,6 +1,5 @@
 -- The module into which modules are linked stands for their flat list.
-use Rattle.std.proofs.Common.{◌≡◌, ℕ, List, ◌++◌, length, unwrap_or, sym, subst}
-use Rattle.mufom_module.specs.declared.module.Parts.{Parts}
+use Rattle.std.proofs.Common.{length, unwrap_or, sym, subst}
 use Rattle.mufom_words.specs.Tree.{leaves, tree_of}
 use Rattle.mufom_meaning.specs.Selection.{members_at}
 use Rattle.mufom_meaning.specs.Staging.{AreValid}
@@ -8,7 +7,7 @@ use Rattle.mufom_meaning.proofs.facts.AllAnswers.{answers_are_facts}
 use Rattle.mufom_meaning.proofs.facts.LinkFacts.{link_facts_grow}
 use Rattle.mufom_meaning.proofs.staging.Staging.{joined_stands_for}
 use Rattle.mufom_groups.specs.Laws.{LinksStandForFlat}
-use Rattle.mufom_groups.specs.Linked.{IsFlatList, first_name, members, roots}
+use Rattle.mufom_groups.specs.Linked.{first_name, members, roots}
 use Rattle.mufom_groups.proofs.GroupsAlike.{linked-flat}
 use Rattle.mufom_groups.proofs.LinkWalk.{valid-append, valid-drop, valid-members}
 

@@ -14,7 +14,7 @@ use Rattle.mufom_meaning.specs.LinkAnswer.{link_answer}
 use Rattle.mufom_meaning.specs.Stands.{LinkFactStands}
 use Rattle.mufom_meaning.specs.Absolute.{no_regions}
 use Rattle.mufom_meaning.specs.Selection.{members_at, member_at, IsSelected}
-use Rattle.mufom_groups.specs.Work.{gives, stops, Work, ◌>>=◌}
+use Rattle.mufom_groups.specs.Work.{gives, stops}
 use Rattle.mufom_groups.specs.Linked.{roots, members, IsFlatList, joined, tree_links, unless_fact, links, linked, linked_module}
 use Rattle.mufom_groups.specs.Laws.{EndAlike, GroupsMakeNoDifference, LinkFactsStand, LinkedIsFlat, StopsAtFact}
 use Rattle.mufom_groups.proofs.Singles.{flat_list-single}

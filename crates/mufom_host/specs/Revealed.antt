@@ -1,5 +1,5 @@
 -- The files that a host in memory reveals: they hold bytes.
-use Rattle.std.specs.Prelude.{option_map, ◌≡◌, ℕ, ◌<◌, ◌&&◌, nat_lt, Bool, true, false, if◌then◌else◌, cond, List, [], ◌∷◌, Option, Some, None, IfSome, refl}
+use Rattle.std.specs.Prelude.{option_map, ◌≡◌, ℕ, ◌&&◌, nat_lt, Bool, true, false, if◌then◌else◌, cond, List, [], ◌∷◌, Option, Some, None, IfSome, refl}
 use Rattle.std.specs.List.{list_all, find}
 use Rattle.std.specs.Str.{bytes_eq}
 use Rattle.std.proofs.lemmas.Bool.{ltb-true, false≢true}

@@ -1,18 +1,16 @@
 -- Where the sections and commons stand as a plan puts them, the setting of the expressions is that of the plan.
-use Rattle.std.proofs.Common.{◌≡◌, ℕ, zero, suc, ◌+◌, List, [], ◌∷◌, ◌++◌, map, length, take, drop, Option, Some, None, Bool, true, false, not, ◌||◌, refl, sym, ◌∙◌, ap, append-nil, zero-add, length-append, length-drop, arith}
+use Rattle.std.proofs.Common.{◌≡◌, ℕ, zero, suc, ◌+◌, List, [], ◌∷◌, map, length, take, drop, Option, Some, None, Bool, true, false, refl, sym, ◌∙◌, ap, append-nil, zero-add, length-append, length-drop, arith}
 use Rattle.std.specs.Prelude.{slice_get, option_and_then, if◌then◌else◌}
 use Rattle.std.specs.Str.{bytes_eq}
 use Rattle.std.proofs.lemmas.List.{nil_from_length}
-use Rattle.std.proofs.lemmas.Slice.Eq.{bytes_eq-Decides}
 use Rattle.mufom_sections.specs.declared.section.Section.{Section}
 use Rattle.mufom_module.specs.declared.module.Parts.{Parts}
 use Rattle.mufom_plan.specs.declared.plan.Plan.{Plan}
 use Rattle.mufom_plan.specs.Commons.{has_common}
 use Rattle.mufom_plan.specs.Names.{has_name}
-use Rattle.mufom_meaning.specs.Bases.{Bases}
 use Rattle.mufom_meaning.specs.Flat.{commons, flat_sections}
 use Rattle.mufom_meaning.specs.Placed.{common_section, common_sections, placed_commons, base_list, base_named, planned_bases}
-use Rattle.mufom_meaning.specs.Values.{Setting, setting}
+use Rattle.mufom_meaning.specs.Values.{setting}
 use Rattle.mufom_meaning.proofs.Names.{has_name-turned}
 use Rattle.mufom_meaning.proofs.Placed.{bases_by_position, bases_count}
 use Rattle.mufom_meaning.proofs.Tests.{either_false}

@@ -1,11 +1,11 @@
 -- The loads of rows of bytes.
-use Rattle.std.proofs.Common.{◌≡◌, ℕ, zero, suc, ◌+◌, ◌-◌, ◌≤◌, ◌<◌, List, [], ◌∷◌, ◌++◌, take, drop, length, min, Bool, true, false, refl, sym, ap, ◌∙◌, subst, arith, append-nil}
-use Rattle.std.specs.Prelude.{◌||◌, flat_map}
+use Rattle.std.proofs.Common.{◌≡◌, ℕ, zero, suc, ◌≤◌, ◌<◌, List, [], ◌∷◌, ◌++◌, take, drop, length, min, refl, sym, ap, ◌∙◌, arith}
+use Rattle.std.specs.Prelude.{◌||◌}
 use Rattle.std.proofs.lemmas.List.{length-drop, take_min, drop_min}
 use Rattle.std.proofs.lemmas.Grind.{flat_map-append}
 use Rattle.mufom_loads.specs.declared.load.Load.{Load}
 use Rattle.mufom_meaning.specs.declared.located.Run.{Run}
-use Rattle.mufom_meaning.specs.Absolute.{literal_limit, chunks_within, chunks, with_section, loads_between}
+use Rattle.mufom_meaning.specs.Absolute.{chunks_within, chunks, with_section, loads_between}
 use Rattle.mufom_located.specs.Opened.{opened, opens}
 
 -- ---- chunks

@@ -1,5 +1,5 @@
 -- Rows that go by address, and the part of them that lies between two addresses.
-use Rattle.std.proofs.Common.{◌≡◌, ℕ, zero, suc, ◌+◌, ◌-◌, ◌≤◌, ◌<◌, List, [], ◌∷◌, ◌++◌, take, drop, length, Bool, true, false, refl, sym, ap, ◌∙◌, subst, arith, rules, append-nil}
+use Rattle.std.proofs.Common.{◌≡◌, ℕ, zero, suc, ◌+◌, ◌-◌, ◌≤◌, ◌<◌, List, [], ◌∷◌, ◌++◌, take, drop, length, true, false, refl, sym, ap, ◌∙◌, subst, arith, rules, append-nil}
 use Rattle.std.specs.Prelude.{nat_le, nat_lt, slice_index_or}
 use Rattle.std.specs.List.{AllWithin}
 use Rattle.std.specs.List.Sorted.{IsNonDecreasingBy}

@@ -1,5 +1,5 @@
 -- What the loads of rows weigh, and the bound on the weight of a location.
-use Rattle.std.proofs.Common.{◌≡◌, ℕ, zero, suc, ◌+◌, ◌*◌, ◌≤◌, ◌<◌, ◌^◌, ◌⊎◌, inl, inr, List, [], ◌∷◌, ◌++◌, take, drop, length, map, get_or, filter, flat_map, sum_by, refl, sym, ap, ◌∙◌, arith, Bool, true, false, cond, min}
+use Rattle.std.proofs.Common.{◌≡◌, ℕ, suc, ◌+◌, ◌≤◌, ◌<◌, ◌^◌, ◌⊎◌, inl, inr, List, [], ◌∷◌, take, drop, length, map, get_or, filter, flat_map, sum_by, refl, sym, ap, ◌∙◌, arith, Bool, true, false, cond, min}
 use Rattle.std.specs.List.{enumerate_from}
 use Rattle.std.proofs.lemmas.List.{drop_more, append-nil, length-map}
 use Rattle.std.proofs.lemmas.List.FromFn.{length-enumerate_from}
@@ -9,19 +9,17 @@ use Rattle.mufom_names.specs.declared.name.Reference.{Reference}
 use Rattle.mufom_loads.specs.declared.load.Item.TheVariants.{Literal}
 use Rattle.mufom_loads.specs.declared.load.Load.{Load}
 use Rattle.mufom_loads.specs.declared.load.Load.TheVariants.{SetSection, SetPc, One, Repeat}
-use Rattle.mufom_debug.specs.Marks.{marks_of}
-use Rattle.mufom_module.specs.declared.module.Parts.{Parts}
 use Rattle.mufom_module.specs.Written.{weight}
-use Rattle.mufom_module.specs.Weights.{capped, section_weight, reference_weight, load_weight}
+use Rattle.mufom_module.specs.Weights.{reference_weight, load_weight}
 use Rattle.mufom_module.proofs.WeightLaws.{weight-sum}
 use Rattle.mufom_module.proofs.EntryCounts.{sections-count}
 use Rattle.mufom_module.proofs.Valid.{weighs_less}
 use Rattle.mufom_meaning.specs.declared.located.LocatedParts.{LocatedParts}
-use Rattle.mufom_meaning.specs.Absolute.{absolute_of, literal_limit, chunks, with_section, section_loads}
+use Rattle.mufom_meaning.specs.Absolute.{absolute_of, literal_limit, chunks, with_section}
 use Rattle.mufom_meaning.specs.Counts.{loaded_total}
-use Rattle.mufom_meaning.specs.Flat.{flat_sections, flat_references, is_common}
+use Rattle.mufom_meaning.specs.Flat.{is_common}
 use Rattle.mufom_numbers.specs.declared.limits.TheConstants.{MOST_IMAGE_BYTES}
-use Rattle.mufom_meaning.specs.Facts.{LocateFact, image_limit}
+use Rattle.mufom_meaning.specs.Facts.{image_limit}
 use Rattle.mufom_meaning.specs.LocationLaws.{AbsoluteWeighs, asking_count}
 use Rattle.mufom_meaning.specs.FactLaws.{AllAnswersAreFacts}
 use Rattle.mufom_meaning.specs.CallLaws.{ModulesMayBePlaced}

@@ -3,7 +3,7 @@ use Rattle.std.proofs.Common.{◌≡◌, ◌⊎◌, inl, inr, ℕ, ◌+◌, ◌-
 use Rattle.std.specs.Option.{option_or}
 use Rattle.std.proofs.Math.Seq.{take-add, drop-append-add}
 use Rattle.std.proofs.lemmas.Bool.{cases_lt, eqb-true, eqb-false}
-use Rattle.std.proofs.lemmas.List.{nil_from_length, take-append-le, drop-append-le, take-append-drop, take_all}
+use Rattle.std.proofs.lemmas.List.{nil_from_length, take-append-le, drop-append-le, take-append-drop}
 use Rattle.mufom_numbers.specs.declared.taken.Taken.{Taken}
 use Rattle.mufom_numbers.specs.declared.taken.Taken.TheVariants as taken
 use Rattle.mufom_numbers.specs.Spelling.{AreBytes, IfGot}

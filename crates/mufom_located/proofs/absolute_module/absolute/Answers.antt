@@ -1,7 +1,6 @@
-use Rattle.std.proofs.Common.{◌≡◌, [], ◌∷◌, ◌∙◌, ap, sym, subst}
+use Rattle.std.proofs.Common.{[], ◌∷◌, ◌∙◌, ap, sym, subst}
 use Rattle.mufom_module.specs.declared.module.Parts.{Parts}
 use Rattle.mufom_module.specs.Defects.{IsValid}
-use Rattle.mufom_module.specs.Written.{weight}
 use Rattle.mufom_meaning.specs.Absolute.{absolute_of, no_regions}
 use Rattle.mufom_meaning.specs.Location.{IsLocation}
 use Rattle.mufom_located.proofs.absolute_module.absolute.Goals as goal

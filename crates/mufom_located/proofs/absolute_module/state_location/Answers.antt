@@ -1,5 +1,4 @@
-use Rattle.std.proofs.Common.{◌≡◌, ◌<◌, ◌^◌, [], ◌∷◌, length, ap, ◌∙◌, sym, subst, arith}
-use Rattle.mufom_meaning.specs.declared.located.Run.{Run}
+use Rattle.std.proofs.Common.{length, ap, sym, subst, arith}
 use Rattle.mufom_located.specs.Located.{AreRows}
 use Rattle.mufom_located.proofs.WeightLaws.{sections-few}
 use Rattle.mufom_located.proofs.absolute_module.state_location.Goals as goal

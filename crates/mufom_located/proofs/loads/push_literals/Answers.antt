@@ -1,4 +1,4 @@
-use Rattle.std.proofs.Common.{◌≡◌, ◌++◌, ◌∷◌, [], ◌<◌, length, map, ap, ◌∙◌, sym, append_assoc, arith}
+use Rattle.std.proofs.Common.{◌++◌, ◌∷◌, [], ◌<◌, length, map, ap, ◌∙◌, sym, append_assoc, arith}
 use Rattle.mufom_loads.specs.declared.load.Item.TheVariants.{Literal}
 use Rattle.mufom_loads.specs.declared.load.Load.TheVariants.{One}
 use Rattle.mufom_meaning.specs.Absolute.{chunks, literal_limit}

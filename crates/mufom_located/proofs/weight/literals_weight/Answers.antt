@@ -1,6 +1,4 @@
-use Rattle.std.proofs.Common.{◌≡◌, ◌+◌, ◌<◌, length, arith}
-use Rattle.mufom_module.specs.Weights.{capped}
-use Rattle.mufom_located.specs.Weighed.{literals_weight}
+use Rattle.std.proofs.Common.{◌+◌, ◌<◌, length, arith}
 use Rattle.mufom_located.proofs.WeightLaws.{literals-next}
 use Rattle.mufom_located.proofs.weight.literals_weight.Goals as goal
 

@@ -1,5 +1,5 @@
-use Rattle.std.proofs.Common.{◌≡◌, ◌+◌, drop, sum_by, arith}
-use Rattle.mufom_module.specs.Weights.{capped, load_weight}
+use Rattle.std.proofs.Common.{◌+◌, sum_by, arith}
+use Rattle.mufom_module.specs.Weights.{load_weight}
 use Rattle.mufom_meaning.specs.Absolute.{section_loads}
 use Rattle.mufom_located.proofs.WeightLaws.{sections-next}
 use Rattle.mufom_located.proofs.weight.loads_weight.Goals as goal
