@@ -23,10 +23,10 @@ fn writes_by(rt: &impl Abort, module: &Module, most: usize, bytes: &[u8]) {
 // Where one byte is taken at each call, the call with each number fails once, and leaves the bytes
 // before it.
 fn stops_by(rt: &impl Abort, module: &Module, bytes: &[u8]) {
-    for place in 0..bytes.len() {
-        let mut disk = Disk::new(1, place);
+    for call in 0..bytes.len() {
+        let mut disk = Disk::new(1, call);
         assert_eq!(rt; write_module(module, &mut disk), Err(WriteStop::Fault));
-        assert_eq!(rt; disk.bytes(), &bytes[..place]);
+        assert_eq!(rt; disk.bytes(), &bytes[..call]);
         assert_eq!(rt; disk.faults, 1);
     }
 }

@@ -61,15 +61,15 @@ fn add_offset(rt: &impl Abort, file: &mut Vec<u8>, number: u8, offset: u64) {
 // Adds the offsets of these parts, and that of the end.
 fn add_offsets(rt: &impl Abort, file: &mut Vec<u8>, parts: &[&[u8]]) {
     // After eight offsets of eight bytes the first part begins.
-    let mut place = (file.len() as u64).saturating_add(64);
+    let mut start = (file.len() as u64).saturating_add(64);
     let mut number = 0u8;
     for part in parts {
-        let offset = if part.is_empty() { 0 } else { place };
+        let offset = if part.is_empty() { 0 } else { start };
         add_offset(rt, file, number, offset);
-        place = place.saturating_add(part.len() as u64);
+        start = start.saturating_add(part.len() as u64);
         number = number.saturating_add(1);
     }
-    add_offset(rt, file, 7, place);
+    add_offset(rt, file, 7, start);
 }
 
 /// The file of the module with these records, under a name of less than 128 bytes.

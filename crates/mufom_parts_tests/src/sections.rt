@@ -11,12 +11,12 @@ fn add_new(rt: &impl Abort, table: &mut IndexTable, index: u32, want: u32)
     requires { length table.old < 2 ^ 32 - 1 }
     ensures { length table.new ≡ length table.old + 1 }
 {
-    let place = table.add(index).expect(rt, "the index is new");
-    assert_eq!(rt; place, want);
+    let position = table.add(index).expect(rt, "the index is new");
+    assert_eq!(rt; position, want);
 }
 
-fn finds(rt: &impl Abort, table: &IndexTable, places: &[(u32, Option<u32>)]) {
-    for (index, want) in places {
+fn finds(rt: &impl Abort, table: &IndexTable, positions: &[(u32, Option<u32>)]) {
+    for (index, want) in positions {
         assert_eq!(rt; &table.position(*index), want, "{index}");
     }
 }

@@ -281,9 +281,9 @@ fn files_of_a_toolchain_are_modules(rt: HostRuntime) {
     has_figures(&rt, alloc, H8300_DEBUG, false, counted(6, 15, 0, 6));
 }
 
-// Whole and byte by byte, the file is refused there for this reason.
-fn is_refused(rt: &impl Abort, alloc: Global, file: &[u8], place: u64, reason: Reason) {
-    let wanted = refused(place, reason);
+// Whole and byte by byte, the file is refused at this offset for this reason.
+fn is_refused(rt: &impl Abort, alloc: Global, file: &[u8], offset: u64, reason: Reason) {
+    let wanted = refused(offset, reason);
     comes_to(rt, alloc, file, 65_536, true, wanted);
     comes_to(rt, alloc, file, 1, true, wanted);
 }

@@ -1,4 +1,4 @@
-//! Records from bytes, one by one: whole ones with their values, each fault at its place, and an expression.
+//! Records from bytes, one by one: whole ones with their values, each fault at its offset, and an expression.
 
 use mufom_expr::{Function, Letter, Token};
 use mufom_numbers::{Reason, Taken};
@@ -393,13 +393,13 @@ static FAULTS: [Fault<'static>; 47] = [
 ];
 
 fn is_named(rt: &impl Abort, alloc: Global, row: &Fault<'_>) {
-    let (mode, bytes, place, reason) = row;
+    let (mode, bytes, at, reason) = row;
     match beginning(rt, alloc, *mode, bytes) {
         Taken::Bad {
             offset,
             reason: why,
-        } => assert_eq!(rt; (offset, why), (*place, *reason)),
-        _ => panic!(rt; "no fault at {place}"),
+        } => assert_eq!(rt; (offset, why), (*at, *reason)),
+        _ => panic!(rt; "no fault at {at}"),
     }
 }
 

@@ -90,9 +90,9 @@ pub(crate) fn add(rt: &impl Abort, stream: &mut Vec<u8>, bytes: &[u8]) {
     stream.extend_from_slice(bytes).expect(rt, "memory");
 }
 
-/// Changes one byte.
-pub(crate) fn set(stream: &mut Vec<u8>, place: usize, byte: u8) {
-    if let Some(old) = stream.get_mut(place) {
+/// Changes the byte at an offset.
+pub(crate) fn set(stream: &mut Vec<u8>, offset: usize, byte: u8) {
+    if let Some(old) = stream.get_mut(offset) {
         *old = byte;
     }
 }
@@ -113,8 +113,8 @@ const DATA: usize = 60;
 fn with_part(rt: &impl Abort, alloc: Global, offset: usize, part: &[u8]) -> Vec<u8> {
     let [high, low] = end_after(part).to_be_bytes();
     let mut stream = copied(rt, alloc, &PLAIN[..100]);
-    for (place, byte) in [(DATA, 0), (offset, 100), (68, 0), (75, high), (76, low)] {
-        set(&mut stream, place, byte);
+    for (at, byte) in [(DATA, 0), (offset, 100), (68, 0), (75, high), (76, low)] {
+        set(&mut stream, at, byte);
     }
     add(rt, &mut stream, part);
     add(rt, &mut stream, b"\xE1");
@@ -141,8 +141,11 @@ pub(crate) fn read(
     reader.finish()
 }
 
-pub(crate) fn refused(place: u64, reason: Reason) -> Option<ReadStop> {
-    Some(ReadStop::Refused(ReadRefusal { place, reason }))
+pub(crate) fn refused(offset: u64, reason: Reason) -> Option<ReadStop> {
+    Some(ReadStop::Refused(ReadRefusal {
+        place: offset,
+        reason,
+    }))
 }
 
 fn stop(alloc: Global, stream: &[u8], size: usize, reads_debug: bool) -> Option<ReadStop>
@@ -178,9 +181,9 @@ pub(crate) fn comes_to(
     assert_eq!(rt; stop(alloc, stream, size, reads_debug), wanted);
 }
 
-// A stream, whole and in chunks of one byte and of seven, is refused there for this reason.
-fn is_refused(rt: &impl Abort, alloc: Global, stream: &[u8], place: u64, reason: Reason) {
-    let wanted = refused(place, reason);
+// A stream, whole and in chunks of one byte and of seven, is refused at this offset for this reason.
+fn is_refused(rt: &impl Abort, alloc: Global, stream: &[u8], offset: u64, reason: Reason) {
+    let wanted = refused(offset, reason);
     comes_to(rt, alloc, stream, 1000, true, wanted);
     comes_to(rt, alloc, stream, 1, true, wanted);
     comes_to(rt, alloc, stream, 7, true, wanted);
@@ -194,7 +197,7 @@ fn is_module(rt: &impl Abort, alloc: Global, stream: &[u8]) {
 
 // ---- refused streams
 
-// The place and the value of a byte of the plain module, the offset at which it is refused, and why.
+// The offset and the value of a byte of the plain module, the offset at which it is refused, and why.
 type Changed = (usize, u8, u64, Reason);
 
 static CHANGED: [Changed; 19] = [
@@ -492,8 +495,8 @@ fn a_second_start_is_refused(rt: HostRuntime) {
 fn an_absolute_section_has_a_base(rt: HostRuntime) {
     let mut stream = copied(&rt, rt.alloc(), &PLAIN[..94]);
     add(&rt, &mut stream, b"\xE1");
-    for (place, byte) in [(60, 0), (68, 0), (76, 0x5E)] {
-        set(&mut stream, place, byte);
+    for (at, byte) in [(60, 0), (68, 0), (76, 0x5E)] {
+        set(&mut stream, at, byte);
     }
     is_refused(&rt, rt.alloc(), &stream, 77, Reason::MissingBase);
 }
@@ -515,8 +518,8 @@ fn zeros(rt: &impl Abort, alloc: Global, count: usize) -> Vec<u8> {
 // The header of a module whose extension part is raw bytes, up to the end of a file.
 fn raw_header(rt: &impl Abort, alloc: Global) -> Vec<u8> {
     let mut header = copied(rt, alloc, &PLAIN[..77]);
-    for (place, byte) in [(20, 0x4D), (36, 0), (60, 0), (68, 0), (73, 4), (76, 0)] {
-        set(&mut header, place, byte);
+    for (at, byte) in [(20, 0x4D), (36, 0), (60, 0), (68, 0), (73, 4), (76, 0)] {
+        set(&mut header, at, byte);
     }
     header
 }

@@ -35,12 +35,12 @@ fn add(rt: &impl Abort, file: &mut Vec<u8>, bytes: &[u8]) {
     file.extend_from_slice(bytes).expect(rt, "memory");
 }
 
-// Adds the offset of a part that begins at this place, and answers where the next part begins.
-fn add_offset(rt: &impl Abort, file: &mut Vec<u8>, number: u8, part: &[u8], place: u64) -> u64 {
-    let offset = if part.is_empty() { 0 } else { place };
+// Adds the offset of a part that begins at `start`, and returns where the next part begins.
+fn add_offset(rt: &impl Abort, file: &mut Vec<u8>, number: u8, part: &[u8], start: u64) -> u64 {
+    let offset = if part.is_empty() { 0 } else { start };
     add(rt, file, &[0xE2, 0xD7, number, 0x88]);
     add(rt, file, &offset.to_be_bytes());
-    place.saturating_add(part.len() as u64)
+    start.saturating_add(part.len() as u64)
 }
 
 /// The file of a module with these records, and with addresses of `maus` units.
@@ -59,9 +59,9 @@ pub(crate) fn module(rt: &impl Abort, alloc: Global, maus: u8, records: Records)
     let mut file = Vec::new(alloc);
     add(rt, &mut file, HEAD);
     add(rt, &mut file, &[maus, MOST_FIRST]);
-    let mut place = FIRST_PART;
+    let mut start = FIRST_PART;
     for (number, part) in parts {
-        place = add_offset(rt, &mut file, number, part, place);
+        start = add_offset(rt, &mut file, number, part, start);
     }
     add(rt, &mut file, records.sections);
     add(rt, &mut file, records.external);

@@ -142,7 +142,7 @@ fn each_read_of_a_plan_and_its_files_fails_in_its_turn(rt: HostRuntime) {
 // Whether the first bytes of a whole are these.
 fn begins_with(whole: &[u8], bytes: &[u8]) -> bool {
     match whole.get(..bytes.len()) {
-        Some(front) => front == bytes,
+        Some(prefix) => prefix == bytes,
         None => false,
     }
 }

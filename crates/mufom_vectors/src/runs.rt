@@ -14,7 +14,7 @@ use std::process::Abort;
 #[derive(Clone, Copy)]
 pub(crate) enum Held {
     Absolute,
-    /// The absolute module with another byte at this place.
+    /// The absolute module with another byte at this offset.
     Changed(usize, u8),
     /// The first bytes of the absolute module, up to this count, and then these.
     Cut(usize, &'static [u8]),
@@ -36,9 +36,9 @@ pub(crate) enum Held {
 /// A file's name and what it holds.
 pub(crate) type File = (&'static str, Held);
 
-/// Files; the words that make the file `c` of them first, if any; the words of the run; the status that
-/// they are answered with, and what is printed: of a run that is done to the output, else to the
-/// complaints. Nothing is printed to the other.
+/// Files; the words of a run that first makes the file `c` of them, if any; the words of the run; the status
+/// that it ends with; and what it prints: to the output if it is done, else to the errors. Nothing is printed
+/// to the other.
 pub(crate) type Run = (
     &'static [File],
     &'static str,
@@ -86,9 +86,9 @@ fn cut(rt: &impl Abort, alloc: Global, count: usize, rest: &[u8]) -> Vec<u8> {
     bytes
 }
 
-fn changed(rt: &impl Abort, alloc: Global, place: usize, byte: u8) -> Vec<u8> {
+fn changed(rt: &impl Abort, alloc: Global, offset: usize, byte: u8) -> Vec<u8> {
     let mut bytes = Vec::from_slice(alloc, &ABSOLUTE).expect(rt, "memory");
-    if let Some(old) = bytes.get_mut(place) {
+    if let Some(old) = bytes.get_mut(offset) {
         *old = byte;
     }
     bytes
@@ -96,7 +96,7 @@ fn changed(rt: &impl Abort, alloc: Global, place: usize, byte: u8) -> Vec<u8> {
 
 fn content(rt: &impl Abort, alloc: Global, held: &Held) -> Vec<u8> {
     match held {
-        Held::Changed(place, byte) => changed(rt, alloc, *place, *byte),
+        Held::Changed(offset, byte) => changed(rt, alloc, *offset, *byte),
         Held::Cut(count, rest) => cut(rt, alloc, *count, rest),
         Held::Names(external) => drafted(rt, alloc, 4, b"", external, b"", b""),
         Held::Section(sections, external, loads) => drafted(

@@ -40,14 +40,14 @@ impl Disk {
     }
 }
 
-// Takes the first bytes of the chunk, at most `most`, and answers how many it was.
+// Takes the first bytes of the chunk, at most `most`, and returns how many these are.
 fn take(bytes: &mut ArrayVec<u8, 512>, most: usize, chunk: &[u8]) -> usize
     ensures { result ≤ length chunk.now }
 {
     let count = chunk.len().min(most);
-    for place in 0..count {
-        if bytes.try_push(chunk[place]).is_err() {
-            return place;
+    for index in 0..count {
+        if bytes.try_push(chunk[index]).is_err() {
+            return index;
         }
     }
     count
