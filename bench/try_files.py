@@ -1,6 +1,7 @@
 """Tries the program on module files made at random, against judge.py.
 
     python3 bench/try_files.py PROGRAM SEED COUNT
+    python3 bench/try_files.py PROGRAM --hostile
 
 Each file is checked with its debug part read, or passed over. A file that the program and the judge
 answer differently is kept beside the others in the folder for temporary files, and named; the last
@@ -13,8 +14,15 @@ import random
 import subprocess
 import sys
 import tempfile
+import threading
+import time
 
+import hostile
 import judge
+
+# What a command on hostile files may take: seconds, and MiB as a fixed part and times its input.
+MOST_SECONDS = 3
+MOST_MEMORY = (64, 24)
 
 # Bytes that mean something somewhere in a file.
 MARKS = [*range(13), 0x20, 0x21, 0x7F, 0x80, 0x81, 0x84, 0x88, 0x89, 0x90, *range(0xA0, 0xB4), 0xB9,
@@ -223,7 +231,41 @@ def told(program, path, reads_debug):
     return run.returncode, run.stdout.decode("ascii"), run.stderr.decode("ascii")
 
 
+def timed(program, words, folder):
+    """The seconds and the MiB that a command takes, and how it ends."""
+    begin = time.perf_counter()
+    child = subprocess.Popen([program, *words], cwd=folder, stdout=subprocess.DEVNULL, stderr=subprocess.DEVNULL)
+    stop = threading.Timer(10 * MOST_SECONDS, child.kill)
+    stop.start()
+    _, status, usage = os.wait4(child.pid, 0)
+    stop.cancel()
+    child.returncode = os.waitstatus_to_exitcode(status)
+    return time.perf_counter() - begin, usage.ru_maxrss / 1024, child.returncode
+
+
+def try_hostile(program):
+    """Whether a command on a hostile input takes too much, or ends otherwise than it should."""
+    program, failures = os.path.abspath(program), 0
+    for kind in hostile.KINDS:
+        files, commands = kind()
+        size = sum(len(data) for data in files.values()) / 2**20
+        with tempfile.TemporaryDirectory(prefix="mufom-") as folder:
+            for name, data in files.items():
+                with open(os.path.join(folder, name), "wb") as file:
+                    file.write(data)
+            for line, wanted in commands:
+                seconds, memory, status = timed(program, line.split(), folder)
+                most = MOST_MEMORY[0] + MOST_MEMORY[1] * size * max(1, line.split().count("m"))
+                bad = seconds > MOST_SECONDS or memory > most or status != wanted
+                failures += bad
+                print("%-22s %-26s %6.2f s %6.0f MiB of %6.0f, status %d%s"
+                      % (kind.__name__, line[:26], seconds, memory, most, status, "  TOO MUCH OR OTHERWISE" if bad else ""), flush=True)
+    return min(failures, 1)
+
+
 def main():
+    if sys.argv[2:] == ["--hostile"]:
+        return try_hostile(sys.argv[1])
     program, seed, count = sys.argv[1], int(sys.argv[2]), int(sys.argv[3])
     here = os.path.dirname(os.path.abspath(__file__))
     with open(os.path.join(here, "..", "crates", "mufom", "data", "a.695"), "rb") as sample:

@@ -6,7 +6,7 @@ ghost use Rattle.mufom_names.specs.Index.{keys_of, numbered_from, position_of};
 ghost use Rattle.mufom_meaning.specs.Flat.{is_common};
 ghost use Rattle.mufom_image_values.specs.Names.{FindsFirst, with_name, asked_after};
 
-use mufom_names::{NameIndex, Public, Reference};
+use mufom_names::{HashSeed, NameIndex, Public, Reference};
 use mufom_numbers::NoMemory;
 use std::alloc::Global;
 
@@ -18,7 +18,9 @@ pub(crate) fn index_of_publics<'a>(
     requires { length publics.now < 2 ^ 32 }
     ensures { IfOk result (λ index. FindsFirst index (names_of publics.now)) }
 {
-    let mut index = NameIndex::with_capacity(alloc, publics.len())?;
+    let mut seed = HashSeed::new();
+    seed.add_publics(publics);
+    let mut index = NameIndex::with_capacity(alloc, seed, publics.len())?;
     for place in 0..publics.len() {
         let _earlier = index.add(publics[place].name.as_slice(), place as u32)?;
     }
@@ -59,7 +61,9 @@ pub(crate) fn index_of_commons<'a>(
     requires { length references.now < 2 ^ 32 }
     ensures { IfOk result (λ index. index ≡ numbered_from 0 (asked_after publics.now [] references.now)) }
 {
-    let mut index = NameIndex::new(alloc);
+    let mut seed = HashSeed::new();
+    seed.add_references(references);
+    let mut index = NameIndex::new(alloc, seed);
     let mut count = 0;
     for reference in references {
         if asks(publics, reference) {

@@ -1,6 +1,7 @@
 //! Memory plans: the regions that documents state, and the first thing that is wrong with them.
 //! Lists of names too.
 
+use mufom_names::HashSeed;
 use mufom_plan::{NameList, PlanRefusal, read_plan};
 use std::alloc::Global;
 use std::process::Abort;
@@ -206,7 +207,7 @@ fn bytes_are_bounded_and_are_text(rt: HostRuntime) {
 
 #[test]
 fn finds_names_by_position(rt: HostRuntime) {
-    let mut names = NameList::new(rt.alloc());
+    let mut names = NameList::new(rt.alloc(), HashSeed::new());
     assert!(rt; names.is_empty());
     for (name, is_new) in [(b"code", true), (b"data", true), (b"code", false)] {
         assert_eq!(rt; names.add(name).expect(&rt, "memory"), is_new);

@@ -10,7 +10,7 @@ ghost use Rattle.mufom_link.specs.Publics.{indexed, IsIndexed, IsRefusedName};
 use crate::refusal::LinkRefusal;
 use mufom_meaning::Descriptor;
 use mufom_module::Module;
-use mufom_names::{NameIndex, Public};
+use mufom_names::{HashSeed, NameIndex, Public};
 use mufom_numbers::Bytes;
 use std::alloc::Global;
 
@@ -103,6 +103,15 @@ fn public_count(list: &[Module]) -> usize
     count
 }
 
+// The seed of an index of all public names of the list.
+fn seed_of_publics(list: &[Module]) -> HashSeed {
+    let mut seed = HashSeed::new();
+    for module in list {
+        seed.add_publics(module.parts().names.publics.as_slice());
+    }
+    seed
+}
+
 // The index of all public names of the list by their positions, or `Duplicate`.
 pub(crate) fn index_publics<'a>(
     alloc: Global,
@@ -111,7 +120,8 @@ pub(crate) fn index_publics<'a>(
     requires { length (public_names list.now) < 2 ^ 32 }
     ensures { MatchResult result (λ index. IsIndexed [] 0 (public_names list.now) index) (λ e. IsRefusedName [] 0 (public_names list.now) e) }
 {
-    let mut index = NameIndex::with_capacity(alloc, public_count(list))?;
+    let seed = seed_of_publics(list);
+    let mut index = NameIndex::with_capacity(alloc, seed, public_count(list))?;
     let mut first = 0;
     for module in list {
         let publics = module.parts().names.publics.as_slice();

@@ -9,7 +9,7 @@ ghost use Rattle.mufom_link.specs.References.{merged_with, kept_with, kept_after
 
 use mufom_copies::copy_reference;
 use mufom_expr::Letter;
-use mufom_names::{KeyIndex, NameIndex, Reference, reference_key};
+use mufom_names::{HashSeed, KeyIndex, NameIndex, Reference, reference_key};
 use mufom_numbers::{List, NoMemory};
 use std::alloc::Global;
 
@@ -22,12 +22,13 @@ pub(crate) struct References {
 }
 
 impl References {
-    pub(crate) fn new(alloc: Global) -> References
+    // None yet. The keys are hashed from this seed.
+    pub(crate) fn new(alloc: Global, seed: HashSeed) -> References
         ensures kept { result.kept ≡ [] }
         ensures keys { result.keys ≡ [] }
     {
         References {
-            keys: KeyIndex::new(alloc),
+            keys: KeyIndex::new(alloc, seed),
             kept: List::new(alloc),
         }
     }

@@ -13,7 +13,7 @@ use crate::references::References;
 use crate::refusal::LinkRefusal;
 use mufom_expr::Letter;
 use mufom_module::Module;
-use mufom_names::{NameIndex, Reference};
+use mufom_names::{HashSeed, NameIndex, Reference};
 use mufom_numbers::{List, NoMemory};
 use std::alloc::Global;
 
@@ -35,6 +35,15 @@ fn reference_count(list: &[Module]) -> usize {
     count
 }
 
+// The seed of an index of all references of the modules.
+fn seed_of_references(list: &[Module]) -> HashSeed {
+    let mut seed = HashSeed::new();
+    for entry in list {
+        seed.add_references(entry.parts().names.references.as_slice());
+    }
+    seed
+}
+
 // What the references of the modules come to, where these are all publics.
 fn resolved_by(
     alloc: Global,
@@ -45,7 +54,7 @@ fn resolved_by(
     requires light { total_weight list.now < 2 ^ 32 }
     ensures { IfOk result (λ all. AreResolved list.now all.targets all.kept) }
 {
-    let mut references = References::new(alloc);
+    let mut references = References::new(alloc, seed_of_references(list));
     let mut targets = List::with_capacity(alloc, reference_count(list))?;
     for entry in list {
         let own = entry.parts().names.references.as_slice();

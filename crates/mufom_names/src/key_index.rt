@@ -1,3 +1,4 @@
+use crate::hash_seed::HashSeed;
 use indexmap::IndexSet;
 use mufom_numbers::NoMemory;
 use std::alloc::Global;
@@ -7,7 +8,7 @@ use std::marker::Model;
 /// list of the pairs of keys and positions, in the order in which they were added; no key stands
 /// twice.
 pub struct KeyIndex {
-    keys: IndexSet<Vec<u8>>,
+    keys: IndexSet<Vec<u8>, HashSeed>,
     positions: Vec<u32>,
 }
 
@@ -39,12 +40,12 @@ impl KeyIndex {
     ghost use Rattle.std.specs.Prelude.{◌≡◌, [], IfOk, OnOk, OnErr};
     ghost use Rattle.mufom_names.specs.Index.{position_of, with_entry};
 
-    /// An empty index, which allocates from here. Takes no memory.
-    pub fn new(alloc: Global) -> KeyIndex
+    /// An empty index, which hashes from this seed. Takes no memory.
+    pub fn new(alloc: Global, seed: HashSeed) -> KeyIndex
         ensures { result ≡ [] }
     {
         KeyIndex {
-            keys: IndexSet::new(alloc),
+            keys: IndexSet::with_hasher(alloc, seed),
             positions: Vec::new(alloc),
         }
     }

@@ -8,12 +8,14 @@
 //! the keys that [`reference_key`] makes of them.
 #![tactic(auto)]
 
+mod hash_seed;
 mod key;
 mod key_index;
 mod name;
 mod name_index;
 mod name_table;
 
+pub use hash_seed::HashSeed;
 pub use key::{equal_keys_are_equal_references, reference_key};
 pub use key_index::KeyIndex;
 pub use name::{Note, Public, Reference, Weak};

@@ -1,3 +1,4 @@
+use crate::hash_seed::HashSeed;
 use indexmap::IndexSet;
 use mufom_numbers::NoMemory;
 use std::alloc::Global;
@@ -7,7 +8,7 @@ use std::marker::Model;
 /// they are, and the index borrows them. Contracts see the list of the pairs of names and positions,
 /// in the order in which they were added; no name stands twice.
 pub struct NameIndex<'a> {
-    names: IndexSet<&'a [u8]>,
+    names: IndexSet<&'a [u8], HashSeed>,
     positions: Vec<u32>,
 }
 
@@ -39,22 +40,26 @@ impl<'a> NameIndex<'a> {
     ghost use Rattle.std.specs.Prelude.{◌≡◌, [], IfOk, OnOk, OnErr};
     ghost use Rattle.mufom_names.specs.Index.{position_of, with_entry, HaveDistinctKeys};
 
-    /// An empty index, which allocates from here. Takes no memory.
-    pub fn new(alloc: Global) -> NameIndex<'a>
+    /// An empty index, which hashes from this seed. Takes no memory.
+    pub fn new(alloc: Global, seed: HashSeed) -> NameIndex<'a>
         ensures { result ≡ [] }
     {
         NameIndex {
-            names: IndexSet::new(alloc),
+            names: IndexSet::with_hasher(alloc, seed),
             positions: Vec::new(alloc),
         }
     }
 
-    /// An empty index with room for `count` names.
-    pub fn with_capacity(alloc: Global, count: usize) -> Result<NameIndex<'a>, NoMemory>
+    /// An empty index with room for `count` names, which hashes from this seed.
+    pub fn with_capacity(
+        alloc: Global,
+        seed: HashSeed,
+        count: usize,
+    ) -> Result<NameIndex<'a>, NoMemory>
         ensures { IfOk result (λ index. index ≡ []) }
     {
         Ok(NameIndex {
-            names: IndexSet::with_capacity(alloc, count)?,
+            names: IndexSet::with_capacity_and_hasher(alloc, count, seed)?,
             positions: Vec::with_capacity(alloc, count)?,
         })
     }

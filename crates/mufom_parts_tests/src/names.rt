@@ -3,7 +3,9 @@
 ghost use Rattle.std.specs.Prelude.{◌<◌, ◌^◌, length};
 
 use mufom_expr::Postfix;
-use mufom_names::{KeyIndex, NameIndex, NameTable, Public, Reference, Weak, reference_key};
+use mufom_names::{
+    HashSeed, KeyIndex, NameIndex, NameTable, Public, Reference, Weak, reference_key,
+};
 use mufom_numbers::{Bytes, List};
 use std::alloc::Global;
 use std::process::Abort;
@@ -64,7 +66,7 @@ static POSITIONS: [(&[u8], Option<u32>); 3] = [(b"f", Some(7)), (b"g", Some(9)),
 
 #[test]
 fn a_name_keeps_its_first_position(rt: HostRuntime) {
-    let mut index = NameIndex::new(rt.alloc());
+    let mut index = NameIndex::new(rt.alloc(), HashSeed::new());
     assert_eq!(rt; index.add(b"f", 7), Ok(None));
     assert_eq!(rt; index.add(b"f", 9), Ok(Some(7)));
     assert_eq!(rt; index.add(b"g", 9), Ok(None));
@@ -91,7 +93,7 @@ const WEAK: Weak = Weak {
 #[test]
 fn equal_references_have_one_position(rt: HostRuntime) {
     let alloc = rt.alloc();
-    let mut index = KeyIndex::new(alloc);
+    let mut index = KeyIndex::new(alloc, HashSeed::new());
     assert_eq!(rt; index.add(key(&rt, alloc, None), 0), Ok(None));
     assert_eq!(rt; index.add(key(&rt, alloc, Some(WEAK)), 1), Ok(None));
     assert_eq!(rt; index.add(key(&rt, alloc, None), 2), Ok(Some(0)));

@@ -10,6 +10,7 @@ ghost use Rattle.mufom_place.specs.Entries.{entry_for};
 
 use crate::PlaceRefusal;
 use crate::site::Waiting;
+use mufom_names::HashSeed;
 use mufom_numbers::{Bytes, List, NoMemory};
 use mufom_plan::{NameList, Plan};
 use mufom_sections::Section;
@@ -26,12 +27,28 @@ fn add_names(index: &mut NameList, names: &[Bytes]) -> Result<(), NoMemory>
     Ok(())
 }
 
+/// Draws the seed of an index from the names of a region's list.
+fn add_to_seed(seed: &mut HashSeed, names: &[Bytes]) {
+    for name in names {
+        seed.add_name(name.as_slice());
+    }
+}
+
+/// The seed of an index of the section names of all lists.
+fn seed_of_entries(plan: &Plan) -> HashSeed {
+    let mut seed = HashSeed::new();
+    for region in plan.regions.as_slice() {
+        add_to_seed(&mut seed, region.sections.as_slice());
+    }
+    seed
+}
+
 /// The section names of all lists, in order.
 pub fn index_of_entries(alloc: Global, plan: &Plan) -> Result<NameList, NoMemory>
     requires { AreDistinctNames (listed_names plan.now.regions) }
     ensures { IfOk result (λ index. index ≡ listed_names plan.now.regions) }
 {
-    let mut index = NameList::new(alloc);
+    let mut index = NameList::new(alloc, seed_of_entries(plan));
     for region in plan.regions.as_slice() {
         add_names(&mut index, region.sections.as_slice())?;
     }

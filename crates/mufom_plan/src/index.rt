@@ -1,4 +1,5 @@
 use indexmap::IndexSet;
+use mufom_names::HashSeed;
 use mufom_numbers::NoMemory;
 use std::alloc::Global;
 use std::marker::Model;
@@ -8,7 +9,7 @@ use std::marker::Model;
 /// Contracts see the list of the names.
 pub struct NameList {
     alloc: Global,
-    names: IndexSet<Vec<u8>>,
+    names: IndexSet<Vec<u8>, HashSeed>,
 }
 
 // Written out so that whoever drops one makes one call: see "Drops" in docs/ARCHITECTURE.md.
@@ -31,13 +32,13 @@ impl NameList {
     ghost use Rattle.std.specs.Str.{bytes_eq};
     ghost use Rattle.mufom_plan.specs.Names.{has_name};
 
-    /// No names. Keeps the allocator.
-    pub fn new(alloc: Global) -> NameList
+    /// No names. Keeps the allocator, and hashes from this seed.
+    pub fn new(alloc: Global, seed: HashSeed) -> NameList
         ensures { result ≡ [] }
     {
         NameList {
             alloc,
-            names: IndexSet::new(alloc),
+            names: IndexSet::with_hasher(alloc, seed),
         }
     }
 

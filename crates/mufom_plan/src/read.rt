@@ -9,6 +9,7 @@ ghost use Rattle.mufom_plan.specs.PlanText.{plan_of_document, plan_of_text, regi
 use crate::document::{all_tables, document, has_plan_keys, items_of};
 use crate::region::{region, value_at};
 use crate::{NameList, Plan, PlanField, PlanRefusal, Region};
+use mufom_names::HashSeed;
 use mufom_numbers::List;
 use std::alloc::Global;
 use toml::{Table, Value};
@@ -22,15 +23,15 @@ const NO_REGIONS: PlanRefusal = PlanRefusal::Shape {
     field: PlanField::Region,
 };
 
-/// The regions of an array of tables.
-fn regions(alloc: Global, values: &[Value]) -> Result<List<Region>, PlanRefusal>
+/// The regions of an array of tables. Their names are hashed from this seed.
+fn regions(alloc: Global, seed: HashSeed, values: &[Value]) -> Result<List<Region>, PlanRefusal>
     requires { length values.now < 2 ^ 32 }
     ensures ok { IfOk result (λ regions. regions_of [] (map view values.now) ≡ Ok regions) }
     ensures refused { IfErr result (λ refusal. refusal ≢ PlanRefusal.NoMemory → regions_of [] (map view values.now) ≡ Err refusal) }
     ensures count { IfOk result (λ regions. length regions ≡ length values.now) }
 {
-    let mut names = NameList::new(alloc);
-    let mut listed = NameList::new(alloc);
+    let mut names = NameList::new(alloc, seed);
+    let mut listed = NameList::new(alloc, seed);
     let mut common = false;
     let mut regions = List::new(alloc);
     for (place, value) in values.iter().enumerate() {
@@ -44,8 +45,12 @@ fn regions(alloc: Global, values: &[Value]) -> Result<List<Region>, PlanRefusal>
     Ok(regions)
 }
 
-/// The regions at the key `region`.
-fn regions_of_value(alloc: Global, value: Option<&Value>) -> Result<List<Region>, PlanRefusal>
+/// The regions at the key `region`. Their names are hashed from this seed.
+fn regions_of_value(
+    alloc: Global,
+    seed: HashSeed,
+    value: Option<&Value>,
+) -> Result<List<Region>, PlanRefusal>
     ensures ok { IfOk result (λ regions. regions_at (option_map (λ v. view v.now) value.entry) ≡ Ok regions) }
     ensures refused { IfErr result (λ refusal. refusal ≢ PlanRefusal.NoMemory → regions_at (option_map (λ v. view v.now) value.entry) ≡ Err refusal) }
     ensures count { IfOk result (λ regions. length regions < 2 ^ 32) }
@@ -63,11 +68,11 @@ fn regions_of_value(alloc: Global, value: Option<&Value>) -> Result<List<Region>
     if values.len() > u32::MAX as usize {
         return Err(PlanRefusal::NoMemory);
     }
-    regions(alloc, values)
+    regions(alloc, seed, values)
 }
 
-/// The plan of a document.
-fn plan(alloc: Global, document: &Table) -> Result<Plan, PlanRefusal>
+/// The plan of a document. Its names are hashed from this seed.
+fn plan(alloc: Global, seed: HashSeed, document: &Table) -> Result<Plan, PlanRefusal>
     ensures ok { IfOk result (λ plan. plan_of_document (table_view document.now) ≡ Ok plan) }
     ensures refused { IfErr result (λ refusal. refusal ≢ PlanRefusal.NoMemory → plan_of_document (table_view document.now) ≡ Err refusal) }
     ensures count { IfOk result (λ plan. length plan.regions < 2 ^ 32) }
@@ -78,7 +83,7 @@ fn plan(alloc: Global, document: &Table) -> Result<Plan, PlanRefusal>
             field: PlanField::Extra,
         });
     }
-    let regions = regions_of_value(alloc, value_at(document, "region"))?;
+    let regions = regions_of_value(alloc, seed, value_at(document, "region"))?;
     Ok(Plan { regions })
 }
 
@@ -104,5 +109,7 @@ pub fn read_plan(alloc: Global, text: &[u8]) -> Result<Plan, PlanRefusal>
         return Err(PlanRefusal::TooLong);
     }
     let document = document(alloc, text)?;
-    plan(alloc, &document)
+    let mut seed = HashSeed::new();
+    seed.add_name(text);
+    plan(alloc, seed, &document)
 }

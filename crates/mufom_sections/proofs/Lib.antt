@@ -1,3 +1,4 @@
 pub mod PlacesLemmas
 pub mod RowLemmas
+pub mod ScatteredLemmas
 pub mod TableLemmas

@@ -1,11 +1,13 @@
 -- A table of indexes as it is kept, a row and others behind it, and what its answers say.
-use Rattle.std.proofs.Common.{◌≡◌, ◌+◌, ◌-◌, ◌^◌, ◌<◌, ◌==◌, ℕ, List, [], ◌∷◌, ◌++◌, length, Bool, true, false, nat_eq, position, Some, is_some, Contains, refl, sym, ap, ◌∙◌, true≢false, append_assoc, arith}
+use Rattle.std.proofs.Common.{◌≡◌, ◌+◌, ◌-◌, ◌^◌, ◌<◌, ◌==◌, ℕ, List, [], ◌∷◌, ◌++◌, length, Bool, true, false, ◌||◌, Option, nat_eq, position, Some, is_some, Contains, refl, sym, ap, ◌∙◌, true≢false, append_assoc, arith}
 use Rattle.std.specs.Cmp.{nat_eq_equiv}
 use Rattle.std.specs.List.{list_any, IsDistinct}
-use Rattle.std.proofs.lemmas.List.{append-nil, length_push}
+use Rattle.std.proofs.lemmas.Bool.{eqb-true}
+use Rattle.std.proofs.lemmas.List.{append-nil, length_push, nil_from_length}
+use Rattle.std.proofs.lemmas.List.Folds.{list_any-append}
 use Rattle.std.proofs.lemmas.Map.Keys.{IsDistinct-push}
 use Rattle.std.proofs.lemmas.Map.Views.{list_any-from_Contains}
-use Rattle.mufom_sections.proofs.PlacesLemmas.{Contains-from_test, position-absent, neither}
+use Rattle.mufom_sections.proofs.PlacesLemmas.{Contains-from_test, position-found, position-absent, neither}
 
 -- a number that no test finds is not in the list
 pub lacks : (k : ℕ) (ks : List ℕ) → list_any (nat_eq k) ks ≡ false → Contains ks k → ⊥
@@ -45,3 +47,25 @@ is_declared k place ks at = by_case (list_any (nat_eq k) ks) refl where
   by_case : (b : Bool) → list_any (nat_eq k) ks ≡ b → Contains ks k
   by_case true some = Contains-from_test k ks some
   by_case false none = absurd (true≢false (sym (ap is_some (sym (position-absent (nat_eq k) ks none) ∙ at))))
+
+-- an index that has no position is not in the list
+pub undeclared : (k : ℕ) (ks : List ℕ) (found : Option ℕ) → found ≡ position (λ other. other == k) ks → is_some found ≡ false
+    → list_any (nat_eq k) ks ≡ false
+undeclared k ks found at none = sym (position-found (nat_eq k) ks) ∙ ap is_some (position-flipped k ks ∙ sym at) ∙ none
+
+-- and so not behind the row
+pub others_lack : (k : ℕ) (row others ks : List ℕ) → list_any (nat_eq k) ks ≡ false → row ++ others ≡ ks → list_any (nat_eq k) others ≡ false
+others_lack k row others ks none is =
+    second (list_any (nat_eq k) row) (list_any (nat_eq k) others) (sym (list_any-append (nat_eq k) row others) ∙ ap (list_any (nat_eq k)) is ∙ none) where
+      second : (a b : Bool) → (a || b) ≡ false → b ≡ false
+      second true b h = absurd (true≢false h)
+      second false b h = h
+
+-- a list that is found to be empty
+pub is_nothing : (ks : List ℕ) (empty : Bool) → empty ≡ (length ks == 0) → empty ≡ true → ks ≡ []
+is_nothing ks empty is none = nil_from_length ks (eqb-true (length ks) 0 (sym is ∙ none))
+
+-- a table without indexes is in order
+pub empty_table : (ks : List ℕ) → ks ≡ [] → (length ks < 2 ^ 32) × IsDistinct nat_eq ks
+unfolding IsDistinct
+empty_table ks none = rw none (omega arith, tt)

@@ -2,7 +2,7 @@ ghost use Rattle.std.specs.Prelude.{◌≡◌, ◌+◌, ◌-◌, ◌^◌, ◌<�
 ghost use Rattle.std.specs.List.{IsDistinct};
 
 use crate::row::Row;
-use indexmap::IndexSet;
+use crate::scattered::Scattered;
 use std::alloc::Global;
 use std::marker::Model;
 use thiserror::Error;
@@ -19,13 +19,14 @@ pub enum AddFault {
 /// The indexes that a file gives to its entries, in the order of their declarations. Contracts see
 /// it as the list of these indexes, and none stands twice.
 ///
-/// Files mostly declare indexes in a row, as 1, 2, 3. The table keeps such a row as two numbers, and
-/// hashes only the indexes from the first that does not continue it.
+/// Files mostly declare indexes in a row, as 1, 2, 3. The table keeps such a row as two numbers. The
+/// indexes from the first that does not continue it are in an ordered map, so that the time of an
+/// `add` and a `position` goes by the logarithm of their count, whichever indexes a file declares.
 #[derive(Debug)]
 pub struct IndexTable {
     row: Row,
     // Those after the row.
-    others: IndexSet<u32>,
+    others: Scattered,
 }
 
 impl Model for IndexTable {
@@ -34,9 +35,9 @@ impl Model for IndexTable {
 
     ghost Value = { List ℕ };
 
-    ghost view = { λ table. table.row ++ table.others.keys };
+    ghost view = { λ table. table.row ++ table.others };
 
-    ghost invariant = { λ table. (length (table.row ++ table.others.keys) < 2 ^ 32) × IsDistinct nat_eq (table.row ++ table.others.keys) };
+    ghost invariant = { λ table. (length (table.row ++ table.others) < 2 ^ 32) × IsDistinct nat_eq (table.row ++ table.others) };
 }
 
 // Written out so that whoever drops one makes one call: see "Drops" in docs/ARCHITECTURE.md.
@@ -53,7 +54,7 @@ impl IndexTable {
     {
         IndexTable {
             row: Row::new(),
-            others: IndexSet::new(alloc),
+            others: Scattered::new(alloc),
         }
     }
 
@@ -74,16 +75,13 @@ impl IndexTable {
                 return Ok(place);
             }
         }
-        if self.row.position(index).is_some() {
+        if self.position(index).is_some() {
             return Err(AddFault::Duplicate);
         }
-        let Ok((place, is_new)) = self.others.insert_full(index) else {
+        let Ok(place) = self.others.add(index) else {
             return Err(AddFault::NoMemory);
         };
-        if !is_new {
-            return Err(AddFault::Duplicate);
-        }
-        Ok(self.row.len() + place as u32)
+        Ok(self.row.len() + place)
     }
 
     /// The position of an index, from 0, and `None` where it is not declared. Takes no memory.
@@ -97,7 +95,7 @@ impl IndexTable {
         if let Some(place) = self.row.position(index) {
             return Some(place);
         }
-        let place = self.others.get_index_of(&index)?;
-        Some(self.row.len() + place as u32)
+        let place = self.others.position(index)?;
+        Some(self.row.len() + place)
     }
 }

@@ -5,7 +5,7 @@ ghost use Rattle.mufom_meaning.specs.Flat.{public_names};
 ghost use Rattle.mufom_select.specs.Choice.{with_publics, with_providers};
 
 use mufom_module::Module;
-use mufom_names::{NameIndex, Public};
+use mufom_names::{HashSeed, NameIndex, Public};
 use mufom_numbers::NoMemory;
 use std::alloc::Global;
 
@@ -28,7 +28,9 @@ pub(crate) fn defined<'a>(alloc: Global, roots: &'a Module) -> Result<NameIndex<
     ensures { IfOk result (λ index. index ≡ with_publics [] 0 roots.now.names.publics) }
 {
     let publics = roots.parts().names.publics.as_slice();
-    let mut index = NameIndex::with_capacity(alloc, publics.len())?;
+    let mut seed = HashSeed::new();
+    seed.add_publics(publics);
+    let mut index = NameIndex::with_capacity(alloc, seed, publics.len())?;
     add_publics(&mut index, 0, publics)?;
     Ok(index)
 }
@@ -44,12 +46,22 @@ fn public_count(modules: &[Module]) -> usize
     count
 }
 
+// The seed of an index of the public names of the members.
+fn seed_of(members: &[Module]) -> HashSeed {
+    let mut seed = HashSeed::new();
+    for module in members {
+        seed.add_publics(module.parts().names.publics.as_slice());
+    }
+    seed
+}
+
 // Each name that a member defines, with the first such member.
 pub(crate) fn providers<'a>(alloc: Global, members: &'a [Module]) -> Result<NameIndex<'a>, NoMemory>
     requires { length members.now < 2 ^ 32 }
     ensures { IfOk result (λ index. index ≡ with_providers [] 0 members.now) }
 {
-    let mut index = NameIndex::with_capacity(alloc, public_count(members))?;
+    let seed = seed_of(members);
+    let mut index = NameIndex::with_capacity(alloc, seed, public_count(members))?;
     for position in 0..members.len() {
         let publics = members[position].parts().names.publics.as_slice();
         add_publics(&mut index, position as u32, publics)?;

@@ -28,43 +28,43 @@ nowhere k row others ks none none_more is =
 
 pub returns-in-Some-clause-declared : goal.returns-in-Some-clause-declared
 returns-in-Some-clause-declared c =
-    let at = in_row c.args.index c.in-Some.place c.self.inside.row c.self.inside.others.keys c.args.self.now c.in-Some.ensures c.self.view_is in
+    let at = in_row c.args.index c.in-Some.place c.self.inside.row c.self.inside.others c.args.self.now c.in-Some.ensures c.self.view_is in
     (λ _. is_declared c.args.index c.in-Some.place c.args.self.now at, λ _. refl)
 
 pub returns-in-Some-clause-there : goal.returns-in-Some-clause-there
 returns-in-Some-clause-there c =
-    let at = in_row c.args.index c.in-Some.place c.self.inside.row c.self.inside.others.keys c.args.self.now c.in-Some.ensures c.self.view_is in
+    let at = in_row c.args.index c.in-Some.place c.self.inside.row c.self.inside.others c.args.self.now c.in-Some.ensures c.self.view_is in
     slice_get-position c.args.index c.in-Some.place c.args.self.now at
 
 pub returns-in-Some-clause-value : goal.returns-in-Some-clause-value
 returns-in-Some-clause-value c =
-    let at = in_row c.args.index c.in-Some.place c.self.inside.row c.self.inside.others.keys c.args.self.now c.in-Some.ensures c.self.view_is in
+    let at = in_row c.args.index c.in-Some.place c.self.inside.row c.self.inside.others c.args.self.now c.in-Some.ensures c.self.view_is in
     sym at ∙ position-flipped c.args.index c.args.self.now
 
 pub returns-in_err-place-clause-declared : goal.returns-in_err-place-clause-declared
 returns-in_err-place-clause-declared c =
-    let none = nowhere c.args.index c.self.inside.row c.self.inside.others.keys c.args.self.now c.in_default.ensures c.in_err-place.ensures.index c.self.view_is in
+    let none = nowhere c.args.index c.self.inside.row c.self.inside.others c.args.self.now c.in_default.ensures c.in_err-place.ensures c.self.view_is in
     rw c.from_residual.ensures (λ some. absurd (true≢false (sym some)), λ has. absurd (lacks c.args.index c.args.self.now none has))
 
 pub returns-in_err-place-clause-value : goal.returns-in_err-place-clause-value
 returns-in_err-place-clause-value c =
-    let none = nowhere c.args.index c.self.inside.row c.self.inside.others.keys c.args.self.now c.in_default.ensures c.in_err-place.ensures.index c.self.view_is in
+    let none = nowhere c.args.index c.self.inside.row c.self.inside.others c.args.self.now c.in_default.ensures c.in_err-place.ensures c.self.view_is in
     c.from_residual.ensures ∙ sym (position-absent (nat_eq c.args.index) c.args.self.now none) ∙ position-flipped c.args.index c.args.self.now
 
 pub returns-clause-declared : goal.returns-clause-declared
 returns-clause-declared c =
-    let at = behind_row c.args.index c.in_ok-place.place c.len.result c.self.inside.row c.self.inside.others.keys c.args.self.now
-    c.in_default.ensures c.in_ok-place.ensures.index c.len.ensures c.self.view_is in
+    let at = behind_row c.args.index c.in_ok-place.place c.len.result c.self.inside.row c.self.inside.others c.args.self.now
+    c.in_default.ensures c.in_ok-place.ensures c.len.ensures c.self.view_is in
     (λ _. is_declared c.args.index (c.len.result + c.in_ok-place.place) c.args.self.now at, λ _. refl)
 
 pub returns-clause-there : goal.returns-clause-there
 returns-clause-there c =
-    let at = behind_row c.args.index c.in_ok-place.place c.len.result c.self.inside.row c.self.inside.others.keys c.args.self.now
-    c.in_default.ensures c.in_ok-place.ensures.index c.len.ensures c.self.view_is in
+    let at = behind_row c.args.index c.in_ok-place.place c.len.result c.self.inside.row c.self.inside.others c.args.self.now
+    c.in_default.ensures c.in_ok-place.ensures c.len.ensures c.self.view_is in
     slice_get-position c.args.index (c.len.result + c.in_ok-place.place) c.args.self.now at
 
 pub returns-clause-value : goal.returns-clause-value
 returns-clause-value c =
-    let at = behind_row c.args.index c.in_ok-place.place c.len.result c.self.inside.row c.self.inside.others.keys c.args.self.now
-    c.in_default.ensures c.in_ok-place.ensures.index c.len.ensures c.self.view_is in
+    let at = behind_row c.args.index c.in_ok-place.place c.len.result c.self.inside.row c.self.inside.others c.args.self.now
+    c.in_default.ensures c.in_ok-place.ensures c.len.ensures c.self.view_is in
     sym at ∙ position-flipped c.args.index c.args.self.now

@@ -1,0 +1,136 @@
+"""Large inputs that somebody chose to take long: try_files.py --hostile makes them and times the program.
+
+Each kind answers its files and its command lines, each line with the status that it must end with.
+"""
+
+import random
+
+PLAN = '[[region]]\nname = "all"\nbase = 4096\nsize = 1073741824\nsections = ["*"]\ncommon = true\n'
+# The hasher that tables use unless they are given another: it multiplies the words of a text, each xor its
+# state or this number. A word that is this number makes 0 of whatever stands before it.
+MULTIPLIER = 0x9E37_79B9_7F4A_7C15
+
+
+def number(value):
+    if value < 0x80:
+        return bytes([value])
+    body = value.to_bytes((value.bit_length() + 7) // 8, "big")
+    return bytes([0x80 + len(body)]) + body
+
+
+def ident(text):
+    return (bytes([len(text)]) if len(text) < 0x80 else b"\xDE" + bytes([len(text)])) + text
+
+
+def file_of(name, sections=b"", externals=b"", debug=b"", data=b""):
+    head, offsets = b"\xE0" + ident(b"68000") + ident(name) + b"\xEC\x08\x04\xCD", []
+    parts, place = [b"", b"", sections, externals, debug, data, b""], len(head) + 64
+    for part in parts:
+        offsets.append(place if part else 0)
+        place += len(part)
+    offsets.append(place)
+    for at, offset in enumerate(offsets):
+        head += b"\xE2\xD7" + bytes([at]) + b"\x84" + offset.to_bytes(4, "big")
+    return head + b"".join(parts) + b"\xE1"
+
+
+def public(index, name, value):
+    return b"\xE8" + number(index) + ident(name) + b"\xE2\xC9" + number(index) + value
+
+
+def reference(index, name):
+    return b"\xE9" + number(index) + ident(name)
+
+
+def weak(index, size):
+    return b"\xF4" + number(index) + number(size)
+
+
+def collides(at):
+    """A name that the default hasher takes to the same hash for each number."""
+    return b"%08d" % at + MULTIPLIER.to_bytes(8, "little") + b"together"
+
+
+def colliding_publics():
+    parts = [public(32 + at, collides(at), number(at)) for at in range(200_000)]
+    return {"m": file_of(b"m", externals=b"".join(parts))}, [("check m", 0), ("link -o out m", 0), ("locate -o out m", 0)]
+
+
+def colliding_references():
+    """References that no module meets, and so each is kept once; located they are commons."""
+    parts = [reference(11 + at, collides(at)) + weak(11 + at, 4) for at in range(100_000)]
+    return {"m": file_of(b"m", externals=b"".join(parts)), "p": PLAN.encode()}, [("link -o out m m", 0), ("locate --plan p -o out m", 0)]
+
+
+def descending_indexes():
+    parts = [public(1_000_000 - at, b"n%d" % at, number(at)) for at in range(500_000)]
+    return {"m": file_of(b"m", externals=b"".join(parts))}, [("check m", 0)]
+
+
+def scattered_indexes():
+    indexes = random.Random(1).sample(range(32, 2**32), 500_000)
+    parts = [public(index, b"n%d" % at, number(at)) for at, index in enumerate(indexes)]
+    return {"m": file_of(b"m", externals=b"".join(parts))}, [("check m", 0)]
+
+
+def chain_of(count, last):
+    parts = [public(32 + at, b"p%d" % at, b"\xC9" + number(33 + at) + b"\x01\xA5") for at in range(count - 1)]
+    return file_of(b"m", externals=b"".join(parts) + public(31 + count, b"last", last))
+
+
+def chain():
+    """Each public is one more than the next."""
+    return {"m": chain_of(300_000, b"\x00")}, [("locate -o out m", 0)]
+
+
+def cycle():
+    """The last public is the first."""
+    return {"m": chain_of(300_000, b"\xC9" + number(32))}, [("locate -o out m", 1)]
+
+
+def cycles_at_the_end():
+    """A chain that leads to 100,000 pairs of publics, each of which leads to the other."""
+    parts = [public(32 + at, b"q%d" % at, b"\xC9" + number(32 + (at ^ 1))) for at in range(200_000)]
+    return {"m": file_of(b"m", externals=b"".join(parts))}, [("locate -o out m", 1)]
+
+
+def members():
+    """Each of 1,023 members is needed by the one after it in the command; each has 200 names."""
+    files = {"m0": file_of(b"m0", externals=reference(11, b"need_1"))}
+    for m in range(1, 1024):
+        own = [public(32, b"need_%d" % m, b"\x00")] + [public(32 + at, b"n_%d_%d" % (m, at), b"\x00") for at in range(1, 200)]
+        files["m%d" % m] = file_of(b"m", externals=b"".join(own) + (reference(11, b"need_%d" % (m + 1)) if m < 1023 else b""))
+    line = " ".join("m%d" % m for m in range(1023, 0, -1))
+    return files, [("link -o out m0 + " + line, 0), ("locate -o out m0 + " + line, 0)]
+
+
+def groups():
+    """Each of 64 brackets closes around the one before it, so that the links are linked again and again."""
+    files = {"m%d" % m: file_of(b"m", externals=b"".join(public(32 + at, b"n_%d_%d" % (m, at), b"\x00") for at in range(1000)))
+             for m in range(64)}
+    return files, [("link -o out " + "[ " * 64 + " ".join("m%d ]" % m for m in range(64)), 0)]
+
+
+def sections():
+    """100,000 sections in 900 regions."""
+    regions = "".join('[[region]]\nname="r%d"\nbase=%d\nsize=65536\nsections=["s%d"]\n' % (r, r << 16, r) for r in range(900))
+    parts = [b"\xE6" + number(1 + at) + b"\xC3\xD0" + ident(b"s%d" % (at % 900)) + b"\xE7" + number(1 + at) + b"\x04"
+             + b"\xE2\xD3" + number(1 + at) + b"\x04" for at in range(100_000)]
+    return {"m": file_of(b"m", sections=b"".join(parts)), "p": regions.encode()}, [("locate --plan p -o out m", 0), ("locate --plan p -o out m m", 0)]
+
+
+def long_expressions():
+    """30,000 publics whose values have 255 tokens, half of which name the public after it."""
+    parts = [public(32 + at, b"p%d" % at, (b"\xC9" + number(33 + at)) * 128 + b"\xA5" * 127) for at in range(30_000)]
+    return {"m": file_of(b"m", externals=b"".join(parts) + public(30_032, b"last", b"\x01"))}, [("check m", 0), ("locate -o out m", 0)]
+
+
+def deep_blocks():
+    """Debug blocks that stand in one another, 32 deep, again and again."""
+    begin, end = b"\xF8\x04\x00\x01f\x00\x00\x00", b"\xF9\x00"
+    blocks = (b"\xF8\x05\x00\x01c" + begin * 31 + end * 31 + b"\xF9") * 10_000
+    return {"m": file_of(b"m", debug=blocks)}, [("check m", 0), ("link -o out m m", 0)]
+
+
+KINDS = [colliding_publics, colliding_references, descending_indexes, scattered_indexes, chain, cycle, cycles_at_the_end,
+         members, groups, sections, long_expressions, deep_blocks]

@@ -1,0 +1,35 @@
+-- Where the indexes are once one more was added, as an ordered map tells and as their list tells.
+use Rattle.std.proofs.Common.{◌≡◌, ◌+◌, ℕ, List, [], ◌∷◌, ◌++◌, length, Bool, true, false, not, cond, ◌||◌, nat_eq, position, Some, refl, sym, ap, ◌∙◌, arith}
+use Rattle.std.specs.Ordering.{nat_cmp, is_eq}
+use Rattle.std.specs.List.{list_any}
+use Rattle.std.proofs.lemmas.Bool.{eqb-true}
+use Rattle.std.proofs.lemmas.Bool.Decides.{nat_tests}
+use Rattle.mufom_sections.proofs.PlacesLemmas.{position-there, position-first, position-second, position-absent, neither}
+
+-- numbers that compare as equal are those that are equal
+pub is_eq-nat_cmp : (k q : ℕ) → is_eq (nat_cmp k q) ≡ nat_eq q k
+is_eq-nat_cmp k q = grind (arith, nat_tests)
+
+-- the position of a number once another number went last
+pub position-pushed : (k q : ℕ) (ks : List ℕ) → list_any (nat_eq k) ks ≡ false
+    → cond (is_eq (nat_cmp k q)) (Some (length ks)) (position (nat_eq q) ks) ≡ position (nat_eq q) (ks ++ k ∷ [])
+position-pushed k q ks none =
+    ap (λ b. cond b (Some (length ks)) (position (nat_eq q) ks)) (is_eq-nat_cmp k q)
+    ∙ by_case (nat_eq q k) refl (list_any (nat_eq q) ks) refl where
+      last : nat_eq q k ≡ true → list_any (nat_eq q) ks ≡ false
+      last same = rw (eqb-true q k same) none
+
+      end : nat_eq q k ≡ true → position (nat_eq q) (k ∷ []) ≡ Some 0
+      end same =
+          position-there (nat_eq q) (k ∷ []) (ap (λ b. b || false) same)
+          ∙ ap (λ b. Some (cond (not b) 1 0)) same
+
+      by_case : (b : Bool) → nat_eq q k ≡ b → (there : Bool) → list_any (nat_eq q) ks ≡ there
+          → cond b (Some (length ks)) (position (nat_eq q) ks) ≡ position (nat_eq q) (ks ++ k ∷ [])
+      by_case true same there has =
+          let zero_more : length ks + 0 ≡ length ks = omega arith in
+          sym (position-second (nat_eq q) ks (k ∷ []) 0 (last same) (end same) ∙ ap Some zero_more)
+      by_case false other true has = sym (position-first (nat_eq q) ks (k ∷ []) has)
+      by_case false other false has =
+          position-absent (nat_eq q) ks has
+          ∙ sym (position-absent (nat_eq q) (ks ++ k ∷ []) (neither (nat_eq q) ks (k ∷ []) has (ap (λ b. b || false) other)))

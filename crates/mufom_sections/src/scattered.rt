@@ -1,0 +1,85 @@
+ghost use Rattle.std.specs.Prelude.{◌≡◌, ◌-◌, ◌^◌, ◌<◌, ◌==◌, [], ◌∷◌, ◌++◌, length, position, nat_eq, IfOk, OnOk, OnErr, false};
+ghost use Rattle.std.specs.List.{list_any};
+
+use mufom_numbers::NoMemory;
+use std::alloc::Global;
+use std::collections::BTreeMap;
+use std::marker::Model;
+
+/// Indexes in the order of their declarations, whatever they are, each found in an ordered map. So
+/// the time of each call goes by the logarithm of their count, also where somebody chose them to
+/// make it long. Contracts see the list of the indexes.
+#[derive(Debug)]
+pub(crate) struct Scattered {
+    indexes: Vec<u32>,
+    // The position of each of them.
+    positions: BTreeMap<u32, u32>,
+}
+
+impl Model for Scattered {
+    ghost use Rattle.std.specs.Prelude.{List, ℕ, ◌≡◌, nat_eq, position};
+    ghost use Rattle.std.specs.BTreeMap.{get};
+    ghost use Rattle.std.specs.Ordering.{nat_cmp};
+
+    ghost Value = { List ℕ };
+
+    ghost view = { λ scattered. scattered.indexes.items };
+
+    ghost invariant = { λ scattered. (k : ℕ) → get nat_cmp scattered.positions k ≡ position (nat_eq k) scattered.indexes.items };
+}
+
+// Written out so that whoever drops one makes one call: see "Drops" in docs/ARCHITECTURE.md.
+impl Drop for Scattered {
+    fn drop(self) {
+        let Scattered {
+            indexes: _,
+            positions: _,
+        } = self;
+    }
+}
+
+impl Scattered {
+    /// No indexes. Takes no memory.
+    pub(crate) fn new(alloc: Global) -> Scattered
+        ensures { result ≡ [] }
+    {
+        Scattered {
+            indexes: Vec::new(alloc),
+            positions: BTreeMap::new(alloc),
+        }
+    }
+
+    /// Whether there is no index.
+    pub(crate) fn is_empty(&self) -> bool
+        ensures { result ≡ (length self.now == 0) }
+    {
+        self.indexes.is_empty()
+    }
+
+    /// Adds an index that isn't there yet, and answers its position. Where there is no memory for it,
+    /// the indexes stay as they were.
+    pub(crate) fn add(&mut self, index: u32) -> Result<u32, NoMemory>
+        requires few { length self.old < 2 ^ 32 - 1 }
+        requires new { list_any (nat_eq index) self.old ≡ false }
+        ensures last { IfOk result (λ place. place ≡ length self.old) }
+        ensures added { OnOk result (self.new ≡ self.old ++ index ∷ []) }
+        ensures err { OnErr result (self.new ≡ self.old) }
+    {
+        let place = self.indexes.len() as u32;
+        self.indexes.push(index)?;
+        match self.positions.insert(index, place) {
+            Ok(_) => Ok(place),
+            Err(_) => {
+                self.indexes.pop();
+                Err(NoMemory)
+            }
+        }
+    }
+
+    /// The position of an index, from 0, and `None` where it isn't there. Takes no memory.
+    pub(crate) fn position(&self, index: u32) -> Option<u32>
+        ensures { result ≡ position (nat_eq index) self.now }
+    {
+        self.positions.get(&index).copied()
+    }
+}
