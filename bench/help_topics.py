@@ -1,0 +1,114 @@
+"""Checks that `help` and docs/REFUSALS.md know every name that an error line can have.
+
+    python3 bench/help_topics.py
+
+The names come from the definition of the error lines, crates/mufom_command/specs/Complaint.antt, and
+from the enums of errors; the commands come from crates/mufom_words/specs/Options.antt. Each name must
+have a topic of crates/mufom_help whose text shows its line, and a row of docs/REFUSALS.md (a paragraph
+that begins with the name will do); each command must have a topic, and a line in the list of commands.
+A topic that neither a command nor an error line has is told too. What is missing is printed, a line
+each, and the status is then 1.
+"""
+
+import glob
+import os
+import re
+import sys
+
+TOP = os.path.dirname(os.path.dirname(os.path.abspath(__file__)))
+# What goes before a name in an error line, by the definition that gives the name; else nothing is known of it.
+BEFORE = {"reason_text": "", "plan_text": "plan: ", "link_text": "link: ", "place_text": "locate: ", "locate_text": "locate: "}
+# The enums whose variants are the names of errors.
+ENUMS = ("Reason", "TxtReason", "PlanRefusal", "LinkRefusal", "PruneRefusal", "PlaceRefusal", "LocateRefusal")
+# Variants that are no names: they have no line, or only hold another error.
+NOT_NAMES = {"NoMemory", "Place"}
+# Commands that are not in the table of commands, since they read no options.
+OTHER_COMMANDS = {"help", "version"}
+
+
+def read(path):
+    with open(os.path.join(TOP, path), encoding="utf-8") as file:
+        return file.read()
+
+
+def lines_of_errors():
+    """Pairs of what goes before a name, or None, and the name."""
+    found = set()
+    for line in read("crates/mufom_command/specs/Complaint.antt").splitlines():
+        words = re.match(r"(\w+) ", line)
+        if words and line.startswith(words[1]) and "=" in line:
+            definition = words[1]
+        if line.startswith(("use ", "--", "usage_text")):
+            continue
+        for text in re.findall(r'codes "([^"]*)"', line):
+            for before, name in re.findall(r"(\b\w+: )?\b([A-Z][a-z]\w*)", text):
+                found.add((before or BEFORE.get(definition), name))
+    return found
+
+
+def variants():
+    """The names of the variants of the enums of errors that an error line is made from."""
+    found = set()
+    printed = read("crates/mufom_command/specs/Complaint.antt")
+    for path in glob.glob(os.path.join(TOP, "crates/*/src/*.rt")):
+        for enum, body in re.findall(rf"pub enum ({'|'.join(ENUMS)}) \{{\n(.*?)^\}}", read(path), re.M | re.S):
+            if f".{{{enum}}}" in printed:
+                found |= set(re.findall(r"^    ([A-Z]\w+)", body, re.M))
+    return found - NOT_NAMES
+
+
+def topics():
+    """The topics by name, and the list of commands."""
+    texts, names = {}, {}
+    for path in glob.glob(os.path.join(TOP, "crates/mufom_help/src/*.rt")):
+        source = read(path)
+        for constant, text in re.findall(r'^pub const (\w+): &str =\s*"((?:[^"\\]|\\.)*)";', source, re.M):
+            texts[path, constant] = text
+        for name, constant in re.findall(r'^        "(\w+)" => Some\((\w+)\),', source, re.M):
+            names[name] = texts[path, constant]
+    (listed,) = (text for (_, constant), text in texts.items() if constant == "LIST")
+    return names, listed
+
+
+def rows():
+    """The first cells of the rows of docs/REFUSALS.md, and the names that begin a paragraph."""
+    page = read("docs/REFUSALS.md")
+    return re.findall(r"^\| `([^`]*)`", page, re.M) + re.findall(r"^`(\w+)`", page, re.M)
+
+
+def missing():
+    known, listed = topics()
+    cells = rows()
+    errors = lines_of_errors()
+    names = {name for _, name in errors} | variants()
+    for name in sorted(names - set(known)):
+        yield f"no topic: {name}"
+    for name in sorted(names):
+        if not any(re.search(rf"\b{name}\b", cell) for cell in cells):
+            yield f"no row: {name}"
+    for before, name in sorted(errors, key=str):
+        if before and not any(re.match(rf"{before}{name}\b", cell) for cell in cells):
+            yield f"no row: {before}{name}"
+        shown = f"refused: file N at PLACE: {name}" if before == "" else f"{before or ''}{name}"
+        if name != "FileLimit" and shown not in known.get(name, shown):
+            yield f"the topic does not show its line: {shown}"
+    commands = set(re.findall(r'\bname = codes "(\w+)"', read("crates/mufom_words/specs/Options.antt"))) | OTHER_COMMANDS
+    for command in sorted(commands):
+        if command not in known:
+            yield f"no topic: {command}"
+        if not re.search(rf"^  {command}\b", listed, re.M):
+            yield f"not in the list of commands: {command}"
+    for name in sorted(set(known) - names - commands):
+        yield f"neither a command nor an error: {name}"
+
+
+def main():
+    found = list(missing())
+    for line in found:
+        print(line)
+    print(f"{len(topics()[0])} topics, {len(found)} lines above")
+    return 1 if found else 0
+
+
+if __name__ == "__main__":
+    sys.exit(main())

@@ -1,0 +1,82 @@
+-- The laws of the texts are computed, group by group.
+use Rattle.std.specs.Prelude.{◌≡◌, true, ◌++◌, ◌&&◌, List, take, drop}
+use Rattle.std.proofs.Common.{refl, ap, ◌∙◌}
+use Rattle.std.proofs.lemmas.List.Folds.{list_all-append}
+use Rattle.mufom_help.specs.Topics.{Topic, commands, records, structure, inputs, linking, locating}
+use Rattle.mufom_help.specs.Topics.{link_errors, module_errors, read_errors, errors, topics}
+use Rattle.mufom_help.specs.Pages.{are_pages, is_page, fits_a_screen, have_own_names, piece_lengths, are_ended}
+use Rattle.mufom_help.specs.declared.commands.TheConstants.{LIST}
+
+joined-pages : (a b : List Topic) → are_pages a ≡ true → are_pages b ≡ true → are_pages (a ++ b) ≡ true
+joined-pages a b p q = list_all-append is_page a b ∙ ap (λ first. first && are_pages b) p ∙ q
+
+first-commands-pages : are_pages (take 7 commands) ≡ true
+unfolding piece_lengths are_ended
+first-commands-pages = refl
+
+last-commands-pages : are_pages (drop 7 commands) ≡ true
+unfolding piece_lengths are_ended
+last-commands-pages = refl
+
+commands-pages : are_pages commands ≡ true
+commands-pages = joined-pages (take 7 commands) (drop 7 commands) first-commands-pages last-commands-pages
+
+first-records-pages : are_pages (take 7 records) ≡ true
+unfolding piece_lengths are_ended
+first-records-pages = refl
+
+last-records-pages : are_pages (drop 7 records) ≡ true
+unfolding piece_lengths are_ended
+last-records-pages = refl
+
+records-pages : are_pages records ≡ true
+records-pages = joined-pages (take 7 records) (drop 7 records) first-records-pages last-records-pages
+
+first-structure-pages : are_pages (take 7 structure) ≡ true
+unfolding piece_lengths are_ended
+first-structure-pages = refl
+
+last-structure-pages : are_pages (drop 7 structure) ≡ true
+unfolding piece_lengths are_ended
+last-structure-pages = refl
+
+structure-pages : are_pages structure ≡ true
+structure-pages = joined-pages (take 7 structure) (drop 7 structure) first-structure-pages last-structure-pages
+
+inputs-pages : are_pages inputs ≡ true
+unfolding piece_lengths are_ended
+inputs-pages = refl
+
+linking-pages : are_pages linking ≡ true
+unfolding piece_lengths are_ended
+linking-pages = refl
+
+locating-pages : are_pages locating ≡ true
+unfolding piece_lengths are_ended
+locating-pages = refl
+
+link-pages : are_pages link_errors ≡ true
+link-pages = joined-pages linking locating linking-pages locating-pages
+
+module-pages : are_pages module_errors ≡ true
+module-pages = joined-pages records structure records-pages structure-pages
+
+read-pages : are_pages read_errors ≡ true
+unfolding read_errors
+read-pages = joined-pages module_errors inputs module-pages inputs-pages
+
+error-pages : are_pages errors ≡ true
+unfolding errors
+error-pages = joined-pages read_errors link_errors read-pages link-pages
+
+pub topic-pages : are_pages topics ≡ true
+unfolding topics
+topic-pages = joined-pages commands errors commands-pages error-pages
+
+pub list-fits : fits_a_screen LIST.now ≡ true
+unfolding piece_lengths are_ended
+list-fits = refl
+
+pub own-names : have_own_names topics ≡ true
+unfolding have_own_names topics errors read_errors
+own-names = refl

@@ -1,0 +1,305 @@
+//! The commands: what each does, its options, its exit statuses and an example.
+
+ghost use Rattle.std.specs.Prelude.{◌≡◌, option_map};
+ghost use Rattle.mufom_help.specs.Topics.{commands, topic_in};
+
+/// What `help` alone prints: the commands with their forms, and how to get more.
+pub const LIST: &str = "mufom links, locates and inspects object modules of IEEE Std 695 (MUFOM).
+
+Usage: mufom COMMAND [OPTION ...] OPERAND ...
+
+Commands:
+  show [--listing] [--no-debug] FILE
+  check [--no-debug] FILE ...
+  link [--no-debug] [--name NAME] -o OUT FILES
+  locate [--no-debug] [--plan PLAN] -o OUT FILES
+  dump [--no-debug] [--plan PLAN] FILES
+  bin [--no-debug] [--plan PLAN] [--fill BYTE] -o OUT FILES
+  addr [--plan PLAN] --at ADDRESS FILES
+  make COUNT
+  help [COMMAND or NAME]
+  version
+
+FILES are files and groups, then perhaps a + and members:
+  a.695 [ b.695 c.695 ] + library.695
+A group is linked into one module first. A member is linked only if another
+module needs it.
+
+For more:
+  mufom help COMMAND   what a command does, its options and an example
+  mufom help NAME      what an error means and what to do about it; for the
+                       line `refused: locate: Misfit section 3 region 0`
+                       that is `mufom help Misfit`
+";
+
+/// The text of `help show`.
+pub const SHOW: &str = "show: prints one module as text
+
+Usage: mufom show [--listing] [--no-debug] FILE
+
+Prints the sections, public symbols, references, debug items, loads and start
+address of a module, one line for each. Numbers are decimal, and entries are
+numbered from 0. In an expression, R0 is the base of section 0, I0 the value
+of public symbol 0, and X0 that of reference 0.
+
+Options:
+  --listing    print all of the module: the bytes of the extension and
+               environment parts, and a line `end` after a repeat
+  --no-debug   skip the debug part without reading it
+  --           end the options; what follows is the name of a file
+
+Exit status:
+  0 done, 1 refused, 2 usage, 3 read fault, 4 write fault, 5 out of memory
+
+Example:
+  mufom show a.695
+";
+
+/// The text of `help check`.
+pub const CHECK: &str = "check: finds out whether files are modules that mufom reads
+
+Usage: mufom check [--no-debug] FILE ...
+
+Reads all files, up to 1,024 of them, and then prints a line for each:
+  file N NAME: sections A publics B references C loads D debug E
+N is the number of the file, from 0, and NAME the name of the module in it. If
+a file is refused, no line is printed, and the error names the first byte that
+is wrong.
+
+Options:
+  --no-debug   skip the debug parts without reading them; errors in them are
+               not found
+  --           end the options; what follows are names of files
+
+Exit status:
+  0 done, 1 refused, 2 usage, 3 read fault, 4 write fault, 5 out of memory
+
+Example:
+  mufom check a.695 program.695 library.695
+";
+
+/// The text of `help link`.
+pub const LINK: &str = "link: links modules into one module
+
+Usage: mufom link [--no-debug] [--name NAME] -o OUT FILES
+
+Writes one module to OUT that replaces its inputs in every later link. A
+reference to a name that one of the modules defines becomes that public
+symbol; the other references stay. Nothing is located. OUT is created only if
+the whole link succeeds.
+
+FILES are files and groups, then perhaps a + and members:
+  a.695 [ b.695 c.695 ] + library.695
+A group is linked into one module first. A member is linked only if there is a
+strong reference to a name that no file before the + defines and that this
+member is the first member to define.
+
+Options:
+  --no-debug    skip the debug parts without reading them
+  --name NAME   name the linked module NAME, in place of the name of the first
+                module; at most 65,535 bytes
+  -o OUT        the file to write; required
+  --            end the options; brackets and + keep their meaning
+
+Exit status:
+  0 done, 1 refused, 2 usage, 3 read fault, 4 write fault (a part of OUT may
+  remain), 5 out of memory
+
+Example:
+  mufom link -o part.695 program.695 + library.695
+";
+
+/// The text of `help locate`.
+pub const LOCATE: &str =
+    "locate: links modules, places their sections, and writes the absolute module
+
+Usage: mufom locate [--no-debug] [--plan PLAN] -o OUT FILES
+
+Links FILES as `link` does, places the sections by a memory plan, and writes
+the absolute module to OUT: every section has its base address and every
+expression is its value. OUT is created only if the whole run succeeds.
+Without --plan, every section needs a base address of its own.
+
+FILES are files and groups, then perhaps a + and members:
+  a.695 [ b.695 c.695 ] + library.695
+A group is linked into one module first. A member is linked only if another
+module needs it.
+
+Options:
+  --no-debug    skip the debug parts without reading them
+  --plan PLAN   the file of the memory plan, a TOML document
+  -o OUT        the file to write; required
+  --            end the options; brackets and + keep their meaning
+
+Exit status:
+  0 done, 1 refused, 2 usage, 3 read fault, 4 write fault (a part of OUT may
+  remain), 5 out of memory
+
+Example:
+  mufom locate --plan plan.toml -o board.695 program.695 + library.695
+with this plan.toml:
+  [[region]]
+  name = \"rom\"
+  base = 0x2000
+  size = 256
+  sections = [\"*\"]
+";
+
+/// The text of `help dump`.
+pub const DUMP: &str = "dump: links and locates modules, and prints the image
+
+Usage: mufom dump [--no-debug] [--plan PLAN] FILES
+
+Links and locates FILES as `locate` does, and prints the loaded bytes by
+address, then the start address, the public symbols and the debug addresses.
+Addresses and bytes are hexadecimal. No file is written.
+
+FILES are files and groups, then perhaps a + and members:
+  a.695 [ b.695 c.695 ] + library.695
+A group is linked into one module first. A member is linked only if another
+module needs it.
+
+Options:
+  --no-debug    skip the debug parts without reading them
+  --plan PLAN   the file of the memory plan, a TOML document
+  --            end the options; brackets and + keep their meaning
+
+Exit status:
+  0 done, 1 refused, 2 usage, 3 read fault, 4 write fault, 5 out of memory
+
+Example:
+  mufom dump --plan plan.toml program.695 + library.695
+";
+
+/// The text of `help bin`.
+pub const BIN: &str = "bin: links and locates modules, and writes the image as raw bytes
+
+Usage: mufom bin [--no-debug] [--plan PLAN] [--fill BYTE] -o OUT FILES
+
+Links and locates FILES as `locate` does. OUT gets one byte for each address
+from the lowest loaded address to the highest: the loaded byte, or BYTE where
+nothing is loaded. If nothing is loaded at all, OUT is empty. An image that
+would be longer than 67,108,864 bytes is refused as TooLong, and OUT is not
+created.
+
+FILES are files and groups, then perhaps a + and members:
+  a.695 [ b.695 c.695 ] + library.695
+
+Options:
+  --no-debug    skip the debug parts without reading them
+  --plan PLAN   the file of the memory plan, a TOML document
+  --fill BYTE   two hexadecimal digits, as FF, for the gaps; 00 without it
+  -o OUT        the file to write; required
+  --            end the options; brackets and + keep their meaning
+
+Exit status:
+  0 done, 1 refused, 2 usage, 3 read fault, 4 write fault (a part of OUT may
+  remain), 5 out of memory
+
+Example:
+  mufom bin --plan plan.toml --fill FF -o rom.bin program.695 + library.695
+";
+
+/// The text of `help addr`.
+pub const ADDR: &str = "addr: prints the function and the source line at an address
+
+Usage: mufom addr [--plan PLAN] --at ADDRESS FILES
+
+Links and locates FILES as `dump` does, and prints what the debug items say of
+one address:
+  function KIND NAME BEGIN END   the innermost function around the address
+  line N ADDR source NAME        the nearest line at or before the address
+KIND is 4 for a global function and 6 for a local one. What is not known is
+`none`.
+
+FILES are files and groups, then perhaps a + and members:
+  a.695 [ b.695 c.695 ] + library.695
+
+Options:
+  --plan PLAN    the file of the memory plan, a TOML document
+  --at ADDRESS   the address, 1 to 16 hexadecimal digits; required
+  --             end the options; brackets and + keep their meaning
+
+Exit status:
+  0 done, 1 refused, 2 usage, 3 read fault, 4 write fault, 5 out of memory
+
+Example:
+  mufom addr --plan plan.toml --at 2004 program.695 + library.695
+";
+
+/// The text of `help make`.
+pub const MAKE: &str = "make: links and locates generated modules, to try out a machine
+
+Usage: mufom make COUNT
+
+Builds COUNT modules in memory, links them in pairs, links the results into
+one module, locates it, and prints the numbers of modules, public symbols and
+loaded bytes, and the sum of these bytes. No file is read. COUNT is 1 to
+65,536, in decimal digits.
+
+Options:
+  --   end the options; what follows is COUNT
+
+Exit status:
+  0 done, 2 usage, 4 write fault, 5 out of memory
+
+Example:
+  mufom make 1000
+";
+
+/// The text of `help help`.
+pub const HELP: &str = "help: prints the commands, or explains a command or an error
+
+Usage: mufom help [COMMAND or NAME]
+
+`mufom help` prints the list of commands. `mufom help COMMAND` prints what a
+command does, its options, its exit status and an example. `mufom help NAME`
+explains an error: NAME is the first word of the error line that begins with a
+capital letter. For the line
+  refused: locate: Misfit section 3 region 0
+that is `mufom help Misfit`. Upper and lower case differ. For a line that
+begins with `usage:`, see the help of the command.
+
+In place of `help`, `--help` or `-h` does the same. There are no options.
+
+Exit status:
+  0 done, 2 usage, 4 write fault, 5 out of memory
+
+Example:
+  mufom help link
+";
+
+/// The text of `help version`.
+pub const VERSION: &str = "version: prints the version of this program
+
+Usage: mufom version
+
+Prints `mufom` and three numbers with dots between them. In place of
+`version`, `--version` or `-V` does the same. There are no options and no
+operands.
+
+Exit status:
+  0 done, 2 usage, 4 write fault, 5 out of memory
+
+Example:
+  mufom version
+";
+
+/// The text of a command, by its name.
+pub(crate) fn command_topic(word: &str) -> Option<&'static str>
+    ensures { option_map (λ text. text.now) result ≡ topic_in commands word.now }
+{
+    match word {
+        "show" => Some(SHOW),
+        "check" => Some(CHECK),
+        "link" => Some(LINK),
+        "locate" => Some(LOCATE),
+        "dump" => Some(DUMP),
+        "bin" => Some(BIN),
+        "addr" => Some(ADDR),
+        "make" => Some(MAKE),
+        "help" => Some(HELP),
+        "version" => Some(VERSION),
+        _ => None,
+    }
+}

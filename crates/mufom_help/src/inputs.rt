@@ -1,0 +1,137 @@
+//! Errors in the list of input files, and in the memory plan.
+
+ghost use Rattle.std.specs.Prelude.{◌≡◌, option_map};
+ghost use Rattle.mufom_help.specs.Topics.{inputs, topic_in};
+
+/// The text of `help InputLimit`.
+pub const INPUT_LIMIT: &str = "InputLimit: the input files together have more than 67,108,864 bytes
+
+  refused: file N: InputLimit
+
+File N, counted from 0, is the file in which the total passes 67,108,864 bytes
+(64 MiB). A file that is named twice counts twice, and members count whether
+they are needed or not.
+
+Usual causes:
+  - The files contain large debug parts.
+  - One of the files is not an object module but, say, a disk image.
+
+What to do:
+  - Check the name of file N. Brackets and + are not counted.
+  - Link in stages: `mufom link -o part.695 ..` over some of the files, then
+    name part.695 in their place. With --no-debug the result has no debug part.
+  - Leave out members that the program does not need.
+";
+
+/// The text of `help TooManyFiles`.
+pub const TOO_MANY_FILES: &str = "TooManyFiles: more than 1,024 files are named
+
+  refused: TooManyFiles N
+
+N is the number of files that are named, members after the + included. At most
+1,024 are read in one run.
+
+Usual causes:
+  - A pattern such as *.695 matches more files than were meant.
+
+What to do:
+  - Link in stages: `mufom link -o part.695 ..` over at most 1,024 files, then
+    name part.695 in their place.
+  - Name only the members that the program may need.
+";
+
+/// The text of `help TooDeep`.
+pub const TOO_DEEP: &str = "TooDeep: more than 64 groups are open at once
+
+  refused: TooDeep N
+
+Groups of files, in brackets, may contain groups. N is the greatest number of
+groups that are open at once, and at most 64 may be.
+
+Usual causes:
+  - A script opens a group for each file and closes them all at the end.
+
+What to do:
+  - Close a group before the next one opens. Groups make no difference to what
+    is linked; they only say what is linked first.
+";
+
+/// The text of `help Syntax`.
+pub const SYNTAX: &str = "Syntax: the plan is not a TOML document
+
+  refused: plan: Syntax
+
+Usual causes:
+  - --plan names another file than was meant.
+  - A bracket, a quote, a comma or an equals sign is missing.
+  - A key is given twice in one table.
+  - A name is not in quotes, or a number is written as in C with a suffix.
+  - The file is not in UTF-8.
+
+What to do:
+  - Compare the file with this plan, which has one region:
+      [[region]]
+      name = \"rom\"
+      base = 0x2000
+      size = 256
+      sections = [\"*\"]
+  - Any other program that reads TOML names the line that is wrong.
+";
+
+/// The text of `help Shape`.
+pub const SHAPE: &str = "Shape: a key of the plan is missing, unknown, or has a wrong value
+
+  refused: plan: Shape FIELD
+  refused: plan: Shape region R FIELD
+
+R is the number of the region in the plan, from 0. FIELD is what is wrong:
+  extra      a key that a plan does not have. At the top there is only
+             `region`; a region has only the five keys below
+  region     `region` is not an array of tables: write [[region]], not [region]
+  name       missing, not a text, empty, or the name of an earlier region
+  base       missing, not an integer, or negative
+  size       missing, not an integer, or negative
+  sections   missing, not an array of texts, or it has a name that is already
+             in the plan
+  common     not true or false, or true in a second region
+
+Usual causes:
+  - A key is misspelled or missing: all five but `common` are required.
+  - A number is in quotes.
+  - A section is listed in two regions, or * is.
+
+What to do:
+  - Correct the field. A region looks like this:
+      [[region]]
+      name = \"ram\"
+      base = 0x10000
+      size = 0x8000
+      sections = [\"data\", \"*\"]
+      common = true
+";
+
+/// The text of `help Beyond`.
+pub const BEYOND: &str = "Beyond: a region is above the highest address allowed
+
+  refused: plan: Beyond region R
+    R is the number of a region in the plan, from 0. Its base plus its size is
+    above 9,223,372,036,854,775,807 (2^63 - 1). The usual cause is that `size`
+    is given as the last address, or has a digit too many. `size` is the number
+    of addressable units in the region: a region from 0x1000 to 0x1FFF has the
+    base 0x1000 and the size 0x1000.
+";
+
+/// The text of an error in the input files or the plan, by its name.
+pub(crate) fn input_topic(word: &str) -> Option<&'static str>
+    ensures { option_map (λ text. text.now) result ≡ topic_in inputs word.now }
+{
+    match word {
+        "InputLimit" => Some(INPUT_LIMIT),
+        "TooManyFiles" => Some(TOO_MANY_FILES),
+        "TooDeep" => Some(TOO_DEEP),
+        "Syntax" => Some(SYNTAX),
+        "Shape" => Some(SHAPE),
+        "Beyond" => Some(BEYOND),
+        _ => None,
+    }
+}

@@ -1,0 +1,23 @@
+//! The texts of `help`, and the version.
+//!
+//! A text is a constant of the program: at most 40 lines of at most 80 bytes, each with its line
+//! end. The crate stands on `std` alone and allocates nothing. Its main clause is that of
+//! [`topic_text`]: the text of the one command or error that has exactly the given name, and `None`
+//! for any other word.
+#![tactic(auto)]
+
+pub mod commands;
+pub mod inputs;
+mod laws;
+pub mod linking;
+pub mod locating;
+pub mod records;
+pub mod structure;
+#[cfg(test)]
+mod tests;
+mod topics;
+mod version;
+
+pub use laws::{topics_are_pages, topics_have_own_names};
+pub use topics::{command_list, topic_text};
+pub use version::{VERSION, version_line};

@@ -1,0 +1,77 @@
+//! Errors in linking, and in choosing what is kept.
+
+ghost use Rattle.std.specs.Prelude.{◌≡◌, option_map};
+ghost use Rattle.mufom_help.specs.Topics.{linking, topic_in};
+
+/// The text of `help Mismatch`.
+pub const MISMATCH: &str = "Mismatch: two modules have addresses of different kinds
+
+  refused: link: Mismatch M1 O1 M2 O2
+
+M is the number of bytes in an address, 1 to 8, and O the byte order: L if the
+least significant byte comes first, M if the most significant does. M1 and O1
+are those of the first module that is linked; M2 and O2 are those of the first
+module that differs from it.
+
+Usual causes:
+  - Modules for two processors, or for two modes of one, are linked.
+  - A library for another processor is named after the +.
+
+What to do:
+  - Look at the first line that `mufom show` prints for each file: it has
+    `maus` and `order`.
+  - Compile all modules for the same processor, or leave the module out.
+";
+
+/// The text of `help Duplicate`.
+pub const DUPLICATE: &str = "Duplicate: two public symbols have the same name
+
+  refused: link: Duplicate NAME
+
+Two modules define NAME, or one module defines it twice. In a link every public
+symbol has a name of its own. Upper and lower case differ.
+
+Usual causes:
+  - A file is named twice, or is also part of a partial link that is named.
+  - A variable is defined in a header that several sources include.
+  - A library's function was replaced by one of the program, and a member that
+    defines it too is needed for another name.
+
+What to do:
+  - Find the modules: `mufom show FILE` prints a line `public N NAME` for each
+    public symbol.
+  - Remove one of the definitions, make it local to its module, or rename it.
+  - Put a library after the +. Its modules are then linked only if they are
+    needed.
+";
+
+/// The text of `help DuplicateStart`.
+pub const DUPLICATE_START: &str = "DuplicateStart: two modules have a start address
+
+  refused: link: DuplicateStart
+
+A link has one start address at most.
+
+Usual causes:
+  - Two main programs are linked, or a startup module and a main program that
+    has a start address of its own.
+  - A file is named twice, or is also part of a partial link that is named.
+
+What to do:
+  - Find the modules: the last line that `mufom show FILE` prints begins with
+    `start`.
+  - Remove the start address in all sources but one: it is usually the operand
+    of the assembler's END.
+";
+
+/// The text of an error in linking, by its name.
+pub(crate) fn linking_topic(word: &str) -> Option<&'static str>
+    ensures { option_map (λ text. text.now) result ≡ topic_in linking word.now }
+{
+    match word {
+        "Mismatch" => Some(MISMATCH),
+        "Duplicate" => Some(DUPLICATE),
+        "DuplicateStart" => Some(DUPLICATE_START),
+        _ => None,
+    }
+}

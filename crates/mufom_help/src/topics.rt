@@ -1,0 +1,54 @@
+//! The topics by their names, and the list of commands.
+
+ghost use Rattle.std.specs.Prelude.{◌≡◌, option_map};
+ghost use Rattle.mufom_help.specs.Topics.{errors, link_errors, module_errors, read_errors, topic_in, topics};
+ghost use Rattle.mufom_help.specs.declared.commands.TheConstants.{LIST};
+
+use crate::commands::{LIST, command_topic};
+use crate::inputs::input_topic;
+use crate::linking::linking_topic;
+use crate::locating::locating_topic;
+use crate::records::record_topic;
+use crate::structure::structure_topic;
+
+/// What `help` alone prints: a line for each command with its form, and how to get more.
+pub fn command_list() -> &'static str
+    ensures { result.now ≡ LIST.now }
+{
+    LIST
+}
+
+/// What `help` prints for a word: the text of the command or of the error that has this name,
+/// letter by letter, or `None` if there is none.
+#[tactic(auto, using(crate::proofs::Appended::topic_append), unfolding(crate::specs::Topics::topics))]
+pub fn topic_text(word: &str) -> Option<&'static str>
+    ensures { option_map (λ text. text.now) result ≡ topic_in topics word.now }
+{
+    command_topic(word).or_else(|| error_topic(word))
+}
+
+#[tactic(auto, using(crate::proofs::Appended::topic_append), unfolding(crate::specs::Topics::errors))]
+fn error_topic(word: &str) -> Option<&'static str>
+    ensures { option_map (λ text. text.now) result ≡ topic_in errors word.now }
+{
+    read_error(word).or_else(|| link_error(word))
+}
+
+#[tactic(auto, using(crate::proofs::Appended::topic_append), unfolding(crate::specs::Topics::read_errors))]
+fn read_error(word: &str) -> Option<&'static str>
+    ensures { option_map (λ text. text.now) result ≡ topic_in read_errors word.now }
+{
+    module_error(word).or_else(|| input_topic(word))
+}
+
+fn module_error(word: &str) -> Option<&'static str>
+    ensures { option_map (λ text. text.now) result ≡ topic_in module_errors word.now }
+{
+    record_topic(word).or_else(|| structure_topic(word))
+}
+
+fn link_error(word: &str) -> Option<&'static str>
+    ensures { option_map (λ text. text.now) result ≡ topic_in link_errors word.now }
+{
+    linking_topic(word).or_else(|| locating_topic(word))
+}
