@@ -1,0 +1,5 @@
+pub mod EntriesLemmas
+pub mod GreatestLaws
+pub mod ItemLaws
+mod Rows
+pub mod SearchLaws

@@ -1,0 +1,4 @@
+pub mod Entries
+pub mod Greatest
+pub mod AddressHit
+pub mod Search
