@@ -1,12 +1,12 @@
 -- Locating accepted files is done exactly where no fact stands against their flat list.
-use Rattle.std.proofs.Common.{◌≡◌, ◌≢◌, ◌↔◌, ℕ, zero, suc, ◌≤◌, Bool, false, List, [], ◌∷◌, ◌++◌, length, not, Option, Some, None, Result, Ok, IsSome, refl, sym, ap, subst, arith}
+use Rattle.std.proofs.Common.{◌≡◌, ◌≢◌, ◌↔◌, ℕ, zero, suc, ◌≤◌, Bool, cond, false, true, nat_lt, List, [], ◌∷◌, ◌++◌, length, not, Option, Some, None, Result, Ok, IsSome, refl, sym, ap, subst, arith}
 use Rattle.mufom_host.specs.World.{HoldBytes, NamedFile}
 use Rattle.mufom_words.specs.declared.command.Command.{Command}
 use Rattle.mufom_words.specs.declared.command.Verb.{Verb}
 use Rattle.mufom_words.specs.declared.command.Verb.TheVariants as verb
 use Rattle.mufom_words.specs.declared.stop.WordsStop.{WordsStop}
 use Rattle.mufom_words.specs.Answer.{answer_of}
-use Rattle.mufom_words.specs.Options.{makes_file, makes_modules}
+use Rattle.mufom_words.specs.Options.{makes_file, reads_files}
 use Rattle.mufom_words.specs.Sound.{IsSound, numbers_from}
 use Rattle.mufom_words.specs.Tree.{leaves, tree_of}
 use Rattle.mufom_words.proofs.Sound.{words-sound}
@@ -19,23 +19,29 @@ use Rattle.mufom_meaning.specs.Absolute.{absolute_of}
 use Rattle.mufom_meaning.specs.Facts.{LocateFact}
 use Rattle.mufom_meaning.specs.LinkAnswer.{link_answer}
 use Rattle.mufom_meaning.specs.LocateAnswer.{locate_answer}
+use Rattle.mufom_meaning.specs.Location.{IsLocation}
+use Rattle.mufom_numbers.specs.declared.limits.TheConstants.{MOST_FILE_BYTES}
+use Rattle.mufom_addr.specs.AddressHit.{hit_at}
+use Rattle.mufom_write.specs.Raw.{raw_image}
+use Rattle.mufom_command.specs.Text.{hit_text}
+use Rattle.std.proofs.lemmas.Bool.{ltb-true}
 use Rattle.mufom_meaning.specs.Selection.{members_at}
 use Rattle.mufom_meaning.specs.Staging.{AreValid}
 use Rattle.mufom_meaning.proofs.facts.AllAnswers.{answers_are_facts}
 use Rattle.mufom_meaning.proofs.facts.LinkFacts.{link_facts_grow}
 use Rattle.mufom_meaning.proofs.locations.Exists.{locations_exist}
 use Rattle.mufom_groups.specs.Linked.{IsFlatList, linked, members, roots}
-use Rattle.mufom_groups.specs.Work.{gives, Work, ◌>>=◌, with_stops}
+use Rattle.mufom_groups.specs.Work.{gives, Work, ◌>>=◌, stop_at, with_stops}
 use Rattle.mufom_groups.proofs.GroupsAlike.{linked-flat}
 use Rattle.mufom_groups.proofs.LinkWalk.{valid-append, valid-drop, valid-members}
 use Rattle.mufom_groups.proofs.Singles.{flat_list-single}
 use Rattle.mufom_command.specs.declared.outcome.Outcome.{Outcome}
 use Rattle.mufom_command.specs.declared.outcome.Outcome.TheVariants as outcome
-use Rattle.mufom_command.specs.Stop.{Stop, link_fact}
+use Rattle.mufom_command.specs.Stop.{Stop, link_fact, raw_too_long}
 use Rattle.mufom_command.specs.Inputs.{AreModules, HaveBytes}
-use Rattle.mufom_command.specs.Commands.{Output, printed, made, prints, writes, plan_in, modules_in, located, located_unless, absolute_file, printed_image, linking, work_of, work_by}
+use Rattle.mufom_command.specs.Commands.{Output, printed, made, writes, plan_in, modules_in, located, located_unless, locating as locating_of, absolute_file, printed_hit, printed_image, raw_file, unless_too_long, linking, work_of, work_by}
 use Rattle.mufom_command.specs.Run.{Answers, AnswersBy, Call}
-use Rattle.mufom_command.specs.RunLaws.{Accepts, HasNoFact, IsLocating, IsSameWork, LocatingIsDone}
+use Rattle.mufom_command.specs.RunLaws.{Accepts, HasNoFact, IsLocating, IsSameWork, LocatingIsDone, MayPutOut}
 use Rattle.mufom_command.proofs.Determined.{answers-determined}
 use Rattle.mufom_command.proofs.MadeLaws.{location-of}
 use Rattle.mufom_command.proofs.Runs.{modules_in-single, of-files, plan_in-single}
@@ -75,13 +81,17 @@ first-some (m ∷ ms) rest ns (suc count) same some more = λ is_empty.
 
 -- ---- the flat list is not empty
 
-no-modules : (v : Verb) → IsLocating v → makes_modules v ≡ false
+no-modules : (v : Verb) → IsLocating v → reads_files v ≡ true
 no-modules verb.Show never = absurd never
 no-modules verb.Check never = absurd never
 no-modules verb.Link never = absurd never
 no-modules verb.Locate is = refl
 no-modules verb.Dump is = refl
 no-modules verb.Make never = absurd never
+no-modules verb.Addr is = refl
+no-modules verb.Bin is = refl
+no-modules verb.Help never = absurd never
+no-modules verb.Version never = absurd never
 
 -- ---- the flat list
 
@@ -92,7 +102,7 @@ module _ (files : List NamedFile) (c : Command) (sound : IsSound c) (ms flat : L
       subst AreValid (sym is_flat.2) (valid-append (roots (tree_of c.marks) ms) (members_at (members (tree_of c.marks) ms) is_flat.0) (valid-members ms (leaves (tree_of c.marks)) all)
       (valid-members (members (tree_of c.marks) ms) is_flat.0 (valid-drop (length (leaves (tree_of c.marks))) ms all)))
 
-  flat-some : makes_modules c.verb ≡ false → flat ≢ []
+  flat-some : reads_files c.verb ≡ true → flat ≢ []
   flat-some takes_files =
       let some = sound.files.some takes_files in
       let within = sound.tree.within in
@@ -110,17 +120,17 @@ write-some : (name : Option (List ℕ)) (bytes : List ℕ) → IsSome name → I
 write-some None bytes some = absurd cc
 write-some (Some name) bytes some = (made name bytes, refl)
 
-module _ (c : Command) (plan : Plan) (ms flat : List Parts) (is_flat : IsFlatList (tree_of c.marks) ms flat) (some : flat ≢ []) (valid : AreValid flat) (put_out : LocatedParts → Work Stop Output) (puts : (r : LocatedParts) → IsDone (put_out r)) where
+module _ (c : Command) (plan : Plan) (ms flat : List Parts) (is_flat : IsFlatList (tree_of c.marks) ms flat) (some : flat ≢ []) (valid : AreValid flat) (put_out : LocatedParts → Work Stop Output) where
   done-there : IsDone (with_stops link_fact (linked (tree_of c.marks) ms) >>= λ flat. located plan flat >>= put_out) → HasNoFact flat plan
   done-there (o, (other, is_linked, (r, is_located, is_put))) =
       let there = (linked-flat answers_are_facts link_facts_grow (tree_of c.marks) ms other).0 is_linked in
       let same : other ≡ flat = flat_list-single (tree_of c.marks) ms other flat there.0 is_flat in
       record { links = subst (λ (l : List Parts). link_answer l ≡ None) same there.1; locates = subst (λ (l : List Parts). locate_answer l plan ≡ None) same (located-none plan other r is_located) }
 
-  done-back : HasNoFact flat plan → IsDone (with_stops link_fact (linked (tree_of c.marks) ms) >>= λ flat. located plan flat >>= put_out)
-  done-back none =
+  done-back : ((r : LocatedParts) → IsLocation flat plan r → IsDone (put_out r)) → HasNoFact flat plan → IsDone (with_stops link_fact (linked (tree_of c.marks) ms) >>= λ flat. located plan flat >>= put_out)
+  done-back puts none =
       let (r, is_location) = locations_exist flat plan some valid none.links none.locates in
-      let (o, is_put) = puts r in
+      let (o, is_put) = puts r is_location in
       let there : located plan flat (gives r) = subst (λ (f : Option LocateFact). located_unless f plan flat (gives r)) (sym none.locates) is_location in
       (o, (flat, (linked-flat answers_are_facts link_facts_grow (tree_of c.marks) ms flat).1 (is_flat, none.links), (r, there, is_put)))
 
@@ -141,25 +151,31 @@ module _ (files : List NamedFile) (c : Command) (sound : IsSound c) (plan : Plan
     some : flat ≢ []
     some = flat-some files c sound accepts.modules flat accepts.read accepts.is_flat (no-modules c.verb locating)
 
-    absolute-done : IsSome c.out → IsDone (linking absolute_file files c) ↔ HasNoFact flat plan
-    absolute-done out = (
-      (λ (o, is). done-there c plan accepts.modules flat accepts.is_flat some valid (λ r. writes c.out (written (absolute_of r))) (λ r. write-some c.out (written (absolute_of r)) out) (o, ((tail absolute_file) (gives o)).0 is)),
-      (λ none. let (o, is) = done-back c plan accepts.modules flat accepts.is_flat some valid (λ r. writes c.out (written (absolute_of r))) (λ r. write-some c.out (written (absolute_of r)) out) none in (o, ((tail absolute_file) (gives o)).1 is)),
+    put-done : (output : Command → LocatedParts → Work Stop Output) → ((r : LocatedParts) → IsLocation flat plan r → IsDone (output c r)) → IsDone (linking (locating_of output) files c) ↔ HasNoFact flat plan
+    put-done output puts = (
+      (λ (o, is). done-there c plan accepts.modules flat accepts.is_flat some valid (λ r. output c r) (o, ((tail (locating_of output)) (gives o)).0 is)),
+      (λ none. let (o, is) = done-back c plan accepts.modules flat accepts.is_flat some valid (λ r. output c r) puts none in (o, ((tail (locating_of output)) (gives o)).1 is)),
     )
 
-    image-done : IsDone (linking printed_image files c) ↔ HasNoFact flat plan
-    image-done = (
-      (λ (o, is). done-there c plan accepts.modules flat accepts.is_flat some valid (λ r. prints (image_text r)) (λ r. (printed (image_text r), refl)) (o, ((tail printed_image) (gives o)).0 is)),
-      (λ none. let (o, is) = done-back c plan accepts.modules flat accepts.is_flat some valid (λ r. prints (image_text r)) (λ r. (printed (image_text r), refl)) none in (o, ((tail printed_image) (gives o)).1 is)),
-    )
+    -- a raw image that has not too many bytes is put out
+    raw-done : IsSome c.out → (r : LocatedParts) → length (raw_image c.fill r.runs) ≤ MOST_FILE_BYTES → IsDone (raw_file c r)
+    raw-done out r few = by (nat_lt MOST_FILE_BYTES (length (raw_image c.fill r.runs))) refl where
+      by : (b : Bool) → nat_lt MOST_FILE_BYTES (length (raw_image c.fill r.runs)) ≡ b
+          → IsDone (unless_too_long b c.out (raw_image c.fill r.runs))
+      by true is = absurd (omega (arith, few, ltb-true MOST_FILE_BYTES (length (raw_image c.fill r.runs)) is))
+      by false is = write-some c.out (raw_image c.fill r.runs) out
 
-    work-done : (v : Verb) → c.verb ≡ v → IsLocating v → IsDone (work_of v files c) ↔ HasNoFact flat plan
-    work-done verb.Show same never = absurd never
-    work-done verb.Check same never = absurd never
-    work-done verb.Link same never = absurd never
-    work-done verb.Make same never = absurd never
-    work-done verb.Locate same is = absolute-done (sound.options.out (ap makes_file same))
-    work-done verb.Dump same is = image-done
+    work-done : (v : Verb) → c.verb ≡ v → IsLocating v → ((r : LocatedParts) → IsLocation flat plan r → MayPutOut v c r) → IsDone (work_of v files c) ↔ HasNoFact flat plan
+    work-done verb.Show same never may = absurd never
+    work-done verb.Check same never may = absurd never
+    work-done verb.Link same never may = absurd never
+    work-done verb.Make same never may = absurd never
+    work-done verb.Help same never may = absurd never
+    work-done verb.Version same never may = absurd never
+    work-done verb.Locate same is may = put-done absolute_file (λ r there. write-some c.out (written (absolute_of r)) (sound.options.out (ap makes_file same)))
+    work-done verb.Dump same is may = put-done printed_image (λ r there. (printed (image_text r), refl))
+    work-done verb.Addr same is may = put-done printed_hit (λ r there. (printed (hit_text r.maus (hit_at r.debug c.at)), refl))
+    work-done verb.Bin same is may = put-done raw_file (λ r there. raw-done (sound.options.out (ap makes_file same)) r (may r there))
 
 -- ---- the answer
 
@@ -170,10 +186,10 @@ done-by files call known r c same is =
 
 -- Locating is done exactly where no fact stands against the flat list.
 pub locating-done : LocatingIsDone
-locating-done words files call result c plan flat is calm named locating accepts =
+locating-done words files call result c plan flat is calm named locating accepts may =
     let sound = words-sound words c named in
     let bytes = of-files call files calm.known HoldBytes calm.revealed.bytes in
-    let exactly = work-done files c sound plan flat bytes accepts locating c.verb refl locating in (
+    let exactly = work-done files c sound plan flat bytes accepts locating c.verb refl locating may in (
       (λ same. exactly.0 (done-by files call calm.known (answer_of words) c named (subst (λ (o : Outcome). Answers words call o) same is))),
       (λ none. let (output, comes) = exactly.1 none in
           answers-determined words files call result (gives output) is calm (subst (λ (r : Result Command WordsStop). work_by r files (gives output)) (sym named) comes)),

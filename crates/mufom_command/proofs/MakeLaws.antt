@@ -1,5 +1,5 @@
--- What `make` has done: it reads no input.
-use Rattle.std.proofs.Common.{◌≡◌, ℕ, zero, suc, ◌≤◌, List, [], ◌++◌, Option, Some, None, IfSome, refl, sym, subst, arith, inl, inr}
+-- What commands have done that read no input: `make`, and those that print a text of the program.
+use Rattle.std.proofs.Common.{◌≡◌, ℕ, zero, suc, ◌≤◌, List, [], ◌++◌, Option, Some, None, unwrap_or, IfSome, refl, sym, subst, arith, inl, inr}
 use Rattle.std.specs.Prelude.{option_to_list}
 use Rattle.mufom_host.specs.World.{Faults, Meaning, NamedFile, GrowsBy, KeepsAllButOut, KeepsAllButWrites, OnlyOpens}
 use Rattle.mufom_host.proofs.Composing.{GrowsBy-refl}
@@ -8,7 +8,7 @@ use Rattle.mufom_make.specs.Generated.{made_modules, made_plan, summary}
 use Rattle.mufom_words.specs.declared.command.Command.{Command}
 use Rattle.mufom_groups.specs.Work.{gives, stops}
 use Rattle.mufom_command.specs.declared.outcome.Outcome.{Outcome}
-use Rattle.mufom_command.specs.Commands.{located, making, maus_of, printed}
+use Rattle.mufom_command.specs.Commands.{helping, located, making, maus_of, printed}
 use Rattle.mufom_command.specs.Making.{IsPrinted}
 use Rattle.mufom_command.specs.Run.{Does, inputs_of}
 use Rattle.mufom_command.specs.WorkEnds.{EndsAt}
@@ -49,4 +49,12 @@ module _ (c : Command) (no_plan : c.plan ≡ None) (no_files : c.files ≡ []) (
   make-prints new now prints counts later r is no_file result put =
       printed-does c (λ files. making files c) old old before before nothing none-opened new now counts later (summary c.count r)
       (of-all (λ (files : List NamedFile). making files c (gives (printed (summary c.count r)))) old.files (λ files. (r, is, refl)))
+      no_file prints result put
+
+  -- a text of the program was printed
+  pub help-prints : (new : Meaning) (now : Faults) → KeepsAllButOut old new → KeepsAllButWrites before now → before.writes ≤ now.writes → c.out ≡ None → (result : Outcome)
+      → IsPrinted (unwrap_or c.help []) (call_between old new before now) result → Does c (λ files. helping files c) (call_between old new before now) result
+  help-prints new now prints counts later no_file result put =
+      printed-does c (λ files. helping files c) old old before before nothing none-opened new now counts later (unwrap_or c.help [])
+      (of-all (λ (files : List NamedFile). helping files c (gives (printed (unwrap_or c.help [])))) old.files (λ files. refl))
       no_file prints result put

@@ -77,6 +77,7 @@ module _ (name bytes : List ℕ) where
       → PlanStops (Some name) (call_between old new before now) stop
   no-plan old new before now has (outcome.Refused (refusal.Plan r)) is = (refl, plan-refused old.files r has is)
   no-plan old new before now has (outcome.Refused (refusal.Read n r)) is = absurd is
+  no-plan old new before now has (outcome.Refused (refusal.Bin count)) is = absurd is
   no-plan old new before now has (outcome.Refused (refusal.InputLimit n)) is = absurd is
   no-plan old new before now has (outcome.Refused (refusal.TooManyFiles n)) is = absurd is
   no-plan old new before now has (outcome.Refused (refusal.TooDeep n)) is = absurd is

@@ -1,5 +1,5 @@
 -- A run comes to one end at most, since each of its parts does.
-use Rattle.std.proofs.Common.{◌≡◌, ◌⊎◌, ℕ, List, Option, Some, None, Result, Ok, Err, IfSome, not, refl, sym, ap, subst, ◌∙◌, flat_map, inl, inr}
+use Rattle.std.proofs.Common.{◌≡◌, ◌⊎◌, ℕ, List, Option, Some, None, Result, Ok, Err, IfSome, not, Bool, cond, false, true, nat_lt, length, unwrap_or, [], refl, sym, ap, subst, ◌∙◌, flat_map, inl, inr}
 use Rattle.mufom_host.specs.World.{HoldBytes, NamedFile, file_named}
 use Rattle.mufom_words.specs.declared.command.Command.{Command}
 use Rattle.mufom_words.specs.declared.command.Verb.{Verb}
@@ -11,11 +11,12 @@ use Rattle.mufom_module.specs.Written.{written}
 use Rattle.mufom_read.proofs.judged.PrefixJudged.{has_one_judgment}
 use Rattle.mufom_read.proofs.spelled.Judged.{judgments_exclude_each_other}
 use Rattle.mufom_text.specs.Image.{image_text}
-use Rattle.mufom_text.specs.Show.{module_text}
+use Rattle.mufom_text.specs.Show.{text_of}
 use Rattle.mufom_make.specs.Generated.{made_modules, made_plan, summary}
 use Rattle.mufom_plan.specs.declared.plan.Plan.{Plan}
 use Rattle.mufom_plan.specs.declared.refusal.PlanRefusal.{PlanRefusal}
 use Rattle.mufom_plan.specs.PlanText.{plan_of_text}
+use Rattle.mufom_meaning.specs.declared.located.LocatedParts.{LocatedParts}
 use Rattle.mufom_meaning.specs.Absolute.{absolute_of, no_regions}
 use Rattle.mufom_meaning.specs.Facts.{LocateFact}
 use Rattle.mufom_meaning.specs.LocateAnswer.{locate_answer}
@@ -28,10 +29,13 @@ use Rattle.mufom_groups.specs.Linked.{joined, linked}
 use Rattle.mufom_groups.specs.Work.{Reached, gives, stops, Work, ◌>>=◌, with_stops, IsSingle}
 use Rattle.mufom_groups.proofs.Singles.{joined-single, linked-single}
 use Rattle.mufom_groups.proofs.Works.{sure-single, stop_at-single, one_with-single, nowhere-single, stops-single, then-single}
-use Rattle.mufom_command.specs.Stop.{Stop, words_refused, plan_refused, file_refused, past_limit, link_fact, locate_fact}
+use Rattle.mufom_command.specs.Stop.{Stop, words_refused, plan_refused, file_refused, past_limit, link_fact, locate_fact, raw_too_long}
 use Rattle.mufom_command.specs.Inputs.{HaveOneVerdict, Verdict, accepted, refused, past_limit as past, ComeTo}
-use Rattle.mufom_command.specs.Text.{Text, check_text}
-use Rattle.mufom_command.specs.Commands.{Output, printed, made, prints, writes, file_in, plan_by, plan_in, modules_in, maus_of, located, located_unless, linked_file, absolute_file, printed_image, listing, linking, work_of, work_by, run_of}
+use Rattle.mufom_command.specs.Text.{Text, check_text, hit_text}
+use Rattle.mufom_numbers.specs.declared.limits.TheConstants.{MOST_FILE_BYTES}
+use Rattle.mufom_addr.specs.AddressHit.{hit_at}
+use Rattle.mufom_write.specs.Raw.{raw_image}
+use Rattle.mufom_command.specs.Commands.{Output, printed, made, form_of, prints, writes, file_in, plan_by, plan_in, modules_in, maus_of, located, located_unless, linked_file, locating, absolute_file, printed_hit, printed_image, raw_file, unless_too_long, listing, linking, work_of, work_by, run_of}
 use Rattle.mufom_command.specs.Run.{AnswersBy, AnswersFor, Call, IsForced, outcome_of, stop_outcome, stop_answer}
 use Rattle.mufom_command.proofs.Verdicts.{one_verdict}
 
@@ -54,6 +58,7 @@ by_verdict files c (stops (words_refused s)) is = absurd is
 by_verdict files c (stops (plan_refused r)) is = absurd is
 by_verdict files c (stops (link_fact f)) is = absurd is
 by_verdict files c (stops (locate_fact maus f)) is = absurd is
+by_verdict files c (stops (raw_too_long count)) is = absurd is
 
 -- files come to one verdict
 pub one-verdict : HaveOneVerdict
@@ -97,11 +102,16 @@ module _ (c : Command) (plan : Plan) (flat : List Parts) where
   linked_file-single =
       then-single (with_stops link_fact (joined c.name flat)) (λ M. writes c.out (written M)) (stops-single link_fact (joined c.name flat) (joined-single c.name flat)) (λ M. writes-single c.out (written M))
 
-  pub absolute_file-single : IsSingle (absolute_file c plan flat)
-  absolute_file-single = then-single (located plan flat) (λ r. writes c.out (written (absolute_of r))) (located-single plan flat) (λ r. writes-single c.out (written (absolute_of r)))
+  pub locating-single : (output : Command → LocatedParts → Work Stop Output) → ((r : LocatedParts) → IsSingle (output c r)) → IsSingle (locating output c plan flat)
+  locating-single output single = then-single (located plan flat) (λ r. output c r) (located-single plan flat) single
 
-  pub printed_image-single : IsSingle (printed_image c plan flat)
-  printed_image-single = then-single (located plan flat) (λ r. prints (image_text r)) (located-single plan flat) (λ r. sure-single (printed (image_text r)))
+-- ---- what is put out of a location
+
+raw_file-single : (c : Command) (r : LocatedParts) → IsSingle (raw_file c r)
+raw_file-single c r = by (nat_lt MOST_FILE_BYTES (length (raw_image c.fill r.runs))) where
+  by : (b : Bool) → IsSingle (unless_too_long b c.out (raw_image c.fill r.runs))
+  by true = stop_at-single (raw_too_long (length (raw_image c.fill r.runs)))
+  by false = writes-single c.out (raw_image c.fill r.runs)
 
 -- ---- the table
 
@@ -116,11 +126,15 @@ module _ (files : List NamedFile) (bytes : HoldBytes files) (c : Command) where
       then-single (with_stops link_fact (linked (tree_of c.marks) ms)) (λ flat. output c plan flat) (stops-single link_fact (linked (tree_of c.marks) ms) (linked-single (tree_of c.marks) ms)) λ flat. single plan flat
 
   work_of-single : (v : Verb) → IsSingle (work_of v files c)
-  work_of-single verb.Show = listing-single (λ ms. flat_map module_text ms)
+  work_of-single verb.Show = listing-single (λ ms. flat_map (text_of (form_of c)) ms)
   work_of-single verb.Check = listing-single check_text
   work_of-single verb.Link = linking-single linked_file (linked_file-single c)
-  work_of-single verb.Locate = linking-single absolute_file (absolute_file-single c)
-  work_of-single verb.Dump = linking-single printed_image (printed_image-single c)
+  work_of-single verb.Locate = linking-single (locating absolute_file) (λ plan flat. locating-single c plan flat absolute_file (λ r. writes-single c.out (written (absolute_of r))))
+  work_of-single verb.Dump = linking-single (locating printed_image) (λ plan flat. locating-single c plan flat printed_image (λ r. sure-single (printed (image_text r))))
+  work_of-single verb.Addr = linking-single (locating printed_hit) (λ plan flat. locating-single c plan flat printed_hit (λ r. sure-single (printed (hit_text r.maus (hit_at r.debug c.at)))))
+  work_of-single verb.Bin = linking-single (locating raw_file) (λ plan flat. locating-single c plan flat raw_file (raw_file-single c))
+  work_of-single verb.Help = sure-single (printed (unwrap_or c.help []))
+  work_of-single verb.Version = sure-single (printed (unwrap_or c.help []))
   work_of-single verb.Make = then-single (located (made_plan c.count) (made_modules c.count)) (λ r. prints (summary c.count r)) (located-single (made_plan c.count) (made_modules c.count)) (λ r. sure-single (printed (summary c.count r)))
 
 -- A run comes to one end at most.

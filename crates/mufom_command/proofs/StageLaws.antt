@@ -8,18 +8,17 @@ use Rattle.mufom_words.specs.Tree.{tree_of}
 use Rattle.mufom_module.specs.declared.module.Parts.{Parts}
 use Rattle.mufom_module.specs.Written.{written}
 use Rattle.mufom_plan.specs.declared.plan.Plan.{Plan}
-use Rattle.mufom_text.specs.Image.{image_text}
-use Rattle.mufom_meaning.specs.Absolute.{absolute_of}
+use Rattle.mufom_meaning.specs.declared.located.LocatedParts.{LocatedParts}
 use Rattle.mufom_meaning.specs.Joined.{IsJoined}
 use Rattle.mufom_meaning.specs.Location.{Header, first_header}
 use Rattle.mufom_meaning.specs.StagingLaws.{MeansTheSame}
 use Rattle.mufom_meaning.proofs.staging.Stages.{staged_means_the_same}
 use Rattle.mufom_groups.specs.Linked.{first_name, joined, linked}
-use Rattle.mufom_groups.specs.Work.{gives, stops, Work, ◌>>=◌, with_stops}
+use Rattle.mufom_groups.specs.Work.{gives, stops, Work, ◌>>=◌, nowhere, with_stops}
 use Rattle.mufom_groups.proofs.Singles.{linked-single}
 use Rattle.mufom_groups.proofs.Works.{stops-single}
 use Rattle.mufom_command.specs.Stop.{Stop, link_fact}
-use Rattle.mufom_command.specs.Commands.{Output, prints, writes, plan_in, modules_in, located, linked_file, absolute_file, printed_image, linking, work_of}
+use Rattle.mufom_command.specs.Commands.{Output, writes, plan_in, modules_in, located, linked_file, locating, absolute_file, printed_hit, printed_image, raw_file, linking, work_of}
 use Rattle.mufom_command.specs.RunLaws.{CameByStages, IsLinking, IsSameWork, LeadsTo, PutOutAlike, RunsOfStages, StagesMakeNoDifference, put_out_of}
 use Rattle.mufom_command.proofs.LocatingLaws.{located-back, located-forth}
 use Rattle.mufom_command.proofs.Runs.{modules_in-single, plan_in-single}
@@ -50,12 +49,21 @@ module _ (c : Command) (plan : Plan) (ms leaves : List Parts) (means : MeansTheS
   located-same : IsSameWork (located plan ms) (located plan leaves)
   located-same x = (located-forth ms leaves plan means x, located-back ms leaves plan means x)
 
+  of_location : (output : Command → LocatedParts → Work Stop Output) → IsSameWork (locating output c plan ms) (locating output c plan leaves)
+  of_location output = then-same (located plan ms) (located plan leaves) (λ r. output c r) (λ r. output c r) located-same (λ r. same-work (output c r))
+
   pub put_out-alike : PutOutAlike c plan ms leaves
-  put_out-alike = record {
-    linked = then-same (with_stops link_fact (joined c.name ms)) (with_stops link_fact (joined c.name leaves)) (λ M. writes c.out (written M)) (λ M. writes c.out (written M)) joined-same (λ M. same-work (writes c.out (written M)));
-    absolute = then-same (located plan ms) (located plan leaves) (λ r. writes c.out (written (absolute_of r))) (λ r. writes c.out (written (absolute_of r))) located-same (λ r. same-work (writes c.out (written (absolute_of r))));
-    image = then-same (located plan ms) (located plan leaves) (λ r. prints (image_text r)) (λ r. prints (image_text r)) located-same (λ r. same-work (prints (image_text r)));
-  }
+  put_out-alike verb.Show = same-work nowhere
+  put_out-alike verb.Check = same-work nowhere
+  put_out-alike verb.Link =
+      then-same (with_stops link_fact (joined c.name ms)) (with_stops link_fact (joined c.name leaves)) (λ M. writes c.out (written M)) (λ M. writes c.out (written M)) joined-same (λ M. same-work (writes c.out (written M)))
+  put_out-alike verb.Locate = of_location absolute_file
+  put_out-alike verb.Dump = of_location printed_image
+  put_out-alike verb.Make = same-work nowhere
+  put_out-alike verb.Addr = of_location printed_hit
+  put_out-alike verb.Bin = of_location raw_file
+  put_out-alike verb.Help = same-work nowhere
+  put_out-alike verb.Version = same-work nowhere
 
 -- A list that earlier runs linked in stages is put out as the list that the stages began with.
 pub stages-alike : StagesMakeNoDifference
@@ -80,10 +88,17 @@ runs-of-stages files c plan flat leaves bytes is_linking leads came = by_verb c.
   alike : PutOutAlike c plan flat leaves
   alike = put_out-alike c plan flat leaves (means-same flat leaves came)
 
+  by_linking : (output : Command → Plan → List Parts → Work Stop Output) → IsSameWork (output c plan flat) (output c plan leaves) → IsSameWork (linking output files c) (output c plan leaves)
+  by_linking output same = same-trans (linking output files c) (output c plan flat) (output c plan leaves) (linking-known output files c plan flat bytes leads) same
+
   by_verb : (v : Verb) → IsLinking v → IsSameWork (work_of v files c) (put_out_of v c plan leaves)
   by_verb verb.Show never = absurd never
   by_verb verb.Check never = absurd never
-  by_verb verb.Link is_one = same-trans (linking linked_file files c) (linked_file c plan flat) (linked_file c plan leaves) (linking-known linked_file files c plan flat bytes leads) alike.linked
-  by_verb verb.Locate is_one = same-trans (linking absolute_file files c) (absolute_file c plan flat) (absolute_file c plan leaves) (linking-known absolute_file files c plan flat bytes leads) alike.absolute
-  by_verb verb.Dump is_one = same-trans (linking printed_image files c) (printed_image c plan flat) (printed_image c plan leaves) (linking-known printed_image files c plan flat bytes leads) alike.image
+  by_verb verb.Link is_one = by_linking linked_file (alike verb.Link)
+  by_verb verb.Locate is_one = by_linking (locating absolute_file) (alike verb.Locate)
+  by_verb verb.Dump is_one = by_linking (locating printed_image) (alike verb.Dump)
+  by_verb verb.Addr is_one = by_linking (locating printed_hit) (alike verb.Addr)
+  by_verb verb.Bin is_one = by_linking (locating raw_file) (alike verb.Bin)
+  by_verb verb.Help never = absurd never
+  by_verb verb.Version never = absurd never
   by_verb verb.Make never = absurd never

@@ -1,20 +1,24 @@
 -- What the work of a command comes to, from what its inputs and their modules come to.
-use Rattle.std.proofs.Common.{◌≡◌, ℕ, List, Option, Some, None, refl, sym, ap, subst, inl, inr}
+use Rattle.std.proofs.Common.{◌≡◌, ◌≤◌, ◌<◌, ℕ, Bool, cond, false, true, nat_lt, arith, rules, length, List, Option, Some, None, refl, sym, ap, subst, inl, inr}
+use Rattle.std.proofs.lemmas.Bool.{ltb-true}
+use Rattle.mufom_numbers.specs.declared.limits.TheConstants.{MOST_FILE_BYTES}
+use Rattle.mufom_write.specs.Raw.{raw_image}
 use Rattle.mufom_host.specs.World.{NamedFile}
 use Rattle.mufom_module.specs.declared.module.Parts.{Parts}
 use Rattle.mufom_module.specs.Written.{written}
 use Rattle.mufom_plan.specs.declared.plan.Plan.{Plan}
 use Rattle.mufom_meaning.specs.declared.located.LocatedParts.{LocatedParts}
-use Rattle.mufom_meaning.specs.Absolute.{absolute_of}
-use Rattle.mufom_text.specs.Image.{image_text}
 use Rattle.mufom_words.specs.declared.command.Command.{Command}
+use Rattle.mufom_words.specs.declared.command.Verb.{Verb}
+use Rattle.mufom_words.specs.declared.command.Verb.TheVariants as verb
+use Rattle.mufom_command.specs.RunLaws.{IsLocating}
 use Rattle.mufom_groups.specs.Linked.{linked_module}
-use Rattle.mufom_groups.specs.Work.{Work, gives, stops, with_stops}
-use Rattle.mufom_command.specs.Stop.{Stop, link_fact}
-use Rattle.mufom_command.specs.Commands.{Output, printed, made, writes, plan_in, modules_in, linked_file, absolute_file, printed_image, listing, linking}
+use Rattle.mufom_groups.specs.Work.{Work, gives, stop_at, stops, with_stops}
+use Rattle.mufom_command.specs.Stop.{Stop, link_fact, raw_too_long}
+use Rattle.mufom_command.specs.Commands.{Output, printed, made, writes, plan_in, modules_in, linked_file, locating, absolute_file, printed_hit, printed_image, raw_file, unless_too_long, listing, linking, work_of}
 use Rattle.mufom_command.specs.InputsRead.{inputs_in}
 use Rattle.mufom_command.specs.Text.{Text}
-use Rattle.mufom_command.specs.WorkEnds.{location_of}
+use Rattle.mufom_command.specs.WorkEnds.{LocatesTo, location_of}
 
 -- ---- the inputs end the work
 
@@ -59,20 +63,74 @@ module _ (c : Command) (plan : Plan) (ms : List Parts) (files : List NamedFile) 
   link-stops s (f, inl ends, same) = inr (plan, inputs-planned files c plan ms is, inr (ms, inputs-modules files c plan ms is, inl (f, ends, same)))
   link-stops s (f, inr (flat, is_linked, never), same) = absurd never
 
-  -- the file of the absolute module
-  pub absolute-gives : (r : LocatedParts) (name : List ℕ) → location_of c plan ms (gives r) → c.out ≡ Some name → linking absolute_file files c (gives (made name (written (absolute_of r))))
-  absolute-gives r name (flat, is_linked, is_located) named =
-      (plan, inputs-planned files c plan ms is, (ms, inputs-modules files c plan ms is, (flat, is_linked, (r, is_located, writes-named name c.out (written (absolute_of r)) named))))
+-- ---- the files were located
 
-  -- the text of the image
-  pub image-gives : (r : LocatedParts) → location_of c plan ms (gives r) → linking printed_image files c (gives (printed (image_text r)))
-  image-gives r (flat, is_linked, is_located) = (plan, inputs-planned files c plan ms is, (ms, inputs-modules files c plan ms is, (flat, is_linked, (r, is_located, refl))))
+module _ (output : Command → LocatedParts → Work Stop Output) (c : Command) where
+  -- the fact that ends the locating
+  pub locating-stops : (plan : Plan) (ms : List Parts) (files : List NamedFile) → inputs_in files c (gives (plan, ms)) → (s : Stop) → location_of c plan ms (stops s) → linking (locating output) files c (stops s)
+  locating-stops plan ms files is s (inl ends) = inr (plan, inputs-planned files c plan ms is, inr (ms, inputs-modules files c plan ms is, inl ends))
+  locating-stops plan ms files is s (inr (flat, is_linked, ends)) =
+      inr (plan, inputs-planned files c plan ms is, inr (ms, inputs-modules files c plan ms is, inr (flat, is_linked, inl ends)))
 
-  -- or the fact
-  pub absolute-stops : (s : Stop) → location_of c plan ms (stops s) → linking absolute_file files c (stops s)
-  absolute-stops s (inl ends) = inr (plan, inputs-planned files c plan ms is, inr (ms, inputs-modules files c plan ms is, inl ends))
-  absolute-stops s (inr (flat, is_linked, ends)) = inr (plan, inputs-planned files c plan ms is, inr (ms, inputs-modules files c plan ms is, inr (flat, is_linked, inl ends)))
+  -- what is put out of the location, or why nothing is
+  pub output-gives : (r : LocatedParts) (o : Output) → output c r (gives o) → (files : List NamedFile) → LocatesTo files c r → linking (locating output) files c (gives o)
+  output-gives r o puts files (plan, ms, is, (flat, is_linked, is_located)) =
+      (plan, inputs-planned files c plan ms is, (ms, inputs-modules files c plan ms is, (flat, is_linked, (r, is_located, puts))))
 
-  pub image-stops : (s : Stop) → location_of c plan ms (stops s) → linking printed_image files c (stops s)
-  image-stops s (inl ends) = inr (plan, inputs-planned files c plan ms is, inr (ms, inputs-modules files c plan ms is, inl ends))
-  image-stops s (inr (flat, is_linked, ends)) = inr (plan, inputs-planned files c plan ms is, inr (ms, inputs-modules files c plan ms is, inr (flat, is_linked, inl ends)))
+  pub output-stops : (r : LocatedParts) (s : Stop) → output c r (stops s) → (files : List NamedFile) → LocatesTo files c r → linking (locating output) files c (stops s)
+  output-stops r s ends files (plan, ms, is, (flat, is_linked, is_located)) =
+      inr (plan, inputs-planned files c plan ms is, inr (ms, inputs-modules files c plan ms is, inr (flat, is_linked, inr (r, is_located, ends))))
+
+-- a file that is named is written
+pub writes-gives : (c : Command) (name bytes : List ℕ) → c.out ≡ Some name → writes c.out bytes (gives (made name bytes))
+writes-gives c name bytes named = writes-named name c.out bytes named
+
+-- ---- a raw image
+
+is-less : {n m : ℕ} → n < m → nat_lt n m ≡ true
+is-less {n = n} {m = m} less = search rules
+
+-- one with too many bytes is not put out
+pub raw-stops : (c : Command) (r : LocatedParts) (count : ℕ) → count ≡ length (raw_image c.fill r.runs) → MOST_FILE_BYTES < count → raw_file c r (stops (raw_too_long count))
+raw-stops c r count same past =
+    by (nat_lt MOST_FILE_BYTES (length (raw_image c.fill r.runs))) (is-less (subst (λ (n : ℕ). MOST_FILE_BYTES < n) same past)) where
+      by : (b : Bool) → b ≡ true → unless_too_long b c.out (raw_image c.fill r.runs) (stops (raw_too_long count))
+      by true is = ap (λ (n : ℕ). raw_too_long n) same
+      by false is = absurd cc
+
+-- any other is
+pub raw-gives : (c : Command) (r : LocatedParts) (name : List ℕ) → length (raw_image c.fill r.runs) ≤ MOST_FILE_BYTES → c.out ≡ Some name → raw_file c r (gives (made name (raw_image c.fill r.runs)))
+raw-gives c r name few named = by (nat_lt MOST_FILE_BYTES (length (raw_image c.fill r.runs))) refl where
+  by : (b : Bool) → nat_lt MOST_FILE_BYTES (length (raw_image c.fill r.runs)) ≡ b
+      → unless_too_long b c.out (raw_image c.fill r.runs) (gives (made name (raw_image c.fill r.runs)))
+  by true is = absurd (omega (arith, few, ltb-true MOST_FILE_BYTES (length (raw_image c.fill r.runs)) is))
+  by false is = writes-named name c.out (raw_image c.fill r.runs) named
+
+-- ---- the commands that locate
+
+-- their work ends where their inputs do
+pub locating-begins : (v : Verb) → IsLocating v → (c : Command) (files : List NamedFile) (s : Stop) → inputs_in files c (stops s) → work_of v files c (stops s)
+locating-begins verb.Show never c = absurd never
+locating-begins verb.Check never c = absurd never
+locating-begins verb.Link never c = absurd never
+locating-begins verb.Make never c = absurd never
+locating-begins verb.Help never c = absurd never
+locating-begins verb.Version never c = absurd never
+locating-begins verb.Locate is c = linking-begins (locating absolute_file) c
+locating-begins verb.Dump is c = linking-begins (locating printed_image) c
+locating-begins verb.Addr is c = linking-begins (locating printed_hit) c
+locating-begins verb.Bin is c = linking-begins (locating raw_file) c
+
+-- and where the locating does
+pub verb-stops : (v : Verb) → IsLocating v → (c : Command) (plan : Plan) (ms : List Parts) (files : List NamedFile) → inputs_in files c (gives (plan, ms)) → (s : Stop) → location_of c plan ms (stops s)
+    → work_of v files c (stops s)
+verb-stops verb.Show never c = absurd never
+verb-stops verb.Check never c = absurd never
+verb-stops verb.Link never c = absurd never
+verb-stops verb.Make never c = absurd never
+verb-stops verb.Help never c = absurd never
+verb-stops verb.Version never c = absurd never
+verb-stops verb.Locate is c = locating-stops absolute_file c
+verb-stops verb.Dump is c = locating-stops printed_image c
+verb-stops verb.Addr is c = locating-stops printed_hit c
+verb-stops verb.Bin is c = locating-stops raw_file c

@@ -1,6 +1,6 @@
 -- The table of commands: what the work of each is, from its inputs to its output. A run comes to what the words and the files state, and
 -- to nothing else.
-use Rattle.std.specs.Prelude.{◌≡◌, ℕ, List, [], ◌∷◌, flat_map, not, Option, Some, None, Result, Ok, Err}
+use Rattle.std.specs.Prelude.{◌≡◌, ℕ, Bool, true, false, List, [], ◌∷◌, flat_map, length, nat_lt, not, unwrap_or, Option, Some, None, Result, Ok, Err, if◌then◌else◌}
 use Rattle.mufom_host.specs.World.{NamedFile, file_named}
 use Rattle.mufom_words.specs.declared.command.Command.{Command}
 use Rattle.mufom_words.specs.declared.command.Verb.{Verb}
@@ -14,7 +14,9 @@ use Rattle.mufom_plan.specs.declared.plan.Plan.{Plan}
 use Rattle.mufom_plan.specs.declared.refusal.PlanRefusal.{PlanRefusal}
 use Rattle.mufom_plan.specs.PlanText.{plan_of_text}
 use Rattle.mufom_text.specs.Image.{image_text}
-use Rattle.mufom_text.specs.Show.{module_text}
+use Rattle.mufom_text.specs.declared.form.TextForm.{TextForm}
+use Rattle.mufom_text.specs.declared.form.TextForm.TheVariants as form
+use Rattle.mufom_text.specs.Show.{text_of}
 use Rattle.mufom_meaning.specs.declared.located.LocatedParts.{LocatedParts}
 use Rattle.mufom_meaning.specs.Absolute.{absolute_of, no_regions}
 use Rattle.mufom_meaning.specs.Facts.{LocateFact}
@@ -23,9 +25,12 @@ use Rattle.mufom_meaning.specs.Location.{IsLocation}
 use Rattle.mufom_make.specs.Generated.{made_modules, made_plan, summary}
 use Rattle.mufom_groups.specs.Work.{gives, stops, Work, ◌>>=◌, sure, one_with, stop_at, nowhere, with_stops}
 use Rattle.mufom_groups.specs.Linked.{joined, linked}
-use Rattle.mufom_command.specs.Stop.{Stop, words_refused, plan_refused, file_refused, past_limit, link_fact, locate_fact}
+use Rattle.mufom_command.specs.Stop.{Stop, words_refused, plan_refused, file_refused, past_limit, link_fact, locate_fact, raw_too_long}
 use Rattle.mufom_command.specs.Inputs.{ComeTo, accepted, refused, past_limit as past}
-use Rattle.mufom_command.specs.Text.{Text, check_text}
+use Rattle.mufom_write.specs.Raw.{raw_image}
+use Rattle.mufom_addr.specs.AddressHit.{hit_at}
+use Rattle.mufom_numbers.specs.declared.limits.TheConstants.{MOST_FILE_BYTES}
+use Rattle.mufom_command.specs.Text.{Text, check_text, hit_text}
 
 -- ---- outputs
 
@@ -90,17 +95,34 @@ linked_file c plan ms = do
   M ← with_stops link_fact (joined c.name ms)
   writes c.out (written M)
 
--- the file of the absolute module of its location
-abbrev pub absolute_file : Command → Plan → List Parts → Work Stop Output
-absolute_file c plan ms = do
+-- what is put out of its location
+abbrev pub locating : (Command → LocatedParts → Work Stop Output) → Command → Plan → List Parts → Work Stop Output
+locating output c plan ms = do
   r ← located plan ms
-  writes c.out (written (absolute_of r))
+  output c r
+
+-- ---- what is put out of a location
+
+-- the file of its absolute module
+abbrev pub absolute_file : Command → LocatedParts → Work Stop Output
+absolute_file c r = writes c.out (written (absolute_of r))
 
 -- the text of its image
-abbrev pub printed_image : Command → Plan → List Parts → Work Stop Output
-printed_image c plan ms = do
-  r ← located plan ms
-  prints (image_text r)
+abbrev pub printed_image : Command → LocatedParts → Work Stop Output
+printed_image c r = prints (image_text r)
+
+-- the file of the bytes, unless they are too many
+abbrev pub unless_too_long : Bool → Option (List ℕ) → List ℕ → Work Stop Output
+unless_too_long true out bytes = stop_at (raw_too_long (length bytes))
+unless_too_long false out bytes = writes out bytes
+
+-- the file of its raw image, where that has no more bytes than a file of this kind may have
+abbrev pub raw_file : Command → LocatedParts → Work Stop Output
+raw_file c r = unless_too_long (nat_lt MOST_FILE_BYTES (length (raw_image c.fill r.runs))) c.out (raw_image c.fill r.runs)
+
+-- the lines of the function and the source line at an address
+abbrev pub printed_hit : Command → LocatedParts → Work Stop Output
+printed_hit c r = prints (hit_text r.maus (hit_at r.debug c.at))
 
 -- ---- the table
 
@@ -124,14 +146,29 @@ making files c = do
   r ← located (made_plan c.count) (made_modules c.count)
   prints (summary c.count r)
 
+-- A text of the program itself is printed. No file is read.
+abbrev pub helping : List NamedFile → Command → Work Stop Output
+helping files c = prints (unwrap_or c.help [])
+
+-- A text of the module is printed: the summary, or the listing.
+abbrev pub form_of : Command → TextForm
+form_of c = if c.listing then form.Listing else form.Summary
+
+abbrev pub showing : List NamedFile → Command → Work Stop Output
+showing files c = listing (λ ms. flat_map (text_of (form_of c)) ms) files c
+
 -- The work of each command.
 abbrev pub work_of : Verb → List NamedFile → Command → Work Stop Output
-work_of verb.Show = listing (λ ms. flat_map module_text ms)
+work_of verb.Show = showing
 work_of verb.Check = listing check_text
 work_of verb.Link = linking linked_file
-work_of verb.Locate = linking absolute_file
-work_of verb.Dump = linking printed_image
+work_of verb.Locate = linking (locating absolute_file)
+work_of verb.Dump = linking (locating printed_image)
 work_of verb.Make = making
+work_of verb.Addr = linking (locating printed_hit)
+work_of verb.Bin = linking (locating raw_file)
+work_of verb.Help = helping
+work_of verb.Version = helping
 
 -- the work of the words that give this
 abbrev pub work_by : Result Command WordsStop → List NamedFile → Work Stop Output

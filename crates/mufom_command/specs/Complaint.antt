@@ -84,6 +84,8 @@ usage_text usage.BadMembers = codes "bad members"
 usage_text usage.FileCount = codes "file count"
 usage_text usage.BadCount = codes "bad count"
 usage_text usage.LongName = codes "long name"
+usage_text usage.BadByte = codes "bad byte"
+usage_text usage.BadAddress = codes "bad address"
 
 -- the number of units of an address, and the letter of the order of bytes
 abbrev pub descriptor_text : Descriptor → Text
@@ -154,6 +156,7 @@ refusal_text (refusal.TooDeep n) = codes "TooDeep " ++ decimal n
 refusal_text (refusal.Plan p) = codes "plan: " ++ plan_text p
 refusal_text (refusal.Link l) = codes "link: " ++ link_text l
 refusal_text (refusal.Locate l maus) = codes "locate: " ++ locate_text maus l
+refusal_text (refusal.Bin count) = codes "bin: TooLong " ++ decimal count
 
 abbrev pub input_text : Input → Text
 input_text input.Plan = codes "plan"

@@ -1,7 +1,7 @@
 -- What holds of runs: each comes to one end, which is the answer where no call failed and memory was found; files that were linked in
 -- stages are answered as the list that the stages began with; locating is done where no fact stands; and the files that are made stand
 -- for what they were made of.
-use Rattle.std.specs.Prelude.{◌≡◌, ◌≢◌, ◌↔◌, ℕ, List, [], ◌∷◌, Some, None, Ok, unwrap_or}
+use Rattle.std.specs.Prelude.{◌≡◌, ◌≢◌, ◌↔◌, ◌≤◌, ℕ, length, List, [], ◌∷◌, Some, None, Ok, unwrap_or}
 use Rattle.mufom_host.specs.World.{NamedFile, HoldBytes, RevealsTogether, Rose}
 use Rattle.mufom_words.specs.declared.command.Command.{Command}
 use Rattle.mufom_words.specs.declared.command.Verb.{Verb}
@@ -24,8 +24,10 @@ use Rattle.mufom_groups.specs.Linked.{IsFlatList, first_name, linked}
 use Rattle.mufom_groups.specs.Work.{Reached, gives, Work, nowhere, IsSingle}
 use Rattle.mufom_command.specs.declared.outcome.Outcome.{Outcome}
 use Rattle.mufom_command.specs.declared.outcome.Outcome.TheVariants as outcome
+use Rattle.mufom_write.specs.Raw.{raw_image}
+use Rattle.mufom_numbers.specs.declared.limits.TheConstants.{MOST_FILE_BYTES}
 use Rattle.mufom_command.specs.Stop.{Stop}
-use Rattle.mufom_command.specs.Commands.{Output, made, plan_in, modules_in, linked_file, absolute_file, printed_image, work_of, run_of}
+use Rattle.mufom_command.specs.Commands.{Output, made, plan_in, modules_in, linked_file, locating, absolute_file, printed_hit, printed_image, raw_file, work_of, run_of}
 use Rattle.mufom_command.specs.Run.{Call, outcome_of, Answers}
 
 -- ---- the answer of a run
@@ -65,7 +67,14 @@ pub record Accepts (files : List NamedFile) (c : Command) (plan : Plan) (flat : 
 abbrev pub IsLocating : Verb → Type 0
 IsLocating verb.Locate = Unit {0}
 IsLocating verb.Dump = Unit {0}
+IsLocating verb.Addr = Unit {0}
+IsLocating verb.Bin = Unit {0}
 IsLocating _ = ⊥
+
+-- what the command puts out of a location may be put out: a raw image has not too many bytes
+abbrev pub MayPutOut : Verb → Command → LocatedParts → Type 0
+MayPutOut verb.Bin c r = length (raw_image c.fill r.runs) ≤ MOST_FILE_BYTES
+MayPutOut _ c r = Unit {0}
 
 -- no fact stands against the list
 pub record HasNoFact (ms : List Parts) (plan : Plan) : Type 0 where
@@ -73,11 +82,12 @@ pub record HasNoFact (ms : List Parts) (plan : Plan) : Type 0 where
   pub locates : locate_answer ms plan ≡ None
 
 -- Where nothing failed and memory was found, locating accepted files is done exactly where no fact stands against their flat list,
--- wherever the files have their groups.
+-- wherever the files have their groups. Of a raw image this is so where it has not too many bytes.
 abbrev pub LocatingIsDone : Type 0
 LocatingIsDone =
     (words : List (List ℕ)) (files : List NamedFile) (call : Call) (result : Outcome) (c : Command) (plan : Plan) (flat : List Parts)
     → Answers words call result → IsUndisturbed files call result → answer_of words ≡ Ok c → IsLocating c.verb → Accepts files c plan flat
+    → ((r : LocatedParts) → IsLocation flat plan r → MayPutOut c.verb c r)
     → (result ≡ outcome.Done) ↔ HasNoFact flat plan
 
 -- ---- stages
@@ -86,11 +96,27 @@ LocatingIsDone =
 abbrev pub IsSameWork : {A : Type 0} → Work Stop A → Work Stop A → Type 0
 IsSameWork {A = A} first second = (reached : Reached Stop A) → first reached ↔ second reached
 
--- what is put out of two lists is the same
-pub record PutOutAlike (c : Command) (plan : Plan) (ms leaves : List Parts) : Type 0 where
-  pub linked : IsSameWork (linked_file c plan ms) (linked_file c plan leaves)
-  pub absolute : IsSameWork (absolute_file c plan ms) (absolute_file c plan leaves)
-  pub image : IsSameWork (printed_image c plan ms) (printed_image c plan leaves)
+-- the command links files
+abbrev pub IsLinking : Verb → Type 0
+IsLinking verb.Link = Unit {0}
+IsLinking verb.Locate = Unit {0}
+IsLinking verb.Dump = Unit {0}
+IsLinking verb.Addr = Unit {0}
+IsLinking verb.Bin = Unit {0}
+IsLinking _ = ⊥
+
+-- what is put out of a list by a command that links files; nothing by another
+abbrev pub put_out_of : Verb → Command → Plan → List Parts → Work Stop Output
+put_out_of verb.Link = linked_file
+put_out_of verb.Locate = locating absolute_file
+put_out_of verb.Dump = locating printed_image
+put_out_of verb.Addr = locating printed_hit
+put_out_of verb.Bin = locating raw_file
+put_out_of _ = λ c plan ms. nowhere
+
+-- what each command puts out of two lists is the same
+abbrev pub PutOutAlike : Command → Plan → (ms leaves : List Parts) → Type 0
+PutOutAlike c plan ms leaves = (v : Verb) → IsSameWork (put_out_of v c plan ms) (put_out_of v c plan leaves)
 
 -- the lists are the first and the last of stages of partial links, and the last is of modules without a defect that can be linked
 pub record CameByStages (ms leaves : List Parts) : Type 0 where
@@ -109,20 +135,6 @@ pub record LeadsTo (files : List NamedFile) (c : Command) (plan : Plan) (flat : 
   pub modules : List Parts
   pub read : modules_in files c (gives modules)
   pub linked : linked (tree_of c.marks) modules (gives flat)
-
--- the command links files
-abbrev pub IsLinking : Verb → Type 0
-IsLinking verb.Link = Unit {0}
-IsLinking verb.Locate = Unit {0}
-IsLinking verb.Dump = Unit {0}
-IsLinking _ = ⊥
-
--- what is put out of a list by a command that links files; nothing by another
-abbrev pub put_out_of : Verb → Command → Plan → List Parts → Work Stop Output
-put_out_of verb.Link = linked_file
-put_out_of verb.Locate = absolute_file
-put_out_of verb.Dump = printed_image
-put_out_of _ = λ c plan ms. nowhere
 
 -- So a command whose files were linked in stages comes to what is put out of the list that the stages began with.
 abbrev pub RunsOfStages : Type 0
@@ -160,5 +172,5 @@ pub record IsFileOfLocation (c : Command) (plan : Plan) (flat : List Parts) (out
 -- What is put out by locating is the file of an absolute module that, located alone by the plan without regions, is located as itself.
 abbrev pub AbsoluteFilesStand : Type 0
 AbsoluteFilesStand =
-    (c : Command) (plan : Plan) (flat : List Parts) (output : Output) → AreValid flat → absolute_file c plan flat (gives output)
+    (c : Command) (plan : Plan) (flat : List Parts) (output : Output) → AreValid flat → locating absolute_file c plan flat (gives output)
     → IsFileOfLocation c plan flat output

@@ -6,7 +6,7 @@ use Rattle.mufom_read.specs.declared.refusal.ReadRefusal.{ReadRefusal}
 use Rattle.mufom_meaning.specs.Facts.{LinkFact, LocateFact}
 
 -- The words; the bytes of the plan's file; a file, by its number, whose bytes are refused, or in which the files have too many bytes; a
--- link fact; or a locate fact, with the number of bytes of an address.
+-- link fact; a locate fact, with the number of bytes of an address; or a raw image with this many bytes, which are too many.
 pub data Stop : Type 0 where
   words_refused : WordsStop → Stop
   plan_refused : PlanRefusal → Stop
@@ -14,3 +14,4 @@ pub data Stop : Type 0 where
   past_limit : ℕ → Stop
   link_fact : LinkFact → Stop
   locate_fact : ℕ → LocateFact → Stop
+  raw_too_long : ℕ → Stop

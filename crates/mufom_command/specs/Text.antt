@@ -1,8 +1,12 @@
--- The lines on files that were checked.
-use Rattle.std.specs.Prelude.{ℕ, ◌+◌, Bool, true, false, List, [], ◌∷◌, ◌++◌, length, filter, codes}
+-- The lines on files that were checked, and those of an address that is looked up.
+use Rattle.std.specs.Prelude.{ℕ, ◌+◌, Bool, true, false, List, [], ◌∷◌, ◌++◌, length, filter, codes, Option, Some, None}
 use Rattle.std.specs.Fmt.{decimal}
 use Rattle.mufom_debug.specs.Marks.{DebugMark, block_begin, block_end, name_mark, note_mark, value_mark, marks_of}
 use Rattle.mufom_module.specs.declared.module.Parts.{Parts}
+use Rattle.mufom_addr.specs.declared.hit.FunctionHit.{FunctionHit}
+use Rattle.mufom_addr.specs.declared.hit.LineHit.{LineHit}
+use Rattle.mufom_addr.specs.declared.hit.Hit.{Hit}
+use Rattle.mufom_text.specs.Image.{address}
 pub use Rattle.mufom_text.specs.Words.{Text, line, quoted, quoted_byte, stands_for_itself}
 
 -- a mark that is an item of its own: each but the end of a block
@@ -35,3 +39,23 @@ check_lines number (m ∷ ms) = check_line number m ++ check_lines (number + 1) 
 -- One line for each file, in their order.
 abbrev pub check_text : List Parts → Text
 check_text ms = check_lines 0 ms
+
+-- ---- the lines of an address
+
+-- a name, and none where there is none
+abbrev pub source_text : Option (List ℕ) → Text
+source_text None = codes "none"
+source_text (Some name) = quoted name
+
+-- addresses have the given number of units
+abbrev pub function_line : ℕ → Option FunctionHit → Text
+function_line maus None = line (codes "function none")
+function_line maus (Some f) = line (codes "function " ++ decimal f.kind ++ codes " " ++ quoted f.name ++ codes " " ++ address maus f.begin ++ codes " " ++ address maus f.«end»)
+
+abbrev pub source_line : ℕ → Option LineHit → Text
+source_line maus None = line (codes "line none")
+source_line maus (Some l) = line (codes "line " ++ decimal l.line ++ codes " " ++ address maus l.address ++ codes " source " ++ source_text l.source)
+
+-- The line of the innermost function around an address, and that of the nearest source line.
+abbrev pub hit_text : ℕ → Hit → Text
+hit_text maus hit = function_line maus hit.function ++ source_line maus hit.line

@@ -1,5 +1,5 @@
 -- The answer where modules are not linked or not located.
-use Rattle.std.specs.Prelude.{◌≡◌, ◌⊎◌, ℕ, ◌≤◌, List, length, false}
+use Rattle.std.specs.Prelude.{◌≡◌, ◌⊎◌, ℕ, ◌≤◌, List, length, true}
 use Rattle.mufom_image.specs.declared.refusal.LocateRefusal.{LocateRefusal}
 use Rattle.mufom_image.specs.declared.refusal.LocateRefusal.TheVariants as locate
 use Rattle.mufom_link.specs.declared.refusal.LinkRefusal.{LinkRefusal}
@@ -10,17 +10,19 @@ use Rattle.mufom_meaning.specs.declared.located.LocatedParts.{LocatedParts}
 use Rattle.mufom_meaning.specs.Staging.{AreValid}
 use Rattle.mufom_meaning.specs.StagingLaws.{total_weight}
 use Rattle.mufom_words.specs.declared.command.Command.{Command}
-use Rattle.mufom_words.specs.Options.{makes_modules}
+use Rattle.mufom_words.specs.Options.{reads_files}
 use Rattle.mufom_words.specs.Sound.{IsSound}
 use Rattle.mufom_words.specs.Tree.{tree_of}
 use Rattle.mufom_groups.specs.Groups.{most_weight}
 use Rattle.mufom_groups.specs.Linked.{linked}
-use Rattle.mufom_groups.specs.Work.{Work, ◌>>=◌, stops, with_stops}
+use Rattle.mufom_groups.specs.Work.{Work, ◌>>=◌, gives, stops, with_stops}
+use Rattle.mufom_host.specs.World.{NamedFile}
 use Rattle.mufom_command.specs.Commands.{located}
+use Rattle.mufom_command.specs.InputsRead.{inputs_in}
 use Rattle.mufom_command.specs.declared.outcome.Outcome.{Outcome}
 use Rattle.mufom_command.specs.declared.outcome.Outcome.TheVariants as outcome
 use Rattle.mufom_command.specs.declared.outcome.Refusal.TheVariants as refusal
-use Rattle.mufom_command.specs.Stop.{Stop, link_fact, locate_fact}
+use Rattle.mufom_command.specs.Stop.{Stop, link_fact, locate_fact, raw_too_long}
 use Rattle.mufom_command.specs.Run.{stop_outcome}
 
 abbrev pub outcome_of_link : LinkRefusal → Outcome
@@ -35,7 +37,7 @@ outcome_of_locate maus r = outcome.Refused (refusal.Locate r maus)
 -- what linking asks of a command and of the modules of its files
 pub record AreLinkable (c : Command) (ms : List Parts) : Type 0 where
   pub sound : IsSound c
-  pub of_files : makes_modules c.verb ≡ false
+  pub of_files : reads_files c.verb ≡ true
   pub count : length ms ≡ length c.files
   pub valid : AreValid ms
   pub light : total_weight ms ≤ most_weight
@@ -46,10 +48,15 @@ location_of c plan ms = do
   flat ← with_stops link_fact (linked (tree_of c.marks) ms)
   located plan flat
 
+-- the files come to this location
+abbrev pub LocatesTo : List NamedFile → Command → LocatedParts → Type 0
+LocatesTo files c r = (plan : Plan) × (ms : List Parts) × inputs_in files c (gives (plan, ms)) × location_of c plan ms (gives r)
+
 -- the end is a fact about the modules
 abbrev pub IsOfModules : Stop → Type 0
 IsOfModules (link_fact f) = Unit {0}
 IsOfModules (locate_fact maus f) = Unit {0}
+IsOfModules (raw_too_long count) = Unit {0}
 IsOfModules _ = ⊥
 
 -- the answer is out of memory, or that of a fact about the modules that ends the work

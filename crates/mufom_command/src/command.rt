@@ -7,10 +7,13 @@ ghost use Rattle.mufom_command.specs.Commands.{work_of};
 ghost use Rattle.mufom_command.specs.Run.{call_of, Answers, Does, DoesWords, IsComplete, NoneFalls, Opens, PrintsErrorLine, stop_answer};
 
 use crate::error_line::print_error_line;
-use crate::linking::{dump, link, locate_files};
+use crate::help::help;
+use crate::images::{bin, dump, locate_files};
+use crate::linking::link;
 use crate::listing::{check, show};
 use crate::making::make;
 use crate::outcome::{Outcome, Refusal};
+use crate::query::addr;
 use mufom_host::Host;
 use mufom_words::{Command, Verb, WordsStop, read_words};
 use std::alloc::Global;
@@ -39,6 +42,9 @@ fn run_command<H: Host>(alloc: Global, command: &Command, host: &mut H) -> Outco
         Verb::Locate => locate_files(alloc, command, host),
         Verb::Dump => dump(alloc, command, host),
         Verb::Make => make(alloc, command, host),
+        Verb::Addr => addr(alloc, command, host),
+        Verb::Bin => bin(alloc, command, host),
+        Verb::Help | Verb::Version => help(command, host),
     }
 }
 
@@ -54,7 +60,8 @@ fn answer<H: Host>(alloc: Global, words: &[String], host: &mut H) -> Outcome
 }
 
 /// Runs the command that the words name: `show FILE`, `check FILE ...`, `link -o OUT FILES`,
-/// `locate -o OUT FILES`, `dump FILES` or `make COUNT`, each with its options.
+/// `locate -o OUT FILES`, `dump FILES`, `make COUNT`, `addr --at ADDRESS FILES`, `bin -o OUT FILES`,
+/// `help` or `version`, each with its options.
 ///
 /// `words` are the command line's words without the program's name, fewer than 2^32. The plan is
 /// read first, where one is named, and then the files. Every outcome but `Done` prints one error line;

@@ -75,6 +75,8 @@ pub(crate) fn usage_line(fault: UsageFault) -> &'static str
         UsageFault::FileCount => "usage: file count\n",
         UsageFault::BadCount => "usage: bad count\n",
         UsageFault::LongName => "usage: long name\n",
+        UsageFault::BadByte => "usage: bad byte\n",
+        UsageFault::BadAddress => "usage: bad address\n",
     }
 }
 
@@ -211,6 +213,13 @@ fn locate_line(alloc: Global, refusal: &LocateRefusal, maus: u8) -> Result<Vec<u
     Ok(line)
 }
 
+// The line of a raw image with too many bytes.
+fn raw_line(alloc: Global, count: u128) -> Result<String, NoMemory>
+    ensures { IfOk result (λ text. string_bytes text ≡ complaint (Outcome.Refused (Refusal.Bin count))) }
+{
+    Ok(format!(in alloc; "refused: bin: TooLong {count}\n")?)
+}
+
 /// The line of a refusal.
 pub(crate) fn refusal_line(alloc: Global, refusal: &Refusal) -> Result<Vec<u8>, NoMemory>
     ensures { IfOk result (λ text. text.items ≡ complaint (Outcome.Refused refusal.now)) }
@@ -223,6 +232,7 @@ pub(crate) fn refusal_line(alloc: Global, refusal: &Refusal) -> Result<Vec<u8>, 
         Refusal::Plan(refusal) => plan_line(alloc, *refusal),
         Refusal::Link(refusal) => link_line(alloc, refusal),
         Refusal::Locate(refusal, maus) => locate_line(alloc, refusal, *maus),
+        Refusal::Bin(count) => Ok(raw_line(alloc, *count)?.into_bytes()),
     }
 }
 

@@ -3,15 +3,18 @@
 //!
 //! `show FILE` prints the text of a module, and `check FILE ...` a line for each module. `link`
 //! makes a file of the module into which modules are linked, with groups and members; `locate` makes a
-//! file of the absolute module of its location by a plan, and `dump` prints the image. `make` generates
-//! modules, locates them and prints a summary. The main clause
-//! is the contract of [`run`]: each answer has its cause in the words, the files or the counts of
+//! file of the absolute module of its location by a plan, `dump` prints the image, `bin` makes a file of
+//! its raw bytes, and `addr` prints the function and the source line at an address. `make` generates
+//! modules, locates them and prints a summary. `help` and `version` print texts of the program. The main
+//! clause is the contract of [`run`]: each answer has its cause in the words, the files or the counts of
 //! faults, and what was put out, printed as errors and opened is stated exactly.
 #![tactic(auto)]
 
 mod command;
 mod complaint;
 mod error_line;
+mod help;
+mod images;
 mod inputs;
 mod laws;
 mod lines;
@@ -21,6 +24,7 @@ mod locate_text;
 mod making;
 mod outcome;
 mod plan_file;
+mod query;
 mod writing;
 
 pub use command::run;

@@ -1,7 +1,7 @@
-//! The commands that link files, and put out what the link comes to: `link`, `locate` and `dump`.
+//! Linking and locating the files of a command, and the command `link`.
 
-ghost use Rattle.std.specs.Prelude.{◌≡◌, ◌≤◌, ◌<◌, ◌+◌, ◌^◌, ◌∷◌, [], ℕ, length, None, Some, List as list, IfErr, IfOk, IsSome, false};
-ghost use Rattle.mufom_host.specs.World.{OnlyPrints};
+ghost use Rattle.std.specs.Prelude.{◌≡◌, ◌≤◌, ◌<◌, ◌+◌, ◌^◌, ◌∷◌, [], ℕ, length, None, Some, List as list, IfErr, IfOk, IfSome, IsSome, true};
+ghost use Rattle.mufom_host.specs.World.{GrowsBy, OnlyOpens};
 ghost use Rattle.mufom_names.specs.Names.{names_of, AreDistinct};
 ghost use Rattle.mufom_module.specs.Defects.{IsValid};
 ghost use Rattle.mufom_module.specs.Written.{weight, written};
@@ -10,29 +10,29 @@ ghost use Rattle.mufom_meaning.specs.Absolute.{absolute_of};
 ghost use Rattle.mufom_meaning.specs.Staging.{AreValid};
 ghost use Rattle.mufom_meaning.specs.StagingLaws.{total_weight};
 ghost use Rattle.mufom_image.specs.Placements.{IsSoundPlan};
-ghost use Rattle.mufom_text.specs.Image.{image_text};
-ghost use Rattle.mufom_words.specs.Options.{makes_modules};
+ghost use Rattle.mufom_words.specs.declared.command.Verb.{Verb};
+ghost use Rattle.mufom_words.specs.Options.{reads_files};
+ghost use Rattle.mufom_command.specs.RunLaws.{IsLocating};
 ghost use Rattle.mufom_words.specs.Sound.{IsSound};
 ghost use Rattle.mufom_groups.specs.Groups.{most_weight};
 ghost use Rattle.mufom_groups.specs.Linked.{linked_module};
 ghost use Rattle.mufom_groups.specs.Work.{gives, with_stops};
-ghost use Rattle.mufom_command.specs.Commands.{absolute_file, linked_file, linking, located, printed_image};
-ghost use Rattle.mufom_command.specs.Making.{IsMadeAlone, IsPrinted};
-ghost use Rattle.mufom_command.specs.Run.{call_of, Does};
+ghost use Rattle.mufom_command.specs.Commands.{linked_file, linking, located, work_of};
+ghost use Rattle.mufom_command.specs.Making.{IsMadeAlone};
+ghost use Rattle.mufom_command.specs.Run.{call_of, Does, inputs_of};
 ghost use Rattle.mufom_command.specs.Stop.{link_fact};
-ghost use Rattle.mufom_command.specs.WorkEnds.{outcome_of_link, outcome_of_locate, AreLinkable, EndsAt, location_of};
+ghost use Rattle.mufom_command.specs.WorkEnds.{outcome_of_link, outcome_of_locate, AreLinkable, EndsAt, LocatesTo, location_of};
 
 use crate::inputs::{Inputs, read_inputs};
 use crate::outcome::{Outcome, Refusal};
 use crate::writing::make_file;
 use mufom_groups::link_modules;
 use mufom_host::Host;
-use mufom_image::{LocateRefusal, Located, absolute, locate};
+use mufom_image::{LocateRefusal, Located, locate};
 use mufom_link::LinkRefusal;
 use mufom_module::Module;
-use mufom_numbers::{List, NoMemory};
+use mufom_numbers::List;
 use mufom_plan::Plan;
-use mufom_text::{PrintStop, print_image};
 use mufom_words::Command;
 use std::alloc::Global;
 
@@ -104,26 +104,8 @@ fn location(alloc: Global, command: &Command, inputs: Inputs) -> Result<Located,
     }
 }
 
-// The absolute module of the location of the modules of the command, or the answer of the run.
-fn absolute_module(alloc: Global, command: &Command, inputs: Inputs) -> Result<Module, Outcome>
-    requires linkable { AreLinkable command.now inputs.modules }
-    requires unnamed { command.now.name ≡ None }
-    requires plan { IsSoundPlan inputs.plan }
-    ensures ok { IfOk result (λ m. (r : LocatedParts) × location_of command.now inputs.plan inputs.modules (gives r) × (m ≡ absolute_of r)) }
-    ensures stops { IfErr result (EndsAt (location_of command.now inputs.plan inputs.modules)) }
-{
-    let located = match location(alloc, command, inputs) {
-        Ok(located) => located,
-        Err(stop) => return Err(stop),
-    };
-    match absolute(alloc, &located) {
-        Ok(object) => Ok(object),
-        Err(NoMemory) => Err(Outcome::NoMemory),
-    }
-}
-
-// Makes the file that the command names, of a module.
-fn make_output<H: Host>(command: &Command, object: &Module, host: &mut H) -> Outcome
+/// Makes the file that the command names, of a module.
+pub(crate) fn make_output<H: Host>(command: &Command, object: &Module, host: &mut H) -> Outcome
     requires { IsSome command.now.out }
     ensures { (name : list ℕ) → command.now.out ≡ Some name
         → IsMadeAlone name (written object.now) (call_of H.meaning H.faults host.old host.new) result }
@@ -134,22 +116,10 @@ fn make_output<H: Host>(command: &Command, object: &Module, host: &mut H) -> Out
     }
 }
 
-// Prints the image of a location; the answer is whose error line is not printed yet.
-fn print_located<H: Host>(alloc: Global, located: &Located, host: &mut H) -> Outcome
-    ensures answer { IsPrinted (image_text located.now) (call_of H.meaning H.faults host.old host.new) result }
-    ensures only { OnlyPrints (H.meaning host.old) (H.meaning host.new) (H.faults host.old) (H.faults host.new) }
-{
-    match print_image(alloc, host, located) {
-        Ok(()) => Outcome::Done,
-        Err(PrintStop::Fault) => Outcome::WriteFault,
-        Err(PrintStop::NoMemory) => Outcome::NoMemory,
-    }
-}
-
 /// Reads the files of the command, links their modules, and makes a file of the link.
 pub(crate) fn link<H: Host>(alloc: Global, command: &Command, host: &mut H) -> Outcome
     requires sound { IsSound command.now }
-    requires of_files { makes_modules command.now.verb ≡ false }
+    requires of_files { reads_files command.now.verb ≡ true }
     requires file { IsSome command.now.out }
     ensures { Does command.now (λ files. linking linked_file files command.now) (call_of H.meaning H.faults host.old host.new) result }
 {
@@ -163,40 +133,26 @@ pub(crate) fn link<H: Host>(alloc: Global, command: &Command, host: &mut H) -> O
     }
 }
 
-/// Reads the plan and the files of the command, links their modules, locates the link, and makes a file
-/// of the absolute module.
-pub(crate) fn locate_files<H: Host>(alloc: Global, command: &Command, host: &mut H) -> Outcome
+/// Reads the plan and the files of the command, links their modules and locates the link; or the answer
+/// of the run, whatever would be put out of the location.
+pub(crate) fn locate_inputs<H: Host>(
+    alloc: Global,
+    command: &Command,
+    host: &mut H,
+) -> Result<Located, Outcome>
     requires sound { IsSound command.now }
-    requires of_files { makes_modules command.now.verb ≡ false }
+    requires of_files { reads_files command.now.verb ≡ true }
     requires unnamed { command.now.name ≡ None }
-    requires file { IsSome command.now.out }
-    ensures { Does command.now (λ files. linking absolute_file files command.now) (call_of H.meaning H.faults host.old host.new) result }
+    ensures ok { IfOk result (λ r. IfSome (H.meaning host.old).files (λ files. LocatesTo files command.now r)) }
+    ensures light { IfOk result (λ r. weight (absolute_of r) < 2 ^ 32) }
+    ensures all { IfOk result (λ r. GrowsBy (H.meaning host.old).opened (H.meaning host.new).opened (inputs_of command.now)) }
+    ensures only { OnlyOpens (H.meaning host.old) (H.meaning host.new) (H.faults host.old) (H.faults host.new) }
+    ensures stops { (v : Verb) → IsLocating v → IfErr result
+        (λ stop. Does command.now (λ files. work_of v files command.now) (call_of H.meaning H.faults host.old host.new) stop) }
 {
     let inputs = match read_inputs(alloc, command, host) {
         Ok(inputs) => inputs,
-        Err(stop) => return stop,
+        Err(stop) => return Err(stop),
     };
-    match absolute_module(alloc, command, inputs) {
-        Ok(object) => make_output(command, &object, host),
-        Err(stop) => stop,
-    }
-}
-
-/// Reads the plan and the files of the command, links their modules, locates the link, and prints its
-/// image.
-pub(crate) fn dump<H: Host>(alloc: Global, command: &Command, host: &mut H) -> Outcome
-    requires sound { IsSound command.now }
-    requires of_files { makes_modules command.now.verb ≡ false }
-    requires unnamed { command.now.name ≡ None }
-    requires no_file { command.now.out ≡ None }
-    ensures { Does command.now (λ files. linking printed_image files command.now) (call_of H.meaning H.faults host.old host.new) result }
-{
-    let inputs = match read_inputs(alloc, command, host) {
-        Ok(inputs) => inputs,
-        Err(stop) => return stop,
-    };
-    match location(alloc, command, inputs) {
-        Ok(located) => print_located(alloc, &located, host),
-        Err(stop) => stop,
-    }
+    location(alloc, command, inputs)
 }

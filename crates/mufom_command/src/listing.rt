@@ -2,8 +2,8 @@
 
 ghost use Rattle.std.specs.Prelude.{◌≡◌, ◌<◌, ◌^◌, None, length, flat_map};
 ghost use Rattle.mufom_host.specs.World.{OnlyPrints};
-ghost use Rattle.mufom_text.specs.Show.{module_text};
-ghost use Rattle.mufom_command.specs.Commands.{listing};
+ghost use Rattle.mufom_text.specs.Show.{text_of};
+ghost use Rattle.mufom_command.specs.Commands.{form_of as form_by, listing, showing};
 ghost use Rattle.mufom_command.specs.Making.{IsPrinted};
 ghost use Rattle.mufom_command.specs.Run.{call_of, Does};
 ghost use Rattle.mufom_command.specs.Text.{check_text};
@@ -13,7 +13,7 @@ use crate::lines::module_lines;
 use crate::outcome::Outcome;
 use mufom_host::{Failed, Host};
 use mufom_module::Module;
-use mufom_text::{PrintStop, print_module};
+use mufom_text::{PrintStop, TextForm, print_text};
 use mufom_words::Command;
 use std::alloc::Global;
 
@@ -31,13 +31,24 @@ fn print_lines<H: Host>(alloc: Global, modules: &[Module], host: &mut H) -> Outc
     }
 }
 
+// The form in which the command prints a module.
+fn form_of(command: &Command) -> TextForm
+    ensures { result ≡ form_by command.now }
+{
+    if command.listing {
+        TextForm::Listing
+    } else {
+        TextForm::Summary
+    }
+}
+
 // Prints the text of one module; the answer is whose error line is not printed yet.
-fn print_text<H: Host>(alloc: Global, modules: &[Module], host: &mut H) -> Outcome
+fn print_one<H: Host>(alloc: Global, form: TextForm, modules: &[Module], host: &mut H) -> Outcome
     requires { length modules.now ≡ 1 }
-    ensures answer { IsPrinted (flat_map module_text modules.now) (call_of H.meaning H.faults host.old host.new) result }
+    ensures answer { IsPrinted (flat_map (text_of form) modules.now) (call_of H.meaning H.faults host.old host.new) result }
     ensures only { OnlyPrints (H.meaning host.old) (H.meaning host.new) (H.faults host.old) (H.faults host.new) }
 {
-    match print_module(alloc, host, &modules[0]) {
+    match print_text(alloc, host, form, &modules[0]) {
         Ok(()) => Outcome::Done,
         Err(PrintStop::Fault) => Outcome::WriteFault,
         Err(PrintStop::NoMemory) => Outcome::NoMemory,
@@ -62,11 +73,10 @@ pub(crate) fn show<H: Host>(alloc: Global, command: &Command, host: &mut H) -> O
     requires one { length command.now.files ≡ 1 }
     requires no_plan { command.now.plan ≡ None }
     requires no_file { command.now.out ≡ None }
-    ensures { Does command.now (λ files. listing (λ ms. flat_map module_text ms) files command.now)
-        (call_of H.meaning H.faults host.old host.new) result }
+    ensures { Does command.now (λ files. showing files command.now) (call_of H.meaning H.faults host.old host.new) result }
 {
     match read_inputs(alloc, command, host) {
-        Ok(inputs) => print_text(alloc, inputs.modules.as_slice(), host),
+        Ok(inputs) => print_one(alloc, form_of(command), inputs.modules.as_slice(), host),
         Err(stop) => stop,
     }
 }

@@ -57,8 +57,8 @@ fn push_number(alloc: Global, text: &mut Vec<u8>, words: &[u8], number: u32) -> 
     Ok(())
 }
 
-// Adds words and an address.
-fn push_at(
+/// Adds words and an address of `maus` units.
+pub(crate) fn push_at(
     alloc: Global,
     text: &mut Vec<u8>,
     words: &[u8],
@@ -71,8 +71,8 @@ fn push_at(
     push_address(alloc, text, maus, at)
 }
 
-// Adds a name in double quotes.
-fn push_quoted(alloc: Global, text: &mut Vec<u8>, name: &Bytes) -> Result<(), NoMemory>
+/// Adds a name in double quotes.
+pub(crate) fn push_quoted(alloc: Global, text: &mut Vec<u8>, name: &Bytes) -> Result<(), NoMemory>
     ensures { OnOk result (text.new.items ≡ text.old.items ++ quoted_text name.now) }
 {
     text.extend_from_slice(quoted_name(alloc, name.as_slice())?.as_slice())?;

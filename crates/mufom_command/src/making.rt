@@ -1,10 +1,10 @@
 //! The command that generates modules: `make`.
 
-ghost use Rattle.std.specs.Prelude.{◌≡◌, ◌≤◌, None, true, IfErr, IfOk};
+ghost use Rattle.std.specs.Prelude.{◌≡◌, ◌≤◌, None, false, true, IfErr, IfOk};
 ghost use Rattle.mufom_host.specs.World.{OnlyPrints};
 ghost use Rattle.mufom_make.specs.Generated.{made_modules, made_plan, summary};
 ghost use Rattle.mufom_make.specs.declared.generated.TheConstants.{MOST_MODULES};
-ghost use Rattle.mufom_words.specs.Options.{makes_modules};
+ghost use Rattle.mufom_words.specs.Options.{makes_modules, reads_files};
 ghost use Rattle.mufom_words.specs.Sound.{IsSound};
 ghost use Rattle.mufom_groups.specs.Work.{gives};
 ghost use Rattle.mufom_command.specs.Commands.{located, making};
@@ -55,6 +55,7 @@ fn print_summary<H: Host>(alloc: Global, count: u32, located: &Located, host: &m
 pub(crate) fn make<H: Host>(alloc: Global, command: &Command, host: &mut H) -> Outcome
     requires sound { IsSound command.now }
     requires makes { makes_modules command.now.verb ≡ true }
+    requires no_files { reads_files command.now.verb ≡ false }
     requires no_plan { command.now.plan ≡ None }
     requires no_file { command.now.out ≡ None }
     ensures { Does command.now (λ files. making files command.now) (call_of H.meaning H.faults host.old host.new) result }

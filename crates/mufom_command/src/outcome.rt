@@ -33,6 +33,8 @@ pub enum Refusal {
     Link(LinkRefusal),
     /// The files can't be located; an address of theirs has this number of units.
     Locate(LocateRefusal, u8),
+    /// The raw image would have this many bytes, which are too many.
+    Bin(u128),
 }
 
 /// How a run ended.

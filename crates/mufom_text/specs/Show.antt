@@ -1,4 +1,5 @@
--- The text of a module: a line for each entry.
+-- The text of a module: a line for each entry. It has two forms: a summary to be read, and a listing from which the
+-- module can be built. They differ in the parts that are not read, and in the end of a repeat.
 use Rattle.std.specs.Prelude.{ℕ, ◌-◌, Bool, List, [], ◌∷◌, ◌++◌, length, flat_map, Option, Some, None, codes, if◌then◌else◌}
 use Rattle.std.specs.Fmt.{decimal}
 use Rattle.mufom_expr.specs.declared.token.FieldKind.{FieldKind}
@@ -22,6 +23,8 @@ use Rattle.mufom_debug.specs.Marks.{DebugMark, block_begin, block_end, name_mark
 use Rattle.mufom_module.specs.declared.module.Order.{Order}
 use Rattle.mufom_module.specs.declared.module.Order.TheVariants.{Least, Most}
 use Rattle.mufom_module.specs.declared.module.Parts.{Parts}
+use Rattle.mufom_text.specs.declared.form.TextForm.{TextForm}
+use Rattle.mufom_text.specs.declared.form.TextForm.TheVariants.{Summary, Listing}
 use Rattle.mufom_text.specs.Words.{Text, line, quoted, spaced_numbers, hex_bytes, indent, each}
 
 -- the letter of an order of bytes: the least significant first, or the most
@@ -32,10 +35,15 @@ order_letter Most = codes "M"
 abbrev pub module_line : Parts → Text
 module_line m = line (codes "module " ++ quoted m.name ++ codes " processor " ++ quoted m.processor ++ codes " maus " ++ decimal m.maus ++ codes " order " ++ order_letter m.order)
 
--- how many bytes a part has that is not read, where it has any
-abbrev pub raw_line : Text → List ℕ → Text
-raw_line name [] = []
-raw_line name (b ∷ bytes) = line (name ++ codes " " ++ decimal (length (b ∷ bytes)) ++ codes " bytes")
+-- what is printed of a part that is not read: the number of its bytes, or all of them
+abbrev pub raw_text : TextForm → List ℕ → Text
+raw_text Summary bytes = decimal (length bytes) ++ codes " bytes"
+raw_text Listing bytes = hex_bytes bytes
+
+-- the line of a part that is not read, where it has bytes
+abbrev pub raw_line : TextForm → Text → List ℕ → Text
+raw_line form name [] = []
+raw_line form name (b ∷ bytes) = line (name ++ codes " " ++ raw_text form (b ∷ bytes))
 
 -- ---- sections
 
@@ -139,11 +147,16 @@ abbrev pub item_text : Item → Text
 item_text (Literal bytes) = bytes_text bytes
 item_text (Field kind value size) = codes "field " ++ kind_text kind ++ codes " " ++ decimal size ++ codes " = " ++ infix_text value
 
-abbrev pub load_lines : Load → Text
-load_lines (SetSection n) = line (codes "select " ++ decimal n)
-load_lines (SetPc n value) = line (codes "counter " ++ decimal n ++ codes " = " ++ infix_text value)
-load_lines (One item) = line (item_text item)
-load_lines (Repeat count items) = line (codes "repeat " ++ decimal count) ++ flat_map (λ item. line (codes "  " ++ item_text item)) items
+-- the line after the items of a repeat, which only a listing has
+abbrev pub repeat_end : TextForm → Text
+repeat_end Summary = []
+repeat_end Listing = line (codes "end")
+
+abbrev pub load_lines : TextForm → Load → Text
+load_lines form (SetSection n) = line (codes "select " ++ decimal n)
+load_lines form (SetPc n value) = line (codes "counter " ++ decimal n ++ codes " = " ++ infix_text value)
+load_lines form (One item) = line (item_text item)
+load_lines form (Repeat count items) = line (codes "repeat " ++ decimal count) ++ flat_map (λ item. line (codes "  " ++ item_text item)) items ++ repeat_end form
 
 abbrev pub start_line : Option Tree → Text
 start_line None = []
@@ -152,11 +165,19 @@ start_line (Some value) = line (codes "start = " ++ infix_text value)
 -- ---- the module
 
 -- The text of a module with these debug items, as marks.
-abbrev pub text_with : Parts → List DebugMark → Text
-text_with m marks = module_line m ++ raw_line (codes "extension") m.ext ++ raw_line (codes "environment") m.env
+abbrev pub text_with : TextForm → Parts → List DebugMark → Text
+text_with form m marks = module_line m ++ raw_line form (codes "extension") m.ext ++ raw_line form (codes "environment") m.env
     ++ each section_line m.sections ++ each public_lines m.names.publics ++ each reference_lines m.names.references
-    ++ mark_lines 0 0 marks ++ flat_map load_lines m.loads ++ start_line m.start
+    ++ mark_lines 0 0 marks ++ flat_map (load_lines form) m.loads ++ start_line m.start
 
--- The text of a module.
+-- The text of a module in this form.
+abbrev pub text_of : TextForm → Parts → Text
+text_of form m = text_with form m (marks_of m.debug)
+
+-- The summary of a module.
 abbrev pub module_text : Parts → Text
-module_text m = text_with m (marks_of m.debug)
+module_text m = text_of Summary m
+
+-- The listing of a module.
+abbrev pub listing_text : Parts → Text
+listing_text m = text_of Listing m

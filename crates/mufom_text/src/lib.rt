@@ -1,16 +1,19 @@
-//! Texts: of a module, as `show` prints it, with one line for each entry; and of a located image, as
-//! `dump` prints it, with the loaded bytes, the start, the publics and the debug addresses.
+//! Texts: of a module, with a line for each entry, as a summary to be read or as a listing from which it
+//! can be built; and of a located image, as `dump` prints it, with the loaded bytes, the start, the
+//! publics and the debug addresses.
 //!
 //! It stands on the crates of a module's entries, `mufom_module`, `mufom_host`, `mufom_meaning` and `mufom_located` for what
 //! a location is, `itoa`, `hex` and `thiserror`. All lines are put by functions over one
 //! trait, and a page of a fixed size implements it: the text goes through the page to a host, so that
-//! no text is ever held whole. Its main clauses are those of [`print_module`] and [`print_image`]: the output
-//! grows by exactly the text, or a print failed, its count of faults rose, and the output grew
-//! by a prefix of that text.
+//! no text is held whole but by [`text_bytes`]. Its main clauses are those of [`print_text`] and
+//! [`print_image`]: the output grows by exactly the text, or a print failed, its count of faults rose,
+//! and the output grew by a prefix of that text.
 #![tactic(auto)]
 
 mod addresses;
 mod debug;
+mod form;
+mod gathered;
 mod image;
 mod image_lines;
 mod infix;
@@ -24,7 +27,8 @@ mod sections;
 mod show;
 mod words;
 
+pub use form::TextForm;
 pub use image_lines::print_image;
 pub use print::PrintStop;
 pub use quoting::quoted_name;
-pub use show::print_module;
+pub use show::{print_module, print_text, text_bytes};

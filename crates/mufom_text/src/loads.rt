@@ -4,8 +4,9 @@ ghost use Rattle.std.specs.Prelude.{◌≡◌, ◌<◌, ◌++◌, codes, flat_ma
 ghost use Rattle.std.specs.Fmt.{decimal};
 ghost use Rattle.mufom_expr.specs.InfixText.{infix_text};
 ghost use Rattle.mufom_text.specs.Words.{hex_bytes, line};
-ghost use Rattle.mufom_text.specs.Show.{bytes_text, item_text, kind_text, load_lines, start_line};
+ghost use Rattle.mufom_text.specs.Show.{bytes_text, item_text, kind_text, load_lines, repeat_end, start_line};
 
+use crate::form::TextForm;
 use crate::infix::expression;
 use crate::output::Output;
 use crate::words::{hex_bytes, number};
@@ -103,30 +104,42 @@ fn counter_line<K: Output>(out: &mut K, section: u32, value: &Postfix)
     out.put(b"\n");
 }
 
-fn repeat<K: Output>(out: &mut K, count: u64, items: &[Item])
-    ensures { K.takes out.old out.new (line (codes "repeat " ++ decimal count) ++ flat_map (λ item. line (codes "  " ++ item_text item)) items.now) }
+// The line after the items of a repeat, which only a listing has.
+fn repeat_end<K: Output>(out: &mut K, form: TextForm)
+    ensures { K.takes out.old out.new (repeat_end form) }
+{
+    match form {
+        TextForm::Summary => {}
+        TextForm::Listing => out.put(b"end\n"),
+    }
+}
+
+fn repeat<K: Output>(out: &mut K, form: TextForm, count: u64, items: &[Item])
+    ensures { K.takes out.old out.new (line (codes "repeat " ++ decimal count)
+        ++ flat_map (λ item. line (codes "  " ++ item_text item)) items.now ++ repeat_end form) }
 {
     number_line(out, b"repeat ", count);
     repeated_lines(out, items);
+    repeat_end(out, form);
 }
 
-fn load<K: Output>(out: &mut K, load: &Load)
-    ensures { K.takes out.old out.new (load_lines load.now) }
+fn load<K: Output>(out: &mut K, form: TextForm, load: &Load)
+    ensures { K.takes out.old out.new (load_lines form load.now) }
 {
     match load {
         Load::SetSection(section) => number_line(out, b"select ", *section as u64),
         Load::SetPc { section, value } => counter_line(out, *section, value),
         Load::One(item) => item_line(out, item),
-        Load::Repeat { count, items } => repeat(out, *count, items.as_slice()),
+        Load::Repeat { count, items } => repeat(out, form, *count, items.as_slice()),
     }
 }
 
 /// The lines of the loads.
-pub(crate) fn loads<K: Output>(out: &mut K, loads: &[Load])
-    ensures { K.takes out.old out.new (flat_map load_lines loads.now) }
+pub(crate) fn loads<K: Output>(out: &mut K, form: TextForm, loads: &[Load])
+    ensures { K.takes out.old out.new (flat_map (load_lines form) loads.now) }
 {
     for one in loads {
-        load(out, one);
+        load(out, form, one);
     }
 }
 

@@ -3,10 +3,11 @@
 ghost use Rattle.std.specs.Prelude.{◌≡◌, ◌++◌, codes};
 ghost use Rattle.std.specs.Fmt.{decimal};
 ghost use Rattle.mufom_text.specs.Words.{each, line};
-ghost use Rattle.mufom_text.specs.Show.{base_text, module_line, order_letter, purpose_letter, raw_line, section_line, type_letters};
+ghost use Rattle.mufom_text.specs.Show.{base_text, module_line, order_letter, purpose_letter, raw_line, raw_text, section_line, type_letters};
 
+use crate::form::TextForm;
 use crate::output::Output;
-use crate::words::{number, numbered, quoted};
+use crate::words::{hex_bytes, number, numbered, quoted};
 use mufom_module::{Order, Parts};
 use mufom_sections::{Purpose, Section};
 
@@ -34,24 +35,40 @@ pub(crate) fn module_line<K: Output>(out: &mut K, parts: &Parts)
     out.put(b"\n");
 }
 
-// The line of a part of `count` bytes.
-fn counted<K: Output>(out: &mut K, name: &[u8], count: usize)
-    ensures { K.takes out.old out.new (line (((name.now ++ codes " ") ++ decimal count) ++ codes " bytes")) }
+// The number of bytes of a part.
+fn counted<K: Output>(out: &mut K, count: usize)
+    ensures { K.takes out.old out.new (decimal count ++ codes " bytes") }
+{
+    number(out, count as u64);
+    out.put(b" bytes");
+}
+
+fn raw_text<K: Output>(out: &mut K, form: TextForm, bytes: &[u8])
+    ensures { K.takes out.old out.new (raw_text form bytes.now) }
+{
+    match form {
+        TextForm::Summary => counted(out, bytes.len()),
+        TextForm::Listing => hex_bytes(out, bytes),
+    }
+}
+
+// The line of a part that is not read.
+fn some_raw<K: Output>(out: &mut K, form: TextForm, name: &[u8], bytes: &[u8])
+    ensures { K.takes out.old out.new (line ((name.now ++ codes " ") ++ raw_text form bytes.now)) }
 {
     out.put(name);
     out.put(b" ");
-    number(out, count as u64);
-    out.put(b" bytes");
+    raw_text(out, form, bytes);
     out.put(b"\n");
 }
 
 /// The line of a part that is not read, where it has bytes.
-pub(crate) fn raw_line<K: Output>(out: &mut K, name: &[u8], bytes: &[u8])
-    ensures { K.takes out.old out.new (raw_line name.now bytes.now) }
+pub(crate) fn raw_line<K: Output>(out: &mut K, form: TextForm, name: &[u8], bytes: &[u8])
+    ensures { K.takes out.old out.new (raw_line form name.now bytes.now) }
 {
     match bytes {
         [] => {}
-        _ => counted(out, name, bytes.len()),
+        _ => some_raw(out, form, name, bytes),
     }
 }
 

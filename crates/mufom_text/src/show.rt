@@ -1,11 +1,13 @@
-//! The text of a module.
+//! The texts of a module.
 
-ghost use Rattle.std.specs.Prelude.{◌≡◌, Err, OnOk};
+ghost use Rattle.std.specs.Prelude.{◌≡◌, Err, IfOk, OnOk};
 ghost use Rattle.mufom_host.specs.World.{GrowsBy, GrowsByPrefix, OnlyPrints, Rose};
 ghost use Rattle.mufom_module.specs.Defects.{IsValid};
-ghost use Rattle.mufom_text.specs.Show.{module_text};
+ghost use Rattle.mufom_text.specs.Show.{module_text, text_of};
 
 use crate::debug::debug_items;
+use crate::form::TextForm;
+use crate::gathered::Gathered;
 use crate::loads::{loads, start};
 use crate::names::{publics, references};
 use crate::output::Output;
@@ -13,36 +15,69 @@ use crate::print::{Lines, PrintStop, print_lines};
 use crate::sections::{module_line, raw_line, section_lines};
 use mufom_host::Host;
 use mufom_module::{Module, Parts};
+use mufom_numbers::{Bytes, NoMemory};
 use std::alloc::Global;
 
 // All lines of a module.
-fn module_text<K: Output>(out: &mut K, parts: &Parts)
+fn module_text<K: Output>(out: &mut K, form: TextForm, parts: &Parts)
     requires { IsValid parts.now }
-    ensures { K.takes out.old out.new (module_text parts.now) }
+    ensures { K.takes out.old out.new (text_of form parts.now) }
 {
     module_line(out, parts);
-    raw_line(out, b"extension", parts.ext.as_slice());
-    raw_line(out, b"environment", parts.env.as_slice());
+    raw_line(out, form, b"extension", parts.ext.as_slice());
+    raw_line(out, form, b"environment", parts.env.as_slice());
     section_lines(out, parts.sections.as_slice());
     publics(out, parts.names.publics.as_slice());
     references(out, parts.names.references.as_slice());
     let mut names = 0;
     debug_items(out, 0, parts.debug.as_slice(), &mut names);
-    loads(out, parts.loads.as_slice());
+    loads(out, form, parts.loads.as_slice());
     start(out, &parts.start);
 }
 
-impl Lines for Module {
-    ghost use Rattle.mufom_text.specs.Show.{module_text};
+// A module with the form of its text.
+#[derive(Drop)]
+struct ModuleText<'a> {
+    form: TextForm,
+    parts: &'a Parts,
+    ghost valid: { IsValid parts.now },
+}
 
-    ghost text = { module_text };
+impl<'a> Lines for ModuleText<'a> {
+    ghost use Rattle.mufom_text.specs.Show.{text_of};
+
+    ghost text = { λ lines. text_of lines.form lines.parts.now };
 
     fn put_lines<K: Output>(&self, out: &mut K) {
-        module_text(out, self.parts());
+        module_text(out, self.form, self.parts);
     }
 }
 
-/// Prints the text of the module, in chunks of about 65,536 bytes but for the last.
+/// Prints a text of the module, in chunks of about 65,536 bytes but for the last.
+///
+/// `NoMemory` comes before anything is printed. `Fault` comes only where a print failed and the
+/// count of such faults rose; a prefix of the text may then be printed.
+pub fn print_text<H: Host>(
+    alloc: Global,
+    host: &mut H,
+    form: TextForm,
+    object: &Module,
+) -> Result<(), PrintStop>
+    ensures done { OnOk result (GrowsBy (H.meaning host.old).out (H.meaning host.new).out (text_of form object.now)) }
+    ensures fault { result ≡ Err PrintStop.Fault
+        → GrowsByPrefix (H.meaning host.old).out (H.meaning host.new).out (text_of form object.now)
+        × Rose (H.faults host.old).writes (H.faults host.new).writes }
+    ensures unmade { result ≡ Err PrintStop.NoMemory → (H.meaning host.new).out ≡ (H.meaning host.old).out }
+    ensures only { OnlyPrints (H.meaning host.old) (H.meaning host.new) (H.faults host.old) (H.faults host.new) }
+{
+    let lines = ModuleText {
+        form,
+        parts: object.parts(),
+    };
+    print_lines(alloc, host, &lines)
+}
+
+/// Prints the summary of the module, in chunks of about 65,536 bytes but for the last.
 ///
 /// `NoMemory` comes before anything is printed. `Fault` comes only where a print failed and the
 /// count of such faults rose; a prefix of the text may then be printed.
@@ -54,5 +89,14 @@ pub fn print_module<H: Host>(alloc: Global, host: &mut H, object: &Module) -> Re
     ensures unmade { result ≡ Err PrintStop.NoMemory → (H.meaning host.new).out ≡ (H.meaning host.old).out }
     ensures only { OnlyPrints (H.meaning host.old) (H.meaning host.new) (H.faults host.old) (H.faults host.new) }
 {
-    print_lines(alloc, host, object)
+    print_text(alloc, host, TextForm::Summary, object)
+}
+
+/// A text of the module, held in memory. It takes time and memory in proportion to the length of the text.
+pub fn text_bytes(alloc: Global, form: TextForm, object: &Module) -> Result<Bytes, NoMemory>
+    ensures { IfOk result (λ text. text ≡ text_of form object.now) }
+{
+    let mut out = Gathered::new(alloc);
+    module_text(&mut out, form, object.parts());
+    out.into_bytes()
 }

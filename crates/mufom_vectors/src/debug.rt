@@ -45,8 +45,30 @@ const OTHER_FORM: &[File] = &[(
     ),
 )];
 
-static RUNS: [Run; 5] = [
+static RUNS: [Run; 8] = [
     (LOCAL, "", "dump --plan p a", 0, ADDRESSES),
+    // An address within the function, one before its first line, and one after its end.
+    (
+        LOCAL,
+        "",
+        "addr --at 105 --plan p a",
+        0,
+        "function 4 \"main\" 00000100 0000010F\nline 12 00000102 source none\n",
+    ),
+    (
+        LOCAL,
+        "",
+        "addr --plan p --at=101 a",
+        0,
+        "function 4 \"main\" 00000100 0000010F\nline none\n",
+    ),
+    (
+        LOCAL,
+        "",
+        "addr --plan p a --at 0000000000000110",
+        0,
+        "function none\nline 12 00000102 source none\n",
+    ),
     (LOCAL, "", "show a", 0, SHOWN),
     (
         LOCAL,

@@ -27,6 +27,8 @@ mod link;
 mod lists;
 #[cfg(test)]
 mod locate;
+#[cfg(test)]
+mod raw;
 mod round_trip;
 #[cfg(test)]
 mod round_trip_tests;

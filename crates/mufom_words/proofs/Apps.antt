@@ -13,6 +13,8 @@ app_for-simple form.Link = refl
 app_for-simple form.Locate = refl
 app_for-simple form.Dump = refl
 app_for-simple form.Make = refl
+app_for-simple form.Addr = refl
+app_for-simple form.Bin = refl
 
 pub app_for-free : (f : Form) → is_simple_and_free (app_for f) ≡ true
 app_for-free form.Show = refl
@@ -21,3 +23,5 @@ app_for-free form.Link = refl
 app_for-free form.Locate = refl
 app_for-free form.Dump = refl
 app_for-free form.Make = refl
+app_for-free form.Addr = refl
+app_for-free form.Bin = refl

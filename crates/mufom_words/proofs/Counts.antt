@@ -400,12 +400,14 @@ count-rows_after c names words mild =
 -- ---- the commands
 
 app_for-mild : (f : Form) → AreMild (built (app_for f)).top.rules
-app_for-mild form.Show = (inl refl, (inr (refl, refl, refl, refl), tt))
+app_for-mild form.Show = (inl refl, (inl refl, (inr (refl, refl, refl, refl), tt)))
 app_for-mild form.Check = (inl refl, (inr (refl, refl, refl, refl), tt))
 app_for-mild form.Link = (inl refl, (inl refl, (inl refl, (inr (refl, refl, refl, refl), tt))))
 app_for-mild form.Locate = (inl refl, (inl refl, (inl refl, (inr (refl, refl, refl, refl), tt))))
 app_for-mild form.Dump = (inl refl, (inl refl, (inr (refl, refl, refl, refl), tt)))
 app_for-mild form.Make = (inr (refl, refl, refl, refl), tt)
+app_for-mild form.Addr = (inl refl, (inl refl, (inr (refl, refl, refl, refl), tt)))
+app_for-mild form.Bin = (inl refl, (inl refl, (inl refl, (inl refl, (inr (refl, refl, refl, refl), tt)))))
 
 app_for-words : (f : Form) (words : List Text) → argument_words (app_for f) words ≡ drop 1 words
 app_for-words form.Show words = refl
@@ -414,6 +416,8 @@ app_for-words form.Link words = refl
 app_for-words form.Locate words = refl
 app_for-words form.Dump words = refl
 app_for-words form.Make words = refl
+app_for-words form.Addr words = refl
+app_for-words form.Bin words = refl
 
 pub operands-within : (f : Form) (words : List Text) → length (given f words).operands ≤ length words
 operands-within f words =

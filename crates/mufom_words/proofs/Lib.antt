@@ -7,3 +7,5 @@ pub mod Sound
 pub mod CountLaws
 mod Worked
 mod WorkedGroups
+mod Hexadecimal
+mod HelpLaws

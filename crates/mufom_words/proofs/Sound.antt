@@ -1,5 +1,5 @@
 -- Each command that words give is sound.
-use Rattle.std.proofs.Common.{◌≡◌, ◌≢◌, ◌≤◌, ℕ, Bool, cond, true, false, nat_lt, refl, ap, sym, ◌∙◌, arith, length, List, [], ◌∷◌, Option, Some, None, Ok, subst, Result}
+use Rattle.std.proofs.Common.{◌≡◌, ◌≢◌, ◌≤◌, ℕ, Bool, cond, true, false, nat_lt, refl, ap, sym, ◌∙◌, arith, true≢false, codes, inl, inr, ◌⊎◌, ◌||◌, ◌-◌, length, List, [], ◌∷◌, Option, Some, None, Ok, subst, Result}
 use Rattle.std.specs.Prelude.{IfSome, IsSome, is_none, unwrap_or, not, nat_le, ◌==◌, ◌&&◌}
 use Rattle.std.specs.List.{list_all}
 use Rattle.std.specs.Result.{result_unwrap_or}
@@ -21,10 +21,15 @@ use Rattle.mufom_words.specs.declared.options.Setting.TheVariants as setting
 use Rattle.mufom_words.specs.declared.stop.UsageFault.{UsageFault}
 use Rattle.mufom_words.specs.declared.stop.UsageFault.TheVariants as fault
 use Rattle.mufom_words.specs.declared.stop.WordsStop.{WordsStop}
-use Rattle.mufom_words.specs.Options.{Text, Usage, Given, usage_of, app_for, form_of, takes, id_of, given_by, makes_file, makes_modules, names_module, reads_plan, takes_one_file}
+use Rattle.mufom_words.specs.Options.{Text, Usage, Given, usage_of, app_for, form_of, takes, id_of, given_by, makes_file, makes_modules, names_module, prints_help, reads_files, reads_plan, takes_one_file}
 use Rattle.mufom_words.specs.Operands.{word_of, file_words, is_name, names_in, operands_fault, number_fault, count_fault, count_of, is_digit, decimal_number, most_modules, number_of, files_of, marks_of, depth_of}
+use Rattle.std.specs.Str.{bytes_eq}
+use Rattle.mufom_words.specs.declared.command.Verb.{Verb}
+use Rattle.mufom_words.specs.declared.command.Verb.TheVariants as verb
+use Rattle.mufom_words.specs.Help.{own_answer, own_command, own_text, own_verb, printing}
+use Rattle.mufom_words.specs.Values.{byte_of, address_of}
 use Rattle.mufom_words.specs.Tree.{tree_of, leaves}
-use Rattle.mufom_words.specs.Answer.{◌or_else◌, most_files, longest_name, options_fault, name_fault, out_fault, usage_fault, limit_stop, limit_stop_by, usage, words_stop, command_by, unless_stopped, answer_for, answer_of, given}
+use Rattle.mufom_words.specs.Answer.{◌or_else◌, most_files, longest_name, given_fault, missing_fault, number_by, options_fault, name_fault, unless_read, usage_fault, value_fault, limit_stop, limit_stop_by, usage, words_stop, command_by, unless_stopped, answer_by, answer_for, answer_of, given}
 use Rattle.mufom_words.specs.Sound.{numbers_from, IsSound, CommandsAreSound}
 use Rattle.mufom_words.proofs.TreeOfWords.{tree_count, count-some, count-some-plain, length-numbers_from, IsTreeOf, tree-of-words, tree-of-plain}
 
@@ -51,7 +56,7 @@ accepted (Some s) c d e = absurd cc
 
 -- nothing is wrong with words, by each test
 record IsAccepted (u : Usage) (g : Given) : Type 0 where
-  out : out_fault u g.out ≡ None
+  out : missing_fault u setting.Out g.out ≡ None
   operand : operands_fault u.operands g.operands ≡ None
   number : number_fault u.operands g.operands ≡ None
   name : name_fault g.name ≡ None
@@ -60,10 +65,13 @@ record IsAccepted (u : Usage) (g : Given) : Type 0 where
 
 accepted_by : (u : Usage) (refused : Kinds) (g : Given) → words_stop u refused g ≡ None → IsAccepted u g
 accepted_by u refused g none =
-    let rest = (or_else-none (usage (options_fault refused)) (usage (usage_fault u g.out g.name g.operands) or_else limit_stop u.operands g.operands) none).1 in
-    let parts = or_else-none (usage (usage_fault u g.out g.name g.operands)) (limit_stop u.operands g.operands) rest in
-    let first = or_else-none (out_fault u g.out) (operands_fault u.operands g.operands or_else number_fault u.operands g.operands or_else name_fault g.name or_else count_fault u.operands g.operands)
-    (usage-none (usage_fault u g.out g.name g.operands) parts.0) in
+    let rest = (or_else-none (usage (options_fault refused)) (usage (given_fault u g) or_else limit_stop u.operands g.operands) none).1 in
+    let parts = or_else-none (usage (given_fault u g)) (limit_stop u.operands g.operands) rest in
+    let tests = (or_else-none (missing_fault u setting.At g.at) (usage_fault u g.out g.name g.operands or_else value_fault g.fill g.at)
+    (usage-none (given_fault u g) parts.0)).1 in
+    let usages = or_else-none (usage_fault u g.out g.name g.operands) (value_fault g.fill g.at) tests in
+    let first = or_else-none (missing_fault u setting.Out g.out) (operands_fault u.operands g.operands or_else number_fault u.operands g.operands or_else name_fault g.name or_else count_fault u.operands g.operands)
+    usages.0 in
     let second = or_else-none (operands_fault u.operands g.operands) (number_fault u.operands g.operands or_else name_fault g.name or_else count_fault u.operands g.operands) first.1 in
     let third = or_else-none (number_fault u.operands g.operands) (name_fault g.name or_else count_fault u.operands g.operands) second.1 in
     let fourth = or_else-none (name_fault g.name) (count_fault u.operands g.operands) third.1 in
@@ -172,6 +180,8 @@ takes-out form.Link = refl
 takes-out form.Locate = refl
 takes-out form.Dump = refl
 takes-out form.Make = refl
+takes-out form.Addr = refl
+takes-out form.Bin = refl
 
 takes-no-plan : (f : Form) → reads_plan (usage_of f).verb ≡ false → takes (usage_of f).settings setting.Plan ≡ false
 takes-no-plan form.Show e = refl
@@ -180,6 +190,8 @@ takes-no-plan form.Link e = refl
 takes-no-plan form.Locate e = absurd cc
 takes-no-plan form.Dump e = absurd cc
 takes-no-plan form.Make e = refl
+takes-no-plan form.Addr e = absurd cc
+takes-no-plan form.Bin e = absurd cc
 
 takes-no-name : (f : Form) → names_module (usage_of f).verb ≡ false → takes (usage_of f).settings setting.Name ≡ false
 takes-no-name form.Show e = refl
@@ -188,14 +200,38 @@ takes-no-name form.Link e = absurd cc
 takes-no-name form.Locate e = refl
 takes-no-name form.Dump e = refl
 takes-no-name form.Make e = refl
+takes-no-name form.Addr e = refl
+takes-no-name form.Bin e = refl
 
-takes-files : (f : Form) → makes_modules (usage_of f).verb ≡ false → (usage_of f).operands ≢ OneCount
+prints-no-help : (f : Form) → prints_help (usage_of f).verb ≡ false
+prints-no-help form.Show = refl
+prints-no-help form.Check = refl
+prints-no-help form.Link = refl
+prints-no-help form.Locate = refl
+prints-no-help form.Dump = refl
+prints-no-help form.Make = refl
+prints-no-help form.Addr = refl
+prints-no-help form.Bin = refl
+
+takes-files : (f : Form) → reads_files (usage_of f).verb ≡ true → (usage_of f).operands ≢ OneCount
 takes-files form.Show e = λ same. cc
 takes-files form.Check e = λ same. cc
 takes-files form.Link e = λ same. cc
 takes-files form.Locate e = λ same. cc
 takes-files form.Dump e = λ same. cc
 takes-files form.Make e = absurd cc
+takes-files form.Addr e = λ same. cc
+takes-files form.Bin e = λ same. cc
+
+takes-no-files : (f : Form) → reads_files (usage_of f).verb ≡ false → (usage_of f).operands ≡ OneCount
+takes-no-files form.Show e = absurd cc
+takes-no-files form.Check e = absurd cc
+takes-no-files form.Link e = absurd cc
+takes-no-files form.Locate e = absurd cc
+takes-no-files form.Dump e = absurd cc
+takes-no-files form.Make e = refl
+takes-no-files form.Addr e = absurd cc
+takes-no-files form.Bin e = absurd cc
 
 takes-count : (f : Form) → makes_modules (usage_of f).verb ≡ true → (usage_of f).operands ≡ OneCount
 takes-count form.Show e = absurd cc
@@ -204,6 +240,8 @@ takes-count form.Link e = absurd cc
 takes-count form.Locate e = absurd cc
 takes-count form.Dump e = absurd cc
 takes-count form.Make e = refl
+takes-count form.Addr e = absurd cc
+takes-count form.Bin e = absurd cc
 
 takes-one : (f : Form) → takes_one_file (usage_of f).verb ≡ true → (usage_of f).operands ≡ OneFile
 takes-one form.Show e = refl
@@ -212,6 +250,8 @@ takes-one form.Link e = absurd cc
 takes-one form.Locate e = absurd cc
 takes-one form.Dump e = absurd cc
 takes-one form.Make e = absurd cc
+takes-one form.Addr e = absurd cc
+takes-one form.Bin e = absurd cc
 
 no-files : (o : Operands) (words : List Text) → o ≡ OneCount → files_of o words ≡ []
 no-files OneFile words same = absurd cc
@@ -235,7 +275,7 @@ sound_by f rows is =
       };
       files = record {
         some = λ files. subst (λ (n : ℕ). 1 ≤ n) (sym long) (fits.some (takes-files f files));
-        none = λ makes. no-files o words (takes-count f makes);
+        none = λ reads. no-files o words (takes-no-files f reads);
         one = λ one. one-file o words (takes-one f one) is.operand is.number;
         few = is.few;
       };
@@ -246,6 +286,7 @@ sound_by f rows is =
         no_name = λ names. not-taken (takes (usage_of f).settings setting.Name) (first_of (id_of setting.Name) rows) (takes-no-name f names);
         short = name-short (given_by f rows).name is.name;
         count = λ makes. count-bounds o words is.count (takes-count f makes);
+        help = λ prints. absurd (true≢false (sym prints ∙ prints-no-help f));
       };
     }
 
@@ -255,6 +296,52 @@ commands-sound f words c e =
     let fine = accepted (words_stop (usage_of f) (fault_of (app_for f) words) (given f words)) (command_by (usage_of f) (given f words)) c e in
     subst IsSound fine.1 (sound_by f (matches_of (app_for f) words) (accepted_by (usage_of f) (fault_of (app_for f) words) (given f words) fine.0))
 
+-- ---- a command that prints a text of the program
+
+own-verbs : (word : Text) (v : Verb) → own_verb word ≡ Some v → (v ≡ verb.Help) ⊎ (v ≡ verb.Version)
+own-verbs word v is = by (bytes_eq word (codes "help") || (bytes_eq word (codes "--help") || bytes_eq word (codes "-h")))
+    (bytes_eq word (codes "version") || (bytes_eq word (codes "--version") || bytes_eq word (codes "-V"))) is where
+      by : (a b : Bool) → cond a (Some verb.Help) (cond b (Some verb.Version) None) ≡ Some v → (v ≡ verb.Help) ⊎ (v ≡ verb.Version)
+      by true b is = inl cc
+      by false true is = inr cc
+      by false false is = absurd cc
+
+printing-sound : (v : Verb) (text : Option Text) (c : Command) → (v ≡ verb.Help) ⊎ (v ≡ verb.Version) → printing v text ≡ Ok c → IsSound c
+printing-sound v None c one is = absurd cc
+printing-sound v (Some text) c one is =
+    let same : own_command v text ≡ c = ap (λ (r : Result Command WordsStop). result_unwrap_or r (own_command v text)) is in
+    subst IsSound same (of-verb v one) where
+      of-verb : (v : Verb) → (v ≡ verb.Help) ⊎ (v ≡ verb.Version) → IsSound (own_command v text)
+      of-verb v (inl help) = subst (λ (x : Verb). IsSound (own_command x text)) (sym help) record {
+        tree = record { spelled = refl; numbered = refl; within = omega arith };
+        files = record { some = λ reads. absurd cc; none = λ reads. refl; one = λ one. absurd cc; few = omega arith };
+        options = record {
+          out = λ makes. absurd cc;
+          no_out = λ makes. refl;
+          no_plan = λ reads. refl;
+          no_name = λ names. refl;
+          count = λ makes. absurd cc;
+          short = tt;
+          help = λ prints. refl;
+        };
+      }
+      of-verb v (inr version) = subst (λ (x : Verb). IsSound (own_command x text)) (sym version) record {
+        tree = record { spelled = refl; numbered = refl; within = omega arith };
+        files = record { some = λ reads. absurd cc; none = λ reads. refl; one = λ one. absurd cc; few = omega arith };
+        options = record {
+          out = λ makes. absurd cc;
+          no_out = λ makes. refl;
+          no_plan = λ reads. refl;
+          no_name = λ names. refl;
+          count = λ makes. absurd cc;
+          short = tt;
+          help = λ prints. refl;
+        };
+      }
+
+pub own-sound : (word : Text) (words : List Text) (v : Verb) (c : Command) → own_verb word ≡ Some v → own_answer v words ≡ Ok c → IsSound c
+own-sound word words v c is named = printing-sound v (own_text v words) c (own-verbs word v is) named
+
 sound-by : (words : List Text) (f : Option Form) (c : Command) → answer_for f words ≡ Ok c → IsSound c
 sound-by words None c named = absurd cc
 sound-by words (Some f) c named = commands-sound f words c named
@@ -262,4 +349,7 @@ sound-by words (Some f) c named = commands-sound f words c named
 -- so is the command of words
 pub words-sound : (words : List Text) (c : Command) → answer_of words ≡ Ok c → IsSound c
 words-sound [] c named = absurd cc
-words-sound (word ∷ words) c named = sound-by (word ∷ words) (form_of word) c named
+words-sound (word ∷ words) c named = by (own_verb word) refl named where
+  by : (v : Option Verb) → own_verb word ≡ v → answer_by v word words ≡ Ok c → IsSound c
+  by None is named = sound-by (word ∷ words) (form_of word) c named
+  by (Some v) is named = own-sound word words v c is named

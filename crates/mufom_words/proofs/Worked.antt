@@ -13,7 +13,8 @@ use Rattle.mufom_words.specs.declared.stop.UsageFault.TheVariants as fault
 use Rattle.mufom_words.specs.declared.stop.WordsStop.{WordsStop}
 use Rattle.mufom_words.specs.declared.stop.WordsStop.TheVariants as stop
 use Rattle.mufom_words.specs.Answer.{answer_of, given}
-use Rattle.mufom_words.specs.Options.{Text, app_for}
+use Rattle.mufom_words.specs.Values.{address_of, byte_of}
+use Rattle.mufom_words.specs.Options.{Given, Text, app_for}
 
 abbrev Answer : Type 0
 Answer = Result Command WordsStop
@@ -25,7 +26,7 @@ marks n (_ ∷ files) = File n ∷ marks (suc n) files
 
 -- a command of files in no group
 abbrev of_files : Verb → Bool → List Text → Command
-of_files v no_debug files = record { verb = v; no_debug = no_debug; name = None; out = None; plan = None; marks = marks 0 files; files = files; count = 0 }
+of_files v no_debug files = record { verb = v; no_debug = no_debug; name = None; out = None; plan = None; marks = marks 0 files; files = files; count = 0; listing = false; fill = 0; at = 0; help = None }
 
 -- ---- no command
 
@@ -35,8 +36,15 @@ no_word = refl
 another_word : answer_of (codes "dmup" ∷ codes "a" ∷ []) ≡ Err (stop.Usage fault.NoCommand)
 another_word = refl
 
-help_is_no_command : answer_of (codes "--help" ∷ []) ≡ Err (stop.Usage fault.NoCommand)
-help_is_no_command = refl
+help_takes_one_word : answer_of (codes "help" ∷ codes "dump" ∷ codes "show" ∷ []) ≡ Err (stop.Usage fault.BadWords)
+help_takes_one_word = refl
+
+version_takes_none : answer_of (codes "-V" ∷ codes "dump" ∷ []) ≡ Err (stop.Usage fault.BadWords)
+version_takes_none = refl
+
+help_after_a_command : answer_of (codes "dump" ∷ codes "--help" ∷ []) ≡ Err (stop.Usage fault.BadWords)
+unfolding clap_on_literals
+help_after_a_command = refl
 
 -- ---- options
 
@@ -185,23 +193,26 @@ count_before_limit = refl
 
 -- ---- options of the other commands
 
+abbrev none_given : Given
+none_given = record { no_debug = false; name = None; plan = None; out = None; listing = false; at = None; fill = None; operands = codes "a" ∷ [] }
+
 linked : given form.Link (codes "link" ∷ codes "-oc" ∷ codes "a" ∷ codes "[" ∷ codes "b" ∷ codes "--no-debug" ∷ codes "]" ∷ codes "--" ∷ codes "+" ∷ codes "-m" ∷ [])
-    ≡ record { no_debug = true; name = None; plan = None; out = Some (codes "c"); operands = codes "a" ∷ codes "[" ∷ codes "b" ∷ codes "]" ∷ codes "+" ∷ codes "-m" ∷ [] }
+    ≡ record none_given { no_debug = true; out = Some (codes "c"); operands = codes "a" ∷ codes "[" ∷ codes "b" ∷ codes "]" ∷ codes "+" ∷ codes "-m" ∷ [] }
 unfolding clap_on_literals
 linked = refl
 
 named : given form.Link (codes "link" ∷ codes "a" ∷ codes "--name=n" ∷ codes "-o" ∷ codes "-" ∷ [])
-    ≡ record { no_debug = false; name = Some (codes "n"); plan = None; out = Some (codes "-"); operands = codes "a" ∷ [] }
+    ≡ record none_given { name = Some (codes "n"); out = Some (codes "-") }
 unfolding clap_on_literals
 named = refl
 
 planned : given form.Locate (codes "locate" ∷ codes "--plan" ∷ codes "p" ∷ codes "-o=c" ∷ codes "a" ∷ [])
-    ≡ record { no_debug = false; name = None; plan = Some (codes "p"); out = Some (codes "c"); operands = codes "a" ∷ [] }
+    ≡ record none_given { plan = Some (codes "p"); out = Some (codes "c") }
 unfolding clap_on_literals
 planned = refl
 
 empty_values : given form.Locate (codes "locate" ∷ codes "--plan=" ∷ codes "-o" ∷ [] ∷ codes "a" ∷ [])
-    ≡ record { no_debug = false; name = None; plan = Some []; out = Some []; operands = codes "a" ∷ [] }
+    ≡ record none_given { plan = Some []; out = Some [] }
 unfolding clap_on_literals
 empty_values = refl
 
@@ -220,3 +231,26 @@ plan_twice = refl
 no_value : fault_of (app_for form.Locate) (codes "locate" ∷ codes "a" ∷ codes "-o" ∷ []) ≡ kind.InvalidValue ∷ []
 unfolding clap_on_literals
 no_value = refl
+
+-- ---- numbers that options give
+
+raw_bytes : given form.Bin (codes "bin" ∷ codes "--fill=fF" ∷ codes "-oc" ∷ codes "a" ∷ [])
+    ≡ record none_given { out = Some (codes "c"); fill = Some (codes "fF") }
+unfolding clap_on_literals
+raw_bytes = refl
+
+read_bytes : byte_of (codes "fF") ≡ Some 255
+read_bytes = refl
+
+no_byte : (byte_of (codes "F") ≡ None) × (byte_of (codes "0FF") ≡ None) × (byte_of (codes "+F") ≡ None) × (byte_of [] ≡ None)
+no_byte = (refl, refl, refl, refl)
+
+read_address : address_of (codes "0123456789abCDEF") ≡ Some 81985529216486895
+read_address = refl
+
+no_address : (address_of (codes "00000000000000001") ≡ None) × (address_of [] ≡ None) × (address_of (codes "0x10") ≡ None)
+no_address = (refl, refl, refl)
+
+no_at : fault_of (app_for form.Addr) (codes "addr" ∷ codes "a" ∷ []) ≡ kind.MissingRequiredArgument ∷ []
+unfolding clap_on_literals
+no_at = refl

@@ -16,7 +16,7 @@ use Rattle.mufom_words.specs.Tree.{Forest, empty, file, group, tree_of, leaves, 
 -- ---- commands
 
 abbrev dumps : Command
-dumps = record { verb = verb.Dump; no_debug = false; name = None; out = None; plan = None; marks = []; files = []; count = 0 }
+dumps = record { verb = verb.Dump; no_debug = false; name = None; out = None; plan = None; marks = []; files = []; count = 0; listing = false; fill = 0; at = 0; help = None }
 
 a_dump : answer_for (Some form.Dump) (codes "dump" ∷ codes "m1" ∷ []) ≡ Ok (record dumps { marks = File 0 ∷ []; files = codes "m1" ∷ [] })
 unfolding clap_on_literals

@@ -24,5 +24,9 @@ pub record AreAlike (c d : Command) : Type 0 where
   pub out : c.out ≡ d.out
   pub plan : c.plan ≡ d.plan
   pub count : c.count ≡ d.count
+  pub listing : c.listing ≡ d.listing
+  pub fill : c.fill ≡ d.fill
+  pub at : c.at ≡ d.at
+  pub help : c.help ≡ d.help
   pub files : c.files ≡ d.files
   pub roots : roots c ≡ roots d

@@ -1,7 +1,7 @@
 -- The command of the words, or the first thing that is wrong with them, in a fixed order: the command's name; the options; the words
--- that are no option, from left to right, and then their end; their number; the name; the count; and after all these the limits of
--- a run.
-use Rattle.std.specs.Prelude.{ℕ, Bool, true, false, ◌&&◌, nat_lt, if◌then◌else◌, List, [], ◌∷◌, length, Option, Some, None, option_map, is_none, Result, Ok, Err}
+-- that are no option, from left to right, and then their end; their number; the name; the count; the values of
+-- options that are numbers; and after all these the limits of a run.
+use Rattle.std.specs.Prelude.{ℕ, Bool, true, false, ◌&&◌, nat_lt, if◌then◌else◌, List, [], ◌∷◌, length, Option, Some, None, option_map, is_none, unwrap_or, IsSome, Result, Ok, Err}
 use Rattle.std.specs.Option.{option_or}
 use Rattle.clap.specs.Faults.{fault_of}
 use Rattle.clap.specs.Kinds.{Kinds}
@@ -11,12 +11,16 @@ use Rattle.clap.specs.declared.error.kind.ErrorKind.TheVariants as kind
 use Rattle.mufom_words.specs.declared.command.Command.{Command}
 use Rattle.mufom_words.specs.declared.form.Form.{Form}
 use Rattle.mufom_words.specs.declared.form.Operands.{Operands}
+use Rattle.mufom_words.specs.declared.options.Setting.{Setting}
 use Rattle.mufom_words.specs.declared.options.Setting.TheVariants as setting
 use Rattle.mufom_words.specs.declared.stop.UsageFault.{UsageFault}
 use Rattle.mufom_words.specs.declared.stop.UsageFault.TheVariants as fault
 use Rattle.mufom_words.specs.declared.stop.WordsStop.{WordsStop}
 use Rattle.mufom_words.specs.declared.stop.WordsStop.TheVariants as stop
 use Rattle.mufom_words.specs.Options.{Text, Usage, Given, usage_of, app_for, form_of, takes, given_by}
+use Rattle.mufom_words.specs.declared.command.Verb.{Verb}
+use Rattle.mufom_words.specs.Help.{own_answer, own_verb}
+use Rattle.mufom_words.specs.Values.{byte_of, address_of}
 use Rattle.mufom_words.specs.Operands.{operands_fault, number_fault, count_fault, files_of, marks_of, depth_of, number_of}
 
 -- the first that there is
@@ -61,17 +65,27 @@ abbrev pub name_fault : Option Text → Option UsageFault
 name_fault None = None
 name_fault (Some name) = if nat_lt longest_name (length name) then Some fault.LongName else None
 
--- `-o` does not stand where it must; `clap` refuses such words too
-abbrev pub out_fault : Usage → Option Text → Option UsageFault
-out_fault u out = if takes u.settings setting.Out && is_none out then Some fault.BadWords else None
+-- an option is missing that the command must have; `clap` refuses such words too
+abbrev pub missing_fault : Usage → Setting → Option Text → Option UsageFault
+missing_fault u s value = if takes u.settings s && is_none value then Some fault.BadWords else None
 
 -- what is wrong with words that `clap` takes, the first in this order
 abbrev pub usage_fault : Usage → Option Text → Option Text → List Text → Option UsageFault
-usage_fault u out name words = out_fault u out
+usage_fault u out name words = missing_fault u setting.Out out
     or_else operands_fault u.operands words
     or_else number_fault u.operands words
     or_else name_fault name
     or_else count_fault u.operands words
+
+-- the value of an option is written otherwise than it must be
+abbrev pub unless_read : (Text → Option ℕ) → UsageFault → Option Text → Option UsageFault
+unless_read read f None = None
+unless_read read f (Some text) = if is_none (read text) then Some f else None
+
+-- what is wrong with the numbers that options give
+abbrev pub value_fault : Option Text → Option Text → Option UsageFault
+value_fault fill at = unless_read byte_of fault.BadByte fill
+    or_else unless_read address_of fault.BadAddress at
 
 -- too many files, and then too many groups that are open at once
 abbrev pub limit_stop_by : ℕ → ℕ → Option WordsStop
@@ -84,15 +98,26 @@ limit_stop operands words = limit_stop_by (length (files_of operands words)) (de
 abbrev pub usage : Option UsageFault → Option WordsStop
 usage found = option_map (λ f. stop.Usage f) found
 
+-- the first thing that is wrong with what words give, the limits of a run aside
+abbrev pub given_fault : Usage → Given → Option UsageFault
+given_fault u g = missing_fault u setting.At g.at
+    or_else usage_fault u g.out g.name g.operands
+    or_else value_fault g.fill g.at
+
 -- the first thing that is wrong with what words give
 abbrev pub given_stop : Usage → Given → Option WordsStop
-given_stop u g = usage (usage_fault u g.out g.name g.operands) or_else limit_stop u.operands g.operands
+given_stop u g = usage (given_fault u g) or_else limit_stop u.operands g.operands
 
 -- the first thing that is wrong with the words, by what `clap` makes of them
 abbrev pub words_stop : Usage → Kinds → Given → Option WordsStop
 words_stop u refused g = usage (options_fault refused) or_else given_stop u g
 
 -- ---- the answer
+
+-- the number that an option gives, and another one where the option is absent
+abbrev pub number_by : (Text → Option ℕ) → ℕ → Option Text → ℕ
+number_by read otherwise None = otherwise
+number_by read otherwise (Some text) = unwrap_or (read text) otherwise
 
 abbrev pub command_by : Usage → Given → Command
 command_by u g = record {
@@ -104,6 +129,10 @@ command_by u g = record {
   marks = marks_of u.operands g.operands;
   files = files_of u.operands g.operands;
   count = number_of u.operands g.operands;
+  listing = g.listing;
+  fill = number_by byte_of 0 g.fill;
+  at = number_by address_of 0 g.at;
+  help = None;
 }
 
 abbrev pub unless_stopped : Option WordsStop → Command → Result Command WordsStop
@@ -114,7 +143,17 @@ abbrev pub answer_for : Option Form → List Text → Result Command WordsStop
 answer_for None words = Err (stop.Usage fault.NoCommand)
 answer_for (Some f) words = unless_stopped (words_stop (usage_of f) (fault_of (app_for f) words) (given f words)) (command_by (usage_of f) (given f words))
 
+-- the command of words, of which the first names a command that prints a text of the program, or none of these
+abbrev pub answer_by : Option Verb → Text → List Text → Result Command WordsStop
+answer_by None word words = answer_for (form_of word) (word ∷ words)
+answer_by (Some v) word words = own_answer v words
+
 -- The command of the words, or the first thing that is wrong with them.
 abbrev pub answer_of : List Text → Result Command WordsStop
 answer_of [] = Err (stop.Usage fault.NoCommand)
-answer_of (word ∷ words) = answer_for (form_of word) (word ∷ words)
+answer_of (word ∷ words) = answer_by (own_verb word) word words
+
+-- the words name a command that prints a text of the program
+abbrev pub PrintsHelp : List Text → Type 0
+PrintsHelp [] = ⊥
+PrintsHelp (word ∷ words) = IsSome (own_verb word)

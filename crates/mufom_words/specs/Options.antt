@@ -27,18 +27,30 @@ pub record Usage : Type 0 where
   pub operands : Operands
 
 abbrev pub usage_of : Form → Usage
-usage_of form.Show = record { verb = verb.Show; name = codes "show"; settings = setting.NoDebug ∷ []; operands = operands.OneFile }
+usage_of form.Show = record { verb = verb.Show; name = codes "show"; settings = setting.NoDebug ∷ setting.Listing ∷ []; operands = operands.OneFile }
 usage_of form.Check = record { verb = verb.Check; name = codes "check"; settings = setting.NoDebug ∷ []; operands = operands.SomeFiles }
 usage_of form.Link =
     record { verb = verb.Link; name = codes "link"; settings = setting.NoDebug ∷ setting.Name ∷ setting.Out ∷ []; operands = operands.GroupedFiles }
-usage_of form.Locate =
-    record { verb = verb.Locate; name = codes "locate"; settings = setting.NoDebug ∷ setting.Plan ∷ setting.Out ∷ []; operands = operands.GroupedFiles }
-usage_of form.Dump = record { verb = verb.Dump; name = codes "dump"; settings = setting.NoDebug ∷ setting.Plan ∷ []; operands = operands.GroupedFiles }
+usage_of form.Locate = record {
+  verb = verb.Locate;
+  name = codes "locate";
+  settings = setting.NoDebug ∷ setting.Plan ∷ setting.Out ∷ [];
+  operands = operands.GroupedFiles;
+}
+usage_of form.Dump =
+    record { verb = verb.Dump; name = codes "dump"; settings = setting.NoDebug ∷ setting.Plan ∷ []; operands = operands.GroupedFiles }
 usage_of form.Make = record { verb = verb.Make; name = codes "make"; settings = []; operands = operands.OneCount }
+usage_of form.Addr = record { verb = verb.Addr; name = codes "addr"; settings = setting.Plan ∷ setting.At ∷ []; operands = operands.GroupedFiles }
+usage_of form.Bin = record {
+  verb = verb.Bin;
+  name = codes "bin";
+  settings = setting.NoDebug ∷ setting.Plan ∷ setting.Fill ∷ setting.Out ∷ [];
+  operands = operands.GroupedFiles;
+}
 
--- all commands
+-- all commands whose words `clap` reads
 abbrev pub forms : List Form
-forms = form.Show ∷ form.Check ∷ form.Link ∷ form.Locate ∷ form.Dump ∷ form.Make ∷ []
+forms = form.Show ∷ form.Check ∷ form.Link ∷ form.Locate ∷ form.Dump ∷ form.Make ∷ form.Addr ∷ form.Bin ∷ []
 
 -- the one that a word names
 abbrev pub form_of : Text → Option Form
@@ -48,12 +60,15 @@ form_of word = find (λ f. bytes_eq word (usage_of f).name) forms
 abbrev pub makes_file : Verb → Bool
 makes_file verb.Link = true
 makes_file verb.Locate = true
+makes_file verb.Bin = true
 makes_file _ = false
 
 -- the command reads a plan, where `--plan` names one
 abbrev pub reads_plan : Verb → Bool
 reads_plan verb.Locate = true
 reads_plan verb.Dump = true
+reads_plan verb.Addr = true
+reads_plan verb.Bin = true
 reads_plan _ = false
 
 -- the command generates modules in place of files
@@ -71,6 +86,19 @@ abbrev pub takes_one_file : Verb → Bool
 takes_one_file verb.Show = true
 takes_one_file _ = false
 
+-- the command reads files
+abbrev pub reads_files : Verb → Bool
+reads_files verb.Make = false
+reads_files verb.Help = false
+reads_files verb.Version = false
+reads_files _ = true
+
+-- the command prints a text of the program itself
+abbrev pub prints_help : Verb → Bool
+prints_help verb.Help = true
+prints_help verb.Version = true
+prints_help _ = false
+
 -- ---- the table of options
 
 -- the name by which `clap` knows the option
@@ -79,13 +107,20 @@ id_of setting.NoDebug = codes "no_debug"
 id_of setting.Name = codes "name"
 id_of setting.Plan = codes "plan"
 id_of setting.Out = codes "out"
+id_of setting.Listing = codes "listing"
+id_of setting.At = codes "at"
+id_of setting.Fill = codes "fill"
 
--- `--no-debug`, `--name NAME`, `--plan PLAN`, and `-o OUT`, which must stand
+-- `--no-debug`, `--name NAME`, `--plan PLAN`, `-o OUT`, which must be there, `--listing`, `--at ADDRESS`, which
+-- must be there, and `--fill BYTE`
 abbrev pub rule_for : Setting → Rule
 rule_for setting.NoDebug = record (new_rule (id_of setting.NoDebug)) { long = Some (codes "no-debug"); action = Some SetTrue }
 rule_for setting.Name = record (new_rule (id_of setting.Name)) { long = Some (codes "name") }
 rule_for setting.Plan = record (new_rule (id_of setting.Plan)) { long = Some (codes "plan") }
 rule_for setting.Out = record (new_rule (id_of setting.Out)) { short = Some 111; required = true }
+rule_for setting.Listing = record (new_rule (id_of setting.Listing)) { long = Some (codes "listing"); action = Some SetTrue }
+rule_for setting.At = record (new_rule (id_of setting.At)) { long = Some (codes "at"); required = true }
+rule_for setting.Fill = record (new_rule (id_of setting.Fill)) { long = Some (codes "fill") }
 
 -- ---- what `clap` makes of the words
 
@@ -128,6 +163,9 @@ pub record Given : Type 0 where
   pub name : Option Text
   pub plan : Option Text
   pub out : Option Text
+  pub listing : Bool
+  pub at : Option Text
+  pub fill : Option Text
   -- the words that are no option
   pub operands : List Text
 
@@ -137,5 +175,8 @@ given_by f rows = record {
   name = value_in (usage_of f).settings rows setting.Name;
   plan = value_in (usage_of f).settings rows setting.Plan;
   out = value_in (usage_of f).settings rows setting.Out;
+  listing = is_true (value_in (usage_of f).settings rows setting.Listing);
+  at = value_in (usage_of f).settings rows setting.At;
+  fill = value_in (usage_of f).settings rows setting.Fill;
   operands = operands_of rows;
 }

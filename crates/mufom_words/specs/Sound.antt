@@ -2,7 +2,7 @@
 use Rattle.std.specs.Prelude.{◌≡◌, ℕ, zero, suc, ◌≤◌, List, [], ◌∷◌, length, true, false, Some, None, Ok, IfSome, IsSome}
 use Rattle.mufom_words.specs.declared.command.Command.{Command}
 use Rattle.mufom_words.specs.declared.form.Form.{Form}
-use Rattle.mufom_words.specs.Options.{Text, makes_file, makes_modules, names_module, reads_plan, takes_one_file}
+use Rattle.mufom_words.specs.Options.{Text, makes_file, makes_modules, names_module, prints_help, reads_files, reads_plan, takes_one_file}
 use Rattle.mufom_words.specs.Operands.{most_modules}
 use Rattle.mufom_words.specs.Tree.{spelling, tree_of, leaves}
 use Rattle.mufom_words.specs.Answer.{answer_for, most_files, longest_name}
@@ -18,16 +18,17 @@ pub record HasTree (c : Command) : Type 0 where
   pub numbered : leaves (tree_of c.marks) ≡ numbers_from 0 (length (leaves (tree_of c.marks)))
   pub within : length (leaves (tree_of c.marks)) ≤ length c.files
 
--- There is a file in the tree, but where modules are generated, which has none; one that takes one file has one; and there are no more
--- files than a run may have.
+-- There is a file in the tree where the command reads files, and none where it does not; a command for one file has one; and there are no
+-- more files than a run may have.
 pub record HasFiles (c : Command) : Type 0 where
-  pub some : makes_modules c.verb ≡ false → 1 ≤ length (leaves (tree_of c.marks))
-  pub none : makes_modules c.verb ≡ true → c.files ≡ []
+  pub some : reads_files c.verb ≡ true → 1 ≤ length (leaves (tree_of c.marks))
+  pub none : reads_files c.verb ≡ false → c.files ≡ []
   pub one : takes_one_file c.verb ≡ true → length c.files ≡ 1
   pub few : length c.files ≤ most_files
 
 -- The output has a name exactly where the command makes a file; only a command that reads a plan has the name of one, and only one that
--- may name its module gives a name, which is no longer than it may be; a count lies within its bounds.
+-- may name its module gives a name, which is no longer than it may be; a count lies within its bounds; and a command that prints a text of
+-- the program has one.
 pub record HasOptions (c : Command) : Type 0 where
   pub out : makes_file c.verb ≡ true → IsSome c.out
   pub no_out : makes_file c.verb ≡ false → c.out ≡ None
@@ -35,6 +36,7 @@ pub record HasOptions (c : Command) : Type 0 where
   pub no_name : names_module c.verb ≡ false → c.name ≡ None
   pub count : makes_modules c.verb ≡ true → (1 ≤ c.count) × (c.count ≤ most_modules)
   pub short : IfSome c.name (λ name. length name ≤ longest_name)
+  pub help : prints_help c.verb ≡ true → IsSome c.help
 
 pub record IsSound (c : Command) : Type 0 where
   pub tree : HasTree c

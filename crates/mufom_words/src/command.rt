@@ -1,4 +1,5 @@
 use mufom_numbers::{Bytes, List, Text};
+use std::marker::Model;
 
 /// What a command does.
 #[derive(Clone, Copy, Debug, PartialEq, Eq)]
@@ -15,6 +16,46 @@ pub enum Verb {
     Dump,
     /// Generates modules, links and locates them, and prints a summary.
     Make,
+    /// Prints the function and the line at an address of a located program.
+    Addr,
+    /// Writes the raw bytes of the image that files are located as.
+    Bin,
+    /// Prints a text about the commands or about a refusal.
+    Help,
+    /// Prints the version of the program.
+    Version,
+}
+
+/// A text that `help` or `version` prints, which is part of the program. Contracts see its bytes.
+#[derive(Debug, Drop)]
+pub struct HelpText {
+    text: &'static str,
+}
+
+impl Model for HelpText {
+    ghost use Rattle.std.specs.Prelude.{List, ℕ};
+
+    ghost Value = { List ℕ };
+
+    ghost view = { λ help. help.text.now };
+}
+
+impl HelpText {
+    ghost use Rattle.std.specs.Prelude.{◌≡◌};
+
+    /// The text as a value of its own.
+    pub(crate) fn new(text: &'static str) -> HelpText
+        ensures { result ≡ text.now }
+    {
+        HelpText { text }
+    }
+
+    /// The text.
+    pub fn as_str(&self) -> &'static str
+        ensures { result.now ≡ self.now }
+    {
+        self.text
+    }
 }
 
 /// A word of the spelling of a tree of files.
@@ -46,4 +87,12 @@ pub struct Command {
     pub files: List<Text>,
     /// How many modules are generated; 0 where the command generates none.
     pub count: u32,
+    /// A module is printed in the form from which it can be built.
+    pub listing: bool,
+    /// The byte of an address that no load fills; 0 where `--fill` is absent.
+    pub fill: u8,
+    /// The address that is looked up; 0 where `--at` is absent.
+    pub at: u64,
+    /// What is printed of the program itself, where that is all that the command does.
+    pub help: Option<HelpText>,
 }

@@ -28,6 +28,8 @@ pub(crate) enum Form {
     Locate,
     Dump,
     Make,
+    Addr,
+    Bin,
 }
 
 impl Form {
@@ -42,6 +44,8 @@ impl Form {
             "locate" => Some(Form::Locate),
             "dump" => Some(Form::Dump),
             "make" => Some(Form::Make),
+            "addr" => Some(Form::Addr),
+            "bin" => Some(Form::Bin),
             _ => None,
         }
     }
@@ -57,6 +61,8 @@ impl Form {
             Form::Locate => Verb::Locate,
             Form::Dump => Verb::Dump,
             Form::Make => Verb::Make,
+            Form::Addr => Verb::Addr,
+            Form::Bin => Verb::Bin,
         }
     }
 
@@ -71,6 +77,8 @@ impl Form {
             Form::Locate => "locate",
             Form::Dump => "dump",
             Form::Make => "make",
+            Form::Addr => "addr",
+            Form::Bin => "bin",
         }
     }
 
@@ -79,11 +87,14 @@ impl Form {
         ensures { result.now ≡ (usage_of self).settings }
     {
         match self {
-            Form::Show | Form::Check => &[Setting::NoDebug],
+            Form::Show => &[Setting::NoDebug, Setting::Listing],
+            Form::Check => &[Setting::NoDebug],
             Form::Link => &[Setting::NoDebug, Setting::Name, Setting::Out],
             Form::Locate => &[Setting::NoDebug, Setting::Plan, Setting::Out],
             Form::Dump => &[Setting::NoDebug, Setting::Plan],
             Form::Make => &[],
+            Form::Addr => &[Setting::Plan, Setting::At],
+            Form::Bin => &[Setting::NoDebug, Setting::Plan, Setting::Fill, Setting::Out],
         }
     }
 
@@ -94,7 +105,9 @@ impl Form {
         match self {
             Form::Show => Operands::OneFile,
             Form::Check => Operands::SomeFiles,
-            Form::Link | Form::Locate | Form::Dump => Operands::GroupedFiles,
+            Form::Link | Form::Locate | Form::Dump | Form::Addr | Form::Bin => {
+                Operands::GroupedFiles
+            }
             Form::Make => Operands::OneCount,
         }
     }

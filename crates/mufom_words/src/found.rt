@@ -7,7 +7,7 @@ ghost use Rattle.clap.specs.Kinds.{FailsBy};
 ghost use Rattle.clap.specs.Matches.{found_of};
 ghost use Rattle.clap.specs.Simple.{matches_of};
 ghost use Rattle.clap.specs.Walk.{rows_of};
-ghost use Rattle.mufom_words.specs.Options.{app_for, given_by, operands_of, usage_of, value_in as valued};
+ghost use Rattle.mufom_words.specs.Options.{app_for, is_true, operands_of, usage_of, value_in as valued};
 
 use crate::form::Form;
 use crate::options::{Setting, command_of};
@@ -41,11 +41,11 @@ pub(crate) fn value_in<'b, 'a: 'b>(
     matches.get_str(setting.id())
 }
 
-/// Whether `--no-debug` stands among the words.
-pub(crate) fn has_no_debug(matches: &ArgMatches<'_>, form: Form) -> bool
-    ensures { result ≡ (given_by form (rows_of (found_of matches.now))).no_debug }
+/// Whether an option that takes no value is among the words.
+pub(crate) fn is_given(matches: &ArgMatches<'_>, form: Form, setting: Setting) -> bool
+    ensures { result ≡ is_true (valued (usage_of form).settings (rows_of (found_of matches.now)) setting) }
 {
-    match value_in(matches, form, Setting::NoDebug) {
+    match value_in(matches, form, setting) {
         Some(text) => text == "true",
         None => false,
     }

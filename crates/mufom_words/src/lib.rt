@@ -10,13 +10,15 @@ mod command;
 mod count;
 mod form;
 mod found;
+mod help;
 mod laws;
 mod operands;
 mod options;
 mod read;
 mod stop;
+mod values;
 
-pub use command::{Command, Mark, Verb};
+pub use command::{Command, HelpText, Mark, Verb};
 pub use laws::{commands_are_sound, trees_are_spelled};
 pub use read::read_words;
 pub use stop::{UsageFault, WordsStop};

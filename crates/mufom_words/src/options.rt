@@ -20,6 +20,12 @@ pub(crate) enum Setting {
     Plan,
     /// `-o OUT`, which must stand.
     Out,
+    /// `--listing`
+    Listing,
+    /// `--at ADDRESS`, which must stand.
+    At,
+    /// `--fill BYTE`
+    Fill,
 }
 
 impl Setting {
@@ -32,6 +38,9 @@ impl Setting {
             Setting::Name => "name",
             Setting::Plan => "plan",
             Setting::Out => "out",
+            Setting::Listing => "listing",
+            Setting::At => "at",
+            Setting::Fill => "fill",
         }
     }
 }
@@ -48,6 +57,11 @@ fn option_of<'a>(alloc: Global, setting: Setting) -> Arg<'a>
         Setting::Name => Arg::new(alloc, "name").long("name"),
         Setting::Plan => Arg::new(alloc, "plan").long("plan"),
         Setting::Out => Arg::new(alloc, "out").short('o').required(true),
+        Setting::Listing => Arg::new(alloc, "listing")
+            .long("listing")
+            .action(ArgAction::SetTrue),
+        Setting::At => Arg::new(alloc, "at").long("at").required(true),
+        Setting::Fill => Arg::new(alloc, "fill").long("fill"),
     }
 }
 

@@ -5,18 +5,21 @@ ghost use Rattle.std.specs.String.{string_bytes};
 ghost use Rattle.clap.specs.Matches.{found_of};
 ghost use Rattle.clap.specs.Values.{kind_of};
 ghost use Rattle.clap.specs.Walk.{rows_of};
-ghost use Rattle.mufom_words.specs.Answer.{answer_for, answer_of, command_by, given_stop, limit_stop as limited, name_fault as name_wrong, stop_by, unless_stopped, usage_fault as first_fault};
+ghost use Rattle.mufom_words.specs.Answer.{answer_for, answer_of, command_by, given_fault as wrong_given, given_stop, limit_stop as limited, missing_fault as missing, PrintsHelp, name_fault as name_wrong, number_by, stop_by, unless_stopped, usage_fault as first_fault};
 ghost use Rattle.mufom_words.specs.Options.{given_by, operands_of, usage_of};
 ghost use Rattle.mufom_words.specs.Sound.{IsSound};
+ghost use Rattle.mufom_words.specs.Values.{address_of as address, byte_of as byte};
 
 use crate::command::Command;
 use crate::form::{Form, Operands};
-use crate::found::{has_no_debug, matches_in, operands_in, value_in};
+use crate::found::{is_given, matches_in, operands_in, value_in};
+use crate::help::{own_answer, own_verb};
 use crate::operands::{
     count_fault, depth_of, file_count, files_of, marks_of, number_fault, number_of, operands_fault,
 };
 use crate::options::Setting;
 use crate::stop::{UsageFault, WordsStop};
+use crate::values::{address_of, byte_of, value_fault};
 use clap::error::ErrorKind;
 use clap::{ArgMatches, Error};
 use mufom_numbers::{Bytes, NoMemory, Text};
@@ -40,6 +43,16 @@ fn name_fault(name: Option<&str>) -> Option<UsageFault>
     }
 }
 
+// An option that must be there is not.
+fn missing_fault(form: Form, setting: Setting, value: Option<&str>) -> Option<UsageFault>
+    ensures { result ≡ missing (usage_of form) setting (option_map (λ text. text.now) value.entry) }
+{
+    if form.takes(setting) && value.is_none() {
+        return Some(UsageFault::BadWords);
+    }
+    None
+}
+
 // The first thing that is wrong with words that `clap` takes.
 fn usage_fault(
     form: Form,
@@ -51,8 +64,8 @@ fn usage_fault(
     ensures { let given = option_map (λ text. text.now) in
         result ≡ first_fault (usage_of form) (given out.entry) (given name.entry) (map (λ word. word.now) words.now) }
 {
-    if form.takes(Setting::Out) && out.is_none() {
-        return Some(UsageFault::BadWords);
+    if let Some(fault) = missing_fault(form, Setting::Out, out) {
+        return Some(fault);
     }
     let operands = form.operands();
     if let Some(fault) = operands_fault(operands, words) {
@@ -111,6 +124,26 @@ fn kept_bytes(alloc: Global, text: Option<&str>) -> Result<Option<Bytes>, NoMemo
     }
 }
 
+// The byte that `--fill` gives, or 0.
+fn fill_in(matches: &ArgMatches<'_>, form: Form) -> u8
+    ensures { result ≡ number_by byte 0 (given_by form (rows_of (found_of matches.now))).fill }
+{
+    match value_in(matches, form, Setting::Fill) {
+        Some(text) => byte_of(text).unwrap_or(0),
+        None => 0,
+    }
+}
+
+// The address that `--at` gives, or 0.
+fn address_in(matches: &ArgMatches<'_>, form: Form) -> u64
+    ensures { result ≡ number_by address 0 (given_by form (rows_of (found_of matches.now))).at }
+{
+    match value_in(matches, form, Setting::At) {
+        Some(text) => address_of(text).unwrap_or(0),
+        None => 0,
+    }
+}
+
 // The command of words with which nothing is wrong.
 fn command_from(
     alloc: Global,
@@ -130,14 +163,37 @@ fn command_from(
     let files = files_of(alloc, operands, words)?;
     Ok(Command {
         verb: form.verb(),
-        no_debug: has_no_debug(matches, form),
+        no_debug: is_given(matches, form, Setting::NoDebug),
         name,
         out,
         plan,
         marks,
         files,
         count: number_of(operands, words),
+        listing: is_given(matches, form, Setting::Listing),
+        fill: fill_in(matches, form),
+        at: address_in(matches, form),
+        help: None,
     })
+}
+
+// The first thing that is wrong with words that `clap` takes, the limits of a run aside.
+fn given_fault(form: Form, matches: &ArgMatches<'_>, words: &[&str]) -> Option<UsageFault>
+    requires few { length words.now < 2 ^ 32 }
+    requires own { map (λ word. word.now) words.now ≡ operands_of (rows_of (found_of matches.now)) }
+    ensures { result ≡ wrong_given (usage_of form) (given_by form (rows_of (found_of matches.now))) }
+{
+    let at = value_in(matches, form, Setting::At);
+    if let Some(fault) = missing_fault(form, Setting::At, at) {
+        return Some(fault);
+    }
+    let out = value_in(matches, form, Setting::Out);
+    let name = value_in(matches, form, Setting::Name);
+    if let Some(fault) = usage_fault(form, out, name, words) {
+        return Some(fault);
+    }
+    let fill = value_in(matches, form, Setting::Fill);
+    value_fault(fill, at)
 }
 
 // The command of words that `clap` takes.
@@ -154,9 +210,7 @@ fn command_of_taken(
     ensures refused { let given = given_by form (rows_of (found_of matches.now)) in
         IfErr result (λ stop. stop ≢ WordsStop.NoMemory → given_stop (usage_of form) given ≡ Some stop) }
 {
-    let out = value_in(matches, form, Setting::Out);
-    let name = value_in(matches, form, Setting::Name);
-    if let Some(fault) = usage_fault(form, out, name, words) {
+    if let Some(fault) = given_fault(form, matches, words) {
         return Err(WordsStop::Usage(fault));
     }
     if let Some(stop) = limit_stop(form.operands(), words) {
@@ -188,20 +242,27 @@ pub(crate) fn command_for(alloc: Global, form: Form, words: &[String]) -> Result
 /// The command that the words give, or the first thing that is wrong with them.
 ///
 /// `words` are the command line's words without the program's name, fewer than 2^32. The first
-/// names the command, and `clap` reads the others. What is wrong is answered in this order: no
+/// names the command, and `clap` reads the others, but for those of `help` and `version`, which are
+/// compared letter by letter. Errors are looked for in this order, and the first is returned: no
 /// command; the options; brackets and `+` from left to right, then those that the end leaves open,
-/// then that there is no file; the number of files; the name; the count; and after all these more
-/// than 1,024 files, and more than 64 groups that are open at once.
+/// then that there is no file; the number of files; the name; the count; the values of `--fill`
+/// and `--at`; and after all these more than 1,024 files, and more than 64 groups that are open at
+/// once.
 pub fn read_words(alloc: Global, words: &[String]) -> Result<Command, WordsStop>
     requires { length words.now < 2 ^ 32 }
     ensures ok { IfOk result (λ command. answer_of (map (λ word. string_bytes word) words.now) ≡ Ok command) }
     ensures refused { IfErr result (λ stop. stop ≢ WordsStop.NoMemory → answer_of (map (λ word. string_bytes word) words.now) ≡ Err stop) }
     // Its marks are those of a tree over the first files, its options are those of its verb, and the limits hold.
     ensures sound { IfOk result IsSound }
+    // A command that prints a text of the program needs no memory.
+    ensures memory { PrintsHelp (map (λ word. string_bytes word) words.now) → result ≢ Err WordsStop.NoMemory }
 {
-    let Some(first) = words.first() else {
+    let [first, others @ ..] = words else {
         return Err(WordsStop::Usage(UsageFault::NoCommand));
     };
+    if let Some(verb) = own_verb(first.as_str()) {
+        return own_answer(alloc, verb, others);
+    }
     match Form::from_name(first.as_str()) {
         Some(form) => command_for(alloc, form, words),
         None => Err(WordsStop::Usage(UsageFault::NoCommand)),

@@ -21,6 +21,10 @@ pub enum UsageFault {
     FileCount,
     /// A count that is no decimal number from 1 to 65,536.
     BadCount,
+    /// A byte that is not two hexadecimal digits.
+    BadByte,
+    /// An address that is not 1 to 16 hexadecimal digits.
+    BadAddress,
     /// A name of a module that has more than 65,535 bytes.
     LongName,
 }

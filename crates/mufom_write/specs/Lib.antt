@@ -2,3 +2,4 @@ pub mod Chains
 pub mod Holding
 pub mod HoldingChains
 pub mod Writing
+pub mod Raw

@@ -17,10 +17,12 @@ mod names;
 mod output;
 mod parts;
 mod places;
+mod raw;
 mod room;
 mod sections;
 mod write;
 
 pub use measure::layout;
 pub use places::Layout;
+pub use raw::{raw_length, write_raw};
 pub use write::{WriteStop, write_module};

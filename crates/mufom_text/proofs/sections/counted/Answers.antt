@@ -1,4 +1,4 @@
 use Rattle.mufom_text.proofs.sections.counted.Goals as goal
 
 pub returns : goal.returns
-returns g c = let l = g.met.K.Output in (l.joins _ _ _ _ _ (l.joins _ _ _ _ _ (l.joins _ _ _ _ _ (l.joins _ _ _ _ _ c.put.ensures c.put-2.ensures) c.number.ensures) c.put-3.ensures) c.put-4.ensures)
+returns g c = let l = g.met.K.Output in (l.joins _ _ _ _ _ c.number.ensures c.put.ensures)

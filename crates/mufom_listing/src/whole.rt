@@ -1,0 +1,34 @@
+//! The listing of a module, in memory or printed.
+
+ghost use Rattle.std.specs.Prelude.{◌≡◌, Err, IfOk, OnOk};
+ghost use Rattle.mufom_host.specs.World.{GrowsBy, GrowsByPrefix, OnlyPrints, Rose};
+ghost use Rattle.mufom_text.specs.Show.{listing_text};
+
+use mufom_host::Host;
+use mufom_module::Module;
+use mufom_numbers::{Bytes, NoMemory};
+use mufom_text::{PrintStop, TextForm, print_text, text_bytes};
+use std::alloc::Global;
+
+/// The listing of the module. It takes time and memory in proportion to the length of the listing.
+pub fn listing(alloc: Global, object: &Module) -> Result<Bytes, NoMemory>
+    ensures { IfOk result (λ text. text ≡ listing_text object.now) }
+{
+    text_bytes(alloc, TextForm::Listing, object)
+}
+
+/// Prints the listing of the module, in chunks of about 65,536 bytes but for the last. It allocates one chunk, and
+/// nothing for the text.
+///
+/// `NoMemory` comes before anything is printed. `Fault` comes only where a print failed and the
+/// count of such faults rose; a prefix of the listing may then be printed.
+pub fn print_listing<H: Host>(alloc: Global, host: &mut H, object: &Module) -> Result<(), PrintStop>
+    ensures done { OnOk result (GrowsBy (H.meaning host.old).out (H.meaning host.new).out (listing_text object.now)) }
+    ensures fault { result ≡ Err PrintStop.Fault
+        → GrowsByPrefix (H.meaning host.old).out (H.meaning host.new).out (listing_text object.now)
+        × Rose (H.faults host.old).writes (H.faults host.new).writes }
+    ensures unmade { result ≡ Err PrintStop.NoMemory → (H.meaning host.new).out ≡ (H.meaning host.old).out }
+    ensures only { OnlyPrints (H.meaning host.old) (H.meaning host.new) (H.faults host.old) (H.faults host.new) }
+{
+    print_text(alloc, host, TextForm::Listing, object)
+}

@@ -1,0 +1,78 @@
+//! Raw images, the listing of a module, and the texts of the program itself.
+
+use crate::runs::{File, Held, Run, all_come_to, makes};
+use mufom_help::command_list;
+
+/// Two sections of one byte, at 16 and 19, with a byte each.
+const APART: &[File] = &[(
+    "a",
+    Held::Section(
+        b"\xE6\x01\xC1\xD3\x01t\xE2\xD3\x01\x01\xE2\xCC\x01\x10\xE6\x02\xC1\xD3\x01t\xE2\xD3\x02\x01\xE2\xCC\x02\x13",
+        b"",
+        b"\xE5\x01\xED\x01\x62\xE5\x02\xED\x01\x63",
+    ),
+)];
+
+/// The second of them at 67,108,880.
+const FAR: &[File] = &[(
+    "a",
+    Held::Section(
+        b"\xE6\x01\xC1\xD3\x01t\xE2\xD3\x01\x01\xE2\xCC\x01\x10\xE6\x02\xC1\xD3\x01t\xE2\xD3\x02\x01\xE2\xCC\x02\x84\x04\x00\x00\x10",
+        b"",
+        b"\xE5\x01\xED\x01\x62\xE5\x02\xED\x01\x63",
+    ),
+)];
+
+#[test]
+fn raw_images_are_filled_between_runs(rt: HostRuntime) {
+    let alloc = rt.alloc();
+    let absolute = &[("a", Held::Absolute)];
+    makes(&rt, alloc, absolute, "bin -o c a", b"\x4E\x71\x4E\x75");
+    makes(
+        &rt,
+        alloc,
+        APART,
+        "bin -o c --fill Fa a",
+        b"\x62\xFA\xFA\x63",
+    );
+    makes(&rt, alloc, APART, "bin -oc a", b"\x62\x00\x00\x63");
+    makes(&rt, alloc, &[("a", Held::Empty)], "bin -o c a", b"");
+}
+
+// What is listed of a repeat, and refused of an image that is too long.
+static RUNS: [Run; 5] = [
+    (FAR, "", "bin -o c a", 1, "refused: bin: TooLong 67108865\n"),
+    (
+        &[(
+            "a",
+            Held::Section(
+                b"\xE6\x01\xC1\xD3\x01t\xE2\xD3\x01\x04\xE2\xCC\x01\x10",
+                b"",
+                b"\xE5\x01\xF7\x02\xED\x01\x09",
+            ),
+        )],
+        "",
+        "show --listing a",
+        0,
+        "module \"m\" processor \"68000\" maus 4 order M\n\
+            section 0 \"t\" AS size 4 align 1 base 16\n\
+            select 0\n\
+            repeat 2\n\
+            \x20\x20bytes 1 09\n\
+            end\n",
+    ),
+    (&[], "", "version", 0, "mufom 1.0.0\n"),
+    (&[], "", "--version", 0, "mufom 1.0.0\n"),
+    (&[], "", "help nothing", 2, "usage: bad words\n"),
+];
+
+// The words that ask for the list of commands.
+static ASKED: [&str; 3] = ["help", "--help", "-h"];
+
+#[test]
+fn texts_are_printed(rt: HostRuntime) {
+    all_come_to(&rt, rt.alloc(), &RUNS);
+    for line in &ASKED {
+        all_come_to(&rt, rt.alloc(), &[(&[], "", line, 0, command_list())]);
+    }
+}

@@ -1,0 +1,23 @@
+-- The values of options that are numbers: a byte and an address. What is written otherwise is none.
+use Rattle.std.specs.Prelude.{ℕ, Bool, ◌&&◌, nat_le, nat_lt, List, length, Option, Some, None, if◌then◌else◌}
+use Rattle.std.specs.List.{list_all}
+use Rattle.std.specs.Char.{digit_value}
+use Rattle.std.specs.Str.Parse.{digits_value}
+use Rattle.mufom_words.specs.Options.{Text}
+
+-- a digit of either case
+abbrev pub is_hexadecimal : ℕ → Bool
+is_hexadecimal b = nat_lt (digit_value b) 16
+
+-- hexadecimal digits, at least as many as the first number and at most as many as the second
+abbrev pub hexadecimal_of : ℕ → ℕ → Text → Option ℕ
+hexadecimal_of least most word =
+    if nat_le least (length word) && (nat_le (length word) most && list_all is_hexadecimal word) then Some (digits_value 16 word) else None
+
+-- two hexadecimal digits
+abbrev pub byte_of : Text → Option ℕ
+byte_of word = hexadecimal_of 2 2 word
+
+-- 1 to 16 hexadecimal digits
+abbrev pub address_of : Text → Option ℕ
+address_of word = hexadecimal_of 1 16 word

@@ -1,0 +1,21 @@
+-- The raw image of loaded bytes: one byte for each address from the first that is loaded to the last.
+use Rattle.std.specs.Prelude.{ℕ, ◌+◌, ◌-◌, List, [], ◌∷◌, ◌++◌, length, replicate}
+use Rattle.mufom_meaning.specs.declared.located.Run.{Run}
+
+-- the address after the last of a run
+abbrev pub run_end : Run → ℕ
+run_end run = run.address + length run.bytes
+
+-- the address of the first run, and 0 where there is none
+abbrev pub first_address : List Run → ℕ
+first_address [] = 0
+first_address (run ∷ runs) = run.address
+
+-- the bytes from an address on to the last of the runs: those of the runs, and `fill` between them
+abbrev pub rows_from : ℕ → ℕ → List Run → List ℕ
+rows_from fill end [] = []
+rows_from fill end (run ∷ runs) = (replicate (run.address - end) fill ++ run.bytes) ++ rows_from fill (run_end run) runs
+
+-- The bytes of the runs, in the order of their addresses, with `fill` at each address between them.
+abbrev pub raw_image : ℕ → List Run → List ℕ
+raw_image fill runs = rows_from fill (first_address runs) runs

@@ -1,0 +1,126 @@
+//! The raw bytes of an image: one byte for each address from the first that is loaded to the last.
+
+ghost use Rattle.std.specs.Prelude.{◌≡◌, ◌-◌, ◌+◌, ◌++◌, [], length, replicate, OnOk, OnErr, ℕ};
+ghost use Rattle.mufom_host.specs.World.{MakingGrowsBy, MakingGrowsByPrefix, OnlyWrites, Rose};
+ghost use Rattle.mufom_write.specs.Raw.{first_address as first, raw_image, run_end as ends};
+ghost use Rattle.mufom_write.specs.Writing.{Writes};
+
+use crate::held::Held;
+use crate::output::Output;
+use crate::write::WriteStop;
+use mufom_host::{Failed, Sink};
+use mufom_meaning::Run;
+
+/// How many bytes between runs are put at once at most.
+const BLOCK: usize = 256;
+
+// As many bytes of one value as there are addresses between two runs.
+fn gap<K: Output>(out: &mut K, count: u64, fill: u8) -> Result<(), Failed>
+    ensures { K.takes out.old out.new (replicate count fill) result }
+{
+    let block = [fill; BLOCK];
+    let mut left = count;
+    while left > BLOCK as u64 {
+        out.put(&block)?;
+        left -= BLOCK as u64;
+    }
+    out.put(&block[..left as usize])
+}
+
+// The address after the last of a run.
+fn run_end(run: &Run) -> u128
+    ensures { result ≡ ends run.now }
+{
+    run.address as u128 + run.bytes.len() as u128
+}
+
+// The address of the first run; 0 where there is none.
+fn first_address(runs: &[Run]) -> u128
+    ensures { result ≡ first runs.now }
+{
+    match runs.first() {
+        Some(run) => run.address as u128,
+        None => 0,
+    }
+}
+
+// The gap before a run, where the one before it ended at `end`.
+fn gap_length(end: u128, run: &Run) -> u64
+    ensures { result ≡ run.now.address - end }
+{
+    (run.address as u128).saturating_sub(end) as u64
+}
+
+// The gap before a run, and its bytes.
+fn row<K: Output>(out: &mut K, fill: u8, end: u128, run: &Run) -> Result<(), Failed>
+    ensures { K.takes out.old out.new (replicate (run.now.address - end) fill ++ run.now.bytes) result }
+{
+    gap(out, gap_length(end, run), fill)?;
+    out.put(run.bytes.as_slice())
+}
+
+// All bytes of the image.
+fn rows<K: Output>(out: &mut K, fill: u8, runs: &[Run]) -> Result<(), Failed>
+    ensures { K.takes out.old out.new (raw_image fill runs.now) result }
+{
+    let mut end = first_address(runs);
+    for place in 0..runs.len() {
+        let run = &runs[place];
+        row(out, fill, end, run)?;
+        end = run_end(run);
+    }
+    Ok(())
+}
+
+// All bytes of the image, where nothing was held; nothing of it is held then.
+fn write_through<K: Sink>(held: &mut Held<K>, fill: u8, runs: &[Run]) -> Result<(), Failed>
+    requires { held.old.room ≡ [] }
+    ensures same { held.new.sink.ghost_name ≡ held.old.sink.ghost_name }
+    ensures writes { Writes (K.meaning held.old.sink.now) (K.meaning held.new.sink.now) (K.faults held.old.sink.now)
+        (K.faults held.new.sink.now) (raw_image fill runs.now) result }
+{
+    rows(held, fill, runs)?;
+    held.flush()
+}
+
+// All bytes of the image, in large chunks.
+fn write_held<K: Sink>(sink: &mut K, fill: u8, runs: &[Run]) -> Result<(), Failed>
+    ensures { Writes (K.meaning sink.old) (K.meaning sink.new) (K.faults sink.old) (K.faults sink.new) (raw_image fill runs.now) result }
+{
+    let mut held = Held::new(sink);
+    let answer = write_through(&mut held, fill, runs);
+    let _sink = held.into_sink();
+    answer
+}
+
+/// How many bytes the raw image of these runs has: one for each address from the first of the first
+/// run to the last of the last one, where they are in the order of their addresses. Allocates nothing.
+pub fn raw_length(runs: &[Run]) -> u128
+    ensures { (fill : ℕ) → result ≡ length (raw_image fill runs.now) }
+{
+    let mut end = first_address(runs);
+    let mut count: u128 = 0;
+    for run in runs {
+        count += gap_length(end, run) as u128 + run.bytes.len() as u128;
+        end = run_end(run);
+    }
+    count
+}
+
+/// Writes the raw image of the runs to the file being made: the bytes of each run, and between two
+/// runs `fill` for each address. Allocates nothing.
+///
+/// The runs are in the order of their addresses, as those of a location are. The sink gets large
+/// chunks, about 65,536 bytes each. `Fault` comes only where a write failed and the count of such
+/// faults rose; a prefix of the image may then be in the file.
+pub fn write_raw<K: Sink>(runs: &[Run], fill: u8, sink: &mut K) -> Result<(), WriteStop>
+    ensures whole { OnOk result (MakingGrowsBy (K.meaning sink.old).making (K.meaning sink.new).making (raw_image fill runs.now)) }
+    ensures prefix { OnErr result (MakingGrowsByPrefix (K.meaning sink.old).making (K.meaning sink.new).making (raw_image fill runs.now)) }
+    ensures only { OnlyWrites (K.meaning sink.old) (K.meaning sink.new) (K.faults sink.old) (K.faults sink.new) }
+    ensures cause { OnErr result (Rose (K.faults sink.old).writes (K.faults sink.new).writes) }
+{
+    match write_held(sink, fill, runs) {
+        Ok(()) => Ok(()),
+        Err(Failed) => Err(WriteStop::Fault),
+    }
+}
