@@ -1,0 +1,66 @@
+-- Where the entries of a list of modules come from: the module, and the file in which it was read.
+use Rattle.std.specs.Prelude.{◌≡◌, ℕ, List, map, length, Option, is_some, slice_get}
+use Rattle.std.specs.Option.{option_and_then}
+use Rattle.mufom_expr.specs.Tree.{Tree}
+use Rattle.std.specs.List.{enumerate_from}
+use Rattle.mufom_module.specs.declared.module.Parts.{Parts}
+use Rattle.mufom_origins.specs.declared.origins.Kind.{Kind}
+use Rattle.mufom_origins.specs.declared.origins.Kind.TheVariants.{Sections, Publics, References}
+use Rattle.mufom_origins.specs.declared.origins.Origin.{Origin}
+use Rattle.mufom_origins.specs.declared.origins.Place.{Place}
+use Rattle.mufom_origins.specs.Places.{capped, ends_from}
+
+-- a module with the number of its file
+abbrev pub FileModule : Type 0
+FileModule = ℕ × Parts
+
+-- the modules of all files, which are numbered from 0
+abbrev pub numbered : List Parts → List FileModule
+numbered ms = enumerate_from 0 ms
+
+-- the modules without the numbers of their files
+abbrev pub modules_of : List FileModule → List Parts
+modules_of files = map (λ f. f.1) files
+
+-- what is kept of a module
+abbrev pub origin_of : FileModule → Origin
+origin_of f = record {
+  file = f.0;
+  name = f.1.name;
+  sections = length f.1.sections;
+  publics = length f.1.names.publics;
+  references = length f.1.names.references;
+  has_start = is_some f.1.start;
+}
+
+abbrev pub origins_of : List FileModule → List Origin
+origins_of files = map origin_of files
+
+-- how many entries of a kind a module has
+abbrev pub count_of : Kind → Origin → ℕ
+count_of Sections o = o.sections
+count_of Publics o = o.publics
+count_of References o = o.references
+
+abbrev pub counts_of : Kind → List Origin → List ℕ
+counts_of kind origins = map (count_of kind) origins
+
+-- the code's ends of the entries of a kind in each module
+abbrev pub AreEnds : Kind → List Origin → List ℕ → Type 0
+AreEnds kind origins ends = ends ≡ map capped (ends_from 0 (counts_of kind origins))
+
+-- the ends of all kinds are those of these modules
+pub record AreIndexed (origins : List Origin) (sections publics references : List ℕ) : Type 0 where
+  pub sections_end : AreEnds Sections origins sections
+  pub publics_end : AreEnds Publics origins publics
+  pub references_end : AreEnds References origins references
+
+-- ---- what a place means
+
+-- the entry at a place
+abbrev pub entry_of : {X : Type 0} → (Parts → List X) → List FileModule → Place → Option X
+entry_of entries files place = option_and_then (λ f. slice_get (entries f.1) place.entry) (slice_get files place.«module»)
+
+-- the start of the module with a position
+abbrev pub start_of : List FileModule → ℕ → Option Tree
+start_of files position = option_and_then (λ f. f.1.start) (slice_get files position)

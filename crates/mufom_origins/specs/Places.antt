@@ -1,0 +1,45 @@
+-- Entries of several lists by one number, which counts them through all lists in order.
+use Rattle.std.specs.Prelude.{ℕ, zero, suc, ◌+◌, ◌-◌, ◌<◌, ◌≤◌, length, slice_index, List, [], ◌∷◌, ◌++◌, take, drop, min, flat_map, Option, Some, None, option_to_list, slice_get, nat_lt, if◌then◌else◌}
+use Rattle.mufom_origins.specs.declared.origins.Place.{Place}
+
+-- where the entry with a number is, where lists from the one with a position on have this many entries
+abbrev pub place_from : ℕ → List ℕ → ℕ → Option Place
+place_from position [] number = None
+place_from position (count ∷ counts) number =
+    if nat_lt number count then Some (record { «module» = position; entry = number }) else place_from (suc position) counts (number - count)
+
+-- where the entry with a number is, in lists with these numbers of entries; none where they have no more
+abbrev pub place_in : List ℕ → ℕ → Option Place
+place_in counts number = place_from 0 counts number
+
+-- how many entries there are up to the end of each list, after this many others
+abbrev pub ends_from : ℕ → List ℕ → List ℕ
+ends_from before [] = []
+ends_from before (count ∷ counts) = (before + count) ∷ ends_from (before + count) counts
+
+-- how many entries there are before the list with a position, by the ends
+abbrev pub entries_before : ℕ → List ℕ → ℕ → ℕ
+entries_before before ends zero = before
+entries_before before [] (suc k) = before
+entries_before before (e ∷ ends) (suc k) = entries_before e ends k
+
+-- the greatest number that the code counts to
+abbrev pub most_counted : ℕ
+most_counted = 18446744073709551615
+
+abbrev pub capped : ℕ → ℕ
+capped n = min n most_counted
+
+-- the elements at some positions
+abbrev pub at_positions : {X : Type 0} → List X → List ℕ → List X
+at_positions xs positions = flat_map (λ n. option_to_list (slice_get xs n)) positions
+
+-- the first `roots` elements, and those of the others that are chosen by their positions among these
+abbrev pub with_chosen : {X : Type 0} → ℕ → List ℕ → List X → List X
+with_chosen roots chosen xs = take roots xs ++ at_positions (drop roots xs) chosen
+
+-- the ends up to the one with this position are at most the number, and the others are greater
+pub record HasEnded (ends : List ℕ) (number position : ℕ) : Type 0 where
+  pub within : position ≤ length ends
+  pub at_most : (i : ℕ) → i < position → slice_index ends i ≤ number
+  pub greater : (i : ℕ) → position ≤ i → i < length ends → number < slice_index ends i

@@ -1,0 +1,294 @@
+ghost use Rattle.std.specs.Prelude.{◌≡◌, ◌<◌, ◌≤◌, ◌^◌, ◌+◌, ◌++◌, drop, length, map, option_map, option_to_list, position, slice_get, take, nat_le, ℕ, List as list, IfOk, OnOk};
+ghost use Rattle.std.specs.List.Sorted.{IsNonDecreasing};
+ghost use Rattle.mufom_origins.specs.Origins.{AreEnds, AreIndexed, count_of, counts_of, numbered, origin_of, origins_of};
+ghost use Rattle.mufom_origins.specs.Places.{HasEnded, at_positions, capped, ends_from, entries_before, place_in, with_chosen};
+
+use mufom_module::Module;
+use mufom_numbers::{Bytes, NoMemory};
+use std::alloc::Global;
+use std::marker::Model;
+
+/// What is kept of a module.
+#[derive(Debug, Drop)]
+pub struct Origin {
+    /// The number of the file that the module was read from, among the files of the command.
+    pub file: u32,
+    /// The name of the module.
+    pub name: Bytes,
+    /// The number of its sections.
+    pub sections: usize,
+    /// The number of its publics.
+    pub publics: usize,
+    /// The number of its references.
+    pub references: usize,
+    /// Whether it has a start.
+    pub has_start: bool,
+}
+
+/// Where an entry of a flat list comes from.
+#[derive(Clone, Copy, Debug, PartialEq, Eq)]
+pub struct Place {
+    /// The position of its module in the flat list, from 0.
+    pub module: usize,
+    /// Its position among the module's entries of the same kind, from 0.
+    pub entry: usize,
+}
+
+// The entries that are counted.
+#[derive(Clone, Copy)]
+enum Kind {
+    Sections,
+    Publics,
+    References,
+}
+
+/// The modules of a flat list, with the number of each one's entries. Contracts see the list of what is
+/// kept of each module.
+#[derive(Drop)]
+pub struct Origins {
+    modules: Vec<Origin>,
+    // How many entries of a kind there are up to the end of each module.
+    sections: Vec<usize>,
+    publics: Vec<usize>,
+    references: Vec<usize>,
+}
+
+impl Model for Origins {
+    ghost use Rattle.std.specs.Prelude.{List};
+    ghost use Rattle.mufom_origins.specs.declared.origins.Origin.{Origin};
+    ghost use Rattle.mufom_origins.specs.Origins.{AreIndexed};
+
+    ghost Value = { List Origin };
+
+    ghost view = { λ o. o.modules.items };
+
+    ghost invariant = { λ o. AreIndexed o.modules.items o.sections.items o.publics.items o.references.items };
+}
+
+// ---- the ends of a kind
+
+// How many entries of a kind the module has.
+fn count_of(kind: Kind, origin: &Origin) -> usize
+    ensures { result ≡ count_of kind origin.now }
+{
+    match kind {
+        Kind::Sections => origin.sections,
+        Kind::Publics => origin.publics,
+        Kind::References => origin.references,
+    }
+}
+
+// How many entries of a kind there are up to the end of each module.
+fn ends_of(alloc: Global, kind: Kind, modules: &[Origin]) -> Result<Vec<usize>, NoMemory>
+    ensures { IfOk result (λ ends. AreEnds kind modules.now ends.items) }
+{
+    let mut ends = Vec::with_capacity(alloc, modules.len())?;
+    let mut total: usize = 0;
+    for origin in modules {
+        total = total.saturating_add(count_of(kind, origin));
+        ends.push(total)?;
+    }
+    Ok(ends)
+}
+
+// The number of ends that are at most this number.
+fn ended(ends: &[usize], number: usize) -> usize
+    requires { IsNonDecreasing ends.now }
+    ensures { HasEnded ends.now number result }
+{
+    ends.partition_point(
+        |end: &usize| -> bool
+            ensures { result ≡ nat_le end.now number }
+        { *end <= number },
+    )
+}
+
+// How many entries there are before the module with a position.
+fn entries_before(ends: &[usize], position: usize) -> usize
+    requires { position < length ends.now }
+    ensures { result ≡ entries_before 0 ends.now position }
+{
+    if position == 0 { 0 } else { ends[position - 1] }
+}
+
+// Where the entry with a number is.
+fn place_of(ends: &[usize], number: u32) -> Option<Place>
+    requires { IsNonDecreasing ends.now }
+    ensures { (counts : list ℕ) → ends.now ≡ map capped (ends_from 0 counts) → result ≡ place_in counts number }
+{
+    let number = number as usize;
+    let module = ended(ends, number);
+    if module < ends.len() {
+        let entry = number - entries_before(ends, module);
+        Some(Place { module, entry })
+    } else {
+        None
+    }
+}
+
+// ---- modules
+
+// What is kept of a module, of the file with this number.
+fn origin_of(alloc: Global, file: u32, entry: &Module) -> Result<Origin, NoMemory>
+    ensures { IfOk result (λ origin. origin ≡ origin_of (file, entry.now)) }
+{
+    let parts = entry.parts();
+    let name = Bytes::from_slice(alloc, parts.name.as_slice())?;
+    Ok(Origin {
+        file,
+        name,
+        sections: parts.sections.len(),
+        publics: parts.names.publics.len(),
+        references: parts.names.references.len(),
+        has_start: parts.start.is_some(),
+    })
+}
+
+// A copy of what is kept of a module.
+fn copy_of(alloc: Global, origin: &Origin) -> Result<Origin, NoMemory>
+    ensures { IfOk result (λ copy. copy ≡ origin.now) }
+{
+    let name = Bytes::from_slice(alloc, origin.name.as_slice())?;
+    Ok(Origin {
+        file: origin.file,
+        name,
+        sections: origin.sections,
+        publics: origin.publics,
+        references: origin.references,
+        has_start: origin.has_start,
+    })
+}
+
+// Appends a copy, if there is one to make.
+fn push_copy(
+    alloc: Global,
+    origin: Option<&Origin>,
+    copies: &mut Vec<Origin>,
+) -> Result<(), NoMemory>
+    ensures { OnOk result (copies.new.items ≡ copies.old.items ++ option_to_list (option_map (λ o. o.now) origin.entry)) }
+{
+    if let Some(origin) = origin {
+        copies.push(copy_of(alloc, origin)?)?;
+    }
+    Ok(())
+}
+
+// Copies of the first modules.
+fn copy_first(alloc: Global, modules: &[Origin], count: usize) -> Result<Vec<Origin>, NoMemory>
+    ensures { IfOk result (λ copies. copies.items ≡ take count modules.now) }
+{
+    let mut copies = Vec::new(alloc);
+    let count = count.min(modules.len());
+    for origin in &modules[..count] {
+        copies.push(copy_of(alloc, origin)?)?;
+    }
+    Ok(copies)
+}
+
+// The module at a position, if there is one.
+fn origin_at(modules: &[Origin], position: u32) -> Option<&Origin>
+    ensures { option_map (λ o. o.now) result ≡ slice_get modules.now position }
+{
+    modules.get(position as usize)
+}
+
+// Appends copies of the modules at these positions.
+fn copy_chosen(
+    alloc: Global,
+    modules: &[Origin],
+    chosen: &[u32],
+    copies: &mut Vec<Origin>,
+) -> Result<(), NoMemory>
+    ensures { OnOk result (copies.new.items ≡ copies.old.items ++ at_positions modules.now chosen.now) }
+{
+    for position in chosen {
+        push_copy(alloc, origin_at(modules, *position), copies)?;
+    }
+    Ok(())
+}
+
+// The modules that are kept from a position on.
+fn after_first(modules: &[Origin], count: usize) -> &[Origin]
+    ensures { result.now ≡ drop count modules.now }
+{
+    modules.get(count..).unwrap_or(&[])
+}
+
+impl Origins {
+    // These modules, with the ends of their entries.
+    fn indexed(alloc: Global, modules: Vec<Origin>) -> Result<Origins, NoMemory>
+        ensures { IfOk result (λ origins. origins ≡ modules.items) }
+    {
+        let sections = ends_of(alloc, Kind::Sections, &modules)?;
+        let publics = ends_of(alloc, Kind::Publics, &modules)?;
+        let references = ends_of(alloc, Kind::References, &modules)?;
+        Ok(Origins {
+            modules,
+            sections,
+            publics,
+            references,
+        })
+    }
+
+    /// The origins of the modules of a command's files, in their order: each module is that of the file
+    /// whose number is its position. Time and memory are proportional to the modules and their names.
+    pub fn of(alloc: Global, modules: &[Module]) -> Result<Origins, NoMemory>
+        requires { length modules.now < 2 ^ 32 }
+        ensures { IfOk result (λ origins. origins ≡ origins_of (numbered modules.now)) }
+    {
+        let mut origins = Vec::with_capacity(alloc, modules.len())?;
+        for position in 0..modules.len() {
+            origins.push(origin_of(alloc, position as u32, &modules[position])?)?;
+        }
+        Origins::indexed(alloc, origins)
+    }
+
+    /// The origins of the first `roots` modules and of those of the others that were selected, by their
+    /// positions among these. Time and memory are proportional to the modules and their names.
+    pub fn selected(&self, alloc: Global, roots: usize, chosen: &[u32]) -> Result<Origins, NoMemory>
+        ensures { IfOk result (λ origins. origins ≡ with_chosen roots chosen.now self.now) }
+    {
+        let modules = self.modules.as_slice();
+        let mut copies = copy_first(alloc, modules, roots)?;
+        copy_chosen(alloc, after_first(modules, roots), chosen, &mut copies)?;
+        Origins::indexed(alloc, copies)
+    }
+
+    /// What is kept of each module, in the order of the flat list.
+    pub fn as_slice(&self) -> &[Origin]
+        ensures { result.now ≡ self.now }
+    {
+        self.modules.as_slice()
+    }
+
+    /// Where the section with a flat number comes from; `None` past the last section. Takes time that
+    /// grows with the logarithm of the number of modules, and does not allocate.
+    pub fn section(&self, number: u32) -> Option<Place>
+        ensures { result ≡ place_in (map (λ o. o.sections) self.now) number }
+    {
+        place_of(&self.sections, number)
+    }
+
+    /// Where the public with a flat number comes from; `None` past the last public. Takes time that
+    /// grows with the logarithm of the number of modules, and does not allocate.
+    pub fn public(&self, number: u32) -> Option<Place>
+        ensures { result ≡ place_in (map (λ o. o.publics) self.now) number }
+    {
+        place_of(&self.publics, number)
+    }
+
+    /// Where the reference with a flat number comes from; `None` past the last reference. Takes time
+    /// that grows with the logarithm of the number of modules, and does not allocate.
+    pub fn reference(&self, number: u32) -> Option<Place>
+        ensures { result ≡ place_in (map (λ o. o.references) self.now) number }
+    {
+        place_of(&self.references, number)
+    }
+
+    /// The position of the first module with a start, in the flat list. Does not allocate.
+    pub fn start(&self) -> Option<usize>
+        ensures { result ≡ position (λ o. o.has_start) self.now }
+    {
+        self.modules.iter().position(|o| o.has_start)
+    }
+}

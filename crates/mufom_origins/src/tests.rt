@@ -1,0 +1,79 @@
+//! Origins of three modules of one public each, of which the last has a start.
+
+use crate::{Origins, Place};
+use mufom_expr::Postfix;
+use mufom_module::{Module, Order, Parts, assemble};
+use mufom_names::Public;
+use mufom_numbers::{Bytes, List};
+use std::alloc::Global;
+use std::process::Abort;
+
+fn bytes(rt: &impl Abort, alloc: Global, text: &[u8]) -> Bytes {
+    Bytes::from_slice(alloc, text).expect(rt, "memory")
+}
+
+// A module of this name with a public of that name.
+fn module(rt: &impl Abort, alloc: Global, name: &[u8], has_start: bool) -> Module {
+    let mut parts = Parts::new(alloc, 4, Order::Most);
+    parts.name = bytes(rt, alloc, name);
+    let public = Public {
+        name: bytes(rt, alloc, name),
+        value: Postfix::constant(alloc, 0).expect(rt, "memory"),
+        notes: List::new(alloc),
+    };
+    parts.names.publics.push(public).expect(rt, "memory");
+    if has_start {
+        parts.start = Some(Postfix::constant(alloc, 0).expect(rt, "memory"));
+    }
+    assemble(parts).ok().expect(rt, "a module")
+}
+
+fn three(rt: &impl Abort, alloc: Global) -> Origins {
+    let mut modules = Vec::new(alloc);
+    modules
+        .push(module(rt, alloc, b"r", false))
+        .expect(rt, "memory");
+    modules
+        .push(module(rt, alloc, b"m0", false))
+        .expect(rt, "memory");
+    modules
+        .push(module(rt, alloc, b"m1", true))
+        .expect(rt, "memory");
+    assert!(rt; modules.len() < 1 << 32);
+    Origins::of(alloc, &modules).expect(rt, "memory")
+}
+
+#[test]
+fn entries_have_places(rt: HostRuntime) {
+    let origins = three(&rt, rt.alloc());
+    assert_eq!(rt; origins.as_slice().len(), 3);
+    assert_eq!(rt;
+        origins.public(1),
+        Some(Place {
+            module: 1,
+            entry: 0
+        })
+    );
+    assert_eq!(rt; origins.public(3), None);
+    assert_eq!(rt; origins.section(0), None);
+    assert_eq!(rt; origins.reference(0), None);
+    assert_eq!(rt; origins.start(), Some(2));
+}
+
+#[test]
+fn selected_members_keep_their_files(rt: HostRuntime) {
+    let origins = three(&rt, rt.alloc());
+    let flat = origins.selected(rt.alloc(), 1, &[1]).expect(&rt, "memory");
+    let modules = flat.as_slice();
+    assert_eq!(rt; modules.len(), 2);
+    assert_eq!(rt; (modules[0].file, modules[1].file), (0, 2));
+    assert_eq!(rt; modules[1].name.as_slice(), &b"m1"[..]);
+    assert_eq!(rt;
+        flat.public(1),
+        Some(Place {
+            module: 1,
+            entry: 0
+        })
+    );
+    assert_eq!(rt; flat.start(), Some(1));
+}
