@@ -1,0 +1,9 @@
+pub mod Reaching
+pub mod RowLaws
+pub mod Rows
+pub mod NeedLaws
+pub mod RemainLaws
+pub mod KeptLaws
+pub mod PrunedPlaces
+pub mod PrunedWeight
+pub mod PrunedValid

@@ -1,0 +1,59 @@
+use Rattle.std.proofs.Common.{◌<◌, ◌≤◌, ◌^◌, ap, sym, subst, ◌∙◌, length}
+use Rattle.mufom_module.specs.declared.module.Parts.{Parts}
+use Rattle.mufom_names.specs.Index.{position_of}
+use Rattle.mufom_module.specs.Defects.{IsValid}
+use Rattle.mufom_module.specs.Written.{weight}
+use Rattle.mufom_prune.specs.Kept.{named}
+use Rattle.mufom_prune.specs.Pruned.{remains, without_others}
+use Rattle.mufom_prune.specs.Steps.{entry_count}
+use Rattle.mufom_prune.proofs.NeedLaws.{few_entries, finds_named, length-needs, none_named, some_named}
+use Rattle.mufom_prune.proofs.PrunedValid.{pruned_valid}
+use Rattle.mufom_prune.proofs.PrunedWeight.{pruned_weighs}
+use Rattle.mufom_prune.proofs.pruning.prune.Goals as goal
+
+pub index_publics-requires : goal.index_publics-requires
+index_publics-requires c = subst (λ (m : Parts). entry_count m < 2 ^ 32) (sym c.parts-parts.ensures.same) (few_entries c.args.module.now c.parts-parts.ensures.valid)
+
+pub kept-requires-clause-few : goal.kept-requires-clause-few
+kept-requires-clause-few c = subst (λ (m : Parts). entry_count m < 2 ^ 32) (sym c.parts-parts.ensures.same) (few_entries c.args.module.now c.parts-parts.ensures.valid)
+
+pub remaining_parts-requires-clause-few : goal.remaining_parts-requires-clause-few
+remaining_parts-requires-clause-few c = subst (λ (m : Parts). entry_count m < 2 ^ 32) (sym c.parts-parts.ensures.same) (few_entries c.args.module.now c.parts-parts.ensures.valid)
+
+pub returns-in_default-clause-refused : goal.returns-in_default-clause-refused
+returns-in_default-clause-refused c =
+    let m = c.parts-parts.result.now in
+    let keep = c.args.keep.now in
+    let found = sym (finds_named m keep) ∙ ap (λ es. position_of es keep) (sym c.in_ok-publics.ensures) ∙ sym c.in_default.ensures.value in
+    (c.in_ok-from_slice.ensures, none_named (length c.args.module.now.sections) c.args.module.now.names.publics keep (ap (λ (m : Parts). named m keep) (sym c.parts-parts.ensures.same) ∙ found))
+
+pub kept-requires-clause-named : goal.kept-requires-clause-named
+kept-requires-clause-named c =
+    let m = c.parts-parts.result.now in
+    let keep = c.args.keep.now in
+    sym (finds_named m keep) ∙ ap (λ es. position_of es keep) (sym c.in_ok-publics.ensures) ∙ sym c.in-Some.ensures.value
+
+pub remaining_parts-requires-clause-sized : goal.remaining_parts-requires-clause-sized
+remaining_parts-requires-clause-sized c = ap length c.deref.ensures.value ∙ c.in_ok-marks.ensures.sized ∙ length-needs c.parts-parts.result.now
+
+pub returns-clause-known : goal.returns-clause-known
+returns-clause-known c =
+    let m = c.parts-parts.result.now in
+    let keep = c.args.keep.now in
+    let found = sym (finds_named m keep) ∙ ap (λ es. position_of es keep) (sym c.in_ok-publics.ensures) ∙ sym c.in-Some.ensures.value in
+    some_named (length c.args.module.now.sections) c.args.module.now.names.publics keep c.in-Some.entry (ap (λ (m : Parts). named m keep) (sym c.parts-parts.ensures.same) ∙ found)
+
+pub sound-requires : goal.sound-requires
+sound-requires c =
+    let m = c.parts-parts.result.now in
+    let kept = c.in_ok-marks.ensures in
+    let valid = subst IsValid (sym c.parts-parts.ensures.same) c.parts-parts.ensures.valid in
+    let marks = c.in_ok-marks.marks.items in
+    let rest = c.in_ok-rest.ensures ∙ ap (λ its. without_others m (remains m its)) c.deref.ensures.value in
+    subst IsValid (sym rest) (pruned_valid m c.args.keep.now marks kept valid)
+
+pub returns-clause-weighs : goal.returns-clause-weighs
+returns-clause-weighs c =
+    let m = c.args.module.now in
+    let rest = c.sound.ensures.same ∙ c.in_ok-rest.ensures ∙ (λ i. without_others (c.parts-parts.ensures.same i) (remains (c.parts-parts.ensures.same i) c.deref.result.now)) in
+    subst (λ (M : Parts). weight M ≤ weight m) (sym rest) (pruned_weighs m (remains m c.deref.result.now))

@@ -1,0 +1,158 @@
+ghost use Rattle.std.specs.Prelude.{◌≡◌, ◌≤◌, ◌<◌, ◌^◌, [], ◌∷◌, length, map, true, IfOk, OnOk, IfErr, Some};
+ghost use Rattle.mufom_module.specs.Bare.{bare_parts};
+ghost use Rattle.mufom_module.specs.Written.{weight};
+ghost use Rattle.mufom_plan.specs.Names.{has_name};
+ghost use Rattle.mufom_meaning.specs.Flat.{public_names};
+ghost use Rattle.mufom_prune.specs.Kept.{IsKept, named};
+ghost use Rattle.mufom_prune.specs.Pruned.{IsPruned, marks_of_all, new_public, positions_of, remaining, remains, without_others};
+ghost use Rattle.mufom_prune.specs.Refusals.{IsRefusalOf};
+ghost use Rattle.mufom_prune.specs.Steps.{entry_count, with_names};
+
+use crate::needs::{index_publics, needs, roots};
+use crate::positions::{NewPositions, new_positions};
+use crate::reach::reach;
+use crate::refusal::PruneRefusal;
+use crate::remaining::{
+    move_start, reference_marks, remaining_loads, remaining_publics, remaining_references,
+    remaining_sections,
+};
+use mufom_copies::copy_bytes;
+use mufom_module::{Module, Parts};
+use mufom_names::{NameIndex, NameTable};
+use mufom_numbers::{Bytes, NoMemory};
+use std::alloc::Global;
+
+// A mark for each entry that is kept for the public of the name.
+fn kept(
+    alloc: Global,
+    parts: &Parts,
+    publics: &NameIndex<'_>,
+    entry: u32,
+    keep: &[u8],
+) -> Result<Vec<bool>, NoMemory>
+    requires few { entry_count parts.now < 2 ^ 32 }
+    requires index { publics.now ≡ with_names [] (length parts.now.sections) parts.now.names.publics }
+    requires named { named parts.now keep.now ≡ Some entry }
+    ensures { IfOk result (λ marks. IsKept parts.now keep.now marks.items) }
+{
+    let needs = needs(alloc, parts, publics)?;
+    let roots = roots(alloc, parts, entry, keep)?;
+    reach(alloc, &needs, roots.as_slice())
+}
+
+// What remains of the names of a module.
+fn remaining_names(
+    alloc: Global,
+    names: &NameTable,
+    publics: &[bool],
+    references: &[bool],
+    positions: &NewPositions,
+) -> Result<NameTable, NoMemory>
+    requires publics { length publics.now ≡ length names.now.publics }
+    requires references { length references.now ≡ length names.now.references }
+    ensures publics { IfOk result (λ rest. rest.publics ≡ map (new_public positions.now) (remaining publics.now names.now.publics)) }
+    ensures references { IfOk result (λ rest. rest.references ≡ remaining references.now names.now.references) }
+{
+    Ok(NameTable {
+        publics: remaining_publics(alloc, publics, positions, names.publics.as_slice())?,
+        references: remaining_references(alloc, references, names.references.as_slice())?,
+    })
+}
+
+// Puts what remains of a module into parts that state nothing yet.
+fn fill(
+    alloc: Global,
+    rest: &mut Parts,
+    parts: &Parts,
+    sections: &[bool],
+    publics: &[bool],
+    references: &[bool],
+    positions: &NewPositions,
+) -> Result<(), NoMemory>
+    requires empty { rest.old ≡ bare_parts parts.now.maus parts.now.order }
+    requires sections { length sections.now ≡ length parts.now.sections }
+    requires publics { length publics.now ≡ length parts.now.names.publics }
+    requires references { length references.now ≡ length parts.now.names.references }
+    requires positions { positions.now ≡ positions_of (marks_of_all sections.now publics.now references.now) }
+    ensures { OnOk result (rest.new ≡ without_others parts.now (marks_of_all sections.now publics.now references.now)) }
+{
+    rest.processor = copy_bytes(alloc, &parts.processor)?;
+    rest.name = copy_bytes(alloc, &parts.name)?;
+    rest.ext = copy_bytes(alloc, &parts.ext)?;
+    rest.env = copy_bytes(alloc, &parts.env)?;
+    rest.sections = remaining_sections(alloc, sections, parts.sections.as_slice())?;
+    rest.names = remaining_names(alloc, &parts.names, publics, references, positions)?;
+    rest.loads = remaining_loads(alloc, sections, positions, parts.loads.as_slice())?;
+    rest.start = move_start(alloc, positions, &parts.start)?;
+    Ok(())
+}
+
+// The new positions of what remains.
+fn positions(
+    alloc: Global,
+    sections: &[bool],
+    publics: &[bool],
+    references: &[bool],
+) -> Result<NewPositions, NoMemory>
+    requires sections { length sections.now < 2 ^ 32 }
+    requires publics { length publics.now < 2 ^ 32 }
+    requires references { length references.now < 2 ^ 32 }
+    ensures { IfOk result (λ positions. positions ≡ positions_of (marks_of_all sections.now publics.now references.now)) }
+{
+    Ok(NewPositions {
+        sections: new_positions(alloc, sections)?,
+        publics: new_positions(alloc, publics)?,
+        references: new_positions(alloc, references)?,
+    })
+}
+
+// What remains of a module where these entries are kept.
+fn remaining_parts(alloc: Global, parts: &Parts, marks: &[bool]) -> Result<Parts, NoMemory>
+    requires few { entry_count parts.now < 2 ^ 32 }
+    requires sized { length marks.now ≡ entry_count parts.now }
+    ensures { IfOk result (λ rest. rest ≡ without_others parts.now (remains parts.now marks.now)) }
+{
+    let (sections, others) = marks.split_at(parts.sections.len());
+    let (publics, mentioned) = others.split_at(parts.names.publics.len());
+    let references = reference_marks(alloc, mentioned, parts.names.references.as_slice())?;
+    let positions = positions(alloc, sections, publics, references.as_slice())?;
+    let mut rest = Parts::new(alloc, parts.maus, parts.order);
+    fill(
+        alloc,
+        &mut rest,
+        parts,
+        sections,
+        publics,
+        references.as_slice(),
+        &positions,
+    )?;
+    Ok(rest)
+}
+
+/// A copy of a module without what a public symbol does not need: the sections, publics, references
+/// and loads that are kept for the public of this name.
+///
+/// Kept are the sections with a base, the public, what the start mentions, and all that something kept
+/// mentions: by the value of a public, or by the loads of a section. An `X` mentions the public of its
+/// reference's name, where there is one. Besides, a weak reference of a size above 0 remains where a
+/// kept reference has its name. The positions are those of the new lists; debug items are gone, and
+/// all else stays, in its order. The module weighs no more than the one it is made of, which stays as
+/// it is.
+///
+/// `Unknown` is returned exactly where no public has the name, with the name. `NoMemory` may be
+/// returned of any module.
+pub fn prune(alloc: Global, module: &Module, keep: &[u8]) -> Result<Module, PruneRefusal>
+    ensures pruned { IfOk result (λ M. IsPruned M «module».now keep.now) }
+    ensures known { IfOk result (λ _. has_name (public_names («module».now ∷ [])) keep.now ≡ true) }
+    ensures refused { IfErr result (λ e. IsRefusalOf «module».now keep.now e) }
+    ensures weighs { IfOk result (λ M. weight M ≤ weight «module».now) }
+{
+    let parts = module.parts();
+    let publics = index_publics(alloc, parts)?;
+    let Some(entry) = publics.find(keep) else {
+        return Err(PruneRefusal::Unknown(Bytes::from_slice(alloc, keep)?));
+    };
+    let marks = kept(alloc, parts, &publics, entry, keep)?;
+    let rest = remaining_parts(alloc, parts, &marks)?;
+    Ok(Module::sound(rest))
+}

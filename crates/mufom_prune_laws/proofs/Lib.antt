@@ -1,0 +1,8 @@
+mod Settled
+mod Named
+mod Commons
+mod SameValues
+mod LeftSteps
+mod LeftReadings
+mod Meaning
+mod Single

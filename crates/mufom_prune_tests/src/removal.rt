@@ -1,0 +1,103 @@
+//! One module of three sections, of which a public needs two.
+
+use mufom_expr::{FieldKind, Letter, Postfix, Token};
+use mufom_loads::{Item, Load};
+use mufom_module::{Module, Order, Parts, assemble};
+use mufom_names::{Public, Reference};
+use mufom_numbers::{Bytes, List};
+use mufom_prune::{PruneRefusal, prune};
+use mufom_sections::Section;
+use std::alloc::Global;
+use std::process::Abort;
+
+fn text(rt: &impl Abort, alloc: Global, bytes: &[u8]) -> Bytes {
+    Bytes::from_slice(alloc, bytes).expect(rt, "memory")
+}
+
+fn add_section(rt: &impl Abort, alloc: Global, parts: &mut Parts, name: &[u8]) {
+    let section = Section {
+        name: text(rt, alloc, name),
+        absolute: false,
+        purpose: None,
+        size: 4,
+        align: 1,
+        base: None,
+    };
+    parts.sections.push(section).expect(rt, "memory");
+}
+
+fn add_public(rt: &impl Abort, alloc: Global, parts: &mut Parts, name: &[u8], section: u32) {
+    let public = Public {
+        name: text(rt, alloc, name),
+        value: Postfix::single(Token::Var(Letter::R, section)),
+        notes: List::new(alloc),
+    };
+    parts.names.publics.push(public).expect(rt, "memory");
+}
+
+fn add_field(rt: &impl Abort, parts: &mut Parts, letter: Letter, place: u32) {
+    let field = Item::Field {
+        kind: FieldKind::Either,
+        value: Postfix::single(Token::Var(letter, place)),
+        size: 4,
+    };
+    parts.loads.push(Load::One(field)).expect(rt, "memory");
+}
+
+fn add_load(rt: &impl Abort, parts: &mut Parts, load: Load) {
+    parts.loads.push(load).expect(rt, "memory");
+}
+
+// The sections `a`, `b` and `c`, the publics `main` in the first and `u` in the second, and the
+// reference `q`. The first section holds the address of the third one, the second one that of `q`.
+fn program(rt: &impl Abort, alloc: Global) -> Module {
+    let mut parts = Parts::new(alloc, 4, Order::Most);
+    add_section(rt, alloc, &mut parts, b"a");
+    add_section(rt, alloc, &mut parts, b"b");
+    add_section(rt, alloc, &mut parts, b"c");
+    add_public(rt, alloc, &mut parts, b"main", 0);
+    add_public(rt, alloc, &mut parts, b"u", 1);
+    let reference = Reference {
+        name: text(rt, alloc, b"q"),
+        weak: None,
+        notes: List::new(alloc),
+    };
+    parts.names.references.push(reference).expect(rt, "memory");
+    add_load(rt, &mut parts, Load::SetSection(0));
+    add_field(rt, &mut parts, Letter::R, 2);
+    add_load(rt, &mut parts, Load::SetSection(1));
+    add_field(rt, &mut parts, Letter::X, 0);
+    add_load(rt, &mut parts, Load::SetSection(2));
+    let bytes = text(rt, alloc, &[1, 2, 3, 4]);
+    add_load(rt, &mut parts, Load::One(Item::Literal(bytes)));
+    match assemble(parts) {
+        Ok(module) => module,
+        Err(_) => panic!(rt; "a module without a defect"),
+    }
+}
+
+#[test]
+fn what_main_does_not_need_is_gone(rt: HostRuntime) {
+    let alloc = rt.alloc();
+    let module = program(&rt, alloc);
+    match prune(alloc, &module, b"main") {
+        Ok(rest) => {
+            let parts = rest.parts();
+            assert_eq!(rt; parts.sections.len(), 2);
+            assert_eq!(rt; parts.names.publics.len(), 1);
+            assert_eq!(rt; parts.names.references.len(), 0);
+            assert_eq!(rt; parts.loads.len(), 4);
+        }
+        Err(_) => panic!(rt; "a known name"),
+    }
+}
+
+#[test]
+fn a_name_that_no_public_has_is_unknown(rt: HostRuntime) {
+    let alloc = rt.alloc();
+    let module = program(&rt, alloc);
+    match prune(alloc, &module, b"z") {
+        Err(PruneRefusal::Unknown(name)) => assert_eq!(rt; name.as_slice(), b"z".as_slice()),
+        _ => panic!(rt; "an unknown name"),
+    }
+}
