@@ -67,8 +67,13 @@ fn rows_of(alloc: Global, chunks: &[Chunk], bytes: Vec<u8>) -> Result<List<Run>,
     maximal_rows(alloc, chunks, &bytes)
 }
 
-// The rows of loaded bytes, or what keeps them from being an image.
-fn assembled(alloc: Global, loaded: Loaded, stop: Option<Stop>) -> Result<List<Run>, ImageRefusal>
+/// The maximal rows of loaded bytes, or the first address that has two of them, and else what ended the
+/// loads.
+pub fn rows_of_loaded(
+    alloc: Global,
+    loaded: Loaded,
+    stop: Option<Stop>,
+) -> Result<List<Run>, ImageRefusal>
     requires { IsTiled loaded }
     ensures image { IfOk result (λ runs. IsImage (loaded_cells loaded) (option_map fact_of stop) runs) }
     ensures refusal { IfErr result (λ refusal. IsRefusal (loaded_cells loaded) (option_map fact_of stop) refusal) }
@@ -102,5 +107,5 @@ pub fn image_of<V: Values>(
         counters: _counters,
         loaded,
     } = walk;
-    assembled(alloc, loaded, stop)
+    rows_of_loaded(alloc, loaded, stop)
 }

@@ -21,8 +21,9 @@ mod stop;
 mod values;
 mod walk;
 
-pub use image::image_of;
+pub use image::{image_of, rows_of_loaded};
 pub use layout::Layout;
+pub use loaded::{Loaded, nothing_loaded};
 pub use module_image::image_of_module;
 pub use refusal::ImageRefusal;
 pub use stop::Stop;

@@ -9,7 +9,7 @@ use Rattle.mufom_image_bytes.specs.Shared.{shares_from, AreOrdered}
 use Rattle.mufom_image_bytes.specs.Spread.{IsAmong}
 use Rattle.mufom_image_bytes.proofs.ImageLaws.{AreSorted, sorted_among, sorted_spread, refused, imaged}
 use Rattle.mufom_image_bytes.proofs.SpreadLaws.{single_whole}
-use Rattle.mufom_image_bytes.proofs.image.assembled.Goals as goal
+use Rattle.mufom_image_bytes.proofs.image.rows_of_loaded.Goals as goal
 
 pub returns-in-Some-clause-refusal : goal.returns-in-Some-clause-refusal
 returns-in-Some-clause-refusal c =

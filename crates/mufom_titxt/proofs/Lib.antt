@@ -1,0 +1,12 @@
+pub mod LineLaws
+pub mod ShapeLaws
+pub mod BytesLaws
+pub mod HitLaws
+pub mod RefusalLaws
+pub mod TxtLaws
+pub mod PageLaws
+pub mod WriteLaws
+pub mod ModuleLaws
+pub mod ModuleValid
+pub mod Worked
+pub mod AcceptLaws

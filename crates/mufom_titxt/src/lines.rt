@@ -1,0 +1,69 @@
+//! Lines and words of a text.
+
+ghost use Rattle.std.specs.Prelude.{◌≡◌, ◌∷◌, ◌<◌, ◌≤◌, ◌==◌, [], false, length, MatchOption, IfSome, option_map};
+ghost use Rattle.std.specs.List.{position_or_len};
+ghost use Rattle.mufom_titxt.specs.Lines.{without_return, lines_of, words_of};
+ghost use Rattle.mufom_titxt.specs.Scans.{lines_later, begins_with_space};
+
+// How many bytes are before the first that equals the mark.
+fn count_before(text: &[u8], mark: u8) -> usize
+    ensures count { result ≡ position_or_len (λ b. b == mark) text.now }
+    ensures within { result ≤ length text.now }
+{
+    for (count, byte) in text.iter().enumerate() {
+        if *byte == mark {
+            return count;
+        }
+    }
+    text.len()
+}
+
+// A line without the carriage return at its end, where it has one.
+fn without_return(line: &[u8]) -> &[u8]
+    ensures { result.now ≡ without_return line.now }
+{
+    if line.is_empty() {
+        return line;
+    }
+    if line[line.len() - 1] != b'\r' {
+        return line;
+    }
+    &line[..line.len() - 1]
+}
+
+/// The first line of a text, and what is after the line feed that ends it.
+pub(crate) fn next_line(text: &[u8]) -> (&[u8], Option<&[u8]>)
+    ensures line { lines_of text.now ≡ result.0.now ∷ lines_later (option_map (λ rest. rest.now) result.1) }
+    ensures rest { IfSome result.1 (λ rest. length rest.now < length text.now) }
+{
+    let count = count_before(text, b'\n');
+    if count == text.len() {
+        return (text, None);
+    }
+    (without_return(&text[..count]), Some(&text[count + 1..]))
+}
+
+// A line without the spaces at its front.
+fn without_spaces(line: &[u8]) -> &[u8]
+    ensures words { words_of result.now ≡ words_of line.now }
+    ensures first { begins_with_space result.now ≡ false }
+    ensures within { length result.now ≤ length line.now }
+{
+    let mut rest = line;
+    while let [b' ', after @ ..] = rest {
+        rest = after;
+    }
+    rest
+}
+
+/// The first word of a line, and what is after it.
+pub(crate) fn next_word(line: &[u8]) -> Option<(&[u8], &[u8])>
+    ensures { MatchOption result (words_of line.now ≡ [])
+        (λ r. (words_of line.now ≡ r.0.now ∷ words_of r.1.now) × (length r.1.now < length line.now)) }
+{
+    let rest = without_spaces(line);
+    if rest.is_empty() {
+        return None;
+    }
+    Some(rest.split_at(count_before(rest, b' ')))
+}

@@ -1,0 +1,46 @@
+use mufom_numbers::NoMemory;
+
+/// What is wrong with a line of a TI-TXT text, or with its end.
+#[derive(Clone, Copy, Debug, PartialEq, Eq)]
+pub enum TxtReason {
+    /// The line is neither blank, nor an address, nor bytes, nor `q`.
+    BadLine,
+    /// Bytes come before any address.
+    NoAddress,
+    /// A byte is not below the end of the address space.
+    Beyond,
+    /// This address has a byte already.
+    Twice(u64),
+    /// The line is not blank, and follows `q`.
+    AfterEnd,
+    /// No line is `q`.
+    NoEnd,
+}
+
+/// Why a TI-TXT text is refused.
+#[derive(Clone, Copy, Debug, PartialEq, Eq)]
+pub struct TxtRefusal {
+    /// The first line with an error, counted from 1. For [`NoEnd`](TxtReason::NoEnd) it is the last line.
+    pub line: u32,
+    pub reason: TxtReason,
+}
+
+/// Why no runs are read from a TI-TXT text.
+#[derive(Clone, Copy, Debug, PartialEq, Eq)]
+pub enum TxtStop {
+    /// The text is not one.
+    Refused(TxtRefusal),
+    /// Out of memory.
+    NoMemory,
+}
+
+impl From<NoMemory> for TxtStop {
+    ghost use Rattle.std.specs.Prelude.{◌≡◌};
+    ghost use Rattle.mufom_titxt.specs.declared.refusal.TxtStop.TheVariants.{NoMemory};
+
+    ghost from_gives = { λ _ stop. stop ≡ NoMemory };
+
+    fn from(_: NoMemory) -> Self {
+        TxtStop::NoMemory
+    }
+}

@@ -1,0 +1,143 @@
+//! What a line of a text states.
+
+ghost use Rattle.std.specs.Prelude.{◌≡◌, ◌≤◌, ◌<◌, [], length, IsTrue, ◌↔◌, is_some, IfSome, option_map, ◌==◌, ◌&&◌, ◌||◌, not};
+ghost use Rattle.mufom_titxt.specs.Lines.{has_bytes, hex_digit, hex_after, address_of, byte_of, bytes_of, words_of, line_of, address_line, byte_line};
+ghost use Rattle.mufom_titxt.specs.Scans.{shape_of, alone_shape};
+
+use crate::lines::next_word;
+
+/// What a line states, but for its bytes.
+#[derive(Clone, Copy, Debug)]
+pub enum Shape {
+    Blank,
+    Address(u64),
+    Bytes,
+    End,
+    Bad,
+}
+
+// The most digits of an address.
+const MOST_DIGITS: usize = 16;
+
+// The value of a hexadecimal digit.
+fn hex_digit(byte: u8) -> Option<u8>
+    ensures value { result ≡ hex_digit byte }
+    ensures low { IfSome result (λ d. d < 16) }
+{
+    match byte {
+        b'0'..=b'9' => Some(byte - b'0'),
+        b'A'..=b'F' => Some(byte - b'A' + 10),
+        b'a'..=b'f' => Some(byte - b'a' + 10),
+        _ => None,
+    }
+}
+
+// The number that digits spell.
+fn hex_number(digits: &[u8]) -> Option<u64>
+    requires { length digits.now ≤ 16 }
+    ensures { result ≡ hex_after 0 digits.now }
+{
+    let mut number = 0;
+    for byte in digits {
+        let Some(digit) = hex_digit(*byte) else {
+            return None;
+        };
+        number = number * 16 + digit as u64;
+    }
+    Some(number)
+}
+
+// The address that digits spell.
+fn address_of(digits: &[u8]) -> Option<u64>
+    ensures { result ≡ address_of digits.now }
+{
+    if digits.is_empty() || digits.len() > MOST_DIGITS {
+        return None;
+    }
+    hex_number(digits)
+}
+
+/// The byte that a word spells.
+pub(crate) fn byte_of(word: &[u8]) -> Option<u8>
+    ensures { result ≡ byte_of word.now }
+{
+    let [high, low] = word else {
+        return None;
+    };
+    match (hex_digit(*high), hex_digit(*low)) {
+        (Some(high), Some(low)) => Some(high * 16 + low),
+        _ => None,
+    }
+}
+
+// Whether each word of a line spells a byte.
+fn has_bytes_alone(line: &[u8]) -> bool
+    ensures { result ≡ is_some (bytes_of (words_of line.now)) }
+{
+    let mut rest = line;
+    while let Some((word, after)) = next_word(rest) {
+        if byte_of(word).is_none() {
+            return false;
+        }
+        rest = after;
+    }
+    true
+}
+
+// A shape of a line that has no more words, and else a bad line.
+fn alone(after: &[u8], shape: Shape) -> Shape
+    ensures { result ≡ alone_shape (words_of after.now) shape }
+{
+    match next_word(after) {
+        Some(_) => Shape::Bad,
+        None => shape,
+    }
+}
+
+fn address_shape(digits: &[u8]) -> Shape
+    ensures { result ≡ shape_of (option_map address_line (address_of digits.now)) }
+{
+    match address_of(digits) {
+        Some(address) => Shape::Address(address),
+        None => Shape::Bad,
+    }
+}
+
+fn bytes_shape(line: &[u8]) -> Shape
+    ensures { result ≡ shape_of (option_map byte_line (bytes_of (words_of line.now))) }
+{
+    if has_bytes_alone(line) {
+        Shape::Bytes
+    } else {
+        Shape::Bad
+    }
+}
+
+// Whether a word ends a text, by its first byte and the others.
+fn is_end(first: u8, more: &[u8]) -> bool
+    ensures { result ≡ ((first == 113 || first == 81) && not (has_bytes more.now)) }
+{
+    match first {
+        b'q' | b'Q' => more.is_empty(),
+        _ => false,
+    }
+}
+
+/// What a line states.
+pub(crate) fn shape_of(line: &[u8]) -> Shape
+    ensures { result ≡ shape_of (line_of line.now) }
+{
+    let Some((word, after)) = next_word(line) else {
+        return Shape::Blank;
+    };
+    let Some((first, more)) = word.split_first() else {
+        return Shape::Bad;
+    };
+    if *first == b'@' {
+        return alone(after, address_shape(more));
+    }
+    if is_end(*first, more) {
+        return alone(after, Shape::End);
+    }
+    bytes_shape(line)
+}
