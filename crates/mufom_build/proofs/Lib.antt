@@ -1,0 +1,6 @@
+pub mod Spelling
+pub mod Printed
+pub mod PrintedLines
+pub mod Matching
+pub mod Worked
+pub mod Shapes

@@ -1,0 +1,117 @@
+-- Where a text is wrong from which no module can be built, and how.
+use Rattle.std.specs.Prelude.{◌≡◌, ℕ, ◌+◌, ◌<◌, ◌==◌, max, nat_lt, List, [], ◌∷◌, ◌++◌, length, take, flat_map, Option, Some, None, if◌then◌else◌, ◌⊎◌}
+use Rattle.std.specs.Str.Parse.{digits_value}
+use Rattle.mufom_module.specs.declared.module.Parts.{Parts}
+use Rattle.mufom_module.specs.declared.module.Defect.{Defect}
+use Rattle.mufom_module.specs.Defects.{first_defect}
+use Rattle.mufom_module.specs.Made.{IsMade}
+use Rattle.mufom_text.specs.Words.{Text, line}
+use Rattle.mufom_build.specs.declared.refusal.BuildReason.{BuildReason}
+use Rattle.mufom_build.specs.declared.refusal.BuildReason.TheVariants.{BadText, TooGreat, Position, Count, TooLong, Deep}
+use Rattle.mufom_build.specs.Pieces.{Piece, byte, gap, figure, position, count, name, digits, expression, block, exact, loose, Spells, SpellsPiece, AreSpaces, MOST_POSITION, MOST_NUMBER}
+use Rattle.mufom_build.specs.Places.{SpellsLines}
+use Rattle.mufom_build.specs.Lines.{Line, listing_lines, AreFew, Shape}
+
+-- ---- the lines of a text
+
+-- the lines with a byte before the first
+abbrev pub begun_with : ℕ → List Text → List Text
+begun_with b [] = (b ∷ []) ∷ []
+begun_with b (first ∷ rest) = (b ∷ first) ∷ rest
+
+-- The lines of a text, without the bytes 0A that end them.
+abbrev pub text_lines : Text → List Text
+text_lines [] = []
+text_lines (b ∷ text) = if b == 10 then [] ∷ text_lines text else begun_with b (text_lines text)
+
+-- the number of the last line, from 1; an empty text has one line
+abbrev pub last_line : Text → ℕ
+last_line text = max 1 (length (text_lines text))
+
+-- These are the first lines of some text that has the shape of a listing, with the lines that they are.
+pub record AreBegun (texts : List Text) (lines : List Line) : Type 0 where
+  pub parts : Parts
+  pub rest : List Line
+  pub begin : listing_lines parts ≡ lines ++ rest
+  pub listed : SpellsLines loose lines (flat_map line texts)
+  pub few : AreFew parts
+
+-- ---- errors within a line
+
+abbrev pub stated_error : ℕ → ℕ → BuildReason → Text → Option BuildReason
+stated_error most right reason text = let stated = digits_value 10 text in
+    if nat_lt most stated then Some TooGreat else if stated == right then None else Some reason
+
+-- What is wrong with a piece that these bytes spell.
+abbrev pub piece_error : Piece → Text → Option BuildReason
+piece_error (byte value) text = None
+piece_error gap text = None
+piece_error (figure most value) text = if nat_lt most value then Some TooGreat else None
+piece_error (position value) text = stated_error MOST_POSITION value Position text
+piece_error (count value) text = stated_error MOST_NUMBER value Count text
+piece_error (name bytes) text = None
+piece_error (digits bytes) text = None
+piece_error (expression tokens) text = if nat_lt 255 tokens then Some TooLong else None
+piece_error (block opened) text = if nat_lt 32 opened then Some Deep else None
+
+-- The line of these pieces has an error at the column, which counts bytes from 1.
+pub record HasError (text : Text) (pieces : Line) (column : ℕ) (reason : BuildReason) : Type 0 where
+  pub earlier : List Piece
+  pub piece : Piece
+  pub later : List Piece
+  pub made_of : pieces ≡ earlier ++ piece ∷ later
+  pub before : Text
+  pub front : Text
+  pub bytes : Text
+  pub back : Text
+  pub after : Text
+  pub is : text ≡ before ++ (front ++ (bytes ++ (back ++ after)))
+  pub leading : AreSpaces before
+  pub spells_front : Spells loose earlier front
+  pub spells_piece : SpellsPiece loose piece bytes
+  pub spells_back : Spells loose later back
+  pub trailing : AreSpaces after
+  pub error : piece_error piece bytes ≡ Some reason
+  pub place : column ≡ 1 + length before + length front
+
+-- The text at this position of the lines of a text has an error within it, where the lines up to and with it are begun.
+pub record HasErrorAt (texts : List Text) (position : ℕ) (column : ℕ) (reason : BuildReason) : Type 0 where
+  pub earlier : List Text
+  pub text : Text
+  pub begin : take (position + 1) texts ≡ earlier ++ text ∷ []
+  pub lines : List Line
+  pub pieces : Line
+  pub begun : AreBegun (earlier ++ text ∷ []) (lines ++ pieces ∷ [])
+  pub wrong : HasError text pieces column reason
+
+-- the first n lines are those of a text in the shape of a listing
+abbrev pub BeginWell : List Text → ℕ → Type 0
+BeginWell texts n = (lines : List Line) × AreBegun (take n texts) lines
+
+-- none of the first n lines is wrong
+pub record AreRight (texts : List Text) (n : ℕ) : Type 0 where
+  pub begin : BeginWell texts n
+  pub right : (position column : ℕ) (reason : BuildReason) → position < n → HasErrorAt texts position column reason → ⊥
+
+-- ---- refusals
+
+-- The first line that is wrong has the position `at`, from 0, and what is named of it is at the column: that the lines up to
+-- and with it begin no listing, at column 1, or its first error.
+abbrev pub IsWrongAt : List Text → ℕ → ℕ → BuildReason → Type 0
+IsWrongAt texts at column reason = (¬ (BeginWell texts (at + 1)) × (column ≡ 1) × (reason ≡ BadText))
+    ⊎ (HasErrorAt texts at column reason × ((other : ℕ) (kind : BuildReason) → other < column → HasErrorAt texts at other kind → ⊥))
+
+-- No module can be built from the text because of what stands at the line and the column, which count from 1: at the first
+-- line that is wrong, or at the last line where all are right and some are missing.
+abbrev pub IsRefusedAt : Text → ℕ → ℕ → BuildReason → Type 0
+IsRefusedAt text at column reason = let texts = text_lines text in
+    ((before : ℕ) × (at ≡ before + 1) × (before < length texts) × AreRight texts before × IsWrongAt texts before column reason)
+    ⊎ ((at ≡ last_line text) × (column ≡ 1) × (reason ≡ BadText) × AreRight texts (length texts) × ¬ (Shape text))
+
+-- No line is wrong, and the text is the listing of parts that have this defect.
+pub record HasDefect (text : Text) (defect : Defect) : Type 0 where
+  pub right : AreRight (text_lines text) (length (text_lines text))
+  pub parts : Parts
+  pub listed : SpellsLines exact (listing_lines parts) text
+  pub made : IsMade parts
+  pub first : first_defect parts ≡ Some defect
