@@ -1,0 +1,133 @@
+-- A worked map: two modules with a section and a common each, and a plan of one region.
+use Rattle.std.proofs.Common.{◌≡◌, ℕ, List, [], ◌∷◌, ◌++◌, Some, None, true, false, refl}
+use Rattle.std.specs.Prelude.{codes}
+use Rattle.std.specs.Fmt.{digits}
+use Rattle.hex.proofs.OnLiterals.{hex_on_literals}
+use Rattle.mufom_expr.specs.declared.token.Letter.TheVariants.{R}
+use Rattle.mufom_expr.specs.Tree.{number, variable, two, plus}
+use Rattle.mufom_module.specs.declared.module.Order.TheVariants.{Most}
+use Rattle.mufom_module.specs.declared.module.Parts.{Parts}
+use Rattle.mufom_plan.specs.declared.plan.Plan.{Plan}
+use Rattle.mufom_meaning.specs.declared.located.LocatedParts.{LocatedParts}
+use Rattle.mufom_origins.specs.Origins.{numbered}
+use Rattle.mufom_origins.specs.Places.{with_chosen}
+use Rattle.mufom_text.specs.Words.{line}
+use Rattle.mufom_map.specs.Mapped.{mapped}
+use Rattle.mufom_map.specs.MapText.{hex, map_text}
+
+abbrev first : Parts
+first = record {
+  processor = [];
+  name = codes "a";
+  maus = 4;
+  order = Most;
+  ext = [];
+  env = [];
+  sections = record { name = codes "t"; absolute = false; purpose = None; size = 4; align = 4; base = None } ∷ [];
+  names = record { publics = []; references = record { name = codes "c"; weak = Some (record { size = 4; «default» = 0 }); notes = [] } ∷ [] };
+  debug = [];
+  loads = [];
+  start = None;
+}
+
+abbrev second : Parts
+second = record first {
+  name = codes "b";
+  names = record {
+    publics = record { name = codes "end"; value = two plus (variable R 0) (number 4); notes = [] } ∷ [];
+    references = record { name = codes "c"; weak = Some (record { size = 6; «default» = 0 }); notes = [] } ∷ [];
+  };
+}
+
+abbrev plan : Plan
+plan = record { regions = record { name = codes "ram"; base = 256; size = 64; sections = codes "t" ∷ []; common = true } ∷ [] }
+
+abbrev place : LocatedParts
+place = record {
+  processor = [];
+  name = codes "a";
+  maus = 4;
+  order = Most;
+  sections = [];
+  publics = record { name = codes "end"; value = 264; notes = [] } ∷ [];
+  runs = record { address = 256; bytes = 0 ∷ 0 ∷ 1 ∷ 8 ∷ 0 ∷ 0 ∷ 1 ∷ 8 ∷ [] } ∷ [];
+  start = None;
+  debug = [];
+}
+
+map_is : map_text (mapped (numbered (first ∷ second ∷ [])) plan place)
+    ≡ line (codes "module 0 \"a\" file 0") ++ (line (codes "module 1 \"b\" file 1")
+    ++ (line (codes "region 0 \"ram\" at 00000100 size 64 used 14 free 50 [#######.........................]")
+    ++ (line (codes "section 0 00000100 size 4 align 4 \"t\" module 0 region 0") ++ (line (codes "section 1 00000104 size 4 align 4 \"t\" module 1 region 0")
+    ++ (line (codes "common 2 00000108 size 6 align 8 \"c\" region 0") ++ (line (codes "public 00000108 \"end\" module 1")
+    ++ line (codes "sections 3 bytes 14 loaded 8")))))))
+unfolding hex_on_literals digits
+map_is = refl
+
+-- ---- a section with a base of its own uses room of a region, and a partly used cell is no full one
+
+abbrev absolute : Parts
+absolute = record first {
+  names = record { publics = []; references = [] };
+  sections = record { name = codes "code"; absolute = true; purpose = None; size = 4; align = 2; base = Some 4096 } ∷ [];
+}
+
+abbrev started : LocatedParts
+started = record place { publics = []; runs = record { address = 4096; bytes = 1 ∷ 2 ∷ 3 ∷ 4 ∷ [] } ∷ []; start = Some 4096 }
+
+abbrev around : Plan
+around = record { regions = record { name = codes "rom"; base = 4090; size = 320; sections = codes "*" ∷ []; common = false } ∷ [] }
+
+abbrev with_start : Parts
+with_start = record absolute { name = codes "A"; start = Some (variable R 0) }
+
+no_plan : map_text (mapped (numbered (with_start ∷ [])) (record { regions = [] }) started)
+    ≡ line (codes "module 0 \"A\" file 0") ++ (line (codes "section 0 00001000 size 4 align 2 \"code\" module 0") ++ (line (codes "start 00001000 module 0")
+    ++ line (codes "sections 1 bytes 4 loaded 4")))
+unfolding hex_on_literals digits
+no_plan = refl
+
+own_base : map_text (mapped (numbered (with_start ∷ [])) around started)
+    ≡ line (codes "module 0 \"A\" file 0") ++ (line (codes "region 0 \"rom\" at 00000FFA size 320 used 4 free 316 [+...............................]")
+    ++ (line (codes "section 0 00001000 size 4 align 2 \"code\" module 0") ++ (line (codes "start 00001000 module 0")
+    ++ line (codes "sections 1 bytes 4 loaded 4"))))
+unfolding hex_on_literals digits
+own_base = refl
+
+-- ---- a member that is selected keeps the number of its file
+
+abbrev defines : List ℕ → List ℕ → Parts
+defines name public = record first {
+  name = name;
+  sections = [];
+  names = record {
+    publics = record { name = public; value = number 0; notes = [] }
+        ∷ [];
+    references = [];
+  };
+}
+
+abbrev values : LocatedParts
+values = record place { publics = record { name = codes "f"; value = 0; notes = [] } ∷ record { name = codes "g"; value = 0; notes = [] } ∷ []; runs = [] }
+
+selected : map_text (mapped (with_chosen 1 (1 ∷ []) (numbered (defines (codes "r") (codes "f") ∷ defines (codes "m0") (codes "h")
+    ∷ defines (codes "m1") (codes "g") ∷ [])))
+    (record { regions = [] }) values)
+    ≡ line (codes "module 0 \"r\" file 0") ++ (line (codes "module 1 \"m1\" file 2") ++ (line (codes "public 00000000 \"f\" module 0")
+    ++ (line (codes "public 00000000 \"g\" module 1") ++ line (codes "sections 0 bytes 0 loaded 0"))))
+unfolding hex_on_literals digits
+selected = refl
+
+-- ---- addresses
+
+one_unit : hex 1 255 ≡ codes "FF"
+unfolding hex_on_literals digits
+one_unit = refl
+
+longer : hex 1 4096 ≡ codes "1000"
+unfolding hex_on_literals digits
+longer = refl
+
+nothing : hex 2 0 ≡ codes "0000"
+unfolding hex_on_literals digits
+nothing = refl
