@@ -58,10 +58,10 @@ def calls(crate):
 def main():
     crates = re.findall(r"^([a-z_0-9]+):", read("crates.txt"), re.M)
     page = ["# Public calls", "",
-            "Every public call, from the crate roots, written by `python3 bench/public_calls.py`. Each is proved to return, whatever it is given that meets",
-            "its conditions. *Conditions* and *clauses* count the `requires` and `ensures` of its contract; a call with *memory* may answer that it is out of",
-            "memory, in place of its result, and changes nothing then that its clauses do not name; a call with *host* reads, writes or prints by what it is",
-            "lent, and answers a fault only where a count of faults rose.", ""]
+            "Every public call, from the crate roots, written by `python3 bench/public_calls.py`. Each is proved to return if its conditions hold.",
+            "*Conditions* and *clauses* count the `requires` and `ensures` of its contract. A call with *memory* may run out of memory, and then changes",
+            "nothing that its clauses do not name. A call with *host* does I/O through the host that it is given, and returns an I/O error only if an error",
+            "counter increased.", ""]
     total = 0
     for crate in crates:
         if not os.path.isfile(f"crates/{crate}/src/lib.rt"):
@@ -70,7 +70,7 @@ def main():
         if not rows:
             continue
         total += len(rows)
-        page += [f"## {crate}", "", "| call | conditions | clauses | memory | host | answers |", "|---|---|---|---|---|---|"]
+        page += [f"## {crate}", "", "| call | conditions | clauses | memory | host | returns |", "|---|---|---|---|---|---|"]
         page += ["| `%s` | %d | %d | %s | %s | `%s` |" % row for row in rows] + [""]
     page += [f"{total} calls.", ""]
     text = "\n".join(page)
