@@ -1,5 +1,6 @@
 -- One entry more: what it adds to the functions, the lines and the lines' numbers.
-use Rattle.std.proofs.Common.{◌≡◌, ℕ, Bool, true, false, List, [], ◌∷◌, ◌++◌, Option, Some, None, cond, option_map, option_to_list, refl, sym, ap, subst, ◌∙◌, append_assoc, append-nil, reverse, nat_le, ◌==◌, if◌then◌else◌}
+use Rattle.std.proofs.Common.{◌≡◌, ℕ, Bool, true, false, List, [], ◌∷◌, ◌++◌, Option, Some, None, cond, option_map, option_to_list, refl, sym, ap}
+use Rattle.std.proofs.Common.{subst, ◌∙◌, append_assoc, append-nil, reverse, nat_le, ◌==◌, if◌then◌else◌}
 use Rattle.std.proofs.lemmas.List.{reverse-append}
 use Rattle.std.proofs.lemmas.List.Elements.{filter-append}
 use Rattle.std.specs.Prelude.{filter}
@@ -10,7 +11,8 @@ use Rattle.mufom_addr.specs.declared.hit.LineHit.{LineHit}
 use Rattle.mufom_addr.specs.declared.search.Search.{Search}
 use Rattle.mufom_addr.specs.Entries.{Entry, block, note, value}
 use Rattle.mufom_addr.specs.Greatest.{first_greatest}
-use Rattle.mufom_addr.specs.AddressHit.{Function, function_begin, function_between, functions_of, innermost, is_around, line_at, line_given, line_of, lines_after, nearest, number_of}
+use Rattle.mufom_addr.specs.AddressHit.{Function, function_begin, function_between, functions_of, innermost, is_around, line_at, line_given, line_of}
+use Rattle.mufom_addr.specs.AddressHit.{lines_after, nearest, number_of}
 use Rattle.mufom_addr.specs.Search.{HasSeen, SeesMore, function_held, line_held, number_for, or_greater, with_function, with_line}
 use Rattle.mufom_addr.proofs.GreatestLaws.{first_greatest-push}
 

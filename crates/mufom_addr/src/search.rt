@@ -3,7 +3,8 @@
 ghost use Rattle.std.specs.Prelude.{◌≡◌, ◌≤◌, ◌+◌, ◌==◌, ◌<◌, [], ◌∷◌, ◌++◌, ℕ, List, option_map, option_to_list, OnOk, IfOk, if◌then◌else◌};
 ghost use Rattle.mufom_debug.specs.Marks.{depth_of, marks_of, marks_of_item};
 ghost use Rattle.mufom_addr.specs.AddressHit.{function_begin, function_between, hit_among, is_around, line_given, number_of};
-ghost use Rattle.mufom_addr.specs.Entries.{Around, Entry, block as block_entry, entries_of, entries_of_item, note as note_entry, source_within, value as value_entry};
+ghost use Rattle.mufom_addr.specs.Entries.{Around, Entry, block as block_entry, entries_of, entries_of_item, note as note_entry, source_within};
+ghost use Rattle.mufom_addr.specs.Entries.{value as value_entry};
 ghost use Rattle.mufom_addr.specs.Search.{HasSeen, SeesMore, function_held, line_held, number_for, number_in, or_greater, with_function, with_line};
 
 use crate::hit::{FunctionHit, Hit, LineHit};

@@ -1,11 +1,14 @@
 -- How a text spells given lines, where it does: each step returns what it took with the proof that it spells the piece. With
 -- it a worked row is one equation that computes.
-use Rattle.std.proofs.Common.{◌≡◌, ℕ, ◌<◌, ◌/◌, ◌%◌, ◌==◌, nat_lt, Bool, true, false, List, [], ◌∷◌, ◌++◌, length, Option, Some, None, is_some, refl, ap, sym, subst, ◌∙◌, append_assoc, append-nil, inl, inr, eqb-true, ◌⊎◌, arith}
+use Rattle.std.proofs.Common.{◌≡◌, ℕ, ◌<◌, ◌/◌, ◌%◌, ◌==◌, nat_lt, Bool, true, false, List, [], ◌∷◌, ◌++◌, length, Option, Some, None, is_some, refl}
+use Rattle.std.proofs.Common.{ap, sym, subst, ◌∙◌, append_assoc, append-nil, inl, inr, eqb-true, ◌⊎◌, arith}
 use Rattle.std.specs.Str.Parse.{AllDigits, digits_value}
 use Rattle.std.specs.Char.{digit_value}
 use Rattle.hex.specs.Hex.{hex_digit_value}
 use Rattle.mufom_text.specs.Words.{Text, stands_for_itself}
-use Rattle.mufom_build.specs.Pieces.{Piece, byte, gap, figure, position, count, name, digits, expression, block, Reading, exact, loose, SpellsNumber, SpellsStated, AreDigitsOf, SpellsDigits, SpellsNameByte, SpellsNameBytes, SpellsName, AreSpaces, SpellsPiece, Spells}
+use Rattle.mufom_build.specs.Pieces.{Piece, byte, gap, figure, position, count, name, digits, expression, block, Reading, exact, loose, SpellsNumber}
+use Rattle.mufom_build.specs.Pieces.{SpellsStated, AreDigitsOf, SpellsDigits, SpellsNameByte, SpellsNameBytes, SpellsName, AreSpaces, SpellsPiece}
+use Rattle.mufom_build.specs.Pieces.{Spells}
 use Rattle.mufom_build.specs.Places.{AreBlank, SpellsLines}
 
 -- what follows from a test, where it passes
@@ -60,7 +63,8 @@ figures_of [] = ([], [], refl, tt)
 figures_of (b ∷ text) = with_figure b text (below (digit_value b) 10) (figures_of text)
 
 abbrev exact_number : (n : ℕ) (text : Text) → Front (AllDigits 10) text → Option (Front (SpellsNumber n) text)
-exact_number n text (first, rest, is, all) = then (below 0 (length first)) (λ some. then (same (digits_value 10 first) n) (λ right. Some (first, rest, is, ((some, all), right))))
+exact_number n text (first, rest, is, all) = then (below 0 (length first))
+    (λ some. then (same (digits_value 10 first) n) (λ right. Some (first, rest, is, ((some, all), right))))
 
 abbrev any_number : (n : ℕ) (text : Text) → Front (AllDigits 10) text → Option (Front (SpellsStated loose n) text)
 any_number n text (first, rest, is, all) = then (below 0 (length first)) (λ some. Some (first, rest, is, (some, all)))
@@ -81,14 +85,17 @@ value_is v (Some w) = then (same w v) (λ e. Some (ap Some e))
 abbrev two_digits : (b high low : ℕ) → Option (AreDigitsOf b high low)
 two_digits b high low = then (value_is (b / 16) (hex_digit_value high)) (λ h. then (value_is (b % 16) (hex_digit_value low)) (λ l. Some (h, l)))
 
-abbrev with_digits : (b high low : ℕ) (bytes : List ℕ) (text : Text) → AreDigitsOf b high low → Front (SpellsDigits bytes) text → Front (SpellsDigits (b ∷ bytes)) (high ∷ low ∷ text)
-with_digits b high low bytes text are (first, rest, is, spelled) = (high ∷ low ∷ first, rest, ap (λ l. high ∷ low ∷ l) is, (high, low, first, refl, are, spelled))
+abbrev with_digits : (b high low : ℕ) (bytes : List ℕ) (text : Text) → AreDigitsOf b high low → Front (SpellsDigits bytes) text
+    → Front (SpellsDigits (b ∷ bytes)) (high ∷ low ∷ text)
+with_digits b high low bytes text are (first, rest, is, spelled) =
+    (high ∷ low ∷ first, rest, ap (λ l. high ∷ low ∷ l) is, (high, low, first, refl, are, spelled))
 
 abbrev digits_in : (bytes : List ℕ) (text : Text) → Option (Front (SpellsDigits bytes) text)
 digits_in [] text = Some ([], text, refl, refl)
 digits_in (b ∷ bytes) [] = None
 digits_in (b ∷ bytes) (high ∷ []) = None
-digits_in (b ∷ bytes) (high ∷ low ∷ text) = then (two_digits b high low) (λ are. then (digits_in bytes text) (λ more. Some (with_digits b high low bytes text are more)))
+digits_in (b ∷ bytes) (high ∷ low ∷ text) = then (two_digits b high low)
+    (λ are. then (digits_in bytes text) (λ more. Some (with_digits b high low bytes text are more)))
 
 abbrev by_itself : (b c : ℕ) (text : Text) → Option (Front (SpellsNameByte b) (c ∷ text))
 by_itself b c text = then (same c b) (λ e. passing (stands_for_itself b) (λ itself. (c ∷ [], text, refl, inl (itself, ap (λ x. x ∷ []) e))))
@@ -103,7 +110,8 @@ name_byte_in b [] = None
 name_byte_in b (c ∷ text) = or_else (by_itself b c text) (by_digits b c text)
 
 -- a step, and then another in what it leaves
-abbrev joined : (P Q R : Text → Type 0) → ((s t : Text) → P s → Q t → R (s ++ t)) → (text : Text) → Front P text → ((rest : Text) → Option (Front Q rest)) → Option (Front R text)
+abbrev joined : (P Q R : Text → Type 0) → ((s t : Text) → P s → Q t → R (s ++ t)) → (text : Text) → Front P text
+    → ((rest : Text) → Option (Front Q rest)) → Option (Front R text)
 joined P Q R join text (first, rest, is, p) next = then (next rest) (λ more.
     Some (first ++ more.0, more.1, is ∙ ap (λ l. first ++ l) more.2 ∙ sym (append_assoc first more.0 more.1), join first more.0 p more.3))
 
@@ -149,7 +157,8 @@ piece_in reading (block opened) text = Some ([], text, refl, refl)
 abbrev pieces_in : (reading : Reading) (pieces : List Piece) (text : Text) → Option (Front (Spells reading pieces) text)
 pieces_in reading [] text = Some ([], text, refl, refl)
 pieces_in reading (piece ∷ pieces) text = then (piece_in reading piece text) (λ one.
-    joined (SpellsPiece reading piece) (Spells reading pieces) (Spells reading (piece ∷ pieces)) (λ s t p q. (s, t, refl, p, q)) text one (pieces_in reading pieces))
+    joined (SpellsPiece reading piece) (Spells reading pieces) (Spells reading (piece ∷ pieces)) (λ s t p q. (s, t, refl, p, q)) text one
+    (pieces_in reading pieces))
 
 -- ---- lines
 
@@ -157,7 +166,8 @@ pieces_in reading (piece ∷ pieces) text = then (piece_in reading piece text) (
 abbrev Following : Reading → List (List Piece) → Text → Type 0
 Following reading lines rest = ((rest ≡ []) × (lines ≡ [])) ⊎ ((more : Text) × (rest ≡ 10 ∷ more) × SpellsLines reading lines more)
 
-abbrev ended : (reading : Reading) (lines : List (List Piece)) (rest : Text) → ((more : Text) → Option (SpellsLines reading lines more)) → Option (Following reading lines rest)
+abbrev ended : (reading : Reading) (lines : List (List Piece)) (rest : Text) → ((more : Text) → Option (SpellsLines reading lines more))
+    → Option (Following reading lines rest)
 ended reading [] [] next = Some (inl (refl, refl))
 ended reading (x ∷ lines) [] next = None
 ended reading lines (b ∷ more) next = then (same b 10) (λ e. then (next more) (λ found. Some (inr (more, ap (λ y. y ∷ more) e, found))))

@@ -1,5 +1,6 @@
 -- What a listing prints of a module spells its lines.
-use Rattle.std.proofs.Common.{◌≡◌, ℕ, suc, ◌+◌, ◌<◌, ◌≤◌, ◌^◌, List, [], ◌∷◌, ◌++◌, length, flat_map, map, ◌-◌, Bool, true, false, cond, ◌||◌, nat_lt, Option, Some, None, codes, refl, arith}
+use Rattle.std.proofs.Common.{◌≡◌, ℕ, suc, ◌+◌, ◌<◌, ◌≤◌, ◌^◌, List, [], ◌∷◌, ◌++◌, length, flat_map, map, ◌-◌, Bool, true, false, cond, ◌||◌, nat_lt}
+use Rattle.std.proofs.Common.{Option, Some, None, codes, refl, arith}
 use Rattle.std.specs.Fmt.{digits}
 use Rattle.std.specs.Prelude.{IfSome}
 use Rattle.std.specs.List.{All, list_any, find}
@@ -24,14 +25,17 @@ use Rattle.mufom_module.proofs.Valid.{weighs_less}
 use Rattle.mufom_module.proofs.EntryCounts.{sections-count, publics-count, references-count}
 use Rattle.mufom_module.specs.Defects.{IsValid, is_long_literal, has_defect}
 use Rattle.mufom_module.specs.Contents.{any_item}
-use Rattle.mufom_module.specs.Made.{IsNumber, IsMade, IsMadeTree, IsMadeSection, IsMadeNote, IsMadeWeak, IsMadePublic, IsMadeReference, IsMadeItem, IsMadeLoad, IsMadeHead, IsMadeMark}
+use Rattle.mufom_module.specs.Made.{IsNumber, IsMade, IsMadeTree, IsMadeSection, IsMadeNote, IsMadeWeak, IsMadePublic, IsMadeReference, IsMadeItem}
+use Rattle.mufom_module.specs.Made.{IsMadeLoad, IsMadeHead, IsMadeMark}
 use Rattle.mufom_module.specs.Written.{each_from}
 use Rattle.mufom_text.specs.declared.form.TextForm.TheVariants.{Listing}
 use Rattle.mufom_text.specs.Words.{Text, line}
 use Rattle.mufom_text.specs.Show as show
 use Rattle.mufom_build.specs.Lines as lines
 use Rattle.mufom_build.specs.Lines.{Line}
-use Rattle.mufom_build.proofs.Printed.{lines_spelled, Printed, ◌▸◌, none, in_words, in_number, in_place, in_byte, in_position, in_count, in_name, in_digits, in_spaced, in_value, in_block, PrintedLines, all, no_lines, indented, ◌▹◌, on_indented_line, on_line}
+use Rattle.mufom_build.proofs.Printed.{lines_spelled, Printed, ◌▸◌, none, in_words, in_number, in_place, in_byte, in_position, in_count, in_name}
+use Rattle.mufom_build.proofs.Printed.{in_digits, in_spaced, in_value, in_block, PrintedLines, all, no_lines, indented, ◌▹◌, on_indented_line}
+use Rattle.mufom_build.proofs.Printed.{on_line}
 
 in_module : (m : Parts) → IsMade m → PrintedLines (lines.module_pieces m ∷ []) (show.module_line m)
 in_module m made = on_line (in_words (codes "module ") ▸ in_name m.name made.name ▸ in_words (codes " processor ") ▸
@@ -61,7 +65,8 @@ in_note note made = in_words (codes " type ") ▸ in_number note.type_index made
 
 in_notes : (notes : List Note) → All IsMadeNote notes → PrintedLines (map lines.note_line notes) (show.note_lines notes)
 in_notes [] made = no_lines
-in_notes (note ∷ notes) made = all (on_line (in_words (codes "note") ▸ in_note note (All-head IsMadeNote note notes made))) (in_notes notes (All-tail IsMadeNote note notes made))
+in_notes (note ∷ notes) made = all (on_line (in_words (codes "note") ▸ in_note note (All-head IsMadeNote note notes made)))
+    (in_notes notes (All-tail IsMadeNote note notes made))
 
 in_public : (n : ℕ) (p : Public) → IsNumber n → IsMadePublic p → PrintedLines (lines.public_lines n p) (show.public_lines n p)
 in_public n p small made = all (on_line (in_words (codes "public ") ▸ in_position n small ▸ in_words (codes " ") ▸ in_name p.name made.name ▸
@@ -76,7 +81,8 @@ in_reference n q small made = all (on_line (in_words (codes "reference ") ▸ in
     in_weak q.weak made.weak)) (in_notes q.notes made.notes)
 
 -- entries one after another, each by its position
-in_each : {X : Type 0} (Made : X → Type 0) (lines_of : ℕ → X → List Line) (text_of : ℕ → X → Text) → ((n : ℕ) (x : X) → IsNumber n → Made x → PrintedLines (lines_of n x) (text_of n x))
+in_each : {X : Type 0} (Made : X → Type 0) (lines_of : ℕ → X → List Line) (text_of : ℕ → X → Text)
+    → ((n : ℕ) (x : X) → IsNumber n → Made x → PrintedLines (lines_of n x) (text_of n x))
     → (n : ℕ) (xs : List X) → n + length xs < 2 ^ 64 → All Made xs → PrintedLines (lines.each_lines n lines_of xs) (each_from n text_of xs)
 in_each Made lines_of text_of one n [] small made = no_lines
 in_each Made lines_of text_of one n (x ∷ xs) small made =
@@ -85,7 +91,8 @@ in_each Made lines_of text_of one n (x ∷ xs) small made =
 
 -- ---- debug items
 
-in_scope : (stack type_index : ℕ) (offset : Tree) → IsNumber stack → IsNumber type_index → IsMadeTree offset → Printed (lines.scope_pieces stack type_index offset) (show.scope_text stack type_index offset)
+in_scope : (stack type_index : ℕ) (offset : Tree) → IsNumber stack → IsNumber type_index → IsMadeTree offset
+    → Printed (lines.scope_pieces stack type_index offset) (show.scope_text stack type_index offset)
 in_scope stack type_index offset a b c = in_words (codes " stack ") ▸ in_number stack a ▸ in_words (codes " type ") ▸ in_number type_index b ▸
     in_words (codes " offset ") ▸ in_value offset c
 
@@ -125,12 +132,14 @@ one_more n (name_mark name) = omega arith
 one_more n (note_mark name note) = omega arith
 one_more n (value_mark name value) = omega arith
 
-in_marks : (depth n : ℕ) (marks : List DebugMark) → n + length marks < 2 ^ 64 → All IsMadeMark marks → PrintedLines (lines.mark_lines depth n marks) (show.mark_lines depth n marks)
+in_marks : (depth n : ℕ) (marks : List DebugMark) → n + length marks < 2 ^ 64 → All IsMadeMark marks
+    → PrintedLines (lines.mark_lines depth n marks) (show.mark_lines depth n marks)
 in_marks depth n [] small made = no_lines
 in_marks depth n (mark ∷ marks) small made =
     let sum : n + suc (length marks) < 2 ^ 64 = small in
     let next = one_more n mark in
-    all (in_mark depth n mark (omega (arith, sum)) (All-head IsMadeMark mark marks made)) (in_marks (open_after depth mark) (names_after n mark) marks (omega (arith, sum, next)) (All-tail IsMadeMark mark marks made))
+    all (in_mark depth n mark (omega (arith, sum)) (All-head IsMadeMark mark marks made))
+    (in_marks (open_after depth mark) (names_after n mark) marks (omega (arith, sum, next)) (All-tail IsMadeMark mark marks made))
 
 -- ---- loads
 
@@ -151,19 +160,23 @@ in_item (Literal bytes) made fits = in_bytes bytes made (short (length bytes) fi
 in_item (Field kind value size) (a, b) fits = (in_words (codes "field ") ▸ in_words (show.kind_text kind) ▸ in_words (codes " ") ▸ in_byte size b ▸
     in_words (codes " = ") ▸ in_value value a)
 
-in_items : (items : List Item) → All IsMadeItem items → list_any is_long_literal items ≡ false → PrintedLines (map lines.item_pieces items) (flat_map (λ item. line (codes "  " ++ show.item_text item)) items)
+in_items : (items : List Item) → All IsMadeItem items → list_any is_long_literal items ≡ false
+    → PrintedLines (map lines.item_pieces items) (flat_map (λ item. line (codes "  " ++ show.item_text item)) items)
 in_items [] made fits = no_lines
 in_items (item ∷ items) made fits =
     let parts = neither (is_long_literal item) (list_any is_long_literal items) fits in
-    all (on_indented_line (indented 1 (in_item item (All-head IsMadeItem item items made) parts.0))) (in_items items (All-tail IsMadeItem item items made) parts.1)
+    all (on_indented_line (indented 1 (in_item item (All-head IsMadeItem item items made) parts.0)))
+    (in_items items (All-tail IsMadeItem item items made) parts.1)
 
 in_load : (load : Load) → IsMadeLoad load → any_item is_long_literal load ≡ false → PrintedLines (lines.load_lines load) (show.load_lines Listing load)
 in_load (SetSection n) made fits = on_line (in_words (codes "select ") ▸ in_place n made)
 in_load (SetPc n value) (a, b) fits = on_line (in_words (codes "counter ") ▸ in_place n a ▸ in_words (codes " = ") ▸ in_value value b)
 in_load (One item) made fits = on_line (in_item item made fits)
-in_load (Repeat times items) (a, b) fits = all (all (on_line (in_words (codes "repeat ") ▸ in_number times a)) (in_items items b fits)) (on_line (in_words (codes "end")))
+in_load (Repeat times items) (a, b) fits = all (all (on_line (in_words (codes "repeat ") ▸ in_number times a)) (in_items items b fits))
+    (on_line (in_words (codes "end")))
 
-in_loads : (loads : List Load) → All IsMadeLoad loads → list_any (any_item is_long_literal) loads ≡ false → PrintedLines (flat_map lines.load_lines loads) (flat_map (show.load_lines Listing) loads)
+in_loads : (loads : List Load) → All IsMadeLoad loads → list_any (any_item is_long_literal) loads ≡ false
+    → PrintedLines (flat_map lines.load_lines loads) (flat_map (show.load_lines Listing) loads)
 in_loads [] made fits = no_lines
 in_loads (load ∷ loads) made fits =
     let parts = neither (any_item is_long_literal load) (list_any (any_item is_long_literal) loads) fits in
@@ -187,7 +200,8 @@ misses p (y ∷ xs) x ys h = misses p xs x ys (passed (p y) y (find p (xs ++ x �
   passed false z o e = e
 
 literals_fit : (m : Parts) → IsValid m → list_any (any_item is_long_literal) m.loads ≡ false
-literals_fit m valid = misses (has_defect m) (d.Depth ∷ d.LongId ∷ d.BadMaus ∷ d.BadAlign ∷ d.MissingBase ∷ d.Position ∷ d.MisplacedP ∷ d.NoSection ∷ []) d.LongRun
+literals_fit m valid =
+    misses (has_defect m) (d.Depth ∷ d.LongId ∷ d.BadMaus ∷ d.BadAlign ∷ d.MissingBase ∷ d.Position ∷ d.MisplacedP ∷ d.NoSection ∷ []) d.LongRun
     (d.FieldSize ∷ d.Attribute ∷ d.Nesting ∷ d.Weight ∷ []) valid
 
 in_parts : (m : Parts) → IsMade m → IsValid m → length (marks_of m.debug) < 2 ^ 32 → PrintedLines (lines.listing_lines m) (show.listing_text m)

@@ -54,8 +54,10 @@ few_mark (value_mark n value) made = tt
 
 are_few : (m : Parts) → IsMade m → AreFew m
 are_few m made = record {
-  publics = All-weaker IsMadePublic (λ p. All HasFewNumbers p.notes) (λ p h. All-weaker IsMadeNote HasFewNumbers (λ note k. k.few) p.notes h.notes) m.names.publics made.publics;
-  references = All-weaker IsMadeReference (λ r. All HasFewNumbers r.notes) (λ r h. All-weaker IsMadeNote HasFewNumbers (λ note k. k.few) r.notes h.notes) m.names.references made.references;
+  publics = All-weaker IsMadePublic (λ p. All HasFewNumbers p.notes) (λ p h. All-weaker IsMadeNote HasFewNumbers (λ note k. k.few) p.notes h.notes)
+      m.names.publics made.publics;
+  references = All-weaker IsMadeReference (λ r. All HasFewNumbers r.notes)
+      (λ r h. All-weaker IsMadeNote HasFewNumbers (λ note k. k.few) r.notes h.notes) m.names.references made.references;
   debug = All-weaker IsMadeMark HasFewMarkNumbers few_mark (marks_of m.debug) made.debug;
 }
 

@@ -10,6 +10,7 @@ use Rattle.mufom_debug.specs.Marks.{block_begin, block_end, name_mark}
 use Rattle.mufom_module.specs.declared.module.Order.TheVariants as orders
 use Rattle.mufom_module.specs.declared.module.Parts.{Parts}
 use Rattle.mufom_text.specs.Show.{listing_text}
+use Rattle.mufom_text.specs.Words.{Text}
 use Rattle.mufom_loads.specs.declared.load.Item.TheVariants as items
 use Rattle.mufom_loads.specs.declared.load.Load.TheVariants as loads
 use Rattle.mufom_sections.specs.declared.section.Purpose.TheVariants as purposes
@@ -41,27 +42,40 @@ unfolding digits encode_with
 printed = found (lines_in exact (listing_lines small) (listing_text small)) refl
 
 -- a line of spaces, more spaces, a byte of a name by its digits, a leading zero, digits of either case, no byte 0A at the end
-written : SpellsLines exact (listing_lines small) (codes "\n  \n  module   \"\\x41\" processor \"6800\\x30\" maus 004 order M  \n section 0 \"code\" ASP  size 4 align 2 base 4096\n\nselect 0\ncounter 0 =  4096\nbytes 4 4e714E75\n  start = 04096")
-written = found (lines_in exact (listing_lines small) (codes "\n  \n  module   \"\\x41\" processor \"6800\\x30\" maus 004 order M  \n section 0 \"code\" ASP  size 4 align 2 base 4096\n\nselect 0\ncounter 0 =  4096\nbytes 4 4e714E75\n  start = 04096")) refl
+abbrev untidy : Text
+untidy = codes "\n  \n  module   \"\\x41\" processor \"6800\\x30\" maus 004 order M  \n section 0 \"code\" ASP  size 4 align 2 base 4096\n\n"
+    ++ codes "select 0\ncounter 0 =  4096\nbytes 4 4e714E75\n  start = 04096"
+
+written : SpellsLines exact (listing_lines small) untidy
+written = found (lines_in exact (listing_lines small) untidy) refl
+
+-- the listing with a first line, a position of its section and a count of its bytes
+abbrev changed : Text → Text → Text → Text
+changed first position count = first ++ (codes " \"A\" processor \"68000\" maus 4 order M\nsection " ++ (position
+    ++ (codes " \"code\" ASP size 4 align 2 base 4096\nselect 0\ncounter 0 = 4096\nbytes " ++ (count ++ codes " 4E714E75\nstart = 4096\n"))))
 
 -- another position, and another count of bytes, leave the shape of a listing, and are no listing of the module
-misnumbered : SpellsLines loose (listing_lines small) (codes "module \"A\" processor \"68000\" maus 4 order M\nsection 1 \"code\" ASP size 4 align 2 base 4096\nselect 0\ncounter 0 = 4096\nbytes 3 4E714E75\nstart = 4096\n")
-misnumbered = found (lines_in loose (listing_lines small) (codes "module \"A\" processor \"68000\" maus 4 order M\nsection 1 \"code\" ASP size 4 align 2 base 4096\nselect 0\ncounter 0 = 4096\nbytes 3 4E714E75\nstart = 4096\n")) refl
+misnumbered : SpellsLines loose (listing_lines small) (changed (codes "module") (codes "1") (codes "3"))
+misnumbered = found (lines_in loose (listing_lines small) (changed (codes "module") (codes "1") (codes "3"))) refl
 
-not_exact : lines_in exact (listing_lines small) (codes "module \"A\" processor \"68000\" maus 4 order M\nsection 1 \"code\" ASP size 4 align 2 base 4096\nselect 0\ncounter 0 = 4096\nbytes 4 4E714E75\nstart = 4096\n") ≡ None
+not_exact : lines_in exact (listing_lines small) (changed (codes "module") (codes "1") (codes "4")) ≡ None
 not_exact = refl
 
-misspelled : lines_in loose (listing_lines small) (codes "modul \"A\" processor \"68000\" maus 4 order M\nsection 0 \"code\" ASP size 4 align 2 base 4096\nselect 0\ncounter 0 = 4096\nbytes 4 4E714E75\nstart = 4096\n") ≡ None
+misspelled : lines_in loose (listing_lines small) (changed (codes "modul") (codes "0") (codes "4")) ≡ None
 misspelled = refl
 
 -- ---- blocks, repeats and parts that are not read
 
 -- an expression at the end of a block, a repeat of nothing, and a repeat whose end is not indented
-blocks : SpellsLines exact (mark_lines 0 0 (block_begin heads.Module (0x6D ∷ []) ∷ name_mark (0x61 ∷ []) ∷ block_end (Some (number 7)) ∷ [])) (codes "block 03 \"m\"\nname 0 \"a\"\n end  = 7 \n")
-blocks = found (lines_in exact (mark_lines 0 0 (block_begin heads.Module (0x6D ∷ []) ∷ name_mark (0x61 ∷ []) ∷ block_end (Some (number 7)) ∷ [])) (codes "block 03 \"m\"\nname 0 \"a\"\n end  = 7 \n")) refl
+blocks : SpellsLines exact (mark_lines 0 0 (block_begin heads.Module (0x6D ∷ []) ∷ name_mark (0x61 ∷ []) ∷ block_end (Some (number 7)) ∷ []))
+    (codes "block 03 \"m\"\nname 0 \"a\"\n end  = 7 \n")
+blocks = found (lines_in exact (mark_lines 0 0 (block_begin heads.Module (0x6D ∷ []) ∷ name_mark (0x61 ∷ []) ∷ block_end (Some (number 7)) ∷ []))
+    (codes "block 03 \"m\"\nname 0 \"a\"\n end  = 7 \n")) refl
 
-repeats : SpellsLines exact (load_lines (loads.Repeat 2 (items.Literal [] ∷ items.Field Either (variable letters.X 0) 4 ∷ [])) ++ load_lines (loads.Repeat 0 [])) (codes "repeat 2\n  bytes 0\n  field either 4 = X0\nend\nrepeat 0\nend\n")
-repeats = found (lines_in exact (load_lines (loads.Repeat 2 (items.Literal [] ∷ items.Field Either (variable letters.X 0) 4 ∷ [])) ++ load_lines (loads.Repeat 0 [])) (codes "repeat 2\n  bytes 0\n  field either 4 = X0\nend\nrepeat 0\nend\n")) refl
+repeats : SpellsLines exact (load_lines (loads.Repeat 2 (items.Literal [] ∷ items.Field Either (variable letters.X 0) 4 ∷ []))
+    ++ load_lines (loads.Repeat 0 [])) (codes "repeat 2\n  bytes 0\n  field either 4 = X0\nend\nrepeat 0\nend\n")
+repeats = found (lines_in exact (load_lines (loads.Repeat 2 (items.Literal [] ∷ items.Field Either (variable letters.X 0) 4 ∷ []))
+    ++ load_lines (loads.Repeat 0 [])) (codes "repeat 2\n  bytes 0\n  field either 4 = X0\nend\nrepeat 0\nend\n")) refl
 
 unended : lines_in exact (load_lines (loads.Repeat 0 [])) (codes "repeat 0\n") ≡ None
 unended = refl

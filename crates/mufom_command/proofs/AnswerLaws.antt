@@ -11,7 +11,8 @@ use Rattle.mufom_groups.specs.Work.{Work}
 use Rattle.mufom_command.specs.Stop.{Stop}
 use Rattle.mufom_command.specs.Commands.{Output, printed, made, work_of}
 use Rattle.mufom_command.specs.Complaint.{complaint}
-use Rattle.mufom_command.specs.Run.{AddsErrorLine, AnswersBy, AnswersFor, Does, DoesBy, IsOpenedCount, IsPrintedAs, MayLackMemory, NoneFalls, OpensBy, OpensInputs, PrintsErrorLine, PutsOut, PutsOutNothing, PutsOutPrefix, inputs_of, stop_answer}
+use Rattle.mufom_command.specs.Run.{AddsErrorLine, AnswersBy, AnswersFor, Does, DoesBy, IsOpenedCount, IsPrintedAs, MayLackMemory, NoneFalls, OpensBy}
+use Rattle.mufom_command.specs.Run.{OpensInputs, PrintsErrorLine, PutsOut, PutsOutNothing, PutsOutPrefix, inputs_of, stop_answer}
 use Rattle.mufom_command.proofs.InputLaws.{call_between}
 
 module _ (old mid : Meaning) (before between : Faults) (err : Option (List ℕ)) (complaints : ℕ) where
@@ -27,7 +28,13 @@ module _ (old mid : Meaning) (before between : Faults) (err : Option (List ℕ))
 
   output-kept : (output : Output) → PutsOut output (call_between old mid before between) → PutsOut output (call_between old new before now)
   output-kept (printed text) is = record { added = is.added; stays = ap (λ (m : Meaning). record m { err = err }) is.stays }
-  output-kept (made name bytes) is = record { added = is.added; finished = is.finished; created = is.created; stays = ap (λ (m : Meaning). record m { err = err }) is.stays }
+  output-kept (made name bytes) is = record {
+    added = is.added;
+    finished = is.finished;
+    created = is.created;
+    stays =
+        ap (λ (m : Meaning). record m { err = err }) is.stays;
+  }
 
   prefix-kept : (output : Output) → PutsOutPrefix output (call_between old mid before between) → PutsOutPrefix output (call_between old new before now)
   prefix-kept (printed text) is = record { added = is.added; stays = ap (λ (m : Meaning). record m { err = err }) is.stays }
@@ -42,7 +49,8 @@ module _ (old mid : Meaning) (before between : Faults) (err : Option (List ℕ))
     answers-kept outcome.WriteFault (rose, (output, is, puts)) = (rose, (output, is, prefix-kept output puts))
     answers-kept outcome.NoMemory nothing = nothing-kept nothing
 
-    nothing-lacked : (o : Outcome) → MayLackMemory o → AnswersFor c work (call_between old mid before between) o → PutsOutNothing (call_between old new before now)
+    nothing-lacked : (o : Outcome) → MayLackMemory o → AnswersFor c work (call_between old mid before between) o
+        → PutsOutNothing (call_between old new before now)
     nothing-lacked outcome.Done may is = absurd may
     nothing-lacked (outcome.Refused r) may (is, nothing) = nothing-kept nothing
     nothing-lacked (outcome.Usage f) may is = absurd may
@@ -50,23 +58,28 @@ module _ (old mid : Meaning) (before between : Faults) (err : Option (List ℕ))
     nothing-lacked outcome.WriteFault may is = absurd may
     nothing-lacked outcome.NoMemory may is = absurd may
 
-    answers-after : (o result : Outcome) → IsPrintedAs o result → AnswersFor c work (call_between old mid before between) o → AnswersFor c work (call_between old new before now) result
+    answers-after : (o result : Outcome) → IsPrintedAs o result → AnswersFor c work (call_between old mid before between) o
+        → AnswersFor c work (call_between old new before now) result
     answers-after o result (inl same) is = subst (λ (x : Outcome). AnswersFor c work (call_between old new before now) x) (sym same) (answers-kept o is)
-    answers-after o result (inr (same, may)) is = subst (λ (x : Outcome). AnswersFor c work (call_between old new before now) x) (sym same) (nothing-lacked o may is)
+    answers-after o result (inr (same, may)) is = subst (λ (x : Outcome). AnswersFor c work (call_between old new before now) x) (sym same)
+        (nothing-lacked o may is)
 
   count-after : (c : Command) (o result : Outcome) → IsPrintedAs o result → (count : ℕ) → IsOpenedCount c o count → IsOpenedCount c result count
   count-after c o result (inl same) count exact = subst (λ (x : Outcome). IsOpenedCount c x count) (sym same) exact
   count-after c o result (inr (same, may)) count exact = subst (λ (x : Outcome). IsOpenedCount c x count) (sym same) tt
 
-  opens-after : (c : Command) (o result : Outcome) → IsPrintedAs o result → OpensInputs c (call_between old mid before between) o → OpensInputs c (call_between old new before now) result
+  opens-after : (c : Command) (o result : Outcome) → IsPrintedAs o result → OpensInputs c (call_between old mid before between) o
+      → OpensInputs c (call_between old new before now) result
   opens-after c o result shown is = record { count = is.count; exact = count-after c o result shown is.count is.exact; within = is.within; opened = is.opened }
 
-  stop-after : (s : WordsStop) (o result : Outcome) → IsPrintedAs o result → (o ≡ stop_answer s) ⊎ (o ≡ outcome.NoMemory) → (result ≡ stop_answer s) ⊎ (result ≡ outcome.NoMemory)
+  stop-after : (s : WordsStop) (o result : Outcome) → IsPrintedAs o result → (o ≡ stop_answer s) ⊎ (o ≡ outcome.NoMemory) → (result ≡ stop_answer s)
+      ⊎ (result ≡ outcome.NoMemory)
   stop-after s o result (inl same) (inl is) = inl (same ∙ is)
   stop-after s o result (inl same) (inr is) = inr (same ∙ is)
   stop-after s o result (inr (same, may)) is = inr same
 
-  all-after : (r : Result Command WordsStop) (o result : Outcome) → IsPrintedAs o result → between.complaints ≤ complaints → DoesBy r (call_between old mid before between) o
+  all-after : (r : Result Command WordsStop) (o result : Outcome) → IsPrintedAs o result → between.complaints ≤ complaints
+      → DoesBy r (call_between old mid before between) o
       → AnswersBy r (call_between old new before now) result × OpensBy r (call_between old new before now) result × NoneFalls (call_between old new before now)
   all-after (Ok c) o result shown later does = (
     answers-after c (λ files. work_of c.verb files c) o result shown does.answers,
@@ -89,38 +102,50 @@ pub record IsAnswered (r : Result Command WordsStop) (old new : Meaning) (before
   pub opens : OpensBy r (call_between old new before now) result
   pub counts : NoneFalls (call_between old new before now)
 
-pub answered : (r : Result Command WordsStop) (old mid new : Meaning) (before between now : Faults) (o result : Outcome) → IsPrintedAs o result → OnlyPrintsErrors mid new between now
+pub answered : (r : Result Command WordsStop) (old mid new : Meaning) (before between now : Faults) (o result : Outcome) → IsPrintedAs o result
+    → OnlyPrintsErrors mid new between now
     → DoesBy r (call_between old mid before between) o → IsAnswered r old new before now result
 answered r old mid new before between now o result shown (stays, counts, later) does =
     let all = all-after old mid before between new.err now.complaints r o result shown later does in
     subst (λ (m : Meaning). IsAnswered r old m before now result) (sym stays)
-    (subst (λ (f : Faults). IsAnswered r old (record mid { err = new.err }) before f result) (sym counts) (record { answers = all.0; opens = all.1; counts = all.2 }))
+    (subst (λ (f : Faults). IsAnswered r old (record mid { err = new.err }) before f result) (sym counts)
+    (record { answers = all.0; opens = all.1; counts = all.2 }))
 
 -- ---- the error output before the error line
 
-pub err-before : (r : Result Command WordsStop) (old mid : Meaning) (before between : Faults) (o : Outcome) → DoesBy r (call_between old mid before between) o → (mid.err ≡ old.err) × (before.complaints ≤ between.complaints)
+pub err-before : (r : Result Command WordsStop) (old mid : Meaning) (before between : Faults) (o : Outcome)
+    → DoesBy r (call_between old mid before between) o → (mid.err ≡ old.err) × (before.complaints ≤ between.complaints)
 err-before (Ok c) old mid before between o does = (does.err, does.counts.complaints)
-err-before (Err s) old mid before between o (is, stays, counts) = (ap (λ (m : Meaning). m.err) stays, let same = ap (λ (f : Faults). f.complaints) counts in omega (arith, same))
+err-before (Err s) old mid before between o (is, stays, counts) =
+    (ap (λ (m : Meaning). m.err) stays, let same = ap (λ (f : Faults). f.complaints) counts in omega (arith, same))
 
-adds-since : (old mid new : Meaning) (before between now : Faults) (text : List ℕ) → mid.err ≡ old.err → before.complaints ≤ between.complaints → AddsErrorLine (call_between mid new between now) text
+adds-since : (old mid new : Meaning) (before between now : Faults) (text : List ℕ) → mid.err ≡ old.err → before.complaints ≤ between.complaints
+    → AddsErrorLine (call_between mid new between now) text
     → AddsErrorLine (call_between old new before now) text
 adds-since old mid new before between now text same later (inl grows) = inl (subst (λ (e : Option (List ℕ)). GrowsBy e new.err text) same grows)
 adds-since old mid new before between now text same later (inr (rose, grows)) =
     inr (omega (arith, rose, later), subst (λ (e : Option (List ℕ)). GrowsByPrefix e new.err text) same grows)
 
 -- the error line is that of the whole call
-pub line-since : (old mid new : Meaning) (before between now : Faults) (result : Outcome) → mid.err ≡ old.err → before.complaints ≤ between.complaints → PrintsErrorLine (call_between mid new between now) result
+pub line-since : (old mid new : Meaning) (before between now : Faults) (result : Outcome) → mid.err ≡ old.err → before.complaints ≤ between.complaints
+    → PrintsErrorLine (call_between mid new between now) result
     → PrintsErrorLine (call_between old new before now) result
 line-since old mid new before between now outcome.Done same later line = line ∙ same
-line-since old mid new before between now (outcome.Refused r) same later line = adds-since old mid new before between now (complaint (outcome.Refused r)) same later line
-line-since old mid new before between now (outcome.Usage f) same later line = adds-since old mid new before between now (complaint (outcome.Usage f)) same later line
-line-since old mid new before between now (outcome.ReadFault at) same later line = adds-since old mid new before between now (complaint (outcome.ReadFault at)) same later line
-line-since old mid new before between now outcome.WriteFault same later line = adds-since old mid new before between now (complaint outcome.WriteFault) same later line
-line-since old mid new before between now outcome.NoMemory same later line = adds-since old mid new before between now (complaint outcome.NoMemory) same later line
+line-since old mid new before between now (outcome.Refused r) same later line =
+    adds-since old mid new before between now (complaint (outcome.Refused r)) same later line
+line-since old mid new before between now (outcome.Usage f) same later line =
+    adds-since old mid new before between now (complaint (outcome.Usage f)) same later line
+line-since old mid new before between now (outcome.ReadFault at) same later line =
+    adds-since old mid new before between now (complaint (outcome.ReadFault at)) same later line
+line-since old mid new before between now outcome.WriteFault same later line =
+    adds-since old mid new before between now (complaint outcome.WriteFault) same later line
+line-since old mid new before between now outcome.NoMemory same later line =
+    adds-since old mid new before between now (complaint outcome.NoMemory) same later line
 
 -- ---- what the words ask for
 
-pub does-command : (r : Result Command WordsStop) (c : Command) (old new : Meaning) (before now : Faults) (o : Outcome) → r ≡ Ok c → Does c (λ files. work_of c.verb files c) (call_between old new before now) o
+pub does-command : (r : Result Command WordsStop) (c : Command) (old new : Meaning) (before now : Faults) (o : Outcome) → r ≡ Ok c
+    → Does c (λ files. work_of c.verb files c) (call_between old new before now) o
     → DoesBy r (call_between old new before now) o
 does-command r c old new before now o same does = subst (λ (x : Result Command WordsStop). DoesBy x (call_between old new before now) o) (sym same) does
 
@@ -138,8 +163,12 @@ does-nothing (Ok c) m f = record {
 does-nothing (Err s) m f = (inr refl, refl, refl)
 
 -- the words were refused, or not read
-pub does-words : (r : Result Command WordsStop) (m : Meaning) (f : Faults) (s : WordsStop) (o : Outcome) → o ≡ stop_answer s → (s ≢ words_stop.NoMemory → r ≡ Err s) → DoesBy r (call_between m m f f) o
+pub does-words : (r : Result Command WordsStop) (m : Meaning) (f : Faults) (s : WordsStop) (o : Outcome) → o ≡ stop_answer s
+    → (s ≢ words_stop.NoMemory → r ≡ Err s) → DoesBy r (call_between m m f f) o
 does-words r m f words_stop.NoMemory o is refused = subst (λ (x : Outcome). DoesBy r (call_between m m f f) x) (sym is) (does-nothing r m f)
-does-words r m f (words_stop.Usage u) o is refused = subst (λ (x : Result Command WordsStop). DoesBy x (call_between m m f f) o) (sym (refused (λ same. cc))) (inl is, refl, refl)
-does-words r m f (words_stop.TooManyFiles n) o is refused = subst (λ (x : Result Command WordsStop). DoesBy x (call_between m m f f) o) (sym (refused (λ same. cc))) (inl is, refl, refl)
-does-words r m f (words_stop.TooDeep n) o is refused = subst (λ (x : Result Command WordsStop). DoesBy x (call_between m m f f) o) (sym (refused (λ same. cc))) (inl is, refl, refl)
+does-words r m f (words_stop.Usage u) o is refused = subst (λ (x : Result Command WordsStop). DoesBy x (call_between m m f f) o)
+    (sym (refused (λ same. cc))) (inl is, refl, refl)
+does-words r m f (words_stop.TooManyFiles n) o is refused = subst (λ (x : Result Command WordsStop). DoesBy x (call_between m m f f) o)
+    (sym (refused (λ same. cc))) (inl is, refl, refl)
+does-words r m f (words_stop.TooDeep n) o is refused = subst (λ (x : Result Command WordsStop). DoesBy x (call_between m m f f) o)
+    (sym (refused (λ same. cc))) (inl is, refl, refl)

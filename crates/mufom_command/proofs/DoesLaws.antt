@@ -59,7 +59,8 @@ module _ (c : Command) (work : List NamedFile → Work Stop Output) (old mid : M
   opens-all names a (Some l) grows = subst (λ (all : List (List ℕ)). GrowsBy a (Some l) all) (sym (take_all (length names) names (omega arith))) grows
 
   module _ (opened : GrowsBy old.opened mid.opened (inputs_of c)) where
-    opens-read : (new : Meaning) (now : Faults) (result : Outcome) → new.opened ≡ mid.opened → IsOpenedCount c result (length (inputs_of c)) → OpensInputs c (call_between old new before now) result
+    opens-read : (new : Meaning) (now : Faults) (result : Outcome) → new.opened ≡ mid.opened → IsOpenedCount c result (length (inputs_of c))
+        → OpensInputs c (call_between old new before now) result
     opens-read new now result same exact = record {
       count = length (inputs_of c);
       exact = exact;
@@ -72,7 +73,8 @@ module _ (c : Command) (work : List NamedFile → Work Stop Output) (old mid : M
     pub lacking-does : Does c work (call_between old mid before between) outcome.NoMemory
     lacking-does = record { answers = read-nothing; opens = opens-read mid between outcome.NoMemory refl tt; err = read-err; counts = read-counts }
 
-    ended-answers : (s : Stop) → IsOfModules s → IfSome old.files (λ fs. work fs (stops s)) → AnswersFor c work (call_between old mid before between) (stop_outcome s)
+    ended-answers : (s : Stop) → IsOfModules s → IfSome old.files (λ fs. work fs (stops s))
+        → AnswersFor c work (call_between old mid before between) (stop_outcome s)
     ended-answers (link_fact f) is cause = (record { stop = link_fact f; is = refl; of_inputs = tt; cause = cause }, read-nothing)
     ended-answers (locate_fact maus f) is cause = (record { stop = locate_fact maus f; is = refl; of_inputs = tt; cause = cause }, read-nothing)
     ended-answers (raw_too_long count) is cause = (record { stop = raw_too_long count; is = refl; of_inputs = tt; cause = cause }, read-nothing)
@@ -90,8 +92,14 @@ module _ (c : Command) (work : List NamedFile → Work Stop Output) (old mid : M
     ended-count (file_refused n r) is = absurd is
     ended-count (past_limit n) is = absurd is
 
-    pub ended-does : (s : Stop) → IsOfModules s → IfSome old.files (λ fs. work fs (stops s)) → Does c work (call_between old mid before between) (stop_outcome s)
-    ended-does s is cause = record { answers = ended-answers s is cause; opens = opens-read mid between (stop_outcome s) refl (ended-count s is); err = read-err; counts = read-counts }
+    pub ended-does : (s : Stop) → IsOfModules s → IfSome old.files (λ fs. work fs (stops s))
+        → Does c work (call_between old mid before between) (stop_outcome s)
+    ended-does s is cause = record {
+      answers = ended-answers s is cause;
+      opens = opens-read mid between (stop_outcome s) refl (ended-count s is);
+      err = read-err;
+      counts = read-counts;
+    }
 
     -- ---- something was put out
 
@@ -100,7 +108,8 @@ module _ (c : Command) (work : List NamedFile → Work Stop Output) (old mid : M
       written-counts = record {
         reads = let same = ap (λ (f : Faults). f.reads) writes_counts in let later = only.2 in omega (arith, same, later);
         writes = let same = ap (λ (f : Faults). f.writes) only.1 in omega (arith, same, writes_later);
-        complaints = let first = ap (λ (f : Faults). f.complaints) only.1 in let second = ap (λ (f : Faults). f.complaints) writes_counts in omega (arith, first, second);
+        complaints = let first = ap (λ (f : Faults). f.complaints) only.1 in let second = ap (λ (f : Faults). f.complaints) writes_counts in
+            omega (arith, first, second);
       }
 
       rose-since : Rose between.writes now.writes → Rose before.writes now.writes
@@ -108,19 +117,29 @@ module _ (c : Command) (work : List NamedFile → Work Stop Output) (old mid : M
 
       -- ---- a text was printed
 
-      module _ (text : List ℕ) (cause : IfSome old.files (λ fs. work fs (gives (printed text)))) (no_file : c.out ≡ None) (prints : KeepsAllButOut mid new) where
+      module _ (text : List ℕ) (cause : IfSome old.files (λ fs. work fs (gives (printed text)))) (no_file : c.out
+          ≡ None) (prints : KeepsAllButOut mid new) where
         out-same : mid.out ≡ old.out
         out-same = ap (λ (m : Meaning). m.out) only.0
 
-        text-stays : new ≡ record mid { left = new.left; err = new.err; opened = new.opened; out = new.out } → new ≡ record old { left = new.left; err = new.err; opened = new.opened; out = new.out }
+        text-stays : new ≡ record mid { left = new.left; err = new.err; opened = new.opened; out = new.out } → new
+            ≡ record old { left = new.left; err = new.err; opened = new.opened; out = new.out }
         text-stays stays = stays ∙ ap (λ (m : Meaning). record m { left = new.left; err = new.err; opened = new.opened; out = new.out }) only.0
 
-        printed-answers : (result : Outcome) → IsPrinted text (call_between mid new between now) result → AnswersFor c work (call_between old new before now) result
-        printed-answers outcome.Done is =
-            (printed text, record { place = sym no_file; cause = cause }, record { added = subst (λ (o : Option (List ℕ)). GrowsBy o new.out text) out-same is.added; stays = text-stays is.stays })
+        printed-answers : (result : Outcome) → IsPrinted text (call_between mid new between now) result
+            → AnswersFor c work (call_between old new before now) result
+        printed-answers outcome.Done is = (
+          printed text,
+          record { place = sym no_file; cause = cause },
+          record { added = subst (λ (o : Option (List ℕ)). GrowsBy o new.out text) out-same is.added; stays = text-stays is.stays },
+        )
         printed-answers outcome.WriteFault (rose, is) = (
           rose-since rose,
-          (printed text, record { place = sym no_file; cause = cause }, record { added = subst (λ (o : Option (List ℕ)). GrowsByPrefix o new.out text) out-same is.added; stays = text-stays is.stays }),
+          (
+            printed text,
+            record { place = sym no_file; cause = cause },
+            record { added = subst (λ (o : Option (List ℕ)). GrowsByPrefix o new.out text) out-same is.added; stays = text-stays is.stays },
+          ),
         )
         printed-answers outcome.NoMemory is = is ∙ ap (λ (m : Meaning). record m { left = new.left; err = new.err; opened = new.opened }) only.0
         printed-answers (outcome.Refused r) is = absurd is
@@ -145,7 +164,8 @@ module _ (c : Command) (work : List NamedFile → Work Stop Output) (old mid : M
 
       -- ---- a file was made
 
-      module _ (name bytes : List ℕ) (cause : IfSome old.files (λ fs. work fs (gives (made name bytes)))) (named : c.out ≡ Some name) (makes : KeepsAllButFile mid new) where
+      module _ (name bytes : List ℕ) (cause : IfSome old.files (λ fs. work fs (gives (made name bytes)))) (named : c.out
+          ≡ Some name) (makes : KeepsAllButFile mid new) where
         made-same : mid.made ≡ old.made
         made-same = ap (λ (m : Meaning). m.made) only.0
 
@@ -161,17 +181,34 @@ module _ (c : Command) (work : List NamedFile → Work Stop Output) (old mid : M
           finished = subst (λ (o : Option (Option NamedFile)). IfSome o (λ first. new.making ≡ Some None)) making-same is.finished;
           created = subst (λ (o : Option (List (List ℕ))). GrowsBy o new.created (name ∷ [])) created-same is.created;
           stays = is.stays
-              ∙ ap (λ (m : Meaning). record m { left = new.left; err = new.err; opened = new.opened; making = new.making; made = new.made; created = new.created }) only.0;
+              ∙ ap (λ (m : Meaning). record m {
+                left = new.left;
+                err = new.err;
+                opened = new.opened;
+                making = new.making;
+                made = new.made;
+                created =
+                    new.created;
+              }) only.0;
         }
 
         part : BeginsFile name bytes (call_between mid new between now) → BeginsFile name bytes (call_between old new before now)
         part is = record {
-          begun = subst (λ (o : Option (Option NamedFile)). IfSome o (λ first. (new.making ≡ Some first) ⊎ ((n : ℕ) × (new.making ≡ Some (Some (name, take n bytes)))))) making-same is.begun;
+          begun = subst (λ (o : Option (Option NamedFile)). IfSome o (λ first. (new.making ≡ Some first)
+              ⊎ ((n : ℕ) × (new.making ≡ Some (Some (name, take n bytes)))))) making-same is.begun;
           created = subst (λ (o : Option (List (List ℕ))). OnSome new.created (GrowsBy o new.created (name ∷ []))) created-same is.created;
-          stays = is.stays ∙ ap (λ (m : Meaning). record m { left = new.left; err = new.err; opened = new.opened; making = new.making; created = new.created }) only.0;
+          stays = is.stays ∙ ap (λ (m : Meaning). record m {
+            left = new.left;
+            err = new.err;
+            opened = new.opened;
+            making = new.making;
+            created =
+                new.created;
+          }) only.0;
         }
 
-        made-answers : (result : Outcome) → IsMade name bytes (call_between mid new between now) result → AnswersFor c work (call_between old new before now) result
+        made-answers : (result : Outcome) → IsMade name bytes (call_between mid new between now) result
+            → AnswersFor c work (call_between old new before now) result
         made-answers outcome.Done is = (made name bytes, record { place = sym named; cause = cause }, whole is)
         made-answers outcome.WriteFault (rose, is) = (rose-since rose, (made name bytes, record { place = sym named; cause = cause }, part is))
         made-answers outcome.NoMemory is = absurd is
@@ -197,8 +234,10 @@ module _ (c : Command) (work : List NamedFile → Work Stop Output) (old mid : M
 
     -- ---- a file was made, of the name that the words give
 
-    pub made-does : (new : Meaning) (now : Faults) (bytes : List ℕ) → ((name : List ℕ) → c.out ≡ Some name → IfSome old.files (λ fs. work fs (gives (made name bytes)))) → IsSome c.out → (result : Outcome)
-        → ((name : List ℕ) → c.out ≡ Some name → IsMadeAlone name bytes (call_between mid new between now) result) → Does c work (call_between old new before now) result
+    pub made-does : (new : Meaning) (now : Faults) (bytes : List ℕ)
+        → ((name : List ℕ) → c.out ≡ Some name → IfSome old.files (λ fs. work fs (gives (made name bytes)))) → IsSome c.out → (result : Outcome)
+        → ((name : List ℕ) → c.out ≡ Some name → IsMadeAlone name bytes (call_between mid new between now) result)
+        → Does c work (call_between old new before now) result
     made-does new now bytes cause some result makes = by c.out refl some where
       by : (o : Option (List ℕ)) → c.out ≡ o → IsSome o → Does c work (call_between old new before now) result
       by None same none = absurd cc

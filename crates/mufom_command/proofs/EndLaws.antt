@@ -4,7 +4,8 @@ use Rattle.mufom_host.specs.World.{Faults, Meaning, NamedFile, GrowsBy, OnlyOpen
 use Rattle.mufom_module.specs.declared.module.Parts.{Parts}
 use Rattle.mufom_plan.specs.declared.plan.Plan.{Plan}
 use Rattle.mufom_meaning.specs.declared.located.LocatedParts.{LocatedParts}
-use Rattle.mufom_meaning.specs.Facts.{LinkFact, LocateFact, placement, undefined, common_unplaced, cycle, image_limit, zero_divisor, load_outside, loaded_twice, overflow}
+use Rattle.mufom_meaning.specs.Facts.{LinkFact, LocateFact, placement, undefined, common_unplaced, cycle, image_limit, zero_divisor, load_outside}
+use Rattle.mufom_meaning.specs.Facts.{loaded_twice, overflow}
 use Rattle.mufom_meaning.specs.LocateAnswer.{locate_answer}
 use Rattle.mufom_meaning.specs.Location.{IsLocation}
 use Rattle.mufom_image.specs.declared.refusal.LocateRefusal.{LocateRefusal}
@@ -53,7 +54,12 @@ module _ (ms : List Parts) (plan : Plan) where
   locate-ends (locate.DivideByZero s) met = inr (locate_fact (maus_of ms) (zero_divisor s), tt, refl, is-unlocated (zero_divisor s) met)
   locate-ends (locate.Overflow section address kind size value) met =
       inr (locate_fact (maus_of ms) (overflow section address kind size value), tt, refl, is-unlocated (overflow section address kind size value) met)
-  locate-ends (locate.LoadOutside section address) met = inr (locate_fact (maus_of ms) (load_outside section address), tt, refl, is-unlocated (load_outside section address) met)
+  locate-ends (locate.LoadOutside section address) met = inr (
+    locate_fact (maus_of ms) (load_outside section address),
+    tt,
+    refl,
+    is-unlocated (load_outside section address) met,
+  )
   locate-ends (locate.LoadedTwice address) met = inr (locate_fact (maus_of ms) (loaded_twice address), tt, refl, is-unlocated (loaded_twice address) met)
   locate-ends (locate.ImageLimit count) met = inr (locate_fact (maus_of ms) (image_limit count), tt, refl, is-unlocated (image_limit count) met)
 
@@ -68,15 +74,18 @@ if-err-map (Err e) P Q along is = along e is
 -- ---- one work after another
 
 -- the ends of a work that are ends of another
-pub ends-along : {A B : Type 0} (first : Work Stop A) (second : Work Stop B) → ((s : Stop) → first (stops s) → second (stops s)) → (o : Outcome) → EndsAt first o → EndsAt second o
+pub ends-along : {A B : Type 0} (first : Work Stop A) (second : Work Stop B) → ((s : Stop) → first (stops s) → second (stops s)) → (o : Outcome)
+    → EndsAt first o → EndsAt second o
 ends-along first second along o (inl is) = inl is
 ends-along first second along o (inr (s, of_modules, is, ends)) = inr (s, of_modules, is, along s ends)
 
 -- ---- the end of a command
 
-pub ends-does : {A : Type 0} (c : Command) (plan : Plan) (ms : List Parts) (work : List NamedFile → Work Stop Output) (part : Work Stop A) (old mid : Meaning) (before between : Faults)
+pub ends-does : {A : Type 0} (c : Command) (plan : Plan) (ms : List Parts) (work : List NamedFile
+    → Work Stop Output) (part : Work Stop A) (old mid : Meaning) (before between : Faults)
     → OnlyOpens old mid before between → GrowsBy old.opened mid.opened (inputs_of c) → IfSome old.files (λ fs. inputs_in fs c (gives (plan, ms)))
-    → ((fs : List NamedFile) → inputs_in fs c (gives (plan, ms)) → (s : Stop) → part (stops s) → work fs (stops s)) → (o : Outcome) → EndsAt part o → Does c work (call_between old mid before between) o
+    → ((fs : List NamedFile) → inputs_in fs c (gives (plan, ms)) → (s : Stop) → part (stops s) → work fs (stops s)) → (o : Outcome) → EndsAt part o
+    → Does c work (call_between old mid before between) o
 ends-does c plan ms work part old mid before between only opened read along o (inl is) =
     subst (λ (x : Outcome). Does c work (call_between old mid before between) x) (sym is) (lacking-does c work old mid before between only opened)
 ends-does c plan ms work part old mid before between only opened read along o (inr (s, of_modules, is, ends)) =

@@ -1,5 +1,6 @@
 -- The plan and then the files: what was read, and why not all was.
-use Rattle.std.proofs.Common.{◌≡◌, ℕ, suc, ◌+◌, List, [], ◌∷◌, ◌++◌, length, take, not, Option, Some, None, IfSome, IsSome, OnSome, option_to_list, refl, sym, ap, subst, ◌∙◌, inl, inr, arith}
+use Rattle.std.proofs.Common.{◌≡◌, ℕ, suc, ◌+◌, List, [], ◌∷◌, ◌++◌, length, take, not, Option, Some, None, IfSome, IsSome, OnSome, option_to_list}
+use Rattle.std.proofs.Common.{refl, sym, ap, subst, ◌∙◌, inl, inr, arith}
 use Rattle.std.proofs.lemmas.List.{append-nil, length-append}
 use Rattle.mufom_host.specs.World.{Faults, Meaning, NamedFile, GrowsBy, OnlyOpens}
 use Rattle.mufom_module.specs.declared.module.Parts.{Parts}
@@ -28,11 +29,13 @@ known-both P Q (Some a) first second = (first, second)
 
 take-after : {T : Type 0} (xs ys : List T) (n : ℕ) → take (length xs + n) (xs ++ ys) ≡ xs ++ take n ys
 take-after [] ys n = let none : 0 + n ≡ n = omega arith in ap (λ k. take k ys) none
-take-after (x ∷ xs) ys n = let more : length (x ∷ xs) + n ≡ suc (length xs + n) = omega arith in ap (λ k. take k (x ∷ (xs ++ ys))) more ∙ ap (λ l. x ∷ l) (take-after xs ys n)
+take-after (x ∷ xs) ys n = let more : length (x ∷ xs) + n ≡ suc (length xs + n) = omega arith in ap (λ k. take k (x ∷ (xs ++ ys))) more
+    ∙ ap (λ l. x ∷ l) (take-after xs ys n)
 
 -- ---- calls of one kind in a row
 
-pub opens-trans : (old mid new : Meaning) (before between now : Faults) → OnlyOpens old mid before between → OnlyOpens mid new between now → OnlyOpens old new before now
+pub opens-trans : (old mid new : Meaning) (before between now : Faults) → OnlyOpens old mid before between → OnlyOpens mid new between now
+    → OnlyOpens old new before now
 opens-trans old mid new before between now (first, counts, later) (second, more, latest) = (
   second ∙ ap (λ (m : Meaning). record m { left = new.left; opened = new.opened }) first,
   more ∙ ap (λ (f : Faults). record f { reads = now.reads }) counts,
@@ -48,13 +51,16 @@ module _ (c : Command) (old mid : Meaning) (before between : Faults) (only : Onl
 
   -- ---- all was read
 
-  pub inputs-read : (plan : Plan) (ms : List Parts) → planned plan → IfSome mid.files (λ fs. ComeTo (not c.no_debug) fs c.files (accepted ms)) → IfSome old.files (λ fs. inputs_in fs c (gives (plan, ms)))
+  pub inputs-read : (plan : Plan) (ms : List Parts) → planned plan → IfSome mid.files (λ fs. ComeTo (not c.no_debug) fs c.files (accepted ms))
+      → IfSome old.files (λ fs. inputs_in fs c (gives (plan, ms)))
   inputs-read plan ms is come =
-      known-map (λ fs. plan_in fs c.plan (gives plan) × ComeTo (not c.no_debug) fs c.files (accepted ms)) (λ fs. inputs_in fs c (gives (plan, ms))) old.files (λ fs both. (plan, both.0, (ms, both.1, refl)))
+      known-map (λ fs. plan_in fs c.plan (gives plan) × ComeTo (not c.no_debug) fs c.files (accepted ms)) (λ fs. inputs_in fs c (gives (plan, ms)))
+      old.files (λ fs both. (plan, both.0, (ms, both.1, refl)))
       (known-both (λ fs. plan_in fs c.plan (gives plan)) (λ fs. ComeTo (not c.no_debug) fs c.files (accepted ms)) old.files is
       (subst (λ (o : Option (List NamedFile)). IfSome o (λ fs. ComeTo (not c.no_debug) fs c.files (accepted ms))) files-same come))
 
-  pub all-opened : (new : Meaning) → GrowsBy old.opened mid.opened (option_to_list c.plan) → GrowsBy mid.opened new.opened c.files → GrowsBy old.opened new.opened (inputs_of c)
+  pub all-opened : (new : Meaning) → GrowsBy old.opened mid.opened (option_to_list c.plan) → GrowsBy mid.opened new.opened c.files
+      → GrowsBy old.opened new.opened (inputs_of c)
   all-opened new first second = grows_by_both old.opened mid.opened new.opened (option_to_list c.plan) c.files first second
 
   -- ---- the plan was not read
@@ -105,7 +111,8 @@ module _ (c : Command) (old mid : Meaning) (before between : Faults) (only : Onl
       (let same : length (option_to_list c.plan) ≡ length (option_to_list c.plan) + 0 = omega arith in ap (λ n. take n (inputs_of c)) same)
       ∙ take-after (option_to_list c.plan) c.files 0 ∙ append-nil (option_to_list c.plan)
 
-  pub plan-opens : (stop : Outcome) → PlanStops c.plan (call_between old mid before between) stop → OnSome mid.opened (GrowsBy old.opened mid.opened (option_to_list c.plan))
+  pub plan-opens : (stop : Outcome) → PlanStops c.plan (call_between old mid before between) stop
+      → OnSome mid.opened (GrowsBy old.opened mid.opened (option_to_list c.plan))
       → OpensInputs c (call_between old mid before between) stop
   plan-opens stop why opened = record {
     count = length (option_to_list c.plan);
@@ -122,21 +129,29 @@ module _ (c : Command) (old mid : Meaning) (before between : Faults) (only : Onl
 
     at-files : (s : Stop) → ComesTo s → IfSome old.files (λ fs. inputs_in fs c (stops s))
     at-files s why =
-        known-map (λ fs. plan_in fs c.plan (gives plan) × modules_in fs c (stops s)) (λ fs. inputs_in fs c (stops s)) old.files (λ fs both. inr (plan, both.0, inl both.1))
-        (known-both (λ fs. plan_in fs c.plan (gives plan)) (λ fs. modules_in fs c (stops s)) old.files is_planned (subst (λ (o : Option (List NamedFile)). IfSome o (λ fs. modules_in fs c (stops s))) files-same why))
+        known-map (λ fs. plan_in fs c.plan (gives plan) × modules_in fs c (stops s)) (λ fs. inputs_in fs c (stops s)) old.files
+        (λ fs both. inr (plan, both.0, inl both.1))
+        (known-both (λ fs. plan_in fs c.plan (gives plan)) (λ fs. modules_in fs c (stops s)) old.files is_planned
+        (subst (λ (o : Option (List NamedFile)). IfSome o (λ fs. modules_in fs c (stops s))) files-same why))
 
-    pub files-stops : (stop : Outcome) → FilesStop (not c.no_debug) c.files (call_between mid new between now) stop → OpensFiles c.files (call_between mid new between now) stop
+    pub files-stops : (stop : Outcome) → FilesStop (not c.no_debug) c.files (call_between mid new between now) stop
+        → OpensFiles c.files (call_between mid new between now) stop
         → InputsStop c (call_between old new before now) stop
-    files-stops (outcome.Refused (refusal.Read n r)) why opens = record { stop = file_refused n r; is = refl; of_inputs = tt; cause = at-files (file_refused n r) why }
-    files-stops (outcome.Refused (refusal.InputLimit n)) why opens = record { stop = past_limit n; is = refl; of_inputs = tt; cause = at-files (past_limit n) why }
+    files-stops (outcome.Refused (refusal.Read n r)) why opens =
+        record { stop = file_refused n r; is = refl; of_inputs = tt; cause = at-files (file_refused n r) why }
+    files-stops (outcome.Refused (refusal.InputLimit n)) why opens =
+        record { stop = past_limit n; is = refl; of_inputs = tt; cause = at-files (past_limit n) why }
     files-stops (outcome.ReadFault (input.File n)) (rose, them) opens = (
       (let same = ap (λ (f : Faults). f.reads) only.1 in let later = only.2 in omega (arith, rose, later)),
       (
         (let exact = opens.exact in let within = opens.within in omega (arith, exact, within)),
         known-map (λ fs. plan_in fs c.plan (gives plan) × ((ms : List Parts) × ComeTo (not c.no_debug) fs (take n c.files) (accepted ms)))
-            (λ fs. ((p : Plan) × plan_in fs c.plan (gives p)) × ((ms : List Parts) × ComeTo (not c.no_debug) fs (take n c.files) (accepted ms))) old.files (λ fs both. ((plan, both.0), both.1))
-            (known-both (λ fs. plan_in fs c.plan (gives plan)) (λ fs. (ms : List Parts) × ComeTo (not c.no_debug) fs (take n c.files) (accepted ms)) old.files is_planned
-            (subst (λ (o : Option (List NamedFile)). IfSome o (λ fs. (ms : List Parts) × ComeTo (not c.no_debug) fs (take n c.files) (accepted ms))) files-same them)),
+            (λ fs. ((p : Plan) × plan_in fs c.plan (gives p)) × ((ms : List Parts) × ComeTo (not c.no_debug) fs (take n c.files) (accepted ms)))
+            old.files (λ fs both. ((plan, both.0), both.1))
+            (known-both (λ fs. plan_in fs c.plan (gives plan)) (λ fs. (ms : List Parts)
+            × ComeTo (not c.no_debug) fs (take n c.files) (accepted ms)) old.files is_planned
+            (subst (λ (o : Option (List NamedFile)). IfSome o (λ fs. (ms : List Parts) × ComeTo (not c.no_debug) fs (take n c.files) (accepted ms)))
+            files-same them)),
       ),
     )
     files-stops (outcome.ReadFault input.Plan) why opens = absurd why
@@ -167,7 +182,8 @@ module _ (c : Command) (old mid : Meaning) (before between : Faults) (only : Onl
   files-count outcome.WriteFault count is = absurd is
   files-count outcome.NoMemory count is = tt
 
-  pub files-opens : (new : Meaning) (now : Faults) (stop : Outcome) → GrowsBy old.opened mid.opened (option_to_list c.plan) → OpensFiles c.files (call_between mid new between now) stop
+  pub files-opens : (new : Meaning) (now : Faults) (stop : Outcome) → GrowsBy old.opened mid.opened (option_to_list c.plan)
+      → OpensFiles c.files (call_between mid new between now) stop
       → OpensInputs c (call_between old new before now) stop
   files-opens new now stop first opens = record {
     count = length (option_to_list c.plan) + opens.count;

@@ -25,11 +25,13 @@ times {X} n (x ∷ xs) = let rest = times n xs in let own = sum_by-cons (λ (x :
 -- no more bytes are loaded than an image has
 few-loaded : (m : Parts) (plan : Plan) → locate_answer (m ∷ []) plan ≡ None → lengths_loaded m.loads ≤ MOST_IMAGE_BYTES
 few-loaded m plan none =
-    let within : ¬ (MOST_IMAGE_BYTES < loaded_total (m ∷ [])) = λ past. (answers_are_facts (m ∷ []) plan).locate_complete none (image_limit (loaded_total (m ∷ []))) (inl (refl, past)) in
+    let within : ¬ (MOST_IMAGE_BYTES < loaded_total (m ∷ [])) =
+    λ past. (answers_are_facts (m ∷ []) plan).locate_complete none (image_limit (loaded_total (m ∷ []))) (inl (refl, past)) in
     let own = sum_by-cons (λ (n : Parts). lengths_loaded n.loads) m [] in
     omega (arith, within, own)
 
-pub light-enough : (m : Parts) (plan : Plan) (heavy : ℕ) → weight m < most_weight + 2 ^ 16 → locate_answer (m ∷ []) plan ≡ None → heavy ≤ most_located m → heavy < 2 ^ 32
+pub light-enough : (m : Parts) (plan : Plan) (heavy : ℕ) → weight m < most_weight + 2 ^ 16 → locate_answer (m ∷ []) plan ≡ None
+    → heavy ≤ most_located m → heavy < 2 ^ 32
 light-enough m plan heavy light none within =
     let all = weight-sum m in
     let a = lighter-all (λ (s : Section). 14) section_weight (λ s. let letters = lettered s.absolute in omega (arith, letters)) m.sections in

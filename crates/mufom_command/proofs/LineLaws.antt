@@ -26,7 +26,8 @@ item_count-Block b =
 -- one item more adds those inside of it
 pub item_count-more : (items : List DebugItem) (i : ℕ) (d : DebugItem) → i < length items
     → item_count (marks_of (take (i + 1) items)) ≡ item_count (marks_of (take i items)) + item_count (marks_of_item (get_or items i d))
-item_count-more items i d inside = ap item_count (marks_of_more items i d inside) ∙ item_count-append (marks_of (take i items)) (marks_of_item (get_or items i d))
+item_count-more items i d inside = ap item_count (marks_of_more items i d inside)
+    ∙ item_count-append (marks_of (take i items)) (marks_of_item (get_or items i d))
 
 -- ---- a module has fewer than 2^32, since it weighs less
 

@@ -1,5 +1,6 @@
 -- Locating accepted files is done exactly where no fact stands against their flat list.
-use Rattle.std.proofs.Common.{◌≡◌, ◌≢◌, ◌↔◌, ℕ, zero, suc, ◌≤◌, Bool, cond, false, true, nat_lt, List, [], ◌∷◌, ◌++◌, length, not, Option, Some, None, Result, Ok, IsSome, refl, sym, ap, subst, arith}
+use Rattle.std.proofs.Common.{◌≡◌, ◌≢◌, ◌↔◌, ℕ, zero, suc, ◌≤◌, Bool, cond, false, true, nat_lt, List, [], ◌∷◌, ◌++◌, length, not, Option, Some, None}
+use Rattle.std.proofs.Common.{Result, Ok, IsSome, refl, sym, ap, subst, arith}
 use Rattle.mufom_host.specs.World.{HoldBytes, NamedFile}
 use Rattle.mufom_words.specs.declared.command.Command.{Command}
 use Rattle.mufom_words.specs.declared.command.Verb.{Verb}
@@ -39,7 +40,8 @@ use Rattle.mufom_command.specs.declared.outcome.Outcome.{Outcome}
 use Rattle.mufom_command.specs.declared.outcome.Outcome.TheVariants as outcome
 use Rattle.mufom_command.specs.Stop.{Stop, link_fact, raw_too_long}
 use Rattle.mufom_command.specs.Inputs.{AreModules, HaveBytes}
-use Rattle.mufom_command.specs.Commands.{Output, printed, made, writes, plan_in, modules_in, located, located_unless, locating as locating_of, absolute_file, printed_hit, printed_image, raw_file, unless_too_long, linking, work_of, work_by}
+use Rattle.mufom_command.specs.Commands.{Output, printed, made, writes, plan_in, modules_in, located, located_unless, locating as locating_of}
+use Rattle.mufom_command.specs.Commands.{absolute_file, printed_hit, printed_image, raw_file, unless_too_long, linking, work_of, work_by}
 use Rattle.mufom_command.specs.Run.{Answers, AnswersBy, Call}
 use Rattle.mufom_command.specs.RunLaws.{Accepts, HasNoFact, IsLocating, IsSameWork, LocatingIsDone, MayPutOut}
 use Rattle.mufom_command.proofs.Determined.{answers-determined}
@@ -95,11 +97,13 @@ no-modules verb.Version never = absurd never
 
 -- ---- the flat list
 
-module _ (files : List NamedFile) (c : Command) (sound : IsSound c) (ms flat : List Parts) (read : modules_in files c (gives ms)) (is_flat : IsFlatList (tree_of c.marks) ms flat) where
+module _ (files : List NamedFile) (c : Command) (sound : IsSound c) (ms flat : List Parts) (read : modules_in files c (gives ms))
+    (is_flat : IsFlatList (tree_of c.marks) ms flat) where
   flat-valid : AreValid flat
   flat-valid =
       let all : AreValid ms = valid-modules (not c.no_debug) read.0 ms read.1.modules in
-      subst AreValid (sym is_flat.2) (valid-append (roots (tree_of c.marks) ms) (members_at (members (tree_of c.marks) ms) is_flat.0) (valid-members ms (leaves (tree_of c.marks)) all)
+      subst AreValid (sym is_flat.2) (valid-append (roots (tree_of c.marks) ms) (members_at (members (tree_of c.marks) ms) is_flat.0)
+      (valid-members ms (leaves (tree_of c.marks)) all)
       (valid-members (members (tree_of c.marks) ms) is_flat.0 (valid-drop (length (leaves (tree_of c.marks))) ms all)))
 
   flat-some : reads_files c.verb ≡ true → flat ≢ []
@@ -109,7 +113,8 @@ module _ (files : List NamedFile) (c : Command) (sound : IsSound c) (ms flat : L
       let as_many = length-modules (not c.no_debug) read.0 ms read.1.modules in
       let as_named = length-bytes files c.files read.0 read.1.bytes in
       subst (λ (l : List Parts). l ≢ []) (sym is_flat.2)
-      (first-some ms (members_at (members (tree_of c.marks) ms) is_flat.0) (leaves (tree_of c.marks)) (length (leaves (tree_of c.marks))) sound.tree.numbered some (omega (arith, some, within, as_many, as_named)))
+      (first-some ms (members_at (members (tree_of c.marks) ms) is_flat.0) (leaves (tree_of c.marks)) (length (leaves (tree_of c.marks)))
+      sound.tree.numbered some (omega (arith, some, within, as_many, as_named)))
 
 -- ---- where locating is done
 
@@ -120,14 +125,20 @@ write-some : (name : Option (List ℕ)) (bytes : List ℕ) → IsSome name → I
 write-some None bytes some = absurd cc
 write-some (Some name) bytes some = (made name bytes, refl)
 
-module _ (c : Command) (plan : Plan) (ms flat : List Parts) (is_flat : IsFlatList (tree_of c.marks) ms flat) (some : flat ≢ []) (valid : AreValid flat) (put_out : LocatedParts → Work Stop Output) where
+module _ (c : Command) (plan : Plan) (ms flat : List Parts) (is_flat : IsFlatList (tree_of c.marks) ms flat) (some : flat ≢ [])
+    (valid : AreValid flat) (put_out : LocatedParts → Work Stop Output) where
   done-there : IsDone (with_stops link_fact (linked (tree_of c.marks) ms) >>= λ flat. located plan flat >>= put_out) → HasNoFact flat plan
   done-there (o, (other, is_linked, (r, is_located, is_put))) =
       let there = (linked-flat answers_are_facts link_facts_grow (tree_of c.marks) ms other).0 is_linked in
       let same : other ≡ flat = flat_list-single (tree_of c.marks) ms other flat there.0 is_flat in
-      record { links = subst (λ (l : List Parts). link_answer l ≡ None) same there.1; locates = subst (λ (l : List Parts). locate_answer l plan ≡ None) same (located-none plan other r is_located) }
+      record {
+        links = subst (λ (l : List Parts). link_answer l ≡ None) same there.1;
+        locates =
+            subst (λ (l : List Parts). locate_answer l plan ≡ None) same (located-none plan other r is_located);
+      }
 
-  done-back : ((r : LocatedParts) → IsLocation flat plan r → IsDone (put_out r)) → HasNoFact flat plan → IsDone (with_stops link_fact (linked (tree_of c.marks) ms) >>= λ flat. located plan flat >>= put_out)
+  done-back : ((r : LocatedParts) → IsLocation flat plan r → IsDone (put_out r)) → HasNoFact flat plan
+      → IsDone (with_stops link_fact (linked (tree_of c.marks) ms) >>= λ flat. located plan flat >>= put_out)
   done-back puts none =
       let (r, is_location) = locations_exist flat plan some valid none.links none.locates in
       let (o, is_put) = puts r is_location in
@@ -136,12 +147,15 @@ module _ (c : Command) (plan : Plan) (ms flat : List Parts) (is_flat : IsFlatLis
 
 -- ---- the work of a command
 
-module _ (files : List NamedFile) (c : Command) (sound : IsSound c) (plan : Plan) (flat : List Parts) (bytes : HoldBytes files) (accepts : Accepts files c plan flat) where
-  tail : (output : Command → Plan → List Parts → Work Stop Output) → IsSameWork (linking output files c) (with_stops link_fact (linked (tree_of c.marks) accepts.modules) >>= λ flat. output c plan flat)
+module _ (files : List NamedFile) (c : Command) (sound : IsSound c) (plan : Plan) (flat : List Parts) (bytes : HoldBytes files)
+    (accepts : Accepts files c plan flat) where
+  tail : (output : Command → Plan → List Parts → Work Stop Output)
+      → IsSameWork (linking output files c) (with_stops link_fact (linked (tree_of c.marks) accepts.modules) >>= λ flat. output c plan flat)
   tail output =
       let rest : List Parts → Work Stop Output = λ ms. with_stops link_fact (linked (tree_of c.marks) ms) >>= λ flat. output c plan flat in
       same-trans (linking output files c) (modules_in files c >>= rest) (rest accepts.modules)
-      (then-known (plan_in files c.plan) (λ plan. modules_in files c >>= λ ms. with_stops link_fact (linked (tree_of c.marks) ms) >>= λ flat. output c plan flat) plan (plan_in-single files c.plan) accepts.planned)
+      (then-known (plan_in files c.plan) (λ plan. modules_in files c >>= λ ms. with_stops link_fact (linked (tree_of c.marks) ms) >>= λ flat. output c
+      plan flat) plan (plan_in-single files c.plan) accepts.planned)
       (then-known (modules_in files c) rest accepts.modules (modules_in-single files bytes c) accepts.read)
 
   module _ (locating : IsLocating c.verb) where
@@ -151,10 +165,12 @@ module _ (files : List NamedFile) (c : Command) (sound : IsSound c) (plan : Plan
     some : flat ≢ []
     some = flat-some files c sound accepts.modules flat accepts.read accepts.is_flat (no-modules c.verb locating)
 
-    put-done : (output : Command → LocatedParts → Work Stop Output) → ((r : LocatedParts) → IsLocation flat plan r → IsDone (output c r)) → IsDone (linking (locating_of output) files c) ↔ HasNoFact flat plan
+    put-done : (output : Command → LocatedParts → Work Stop Output) → ((r : LocatedParts) → IsLocation flat plan r → IsDone (output c r))
+        → IsDone (linking (locating_of output) files c) ↔ HasNoFact flat plan
     put-done output puts = (
       (λ (o, is). done-there c plan accepts.modules flat accepts.is_flat some valid (λ r. output c r) (o, ((tail (locating_of output)) (gives o)).0 is)),
-      (λ none. let (o, is) = done-back c plan accepts.modules flat accepts.is_flat some valid (λ r. output c r) puts none in (o, ((tail (locating_of output)) (gives o)).1 is)),
+      (λ none. let (o, is) = done-back c plan accepts.modules flat accepts.is_flat some valid (λ r. output c r) puts none in
+          (o, ((tail (locating_of output)) (gives o)).1 is)),
     )
 
     -- a raw image that has not too many bytes is put out
@@ -165,7 +181,8 @@ module _ (files : List NamedFile) (c : Command) (sound : IsSound c) (plan : Plan
       by true is = absurd (omega (arith, few, ltb-true MOST_FILE_BYTES (length (raw_image c.fill r.runs)) is))
       by false is = write-some c.out (raw_image c.fill r.runs) out
 
-    work-done : (v : Verb) → c.verb ≡ v → IsLocating v → ((r : LocatedParts) → IsLocation flat plan r → MayPutOut v c r) → IsDone (work_of v files c) ↔ HasNoFact flat plan
+    work-done : (v : Verb) → c.verb ≡ v → IsLocating v → ((r : LocatedParts) → IsLocation flat plan r → MayPutOut v c r) → IsDone (work_of v files c)
+        ↔ HasNoFact flat plan
     work-done verb.Show same never may = absurd never
     work-done verb.Check same never may = absurd never
     work-done verb.Link same never may = absurd never
@@ -179,7 +196,8 @@ module _ (files : List NamedFile) (c : Command) (sound : IsSound c) (plan : Plan
 
 -- ---- the answer
 
-done-by : (files : List NamedFile) (call : Call) (known : call.old.files ≡ Some files) (r : Result Command WordsStop) (c : Command) → r ≡ Ok c → AnswersBy r call outcome.Done → IsDone (work_of c.verb files c)
+done-by : (files : List NamedFile) (call : Call) (known : call.old.files ≡ Some files) (r : Result Command WordsStop) (c : Command) → r ≡ Ok c
+    → AnswersBy r call outcome.Done → IsDone (work_of c.verb files c)
 done-by files call known r c same is =
     let (output, is_output, puts) = subst (λ (x : Result Command WordsStop). AnswersBy x call outcome.Done) same is in
     (output, of-files call files known (λ fs. work_of c.verb fs c (gives output)) is_output.cause)
@@ -192,5 +210,6 @@ locating-done words files call result c plan flat is calm named locating accepts
     let exactly = work-done files c sound plan flat bytes accepts locating c.verb refl locating may in (
       (λ same. exactly.0 (done-by files call calm.known (answer_of words) c named (subst (λ (o : Outcome). Answers words call o) same is))),
       (λ none. let (output, comes) = exactly.1 none in
-          answers-determined words files call result (gives output) is calm (subst (λ (r : Result Command WordsStop). work_by r files (gives output)) (sym named) comes)),
+          answers-determined words files call result (gives output) is calm
+          (subst (λ (r : Result Command WordsStop). work_by r files (gives output)) (sym named) comes)),
     )

@@ -31,7 +31,8 @@ use Rattle.mufom_command.specs.WorkEnds.{location_of}
 
 -- ---- two lists with the same location
 
-module _ (ms leaves : List Parts) (plan : Plan) (maus : maus_of ms ≡ maus_of leaves) (locations : (r : LocatedParts) → IsLocation ms plan r → IsLocation leaves plan r) where
+module _ (ms leaves : List Parts) (plan : Plan) (maus : maus_of ms ≡ maus_of leaves) (locations : (r : LocatedParts) → IsLocation ms plan r
+    → IsLocation leaves plan r) where
   unless-along : (o : Option LocateFact) (x : Reached Stop LocatedParts) → located_unless o plan ms x → located_unless o plan leaves x
   unless-along None (gives r) is = locations r is
   unless-along None (stops s) is = absurd is
@@ -54,7 +55,8 @@ maus_of-header (m ∷ ms) = refl
 pub maus-same : (ms leaves : List Parts) → MeansTheSame ms leaves → maus_of ms ≡ maus_of leaves
 maus-same ms leaves same = maus_of-header ms ∙ ap maus_by same.same_first ∙ sym (maus_of-header leaves)
 
-pub located-forth : (ms leaves : List Parts) (plan : Plan) → MeansTheSame ms leaves → (x : Reached Stop LocatedParts) → located plan ms x → located plan leaves x
+pub located-forth : (ms leaves : List Parts) (plan : Plan) → MeansTheSame ms leaves → (x : Reached Stop LocatedParts) → located plan ms x
+    → located plan leaves x
 located-forth ms leaves plan same x is =
     located-along ms leaves plan (maus-same ms leaves same) (λ r. (same.same_location plan r).0) (same.same_locate plan) x is
 
@@ -69,7 +71,8 @@ pub link-means : (M : Parts) (flat : List Parts) → IsValid M → AreValid flat
 link-means M [] sound valid joined is = absurd joined.header
 link-means M (m ∷ ms) sound valid joined is = staged_means_the_same m (M ∷ []) (m ∷ ms) staged valid is.descriptor is.names where
   staged : IsStaged (M ∷ []) (m ∷ ms)
-  staged = linked_stage (m ∷ ms) [] (m ∷ ms) [] M m.name (subst (λ (l : List Parts). IsStaged l (m ∷ ms)) (sym (append-nil (m ∷ ms))) (unlinked (m ∷ ms))) sound joined joined.named
+  staged = linked_stage (m ∷ ms) [] (m ∷ ms) [] M m.name (subst (λ (l : List Parts). IsStaged l (m ∷ ms)) (sym (append-nil (m ∷ ms)))
+      (unlinked (m ∷ ms))) sound joined joined.named
 
 -- ---- the modules of a command
 
@@ -97,13 +100,22 @@ module _ (c : Command) (ms : List Parts) (valid : AreValid ms) where
 
     -- its location is that of the flat list
     pub link-located : linked_module c ms (gives M) → (r : LocatedParts) → located plan (M ∷ []) (gives r) → location_of c plan ms (gives r)
-    link-located (flat, is, joined) r there =
-        (flat, is, located-forth (M ∷ []) flat plan (link-means M flat sound (flat-valid flat is) (named-first flat joined) (flat-linkable flat is)) (gives r) there)
+    link-located (flat, is, joined) r there = (
+      flat,
+      is,
+      located-forth (M ∷ []) flat plan (link-means M flat sound (flat-valid flat is) (named-first flat joined) (flat-linkable flat is))
+          (gives r) there,
+    )
 
     -- or its locate fact is
     pub link-unlocated : linked_module c ms (gives M) → (s : Stop) → located plan (M ∷ []) (stops s) → location_of c plan ms (stops s)
     link-unlocated (flat, is, joined) s there =
-        inr (flat, is, located-forth (M ∷ []) flat plan (link-means M flat sound (flat-valid flat is) (named-first flat joined) (flat-linkable flat is)) (stops s) there)
+        inr (
+          flat,
+          is,
+          located-forth (M ∷ []) flat plan (link-means M flat sound (flat-valid flat is) (named-first flat joined)
+              (flat-linkable flat is)) (stops s) there,
+        )
 
   -- or it is not linked
   pub unlinked-stops : (plan : Plan) (s : Stop) → with_stops link_fact (linked_module c ms) (stops s) → location_of c plan ms (stops s)

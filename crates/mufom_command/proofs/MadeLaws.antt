@@ -16,7 +16,8 @@ use Rattle.mufom_command.specs.Commands.{Output, made, located, located_unless, 
 use Rattle.mufom_command.specs.RunLaws.{AbsoluteFilesStand, LinkedFilesStand}
 
 -- what is written goes into the file that is named
-is-written : (out : Option (List ℕ)) (bytes : List ℕ) (output : Output) → writes out bytes (gives output) → (name : List ℕ) × (out ≡ Some name) × (output ≡ made name bytes)
+is-written : (out : Option (List ℕ)) (bytes : List ℕ) (output : Output) → writes out bytes (gives output) → (name : List ℕ) × (out ≡ Some name)
+    × (output ≡ made name bytes)
 is-written None bytes output is = absurd is
 is-written (Some name) bytes output is = (name, refl, is)
 
@@ -29,7 +30,15 @@ location-of plan ms r is = by (locate_answer ms plan) is where
 pub linked-files-stand : LinkedFilesStand
 linked-files-stand c plan flat output valid (M, joined, is) =
     let (name, file, bytes) = is-written c.out (written M) output is in
-    record { link = M; name = name; file = file; bytes = bytes; joined = joined; stands = (joined_stands_for M flat (unwrap_or c.name (first_name flat)) joined valid).0 }
+    record {
+      link = M;
+      name = name;
+      file = file;
+      bytes = bytes;
+      joined = joined;
+      stands =
+          (joined_stands_for M flat (unwrap_or c.name (first_name flat)) joined valid).0;
+    }
 
 pub absolute-files-stand : AbsoluteFilesStand
 absolute-files-stand c plan flat output valid (r, is_located, is) =

@@ -34,7 +34,8 @@ module _ (c : Command) (no_plan : c.plan ≡ None) (no_files : c.files ≡ []) (
   none-opened : GrowsBy old.opened old.opened (inputs_of c)
   none-opened = subst (λ (names : List (List ℕ)). GrowsBy old.opened old.opened names) (sym no-inputs) (GrowsBy-refl old.opened)
 
-  pub make-ends : (o : Outcome) → EndsAt (located (made_plan c.count) (made_modules c.count)) o → Does c (λ files. making files c) (call_between old old before before) o
+  pub make-ends : (o : Outcome) → EndsAt (located (made_plan c.count) (made_modules c.count)) o
+      → Does c (λ files. making files c) (call_between old old before before) o
   make-ends o (inl is) =
       subst (λ (x : Outcome). Does c (λ files. making files c) (call_between old old before before) x) (sym is)
       (lacking-does c (λ files. making files c) old old before before nothing none-opened)
@@ -52,7 +53,8 @@ module _ (c : Command) (no_plan : c.plan ≡ None) (no_files : c.files ≡ []) (
       no_file prints result put
 
   -- a text of the program was printed
-  pub help-prints : (new : Meaning) (now : Faults) → KeepsAllButOut old new → KeepsAllButWrites before now → before.writes ≤ now.writes → c.out ≡ None → (result : Outcome)
+  pub help-prints : (new : Meaning) (now : Faults) → KeepsAllButOut old new → KeepsAllButWrites before now → before.writes ≤ now.writes → c.out ≡ None
+      → (result : Outcome)
       → IsPrinted (unwrap_or c.help []) (call_between old new before now) result → Does c (λ files. helping files c) (call_between old new before now) result
   help-prints new now prints counts later no_file result put =
       printed-does c (λ files. helping files c) old old before before nothing none-opened new now counts later (unwrap_or c.help [])

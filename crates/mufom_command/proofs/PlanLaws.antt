@@ -1,5 +1,6 @@
 -- Reading the plan: an open and the reads after it, and the plan of enough of the bytes.
-use Rattle.std.proofs.Common.{◌≡◌, ◌⊎◌, ℕ, ◌<◌, List, [], ◌∷◌, length, Option, Some, None, Result, Ok, Err, IfSome, OnSome, not, refl, sym, ap, subst, ◌∙◌, inl, inr, arith}
+use Rattle.std.proofs.Common.{◌≡◌, ◌⊎◌, ℕ, ◌<◌, List, [], ◌∷◌, length, Option, Some, None, Result, Ok, Err, IfSome, OnSome, not, refl, sym, ap, subst}
+use Rattle.std.proofs.Common.{◌∙◌, inl, inr, arith}
 use Rattle.std.proofs.lemmas.Bool.{lt-ltb}
 use Rattle.std.proofs.lemmas.List.{length-append}
 use Rattle.mufom_host.specs.World.{Faults, Meaning, NamedFile, GrowsBy, KeepsAllButLeft, Rose, file_named}
@@ -36,14 +37,17 @@ on_some (Some x) P p = p
 
 -- the file's name stands last among those opened
 pub grows-then-read : (a b c : Meaning) (name : List ℕ) → GrowsBy a.opened b.opened (name ∷ []) → KeepsAllButLeft b c → GrowsBy a.opened c.opened (name ∷ [])
-grows-then-read a b c name names stays = subst (λ (o : Option (List (List ℕ))). GrowsBy a.opened o (name ∷ [])) (sym (ap (λ (m : Meaning). m.opened) stays)) names
+grows-then-read a b c name names stays = subst (λ (o : Option (List (List ℕ))). GrowsBy a.opened o (name ∷ []))
+    (sym (ap (λ (m : Meaning). m.opened) stays)) names
 
-pub opened_then_read : (a b c : Meaning) (name : List ℕ) → GrowsBy a.opened b.opened (name ∷ []) → KeepsAllButLeft b c → OnSome c.opened (GrowsBy a.opened c.opened (name ∷ []))
+pub opened_then_read : (a b c : Meaning) (name : List ℕ) → GrowsBy a.opened b.opened (name ∷ []) → KeepsAllButLeft b c
+    → OnSome c.opened (GrowsBy a.opened c.opened (name ∷ []))
 opened_then_read a b c name names stays = on_some c.opened (GrowsBy a.opened c.opened (name ∷ [])) (grows-then-read a b c name names stays)
 
 -- what was read is of the file with the name
 pub bytes_of_file : (name bytes : List ℕ) (files : Option (List NamedFile)) (left : Option (List ℕ))
-    → IfSome files (λ fs. (all : List ℕ) × (file_named name fs ≡ Some all) × (left ≡ Some all)) → IfSome left (λ l. IsEnoughOf l bytes) → FileHas name files (λ all. IsEnoughOf all bytes)
+    → IfSome files (λ fs. (all : List ℕ) × (file_named name fs ≡ Some all) × (left ≡ Some all)) → IfSome left (λ l. IsEnoughOf l bytes)
+    → FileHas name files (λ all. IsEnoughOf all bytes)
 bytes_of_file name bytes None left opened enough = tt
 bytes_of_file name bytes (Some fs) left opened enough =
     (opened.0, opened.1, subst (λ (o : Option (List ℕ)). IfSome o (λ l. IsEnoughOf l bytes)) opened.2 enough)
@@ -56,7 +60,8 @@ too-long bytes long = ap (λ b. unless (not b) TooLong (or_refuse Syntax (docume
 plan-enough : (all bytes : List ℕ) → IsEnoughOf all bytes → plan_of_text all ≡ plan_of_text bytes
 plan-enough all bytes (inl same) = ap plan_of_text same
 plan-enough all bytes (inr (long, (rest, same))) =
-    let longer : most_plan_bytes < length all = (let size = ap (λ (l : List ℕ). length l) same in let sum = length-append bytes rest in omega (arith, size, sum, long)) in
+    let longer : most_plan_bytes < length all = (let size = ap (λ (l : List ℕ). length l) same in let sum = length-append bytes rest in
+    omega (arith, size, sum, long)) in
     too-long all longer ∙ sym (too-long bytes long)
 
 module _ (name bytes : List ℕ) where
@@ -73,7 +78,8 @@ module _ (name bytes : List ℕ) where
       inr (all, there, subst (λ (result : Result Plan PlanRefusal). plan_by result (stops (plan_refused r))) (sym (plan-enough all bytes enough ∙ is)) refl)
 
   -- bytes that are no plan end the run
-  pub no-plan : (old new : Meaning) (before now : Faults) → FileHas name old.files (λ all. IsEnoughOf all bytes) → (stop : Outcome) → IsPlanAnswer (plan_of_text bytes) stop
+  pub no-plan : (old new : Meaning) (before now : Faults) → FileHas name old.files (λ all. IsEnoughOf all bytes) → (stop : Outcome)
+      → IsPlanAnswer (plan_of_text bytes) stop
       → PlanStops (Some name) (call_between old new before now) stop
   no-plan old new before now has (outcome.Refused (refusal.Plan r)) is = (refl, plan-refused old.files r has is)
   no-plan old new before now has (outcome.Refused (refusal.Read n r)) is = absurd is
@@ -90,7 +96,9 @@ module _ (name bytes : List ℕ) where
   no-plan old new before now has outcome.NoMemory is = tt
 
 -- the file was not read
-pub unread-plan : (name : List ℕ) (old new : Meaning) (before now : Faults) (stop : Outcome) → ((stop ≡ outcome.ReadFault input.Plan) × Rose before.reads now.reads) ⊎ (stop ≡ outcome.NoMemory)
+pub unread-plan : (name : List ℕ) (old new : Meaning) (before now : Faults) (stop : Outcome)
+    → ((stop ≡ outcome.ReadFault input.Plan) × Rose before.reads now.reads) ⊎ (stop ≡ outcome.NoMemory)
     → PlanStops (Some name) (call_between old new before now) stop
-unread-plan name old new before now stop (inl (is, rose)) = subst (λ (o : Outcome). PlanStops (Some name) (call_between old new before now) o) (sym is) (refl, rose)
+unread-plan name old new before now stop (inl (is, rose)) = subst (λ (o : Outcome). PlanStops (Some name) (call_between old new before now) o)
+    (sym is) (refl, rose)
 unread-plan name old new before now stop (inr is) = subst (λ (o : Outcome). PlanStops (Some name) (call_between old new before now) o) (sym is) tt

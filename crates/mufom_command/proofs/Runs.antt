@@ -1,5 +1,6 @@
 -- A run comes to one end at most, since each of its parts does.
-use Rattle.std.proofs.Common.{◌≡◌, ◌⊎◌, ℕ, List, Option, Some, None, Result, Ok, Err, IfSome, not, Bool, cond, false, true, nat_lt, length, unwrap_or, [], refl, sym, ap, subst, ◌∙◌, flat_map, inl, inr}
+use Rattle.std.proofs.Common.{◌≡◌, ◌⊎◌, ℕ, List, Option, Some, None, Result, Ok, Err, IfSome, not, Bool, cond, false, true, nat_lt, length, unwrap_or}
+use Rattle.std.proofs.Common.{[], refl, sym, ap, subst, ◌∙◌, flat_map, inl, inr}
 use Rattle.mufom_host.specs.World.{HoldBytes, NamedFile, file_named}
 use Rattle.mufom_words.specs.declared.command.Command.{Command}
 use Rattle.mufom_words.specs.declared.command.Verb.{Verb}
@@ -35,7 +36,9 @@ use Rattle.mufom_command.specs.Text.{Text, check_text, hit_text}
 use Rattle.mufom_numbers.specs.declared.limits.TheConstants.{MOST_FILE_BYTES}
 use Rattle.mufom_addr.specs.AddressHit.{hit_at}
 use Rattle.mufom_write.specs.Raw.{raw_image}
-use Rattle.mufom_command.specs.Commands.{Output, printed, made, form_of, prints, writes, file_in, plan_by, plan_in, modules_in, maus_of, located, located_unless, linked_file, locating, absolute_file, printed_hit, printed_image, raw_file, unless_too_long, listing, linking, work_of, work_by, run_of}
+use Rattle.mufom_command.specs.Commands.{Output, printed, made, form_of, prints, writes, file_in, plan_by, plan_in, modules_in, maus_of, located}
+use Rattle.mufom_command.specs.Commands.{located_unless, linked_file, locating, absolute_file, printed_hit, printed_image, raw_file, unless_too_long}
+use Rattle.mufom_command.specs.Commands.{listing, linking, work_of, work_by, run_of}
 use Rattle.mufom_command.specs.Run.{AnswersBy, AnswersFor, Call, IsForced, outcome_of, stop_outcome, stop_answer}
 use Rattle.mufom_command.proofs.Verdicts.{one_verdict}
 
@@ -86,7 +89,8 @@ plan_by-single (Err r) = stop_at-single (plan_refused r)
 pub plan_in-single : (files : List NamedFile) (name : Option (List ℕ)) → IsSingle (plan_in files name)
 plan_in-single files None = sure-single no_regions
 plan_in-single files (Some name) =
-    then-single (file_in files name) (λ bytes. plan_by (plan_of_text bytes)) (one_with-single (λ bytes. file_named name files ≡ Some bytes) (λ a b is_a is_b. let same : Some a ≡ Some b = sym is_a ∙ is_b in cc))
+    then-single (file_in files name) (λ bytes. plan_by (plan_of_text bytes))
+    (one_with-single (λ bytes. file_named name files ≡ Some bytes) (λ a b is_a is_b. let same : Some a ≡ Some b = sym is_a ∙ is_b in cc))
     (λ bytes. plan_by-single (plan_of_text bytes))
 
 -- ---- what is put out of a list
@@ -100,9 +104,11 @@ located-single plan ms = by (locate_answer ms plan) where
 module _ (c : Command) (plan : Plan) (flat : List Parts) where
   pub linked_file-single : IsSingle (linked_file c plan flat)
   linked_file-single =
-      then-single (with_stops link_fact (joined c.name flat)) (λ M. writes c.out (written M)) (stops-single link_fact (joined c.name flat) (joined-single c.name flat)) (λ M. writes-single c.out (written M))
+      then-single (with_stops link_fact (joined c.name flat)) (λ M. writes c.out (written M))
+      (stops-single link_fact (joined c.name flat) (joined-single c.name flat)) (λ M. writes-single c.out (written M))
 
-  pub locating-single : (output : Command → LocatedParts → Work Stop Output) → ((r : LocatedParts) → IsSingle (output c r)) → IsSingle (locating output c plan flat)
+  pub locating-single : (output : Command → LocatedParts → Work Stop Output) → ((r : LocatedParts) → IsSingle (output c r))
+      → IsSingle (locating output c plan flat)
   locating-single output single = then-single (located plan flat) (λ r. output c r) (located-single plan flat) single
 
 -- ---- what is put out of a location
@@ -119,23 +125,31 @@ module _ (files : List NamedFile) (bytes : HoldBytes files) (c : Command) where
   listing-single : (text : List Parts → Text) → IsSingle (listing text files c)
   listing-single text = then-single (modules_in files c) (λ ms. prints (text ms)) (modules_in-single files bytes c) (λ ms. sure-single (printed (text ms)))
 
-  linking-single : (output : Command → Plan → List Parts → Work Stop Output) → ((plan : Plan) (flat : List Parts) → IsSingle (output c plan flat)) → IsSingle (linking output files c)
+  linking-single : (output : Command → Plan → List Parts → Work Stop Output) → ((plan : Plan) (flat : List Parts) → IsSingle (output c plan flat))
+      → IsSingle (linking output files c)
   linking-single output single =
-      then-single (plan_in files c.plan) (λ plan. modules_in files c >>= λ ms. with_stops link_fact (linked (tree_of c.marks) ms) >>= λ flat. output c plan flat) (plan_in-single files c.plan) λ plan.
-      then-single (modules_in files c) (λ ms. with_stops link_fact (linked (tree_of c.marks) ms) >>= λ flat. output c plan flat) (modules_in-single files bytes c) λ ms.
-      then-single (with_stops link_fact (linked (tree_of c.marks) ms)) (λ flat. output c plan flat) (stops-single link_fact (linked (tree_of c.marks) ms) (linked-single (tree_of c.marks) ms)) λ flat. single plan flat
+      then-single (plan_in files c.plan) (λ plan. modules_in files c >>= λ ms. with_stops link_fact (linked (tree_of c.marks) ms) >>= λ flat. output c
+      plan flat) (plan_in-single files c.plan) λ plan.
+      then-single (modules_in files c) (λ ms. with_stops link_fact (linked (tree_of c.marks) ms) >>= λ flat. output c plan flat)
+      (modules_in-single files bytes c) λ ms.
+      then-single (with_stops link_fact (linked (tree_of c.marks) ms)) (λ flat. output c plan flat)
+      (stops-single link_fact (linked (tree_of c.marks) ms) (linked-single (tree_of c.marks) ms)) λ flat. single plan flat
 
   work_of-single : (v : Verb) → IsSingle (work_of v files c)
   work_of-single verb.Show = listing-single (λ ms. flat_map (text_of (form_of c)) ms)
   work_of-single verb.Check = listing-single check_text
   work_of-single verb.Link = linking-single linked_file (linked_file-single c)
-  work_of-single verb.Locate = linking-single (locating absolute_file) (λ plan flat. locating-single c plan flat absolute_file (λ r. writes-single c.out (written (absolute_of r))))
-  work_of-single verb.Dump = linking-single (locating printed_image) (λ plan flat. locating-single c plan flat printed_image (λ r. sure-single (printed (image_text r))))
-  work_of-single verb.Addr = linking-single (locating printed_hit) (λ plan flat. locating-single c plan flat printed_hit (λ r. sure-single (printed (hit_text r.maus (hit_at r.debug c.at)))))
+  work_of-single verb.Locate = linking-single (locating absolute_file)
+      (λ plan flat. locating-single c plan flat absolute_file (λ r. writes-single c.out (written (absolute_of r))))
+  work_of-single verb.Dump = linking-single (locating printed_image)
+      (λ plan flat. locating-single c plan flat printed_image (λ r. sure-single (printed (image_text r))))
+  work_of-single verb.Addr = linking-single (locating printed_hit)
+      (λ plan flat. locating-single c plan flat printed_hit (λ r. sure-single (printed (hit_text r.maus (hit_at r.debug c.at)))))
   work_of-single verb.Bin = linking-single (locating raw_file) (λ plan flat. locating-single c plan flat raw_file (raw_file-single c))
   work_of-single verb.Help = sure-single (printed (unwrap_or c.help []))
   work_of-single verb.Version = sure-single (printed (unwrap_or c.help []))
-  work_of-single verb.Make = then-single (located (made_plan c.count) (made_modules c.count)) (λ r. prints (summary c.count r)) (located-single (made_plan c.count) (made_modules c.count)) (λ r. sure-single (printed (summary c.count r)))
+  work_of-single verb.Make = then-single (located (made_plan c.count) (made_modules c.count)) (λ r. prints (summary c.count r))
+      (located-single (made_plan c.count) (made_modules c.count)) (λ r. sure-single (printed (summary c.count r)))
 
 -- A run comes to one end at most.
 pub run_of-single : (words : List (List ℕ)) (files : List NamedFile) → HoldBytes files → IsSingle (run_of words files)
@@ -150,10 +164,12 @@ module _ (call : Call) (files : List NamedFile) (known : call.old.files ≡ Some
   pub of-files : (P : List NamedFile → Type 0) → IfSome call.old.files P → P files
   of-files P holds = subst (λ (o : Option (List NamedFile)). IfSome o P) known holds
 
-  module _ (c : Command) (work : List NamedFile → Work Stop Output) (single : IsSingle (work files)) (reached : Reached Stop Output) (comes : work files reached) where
+  module _ (c : Command) (work : List NamedFile → Work Stop Output) (single : IsSingle (work files)) (reached : Reached Stop Output)
+      (comes : work files reached) where
     complete-for : (result : Outcome) → AnswersFor c work call result → (result ≡ outcome_of reached) ⊎ IsForced call result
     complete-for outcome.Done (output, is, puts) = inl (ap outcome_of (single (gives output) reached (of-files (λ fs. work fs (gives output)) is.cause) comes))
-    complete-for (outcome.Refused r) (is, nothing) = inl (is.is ∙ ap outcome_of (single (stops is.stop) reached (of-files (λ fs. work fs (stops is.stop)) is.cause) comes))
+    complete-for (outcome.Refused r) (is, nothing) = inl (is.is
+        ∙ ap outcome_of (single (stops is.stop) reached (of-files (λ fs. work fs (stops is.stop)) is.cause) comes))
     complete-for (outcome.Usage f) is = absurd is
     complete-for (outcome.ReadFault at) is = inr is.0
     complete-for outcome.WriteFault is = inr is.0
@@ -163,7 +179,8 @@ module _ (call : Call) (files : List NamedFile) (known : call.old.files ≡ Some
   refused-end s (gives output) comes = absurd comes
   refused-end s (stops t) comes = ap stop_outcome (sym comes)
 
-  pub complete-by : (r : Result Command WordsStop) → HoldBytes files → (result : Outcome) → AnswersBy r call result → (reached : Reached Stop Output) → work_by r files reached → (result ≡ outcome_of reached) ⊎ IsForced call result
+  pub complete-by : (r : Result Command WordsStop) → HoldBytes files → (result : Outcome) → AnswersBy r call result → (reached : Reached Stop Output)
+      → work_by r files reached → (result ≡ outcome_of reached) ⊎ IsForced call result
   complete-by (Ok c) bytes result is reached comes = complete-for c (λ fs. work_of c.verb fs c) (work_of-single files bytes c c.verb) reached comes result is
   complete-by (Err s) bytes result is reached comes = by is.is where
     by : (result ≡ stop_answer s) ⊎ (result ≡ outcome.NoMemory) → (result ≡ outcome_of reached) ⊎ IsForced call result

@@ -11,7 +11,8 @@ same-work work x = ((λ h. h), (λ h. h))
 pub same-trans : {A : Type 0} (u v w : Work Stop A) → IsSameWork u v → IsSameWork v w → IsSameWork u w
 same-trans u v w first second x = ((λ h. (second x).0 ((first x).0 h)), (λ h. (first x).1 ((second x).1 h)))
 
-module _ {A B : Type 0} (first second : Work Stop A) (next other : A → Work Stop B) (same : IsSameWork first second) (each : (a : A) → IsSameWork (next a) (other a)) where
+module _ {A B : Type 0} (first second : Work Stop A) (next other : A → Work Stop B) (same : IsSameWork first second) (each : (a : A)
+    → IsSameWork (next a) (other a)) where
   same-there : (x : Reached Stop B) → (first >>= next) x → (second >>= other) x
   same-there (gives b) (a, is_a, is_b) = (a, (same (gives a)).0 is_a, (each a (gives b)).0 is_b)
   same-there (stops s) (inl is_s) = inl ((same (stops s)).0 is_s)
@@ -28,9 +29,11 @@ module _ {A B : Type 0} (first second : Work Stop A) (next other : A → Work St
 -- where the first part is known to give a value, the whole is what follows it
 module _ {A B : Type 0} (first : Work Stop A) (next : A → Work Stop B) (a : A) (single : IsSingle first) (is_a : first (gives a)) where
   known-there : (x : Reached Stop B) → (first >>= next) x → next a x
-  known-there (gives b) (c, is_c, is_b) = let same : c ≡ a = value-same c a (single (gives c) (gives a) is_c is_a) in subst (λ (d : A). next d (gives b)) same is_b
+  known-there (gives b) (c, is_c, is_b) = let same : c ≡ a = value-same c a (single (gives c) (gives a) is_c is_a) in
+      subst (λ (d : A). next d (gives b)) same is_b
   known-there (stops s) (inl is_s) = let no : stops s ≡ gives a = single (stops s) (gives a) is_s is_a in absurd cc
-  known-there (stops s) (inr (c, is_c, is_s)) = let same : c ≡ a = value-same c a (single (gives c) (gives a) is_c is_a) in subst (λ (d : A). next d (stops s)) same is_s
+  known-there (stops s) (inr (c, is_c, is_s)) = let same : c ≡ a = value-same c a (single (gives c) (gives a) is_c is_a) in
+      subst (λ (d : A). next d (stops s)) same is_s
 
   known-back : (x : Reached Stop B) → next a x → (first >>= next) x
   known-back (gives b) is_b = (a, is_a, is_b)

@@ -18,7 +18,8 @@ use Rattle.mufom_groups.specs.Work.{gives, stops, Work, ◌>>=◌, nowhere, with
 use Rattle.mufom_groups.proofs.Singles.{linked-single}
 use Rattle.mufom_groups.proofs.Works.{stops-single}
 use Rattle.mufom_command.specs.Stop.{Stop, link_fact}
-use Rattle.mufom_command.specs.Commands.{Output, writes, plan_in, modules_in, located, linked_file, locating, absolute_file, printed_hit, printed_image, raw_file, linking, work_of}
+use Rattle.mufom_command.specs.Commands.{Output, writes, plan_in, modules_in, located, linked_file, locating, absolute_file, printed_hit}
+use Rattle.mufom_command.specs.Commands.{printed_image, raw_file, linking, work_of}
 use Rattle.mufom_command.specs.RunLaws.{CameByStages, IsLinking, IsSameWork, LeadsTo, PutOutAlike, RunsOfStages, StagesMakeNoDifference, put_out_of}
 use Rattle.mufom_command.proofs.LocatingLaws.{located-back, located-forth}
 use Rattle.mufom_command.proofs.Runs.{modules_in-single, plan_in-single}
@@ -40,7 +41,8 @@ module _ (c : Command) (plan : Plan) (ms leaves : List Parts) (means : MeansTheS
   joined-forth : (M : Parts) → IsJoined M ms (unwrap_or c.name (first_name ms)) ↔ IsJoined M leaves (unwrap_or c.name (first_name leaves))
   joined-forth M =
       let same : first_name ms ≡ first_name leaves = first_name-header ms ∙ ap name_by means.same_first ∙ sym (first_name-header leaves) in
-      subst (λ (name : List ℕ). IsJoined M ms (unwrap_or c.name (first_name ms)) ↔ IsJoined M leaves (unwrap_or c.name name)) same (means.same_joined M (unwrap_or c.name (first_name ms)))
+      subst (λ (name : List ℕ). IsJoined M ms (unwrap_or c.name (first_name ms))
+      ↔ IsJoined M leaves (unwrap_or c.name name)) same (means.same_joined M (unwrap_or c.name (first_name ms)))
 
   joined-same : IsSameWork (with_stops link_fact (joined c.name ms)) (with_stops link_fact (joined c.name leaves))
   joined-same (gives M) = joined-forth M
@@ -56,7 +58,8 @@ module _ (c : Command) (plan : Plan) (ms leaves : List Parts) (means : MeansTheS
   put_out-alike verb.Show = same-work nowhere
   put_out-alike verb.Check = same-work nowhere
   put_out-alike verb.Link =
-      then-same (with_stops link_fact (joined c.name ms)) (with_stops link_fact (joined c.name leaves)) (λ M. writes c.out (written M)) (λ M. writes c.out (written M)) joined-same (λ M. same-work (writes c.out (written M)))
+      then-same (with_stops link_fact (joined c.name ms)) (with_stops link_fact (joined c.name leaves)) (λ M. writes c.out (written M))
+      (λ M. writes c.out (written M)) joined-same (λ M. same-work (writes c.out (written M)))
   put_out-alike verb.Locate = of_location absolute_file
   put_out-alike verb.Dump = of_location printed_image
   put_out-alike verb.Make = same-work nowhere
@@ -70,17 +73,20 @@ pub stages-alike : StagesMakeNoDifference
 stages-alike c plan ms leaves came = put_out-alike c plan ms leaves (means-same ms leaves came)
 
 -- what a command that links files comes to is what is put out of its flat list
-pub linking-known : (output : Command → Plan → List Parts → Work Stop Output) (files : List NamedFile) (c : Command) (plan : Plan) (flat : List Parts) → HoldBytes files → LeadsTo files c plan flat
+pub linking-known : (output : Command → Plan → List Parts → Work Stop Output) (files : List NamedFile) (c : Command) (plan : Plan) (flat : List Parts)
+    → HoldBytes files → LeadsTo files c plan flat
     → IsSameWork (linking output files c) (output c plan flat)
 linking-known output files c plan flat bytes leads =
     let ms : List Parts = leads.modules in
     let links : List Parts → Work Stop (List Parts) = λ ms. with_stops link_fact (linked (tree_of c.marks) ms) in
     let tail : List Parts → Work Stop Output = λ ms. links ms >>= λ flat. output c plan flat in
     same-trans (linking output files c) (modules_in files c >>= tail) (output c plan flat)
-    (then-known (plan_in files c.plan) (λ plan. modules_in files c >>= λ ms. with_stops link_fact (linked (tree_of c.marks) ms) >>= λ flat. output c plan flat) plan (plan_in-single files c.plan) leads.planned)
+    (then-known (plan_in files c.plan) (λ plan. modules_in files c >>= λ ms. with_stops link_fact (linked (tree_of c.marks) ms) >>= λ flat. output c
+    plan flat) plan (plan_in-single files c.plan) leads.planned)
     (same-trans (modules_in files c >>= tail) (tail ms) (output c plan flat)
     (then-known (modules_in files c) tail ms (modules_in-single files bytes c) leads.read)
-    (then-known (links ms) (λ flat. output c plan flat) flat (stops-single link_fact (linked (tree_of c.marks) ms) (linked-single (tree_of c.marks) ms)) leads.linked))
+    (then-known (links ms) (λ flat. output c plan flat) flat (stops-single link_fact (linked (tree_of c.marks) ms)
+    (linked-single (tree_of c.marks) ms)) leads.linked))
 
 -- A command whose files were linked in stages comes to what is put out of the list that the stages began with.
 pub runs-of-stages : RunsOfStages
@@ -88,8 +94,10 @@ runs-of-stages files c plan flat leaves bytes is_linking leads came = by_verb c.
   alike : PutOutAlike c plan flat leaves
   alike = put_out-alike c plan flat leaves (means-same flat leaves came)
 
-  by_linking : (output : Command → Plan → List Parts → Work Stop Output) → IsSameWork (output c plan flat) (output c plan leaves) → IsSameWork (linking output files c) (output c plan leaves)
-  by_linking output same = same-trans (linking output files c) (output c plan flat) (output c plan leaves) (linking-known output files c plan flat bytes leads) same
+  by_linking : (output : Command → Plan → List Parts → Work Stop Output) → IsSameWork (output c plan flat) (output c plan leaves)
+      → IsSameWork (linking output files c) (output c plan leaves)
+  by_linking output same = same-trans (linking output files c) (output c plan flat) (output c plan leaves)
+      (linking-known output files c plan flat bytes leads) same
 
   by_verb : (v : Verb) → IsLinking v → IsSameWork (work_of v files c) (put_out_of v c plan leaves)
   by_verb verb.Show never = absurd never

@@ -15,14 +15,16 @@ use Rattle.mufom_command.specs.RunLaws.{IsLocating}
 use Rattle.mufom_groups.specs.Linked.{linked_module}
 use Rattle.mufom_groups.specs.Work.{Work, gives, stop_at, stops, with_stops}
 use Rattle.mufom_command.specs.Stop.{Stop, link_fact, raw_too_long}
-use Rattle.mufom_command.specs.Commands.{Output, printed, made, writes, plan_in, modules_in, linked_file, locating, absolute_file, printed_hit, printed_image, raw_file, unless_too_long, listing, linking, work_of}
+use Rattle.mufom_command.specs.Commands.{Output, printed, made, writes, plan_in, modules_in, linked_file, locating, absolute_file, printed_hit}
+use Rattle.mufom_command.specs.Commands.{printed_image, raw_file, unless_too_long, listing, linking, work_of}
 use Rattle.mufom_command.specs.InputsRead.{inputs_in}
 use Rattle.mufom_command.specs.Text.{Text}
 use Rattle.mufom_command.specs.WorkEnds.{LocatesTo, location_of}
 
 -- ---- the inputs end the work
 
-pub linking-begins : (output : Command → Plan → List Parts → Work Stop Output) (c : Command) (files : List NamedFile) (s : Stop) → inputs_in files c (stops s) → linking output files c (stops s)
+pub linking-begins : (output : Command → Plan → List Parts → Work Stop Output) (c : Command) (files : List NamedFile) (s : Stop)
+    → inputs_in files c (stops s) → linking output files c (stops s)
 linking-begins output c files s (inl is) = inl is
 linking-begins output c files s (inr (plan, planned, inl is)) = inr (plan, planned, inl is)
 linking-begins output c files s (inr (plan, planned, inr (ms, read, never))) = absurd never
@@ -31,7 +33,8 @@ no-plan-stops : (files : List NamedFile) (name : Option (List ℕ)) (s : Stop) �
 no-plan-stops files None s none is = is
 no-plan-stops files (Some name) s none is = absurd cc
 
-pub listing-begins : (text : List Parts → Text) (c : Command) → c.plan ≡ None → (files : List NamedFile) (s : Stop) → inputs_in files c (stops s) → listing text files c (stops s)
+pub listing-begins : (text : List Parts → Text) (c : Command) → c.plan ≡ None → (files : List NamedFile) (s : Stop) → inputs_in files c (stops s)
+    → listing text files c (stops s)
 listing-begins text c none files s (inl is) = absurd (no-plan-stops files c.plan s none is)
 listing-begins text c none files s (inr (plan, planned, inl is)) = inl is
 listing-begins text c none files s (inr (plan, planned, inr (ms, read, never))) = absurd never
@@ -39,11 +42,15 @@ listing-begins text c none files s (inr (plan, planned, inr (ms, read, never))) 
 -- ---- the inputs were read
 
 -- the two parts of what was read
-pub inputs-planned : (files : List NamedFile) (c : Command) (plan : Plan) (ms : List Parts) → inputs_in files c (gives (plan, ms)) → plan_in files c.plan (gives plan)
-inputs-planned files c plan ms (p, planned, (list, read, same)) = subst (λ (x : Plan). plan_in files c.plan (gives x)) (sym (ap (λ (both : Plan × List Parts). both.0) same)) planned
+pub inputs-planned : (files : List NamedFile) (c : Command) (plan : Plan) (ms : List Parts) → inputs_in files c (gives (plan, ms))
+    → plan_in files c.plan (gives plan)
+inputs-planned files c plan ms (p, planned, (list, read, same)) =
+    subst (λ (x : Plan). plan_in files c.plan (gives x)) (sym (ap (λ (both : Plan × List Parts). both.0) same)) planned
 
-pub inputs-modules : (files : List NamedFile) (c : Command) (plan : Plan) (ms : List Parts) → inputs_in files c (gives (plan, ms)) → modules_in files c (gives ms)
-inputs-modules files c plan ms (p, planned, (list, read, same)) = subst (λ (x : List Parts). modules_in files c (gives x)) (sym (ap (λ (both : Plan × List Parts). both.1) same)) read
+pub inputs-modules : (files : List NamedFile) (c : Command) (plan : Plan) (ms : List Parts) → inputs_in files c (gives (plan, ms))
+    → modules_in files c (gives ms)
+inputs-modules files c plan ms (p, planned, (list, read, same)) =
+    subst (λ (x : List Parts). modules_in files c (gives x)) (sym (ap (λ (both : Plan × List Parts). both.1) same)) read
 
 writes-named : (name : List ℕ) (out : Option (List ℕ)) (bytes : List ℕ) → out ≡ Some name → writes out bytes (gives (made name bytes))
 writes-named name out bytes named = subst (λ (o : Option (List ℕ)). writes o bytes (gives (made name bytes))) (sym named) refl
@@ -55,8 +62,15 @@ module _ (c : Command) (plan : Plan) (ms : List Parts) (files : List NamedFile) 
 
   -- the file of the link
   pub link-gives : (M : Parts) (name : List ℕ) → linked_module c ms (gives M) → c.out ≡ Some name → linking linked_file files c (gives (made name (written M)))
-  link-gives M name (flat, is_linked, joined) named =
-      (plan, inputs-planned files c plan ms is, (ms, inputs-modules files c plan ms is, (flat, is_linked, (M, joined, writes-named name c.out (written M) named))))
+  link-gives M name (flat, is_linked, joined) named = (
+    plan,
+    inputs-planned files c plan ms is,
+    (
+      ms,
+      inputs-modules files c plan ms is,
+      (flat, is_linked, (M, joined, writes-named name c.out (written M) named)),
+    ),
+  )
 
   -- or the link fact
   pub link-stops : (s : Stop) → with_stops link_fact (linked_module c ms) (stops s) → linking linked_file files c (stops s)
@@ -67,17 +81,20 @@ module _ (c : Command) (plan : Plan) (ms : List Parts) (files : List NamedFile) 
 
 module _ (output : Command → LocatedParts → Work Stop Output) (c : Command) where
   -- the fact that ends the locating
-  pub locating-stops : (plan : Plan) (ms : List Parts) (files : List NamedFile) → inputs_in files c (gives (plan, ms)) → (s : Stop) → location_of c plan ms (stops s) → linking (locating output) files c (stops s)
+  pub locating-stops : (plan : Plan) (ms : List Parts) (files : List NamedFile) → inputs_in files c (gives (plan, ms)) → (s : Stop)
+      → location_of c plan ms (stops s) → linking (locating output) files c (stops s)
   locating-stops plan ms files is s (inl ends) = inr (plan, inputs-planned files c plan ms is, inr (ms, inputs-modules files c plan ms is, inl ends))
   locating-stops plan ms files is s (inr (flat, is_linked, ends)) =
       inr (plan, inputs-planned files c plan ms is, inr (ms, inputs-modules files c plan ms is, inr (flat, is_linked, inl ends)))
 
   -- what is put out of the location, or why nothing is
-  pub output-gives : (r : LocatedParts) (o : Output) → output c r (gives o) → (files : List NamedFile) → LocatesTo files c r → linking (locating output) files c (gives o)
+  pub output-gives : (r : LocatedParts) (o : Output) → output c r (gives o) → (files : List NamedFile) → LocatesTo files c r
+      → linking (locating output) files c (gives o)
   output-gives r o puts files (plan, ms, is, (flat, is_linked, is_located)) =
       (plan, inputs-planned files c plan ms is, (ms, inputs-modules files c plan ms is, (flat, is_linked, (r, is_located, puts))))
 
-  pub output-stops : (r : LocatedParts) (s : Stop) → output c r (stops s) → (files : List NamedFile) → LocatesTo files c r → linking (locating output) files c (stops s)
+  pub output-stops : (r : LocatedParts) (s : Stop) → output c r (stops s) → (files : List NamedFile) → LocatesTo files c r
+      → linking (locating output) files c (stops s)
   output-stops r s ends files (plan, ms, is, (flat, is_linked, is_located)) =
       inr (plan, inputs-planned files c plan ms is, inr (ms, inputs-modules files c plan ms is, inr (flat, is_linked, inr (r, is_located, ends))))
 
@@ -91,7 +108,8 @@ is-less : {n m : ℕ} → n < m → nat_lt n m ≡ true
 is-less {n = n} {m = m} less = search rules
 
 -- one with too many bytes is not put out
-pub raw-stops : (c : Command) (r : LocatedParts) (count : ℕ) → count ≡ length (raw_image c.fill r.runs) → MOST_FILE_BYTES < count → raw_file c r (stops (raw_too_long count))
+pub raw-stops : (c : Command) (r : LocatedParts) (count : ℕ) → count ≡ length (raw_image c.fill r.runs) → MOST_FILE_BYTES < count
+    → raw_file c r (stops (raw_too_long count))
 raw-stops c r count same past =
     by (nat_lt MOST_FILE_BYTES (length (raw_image c.fill r.runs))) (is-less (subst (λ (n : ℕ). MOST_FILE_BYTES < n) same past)) where
       by : (b : Bool) → b ≡ true → unless_too_long b c.out (raw_image c.fill r.runs) (stops (raw_too_long count))
@@ -99,7 +117,8 @@ raw-stops c r count same past =
       by false is = absurd cc
 
 -- any other is
-pub raw-gives : (c : Command) (r : LocatedParts) (name : List ℕ) → length (raw_image c.fill r.runs) ≤ MOST_FILE_BYTES → c.out ≡ Some name → raw_file c r (gives (made name (raw_image c.fill r.runs)))
+pub raw-gives : (c : Command) (r : LocatedParts) (name : List ℕ) → length (raw_image c.fill r.runs) ≤ MOST_FILE_BYTES → c.out ≡ Some name
+    → raw_file c r (gives (made name (raw_image c.fill r.runs)))
 raw-gives c r name few named = by (nat_lt MOST_FILE_BYTES (length (raw_image c.fill r.runs))) refl where
   by : (b : Bool) → nat_lt MOST_FILE_BYTES (length (raw_image c.fill r.runs)) ≡ b
       → unless_too_long b c.out (raw_image c.fill r.runs) (gives (made name (raw_image c.fill r.runs)))
@@ -122,7 +141,8 @@ locating-begins verb.Addr is c = linking-begins (locating printed_hit) c
 locating-begins verb.Bin is c = linking-begins (locating raw_file) c
 
 -- and where the locating does
-pub verb-stops : (v : Verb) → IsLocating v → (c : Command) (plan : Plan) (ms : List Parts) (files : List NamedFile) → inputs_in files c (gives (plan, ms)) → (s : Stop) → location_of c plan ms (stops s)
+pub verb-stops : (v : Verb) → IsLocating v → (c : Command) (plan : Plan) (ms : List Parts) (files : List NamedFile)
+    → inputs_in files c (gives (plan, ms)) → (s : Stop) → location_of c plan ms (stops s)
     → work_of v files c (stops s)
 verb-stops verb.Show never c = absurd never
 verb-stops verb.Check never c = absurd never

@@ -1,6 +1,7 @@
 -- What the contract of the top call states: the answer and its cause, what was put out, which inputs were opened, and which error line was
 -- printed.
-use Rattle.std.specs.Prelude.{◌≡◌, ◌⊎◌, ℕ, ◌+◌, ◌<◌, ◌≤◌, not, List, [], ◌∷◌, ◌++◌, length, take, Option, Some, None, Result, Ok, Err, IfSome, IsSome, OnSome, option_to_list}
+use Rattle.std.specs.Prelude.{◌≡◌, ◌⊎◌, ℕ, ◌+◌, ◌<◌, ◌≤◌, not, List, [], ◌∷◌, ◌++◌, length, take, Option, Some, None, Result, Ok, Err, IfSome, IsSome}
+use Rattle.std.specs.Prelude.{OnSome, option_to_list}
 use Rattle.mufom_host.specs.World.{Meaning, Faults, NamedFile, Rose, GrowsBy, GrowsByPrefix}
 use Rattle.mufom_module.specs.declared.module.Parts.{Parts}
 use Rattle.mufom_words.specs.declared.command.Command.{Command}
@@ -210,7 +211,8 @@ Opens words call result = OpensBy (answer_of words) call result
 
 -- the line is added to the error output, or a prefix of it where printing it failed in this call
 abbrev pub AddsErrorLine : Call → List ℕ → Type 0
-AddsErrorLine call text = GrowsBy call.old.err call.new.err text ⊎ (Rose call.before.complaints call.now.complaints × GrowsByPrefix call.old.err call.new.err text)
+AddsErrorLine call text = GrowsBy call.old.err call.new.err text
+    ⊎ (Rose call.before.complaints call.now.complaints × GrowsByPrefix call.old.err call.new.err text)
 
 -- Each answer but Done prints its error line.
 abbrev pub PrintsErrorLine : Call → Outcome → Type 0

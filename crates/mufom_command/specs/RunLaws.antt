@@ -27,7 +27,8 @@ use Rattle.mufom_command.specs.declared.outcome.Outcome.TheVariants as outcome
 use Rattle.mufom_write.specs.Raw.{raw_image}
 use Rattle.mufom_numbers.specs.declared.limits.TheConstants.{MOST_FILE_BYTES}
 use Rattle.mufom_command.specs.Stop.{Stop}
-use Rattle.mufom_command.specs.Commands.{Output, made, plan_in, modules_in, linked_file, locating, absolute_file, printed_hit, printed_image, raw_file, work_of, run_of}
+use Rattle.mufom_command.specs.Commands.{Output, made, plan_in, modules_in, linked_file, locating, absolute_file, printed_hit, printed_image}
+use Rattle.mufom_command.specs.Commands.{raw_file, work_of, run_of}
 use Rattle.mufom_command.specs.Run.{Call, outcome_of, Answers}
 
 -- ---- the answer of a run

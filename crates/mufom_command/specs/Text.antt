@@ -50,7 +50,8 @@ source_text (Some name) = quoted name
 -- addresses have the given number of units
 abbrev pub function_line : ℕ → Option FunctionHit → Text
 function_line maus None = line (codes "function none")
-function_line maus (Some f) = line (codes "function " ++ decimal f.kind ++ codes " " ++ quoted f.name ++ codes " " ++ address maus f.begin ++ codes " " ++ address maus f.«end»)
+function_line maus (Some f) = line (codes "function " ++ decimal f.kind ++ codes " " ++ quoted f.name ++ codes " " ++ address maus f.begin
+    ++ codes " " ++ address maus f.«end»)
 
 abbrev pub source_line : ℕ → Option LineHit → Text
 source_line maus None = line (codes "line none")

@@ -1,7 +1,8 @@
 //! Laws of runs, each the contract of a function that does nothing.
 
 ghost use Rattle.mufom_command.specs.Inputs.{HaveOneVerdict};
-ghost use Rattle.mufom_command.specs.RunLaws.{AbsoluteFilesStand, AnswersAreDetermined, LinkedFilesStand, LocatingIsDone, RunsAreSingle, RunsOfStages, StagesMakeNoDifference};
+ghost use Rattle.mufom_command.specs.RunLaws.{AbsoluteFilesStand, AnswersAreDetermined, LinkedFilesStand, LocatingIsDone, RunsAreSingle};
+ghost use Rattle.mufom_command.specs.RunLaws.{RunsOfStages, StagesMakeNoDifference};
 
 /// Files that are read in order come to one verdict, where they hold bytes.
 pub fn files_have_one_verdict()

@@ -1,5 +1,6 @@
 -- Items leave as many blocks open as they found, and what follows of their depth.
-use Rattle.std.proofs.Common.{◌≡◌, ℕ, ◌+◌, ◌-◌, ◌≤◌, max, List, [], ◌∷◌, ◌++◌, map, length, take, get_or, zero, suc, ◌<◌, sym, ap, ◌∙◌, subst, rules, arith, append_assoc}
+use Rattle.std.proofs.Common.{◌≡◌, ℕ, ◌+◌, ◌-◌, ◌≤◌, max, List, [], ◌∷◌, ◌++◌, map, length, take, get_or, zero, suc, ◌<◌, sym, ap, ◌∙◌, subst, rules}
+use Rattle.std.proofs.Common.{arith, append_assoc}
 use Rattle.mufom_debug.specs.declared.item.DebugItem.{DebugItem, Block as block_case, the_lemmas, ind-DebugItem}
 use Rattle.mufom_expr.specs.Tree.{Tree}
 use Rattle.mufom_names.specs.declared.name.Note.{Note}
@@ -7,7 +8,8 @@ use Rattle.mufom_debug.specs.declared.item.Block.{Block}
 use Rattle.mufom_debug.specs.declared.item.DebugItem.TheOpen.{Block-F, DebugItem-F}
 use Rattle.mufom_debug.specs.declared.item.DebugItem.TheFolds as folds
 use Rattle.mufom_debug.specs.declared.item.DebugItem.TheViews.{roll-DebugItem, roll-Block}
-use Rattle.mufom_debug.specs.Marks.{DebugMark, block_end, name_mark, note_mark, value_mark, joined, item_step, block_step, marks_of_item, marks_of, depth_from, depth_of, IsBalanced}
+use Rattle.mufom_debug.specs.Marks.{DebugMark, block_end, name_mark, note_mark, value_mark, joined, item_step, block_step, marks_of_item, marks_of}
+use Rattle.mufom_debug.specs.Marks.{depth_from, depth_of, IsBalanced}
 use Rattle.mufom_debug.proofs.MarksLemmas.{marks-Block, marks_of_more}
 
 le-depth_from : (opened : ℕ) (marks : List DebugMark) → opened ≤ depth_from opened marks
@@ -84,7 +86,8 @@ module _ (I B : Type 0) (item_of : I → DebugItem) (block_of : B → Block)
   block_level y =
       let same : marks_of_block (roll-Block (folds.map-Block I B DebugItem Block item_of block_of y))
       ≡ block_step (record { head = y.head; name = y.name; items = map marks_of_item (map item_of y.items); end = y.end }) = search (rules, the_lemmas) in
-      subst IsBalanced (sym same) (in_block (record { head = y.head; name = y.name; items = map marks_of_item (map item_of y.items); end = y.end }) (items_level y.items))
+      subst IsBalanced (sym same) (in_block (record { head = y.head; name = y.name; items = map marks_of_item (map item_of y.items); end = y.end })
+      (items_level y.items))
 
 -- the marks of any item are balanced
 pub item_balanced : (item : DebugItem) → IsBalanced (marks_of_item item)

@@ -36,5 +36,6 @@ names-more n items i x inside is =
     ∙ names-append n before (marks_of_item x)
 
 -- the marks that are left are those of the next item and the rest
-pub marks-next : (items : List DebugItem) (i : ℕ) (x : DebugItem) → i < length items → x ≡ get_or items i x → marks_of (drop i items) ≡ marks_of_item x ++ marks_of (drop (i + 1) items)
+pub marks-next : (items : List DebugItem) (i : ℕ) (x : DebugItem) → i < length items → x ≡ get_or items i x → marks_of (drop i items)
+    ≡ marks_of_item x ++ marks_of (drop (i + 1) items)
 marks-next items i x inside is = ap marks_of (drop_more items i x inside) ∙ ap (λ y. marks_of_item y ++ marks_of (drop (i + 1) items)) (sym is)

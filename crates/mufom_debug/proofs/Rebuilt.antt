@@ -31,11 +31,13 @@ rebuilt (value_mark name value ∷ marks) items outer = rebuilt marks (items ++ 
 
 -- the marks give the item back, whatever follows and wherever they stand
 abbrev Gives : List DebugMark → DebugItem → Type 0
-Gives marks item = (rest : List DebugMark) (items : List DebugItem) (outer : List Begun) → rebuilt (marks ++ rest) items outer ≡ rebuilt rest (items ++ item ∷ []) outer
+Gives marks item = (rest : List DebugMark) (items : List DebugItem) (outer : List Begun) → rebuilt (marks ++ rest) items outer
+    ≡ rebuilt rest (items ++ item ∷ []) outer
 
 -- the same of a list of items
 abbrev GiveAll : List DebugMark → List DebugItem → Type 0
-GiveAll marks more = (rest : List DebugMark) (items : List DebugItem) (outer : List Begun) → rebuilt (marks ++ rest) items outer ≡ rebuilt rest (items ++ more) outer
+GiveAll marks more = (rest : List DebugMark) (items : List DebugItem) (outer : List Begun) → rebuilt (marks ++ rest) items outer
+    ≡ rebuilt rest (items ++ more) outer
 
 -- the marks of a block, which a fold gives
 abbrev marks_of_block : Block → List DebugMark
@@ -44,7 +46,8 @@ marks_of_block b = folds.fold-Block (List DebugMark) (List DebugMark) item_step 
 none_given : GiveAll [] []
 none_given rest items outer = ap (λ all. rebuilt rest all outer) (sym (append-nil items))
 
-more_given : (marks more : List DebugMark) (item : DebugItem) (others : List DebugItem) → Gives marks item → GiveAll more others → GiveAll (marks ++ more) (item ∷ others)
+more_given : (marks more : List DebugMark) (item : DebugItem) (others : List DebugItem) → Gives marks item → GiveAll more others
+    → GiveAll (marks ++ more) (item ∷ others)
 more_given marks more item others p q rest items outer =
     ap (λ all. rebuilt all items outer) (append_assoc marks more rest) ∙ p (more ++ rest) items outer ∙ q rest (items ++ item ∷ []) outer
     ∙ ap (λ all. rebuilt rest all outer) (append_assoc items (item ∷ []) others)
@@ -74,9 +77,11 @@ module _ (I B : Type 0) (item_of : I → DebugItem) (block_of : B → Block)
 
   items_level : (es : List I) → GiveAll (joined (map marks_of_item (map item_of es))) (map item_of es)
   items_level [] = none_given
-  items_level (e ∷ es) = more_given (marks_of_item (item_of e)) (joined (map marks_of_item (map item_of es))) (item_of e) (map item_of es) (p e) (items_level es)
+  items_level (e ∷ es) = more_given (marks_of_item (item_of e)) (joined (map marks_of_item (map item_of es))) (item_of e) (map item_of es) (p e)
+      (items_level es)
 
-  block_level : (y : Block-F I B) → let block = roll-Block (folds.map-Block I B DebugItem Block item_of block_of y) in Gives (marks_of_block block) (roll-DebugItem (DebugItem-F.Block block))
+  block_level : (y : Block-F I B) → let block = roll-Block (folds.map-Block I B DebugItem Block item_of block_of y) in
+      Gives (marks_of_block block) (roll-DebugItem (DebugItem-F.Block block))
   block_level y =
       let block = roll-Block (folds.map-Block I B DebugItem Block item_of block_of y) in
       let same : marks_of_block block
@@ -88,7 +93,8 @@ module _ (I B : Type 0) (item_of : I → DebugItem) (block_of : B → Block)
 item_given : (item : DebugItem) → Gives (marks_of_item item) item
 item_given = ind-DebugItem (λ item. Gives (marks_of_item item) item) (λ b. Gives (marks_of_block b) (roll-DebugItem (DebugItem-F.Block b)))
     (λ x y is. subst (λ z. Gives (marks_of_item (roll-DebugItem z)) (roll-DebugItem z)) is (item_level _ _ (λ e. e.0) (λ e. e.0) (λ e. e.1) (λ e. e.1) y))
-    (λ x y is. subst (λ z. Gives (marks_of_block (roll-Block z)) (roll-DebugItem (DebugItem-F.Block (roll-Block z)))) is (block_level _ _ (λ e. e.0) (λ e. e.0) (λ e. e.1) (λ e. e.1) y))
+    (λ x y is. subst (λ z. Gives (marks_of_block (roll-Block z)) (roll-DebugItem (DebugItem-F.Block (roll-Block z)))) is
+    (block_level _ _ (λ e. e.0) (λ e. e.0) (λ e. e.1) (λ e. e.1) y))
 
 items_given : (items : List DebugItem) → GiveAll (marks_of items) items
 items_given [] = none_given

@@ -1,5 +1,6 @@
 -- Going through the tokens of an expression with the values that stand: whether a divisor is 0.
-use Rattle.std.proofs.Common.{◌≡◌, ℕ, ◌+◌, ◌-◌, ◌<◌, ◌≤◌, List, [], ◌∷◌, length, drop, map, reverse, Option, Some, Bool, true, false, ◌||◌, refl, sym, ◌∙◌, ap, subst, arith, get_or}
+use Rattle.std.proofs.Common.{◌≡◌, ℕ, ◌+◌, ◌-◌, ◌<◌, ◌≤◌, List, [], ◌∷◌, length, drop, map, reverse, Option, Some, Bool, true, false, ◌||◌, refl, sym}
+use Rattle.std.proofs.Common.{◌∙◌, ap, subst, arith, get_or}
 use Rattle.std.specs.Prelude.{slice_get, if◌then◌else◌}
 use Rattle.std.specs.List.{list_any}
 use Rattle.std.proofs.lemmas.List.{length-map, length-reverse, get_or-reverse}
@@ -8,7 +9,8 @@ use Rattle.mufom_expr.specs.declared.token.Function.TheVariants as functions
 use Rattle.mufom_expr.specs.declared.token.Token.{Token}
 use Rattle.mufom_expr.specs.declared.token.Token.TheVariants.{Number, Var, Fun}
 use Rattle.mufom_expr.specs.Codes.{operands_of}
-use Rattle.mufom_expr.specs.Tree.{Tree, number, variable, one, two, OneOperand, absolute, negated, TwoOperands, plus, minus, divided, times, larger, smaller, modulo, is_less, is_greater, is_equal, is_unequal, and_bits, or_bits, xor_bits}
+use Rattle.mufom_expr.specs.Tree.{Tree, number, variable, one, two, OneOperand, absolute, negated, TwoOperands, plus, minus, divided, times, larger}
+use Rattle.mufom_expr.specs.Tree.{smaller, modulo, is_less, is_greater, is_equal, is_unequal, and_bits, or_bits, xor_bits}
 use Rattle.mufom_expr.specs.Terms.{after_token, terms_after, on_one, on_two, the_term, LeaveOneTerm}
 use Rattle.mufom_expr.specs.Value.{Environment, value_at, divides_by_zero, is_division, is_zero}
 use Rattle.mufom_expr.specs.ValueStack.{values_with, zero_there, token_divides_by_zero}
@@ -55,7 +57,8 @@ module _ (m : ℕ) (env : Environment) where
   two_step f (b ∷ a ∷ s) s' e =
       let same : two f a b ∷ s ≡ s' = cc in
       ap any_divides (sym same)
-      ∙ mixed (divides_by_zero (value_at m env) a) (divides_by_zero (value_at m env) b) (any_divides s) (if is_division f then is_zero (value_at m env b) else false)
+      ∙ mixed (divides_by_zero (value_at m env) a) (divides_by_zero (value_at m env) b) (any_divides s) (if is_division f
+      then is_zero (value_at m env b) else false)
 
   -- after a token a tree divides by 0 where one did before, or where the token divides by 0
   token_step : (token : Token) (s s' : List Tree) → after_token token s ≡ Some s'
@@ -92,15 +95,18 @@ module _ (m : ℕ) (env : Environment) where
   starts_dividing tokens single = record { trees = []; left = single; same = refl; divides = refl }
 
   -- after the last token it was found of the whole tree
-  pub ends_dividing : (tokens : List Token) (whole : Tree) (i : ℕ) (values : List (Option ℕ)) (found : Bool) → IsDividing tokens whole i values found → drop i tokens ≡ [] → found ≡ divides_by_zero (value_at m env) whole
+  pub ends_dividing : (tokens : List Token) (whole : Tree) (i : ℕ) (values : List (Option ℕ)) (found : Bool) → IsDividing tokens whole i values found
+      → drop i tokens ≡ [] → found ≡ divides_by_zero (value_at m env) whole
   ends_dividing tokens whole i values found now past =
       let left : ◌≡◌ {A = Option (List Tree)} (Some now.trees) (Some (whole ∷ [])) = ap (λ ts. terms_after ts now.trees) (sym past) ∙ now.left in
       let trees : now.trees ≡ whole ∷ [] = cc in
       now.divides ∙ ap any_divides trees ∙ or_false (divides_by_zero (value_at m env) whole)
 
-  module _ (tokens : List Token) (whole : Tree) (i : ℕ) (values : List (Option ℕ)) (found : Bool) (now : IsDividing tokens whole i values found) (token : Token) (here : drop i tokens ≡ token ∷ drop (i + 1) tokens) where
+  module _ (tokens : List Token) (whole : Tree) (i : ℕ) (values : List (Option ℕ)) (found : Bool) (now : IsDividing tokens whole i values found)
+      (token : Token) (here : drop i tokens ≡ token ∷ drop (i + 1) tokens) where
     next_step : (after : List Tree) × (after_token token now.trees ≡ Some after) × (terms_after (drop (i + 1) tokens) after ≡ Some (whole ∷ []))
-    next_step = step_some (terms_after (drop (i + 1) tokens)) (after_token token now.trees) (whole ∷ []) (ap (λ ts. terms_after ts now.trees) (sym here) ∙ now.left)
+    next_step = step_some (terms_after (drop (i + 1) tokens)) (after_token token now.trees) (whole ∷ [])
+        (ap (λ ts. terms_after ts now.trees) (sym here) ∙ now.left)
 
     goes_on_dividing : IsDividing tokens whole (i + 1) (values_with m env values token) (found || token_divides_by_zero values token)
     goes_on_dividing = record {
@@ -114,7 +120,8 @@ module _ (m : ℕ) (env : Environment) where
     }
 
     -- the same of values and of an answer that are these
-    pub steps_dividing : (after : List (Option ℕ)) (finds : Bool) → after ≡ values_with m env values token → finds ≡ (found || token_divides_by_zero values token)
+    pub steps_dividing : (after : List (Option ℕ)) (finds : Bool) → after ≡ values_with m env values token → finds
+        ≡ (found || token_divides_by_zero values token)
         → IsDividing tokens whole (i + 1) after finds
     steps_dividing after finds same divides =
         subst (λ b. IsDividing tokens whole (i + 1) after b) (sym divides)

@@ -6,7 +6,9 @@ use Rattle.mufom_expr.specs.declared.token.Function.TheVariants as functions
 use Rattle.mufom_expr.specs.declared.token.Token.{Token}
 use Rattle.mufom_expr.specs.declared.token.Token.TheVariants.{Fun}
 use Rattle.mufom_expr.specs.declared.expr.Expr.{Expr, Number, Var, One', Two'}
-use Rattle.mufom_expr.specs.Tree.{Tree, number, variable, tokens_of, one, two, OneOperand, absolute, negated, TwoOperands, plus, minus, divided, times, larger, smaller, modulo, is_less, is_greater, is_equal, is_unequal, and_bits, or_bits, xor_bits, function_of_one, function_of_two}
+use Rattle.mufom_expr.specs.Tree.{Tree, number, variable, tokens_of, one, two, OneOperand, absolute, negated, TwoOperands, plus, minus, divided}
+use Rattle.mufom_expr.specs.Tree.{times, larger, smaller, modulo, is_less, is_greater, is_equal, is_unequal, and_bits, or_bits, xor_bits}
+use Rattle.mufom_expr.specs.Tree.{function_of_one, function_of_two}
 use Rattle.mufom_expr.specs.ExprTree.{one_operand, two_operands, over_one, over_two, tree_of_expr, tokens_of_expr, IsExpression}
 use Rattle.mufom_expr.specs.InfixText.{infix_text, opening_text, middle_text}
 use Rattle.mufom_expr.proofs.Running.{IsRunning, ends, some_tree}
@@ -63,11 +65,13 @@ module _ (f : Function) (old opened left between right closed : List ℕ) where
 
   pub infix_of_two : (x y : Option Tree)
       → opened ≡ old ++ opening_text f → IfSome x (λ a. left ≡ opened ++ infix_text a) → between ≡ left ++ middle_text f
-      → IfSome y (λ b. right ≡ between ++ infix_text b) → closed ≡ right ++ codes ")" → IfSome (over_two (two_operands f) x y) (λ t. closed ≡ old ++ infix_text t)
+      → IfSome y (λ b. right ≡ between ++ infix_text b) → closed ≡ right ++ codes ")"
+      → IfSome (over_two (two_operands f) x y) (λ t. closed ≡ old ++ infix_text t)
   infix_of_two x y h1 h2 h3 h4 h5 = two_parts (two_operands f) (function_of-two_operands f) x y h1 h2 h3 h4 h5
 
 -- the tokens of the code's tree are those of the tree that it is
-one_tokens : (f : Function) (o : Option OneOperand) → ((g : OneOperand) → o ≡ Some g → function_of_one g ≡ f) → (xs : List Token) (x : Option Tree) → ((a : Tree) → x ≡ Some a → xs ≡ tokens_of a)
+one_tokens : (f : Function) (o : Option OneOperand) → ((g : OneOperand) → o ≡ Some g → function_of_one g ≡ f) → (xs : List Token) (x : Option Tree)
+    → ((a : Tree) → x ≡ Some a → xs ≡ tokens_of a)
     → (t : Tree) → over_one o x ≡ Some t → xs ++ Fun f ∷ [] ≡ tokens_of t
 one_tokens f None is xs x left t e = let bad : ◌≡◌ {A = Option Tree} None (Some t) = e in absurd cc
 one_tokens f (Some g) is xs None left t e = let bad : ◌≡◌ {A = Option Tree} None (Some t) = e in absurd cc
@@ -89,13 +93,16 @@ pub tokens_of_expr-tree : (e : Expr) (t : Tree) → tree_of_expr e ≡ Some t �
 tokens_of_expr-tree (Number n) t e = let same : number n ≡ t = cc in ap tokens_of same
 tokens_of_expr-tree (Var l p) t e = let same : variable l p ≡ t = cc in ap tokens_of same
 tokens_of_expr-tree (One' f p a) t e = one_tokens f (one_operand f) (function_of-one_operand f) (tokens_of_expr a) (tree_of_expr a) (tokens_of_expr-tree a) t e
-tokens_of_expr-tree (Two' f p a q b) t e = two_tokens f (two_operands f) (function_of-two_operands f) (tokens_of_expr a) (tokens_of_expr b) (tree_of_expr a) (tree_of_expr b) (tokens_of_expr-tree a) (tokens_of_expr-tree b) t e
+tokens_of_expr-tree (Two' f p a q b) t e = two_tokens f (two_operands f) (function_of-two_operands f) (tokens_of_expr a) (tokens_of_expr b)
+    (tree_of_expr a) (tree_of_expr b) (tokens_of_expr-tree a) (tokens_of_expr-tree b) t e
 
 -- the last item that is left is the whole tree
-pub last_expr : (items : List Token) (whole : Tree) (i : ℕ) (stack rest : List Expr) (expr : Expr) → IsRunning some_tree items whole i (map tree_of_expr stack) → drop i items ≡ [] → stack ≡ expr ∷ rest
+pub last_expr : (items : List Token) (whole : Tree) (i : ℕ) (stack rest : List Expr) (expr : Expr)
+    → IsRunning some_tree items whole i (map tree_of_expr stack) → drop i items ≡ [] → stack ≡ expr ∷ rest
     → tree_of_expr expr ≡ Some whole
 last_expr items whole i stack rest expr now past e =
-    let all : tree_of_expr expr ∷ map tree_of_expr rest ≡ Some whole ∷ [] = ap (map tree_of_expr) (sym e) ∙ ends some_tree items whole i (map tree_of_expr stack) now past in
+    let all : tree_of_expr expr ∷ map tree_of_expr rest ≡ Some whole ∷ [] = ap (map tree_of_expr) (sym e)
+    ∙ ends some_tree items whole i (map tree_of_expr stack) now past in
     cc
 
 -- the tree of an expression has no more tokens than the expression

@@ -5,7 +5,8 @@ use Rattle.mufom_expr.specs.declared.token.Function.TheVariants as functions
 use Rattle.mufom_expr.specs.declared.token.Token.{Token}
 use Rattle.mufom_expr.specs.declared.token.Token.TheVariants.{Number, Var, Fun}
 use Rattle.mufom_expr.specs.Codes.{operands_of}
-use Rattle.mufom_expr.specs.Tree.{Tree, OneOperand, absolute, negated, TwoOperands, plus, minus, divided, times, larger, smaller, modulo, is_less, is_greater, is_equal, is_unequal, and_bits, or_bits, xor_bits}
+use Rattle.mufom_expr.specs.Tree.{Tree, OneOperand, absolute, negated, TwoOperands, plus, minus, divided, times, larger, smaller, modulo, is_less}
+use Rattle.mufom_expr.specs.Tree.{is_greater, is_equal, is_unequal, and_bits, or_bits, xor_bits}
 use Rattle.mufom_expr.specs.Terms.{after_token, terms_after, on_one, on_two, the_only, leaves, LeaveOneTerm}
 use Rattle.mufom_expr.proofs.TermsLemmas.{terms_after-stacked}
 
@@ -63,7 +64,8 @@ of_stack token n (Some s) e h =
     rw (← count) (one_more token s (rw count h))
 
 -- a token that finds its operands
-pub leaves-push : (tokens : List Token) (token : Token) (n : ℕ) → leaves tokens ≡ Some n → operands_of token ≤ n → leaves (tokens ++ token ∷ []) ≡ Some (n - operands_of token + 1)
+pub leaves-push : (tokens : List Token) (token : Token) (n : ℕ) → leaves tokens ≡ Some n → operands_of token ≤ n → leaves (tokens ++ token ∷ [])
+    ≡ Some (n - operands_of token + 1)
 leaves-push tokens token n e h = ap (option_map length) (terms_after-append tokens (token ∷ []) []) ∙ of_stack token n (terms_after tokens []) e h
 
 none_left : (tokens : List Token) (o : Option (List Tree)) → terms_after tokens [] ≡ o → option_map length o ≡ Some 0 → tokens ≡ []

@@ -6,7 +6,8 @@ use Rattle.mufom_expr.specs.declared.token.Function.TheVariants as functions
 use Rattle.mufom_expr.specs.declared.token.Token.{Token}
 use Rattle.mufom_expr.specs.declared.token.Token.TheVariants.{Number, Var, Fun}
 use Rattle.mufom_expr.specs.Codes.{operands_of}
-use Rattle.mufom_expr.specs.Tree.{Tree, number, variable, one, two, OneOperand, absolute, negated, TwoOperands, plus, minus, divided, times, larger, smaller, modulo, is_less, is_greater, is_equal, is_unequal, and_bits, or_bits, xor_bits}
+use Rattle.mufom_expr.specs.Tree.{Tree, number, variable, one, two, OneOperand, absolute, negated, TwoOperands, plus, minus, divided, times, larger}
+use Rattle.mufom_expr.specs.Tree.{smaller, modulo, is_less, is_greater, is_equal, is_unequal, and_bits, or_bits, xor_bits}
 use Rattle.mufom_expr.specs.Terms.{after_token, terms_after, on_one, on_two, the_term, LeaveOneTerm}
 use Rattle.mufom_expr.specs.Value.{Environment, value_at}
 use Rattle.mufom_expr.specs.ValueStack.{values_with}
@@ -69,12 +70,19 @@ module _ {X : Type 0} (item : Tree → X) (with : List X → Token → List X) w
   fits_two f token each (b ∷ []) s' e = cc
   fits_two f token each (b ∷ a ∷ s) s' e = let same : two f a b ∷ s ≡ s' = cc in each a b s ∙ ap (map item) same
 
-  module _ (fits : (token : Token) → Fits token) (tokens : List Token) (whole : Tree) (i : ℕ) (items : List X) (now : IsRunning item tokens whole i items) (token : Token) (here : drop i tokens ≡ token ∷ drop (i + 1) tokens) where
+  module _ (fits : (token : Token) → Fits token) (tokens : List Token) (whole : Tree) (i : ℕ) (items : List X)
+      (now : IsRunning item tokens whole i items) (token : Token) (here : drop i tokens ≡ token ∷ drop (i + 1) tokens) where
     next_step : (after : List Tree) × (after_token token now.trees ≡ Some after) × (terms_after (drop (i + 1) tokens) after ≡ Some (whole ∷ []))
-    next_step = step_some (terms_after (drop (i + 1) tokens)) (after_token token now.trees) (whole ∷ []) (ap (λ ts. terms_after ts now.trees) (sym here) ∙ now.left)
+    next_step = step_some (terms_after (drop (i + 1) tokens)) (after_token token now.trees) (whole ∷ [])
+        (ap (λ ts. terms_after ts now.trees) (sym here) ∙ now.left)
 
     pub goes_on : IsRunning item tokens whole (i + 1) (with items token)
-    goes_on = record { trees = next_step.0; left = next_step.2; same = ap (λ (xs : List X). with xs token) now.same ∙ fits token now.trees next_step.0 next_step.1 }
+    goes_on = record {
+      trees = next_step.0;
+      left = next_step.2;
+      same = ap (λ (xs : List X). with xs token) now.same
+          ∙ fits token now.trees next_step.0 next_step.1;
+    }
 
     pub finds_operands : operands_of token ≤ length items
     finds_operands = omega (arith, enough token now.trees next_step.0 next_step.1, ap length now.same, length-map now.trees item)

@@ -8,7 +8,9 @@ use Rattle.mufom_expr.specs.declared.token.Function.{Function}
 use Rattle.mufom_expr.specs.declared.token.Function.TheVariants as functions
 use Rattle.mufom_expr.specs.declared.token.Token.{Token}
 use Rattle.mufom_expr.specs.declared.token.Token.TheVariants.{Number, Var, Fun}
-use Rattle.mufom_expr.specs.Tree.{Tree, number, variable, one, two, OneOperand, absolute, negated, TwoOperands, plus, minus, divided, times, larger, smaller, modulo, is_less, is_greater, is_equal, is_unequal, and_bits, or_bits, xor_bits, tokens_of, IsInRange, function_of_one, function_of_two}
+use Rattle.mufom_expr.specs.Tree.{Tree, number, variable, one, two, OneOperand, absolute, negated, TwoOperands, plus, minus, divided, times, larger}
+use Rattle.mufom_expr.specs.Tree.{smaller, modulo, is_less, is_greater, is_equal, is_unequal, and_bits, or_bits, xor_bits, tokens_of, IsInRange}
+use Rattle.mufom_expr.specs.Tree.{function_of_one, function_of_two}
 use Rattle.mufom_expr.specs.Renamed.{renamed_token, renamed_tokens}
 use Rattle.mufom_expr.specs.Value.{with_variables, variables_of}
 use Rattle.mufom_expr.specs.TreeCode.{terms_after-tokens_of, the_term-tokens_of}
@@ -77,7 +79,8 @@ pub renamed_tokens-tokens_of : (rename : Letter → ℕ → Letter × ℕ) (t : 
 renamed_tokens-tokens_of rename (number n) = refl
 renamed_tokens-tokens_of rename (variable l p) = refl
 renamed_tokens-tokens_of rename (one f a) =
-    map-append (renamed_token rename) (tokens_of a) (Fun (function_of_one f) ∷ []) ∙ ap (λ ts. ts ++ Fun (function_of_one f) ∷ []) (renamed_tokens-tokens_of rename a)
+    map-append (renamed_token rename) (tokens_of a) (Fun (function_of_one f) ∷ [])
+    ∙ ap (λ ts. ts ++ Fun (function_of_one f) ∷ []) (renamed_tokens-tokens_of rename a)
 renamed_tokens-tokens_of rename (two f a b) =
     let left = renamed_tokens-tokens_of rename a in
     let right = renamed_tokens-tokens_of rename b in
@@ -92,13 +95,16 @@ LeaveOneTerm-tokens_of t =
     run ∙ ap (λ u. Some (u ∷ [])) (sym (the_term-tokens_of t))
 
 -- tokens that leave one term do so with their variables renamed: the term with its variables renamed
-pub tokens_of-renamed : (rename : Letter → ℕ → Letter × ℕ) (ts : List Token) → LeaveOneTerm ts → renamed_tokens rename ts ≡ tokens_of (with_variables rename (the_term ts))
+pub tokens_of-renamed : (rename : Letter → ℕ → Letter × ℕ) (ts : List Token) → LeaveOneTerm ts → renamed_tokens rename ts
+    ≡ tokens_of (with_variables rename (the_term ts))
 tokens_of-renamed rename ts leave = ap (renamed_tokens rename) (tokens_of-the_term ts leave) ∙ renamed_tokens-tokens_of rename (the_term ts)
 
 pub LeaveOneTerm-renamed : (rename : Letter → ℕ → Letter × ℕ) (ts : List Token) → LeaveOneTerm ts → LeaveOneTerm (renamed_tokens rename ts)
-LeaveOneTerm-renamed rename ts leave = subst LeaveOneTerm (sym (tokens_of-renamed rename ts leave)) (LeaveOneTerm-tokens_of (with_variables rename (the_term ts)))
+LeaveOneTerm-renamed rename ts leave = subst LeaveOneTerm (sym (tokens_of-renamed rename ts leave))
+    (LeaveOneTerm-tokens_of (with_variables rename (the_term ts)))
 
-pub the_term-renamed : (rename : Letter → ℕ → Letter × ℕ) (ts : List Token) → LeaveOneTerm ts → the_term (renamed_tokens rename ts) ≡ with_variables rename (the_term ts)
+pub the_term-renamed : (rename : Letter → ℕ → Letter × ℕ) (ts : List Token) → LeaveOneTerm ts → the_term (renamed_tokens rename ts)
+    ≡ with_variables rename (the_term ts)
 the_term-renamed rename ts leave = ap the_term (tokens_of-renamed rename ts leave) ∙ the_term-tokens_of (with_variables rename (the_term ts))
 
 all_left : (P : Letter × ℕ → Type 0) (xs ys : List (Letter × ℕ)) → AllByRecursion P (xs ++ ys) → AllByRecursion P xs
@@ -110,7 +116,8 @@ all_right P [] ys h = h
 all_right P (x ∷ xs) ys h = all_right P xs ys h.1
 
 -- two renamings that agree on the variables of a tree give the same tree
-pub with_variables-agrees_on : (f g : Letter → ℕ → Letter × ℕ) (t : Tree) → AllByRecursion (λ v. f v.0 v.1 ≡ g v.0 v.1) (variables_of t) → with_variables f t ≡ with_variables g t
+pub with_variables-agrees_on : (f g : Letter → ℕ → Letter × ℕ) (t : Tree) → AllByRecursion (λ v. f v.0 v.1 ≡ g v.0 v.1) (variables_of t)
+    → with_variables f t ≡ with_variables g t
 with_variables-agrees_on f g (number n) h = refl
 with_variables-agrees_on f g (variable l p) h = ap (λ v. variable v.0 v.1) h.0
 with_variables-agrees_on f g (one o a) h = ap (one o) (with_variables-agrees_on f g a h)

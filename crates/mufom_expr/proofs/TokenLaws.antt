@@ -1,5 +1,6 @@
 -- What the token at the start of bytes states of them.
-use Rattle.std.proofs.Common.{◌≡◌, ◌⊎◌, ℕ, zero, suc, ◌+◌, ◌-◌, ◌<◌, ◌≤◌, ◌==◌, Bool, true, false, List, [], ◌∷◌, ◌++◌, length, take, drop, Option, Some, None, refl, sym, ap, subst, ◌∙◌, inl, inr, arith}
+use Rattle.std.proofs.Common.{◌≡◌, ◌⊎◌, ℕ, zero, suc, ◌+◌, ◌-◌, ◌<◌, ◌≤◌, ◌==◌, Bool, true, false, List, [], ◌∷◌, ◌++◌, length, take, drop, Option}
+use Rattle.std.proofs.Common.{Some, None, refl, sym, ap, subst, ◌∙◌, inl, inr, arith}
 use Rattle.std.specs.List.{find}
 use Rattle.std.proofs.lemmas.Bool.{cases_lt, le-ltb, lt-ltb}
 use Rattle.std.proofs.lemmas.Bool.Decides.{Decides-eqb}
@@ -124,7 +125,8 @@ not_bad b bytes low offset reason e = elim (cases_lt b 128) [
   | inl short ↦ let no : Got b 1 ≡ Bad offset reason = rw (lt-ltb b 128 short) at e in cc
   | inr long ↦ elim (cases_lt (length bytes) (b - 128)) [
     | inl cut ↦ let no : more_number ≡ Bad offset reason = rw (le-ltb b 128 long, le-ltb 136 b low, lt-ltb _ _ cut) at e in cc
-    | inr whole ↦ let no : Got (big_endian (take (b - 128) bytes)) (b - 127) ≡ Bad offset reason = rw (le-ltb b 128 long, le-ltb 136 b low, le-ltb _ _ whole) at e in cc
+    | inr whole ↦ let no : Got (big_endian (take (b - 128) bytes)) (b - 127) ≡ Bad offset reason =
+        rw (le-ltb b 128 long, le-ltb 136 b low, le-ltb _ _ whole) at e in cc
   ]
 ]
 
@@ -153,7 +155,8 @@ states_function b bytes low high None e = (
       let no : ◌≡◌ {A = Option Function} None (Some f) = sym e ∙ some in cc,
 )
 
-states_letter : (b : ℕ) (bytes : List ℕ) → 0x88 < b → (b < 0xA0) ⊎ (0xB9 < b) → AreBytes bytes → (o : Option Letter) → letter_of b ≡ o → (r : Taken ℕ) → number_at bytes ≡ r
+states_letter : (b : ℕ) (bytes : List ℕ) → 0x88 < b → (b < 0xA0) ⊎ (0xB9 < b) → AreBytes bytes → (o : Option Letter) → letter_of b ≡ o → (r : Taken ℕ)
+    → number_at bytes ≡ r
     → States (b ∷ bytes) (variable_token o r)
 states_letter b bytes high out fits None e r number = (
   high,
@@ -169,7 +172,12 @@ states_letter b bytes high out fits (Some letter) e (Got n used) number =
     let more : used + 1 ≡ suc used = omega arith in
     elim (cases_lt n 4294967296) [
       | inl small ↦ rw (lt-ltb n 4294967296 small, more) (omega (arith, prefix.0), (small, take used bytes, prefix.1, ap (λ x. x ∷ take used bytes) byte))
-      | inr large ↦ rw (le-ltb n 4294967296 large) (letter, bytes, ap (λ x. x ∷ bytes) byte, inr (n, take used bytes, drop used bytes, large, prefix.1, sym (take-append-drop used bytes)))
+      | inr large ↦ rw (le-ltb n 4294967296 large) (
+        letter,
+        bytes,
+        ap (λ x. x ∷ bytes) byte,
+        inr (n, take used bytes, drop used bytes, large, prefix.1, sym (take-append-drop used bytes)),
+      )
     ]
 states_letter b bytes high out fits (Some letter) e More number =
     let byte : b ≡ letter_byte letter = found_at letter_byte b all_letters letter e in
@@ -231,7 +239,8 @@ token_at-spelling (Number n) (lead ∷ bytes) rest spells =
     number_kind lead (bytes ++ rest) (number_low n lead bytes spells) ∙ ap number_token (number_at-spelling n (lead ∷ bytes) rest spells)
 token_at-spelling (Var letter index) text rest (small, number_bytes, spells, same) =
     let more : length number_bytes + 1 ≡ suc (length number_bytes) = omega arith in
-    let got : variable_token (Some letter) (Got index (length number_bytes)) ≡ Got (Var letter index) (suc (length number_bytes)) = rw (lt-ltb index 4294967296 small, more) refl in
+    let got : variable_token (Some letter) (Got index (length number_bytes)) ≡ Got (Var letter index) (suc (length number_bytes)) =
+    rw (lt-ltb index 4294967296 small, more) refl in
     rw same (letter_read letter (number_bytes ++ rest) ∙ ap (variable_token (Some letter)) (number_at-spelling index number_bytes rest spells) ∙ got)
 token_at-spelling (Fun f) text rest spells = rw spells (function_read f rest)
 
@@ -248,7 +257,8 @@ left_out-function (b ∷ bytes) (low, high, none) = function_kind b bytes low hi
 
 pub left_out-letter : (input : List ℕ) → BeginsWith IsLeftOutLetter input → token_at input ≡ Bad 0 UnsupportedVariable
 left_out-letter [] begins = absurd begins
-left_out-letter (b ∷ bytes) (high, out, none) = letter_kind b bytes high out ∙ ap (λ o. variable_token o (number_at bytes)) (no_letter b (letter_of b) refl none)
+left_out-letter (b ∷ bytes) (high, out, none) = letter_kind b bytes high out
+    ∙ ap (λ o. variable_token o (number_at bytes)) (no_letter b (letter_of b) refl none)
 
 pub bad_index : (input : List ℕ) → HasBadIndex input → token_at input ≡ Bad 1 BadNumber
 bad_index input (letter, rest, same, inl begins) =

@@ -21,7 +21,8 @@ leaves-tokens_of t = ap (option_map length) (LeaveOneTerm-tokens_of t)
 pub finds_enough : (t : Tree) (prefix back : List Token) (token : Token) → tokens_of t ≡ prefix ++ token ∷ back → FindsTooFew prefix token → ⊥
 finds_enough t prefix back token same (n, count, few) =
     let whole = ap (λ ts. terms_after ts []) (sym same) ∙ LeaveOneTerm-tokens_of t in
-    let first = step_some (terms_after (token ∷ back)) (terms_after prefix []) (the_term (tokens_of t) ∷ []) (sym (terms_after-append prefix (token ∷ back) []) ∙ whole) in
+    let first = step_some (terms_after (token ∷ back)) (terms_after prefix []) (the_term (tokens_of t) ∷ [])
+    (sym (terms_after-append prefix (token ∷ back) []) ∙ whole) in
     let next = step_some (terms_after back) (after_token token first.0) (the_term (tokens_of t) ∷ []) first.2 in
     let counts : ◌≡◌ {A = Option ℕ} (Some (length first.0)) (Some n) = sym (ap (option_map length) first.1) ∙ count in
     let known : length first.0 ≡ n = cc in
@@ -47,7 +48,8 @@ spells_once (t ∷ ts) (u ∷ us) bytes (prefix, back, spells, rest, e) (front',
     let right = ap token_at e' ∙ token_at-spelling u front' back' spells' in
     let same : t ≡ u = got_same t u (length prefix) (length front') (sym left ∙ right) in
     let count : length prefix ≡ length front' = got_length t u (length prefix) (length front') (sym left ∙ right) in
-    let after : back ≡ back' = sym (drop_at prefix back (length prefix) refl) ∙ ap (drop (length prefix)) (sym e ∙ e') ∙ drop_at front' back' (length prefix) (sym count) in
+    let after : back ≡ back' = sym (drop_at prefix back (length prefix) refl) ∙ ap (drop (length prefix)) (sym e ∙ e')
+    ∙ drop_at front' back' (length prefix) (sym count) in
     let later : ts ≡ us = spells_once ts us back rest (subst (SpellsTokens us) (sym after) rest') in
     λ i. same i ∷ later i
 

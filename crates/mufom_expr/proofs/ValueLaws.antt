@@ -1,17 +1,21 @@
 -- Values of trees: other variables, residues, and where there is none.
-use Rattle.std.proofs.Common.{◌≡◌, ◌⊎◌, ℕ, zero, suc, ◌+◌, ◌-◌, ◌*◌, ◌/◌, ◌%◌, ◌^◌, ◌<◌, ◌≤◌, ◌==◌, ◌||◌, Bool, true, false, Option, Some, None, refl, ap, inl, inr, arith}
+use Rattle.std.proofs.Common.{◌≡◌, ◌⊎◌, ℕ, zero, suc, ◌+◌, ◌-◌, ◌*◌, ◌/◌, ◌%◌, ◌^◌, ◌<◌, ◌≤◌, ◌==◌, ◌||◌, Bool, true, false, Option, Some, None, refl}
+use Rattle.std.proofs.Common.{ap, inl, inr, arith}
 use Rattle.std.specs.Prelude.{option_map, IfSome, if◌then◌else◌, nat_lt}
 use Rattle.std.specs.Int.Bits.{and_lt}
 use Rattle.std.proofs.Math.Nat.{mod-lt, div-le_self}
 use Rattle.std.proofs.lemmas.Nat.{or_lt, xor_lt}
 use Rattle.mufom_expr.specs.declared.token.Letter.{Letter}
-use Rattle.mufom_expr.specs.Tree.{Tree, number, variable, one, two, OneOperand, absolute, negated, TwoOperands, plus, minus, divided, times, larger, smaller, modulo, is_less, is_greater, is_equal, is_unequal, and_bits, or_bits, xor_bits}
-use Rattle.mufom_expr.specs.Value.{Environment, value_at, one_value, two_value, both, with_variables, value_through, LacksAValue, divides_by_zero, is_division, is_zero, bit_of}
+use Rattle.mufom_expr.specs.Tree.{Tree, number, variable, one, two, OneOperand, absolute, negated, TwoOperands, plus, minus, divided, times, larger}
+use Rattle.mufom_expr.specs.Tree.{smaller, modulo, is_less, is_greater, is_equal, is_unequal, and_bits, or_bits, xor_bits}
+use Rattle.mufom_expr.specs.Value.{Environment, value_at, one_value, two_value, both, with_variables, value_through, LacksAValue, divides_by_zero}
+use Rattle.mufom_expr.specs.Value.{is_division, is_zero, bit_of}
 use Rattle.mufom_expr.proofs.Residues.{bool_below}
 
 -- ---- other variables
 
-pub value_at-renamed : (m : ℕ) (env : Environment) (rename : Letter → ℕ → Letter × ℕ) (t : Tree) → value_at m env (with_variables rename t) ≡ value_at m (value_through rename env) t
+pub value_at-renamed : (m : ℕ) (env : Environment) (rename : Letter → ℕ → Letter × ℕ) (t : Tree) → value_at m env (with_variables rename t)
+    ≡ value_at m (value_through rename env) t
 value_at-renamed m env rename (number n) = refl
 value_at-renamed m env rename (variable l p) = refl
 value_at-renamed m env rename (one f a) = ap (option_map (one_value m f)) (value_at-renamed m env rename a)
@@ -143,7 +147,8 @@ module _ (m : ℕ) (env : Environment) where
   none-lost (variable l p) e = inl (mapped-none (λ v. v % m) (env l p) e)
   none-lost (one f a) e = none-lost a (mapped-none (one_value m f) (value_at m env a) e)
   none-lost (two f a b) e = by_cause (both-none m f (value_at m env a) (value_at m env b) e) (none-lost a) (none-lost b) where
-    by_cause : (value_at m env a ≡ None) ⊎ ((value_at m env b ≡ None) ⊎ (divides f (value_at m env b) ≡ true)) → (value_at m env a ≡ None → Lost a) → (value_at m env b ≡ None → Lost b) → Lost (two f a b)
+    by_cause : (value_at m env a ≡ None) ⊎ ((value_at m env b ≡ None) ⊎ (divides f (value_at m env b) ≡ true)) → (value_at m env a ≡ None → Lost a)
+        → (value_at m env b ≡ None → Lost b) → Lost (two f a b)
     by_cause (inl none) left right = of_left f a b (left none)
     by_cause (inr (inl none)) left right = of_right f a b (right none)
     by_cause (inr (inr there)) left right = inr (third_of (divides_by_zero (value_at m env) a) (divides_by_zero (value_at m env) b) _ there)
@@ -156,11 +161,13 @@ module _ (m : ℕ) (env : Environment) where
   lost-none (one f a) h = rw (lost-none a h) refl
   lost-none (two f a b) (inl (inl lacks)) = none-left m f _ _ (lost-none a (inl lacks))
   lost-none (two f a b) (inl (inr lacks)) = none-right m f _ _ (lost-none b (inl lacks))
-  lost-none (two f a b) (inr there) = by_cause (any_of (divides_by_zero (value_at m env) a) (divides_by_zero (value_at m env) b) _ there) (lost-none a) (lost-none b) where
-    by_cause : (divides_by_zero (value_at m env) a ≡ true) ⊎ ((divides_by_zero (value_at m env) b ≡ true) ⊎ (divides f (value_at m env b) ≡ true)) → (Lost a → value_at m env a ≡ None) → (Lost b → value_at m env b ≡ None) → value_at m env (two f a b) ≡ None
-    by_cause (inl there) left right = none-left m f _ _ (left (inr there))
-    by_cause (inr (inl there)) left right = none-right m f _ _ (right (inr there))
-    by_cause (inr (inr there)) left right = none-division m f _ _ there
+  lost-none (two f a b) (inr there) = by_cause (any_of (divides_by_zero (value_at m env) a) (divides_by_zero (value_at m env) b) _ there)
+      (lost-none a) (lost-none b) where
+        by_cause : (divides_by_zero (value_at m env) a ≡ true) ⊎ ((divides_by_zero (value_at m env) b ≡ true) ⊎ (divides f (value_at m env b) ≡ true))
+            → (Lost a → value_at m env a ≡ None) → (Lost b → value_at m env b ≡ None) → value_at m env (two f a b) ≡ None
+        by_cause (inl there) left right = none-left m f _ _ (left (inr there))
+        by_cause (inr (inl there)) left right = none-right m f _ _ (right (inr there))
+        by_cause (inr (inr there)) left right = none-division m f _ _ there
 
 -- ---- residues
 

@@ -2,13 +2,17 @@
 -- `ieee.h`, the other functions are this project's profile), and how many terms a function takes.
 use Rattle.std.specs.Prelude.{ℕ, List, [], ◌∷◌, Option, ◌==◌}
 use Rattle.std.specs.List.{find}
-use Rattle.mufom_numbers.specs.declared.codes.TheConstants.{FUNCTION_ABS, FUNCTION_AND, FUNCTION_DIVIDE, FUNCTION_EQUAL, FUNCTION_GREATER, FUNCTION_LESS, FUNCTION_MAX, FUNCTION_MIN, FUNCTION_MINUS, FUNCTION_MOD, FUNCTION_NEG, FUNCTION_OR, FUNCTION_PLUS, FUNCTION_TIMES, FUNCTION_UNEQUAL, FUNCTION_XOR, LETTER_I, LETTER_L, LETTER_P, LETTER_R, LETTER_S, LETTER_X}
+use Rattle.mufom_numbers.specs.declared.codes.TheConstants.{FUNCTION_ABS, FUNCTION_AND, FUNCTION_DIVIDE, FUNCTION_EQUAL, FUNCTION_GREATER}
+use Rattle.mufom_numbers.specs.declared.codes.TheConstants.{FUNCTION_LESS, FUNCTION_MAX, FUNCTION_MIN, FUNCTION_MINUS, FUNCTION_MOD, FUNCTION_NEG}
+use Rattle.mufom_numbers.specs.declared.codes.TheConstants.{FUNCTION_OR, FUNCTION_PLUS, FUNCTION_TIMES, FUNCTION_UNEQUAL, FUNCTION_XOR, LETTER_I}
+use Rattle.mufom_numbers.specs.declared.codes.TheConstants.{LETTER_L, LETTER_P, LETTER_R, LETTER_S, LETTER_X}
 use Rattle.mufom_expr.specs.declared.token.Letter.{Letter}
 use Rattle.mufom_expr.specs.declared.token.Letter.TheVariants.{I, L, P, R, S, X}
 use Rattle.mufom_expr.specs.declared.token.Token.{Token}
 use Rattle.mufom_expr.specs.declared.token.Token.TheVariants.{Fun}
 use Rattle.mufom_expr.specs.declared.token.Function.{Function}
-use Rattle.mufom_expr.specs.declared.token.Function.TheVariants.{Abs, Neg, Plus, Minus, Divide, Times, Max, Min, Mod, Less, Greater, Equal, Unequal, And, Or, Xor}
+use Rattle.mufom_expr.specs.declared.token.Function.TheVariants.{Abs, Neg, Plus, Minus, Divide, Times, Max, Min, Mod, Less, Greater, Equal, Unequal}
+use Rattle.mufom_expr.specs.declared.token.Function.TheVariants.{And, Or, Xor}
 
 -- the byte of a letter
 abbrev pub letter_byte : Letter → ℕ

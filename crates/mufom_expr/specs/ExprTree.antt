@@ -6,7 +6,8 @@ use Rattle.mufom_expr.specs.declared.token.Token.{Token}
 use Rattle.mufom_expr.specs.declared.token.Token.TheVariants as tokens
 use Rattle.mufom_expr.specs.declared.expr.Expr.{Expr, Number, Var, One', Two'}
 use Rattle.mufom_expr.specs.Codes.{operands}
-use Rattle.mufom_expr.specs.Tree.{Tree, number, variable, one, two, OneOperand, absolute, negated, TwoOperands, plus, minus, divided, times, larger, smaller, modulo, is_less, is_greater, is_equal, is_unequal, and_bits, or_bits, xor_bits, tokens_of}
+use Rattle.mufom_expr.specs.Tree.{Tree, number, variable, one, two, OneOperand, absolute, negated, TwoOperands, plus, minus, divided, times, larger}
+use Rattle.mufom_expr.specs.Tree.{smaller, modulo, is_less, is_greater, is_equal, is_unequal, and_bits, or_bits, xor_bits, tokens_of}
 
 -- the function of one operand that a function is, if it is one
 abbrev pub one_operand : Function → Option OneOperand

@@ -4,7 +4,8 @@ use Rattle.std.specs.Fmt.{decimal}
 use Rattle.mufom_expr.specs.declared.token.Letter.{Letter}
 use Rattle.mufom_expr.specs.declared.token.Letter.TheVariants.{I, L, P, R, S, X}
 use Rattle.mufom_expr.specs.declared.token.Function.{Function}
-use Rattle.mufom_expr.specs.declared.token.Function.TheVariants.{Abs, Neg, Plus, Minus, Divide, Times, Max, Min, Mod, Less, Greater, Equal, Unequal, And, Or, Xor}
+use Rattle.mufom_expr.specs.declared.token.Function.TheVariants.{Abs, Neg, Plus, Minus, Divide, Times, Max, Min, Mod, Less, Greater, Equal, Unequal}
+use Rattle.mufom_expr.specs.declared.token.Function.TheVariants.{And, Or, Xor}
 use Rattle.mufom_expr.specs.Tree.{Tree, number, variable, one, two, function_of_one, function_of_two}
 
 -- the name of a letter

@@ -14,7 +14,8 @@ use Rattle.mufom_expr.specs.Tree.{Tree, number, variable, one, two, tokens_of}
 -- A number by its spelling, a function by its byte, a variable by its letter and its index, which is below 2^32.
 abbrev pub SpellsToken : Token → List ℕ → Type 0
 SpellsToken (Number n) bytes = SpellsNumber n bytes
-SpellsToken (Var letter index) bytes = (index < 2 ^ 32) × (number_bytes : List ℕ) × SpellsNumber index number_bytes × (bytes ≡ letter_byte letter ∷ number_bytes)
+SpellsToken (Var letter index) bytes = (index < 2 ^ 32) × (number_bytes : List ℕ) × SpellsNumber index number_bytes
+    × (bytes ≡ letter_byte letter ∷ number_bytes)
 SpellsToken (Fun f) bytes = bytes ≡ function_byte f ∷ []
 
 -- the bytes are spellings of the tokens, one after the other

@@ -8,7 +8,9 @@ use Rattle.mufom_expr.specs.declared.token.Function.{Function}
 use Rattle.mufom_expr.specs.declared.token.Function.TheVariants as functions
 use Rattle.mufom_expr.specs.declared.token.Token.{Token}
 use Rattle.mufom_expr.specs.declared.token.Token.TheVariants.{Number, Var, Fun}
-use Rattle.mufom_expr.specs.Tree.{Tree, number, variable, one, two, OneOperand, absolute, negated, TwoOperands, plus, minus, divided, times, larger, smaller, modulo, is_less, is_greater, is_equal, is_unequal, and_bits, or_bits, xor_bits, tokens_of, function_of_one, function_of_two}
+use Rattle.mufom_expr.specs.Tree.{Tree, number, variable, one, two, OneOperand, absolute, negated, TwoOperands, plus, minus, divided, times, larger}
+use Rattle.mufom_expr.specs.Tree.{smaller, modulo, is_less, is_greater, is_equal, is_unequal, and_bits, or_bits, xor_bits, tokens_of, function_of_one}
+use Rattle.mufom_expr.specs.Tree.{function_of_two}
 use Rattle.mufom_expr.specs.Terms.{terms_after, after_function, the_term, the_only}
 
 -- a letter by its number
@@ -22,7 +24,8 @@ number_of_letter letters.X = 5
 
 -- the letter of a number
 abbrev letter_of : ℕ → Letter
-letter_of n = if n == 0 then letters.I else (if n == 1 then letters.L else (if n == 2 then letters.P else (if n == 3 then letters.R else (if n == 4 then letters.S else (letters.X)))))
+letter_of n = if n == 0 then letters.I else (if n == 1 then letters.L
+    else (if n == 2 then letters.P else (if n == 3 then letters.R else (if n == 4 then letters.S else (letters.X)))))
 
 letter_of-number : (l : Letter) → letter_of (number_of_letter l) ≡ l
 letter_of-number letters.I = refl
@@ -53,7 +56,13 @@ number_of_function functions.Xor = 15
 
 -- the function of a number
 abbrev function_of : ℕ → Function
-function_of n = if n == 0 then functions.Abs else (if n == 1 then functions.Neg else (if n == 2 then functions.Plus else (if n == 3 then functions.Minus else (if n == 4 then functions.Divide else (if n == 5 then functions.Times else (if n == 6 then functions.Max else (if n == 7 then functions.Min else (if n == 8 then functions.Mod else (if n == 9 then functions.Less else (if n == 10 then functions.Greater else (if n == 11 then functions.Equal else (if n == 12 then functions.Unequal else (if n == 13 then functions.And else (if n == 14 then functions.Or else (functions.Xor)))))))))))))))
+function_of n = if n == 0 then functions.Abs else (if n == 1 then functions.Neg
+    else (if n == 2 then functions.Plus else (if n == 3 then functions.Minus
+    else (if n == 4 then functions.Divide else (if n == 5 then functions.Times
+    else (if n == 6 then functions.Max else (if n == 7 then functions.Min
+    else (if n == 8 then functions.Mod else (if n == 9 then functions.Less
+    else (if n == 10 then functions.Greater else (if n == 11 then functions.Equal
+    else (if n == 12 then functions.Unequal else (if n == 13 then functions.And else (if n == 14 then functions.Or else (functions.Xor)))))))))))))))
 
 function_of-number : (f : Function) → function_of (number_of_function f) ≡ f
 function_of-number functions.Abs = refl
@@ -121,7 +130,8 @@ terms_after-tokens_of (one f a) rest s =
     ∙ terms_after-tokens_of a (Fun (function_of_one f) ∷ rest) s
     ∙ ap (option_and_then (terms_after rest)) (after_function-one f a s)
 terms_after-tokens_of (two f a b) rest s =
-    ap (λ ts. terms_after ts s) (append_assoc (tokens_of a ++ tokens_of b) (Fun (function_of_two f) ∷ []) rest ∙ append_assoc (tokens_of a) (tokens_of b) (Fun (function_of_two f) ∷ rest))
+    ap (λ ts. terms_after ts s) (append_assoc (tokens_of a ++ tokens_of b) (Fun (function_of_two f) ∷ []) rest
+    ∙ append_assoc (tokens_of a) (tokens_of b) (Fun (function_of_two f) ∷ rest))
     ∙ terms_after-tokens_of a (tokens_of b ++ Fun (function_of_two f) ∷ rest) s
     ∙ terms_after-tokens_of b (Fun (function_of_two f) ∷ rest) (a ∷ s)
     ∙ ap (option_and_then (terms_after rest)) (after_function-two f a b s)

@@ -1,8 +1,10 @@
 -- The value of an expression (IEEE Std 695, expressions, in this project's profile): a residue modulo a power of two,
 -- or none. Quotients, remainders, MAX, MIN and comparisons go by the residues as they are, without a sign.
-use Rattle.std.specs.Prelude.{◌≡◌, ◌⊎◌, ℕ, zero, suc, ◌+◌, ◌-◌, ◌*◌, ◌/◌, ◌%◌, min, max, List, [], ◌∷◌, ◌++◌, Option, Some, None, option_map, Bool, true, false, ◌||◌, ◌==◌, nat_lt, bit_and, bit_or, bit_xor, if◌then◌else◌}
+use Rattle.std.specs.Prelude.{◌≡◌, ◌⊎◌, ℕ, zero, suc, ◌+◌, ◌-◌, ◌*◌, ◌/◌, ◌%◌, min, max, List, [], ◌∷◌, ◌++◌, Option, Some, None, option_map, Bool}
+use Rattle.std.specs.Prelude.{true, false, ◌||◌, ◌==◌, nat_lt, bit_and, bit_or, bit_xor, if◌then◌else◌}
 use Rattle.mufom_expr.specs.declared.token.Letter.{Letter}
-use Rattle.mufom_expr.specs.Tree.{Tree, number, variable, one, two, OneOperand, absolute, negated, TwoOperands, plus, minus, divided, times, larger, smaller, modulo, is_less, is_greater, is_equal, is_unequal, and_bits, or_bits, xor_bits}
+use Rattle.mufom_expr.specs.Tree.{Tree, number, variable, one, two, OneOperand, absolute, negated, TwoOperands, plus, minus, divided, times, larger}
+use Rattle.mufom_expr.specs.Tree.{smaller, modulo, is_less, is_greater, is_equal, is_unequal, and_bits, or_bits, xor_bits}
 
 -- what each variable is worth, or none
 abbrev pub Environment : Type 0

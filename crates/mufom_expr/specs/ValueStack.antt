@@ -6,7 +6,8 @@ use Rattle.mufom_expr.specs.declared.token.Function.TheVariants as functions
 use Rattle.mufom_expr.specs.declared.token.Token.{Token}
 use Rattle.mufom_expr.specs.declared.token.Token.TheVariants.{Number, Var, Fun}
 use Rattle.mufom_expr.specs.Codes.{operands}
-use Rattle.mufom_expr.specs.Tree.{absolute, negated, plus, minus, divided, times, larger, smaller, modulo, is_less, is_greater, is_equal, is_unequal, and_bits, or_bits, xor_bits}
+use Rattle.mufom_expr.specs.Tree.{absolute, negated, plus, minus, divided, times, larger, smaller, modulo, is_less, is_greater, is_equal, is_unequal}
+use Rattle.mufom_expr.specs.Tree.{and_bits, or_bits, xor_bits}
 use Rattle.mufom_expr.specs.Value.{Environment, one_value, two_value, both, is_zero}
 
 -- a function of one residue modulo m

@@ -1,5 +1,6 @@
 -- The parts of the link of a command's modules, as the calls that do them answer.
-use Rattle.std.proofs.Common.{◌≡◌, ℕ, ◌+◌, ◌≤◌, ◌<◌, ◌^◌, List, [], ◌∷◌, ◌++◌, length, take, drop, None, Result, Ok, Err, IfOk, IfErr, unwrap_or, sym, ◌∙◌, ap, subst, arith}
+use Rattle.std.proofs.Common.{◌≡◌, ℕ, ◌+◌, ◌≤◌, ◌<◌, ◌^◌, List, [], ◌∷◌, ◌++◌, length, take, drop, None, Result, Ok, Err, IfOk, IfErr, unwrap_or, sym}
+use Rattle.std.proofs.Common.{◌∙◌, ap, subst, arith}
 use Rattle.mufom_module.specs.declared.module.Parts.{Parts}
 use Rattle.mufom_module.specs.Written.{weight}
 use Rattle.mufom_link.specs.declared.refusal.LinkRefusal.{LinkRefusal}
@@ -23,12 +24,15 @@ module _ (c : Command) (tree : HasTree c) (ms : List Parts) (valid : AreValid ms
   numbered : leaves (tree_of c.marks) ≡ numbers_from 0 k
   numbered = tree.numbered ∙ ap (numbers_from 0) (sym count)
 
-  pub first-stop : (marks : List Mark) (rs : List Parts) → marks ≡ c.marks → rs ≡ take k ms → (e : LinkRefusal) → StopsWork (links (tree_links (tree_of marks) rs)) e → StopsWork (linked_module c ms) e
+  pub first-stop : (marks : List Mark) (rs : List Parts) → marks ≡ c.marks → rs ≡ take k ms → (e : LinkRefusal)
+      → StopsWork (links (tree_links (tree_of marks) rs)) e → StopsWork (linked_module c ms) e
   first-stop marks rs is_marks is_roots e refused =
       first-refused c ms valid k numbered e
-      (subst (λ (l : List Parts). StopsWork (links (tree_links (tree_of c.marks) l)) e) is_roots (subst (λ (l : List Mark). StopsWork (links (tree_links (tree_of l) rs)) e) is_marks refused))
+      (subst (λ (l : List Parts). StopsWork (links (tree_links (tree_of c.marks) l)) e) is_roots
+      (subst (λ (l : List Mark). StopsWork (links (tree_links (tree_of l) rs)) e) is_marks refused))
 
-  module _ (marks : List Mark) (rs others two flat read : List Parts) (is_marks : marks ≡ c.marks) (is_roots : rs ≡ take k ms) (is_members : others ≡ drop k ms) (first : AreRootsLinked marks rs two)
+  module _ (marks : List Mark) (rs others two flat read : List Parts) (is_marks : marks ≡ c.marks) (is_roots : rs ≡ take k ms) (is_members : others
+      ≡ drop k ms) (first : AreRootsLinked marks rs two)
       (has : HasSelected two others flat) (same : read ≡ flat) where
     own-first : AreRootsLinked c.marks (take k ms) two
     own-first = subst (λ (l : List Parts). AreRootsLinked c.marks l two) is_roots (subst (λ (l : List Mark). AreRootsLinked l rs two) is_marks first)
@@ -36,10 +40,12 @@ module _ (c : Command) (tree : HasTree c) (ms : List Parts) (valid : AreValid ms
     own-has : HasSelected two (members (tree_of c.marks) ms) flat
     own-has = subst (λ (n : ℕ). HasSelected two (drop n ms) flat) count (subst (λ (l : List Parts). HasSelected two l flat) is_members has)
 
-    pub all-linked : (result : Result Parts LinkRefusal) → IfOk result (λ M. IsJoined M read (unwrap_or c.name (first_name read))) → IfOk result (λ _. link_answer read ≡ None)
+    pub all-linked : (result : Result Parts LinkRefusal) → IfOk result (λ M. IsJoined M read (unwrap_or c.name (first_name read)))
+        → IfOk result (λ _. link_answer read ≡ None)
         → IfOk result (λ M. linked_module c ms (gives M))
     all-linked (Ok M) j none =
-        flat-linked c ms valid k numbered two flat own-first own-has M (ap link_answer (sym same) ∙ none) (subst (λ (l : List Parts). IsJoined M l (unwrap_or c.name (first_name l))) same j)
+        flat-linked c ms valid k numbered two flat own-first own-has M (ap link_answer (sym same)
+        ∙ none) (subst (λ (l : List Parts). IsJoined M l (unwrap_or c.name (first_name l))) same j)
     all-linked (Err e) j none = tt
 
     pub all-refused : (result : Result Parts LinkRefusal) → IfErr result (λ e. IsRefusalOf read e) → IfErr result (λ e. StopsWork (linked_module c ms) e)
@@ -47,7 +53,8 @@ module _ (c : Command) (tree : HasTree c) (ms : List Parts) (valid : AreValid ms
     all-refused (Err e) refused = flat-refused c ms valid k numbered two flat own-first own-has e (subst (λ (l : List Parts). IsRefusalOf l e) same refused)
 
 -- the flat list is no heavier than the modules
-pub flat-light : (ms : List Parts) → total_weight ms ≤ most_weight → (k : ℕ) (marks : List Mark) (rs others two flat read : List Parts) → rs ≡ take k ms → others ≡ drop k ms → AreRootsLinked marks rs two → HasSelected two others flat → read ≡ flat
+pub flat-light : (ms : List Parts) → total_weight ms ≤ most_weight → (k : ℕ) (marks : List Mark) (rs others two flat read : List Parts) → rs
+    ≡ take k ms → others ≡ drop k ms → AreRootsLinked marks rs two → HasSelected two others flat → read ≡ flat
     → total_weight read ≤ most_weight
 flat-light ms light k marks rs others two flat read is_roots is_members first has same =
     let split = weight-split k ms in

@@ -1,5 +1,6 @@
 -- The marks of a tree one after another: which elements stand so far, where the open groups begin, and which groups are still to close.
-use Rattle.std.proofs.Common.{◌≡◌, ℕ, ◌+◌, ◌-◌, ◌≤◌, ◌<◌, List, [], ◌∷◌, ◌++◌, flat_map, length, take, drop, get_or, refl, sym, ◌∙◌, ap, append-nil, append_assoc, arith}
+use Rattle.std.proofs.Common.{◌≡◌, ℕ, ◌+◌, ◌-◌, ◌≤◌, ◌<◌, List, [], ◌∷◌, ◌++◌, flat_map, length, take, drop, get_or, refl, sym, ◌∙◌, ap, append-nil}
+use Rattle.std.proofs.Common.{append_assoc, arith}
 use Rattle.std.proofs.lemmas.Grind.{flat_map-append}
 use Rattle.std.proofs.lemmas.List.{drop_more, length-append}
 use Rattle.mufom_words.specs.declared.command.Mark.{Mark}
@@ -90,14 +91,18 @@ closed-group parts more begun =
     ap (λ (k : ℕ). take k (parts ++ more) ++ together (drop k (parts ++ more))) (last-of-more begun (length parts))
     ∙ (λ i. take-before parts more i ++ together (drop-before parts more i))
 
-group-files : (parts : List (List ℕ)) (inner : Forest) (begun : List ℕ) → files_in (drop (last_of (begun ++ length parts ∷ [])) (parts ++ elements inner)) ≡ leaves inner
+group-files : (parts : List (List ℕ)) (inner : Forest) (begun : List ℕ)
+    → files_in (drop (last_of (begun ++ length parts ∷ [])) (parts ++ elements inner)) ≡ leaves inner
 group-files parts inner begun =
-    ap (λ (k : ℕ). files_in (drop k (parts ++ elements inner))) (last-of-more begun (length parts)) ∙ ap files_in (drop-before parts (elements inner)) ∙ files-of-elements inner
+    ap (λ (k : ℕ). files_in (drop k (parts ++ elements inner))) (last-of-more begun (length parts)) ∙ ap files_in (drop-before parts (elements inner))
+    ∙ files-of-elements inner
 
-elements-of-tree : (tree : Forest) (marks : List Mark) (parts : List (List ℕ)) (begun : List ℕ) → elements_after (spelling tree ++ marks) parts begun ≡ elements_after marks (parts ++ elements tree) begun
+elements-of-tree : (tree : Forest) (marks : List Mark) (parts : List (List ℕ)) (begun : List ℕ) → elements_after (spelling tree ++ marks) parts begun
+    ≡ elements_after marks (parts ++ elements tree) begun
 elements-of-tree empty marks parts begun = ap (λ (p : List (List ℕ)). elements_after marks p begun) (sym (append-nil parts))
 elements-of-tree (file n more) marks parts begun =
-    elements-of-tree more marks (parts ++ (n ∷ []) ∷ []) begun ∙ ap (λ (p : List (List ℕ)). elements_after marks p begun) (append_assoc parts ((n ∷ []) ∷ []) (elements more))
+    elements-of-tree more marks (parts ++ (n ∷ []) ∷ []) begun
+    ∙ ap (λ (p : List (List ℕ)). elements_after marks p begun) (append_assoc parts ((n ∷ []) ∷ []) (elements more))
 elements-of-tree (group inner more) marks parts begun =
     let rest : List Mark = spelling more ++ marks in
     let start : List ℕ = begun ++ length parts ∷ [] in
@@ -107,19 +112,23 @@ elements-of-tree (group inner more) marks parts begun =
     ∙ elements-of-tree more marks (parts ++ together (elements inner)) begun
     ∙ ap (λ (p : List (List ℕ)). elements_after marks p begun) (append_assoc parts (together (elements inner)) (elements more))
 
-groups-of-tree : (tree : Forest) (marks : List Mark) (parts : List (List ℕ)) (begun : List ℕ) → groups_closed (spelling tree ++ marks) parts begun ≡ groups tree ++ groups_closed marks (parts ++ elements tree) begun
+groups-of-tree : (tree : Forest) (marks : List Mark) (parts : List (List ℕ)) (begun : List ℕ) → groups_closed (spelling tree ++ marks) parts begun
+    ≡ groups tree ++ groups_closed marks (parts ++ elements tree) begun
 groups-of-tree empty marks parts begun = ap (λ (p : List (List ℕ)). groups_closed marks p begun) (sym (append-nil parts))
 groups-of-tree (file n more) marks parts begun =
-    groups-of-tree more marks (parts ++ (n ∷ []) ∷ []) begun ∙ ap (λ (p : List (List ℕ)). groups more ++ groups_closed marks p begun) (append_assoc parts ((n ∷ []) ∷ []) (elements more))
+    groups-of-tree more marks (parts ++ (n ∷ []) ∷ []) begun ∙ ap (λ (p : List (List ℕ)). groups more
+    ++ groups_closed marks p begun) (append_assoc parts ((n ∷ []) ∷ []) (elements more))
 groups-of-tree (group inner more) marks parts begun =
     let rest : List Mark = spelling more ++ marks in
     let start : List ℕ = begun ++ length parts ∷ [] in
     let last : List (List ℕ) = groups_closed marks (parts ++ (together (elements inner) ++ elements more)) begun in
     ap (λ (l : List Mark). groups_closed l parts start) (append_assoc (spelling inner) (Close ∷ spelling more) marks)
     ∙ groups-of-tree inner (Close ∷ rest) parts start
-    ∙ (λ i. groups inner ++ group-files parts inner begun i ∷ groups_closed rest (closed-group parts (elements inner) begun i) (outer-of-more begun (length parts) i))
+    ∙ (λ i. groups inner ++ group-files parts inner begun i ∷ groups_closed rest (closed-group parts (elements inner) begun i)
+    (outer-of-more begun (length parts) i))
     ∙ ap (λ (l : List (List ℕ)). groups inner ++ leaves inner ∷ l) (groups-of-tree more marks (parts ++ together (elements inner)) begun)
-    ∙ ap (λ (p : List (List ℕ)). groups inner ++ leaves inner ∷ (groups more ++ groups_closed marks p begun)) (append_assoc parts (together (elements inner)) (elements more))
+    ∙ ap (λ (p : List (List ℕ)). groups inner ++ leaves inner ∷ (groups more ++ groups_closed marks p begun))
+    (append_assoc parts (together (elements inner)) (elements more))
     ∙ sym (append_assoc (groups inner) (leaves inner ∷ groups more) last)
 
 -- after all of its marks the elements of the tree stand, and its groups were closed
@@ -145,7 +154,8 @@ files-fewer (Open ∷ marks) = let more = files-fewer marks in omega (arith, mor
 files-fewer (Close ∷ marks) = let more = files-fewer marks in omega (arith, more)
 
 pub count-here : (marks : List Mark) (i : ℕ) (d : Mark) (count own : ℕ) → i < length marks → own ≡ length (files_of (get_or marks i d ∷ [])) → own ≤ 1
-    → (count + length (files_of (drop i marks)) ≡ length (files_of marks)) × (count ≤ i) → (count + own + length (files_of (drop (i + 1) marks)) ≡ length (files_of marks)) × (count + own ≤ i + 1)
+    → (count + length (files_of (drop i marks)) ≡ length (files_of marks)) × (count ≤ i)
+    → (count + own + length (files_of (drop (i + 1) marks)) ≡ length (files_of marks)) × (count + own ≤ i + 1)
 count-here marks i d count own inside is few so_far =
     let next = ap (λ (l : List Mark). length (files_of l)) (drop_more marks i d inside) in
     let split = ap (λ (l : List ℕ). length l) (files-of-append (get_or marks i d ∷ []) (drop (i + 1) marks)) in

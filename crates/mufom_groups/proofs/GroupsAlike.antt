@@ -41,7 +41,8 @@ part-trans part middle whole inner outer = record {
   before = outer.before ++ inner.before;
   after = inner.after ++ outer.after;
   split = outer.split ∙ (ap (λ (l : List _). outer.before ++ (l ++ outer.after)) inner.split
-      ∙ (ap (λ (l : List _). outer.before ++ l) (append_assoc inner.before (part ++ inner.after) outer.after ∙ ap (λ (l : List _). inner.before ++ l) (append_assoc part inner.after outer.after))
+      ∙ (ap (λ (l : List _). outer.before ++ l) (append_assoc inner.before (part ++ inner.after) outer.after
+      ∙ ap (λ (l : List _). inner.before ++ l) (append_assoc part inner.after outer.after))
       ∙ sym (append_assoc outer.before inner.before (part ++ (inner.after ++ outer.after)))));
 }
 
@@ -52,11 +53,13 @@ members_at-append ms xs ys = flat_map-append (λ n. member_at (slice_get ms n)) 
 -- the modules of two parts are parts of those of both
 prefix_modules : (ms whole : List Parts) (xs ys : List ℕ) → IsPart (members_at ms (xs ++ ys)) whole → IsPart (members_at ms xs) whole
 prefix_modules ms whole xs ys is =
-    part-trans (members_at ms xs) (members_at ms (xs ++ ys)) whole (subst (λ (l : List Parts). IsPart (members_at ms xs) l) (sym (members_at-append ms xs ys)) (part-prefix (members_at ms xs) (members_at ms ys))) is
+    part-trans (members_at ms xs) (members_at ms (xs ++ ys)) whole
+    (subst (λ (l : List Parts). IsPart (members_at ms xs) l) (sym (members_at-append ms xs ys)) (part-prefix (members_at ms xs) (members_at ms ys))) is
 
 suffix_modules : (ms whole : List Parts) (xs ys : List ℕ) → IsPart (members_at ms (xs ++ ys)) whole → IsPart (members_at ms ys) whole
 suffix_modules ms whole xs ys is =
-    part-trans (members_at ms ys) (members_at ms (xs ++ ys)) whole (subst (λ (l : List Parts). IsPart (members_at ms ys) l) (sym (members_at-append ms xs ys)) (part-suffix (members_at ms xs) (members_at ms ys))) is
+    part-trans (members_at ms ys) (members_at ms (xs ++ ys)) whole
+    (subst (λ (l : List Parts). IsPart (members_at ms ys) l) (sym (members_at-append ms xs ys)) (part-suffix (members_at ms xs) (members_at ms ys))) is
 
 -- ---- the facts of parts
 
@@ -97,7 +100,8 @@ module _ (facts : AllAnswersAreFacts) (grow : LinkFactsGrow) where
         let inner_part : IsPart own whole = prefix_modules ms whole (leaves inner) (leaves rest) is in
         let rest_part : IsPart (members_at ms (leaves rest)) whole = suffix_modules ms whole (leaves inner) (leaves rest) is in
         let split : map (members_at ms) (groups inner ++ leaves inner ∷ groups rest) ++ more ≡ map (members_at ms) (groups inner) ++ own ∷ following
-        = ap (λ (l : List (List Parts)). l ++ more) (map-append (members_at ms) (groups inner) (leaves inner ∷ groups rest)) ∙ append_assoc (map (members_at ms) (groups inner)) (own ∷ map (members_at ms) (groups rest)) more in
+        = ap (λ (l : List (List Parts)). l ++ more) (map-append (members_at ms) (groups inner) (leaves inner ∷ groups rest))
+        ∙ append_assoc (map (members_at ms) (groups inner)) (own ∷ map (members_at ms) (groups rest)) more in
         ap (λ (l : List (List Parts)). first_some link_answer l) split ∙ (none_of_groups inner (own ∷ following) inner_part
         ∙ (first-none own following (none_of_part own whole inner_part none) ∙ none_of_groups rest more rest_part))
 
@@ -107,7 +111,8 @@ module _ (facts : AllAnswersAreFacts) (grow : LinkFactsGrow) where
 
   none_of_roots : (tree : Forest) (ms flat : List Parts) → IsFlatList tree ms flat → link_answer flat ≡ None → link_answer (roots tree ms) ≡ None
   none_of_roots tree ms flat (chosen, is_chosen, is_flat) none =
-      none_of_part (roots tree ms) flat (subst (λ (l : List Parts). IsPart (roots tree ms) l) (sym is_flat) (part-prefix (roots tree ms) (members_at (members tree ms) chosen))) none
+      none_of_part (roots tree ms) flat (subst (λ (l : List Parts). IsPart (roots tree ms) l) (sym is_flat)
+      (part-prefix (roots tree ms) (members_at (members tree ms) chosen))) none
 
   -- ---- links
 
@@ -132,12 +137,17 @@ module _ (facts : AllAnswersAreFacts) (grow : LinkFactsGrow) where
   pub linked-flat : LinkedIsFlat
   linked-flat tree ms flat = (there, back) where
     there : linked tree ms (gives flat) → IsFlatList tree ms flat × (link_answer flat ≡ None)
-    there (u, first, (other, is_flat, (v, second, same))) =
-        (subst (λ (l : List Parts). IsFlatList tree ms l) (sym same) is_flat, subst (λ (l : List Parts). link_answer l ≡ None) (sym same) (last-none [] other (links-none (other ∷ []) v second)))
+    there (u, first, (other, is_flat, (v, second, same))) = (
+      subst (λ (l : List Parts). IsFlatList tree ms l) (sym same) is_flat,
+      subst (λ (l : List Parts). link_answer l ≡ None) (sym same) (last-none [] other (links-none (other ∷ []) v second)),
+    )
 
     back : IsFlatList tree ms flat × (link_answer flat ≡ None) → linked tree ms (gives flat)
-    back (is_flat, none) =
-        (tt, links-give (tree_links tree ms) (none_of_links tree ms (none_of_roots tree ms flat is_flat none)), (flat, is_flat, (tt, links-give (flat ∷ []) (first-none flat [] none), refl)))
+    back (is_flat, none) = (
+      tt,
+      links-give (tree_links tree ms) (none_of_links tree ms (none_of_roots tree ms flat is_flat none)),
+      (flat, is_flat, (tt, links-give (flat ∷ []) (first-none flat [] none), refl)),
+    )
 
   -- ---- the fact that ends the links
 
@@ -147,40 +157,48 @@ module _ (facts : AllAnswersAreFacts) (grow : LinkFactsGrow) where
       subst (λ (l : List Parts). LinkFactStands l f) (sym is.split) (grow is.before part is.after f ((facts part no_regions).link_sound f same))
 
   -- the first answer is that for the first list, or that for the others
-  first_of : (list : List Parts) (more : List (List Parts)) (f : LinkFact) → first_some link_answer (list ∷ more) ≡ Some f → (link_answer list ≡ Some f) ⊎ (first_some link_answer more ≡ Some f)
+  first_of : (list : List Parts) (more : List (List Parts)) (f : LinkFact) → first_some link_answer (list ∷ more) ≡ Some f
+      → (link_answer list ≡ Some f) ⊎ (first_some link_answer more ≡ Some f)
   first_of list more f found = answer (link_answer list) found where
     answer : (o : Option LinkFact) → o or_else first_some link_answer more ≡ Some f → (o ≡ Some f) ⊎ (first_some link_answer more ≡ Some f)
     answer None same = inr same
     answer (Some g) same = inl same
 
   module _ (ms whole : List Parts) (f : LinkFact) where
-    groups_fact : (tree : Forest) (more : List (List Parts)) → IsPart (members_at ms (leaves tree)) whole → first_some link_answer (map (members_at ms) (groups tree) ++ more) ≡ Some f
+    groups_fact : (tree : Forest) (more : List (List Parts)) → IsPart (members_at ms (leaves tree)) whole
+        → first_some link_answer (map (members_at ms) (groups tree) ++ more) ≡ Some f
         → LinkFactStands whole f ⊎ (first_some link_answer more ≡ Some f)
     groups_fact empty more is found = inr found
     groups_fact (file n rest) more is found = groups_fact rest more (suffix_modules ms whole (n ∷ []) (leaves rest) is) found
-    groups_fact (group inner rest) more is found = outer (groups_fact inner (own ∷ following) inner_part (sym (ap (λ (l : List (List Parts)). first_some link_answer l) split) ∙ found)) (groups_fact rest more rest_part) where
-      own : List Parts
-      own = members_at ms (leaves inner)
+    groups_fact (group inner rest) more is found = outer (groups_fact inner (own ∷ following) inner_part
+        (sym (ap (λ (l : List (List Parts)). first_some link_answer l) split) ∙ found)) (groups_fact rest more rest_part) where
+          own : List Parts
+          own = members_at ms (leaves inner)
 
-      following : List (List Parts)
-      following = map (members_at ms) (groups rest) ++ more
+          following : List (List Parts)
+          following = map (members_at ms) (groups rest) ++ more
 
-      inner_part : IsPart own whole
-      inner_part = prefix_modules ms whole (leaves inner) (leaves rest) is
+          inner_part : IsPart own whole
+          inner_part = prefix_modules ms whole (leaves inner) (leaves rest) is
 
-      rest_part : IsPart (members_at ms (leaves rest)) whole
-      rest_part = suffix_modules ms whole (leaves inner) (leaves rest) is
+          rest_part : IsPart (members_at ms (leaves rest)) whole
+          rest_part = suffix_modules ms whole (leaves inner) (leaves rest) is
 
-      split : map (members_at ms) (groups inner ++ leaves inner ∷ groups rest) ++ more ≡ map (members_at ms) (groups inner) ++ own ∷ following
-      split = ap (λ (l : List (List Parts)). l ++ more) (map-append (members_at ms) (groups inner) (leaves inner ∷ groups rest)) ∙ append_assoc (map (members_at ms) (groups inner)) (own ∷ map (members_at ms) (groups rest)) more
+          split : map (members_at ms) (groups inner ++ leaves inner ∷ groups rest) ++ more ≡ map (members_at ms) (groups inner) ++ own ∷ following
+          split = ap (λ (l : List (List Parts)). l ++ more) (map-append (members_at ms) (groups inner) (leaves inner ∷ groups rest))
+              ∙ append_assoc (map (members_at ms) (groups inner)) (own ∷ map (members_at ms) (groups rest)) more
 
-      middle : (link_answer own ≡ Some f) ⊎ (first_some link_answer following ≡ Some f) → (first_some link_answer following ≡ Some f → LinkFactStands whole f ⊎ (first_some link_answer more ≡ Some f)) → LinkFactStands whole f ⊎ (first_some link_answer more ≡ Some f)
-      middle (inl same) next = inl (part_fact own whole f inner_part same)
-      middle (inr later) next = next later
+          middle : (link_answer own ≡ Some f) ⊎ (first_some link_answer following ≡ Some f)
+              → (first_some link_answer following ≡ Some f → LinkFactStands whole f ⊎ (first_some link_answer more ≡ Some f)) → LinkFactStands whole f
+              ⊎ (first_some link_answer more ≡ Some f)
+          middle (inl same) next = inl (part_fact own whole f inner_part same)
+          middle (inr later) next = next later
 
-      outer : LinkFactStands whole f ⊎ (first_some link_answer (own ∷ following) ≡ Some f) → (first_some link_answer following ≡ Some f → LinkFactStands whole f ⊎ (first_some link_answer more ≡ Some f)) → LinkFactStands whole f ⊎ (first_some link_answer more ≡ Some f)
-      outer (inl stands) next = inl stands
-      outer (inr later) next = middle (first_of own following f later) next
+          outer : LinkFactStands whole f ⊎ (first_some link_answer (own ∷ following) ≡ Some f)
+              → (first_some link_answer following ≡ Some f → LinkFactStands whole f ⊎ (first_some link_answer more ≡ Some f)) → LinkFactStands whole f
+              ⊎ (first_some link_answer more ≡ Some f)
+          outer (inl stands) next = inl stands
+          outer (inr later) next = middle (first_of own following f later) next
 
   -- the fact of one list is the answer for it
   only_of : (list : List Parts) (f : LinkFact) → first_some link_answer (list ∷ []) ≡ Some f → link_answer list ≡ Some f
@@ -214,7 +232,8 @@ module _ (facts : AllAnswersAreFacts) (grow : LinkFactsGrow) where
 
   module _ (tree other : Forest) (same : leaves tree ≡ leaves other) (ms : List Parts) where
     flat_there : (flat : List Parts) → IsFlatList tree ms flat → IsFlatList other ms flat
-    flat_there flat is = subst (λ (l : List ℕ). (chosen : List ℕ) × IsSelected (members_at ms l) (drop (length l) ms) chosen × (flat ≡ members_at ms l ++ members_at (drop (length l) ms) chosen)) same is
+    flat_there flat is = subst (λ (l : List ℕ). (chosen : List ℕ) × IsSelected (members_at ms l) (drop (length l) ms) chosen
+        × (flat ≡ members_at ms l ++ members_at (drop (length l) ms) chosen)) same is
 
     values_there : (flat : List Parts) → linked tree ms (gives flat) → linked other ms (gives flat)
     values_there flat is = let (is_flat, none) = (linked-flat tree ms flat).0 is in (linked-flat other ms flat).1 (flat_there flat is_flat, none)
@@ -229,7 +248,8 @@ module _ (facts : AllAnswersAreFacts) (grow : LinkFactsGrow) where
           let found = links-fact (tree_links tree ms) f first in
           let no : first_some link_answer (tree_links tree ms) ≡ None = none_of_links tree ms none_tree in absurd cc
       later none (inr (u, first, inl nothing)) = absurd nothing
-      later none (inr (u, first, inr (flat, is_flat, inl second))) = (f, inr (tt, links-give (tree_links other ms) none, inr (flat, flat_there flat is_flat, inl second)))
+      later none (inr (u, first, inr (flat, is_flat, inl second))) =
+          (f, inr (tt, links-give (tree_links other ms) none, inr (flat, flat_there flat is_flat, inl second)))
       later none (inr (u, first, inr (flat, is_flat, inr (v, second, nothing)))) = absurd nothing
 
       answer : (o : Option LinkFact) → first_some link_answer (tree_links other ms) ≡ o → StopsAtFact (linked other ms)
@@ -246,7 +266,8 @@ module _ (facts : AllAnswersAreFacts) (grow : LinkFactsGrow) where
     flat_alike : EndAlike (linked (tree_of c.marks) ms) (linked (tree_of d.marks) ms)
     flat_alike = linked-alike (tree_of c.marks) (tree_of d.marks) alike.roots ms
 
-    joined_there : (c d : Command) → AreAlike c d → EndAlike (linked (tree_of c.marks) ms) (linked (tree_of d.marks) ms) → (M : Parts) → linked_module c ms (gives M) → linked_module d ms (gives M)
+    joined_there : (c d : Command) → AreAlike c d → EndAlike (linked (tree_of c.marks) ms) (linked (tree_of d.marks) ms) → (M : Parts)
+        → linked_module c ms (gives M) → linked_module d ms (gives M)
     joined_there c d alike flats M (flat, is, j) = (flat, (flats.values flat).0 is, subst (λ (name : Option (List ℕ)). joined name flat (gives M)) alike.name j)
 
     joined_back : (M : Parts) → linked_module d ms (gives M) → linked_module c ms (gives M)

@@ -1,5 +1,6 @@
 -- One link of the modules from a position on.
-use Rattle.std.proofs.Common.{◌≡◌, ℕ, zero, suc, ◌+◌, ◌≤◌, ◌<◌, ◌^◌, List, [], ◌∷◌, ◌++◌, length, take, drop, None, Result, Ok, Err, OnOk, refl, sym, ◌∙◌, ap, subst, arith}
+use Rattle.std.proofs.Common.{◌≡◌, ℕ, zero, suc, ◌+◌, ◌≤◌, ◌<◌, ◌^◌, List, [], ◌∷◌, ◌++◌, length, take, drop, None, Result, Ok, Err, OnOk, refl, sym}
+use Rattle.std.proofs.Common.{◌∙◌, ap, subst, arith}
 use Rattle.mufom_module.specs.declared.module.Parts.{Parts}
 use Rattle.mufom_module.specs.Written.{weight}
 use Rattle.mufom_link.specs.Conditions.{MayBeLinked}
@@ -23,7 +24,8 @@ first-length : (ms : List Parts) → first_name_length ms ≡ length (first_name
 first-length [] = refl
 first-length (m ∷ ms) = refl
 
-module _ (linked group : List Parts) (start : ℕ) (is_group : group ≡ drop start linked) (inside : start < length linked) (name : List ℕ) (named : name ≡ first_name group) where
+module _ (linked group : List Parts) (start : ℕ) (is_group : group ≡ drop start linked) (inside : start < length linked) (name : List ℕ) (named : name
+    ≡ first_name group) where
   group-some : 0 < length group
   group-some = subst (λ (l : List Parts). 0 < length l) (sym is_group) (some-from start linked inside)
 
@@ -34,7 +36,8 @@ module _ (linked group : List Parts) (start : ℕ) (is_group : group ≡ drop st
     light = let split = weight-split start linked in let same = ap total_weight is_group in omega (arith, light, split, same, short);
   }
 
-  pub is-linked-from : (M : Parts) (new before : List Parts) → IsJoined M group name → link_answer group ≡ None → weight M + first_name_length group ≤ total_weight group + length name
+  pub is-linked-from : (M : Parts) (new before : List Parts) → IsJoined M group name → link_answer group ≡ None
+      → weight M + first_name_length group ≤ total_weight group + length name
       → before ≡ take start linked → new ≡ before ++ M ∷ [] → IsLinkedFrom start linked new
   is-linked-from M new before j none weighs is_before is_new = record {
     link = M;

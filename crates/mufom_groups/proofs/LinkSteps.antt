@@ -1,5 +1,6 @@
 -- One mark more while the groups of a tree are linked.
-use Rattle.std.proofs.Common.{◌≡◌, ◌⊎◌, ℕ, zero, suc, ◌+◌, ◌≤◌, ◌<◌, ◌^◌, List, [], ◌∷◌, ◌++◌, length, map, take, drop, get_or, Option, Some, None, inl, inr, refl, sym, ◌∙◌, ap, subst, append-nil, append_assoc, arith}
+use Rattle.std.proofs.Common.{◌≡◌, ◌⊎◌, ℕ, zero, suc, ◌+◌, ◌≤◌, ◌<◌, ◌^◌, List, [], ◌∷◌, ◌++◌, length, map, take, drop, get_or, Option, Some, None}
+use Rattle.std.proofs.Common.{inl, inr, refl, sym, ◌∙◌, ap, subst, append-nil, append_assoc, arith}
 use Rattle.std.specs.Prelude.{slice_get}
 use Rattle.std.proofs.lemmas.List.{drop_more, map-append}
 use Rattle.std.proofs.lemmas.Bool.{cases_order}
@@ -20,11 +21,14 @@ use Rattle.mufom_words.specs.declared.command.Mark.TheVariants.{Open, Close, Fil
 use Rattle.mufom_words.specs.Sound.{numbers_from}
 use Rattle.mufom_words.specs.Tree.{Forest, groups, leaves, spelling}
 use Rattle.mufom_groups.specs.Work.{stops}
-use Rattle.mufom_groups.specs.Groups.{AreInPlaceOf, HasRoot, IsClosed, IsInPlaceOf, IsLinkedFrom, IsRefusedMark, IsTaken, StopsWork, elements, files_of, last_of, most_weight, together}
+use Rattle.mufom_groups.specs.Groups.{AreInPlaceOf, HasRoot, IsClosed, IsInPlaceOf, IsLinkedFrom, IsRefusedMark, IsTaken, StopsWork, elements}
+use Rattle.mufom_groups.specs.Groups.{files_of, last_of, most_weight, together}
 use Rattle.mufom_groups.specs.Linked.{first_name, links}
 use Rattle.mufom_groups.specs.Refusals.{link_refusal}
 use Rattle.mufom_groups.proofs.GroupWalk.{all-elements, all-files, all-groups, closed, elements_after, files_in, groups_closed, outer}
-use Rattle.mufom_groups.proofs.LinkWalk.{IsFactOf, all-at, drop-all, first-after, first-found, first-none, links-stop, stops-by, placed-append, placed-drop, placed-length, placed-take, refusal-fact, take-whole, valid-drop, valid-members, weight-append, weight-split}
+use Rattle.mufom_groups.proofs.LinkWalk.{IsFactOf, all-at, drop-all, first-after, first-found, first-none, links-stop, stops-by, placed-append}
+use Rattle.mufom_groups.proofs.LinkWalk.{placed-drop, placed-length, placed-take, refusal-fact, take-whole, valid-drop, valid-members, weight-append}
+use Rattle.mufom_groups.proofs.LinkWalk.{weight-split}
 use Rattle.mufom_groups.proofs.ShortNames.{short-name}
 use Rattle.mufom_groups.proofs.Stages.{all_of, in-place-itself, in-place-valid, link-in-place, same-answer}
 
@@ -42,7 +46,8 @@ pub record IsLinking (ms : List Parts) (tree : Forest) (marks : List Mark) (link
   pub light : total_weight linked + total_weight rest ≤ total_weight ms
 
 -- the marks begin
-pub linking-begins : (ms : List Parts) (tree : Forest) (marks : List Mark) → spelling tree ≡ marks → leaves tree ≡ numbers_from 0 (length ms) → IsLinking ms tree marks [] [] ms
+pub linking-begins : (ms : List Parts) (tree : Forest) (marks : List Mark) → spelling tree ≡ marks → leaves tree ≡ numbers_from 0 (length ms)
+    → IsLinking ms tree marks [] [] ms
 linking-begins ms tree marks spelled numbered = record {
   parts = [];
   done = [];
@@ -69,12 +74,14 @@ drop-get (suc n) [] x more same = absurd cc
 drop-get (suc n) (y ∷ xs) x more same = drop-get n xs x more same
 
 -- there is a root where a file comes
-pub file-left : (ms : List Parts) (tree : Forest) (n : ℕ) (marks : List Mark) (linked : List Parts) (begun : List ℕ) (rest : List Parts) → IsLinking ms tree (File n ∷ marks) linked begun rest → 0 < length rest
+pub file-left : (ms : List Parts) (tree : Forest) (n : ℕ) (marks : List Mark) (linked : List Parts) (begun : List ℕ) (rest : List Parts)
+    → IsLinking ms tree (File n ∷ marks) linked begun rest → 0 < length rest
 file-left ms tree n marks linked begun [] is = let files = is.files in absurd cc
 file-left ms tree n marks linked begun (m ∷ rest) is = omega arith
 
 -- a group begins
-pub linking-opens : (ms : List Parts) (tree : Forest) (marks : List Mark) (linked : List Parts) (begun : List ℕ) (rest : List Parts) → IsLinking ms tree (Open ∷ marks) linked begun rest
+pub linking-opens : (ms : List Parts) (tree : Forest) (marks : List Mark) (linked : List Parts) (begun : List ℕ) (rest : List Parts)
+    → IsLinking ms tree (Open ∷ marks) linked begun rest
     → IsLinking ms tree marks linked (begun ++ length linked ∷ []) rest
 linking-opens ms tree marks linked begun rest is =
     let same : length linked ≡ length is.parts = placed-length ms linked is.parts is.placed in
@@ -92,7 +99,8 @@ linking-opens ms tree marks linked begun rest is =
     }
 
 -- a file comes
-module _ (ms : List Parts) (tree : Forest) (n : ℕ) (marks : List Mark) (linked : List Parts) (begun : List ℕ) (m : Parts) (more : List Parts) (valid : AreValid ms)
+module _ (ms : List Parts) (tree : Forest) (n : ℕ) (marks : List Mark) (linked : List Parts) (begun : List ℕ) (m : Parts) (more : List Parts)
+    (valid : AreValid ms)
     (is : IsLinking ms tree (File n ∷ marks) linked begun (m ∷ more)) where
   its-number : n ≡ is.number
   its-number = let files = is.files in cc
@@ -169,7 +177,8 @@ module _ (ms linked : List Parts) (parts : List (List ℕ)) (start : ℕ) (valid
     pub new-placed : 0 < length (drop start parts) → AreInPlaceOf new (map (members_at ms) (take start parts ++ together (drop start parts)))
     new-placed some =
         let one : AreInPlaceOf (is.link ∷ []) (map (members_at ms) (together (drop start parts)))
-        = subst (λ (l : List (List Parts)). AreInPlaceOf (is.link ∷ []) l) (sym (together-at ms (drop start parts) some ∙ ap (λ (l : List Parts). l ∷ []) own-files)) (link-placed, tt) in
+        = subst (λ (l : List (List Parts)). AreInPlaceOf (is.link ∷ []) l)
+        (sym (together-at ms (drop start parts) some ∙ ap (λ (l : List Parts). l ∷ []) own-files)) (link-placed, tt) in
         subst (λ (l : List Parts). AreInPlaceOf l (map (members_at ms) (take start parts ++ together (drop start parts)))) (sym is.new_list)
         (placed-append ms (take start linked) (is.link ∷ []) (take start parts) (together (drop start parts)) (placed-take ms start linked parts placed) one)
 
@@ -180,17 +189,20 @@ some-left (suc k) (x ∷ xs) less = some-left k xs (omega (arith, less))
 
 -- ---- the innermost group closes
 
-module _ (ms : List Parts) (tree : Forest) (marks : List Mark) (linked : List Parts) (begun : List ℕ) (rest : List Parts) (valid : AreValid ms) (light : total_weight ms ≤ most_weight)
+module _ (ms : List Parts) (tree : Forest) (marks : List Mark) (linked : List Parts) (begun : List ℕ) (rest : List Parts) (valid : AreValid ms)
+    (light : total_weight ms ≤ most_weight)
     (is : IsLinking ms tree (Close ∷ marks) linked begun rest) where
   linked-light : total_weight linked ≤ most_weight
   linked-light = let own = is.light in omega (arith, own, light)
 
   -- its files and the groups after it
-  next-groups : map (members_at ms) (groups tree) ≡ map (members_at ms) is.done ++ members_at ms (files_in (drop (last_of begun) is.parts)) ∷ map (members_at ms) (groups_closed marks (closed is.parts begun) (outer begun))
+  next-groups : map (members_at ms) (groups tree) ≡ map (members_at ms) is.done
+      ++ members_at ms (files_in (drop (last_of begun) is.parts)) ∷ map (members_at ms) (groups_closed marks (closed is.parts begun) (outer begun))
   next-groups = ap (map (members_at ms)) is.closing ∙ map-append (members_at ms) is.done (groups_closed (Close ∷ marks) is.parts begun)
 
   more-done : groups tree ≡ (is.done ++ files_in (drop (last_of begun) is.parts) ∷ []) ++ groups_closed marks (closed is.parts begun) (outer begun)
-  more-done = is.closing ∙ sym (append_assoc is.done (files_in (drop (last_of begun) is.parts) ∷ []) (groups_closed marks (closed is.parts begun) (outer begun)))
+  more-done = is.closing ∙ sym (append_assoc is.done (files_in (drop (last_of begun) is.parts) ∷ [])
+      (groups_closed marks (closed is.parts begun) (outer begun)))
 
   -- where a link fact stands against it
   pub linking-refused : (e : LinkRefusal) → IsRefusalOf (drop (last_of begun) linked) e → StopsWork (links (map (members_at ms) (groups tree))) e
@@ -201,23 +213,28 @@ module _ (ms : List Parts) (tree : Forest) (marks : List Mark) (linked : List Pa
         let later : List (List Parts) = map (members_at ms) (groups_closed marks (closed is.parts begun) (outer begun)) in
         let own : link_answer (members_at ms files) ≡ Some f = sym (own-answer ms linked is.parts (last_of begun) valid is.placed) ∙ found in
         links-stop (map (members_at ms) (groups tree)) f
-        (ap (first_some link_answer) next-groups ∙ first-after (map (members_at ms) is.done) (members_at ms files ∷ later) is.linkable ∙ first-found (members_at ms files) later f own)
+        (ap (first_some link_answer) next-groups ∙ first-after (map (members_at ms) is.done) (members_at ms files ∷ later) is.linkable
+        ∙ first-found (members_at ms files) later f own)
 
     by : (e ≡ NoMemory) ⊎ IsFactOf (drop (last_of begun) linked) e → StopsWork (links (map (members_at ms) (groups tree))) e
     by (inl none) = subst (λ (x : LinkRefusal). StopsWork (links (map (members_at ms) (groups tree))) x) (sym none) tt
-    by (inr fact) = subst (λ (x : LinkRefusal). StopsWork (links (map (members_at ms) (groups tree))) x) (sym fact.is) (stops-work fact.fact (stop-of fact.fact fact.answer)) where
-      stops-work : (f : LinkFact) → links (map (members_at ms) (groups tree)) (stops f) → StopsWork (links (map (members_at ms) (groups tree))) (link_refusal f)
-      stops-work f ends = stops-by (links (map (members_at ms) (groups tree))) f ends
+    by (inr fact) = subst (λ (x : LinkRefusal). StopsWork (links (map (members_at ms) (groups tree))) x) (sym fact.is)
+        (stops-work fact.fact (stop-of fact.fact fact.answer)) where
+          stops-work : (f : LinkFact) → links (map (members_at ms) (groups tree)) (stops f)
+              → StopsWork (links (map (members_at ms) (groups tree))) (link_refusal f)
+          stops-work f ends = stops-by (links (map (members_at ms) (groups tree))) f ends
 
   -- where none does
-  goes-on : (new : List Parts) → (parts : List (List ℕ)) → parts ≡ closed is.parts begun → AreInPlaceOf new (map (members_at ms) parts) → total_weight new ≤ total_weight linked
+  goes-on : (new : List Parts) → (parts : List (List ℕ)) → parts ≡ closed is.parts begun → AreInPlaceOf new (map (members_at ms) parts)
+      → total_weight new ≤ total_weight linked
       → link_answer (members_at ms (files_in (drop (last_of begun) is.parts))) ≡ None → IsLinking ms tree marks new (outer begun) rest
   goes-on new parts same placed lighter none = record {
     parts = parts;
     done = is.done ++ files_in (drop (last_of begun) is.parts) ∷ [];
     placed = placed;
     standing = ap (λ (p : List (List ℕ)). elements_after marks p (outer begun)) same ∙ is.standing;
-    closing = more-done ∙ ap (λ (p : List (List ℕ)). (is.done ++ files_in (drop (last_of begun) is.parts) ∷ []) ++ groups_closed marks p (outer begun)) (sym same);
+    closing = more-done ∙ ap (λ (p : List (List ℕ)). (is.done ++ files_in (drop (last_of begun) is.parts) ∷ [])
+        ++ groups_closed marks p (outer begun)) (sym same);
     linkable =
         ap (first_some link_answer) (map-append (members_at ms) is.done (files_in (drop (last_of begun) is.parts) ∷ []))
         ∙ first-after (map (members_at ms) is.done) (members_at ms (files_in (drop (last_of begun) is.parts)) ∷ []) is.linkable
@@ -229,32 +246,36 @@ module _ (ms : List Parts) (tree : Forest) (marks : List Mark) (linked : List Pa
   }
 
   pub linking-closes : (new_begun : List ℕ) (new : List Parts) → IsClosed begun linked new_begun new → IsLinking ms tree marks new new_begun rest
-  linking-closes new_begun new is_closed = subst (λ (b : List ℕ). IsLinking ms tree marks new b rest) (sym is_closed.outer) (by (cases_order (last_of begun) (length linked))) where
-    past : length linked ≤ last_of begun → IsLinking ms tree marks new (outer begun) rest
-    past late =
-        let size = placed-length ms linked is.parts is.placed in
-        let same : new ≡ linked = is_closed.empty late in
-        let none : drop (last_of begun) is.parts ≡ [] = drop-all (last_of begun) is.parts (omega (arith, late, size)) in
-        let all : take (last_of begun) is.parts ≡ is.parts = take-whole (last_of begun) is.parts (omega (arith, late, size)) in
-        let stays : is.parts ≡ closed is.parts begun = sym (append-nil is.parts) ∙ (λ i. sym all i ++ together (sym none i)) in
-        goes-on new is.parts stays (subst (λ (l : List Parts). AreInPlaceOf l (map (members_at ms) is.parts)) (sym same) is.placed)
-        (let equal : total_weight new ≡ total_weight linked = ap total_weight same in omega (arith, equal))
-        (ap (λ (parts : List (List ℕ)). link_answer (members_at ms (files_in parts))) none)
+  linking-closes new_begun new is_closed = subst (λ (b : List ℕ). IsLinking ms tree marks new b rest) (sym is_closed.outer)
+      (by (cases_order (last_of begun) (length linked))) where
+        past : length linked ≤ last_of begun → IsLinking ms tree marks new (outer begun) rest
+        past late =
+            let size = placed-length ms linked is.parts is.placed in
+            let same : new ≡ linked = is_closed.empty late in
+            let none : drop (last_of begun) is.parts ≡ [] = drop-all (last_of begun) is.parts (omega (arith, late, size)) in
+            let all : take (last_of begun) is.parts ≡ is.parts = take-whole (last_of begun) is.parts (omega (arith, late, size)) in
+            let stays : is.parts ≡ closed is.parts begun = sym (append-nil is.parts) ∙ (λ i. sym all i ++ together (sym none i)) in
+            goes-on new is.parts stays (subst (λ (l : List Parts). AreInPlaceOf l (map (members_at ms) is.parts)) (sym same) is.placed)
+            (let equal : total_weight new ≡ total_weight linked = ap total_weight same in omega (arith, equal))
+            (ap (λ (parts : List (List ℕ)). link_answer (members_at ms (files_in parts))) none)
 
-    by : (last_of begun ≡ length linked) ⊎ ((last_of begun < length linked) ⊎ (length linked < last_of begun)) → IsLinking ms tree marks new (outer begun) rest
-    by (inl equal) = past (omega (arith, equal))
-    by (inr (inr more)) = past (omega (arith, more))
-    by (inr (inl less)) =
-        let from = is_closed.some less in
-        let size = placed-length ms linked is.parts is.placed in
-        let some = some-left (last_of begun) is.parts (omega (arith, less, size)) in
-        goes-on new (closed is.parts begun) refl (new-placed ms linked is.parts (last_of begun) valid is.placed new linked-light from some) (link-light ms linked is.parts (last_of begun) valid is.placed new linked-light from)
-        (sym (own-answer ms linked is.parts (last_of begun) valid is.placed) ∙ from.linkable)
+        by : (last_of begun ≡ length linked) ⊎ ((last_of begun < length linked) ⊎ (length linked < last_of begun))
+            → IsLinking ms tree marks new (outer begun) rest
+        by (inl equal) = past (omega (arith, equal))
+        by (inr (inr more)) = past (omega (arith, more))
+        by (inr (inl less)) =
+            let from = is_closed.some less in
+            let size = placed-length ms linked is.parts is.placed in
+            let some = some-left (last_of begun) is.parts (omega (arith, less, size)) in
+            goes-on new (closed is.parts begun) refl (new-placed ms linked is.parts (last_of begun) valid is.placed new linked-light from some)
+            (link-light ms linked is.parts (last_of begun) valid is.placed new linked-light from)
+            (sym (own-answer ms linked is.parts (last_of begun) valid is.placed) ∙ from.linkable)
 
 -- ---- the marks end
 
 pub linking-ends : (ms : List Parts) (tree : Forest) (linked : List Parts) (begun : List ℕ) (rest : List Parts) → IsLinking ms tree [] linked begun rest
-    → AreInPlaceOf linked (map (members_at ms) (elements tree)) × (total_weight linked ≤ total_weight ms) × (first_some link_answer (map (members_at ms) (groups tree)) ≡ None)
+    → AreInPlaceOf linked (map (members_at ms) (elements tree)) × (total_weight linked ≤ total_weight ms)
+    × (first_some link_answer (map (members_at ms) (groups tree)) ≡ None)
 linking-ends ms tree linked begun rest is = (
   subst (λ (parts : List (List ℕ)). AreInPlaceOf linked (map (members_at ms) parts)) is.standing is.placed,
   let light = is.light in omega (arith, light),
@@ -263,17 +284,21 @@ linking-ends ms tree linked begun rest is = (
 
 -- ---- any mark
 
-pub next-root : (ms : List Parts) (tree : Forest) (mark : Mark) (marks : List Mark) (linked : List Parts) (begun : List ℕ) (rest : List Parts) → IsLinking ms tree (mark ∷ marks) linked begun rest → HasRoot mark rest
+pub next-root : (ms : List Parts) (tree : Forest) (mark : Mark) (marks : List Mark) (linked : List Parts) (begun : List ℕ) (rest : List Parts)
+    → IsLinking ms tree (mark ∷ marks) linked begun rest → HasRoot mark rest
 next-root ms tree (File n) marks linked begun rest is = file-left ms tree n marks linked begun rest is
 next-root ms tree Open marks linked begun rest is = tt
 next-root ms tree Close marks linked begun rest is = tt
 
-pub linking-light : (ms : List Parts) (tree : Forest) (marks : List Mark) (linked : List Parts) (begun : List ℕ) (rest : List Parts) → total_weight ms ≤ most_weight → IsLinking ms tree marks linked begun rest
+pub linking-light : (ms : List Parts) (tree : Forest) (marks : List Mark) (linked : List Parts) (begun : List ℕ) (rest : List Parts)
+    → total_weight ms ≤ most_weight → IsLinking ms tree marks linked begun rest
     → total_weight linked ≤ most_weight
 linking-light ms tree marks linked begun rest light is = let own = is.light in omega (arith, own, light)
 
-module _ (ms : List Parts) (tree : Forest) (marks : List Mark) (linked : List Parts) (begun : List ℕ) (rest : List Parts) (valid : AreValid ms) (light : total_weight ms ≤ most_weight) where
-  pub linking-takes : (mark : Mark) → IsLinking ms tree (mark ∷ marks) linked begun rest → (new_begun : List ℕ) (new left : List Parts) → IsTaken mark begun linked rest new_begun new left
+module _ (ms : List Parts) (tree : Forest) (marks : List Mark) (linked : List Parts) (begun : List ℕ) (rest : List Parts) (valid : AreValid ms)
+    (light : total_weight ms ≤ most_weight) where
+  pub linking-takes : (mark : Mark) → IsLinking ms tree (mark ∷ marks) linked begun rest → (new_begun : List ℕ) (new left : List Parts)
+      → IsTaken mark begun linked rest new_begun new left
       → IsLinking ms tree marks new new_begun left
   linking-takes Open is new_begun new left (b, l, r) =
       subst (λ (x : List ℕ). IsLinking ms tree marks new x left) (sym b)
@@ -284,16 +309,19 @@ module _ (ms : List Parts) (tree : Forest) (marks : List Mark) (linked : List Pa
       (subst (λ (x : List Parts). IsLinking ms tree marks x begun left) (sym l)
       (linking-file ms tree n marks linked begun m left valid (subst (λ (x : List Parts). IsLinking ms tree (File n ∷ marks) linked begun x) r is)))
   linking-takes Close is new_begun new left (closes, r) =
-      subst (λ (x : List Parts). IsLinking ms tree marks new new_begun x) (sym r) (linking-closes ms tree marks linked begun rest valid light is new_begun new closes)
+      subst (λ (x : List Parts). IsLinking ms tree marks new new_begun x) (sym r)
+      (linking-closes ms tree marks linked begun rest valid light is new_begun new closes)
 
-  pub mark-refused : (mark : Mark) → IsLinking ms tree (mark ∷ marks) linked begun rest → (e : LinkRefusal) → IsRefusedMark mark begun linked e → StopsWork (links (map (members_at ms) (groups tree))) e
+  pub mark-refused : (mark : Mark) → IsLinking ms tree (mark ∷ marks) linked begun rest → (e : LinkRefusal) → IsRefusedMark mark begun linked e
+      → StopsWork (links (map (members_at ms) (groups tree))) e
   mark-refused Open is e none = subst (λ (x : LinkRefusal). StopsWork (links (map (members_at ms) (groups tree))) x) (sym none) tt
   mark-refused (File n) is e none = subst (λ (x : LinkRefusal). StopsWork (links (map (members_at ms) (groups tree))) x) (sym none) tt
   mark-refused Close is e refused = linking-refused ms tree marks linked begun rest valid light is e refused
 
 -- ---- the mark at a position
 
-module _ (ms : List Parts) (tree : Forest) (marks : List Mark) (i : ℕ) (d : Mark) (linked : List Parts) (begun : List ℕ) (rest : List Parts) (inside : i < length marks)
+module _ (ms : List Parts) (tree : Forest) (marks : List Mark) (i : ℕ) (d : Mark) (linked : List Parts) (begun : List ℕ) (rest : List Parts)
+    (inside : i < length marks)
     (is : IsLinking ms tree (drop i marks) linked begun rest) where
   this-mark : IsLinking ms tree (get_or marks i d ∷ drop (i + 1) marks) linked begun rest
   this-mark = subst (λ (l : List Mark). IsLinking ms tree l linked begun rest) (drop_more marks i d inside) is
@@ -302,8 +330,10 @@ module _ (ms : List Parts) (tree : Forest) (marks : List Mark) (i : ℕ) (d : Ma
   root-here = next-root ms tree (get_or marks i d) (drop (i + 1) marks) linked begun rest this-mark
 
   module _ (valid : AreValid ms) (light : total_weight ms ≤ most_weight) where
-    pub taken-here : (new_begun : List ℕ) (new left : List Parts) → IsTaken (get_or marks i d) begun linked rest new_begun new left → IsLinking ms tree (drop (i + 1) marks) new new_begun left
-    taken-here new_begun new left takes = linking-takes ms tree (drop (i + 1) marks) linked begun rest valid light (get_or marks i d) this-mark new_begun new left takes
+    pub taken-here : (new_begun : List ℕ) (new left : List Parts) → IsTaken (get_or marks i d) begun linked rest new_begun new left
+        → IsLinking ms tree (drop (i + 1) marks) new new_begun left
+    taken-here new_begun new left takes = linking-takes ms tree (drop (i + 1) marks) linked begun rest valid light (get_or marks i d) this-mark
+        new_begun new left takes
 
     pub refused-here : (e : LinkRefusal) → IsRefusedMark (get_or marks i d) begun linked e → StopsWork (links (map (members_at ms) (groups tree))) e
     refused-here e refused = mark-refused ms tree (drop (i + 1) marks) linked begun rest valid light (get_or marks i d) this-mark e refused

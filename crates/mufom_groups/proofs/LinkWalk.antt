@@ -1,5 +1,6 @@
 -- Linking the groups of a tree as its marks go by: what stands for which files so far.
-use Rattle.std.proofs.Common.{◌≡◌, ◌⊎◌, ℕ, zero, suc, ◌+◌, ◌≤◌, List, [], ◌∷◌, ◌++◌, length, map, take, drop, Option, Some, None, inl, inr, refl, sym, ◌∙◌, ap, subst, arith}
+use Rattle.std.proofs.Common.{◌≡◌, ◌⊎◌, ℕ, zero, suc, ◌+◌, ◌≤◌, List, [], ◌∷◌, ◌++◌, length, map, take, drop, Option, Some, None, inl, inr, refl, sym}
+use Rattle.std.proofs.Common.{◌∙◌, ap, subst, arith}
 use Rattle.std.specs.Prelude.{slice_get}
 use Rattle.std.proofs.lemmas.Grind.{flat_map-append}
 use Rattle.std.proofs.lemmas.List.{map-append, take-append-drop}
@@ -60,27 +61,32 @@ weight-split n xs = sym (weight-append (take n xs) (drop n xs)) ∙ ap total_wei
 -- the modules of all elements are those of their files
 pub all-at : (ms : List Parts) (parts : List (List ℕ)) → all_of (map (members_at ms) parts) ≡ members_at ms (files_in parts)
 all-at ms [] = refl
-all-at ms (part ∷ parts) = ap (λ (l : List Parts). members_at ms part ++ l) (all-at ms parts) ∙ sym (flat_map-append (λ n. member_at (slice_get ms n)) part (files_in parts))
+all-at ms (part ∷ parts) = ap (λ (l : List Parts). members_at ms part ++ l) (all-at ms parts)
+    ∙ sym (flat_map-append (λ n. member_at (slice_get ms n)) part (files_in parts))
 
 -- the elements from a position on
-pub placed-drop : (ms : List Parts) (k : ℕ) (linked : List Parts) (parts : List (List ℕ)) → AreInPlaceOf linked (map (members_at ms) parts) → AreInPlaceOf (drop k linked) (map (members_at ms) (drop k parts))
+pub placed-drop : (ms : List Parts) (k : ℕ) (linked : List Parts) (parts : List (List ℕ)) → AreInPlaceOf linked (map (members_at ms) parts)
+    → AreInPlaceOf (drop k linked) (map (members_at ms) (drop k parts))
 placed-drop ms zero linked parts are = are
 placed-drop ms (suc k) [] [] are = tt
 placed-drop ms (suc k) (M ∷ linked) (part ∷ parts) are = placed-drop ms k linked parts are.1
 placed-drop ms (suc k) [] (part ∷ parts) are = absurd are
 placed-drop ms (suc k) (M ∷ linked) [] are = absurd are
 
-pub placed-take : (ms : List Parts) (k : ℕ) (linked : List Parts) (parts : List (List ℕ)) → AreInPlaceOf linked (map (members_at ms) parts) → AreInPlaceOf (take k linked) (map (members_at ms) (take k parts))
+pub placed-take : (ms : List Parts) (k : ℕ) (linked : List Parts) (parts : List (List ℕ)) → AreInPlaceOf linked (map (members_at ms) parts)
+    → AreInPlaceOf (take k linked) (map (members_at ms) (take k parts))
 placed-take ms zero linked parts are = tt
 placed-take ms (suc k) [] [] are = tt
 placed-take ms (suc k) (M ∷ linked) (part ∷ parts) are = (are.0, placed-take ms k linked parts are.1)
 placed-take ms (suc k) [] (part ∷ parts) are = absurd are
 placed-take ms (suc k) (M ∷ linked) [] are = absurd are
 
-pub placed-append : (ms linked more : List Parts) (parts others : List (List ℕ)) → AreInPlaceOf linked (map (members_at ms) parts) → AreInPlaceOf more (map (members_at ms) others)
+pub placed-append : (ms linked more : List Parts) (parts others : List (List ℕ)) → AreInPlaceOf linked (map (members_at ms) parts)
+    → AreInPlaceOf more (map (members_at ms) others)
     → AreInPlaceOf (linked ++ more) (map (members_at ms) (parts ++ others))
 placed-append ms linked more parts others are also =
-    subst (λ (l : List (List Parts)). AreInPlaceOf (linked ++ more) l) (sym (map-append (members_at ms) parts others)) (in-place-append linked more (map (members_at ms) parts) (map (members_at ms) others) are also)
+    subst (λ (l : List (List Parts)). AreInPlaceOf (linked ++ more) l) (sym (map-append (members_at ms) parts others))
+    (in-place-append linked more (map (members_at ms) parts) (map (members_at ms) others) are also)
 
 pub placed-length : (ms linked : List Parts) (parts : List (List ℕ)) → AreInPlaceOf linked (map (members_at ms) parts) → length linked ≡ length parts
 placed-length ms [] [] are = refl
@@ -105,7 +111,8 @@ take-whole (suc k) (x ∷ xs) short = ap (λ l. x ∷ l) (take-whole k xs (omega
 pub first-after : (lists more : List (List Parts)) → first_some link_answer lists ≡ None → first_some link_answer (lists ++ more) ≡ first_some link_answer more
 first-after [] more none = refl
 first-after (list ∷ lists) more none = by_case (link_answer list) none (first-after lists more) where
-  by_case : (o : Option LinkFact) → o or_else first_some link_answer lists ≡ None → (first_some link_answer lists ≡ None → first_some link_answer (lists ++ more) ≡ first_some link_answer more)
+  by_case : (o : Option LinkFact) → o or_else first_some link_answer lists ≡ None
+      → (first_some link_answer lists ≡ None → first_some link_answer (lists ++ more) ≡ first_some link_answer more)
       → o or_else first_some link_answer (lists ++ more) ≡ first_some link_answer more
   by_case None none later = later none
   by_case (Some f) none later = absurd cc

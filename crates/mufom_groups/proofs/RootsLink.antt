@@ -25,7 +25,8 @@ use Rattle.mufom_groups.proofs.LinkWalk.{IsFactOf, first-after, first-found, fir
 first-before : (lists more : List (List Parts)) (f : LinkFact) → first_some link_answer lists ≡ Some f → first_some link_answer (lists ++ more) ≡ Some f
 first-before [] more f found = absurd cc
 first-before (list ∷ lists) more f found = by_case (link_answer list) found (first-before lists more f) where
-  by_case : (o : Option LinkFact) → o or_else first_some link_answer lists ≡ Some f → (first_some link_answer lists ≡ Some f → first_some link_answer (lists ++ more) ≡ Some f)
+  by_case : (o : Option LinkFact) → o or_else first_some link_answer lists ≡ Some f
+      → (first_some link_answer lists ≡ Some f → first_some link_answer (lists ++ more) ≡ Some f)
       → o or_else first_some link_answer (lists ++ more) ≡ Some f
   by_case None found later = later found
   by_case (Some g) found later = found
@@ -36,28 +37,33 @@ links-found lists f ends = by_case (first_some link_answer lists) ends where
   by_case None ends = absurd ends
   by_case (Some g) ends = ap (λ (h : LinkFact). Some h) (sym ends)
 
-pub stops-map : {A B : Type 0} (work : Work LinkFact A) (other : Work LinkFact B) → ((f : LinkFact) → work (stops f) → other (stops f)) → (e : LinkRefusal) → StopsWork work e → StopsWork other e
+pub stops-map : {A B : Type 0} (work : Work LinkFact A) (other : Work LinkFact B) → ((f : LinkFact) → work (stops f) → other (stops f))
+    → (e : LinkRefusal) → StopsWork work e → StopsWork other e
 stops-map work other leads NoMemory is = tt
 stops-map work other leads (Mismatch first second) (f, is, ends) = (f, is, leads f ends)
 stops-map work other leads (Duplicate name) (f, is, ends) = (f, is, leads f ends)
 stops-map work other leads DuplicateStart (f, is, ends) = (f, is, leads f ends)
 
-pub refused-stops : {A : Type 0} (work : Work LinkFact A) (ms : List Parts) (e : LinkRefusal) → ((f : LinkFact) → link_answer ms ≡ Some f → work (stops f)) → IsRefusalOf ms e → StopsWork work e
+pub refused-stops : {A : Type 0} (work : Work LinkFact A) (ms : List Parts) (e : LinkRefusal)
+    → ((f : LinkFact) → link_answer ms ≡ Some f → work (stops f)) → IsRefusalOf ms e → StopsWork work e
 refused-stops work ms e leads refused = by (refusal-fact ms e refused) where
   by : (e ≡ NoMemory) ⊎ IsFactOf ms e → StopsWork work e
   by (inl none) = subst (λ (x : LinkRefusal). StopsWork work x) (sym none) tt
   by (inr fact) = subst (λ (x : LinkRefusal). StopsWork work x) (sym fact.is) (stops-by work fact.fact (leads fact.fact fact.answer))
 
 -- a link fact stands against a group
-pub groups-refused : (tree : Forest) (rs : List Parts) (e : LinkRefusal) → StopsWork (links (map (members_at rs) (groups tree))) e → StopsWork (links (tree_links tree rs)) e
+pub groups-refused : (tree : Forest) (rs : List Parts) (e : LinkRefusal) → StopsWork (links (map (members_at rs) (groups tree))) e
+    → StopsWork (links (tree_links tree rs)) e
 groups-refused tree rs e refused = stops-map (links (map (members_at rs) (groups tree))) (links (tree_links tree rs)) leads e refused where
   leads : (f : LinkFact) → links (map (members_at rs) (groups tree)) (stops f) → links (tree_links tree rs) (stops f)
   leads f ends =
-      links-stop (tree_links tree rs) f (first-before (map (members_at rs) (groups tree)) (roots tree rs ∷ []) f (links-found (map (members_at rs) (groups tree)) f ends))
+      links-stop (tree_links tree rs) f (first-before (map (members_at rs) (groups tree)) (roots tree rs ∷ []) f
+      (links-found (map (members_at rs) (groups tree)) f ends))
 
 -- ---- after the groups were linked
 
-module _ (marks : List Mark) (rs linked : List Parts) (valid : AreValid rs) (placed : AreInPlaceOf linked (map (members_at rs) (elements (tree_of marks)))) where
+module _ (marks : List Mark) (rs linked : List Parts) (valid : AreValid rs)
+    (placed : AreInPlaceOf linked (map (members_at rs) (elements (tree_of marks)))) where
   same-roots : members_at rs (files_in (elements (tree_of marks))) ≡ roots (tree_of marks) rs
   same-roots = ap (members_at rs) (files-of-elements (tree_of marks))
 
@@ -81,7 +87,8 @@ module _ (marks : List Mark) (rs linked : List Parts) (valid : AreValid rs) (pla
           links-stop (tree_links (tree_of marks) rs) f
           (first-after (map (members_at rs) (groups (tree_of marks))) (roots (tree_of marks) rs ∷ []) no_fact ∙ first-found (roots (tree_of marks) rs) [] f own)
 
-    pub roots-linked : (new : List Parts) → total_weight linked ≤ total_weight rs → total_weight rs ≤ most_weight → IsLinkedFrom 0 linked new → AreRootsLinked marks rs new
+    pub roots-linked : (new : List Parts) → total_weight linked ≤ total_weight rs → total_weight rs ≤ most_weight → IsLinkedFrom 0 linked new
+        → AreRootsLinked marks rs new
     roots-linked new lighter light is = record {
       link = is.link;
       new_list = is.new_list;

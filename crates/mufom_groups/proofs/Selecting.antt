@@ -1,5 +1,6 @@
 -- The members that are selected, taken one after another.
-use Rattle.std.proofs.Common.{◌≡◌, ℕ, zero, suc, ◌+◌, ◌-◌, ◌≤◌, ◌<◌, List, [], ◌∷◌, ◌++◌, length, take, drop, get_or, Option, Some, None, refl, sym, ◌∙◌, ap, subst, append-nil, append_assoc, arith}
+use Rattle.std.proofs.Common.{◌≡◌, ℕ, zero, suc, ◌+◌, ◌-◌, ◌≤◌, ◌<◌, List, [], ◌∷◌, ◌++◌, length, take, drop, get_or, Option, Some, None, refl, sym}
+use Rattle.std.proofs.Common.{◌∙◌, ap, subst, append-nil, append_assoc, arith}
 use Rattle.std.specs.Prelude.{slice_get}
 use Rattle.std.specs.List.{AllPairs}
 use Rattle.std.specs.List.Sorted.{IsStrictlyIncreasing}
@@ -21,7 +22,8 @@ rise-from : (n : ℕ) (x : ℕ) (xs : List ℕ) → AllPairs (λ a b. a < b) (x 
 rise-from n x [] pairs least = (least, tt)
 rise-from n x (y ∷ xs) pairs least = (
   least,
-  rise-from (x + 1) y xs (λ i j d l m. pairs (suc i) (suc j) d (omega (arith, l)) (omega (arith, m))) (let next : x < y = pairs 0 1 0 (omega arith) (omega arith) in omega (arith, next)),
+  rise-from (x + 1) y xs (λ i j d l m. pairs (suc i) (suc j) d (omega (arith, l)) (omega (arith, m))) (let next : x < y =
+      pairs 0 1 0 (omega arith) (omega arith) in omega (arith, next)),
 )
 
 pub rise-all : (xs : List ℕ) → IsStrictlyIncreasing xs → Rise 0 xs
@@ -44,7 +46,8 @@ lighter-by zero (x ∷ xs) = let sum = weight-append (x ∷ []) xs in omega (ari
 lighter-by (suc k) (x ∷ xs) = let more = lighter-by k xs in let sum = weight-append (x ∷ []) xs in omega (arith, more, sum)
 
 lighter : (k : ℕ) (xs : List Parts) → total_weight (member_at (slice_get xs k)) + total_weight (drop (k + 1) xs) ≤ total_weight xs
-lighter k xs = subst (λ (n : ℕ). total_weight (member_at (slice_get xs k)) + total_weight (drop n xs) ≤ total_weight xs) {x = suc k} {y = k + 1} (omega arith) (lighter-by k xs)
+lighter k xs = subst (λ (n : ℕ). total_weight (member_at (slice_get xs k)) + total_weight (drop n xs) ≤ total_weight xs) {x = suc k} {y =
+    k + 1} (omega arith) (lighter-by k xs)
 
 -- The roots, the members selected so far, and what is left of the members.
 pub record IsAdding (roots members : List Parts) (chosen : List ℕ) (i : ℕ) (flat rest : List Parts) (passed : ℕ) : Type 0 where
@@ -86,13 +89,15 @@ module _ (roots members : List Parts) (chosen : List ℕ) (i : ℕ) (flat rest :
           let own = lighter (x - passed) rest in
           let sum = weight-append flat (member_at found) in
           let same : total_weight new ≡ total_weight (flat ++ member_at found) = ap total_weight is_new in
-          let first : total_weight (member_at found) ≡ total_weight (member_at (slice_get rest (x - passed))) = ap (λ (o : Option Parts). total_weight (member_at o)) item in
+          let first : total_weight (member_at found) ≡ total_weight (member_at (slice_get rest (x - passed))) =
+          ap (λ (o : Option Parts). total_weight (member_at o)) item in
           let last : total_weight left ≡ total_weight (drop (x - passed + 1) rest) = ap total_weight after in
           let light = is.light in
           omega (arith, own, sum, same, first, last, light);
     }
 
-pub adding-ends : (roots members : List Parts) (chosen : List ℕ) (flat rest : List Parts) (passed i : ℕ) → IsAdding roots members chosen i flat rest passed → IsSelected roots members chosen
+pub adding-ends : (roots members : List Parts) (chosen : List ℕ) (flat rest : List Parts) (passed i : ℕ)
+    → IsAdding roots members chosen i flat rest passed → IsSelected roots members chosen
     → take i chosen ≡ chosen → HasSelected roots members flat
 adding-ends roots members chosen flat rest passed i is selected all = record {
   chosen = chosen;

@@ -28,12 +28,15 @@ flat_list-single tree ms flat other (chosen, is_chosen, is_flat) (again, is_agai
 
 pub linked-single : (tree : Forest) (ms : List Parts) → IsSingle (linked tree ms)
 linked-single tree ms =
-    then-single (links (tree_links tree ms)) (λ _. one_with (IsFlatList tree ms) >>= λ flat. links (flat ∷ []) >>= λ _. sure flat) (links-single (tree_links tree ms)) λ _.
-    then-single (one_with (IsFlatList tree ms)) (λ flat. links (flat ∷ []) >>= λ _. sure flat) (one_with-single (IsFlatList tree ms) (flat_list-single tree ms)) λ flat.
+    then-single (links (tree_links tree ms)) (λ _. one_with (IsFlatList tree ms) >>= λ flat. links (flat ∷ []) >>= λ _. sure flat)
+    (links-single (tree_links tree ms)) λ _.
+    then-single (one_with (IsFlatList tree ms)) (λ flat. links (flat ∷ []) >>= λ _. sure flat)
+    (one_with-single (IsFlatList tree ms) (flat_list-single tree ms)) λ flat.
     then-single (links (flat ∷ [])) (λ _. sure flat) (links-single (flat ∷ [])) λ _. sure-single flat
 
 pub joined-single : (name : Option (List ℕ)) (ms : List Parts) → IsSingle (joined name ms)
 joined-single name ms = one_with-single (λ M. IsJoined M ms (unwrap_or name (first_name ms))) (λ M N. joined_is_single M N ms (unwrap_or name (first_name ms)))
 
 pub linked_module-single : (c : Command) (ms : List Parts) → IsSingle (linked_module c ms)
-linked_module-single c ms = then-single (linked (tree_of c.marks) ms) (λ flat. joined c.name flat) (linked-single (tree_of c.marks) ms) (λ flat. joined-single c.name flat)
+linked_module-single c ms = then-single (linked (tree_of c.marks) ms) (λ flat. joined c.name flat) (linked-single (tree_of c.marks) ms)
+    (λ flat. joined-single c.name flat)

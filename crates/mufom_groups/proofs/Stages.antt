@@ -43,7 +43,8 @@ staged-before zs _ _ (unlinked ys) = unlinked (zs ++ ys)
 staged-before zs _ _ (linked ys before group after M name first valid j stays) =
     let so_far : IsStaged (zs ++ (before ++ (group ++ after))) (zs ++ ys) = staged-before zs (before ++ (group ++ after)) ys first in
     subst (λ (l : List Parts). IsStaged l (zs ++ ys)) (append_assoc zs before (M ∷ after))
-    (linked (zs ++ ys) (zs ++ before) group after M name (subst (λ (l : List Parts). IsStaged l (zs ++ ys)) (sym (append_assoc zs before (group ++ after))) so_far) valid j
+    (linked (zs ++ ys) (zs ++ before) group after M name (subst (λ (l : List Parts). IsStaged l (zs ++ ys))
+    (sym (append_assoc zs before (group ++ after))) so_far) valid j
     (name-after zs before M group stays))
 
 staged-beside : (vs ws xs ys : List Parts) → IsStaged vs ws → IsStaged xs ys → IsStaged (vs ++ xs) (ws ++ ys)
@@ -58,11 +59,13 @@ name-stays M (m ∷ ms) header name = name
 one-staged : (M : Parts) (group : List Parts) → IsLinkOrItself M group → M.name ≡ first_name group → IsValid M → IsStaged (M ∷ []) group
 one-staged _ _ (itself m) name valid = unlinked (m ∷ [])
 one-staged _ _ (a_link M group outer j none) name valid =
-    linked group [] group [] M outer (subst (λ (l : List Parts). IsStaged l group) (sym (append-nil group)) (unlinked group)) valid j (name-stays M group j.header name)
+    linked group [] group [] M outer (subst (λ (l : List Parts). IsStaged l group) (sym (append-nil group)) (unlinked group)) valid j
+    (name-stays M group j.header name)
 
 pub all-staged : (Ms : List Parts) (groups : List (List Parts)) → AreInPlaceOf Ms groups → IsStaged Ms (all_of groups)
 all-staged [] [] are = unlinked []
-all-staged (M ∷ Ms) (group ∷ groups) are = staged-beside (M ∷ []) group Ms (all_of groups) (one-staged M group are.0.link are.0.name are.0.valid) (all-staged Ms groups are.1)
+all-staged (M ∷ Ms) (group ∷ groups) are = staged-beside (M ∷ []) group Ms (all_of groups) (one-staged M group are.0.link are.0.name are.0.valid)
+    (all-staged Ms groups are.1)
 all-staged [] (group ∷ groups) are = absurd are
 all-staged (M ∷ Ms) [] are = absurd are
 
@@ -84,7 +87,8 @@ in-place-length (M ∷ Ms) (group ∷ groups) are = let more = in-place-length M
 in-place-length [] (group ∷ groups) are = absurd are
 in-place-length (M ∷ Ms) [] are = absurd are
 
-pub in-place-append : (Ms Ns : List Parts) (groups others : List (List Parts)) → AreInPlaceOf Ms groups → AreInPlaceOf Ns others → AreInPlaceOf (Ms ++ Ns) (groups ++ others)
+pub in-place-append : (Ms Ns : List Parts) (groups others : List (List Parts)) → AreInPlaceOf Ms groups → AreInPlaceOf Ns others
+    → AreInPlaceOf (Ms ++ Ns) (groups ++ others)
 in-place-append [] Ns [] others are also = also
 in-place-append (M ∷ Ms) Ns (group ∷ groups) others are also = (are.0, in-place-append Ms Ns groups others are.1 also)
 in-place-append [] Ns (group ∷ groups) others are also = absurd are
@@ -122,7 +126,8 @@ same-first-name : (ms leaves : List Parts) → first_header ms ≡ first_header 
 same-first-name [] [] same = refl
 same-first-name [] (n ∷ leaves) same = absurd cc
 same-first-name (m ∷ ms) [] same = absurd cc
-same-first-name (m ∷ ms) (n ∷ leaves) same = let own : (m.processor, m.name, m.maus, m.order) ≡ (n.processor, n.name, n.maus, n.order) = cc in ap (λ (h : Header). h.1) own
+same-first-name (m ∷ ms) (n ∷ leaves) same = let own : (m.processor, m.name, m.maus, m.order) ≡ (n.processor, n.name, n.maus, n.order) = cc in
+    ap (λ (h : Header). h.1) own
 
 module _ (Ms : List Parts) (groups : List (List Parts)) (are : AreInPlaceOf Ms groups) where
   -- what is answered in place of their link is what is answered for all of the groups

@@ -1,5 +1,6 @@
 -- The link of a command's modules, from its roots to the selected members.
-use Rattle.std.proofs.Common.{◌≡◌, ℕ, zero, suc, ◌+◌, ◌≤◌, ◌<◌, List, [], ◌∷◌, ◌++◌, length, map, take, Some, None, unwrap_or, inl, inr, refl, sym, ◌∙◌, ap, subst, append-nil, arith}
+use Rattle.std.proofs.Common.{◌≡◌, ℕ, zero, suc, ◌+◌, ◌≤◌, ◌<◌, List, [], ◌∷◌, ◌++◌, length, map, take, Some, None, unwrap_or, inl, inr, refl, sym}
+use Rattle.std.proofs.Common.{◌∙◌, ap, subst, append-nil, arith}
 use Rattle.std.specs.Prelude.{slice_get}
 use Rattle.std.proofs.lemmas.List.{length-take-le, map-append}
 use Rattle.mufom_module.specs.declared.module.Parts.{Parts}
@@ -53,18 +54,21 @@ members-of-take : (k : ℕ) (ns : List ℕ) (ms : List Parts) → Below k ns →
 members-of-take k [] ms below = refl
 members-of-take k (n ∷ ns) ms below = λ i. member_at (member-of-take k n ms below.0 i) ++ members-of-take k ns ms below.1 i
 
-groups-of-take : (k : ℕ) (ms : List Parts) (tree : Forest) → Below k (leaves tree) → map (members_at (take k ms)) (groups tree) ≡ map (members_at ms) (groups tree)
+groups-of-take : (k : ℕ) (ms : List Parts) (tree : Forest) → Below k (leaves tree) → map (members_at (take k ms)) (groups tree)
+    ≡ map (members_at ms) (groups tree)
 groups-of-take k ms empty below = refl
 groups-of-take k ms (file n more) below = groups-of-take k ms more below.1
 groups-of-take k ms (group inner more) below =
     map-append (members_at (take k ms)) (groups inner) (leaves inner ∷ groups more)
     ∙ (λ i. groups-of-take k ms inner (below-left k (leaves inner) (leaves more) below) i
-    ++ members-of-take k (leaves inner) ms (below-left k (leaves inner) (leaves more) below) i ∷ groups-of-take k ms more (below-right k (leaves inner) (leaves more) below) i)
+    ++ members-of-take k (leaves inner) ms (below-left k (leaves inner) (leaves more) below) i ∷ groups-of-take k ms more
+    (below-right k (leaves inner) (leaves more) below) i)
     ∙ sym (map-append (members_at ms) (groups inner) (leaves inner ∷ groups more))
 
 -- ---- the members
 
-selected-there : (R : Parts) (own : List Parts) (others : List Parts) (chosen : List ℕ) → IsLinkOrItself R own → IsSelected (R ∷ []) others chosen → IsSelected own others chosen
+selected-there : (R : Parts) (own : List Parts) (others : List Parts) (chosen : List ℕ) → IsLinkOrItself R own → IsSelected (R ∷ []) others chosen
+    → IsSelected own others chosen
 selected-there _ _ others chosen (itself m) is = is
 selected-there _ _ others chosen (a_link R own name j none) is =
     subst (λ (l : List Parts). IsSelected l others chosen) (append-nil own) ((selection_agrees R own [] [] name others chosen j).0 is)
@@ -74,7 +78,8 @@ selected-there _ _ others chosen (a_link R own name j none) is =
 pub files-of-marks : (c : Command) → HasTree c → files_of c.marks ≡ leaves (tree_of c.marks)
 files-of-marks c tree = ap files_of (sym tree.spelled) ∙ all-files (tree_of c.marks)
 
-pub roots-numbered : (c : Command) → HasTree c → (ms rs : List Parts) (count : ℕ) → length ms ≡ length c.files → count ≡ length (leaves (tree_of c.marks)) → rs ≡ take count ms
+pub roots-numbered : (c : Command) → HasTree c → (ms rs : List Parts) (count : ℕ) → length ms ≡ length c.files → count
+    ≡ length (leaves (tree_of c.marks)) → rs ≡ take count ms
     → leaves (tree_of c.marks) ≡ numbers_from 0 (length rs)
 roots-numbered c tree ms rs count size is_count is_roots =
     let within = tree.within in
@@ -115,12 +120,14 @@ module _ (c : Command) (ms : List Parts) (valid : AreValid ms) (k : ℕ) (number
         subst (λ (l : List Parts). AreInPlaceOf l (roots (tree_of c.marks) ms ∷ each-alone (members_at (members (tree_of c.marks) ms) has.chosen))) (sym same)
         (roots-link, alone-in-place (members_at (members (tree_of c.marks) ms) has.chosen) members-valid)
 
-    flat-all : all_of (roots (tree_of c.marks) ms ∷ each-alone (members_at (members (tree_of c.marks) ms) has.chosen)) ≡ roots (tree_of c.marks) ms ++ members_at (members (tree_of c.marks) ms) has.chosen
+    flat-all : all_of (roots (tree_of c.marks) ms ∷ each-alone (members_at (members (tree_of c.marks) ms) has.chosen)) ≡ roots (tree_of c.marks) ms
+        ++ members_at (members (tree_of c.marks) ms) has.chosen
     flat-all = ap (λ (l : List Parts). roots (tree_of c.marks) ms ++ l) (all-alone (members_at (members (tree_of c.marks) ms) has.chosen))
 
     flat-valid : AreValid (all_of (roots (tree_of c.marks) ms ∷ each-alone (members_at (members (tree_of c.marks) ms) has.chosen)))
     flat-valid = subst AreValid (sym flat-all)
-        (valid-append (roots (tree_of c.marks) ms) (members_at (members (tree_of c.marks) ms) has.chosen) (valid-members ms (leaves (tree_of c.marks)) valid) members-valid)
+        (valid-append (roots (tree_of c.marks) ms) (members_at (members (tree_of c.marks) ms) has.chosen)
+        (valid-members ms (leaves (tree_of c.marks)) valid) members-valid)
 
     is-flat : IsFlatList (tree_of c.marks) ms (roots (tree_of c.marks) ms ++ members_at (members (tree_of c.marks) ms) has.chosen)
     is-flat = (
@@ -135,7 +142,8 @@ module _ (c : Command) (ms : List Parts) (valid : AreValid ms) (k : ℕ) (number
     first-links = links-give (tree_links (tree_of c.marks) ms) (ap (first_some link_answer) (sym same-links) ∙ first.linkable)
 
     flat-answer : link_answer flat ≡ link_answer (roots (tree_of c.marks) ms ++ members_at (members (tree_of c.marks) ms) has.chosen)
-    flat-answer = same-answer flat (roots (tree_of c.marks) ms ∷ each-alone (members_at (members (tree_of c.marks) ms) has.chosen)) flat-placed ∙ ap link_answer flat-all
+    flat-answer = same-answer flat (roots (tree_of c.marks) ms ∷ each-alone (members_at (members (tree_of c.marks) ms) has.chosen)) flat-placed
+        ∙ ap link_answer flat-all
 
     -- a link fact stands against the flat list
     pub flat-refused : (e : LinkRefusal) → IsRefusalOf flat e → StopsWork (linked_module c ms) e
@@ -154,7 +162,8 @@ module _ (c : Command) (ms : List Parts) (valid : AreValid ms) (k : ℕ) (number
         let own : link_answer list ≡ None = sym flat-answer ∙ none in
         let first_same : first_name flat ≡ first_name list = first-of-all flat parts flat-placed N flat-valid none ∙ ap first_name flat-all in
         let all : IsJoined N list (unwrap_or c.name (first_name flat))
-        = subst (λ (l : List Parts). IsJoined N l (unwrap_or c.name (first_name flat))) flat-all (joined-of-all flat parts flat-placed N flat-valid none (unwrap_or c.name (first_name flat)) j) in (
+        = subst (λ (l : List Parts). IsJoined N l (unwrap_or c.name (first_name flat))) flat-all
+        (joined-of-all flat parts flat-placed N flat-valid none (unwrap_or c.name (first_name flat)) j) in (
           list,
           (tt, first-links, (list, is-flat, (tt, links-give (list ∷ []) (first-none list [] own), refl))),
           subst (λ (name : List ℕ). IsJoined N list (unwrap_or c.name name)) first_same all,

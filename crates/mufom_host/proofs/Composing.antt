@@ -1,9 +1,12 @@
 -- What holds of several calls in a row, from what holds of each.
-use Rattle.std.proofs.Common.{◌≡◌, refl, sym, ◌∙◌, ap, ℕ, ◌+◌, ◌≤◌, min, List, [], ◌++◌, length, take, drop, Option, Some, None, Ok, OnSome, append_assoc, arith}
+use Rattle.std.proofs.Common.{◌≡◌, refl, sym, ◌∙◌, ap, ℕ, ◌+◌, ◌≤◌, min, List, [], ◌++◌, length, take, drop, Option, Some, None, Ok, OnSome}
+use Rattle.std.proofs.Common.{append_assoc, arith}
 use Rattle.std.proofs.Math.Seq.{take-append-add, take-length}
 use Rattle.std.proofs.lemmas.List.{append-nil, take-append-le, take_min, take-append-drop}
 use Rattle.std.proofs.lemmas.Option.{same_Some}
-use Rattle.mufom_host.specs.World.{Meaning, Faults, NamedFile, Rose, GrowsBy, GrowsByPrefix, MakingGrowsBy, MakingGrowsByPrefix, with_bytes, ReadsOff, Reads, KeepsAllButReads, KeepsAllButWrites, KeepsAllButComplaints, KeepsAllButLeft, KeepsAllButMaking, KeepsAllButOpened, KeepsAllButCreated, KeepsAllButMade, KeepsAllButOut, KeepsAllButErr, KeepsAllButFile}
+use Rattle.mufom_host.specs.World.{Meaning, Faults, NamedFile, Rose, GrowsBy, GrowsByPrefix, MakingGrowsBy, MakingGrowsByPrefix, with_bytes, ReadsOff}
+use Rattle.mufom_host.specs.World.{Reads, KeepsAllButReads, KeepsAllButWrites, KeepsAllButComplaints, KeepsAllButLeft, KeepsAllButMaking}
+use Rattle.mufom_host.specs.World.{KeepsAllButOpened, KeepsAllButCreated, KeepsAllButMade, KeepsAllButOut, KeepsAllButErr, KeepsAllButFile}
 
 -- ---- counts
 
@@ -116,7 +119,8 @@ pub MakingGrowsByPrefix-whole : (a b : Option (Option NamedFile)) (xs : List ℕ
 MakingGrowsByPrefix-whole None b xs p = tt
 MakingGrowsByPrefix-whole (Some making) b xs p = (length xs, p ∙ ap (λ t. Some (with_bytes making t)) (sym (take-length xs)))
 
-pub MakingGrowsByPrefix-trans : (a b c : Option (Option NamedFile)) (xs ys : List ℕ) → MakingGrowsBy a b xs → MakingGrowsByPrefix b c ys → MakingGrowsByPrefix a c (xs ++ ys)
+pub MakingGrowsByPrefix-trans : (a b c : Option (Option NamedFile)) (xs ys : List ℕ) → MakingGrowsBy a b xs → MakingGrowsByPrefix b c ys
+    → MakingGrowsByPrefix a c (xs ++ ys)
 MakingGrowsByPrefix-trans None b c xs ys p q = tt
 MakingGrowsByPrefix-trans (Some making) b c xs ys p q =
     let r = rw p at q in

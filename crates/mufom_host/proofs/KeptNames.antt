@@ -1,5 +1,6 @@
 -- Names laid one after another are cut apart again.
-use Rattle.std.proofs.Common.{◌≡◌, refl, sym, ◌∙◌, ap, ℕ, ◌+◌, ◌*◌, ◌<◌, ◌≤◌, true, false, sum, List, [], ◌∷◌, ◌++◌, length, take, drop, Some, None, arith, length-drop}
+use Rattle.std.proofs.Common.{◌≡◌, refl, sym, ◌∙◌, ap, ℕ, ◌+◌, ◌*◌, ◌<◌, ◌≤◌, true, false, sum, List, [], ◌∷◌, ◌++◌, length, take, drop, Some, None}
+use Rattle.std.proofs.Common.{arith, length-drop}
 use Rattle.std.specs.Prelude.{nat_le, if◌then◌else◌}
 use Rattle.std.proofs.lemmas.List.{nil_from_length, take-append-le, drop-append-le, length-take-le}
 use Rattle.std.proofs.Math.Seq.{take-length}
@@ -29,12 +30,14 @@ name_weight-cut (n ∷ lengths) bytes whole =
 pub name_weight-push : (names : List (List ℕ)) (name : List ℕ) → name_weight (names ++ name ∷ []) ≡ name_weight names + (length name + 8)
 name_weight-push names name = sum_by-append (λ n. length n + 8) names (name ∷ []) ∙ omega arith
 
-pub names_with-fits : (room : ℕ) (names : List (List ℕ)) (name : List ℕ) → name_weight names + (length name + 8) ≤ room → names_with room (Some names) name ≡ Some (names ++ name ∷ [])
+pub names_with-fits : (room : ℕ) (names : List (List ℕ)) (name : List ℕ) → name_weight names + (length name + 8) ≤ room
+    → names_with room (Some names) name ≡ Some (names ++ name ∷ [])
 names_with-fits room names name fits =
     let test : nat_le (name_weight (names ++ name ∷ [])) room ≡ true = le-leb _ _ (rw name_weight-push fits) in
     ap (λ b. if b then Some (names ++ name ∷ []) else None) test
 
-pub names_with-full : (room : ℕ) (names : List (List ℕ)) (name : List ℕ) → room < name_weight names + (length name + 8) → names_with room (Some names) name ≡ None
+pub names_with-full : (room : ℕ) (names : List (List ℕ)) (name : List ℕ) → room < name_weight names + (length name + 8)
+    → names_with room (Some names) name ≡ None
 names_with-full room names name full =
     let test : nat_le (name_weight (names ++ name ∷ [])) room ≡ false = lt-leb _ _ (rw name_weight-push full) in
     ap (λ b. if b then Some (names ++ name ∷ []) else None) test

@@ -1,12 +1,14 @@
 -- Modest calls never fail.
-use Rattle.std.proofs.Common.{◌≡◌, refl, sym, subst, ◌∙◌, ap, ℕ, ◌+◌, ◌≤◌, min, false, nat_lt, List, [], ◌∷◌, ◌++◌, length, drop, Option, Some, None, arith, length-append}
+use Rattle.std.proofs.Common.{◌≡◌, refl, sym, subst, ◌∙◌, ap, ℕ, ◌+◌, ◌≤◌, min, false, nat_lt, List, [], ◌∷◌, ◌++◌, length, drop, Option, Some, None}
+use Rattle.std.proofs.Common.{arith, length-append}
 use Rattle.std.specs.List.{sum_by}
 use Rattle.std.proofs.lemmas.List.Sums.{sum_by-cons}
 use Rattle.std.proofs.lemmas.Bool.{le-ltb}
 use Rattle.mufom_host.specs.World.{NamedFile, optional, with_bytes}
 use Rattle.mufom_host.specs.Kept.{name_weight, names_with, is_listed, bytes_after, has_any, passes_file}
 use Rattle.mufom_host.specs.Memory.{Memory, fresh, read_called, write_called}
-use Rattle.mufom_host.specs.Script.{Call, reads, opens, writes, creates, finishes, prints, complains, after_call, after_calls, opened_by, created_by, written_by, printed_by, complained_by, begun_by, AllOpenWhatIsThere, IsModest}
+use Rattle.mufom_host.specs.Script.{Call, reads, opens, writes, creates, finishes, prints, complains, after_call, after_calls, opened_by, created_by}
+use Rattle.mufom_host.specs.Script.{written_by, printed_by, complained_by, begun_by, AllOpenWhatIsThere, IsModest}
 use Rattle.mufom_host.proofs.KeptNames.{names_with-fits, name_weight-push}
 
 -- how many bytes the file being made has
@@ -66,7 +68,8 @@ Begun-finish (unbegun h) = unbegun h
 Begun-finish begun = begun
 
 -- where a file is begun, none was before and none follows
-Begun-create : {making : Option NamedFile} {made : List NamedFile} {count : ℕ} → Begun making made count → (n : ℕ) → count ≡ 1 + n → (has_any made ≡ false) × (n ≡ 0)
+Begun-create : {making : Option NamedFile} {made : List NamedFile} {count : ℕ} → Begun making made count → (n : ℕ) → count ≡ 1 + n
+    → (has_any made ≡ false) × (n ≡ 0)
 Begun-create (unbegun h) n e = (refl, omega (arith, h, e))
 Begun-create begun n e = absurd (omega (arith, e))
 
@@ -85,8 +88,10 @@ record AddsLittle (m next : Memory) (call : Call) (o c opened_names created_name
   printed : length next.out ≤ length m.out + printed_by call
   complained : length next.err ≤ length m.err + complained_by call
 
-ready-next : (m next : Memory) (call : Call) (calls : List Call) (o c opened_names created_names : List (List ℕ)) → IsReady m (call ∷ calls) o c → IsSameHost m next
-    → AddsLittle m next call o c opened_names created_names → next.opened ≡ Some opened_names → next.created ≡ Some created_names → Begun next.making next.made (sum_by begun_by calls)
+ready-next : (m next : Memory) (call : Call) (calls : List Call) (o c opened_names created_names : List (List ℕ)) → IsReady m (call ∷ calls) o c
+    → IsSameHost m next
+    → AddsLittle m next call o c opened_names created_names → next.opened ≡ Some opened_names → next.created ≡ Some created_names
+    → Begun next.making next.made (sum_by begun_by calls)
     → IsReady next calls opened_names created_names
 ready-next m next call calls o c opened_names created_names r same adds opened_known created_known one = record {
   reads_pass = same.reads ∙ r.reads_pass;
@@ -102,14 +107,22 @@ ready-next m next call calls o c opened_names created_names r same adds opened_k
   one = one;
 }
 
-same_host : {m next : Memory} → next.files ≡ m.files → next.room ≡ m.room → next.fail_reads ≡ m.fail_reads → next.fail_writes ≡ m.fail_writes → IsSameHost m next
+same_host : {m next : Memory} → next.files ≡ m.files → next.room ≡ m.room → next.fail_reads ≡ m.fail_reads → next.fail_writes ≡ m.fail_writes
+    → IsSameHost m next
 same_host files room no_reads no_writes = record { files = files; room = room; reads = no_reads; writes = no_writes }
 
 module _ (m : Memory) (calls : List Call) (o c : List (List ℕ)) where
   read_step : (size : ℕ) → IsReady m (reads size ∷ calls) o c → Step m (reads size) calls
   read_step size r =
       let next = record (read_called m) { left = drop (min size (length m.left)) m.left } in
-      let adds : AddsLittle m next (reads size) o c o c = record { opened = omega arith; created = omega arith; written = omega arith; printed = omega arith; complained = omega arith } in
+      let adds : AddsLittle m next (reads size) o c o c = record {
+        opened = omega arith;
+        created = omega arith;
+        written = omega arith;
+        printed =
+            omega arith;
+        complained = omega arith;
+      } in
       record {
         next = next;
         is_next = rw (unlisted m.read_number m.fail_reads r.reads_pass) refl;
@@ -125,7 +138,8 @@ module _ (m : Memory) (calls : List Call) (o c : List (List ℕ)) where
       let weight = name_weight-push o name in
       let known : names_with m.room m.opened name ≡ Some (o ++ name ∷ []) = rw r.opened_known fits in
       let next = record (read_called m) { opened = names_with m.room m.opened name; left = bytes_after name m.files m.left } in
-      let adds : AddsLittle m next (opens name) o c (o ++ name ∷ []) c = record { opened = omega (arith, weight); created = omega arith; written = omega arith; printed = omega arith; complained = omega arith } in
+      let adds : AddsLittle m next (opens name) o c (o ++ name ∷ []) c =
+      record { opened = omega (arith, weight); created = omega arith; written = omega arith; printed = omega arith; complained = omega arith } in
       record {
         next = next;
         is_next = rw (unlisted m.read_number m.fail_reads r.reads_pass, known, r.there.0) refl;
@@ -139,7 +153,13 @@ module _ (m : Memory) (calls : List Call) (o c : List (List ℕ)) where
   write_step chunk r =
       let fits = less written_by (writes chunk) calls (made_bytes m.making) m.room r.written in
       let next = record (write_called m) { making = with_bytes m.making chunk } in
-      let adds : AddsLittle m next (writes chunk) o c o c = record { opened = omega arith; created = omega arith; written = grown m.making chunk; printed = omega arith; complained = omega arith } in
+      let adds : AddsLittle m next (writes chunk) o c o c = record {
+        opened = omega arith;
+        created = omega arith;
+        written = grown m.making chunk;
+        printed = omega arith;
+        complained = omega arith;
+      } in
       record {
         next = next;
         is_next = rw (unlisted m.write_number m.fail_writes r.writes_pass, within m.making m.room (length chunk) (omega (arith, fits))) refl;
@@ -152,7 +172,14 @@ module _ (m : Memory) (calls : List Call) (o c : List (List ℕ)) where
   finish_step : IsReady m (finishes ∷ calls) o c → Step m finishes calls
   finish_step r =
       let next = record (write_called m) { making = None; made = m.made ++ optional m.making } in
-      let adds : AddsLittle m next finishes o c o c = record { opened = omega arith; created = omega arith; written = omega arith; printed = omega arith; complained = omega arith } in
+      let adds : AddsLittle m next finishes o c o c = record {
+        opened = omega arith;
+        created = omega arith;
+        written = omega arith;
+        printed =
+            omega arith;
+        complained = omega arith;
+      } in
       record {
         next = next;
         is_next = rw (unlisted m.write_number m.fail_writes r.writes_pass) refl;
@@ -167,7 +194,14 @@ module _ (m : Memory) (calls : List Call) (o c : List (List ℕ)) where
       let fits = less printed_by (prints text) calls (length m.out) m.room r.printed in
       let passes : nat_lt m.room (length m.out + length text) ≡ false = le-ltb _ _ (omega (arith, fits)) in
       let next = record (write_called m) { out = m.out ++ text } in
-      let adds : AddsLittle m next (prints text) o c o c = record { opened = omega arith; created = omega arith; written = omega arith; printed = rw length-append (omega arith); complained = omega arith } in
+      let adds : AddsLittle m next (prints text) o c o c = record {
+        opened = omega arith;
+        created = omega arith;
+        written = omega arith;
+        printed =
+            rw length-append (omega arith);
+        complained = omega arith;
+      } in
       record {
         next = next;
         is_next = rw (unlisted m.write_number m.fail_writes r.writes_pass, passes) refl;
@@ -182,7 +216,14 @@ module _ (m : Memory) (calls : List Call) (o c : List (List ℕ)) where
       let fits = less complained_by (complains text) calls (length m.err) m.room r.complained in
       let passes : nat_lt m.room (length m.err + length text) ≡ false = le-ltb _ _ (omega (arith, fits)) in
       let next = record (write_called m) { err = m.err ++ text } in
-      let adds : AddsLittle m next (complains text) o c o c = record { opened = omega arith; created = omega arith; written = omega arith; printed = omega arith; complained = rw length-append (omega arith) } in
+      let adds : AddsLittle m next (complains text) o c o c = record {
+        opened = omega arith;
+        created = omega arith;
+        written = omega arith;
+        printed =
+            omega arith;
+        complained = rw length-append (omega arith);
+      } in
       record {
         next = next;
         is_next = rw (unlisted m.write_number m.fail_writes r.writes_pass, passes) refl;
@@ -200,7 +241,8 @@ module _ (m : Memory) (calls : List Call) (o c : List (List ℕ)) where
       let count : sum_by begun_by (creates name ∷ calls) ≡ 1 + sum_by begun_by calls = sum_by-cons begun_by (creates name) calls in
       let first = Begun-create r.one (sum_by begun_by calls) count in
       let next = record (write_called m) { created = names_with m.room m.created name; making = Some (name, []) } in
-      let adds : AddsLittle m next (creates name) o c o (c ++ name ∷ []) = record { opened = omega arith; created = omega (arith, weight); written = omega arith; printed = omega arith; complained = omega arith } in
+      let adds : AddsLittle m next (creates name) o c o (c ++ name ∷ []) =
+      record { opened = omega arith; created = omega (arith, weight); written = omega arith; printed = omega arith; complained = omega arith } in
       record {
         next = next;
         is_next = rw (unlisted m.write_number m.fail_writes r.writes_pass, known, first.0) refl;

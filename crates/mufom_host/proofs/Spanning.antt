@@ -1,8 +1,11 @@
 -- Calls of one kind in a row: where they begin, and one call more.
 use Rattle.std.proofs.Common.{refl, ℕ, List, [], ◌++◌, take, Ok, arith}
-use Rattle.mufom_host.specs.World.{Meaning, Faults, HasCause, Reads, Writes, Grows, KeepsAllButReads, KeepsAllButWrites, KeepsAllButLeft, KeepsAllButMaking, KeepsAllButOut}
+use Rattle.mufom_host.specs.World.{Meaning, Faults, HasCause, Reads, Writes, Grows, KeepsAllButReads, KeepsAllButWrites, KeepsAllButLeft}
+use Rattle.mufom_host.specs.World.{KeepsAllButMaking, KeepsAllButOut}
 use Rattle.mufom_host.specs.Spans.{AfterReads, AfterWrites, AfterPrints}
-use Rattle.mufom_host.proofs.Composing.{ReadsOff-refl, ReadsOff-trans, ReadsOff-read, MakingGrowsBy-refl, MakingGrowsBy-trans, GrowsBy-refl, GrowsBy-trans, KeepsAllButReads-trans, KeepsAllButWrites-trans, KeepsAllButLeft-trans, KeepsAllButMaking-trans, KeepsAllButOut-trans}
+use Rattle.mufom_host.proofs.Composing.{ReadsOff-refl, ReadsOff-trans, ReadsOff-read, MakingGrowsBy-refl, MakingGrowsBy-trans, GrowsBy-refl}
+use Rattle.mufom_host.proofs.Composing.{GrowsBy-trans, KeepsAllButReads-trans, KeepsAllButWrites-trans, KeepsAllButLeft-trans}
+use Rattle.mufom_host.proofs.Composing.{KeepsAllButMaking-trans, KeepsAllButOut-trans}
 
 pub AfterReads-start : (m : Meaning) (f : Faults) → AfterReads m m f f []
 AfterReads-start m f = record { taken = ReadsOff-refl m.left; stays = refl; later = omega arith; counts = refl }

@@ -1,5 +1,6 @@
 -- What a host in memory keeps: bytes and names within their room, the files that may be opened, and the file that is made.
-use Rattle.std.specs.Prelude.{ℕ, ◌+◌, nat_le, nat_lt, Bool, true, false, if◌then◌else◌, List, [], ◌∷◌, ◌++◌, length, take, drop, Option, Some, None, is_some, unwrap_or, ◌==◌, slice_get}
+use Rattle.std.specs.Prelude.{ℕ, ◌+◌, nat_le, nat_lt, Bool, true, false, if◌then◌else◌, List, [], ◌∷◌, ◌++◌, length, take, drop, Option, Some, None}
+use Rattle.std.specs.Prelude.{is_some, unwrap_or, ◌==◌, slice_get}
 use Rattle.std.specs.List.{list_any, sum_by}
 use Rattle.mufom_host.specs.World.{NamedFile, file_named, optional}
 

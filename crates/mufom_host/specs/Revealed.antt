@@ -40,7 +40,8 @@ revealed-bytes files = by (hold_bytes files) refl where
   named (file ∷ files) h name bytes there = first (named files (both (are_bytes file.1) (hold_bytes files) h).1 name bytes) (bytes_eq file.0 name) refl where
     first : (file_named name files ≡ Some bytes → AreBytes bytes) → (same : Bool) → bytes_eq file.0 name ≡ same → AreBytes bytes
     first later true same =
-        subst AreBytes (same_Some file.1 bytes (sym (found name file files true same) ∙ there)) (bytes_by_test file.1 (both (are_bytes file.1) (hold_bytes files) h).0)
+        subst AreBytes (same_Some file.1 bytes (sym (found name file files true same) ∙ there))
+        (bytes_by_test file.1 (both (are_bytes file.1) (hold_bytes files) h).0)
     first later false same = later (sym (found name file files false same) ∙ there)
 
   by : (known : Bool) → hold_bytes files ≡ known → IfSome (if known then Some files else None) HoldBytes

@@ -1,6 +1,7 @@
 -- What calls of one kind in a row have done, so that a loop that makes them keeps one line.
 use Rattle.std.specs.Prelude.{ℕ, ◌≤◌, List}
-use Rattle.mufom_host.specs.World.{Meaning, Faults, GrowsBy, MakingGrowsBy, ReadsOff, KeepsAllButLeft, KeepsAllButMaking, KeepsAllButOut, KeepsAllButReads, KeepsAllButWrites}
+use Rattle.mufom_host.specs.World.{Meaning, Faults, GrowsBy, MakingGrowsBy, ReadsOff, KeepsAllButLeft, KeepsAllButMaking, KeepsAllButOut}
+use Rattle.mufom_host.specs.World.{KeepsAllButReads, KeepsAllButWrites}
 
 -- reads alone were called, each with success, and they took these bytes
 pub record AfterReads (old new : Meaning) (before now : Faults) (bytes : List ℕ) : Type 0 where

@@ -1,5 +1,6 @@
 -- What stands outside, as far as it is known, and what each call does to it.
-use Rattle.std.specs.Prelude.{◌≡◌, ◌⊎◌, ℕ, ◌+◌, ◌-◌, ◌^◌, ◌<◌, ◌≤◌, min, List, [], ◌∷◌, ◌++◌, length, take, drop, Option, Some, None, Result, Ok, Err, OnOk, OnErr, IfOk, IfSome, IsSome, OnSome, option_map, find}
+use Rattle.std.specs.Prelude.{◌≡◌, ◌⊎◌, ℕ, ◌+◌, ◌-◌, ◌^◌, ◌<◌, ◌≤◌, min, List, [], ◌∷◌, ◌++◌, length, take, drop, Option, Some, None, Result, Ok, Err}
+use Rattle.std.specs.Prelude.{OnOk, OnErr, IfOk, IfSome, IsSome, OnSome, option_map, find}
 use Rattle.std.specs.Str.{bytes_eq}
 use Rattle.mufom_numbers.specs.Spelling.{AreBytes}
 use Rattle.mufom_host.specs.declared.world.Failed.{Failed}

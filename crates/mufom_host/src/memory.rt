@@ -5,8 +5,12 @@ mod names;
 mod output;
 
 ghost use Rattle.std.specs.Prelude.{◌≡◌, ◌||◌, min, length, IfOk, is_err, option_map};
-ghost use Rattle.mufom_host.specs.World.{optional, HasCause, AtMost, Reads, Opens, Writes, Creates, Finishes, Grows, KeepsAllButLeft, KeepsAllButOpened, KeepsAllButMaking, KeepsAllButCreated, KeepsAllButMade, KeepsAllButOut, KeepsAllButErr, KeepsAllButReads, KeepsAllButWrites, KeepsAllButComplaints};
-ghost use Rattle.mufom_host.specs.Memory.{memory_meaning, memory_faults, fresh, is_failing_read, is_failing_write, after_read, open_fails, after_open, write_fails, after_write, create_fails, after_create, after_finish, passes, after_print, after_complain};
+ghost use Rattle.mufom_host.specs.World.{optional, HasCause, AtMost, Reads, Opens, Writes, Creates, Finishes, Grows, KeepsAllButLeft};
+ghost use Rattle.mufom_host.specs.World.{KeepsAllButOpened, KeepsAllButMaking, KeepsAllButCreated, KeepsAllButMade, KeepsAllButOut, KeepsAllButErr};
+ghost use Rattle.mufom_host.specs.World.{KeepsAllButReads, KeepsAllButWrites, KeepsAllButComplaints};
+ghost use Rattle.mufom_host.specs.Memory.{memory_meaning, memory_faults, fresh, is_failing_read, is_failing_write, after_read, open_fails};
+ghost use Rattle.mufom_host.specs.Memory.{after_open, write_fails, after_write, create_fails, after_create, after_finish, passes, after_print};
+ghost use Rattle.mufom_host.specs.Memory.{after_complain};
 
 use crate::counts::Counts;
 use crate::{Failed, Host, Sink, Source, World};

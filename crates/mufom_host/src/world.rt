@@ -1,5 +1,7 @@
 ghost use Rattle.std.specs.Prelude.{length};
-ghost use Rattle.mufom_host.specs.World.{Meaning, Faults, RevealsTogether, HasCause, AtMost, Reads, Opens, Writes, Creates, Finishes, Grows, WritesAll, KeepsAllButLeft, KeepsAllButOpened, KeepsAllButMaking, KeepsAllButCreated, KeepsAllButMade, KeepsAllButOut, KeepsAllButErr, KeepsAllButReads, KeepsAllButWrites, KeepsAllButComplaints};
+ghost use Rattle.mufom_host.specs.World.{Meaning, Faults, RevealsTogether, HasCause, AtMost, Reads, Opens, Writes, Creates, Finishes, Grows};
+ghost use Rattle.mufom_host.specs.World.{WritesAll, KeepsAllButLeft, KeepsAllButOpened, KeepsAllButMaking, KeepsAllButCreated, KeepsAllButMade};
+ghost use Rattle.mufom_host.specs.World.{KeepsAllButOut, KeepsAllButErr, KeepsAllButReads, KeepsAllButWrites, KeepsAllButComplaints};
 
 /// A call of the outside failed, and its count of faults rose.
 #[derive(Clone, Copy, Debug, PartialEq, Eq)]

@@ -60,11 +60,13 @@ module _ (m : Parts) (b : Bases) (h : HaveValues (m ∷ []) (setting (m ∷ []) 
 
   debug_there : (t : Tree) → In t (expressions_of (marks_of m.debug)) → value s (alone m) None t ≢ None
   debug_there t k =
-      let among = In-flat_map (λ (site : Sited). map (λ t. (site, t)) (expressions_of (marks_of site.parts.debug))) (alone m) (alone m, t) (sited (m ∷ [])) (inl refl)
+      let among = In-flat_map (λ (site : Sited). map (λ t. (site, t)) (expressions_of (marks_of site.parts.debug))) (alone m) (alone m, t)
+      (sited (m ∷ [])) (inl refl)
       (In-map (λ t. (alone m, t)) t (expressions_of (marks_of m.debug)) k) in
       h.expressions None (alone m) t (inr (inr (at-In (alone m, t) (debug_trees (m ∷ [])) among)))
 
-  same-publics : (ps : List Public) → ((p : Public) → In p ps → In p m.names.publics) → map located_public (map with_value ps) ≡ map (public_reading s) (map (sit m) ps)
+  same-publics : (ps : List Public) → ((p : Public) → In p ps → In p m.names.publics) → map located_public (map with_value ps)
+      ≡ map (public_reading s) (map (sit m) ps)
   same-publics [] among = refl
   same-publics (p ∷ ps) among =
       let here = sym (has-value s m p.value (public_there p (among p (inl refl)))) in
@@ -99,29 +101,36 @@ entries-located plan valued runs r by valid names locates rows entries =
     let same = same-bases plan valued.placed.now by in
     let there : HaveValues (m ∷ []) (setting (m ∷ []) (bases_of valued.placed.now))
     = subst (λ (b : Bases). HaveValues (m ∷ []) (setting (m ∷ []) b)) (sym same) (values_exist (m ∷ []) plan (valid, tt {0}) links locates) in
-    let order : m.order ≡ r.order = ap (λ (header : Header). header.3) (some_same (m.processor, m.name, m.maus, m.order) (r.processor, r.name, r.maus, r.order) entries.first) in
+    let order : m.order ≡ r.order = ap (λ (header : Header). header.3)
+    (some_same (m.processor, m.name, m.maus, m.order) (r.processor, r.name, r.maus, r.order) entries.first) in
     record {
       links = links;
       locates = locates;
       first = entries.first;
       sections = entries.placed;
-      publics = ap (map located_public) entries.publics ∙ publics-are m (bases_of valued.placed.now) there ∙ ap (λ (b : Bases). (readings (m ∷ []) b).publics) same;
-      start = ap (λ o. map (λ v. Some v) (option_to_list o)) entries.start ∙ start-is m (bases_of valued.placed.now) there ∙ ap (λ (b : Bases). (readings (m ∷ []) b).starts) same;
-      debug = ap (map (λ mark. Some mark)) entries.debug ∙ debug-is m (bases_of valued.placed.now) there ∙ ap (λ (b : Bases). map located_mark (readings (m ∷ []) b).debug) same;
+      publics = ap (map located_public) entries.publics ∙ publics-are m (bases_of valued.placed.now) there
+          ∙ ap (λ (b : Bases). (readings (m ∷ []) b).publics) same;
+      start = ap (λ o. map (λ v. Some v) (option_to_list o)) entries.start ∙ start-is m (bases_of valued.placed.now) there
+          ∙ ap (λ (b : Bases). (readings (m ∷ []) b).starts) same;
+      debug = ap (map (λ mark. Some mark)) entries.debug ∙ debug-is m (bases_of valued.placed.now) there
+          ∙ ap (λ (b : Bases). map located_mark (readings (m ∷ []) b).debug) same;
       rows = rows_there same order;
     }
   where
     rows_there : bases_of valued.placed.now ≡ planned_bases (parts_of valued ∷ []) plan → (parts_of valued).order ≡ r.order
-        → AreRowsOf (address_map r.order (2 ^ (8 * (parts_of valued).maus)) (readings (parts_of valued ∷ []) (planned_bases (parts_of valued ∷ []) plan)).steps) r.runs
+        → AreRowsOf (address_map r.order (2 ^ (8 * (parts_of valued).maus))
+        (readings (parts_of valued ∷ []) (planned_bases (parts_of valued ∷ []) plan)).steps) r.runs
     rows_there same order =
         subst (λ (x : Order × Bases × List Run). AreRowsOf (address_map x.0 (2 ^ (8 * (parts_of valued).maus)) (readings (parts_of valued ∷ []) x.1).steps) x.2)
         (let runs_same = sym entries.rows in λ i. (order i, same i, runs_same i))
         rows
 
 -- the absolute module of a location is light
-pub location-light : AbsoluteWeighs → (m : Parts) (plan : Plan) (r : LocatedParts) → IsValid m → IsLocation (m ∷ []) plan r → weight (absolute_of r) ≤ most_weight m
+pub location-light : AbsoluteWeighs → (m : Parts) (plan : Plan) (r : LocatedParts) → IsValid m → IsLocation (m ∷ []) plan r
+    → weight (absolute_of r) ≤ most_weight m
 location-light weighs m plan r valid is =
     let whole = weighs (m ∷ []) plan r (valid, tt {0}) is in
     let sections = ap length (append-nil m.sections) in
-    let references : asking_count (m ∷ []) ≡ length (filter is_common m.names.references) = ap (λ all. length (filter is_common all)) (append-nil m.names.references) in
+    let references : asking_count (m ∷ []) ≡ length (filter is_common m.names.references) =
+    ap (λ all. length (filter is_common all)) (append-nil m.names.references) in
     omega (arith, whole, sections, references)

@@ -63,7 +63,8 @@ module _ (m : Parts) (plan : Plan) where
 
   pub judged-answered : unplaced m plan ≡ None → (refusal : LocateRefusal) → IsMet (judged m plan) refusal → IsMet (locate_answer (m ∷ []) plan) refusal
   judged-answered placed refusal h =
-      subst (λ o. IsMet o refusal) (sym stages) (met-after (unplaced m plan) (judged m plan or_else walk) refusal placed (met-first (judged m plan) walk refusal h))
+      subst (λ o. IsMet o refusal) (sym stages) (met-after (unplaced m plan) (judged m plan
+      or_else walk) refusal placed (met-first (judged m plan) walk refusal h))
 
   pub walk-answered : unplaced m plan ≡ None → IsJudged m plan → (refusal : LocateRefusal) → IsMet walk refusal → IsMet (locate_answer (m ∷ []) plan) refusal
   walk-answered placed clear refusal h =

@@ -1,5 +1,6 @@
 -- The positions of names among distinct names that grow at their end, and lists made of distinct names of which one changes.
-use Rattle.std.proofs.Common.{◌≡◌, ℕ, zero, suc, ◌+◌, List, [], ◌∷◌, ◌++◌, length, map, Some, None, Bool, true, false, ◌||◌, if◌then◌else◌, refl, sym, ap, ◌∙◌, append_assoc, append-nil, arith}
+use Rattle.std.proofs.Common.{◌≡◌, ℕ, zero, suc, ◌+◌, List, [], ◌∷◌, ◌++◌, length, map, Some, None, Bool, true, false, ◌||◌, if◌then◌else◌, refl, sym}
+use Rattle.std.proofs.Common.{ap, ◌∙◌, append_assoc, append-nil, arith}
 use Rattle.std.specs.Prelude.{slice_get, slice_set}
 use Rattle.std.specs.List.{AllByRecursion, IsDistinct}
 use Rattle.std.specs.Str.{bytes_eq}
@@ -49,7 +50,8 @@ place-prefix-from n [] extra name there = absurd cc
 place-prefix-from n (x ∷ names) extra name there = by_case (bytes_eq name x) there (place-prefix-from (suc n) names extra name) where
   by_case : (b : Bool) → (b || has_name names name) ≡ true
       → (has_name names name ≡ true → position_of (numbered_from (suc n) (names ++ extra)) name ≡ position_of (numbered_from (suc n) names) name)
-      → (if b then Some n else position_of (numbered_from (suc n) (names ++ extra)) name) ≡ (if b then Some n else position_of (numbered_from (suc n) names) name)
+      → (if b then Some n else position_of (numbered_from (suc n) (names ++ extra)) name)
+      ≡ (if b then Some n else position_of (numbered_from (suc n) names) name)
   by_case true h later = refl
   by_case false h later = later h
 
@@ -94,7 +96,8 @@ module _ {A : Type 0} (f g : List ℕ → A) where
       let rest = unchanged x others xs two.1 in
       λ i. here i ∷ rest i
 
-  unchanged-after : (x : List ℕ) → ((y : List ℕ) → bytes_eq x y ≡ false → g y ≡ f y) → (xs : List (List ℕ)) → AllByRecursion (λ y. bytes_eq x y ≡ false) xs → map g xs ≡ map f xs
+  unchanged-after : (x : List ℕ) → ((y : List ℕ) → bytes_eq x y ≡ false → g y ≡ f y) → (xs : List (List ℕ))
+      → AllByRecursion (λ y. bytes_eq x y ≡ false) xs → map g xs ≡ map f xs
   unchanged-after x others [] none = refl
   unchanged-after x others (y ∷ xs) none = let here = others y none.0 in let rest = unchanged-after x others xs none.1 in λ i. here i ∷ rest i
 

@@ -30,10 +30,12 @@ use Rattle.mufom_image.proofs.ReadyLaws.{same-bases, may-be-walked}
 use Rattle.mufom_image.proofs.EntryLaws.{entries-located}
 
 -- what is placed at bases is placed at the same bases
-pub placed-there : (m : Parts) (plan : Plan) (sections : List Section) (bases all : List ℕ) → ArePlaced m plan sections bases → all ≡ bases → ArePlaced m plan sections all
+pub placed-there : (m : Parts) (plan : Plan) (sections : List Section) (bases all : List ℕ) → ArePlaced m plan sections bases → all ≡ bases
+    → ArePlaced m plan sections all
 placed-there m plan sections bases all there same = subst (ArePlaced m plan sections) (sym same) there
 
-module _ (m : Parts) (met : List Meeting) (bases : List ℕ) (placed : PlacedModule) (at : StandsAt m met bases placed) (names : AreDistinct (names_of m.names.publics)) where
+module _ (m : Parts) (met : List Meeting) (bases : List ℕ) (placed : PlacedModule) (at : StandsAt m met bases placed)
+    (names : AreDistinct (names_of m.names.publics)) where
   own-names : AreDistinct (names_of placed.graph.parts.now.names.publics)
   own-names = subst (λ (x : Parts). AreDistinct (names_of x.names.publics)) (sym at.parts) names
 

@@ -1,5 +1,6 @@
 -- Where nothing is met before the walk, a module may be walked over.
-use Rattle.std.proofs.Common.{◌≡◌, ℕ, ◌+◌, ◌^◌, ◌<◌, ◌≤◌, inr, List, [], ◌∷◌, ◌++◌, length, Option, Some, None, Bool, true, false, refl, sym, ◌∙◌, ap, subst, append-nil, length-append, arith}
+use Rattle.std.proofs.Common.{◌≡◌, ℕ, ◌+◌, ◌^◌, ◌<◌, ◌≤◌, inr, List, [], ◌∷◌, ◌++◌, length, Option, Some, None, Bool, true, false, refl, sym, ◌∙◌, ap}
+use Rattle.std.proofs.Common.{subst, append-nil, length-append, arith}
 use Rattle.std.specs.Prelude.{slice_get, option_map, option_to_list, unwrap_or}
 use Rattle.std.proofs.lemmas.Option.{slice_get_within}
 use Rattle.mufom_expr.specs.Tree.{Tree}
@@ -87,7 +88,8 @@ module _ (m : Parts) (plan : Plan) (names : AreDistinct (names_of m.names.public
     by_region true e = common_has_base ms plan e name common none
     by_region false e = before (common_unplaced name) (e, common_there ms name common)
 
-  ready : (worth : WorthAt) → ((counter : ℕ) (t : Tree) → worth counter t ≡ value s (home_of m) (Some counter) t) → public_division s ≡ None → IsReady m at at.sections worth
+  ready : (worth : WorthAt) → ((counter : ℕ) (t : Tree) → worth counter t ≡ value s (home_of m) (Some counter) t) → public_division s ≡ None
+      → IsReady m at at.sections worth
   ready worth is none = record {
     at_bases = refl;
     count = planned_count ms plan ∙ ap length (append-nil m.sections);

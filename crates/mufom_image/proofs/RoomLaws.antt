@@ -1,5 +1,6 @@
 -- Room for one reference more in the commons of those before it, and the commons of all references.
-use Rattle.std.proofs.Common.{◌≡◌, ℕ, ◌+◌, ◌<◌, ◌≤◌, List, [], ◌∷◌, ◌++◌, length, map, take, drop, get_or, Option, Some, None, is_none, Bool, true, false, not, cond, ◌&&◌, if◌then◌else◌, refl, sym, ap, ◌∙◌, append-nil, arith}
+use Rattle.std.proofs.Common.{◌≡◌, ℕ, ◌+◌, ◌<◌, ◌≤◌, List, [], ◌∷◌, ◌++◌, length, map, take, drop, get_or, Option, Some, None, is_none, Bool, true}
+use Rattle.std.proofs.Common.{false, not, cond, ◌&&◌, if◌then◌else◌, refl, sym, ap, ◌∙◌, append-nil, arith}
 use Rattle.std.specs.Prelude.{filter, max, slice_get, slice_set, option_map, ◌==◌}
 use Rattle.std.specs.Str.{bytes_eq}
 use Rattle.std.proofs.lemmas.List.{map-append, length-map, take_more, take-append-drop}
@@ -51,10 +52,12 @@ module _ (asked : List Asked) (name : List ℕ) (size : ℕ) where
 
   -- this one is as great as it asks
   own : greatest_size more name ≡ max size (greatest_size asked name)
-  own = greatest-push asked name size name ∙ ap (λ b. if b then max size (greatest_size asked name) else greatest_size asked name) ((bytes_eq-Decides name name).1 refl)
+  own = greatest-push asked name size name ∙ ap (λ b. if b then max size (greatest_size asked name)
+      else greatest_size asked name) ((bytes_eq-Decides name name).1 refl)
 
   -- the common is there already
-  room-there : (n : ℕ) → slice_get names n ≡ Some name → with_room (sections_for asked) (record { common = n; size = size }) name ≡ map (common_section more) names
+  room-there : (n : ℕ) → slice_get names n ≡ Some name → with_room (sections_for asked) (record { common = n; size = size }) name
+      ≡ map (common_section more) names
   room-there n e =
       let at : slice_get (sections_for asked) n ≡ Some (common_section asked name)
       = slice_get-map (common_section asked) names n ∙ ap (option_map (common_section asked)) e in
@@ -94,7 +97,8 @@ module _ (asked : List Asked) (name : List ℕ) (size : ℕ) where
         room-new n last h ∙ ap (map (common_section more)) (sym same)
 
 -- room in a common that is there, and in a new one
-pub room-set : (commons : List Section) (asked : Option Room) (room : Room) (name : List ℕ) (section : Section) → asked ≡ Some room → slice_get commons room.common ≡ Some section
+pub room-set : (commons : List Section) (asked : Option Room) (room : Room) (name : List ℕ) (section : Section) → asked ≡ Some room
+    → slice_get commons room.common ≡ Some section
     → slice_set commons room.common (raised room.size section) ≡ with_asked commons asked name
 room-set commons asked room name section e there =
     ap (with_room_at commons room name) (sym there) ∙ ap (λ o. with_asked commons o name) (sym e)
@@ -128,7 +132,8 @@ room-asks None None (Some weak) room e = by_size (weak.size == 0) e where
   by_size false f = absurd cc
 
 -- and what asks is given room
-asks-room : (o u : Option ℕ) (n : ℕ) (weak : Option Weak) → o ≡ None → u ≡ Some n → not (common_size weak == 0) ≡ true → room_of (meeting_by o u weak) weak ≡ None → ⊥
+asks-room : (o u : Option ℕ) (n : ℕ) (weak : Option Weak) → o ≡ None → u ≡ Some n → not (common_size weak == 0) ≡ true
+    → room_of (meeting_by o u weak) weak ≡ None → ⊥
 asks-room (Some k) u n weak f g h e = cc
 asks-room None None n weak f g h e = cc
 asks-room None (Some k) n None f g h e = cc
@@ -207,14 +212,16 @@ module _ (m : Parts) where
     common_place = place_in (common_list m) r.name
 
     -- a reference that asks for room is given it
-    room-given : (room : Room) → room_of (meeting_of m r) r.weak ≡ Some room → with_room (sections_for (asked_by before)) room r.name ≡ sections_for (asked_by (before ++ r ∷ []))
+    room-given : (room : Room) → room_of (meeting_of m r) r.weak ≡ Some room → with_room (sections_for (asked_by before)) room r.name
+        ≡ sections_for (asked_by (before ++ r ∷ []))
     room-given room given =
         let asks_for = room-asks public_place common_place r.weak room given in
         let asking : asks publics r ≡ true = both (is_common r) (is_none public_place) asks_for.3 (ap is_none asks_for.0) in
         let one = asked-one before r true asking in
         let all = names-begin (before ++ r ∷ []) after e in
         let place : place_in (distinct bytes_eq (names_in (asked_by before ++ pair_of r ∷ [])) ++ all.0) r.name ≡ Some room.common
-        = ap (λ (asked : List Asked). place_in (distinct bytes_eq (names_in asked) ++ all.0) r.name) (sym one) ∙ ap (λ names. place_in names r.name) (sym all.1) ∙ asks_for.1 in
+        = ap (λ (asked : List Asked). place_in (distinct bytes_eq (names_in asked) ++ all.0) r.name) (sym one)
+        ∙ ap (λ names. place_in names r.name) (sym all.1) ∙ asks_for.1 in
         ap (λ s. with_room (sections_for (asked_by before)) (record { common = room.common; size = s }) r.name) (sym asks_for.2)
         ∙ room-more (asked_by before) r.name (common_size r.weak) room.common all.0 place
         ∙ ap sections_for (sym one)
@@ -249,7 +256,8 @@ module _ (m : Parts) where
     -- one reference more
     pub room-asked : with_asked (sections_for (asked_by before)) (room_of (meeting_of m r) r.weak) r.name ≡ sections_for (asked_by (before ++ r ∷ []))
     room-asked = by_room (room_of (meeting_of m r) r.weak) refl where
-      by_room : (o : Option Room) → room_of (meeting_of m r) r.weak ≡ o → with_asked (sections_for (asked_by before)) o r.name ≡ sections_for (asked_by (before ++ r ∷ []))
+      by_room : (o : Option Room) → room_of (meeting_of m r) r.weak ≡ o → with_asked (sections_for (asked_by before)) o r.name
+          ≡ sections_for (asked_by (before ++ r ∷ []))
       by_room None e = none-given e
       by_room (Some room) e = room-given room e
 
@@ -260,7 +268,8 @@ module _ (m : Parts) where
   asked-step k r inside is =
       let all = m.names.references in
       let next : take (k + 1) all ≡ take k all ++ r ∷ [] = take_more all k r inside ∙ ap (λ (x : Reference). take k all ++ x ∷ []) is in
-      let whole : all ≡ (take k all ++ r ∷ []) ++ drop (k + 1) all = sym (take-append-drop (k + 1) all) ∙ ap (λ (rs : List Reference). rs ++ drop (k + 1) all) next in
+      let whole : all ≡ (take k all ++ r ∷ []) ++ drop (k + 1) all = sym (take-append-drop (k + 1) all)
+      ∙ ap (λ (rs : List Reference). rs ++ drop (k + 1) all) next in
       room-asked (take k all) (drop (k + 1) all) r whole ∙ ap (λ (rs : List Reference). sections_for (asked_by rs)) (sym next)
 
   -- ---- all references
@@ -277,7 +286,8 @@ module _ (m : Parts) where
   asks-is : (r : Reference) → asks publics r ≡ (unmet r && is_common r)
   asks-is r =
       turned (is_common r) (is_none (place_in (names_of m.names.publics) r.name))
-      ∙ ap (λ b. b && is_common r) (has-place 0 (names_of m.names.publics) r.name ∙ ap (λ names. not (has_name names r.name)) (sym (append-nil (names_of m.names.publics))))
+      ∙ ap (λ b. b && is_common r) (has-place 0 (names_of m.names.publics) r.name
+      ∙ ap (λ names. not (has_name names r.name)) (sym (append-nil (names_of m.names.publics))))
 
   all-asked : asked_by m.names.references ≡ map pair_of (filter is_common (unmet_references (m ∷ [])))
   all-asked =
@@ -294,6 +304,7 @@ module _ (m : Parts) where
   pub all-sections : sections_for (asked_by m.names.references) ≡ common_sections (m ∷ [])
   all-sections =
       each (common_section (asked_by m.names.references)) (common_section (commons (m ∷ [])))
-      (λ name. ap (common_of name) (ap (λ (asked : List Asked). greatest_size asked name) all-asked ∙ sym (greatest-distinct (map pair_of (filter is_common (unmet_references (m ∷ [])))) name)))
+      (λ name. ap (common_of name) (ap (λ (asked : List Asked). greatest_size asked name) all-asked
+      ∙ sym (greatest-distinct (map pair_of (filter is_common (unmet_references (m ∷ [])))) name)))
       (distinct bytes_eq (names_in (asked_by m.names.references)))
       ∙ ap (map (common_section (commons (m ∷ [])))) (sym all-names)

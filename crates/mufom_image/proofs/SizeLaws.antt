@@ -53,7 +53,8 @@ greatest-none (a ∷ asked) name none =
 
 -- what is the same as one that asks may be left out beside it
 greatest-without : (a : Asked) (asked : List Asked) (y : List ℕ)
-    → (if bytes_eq a.0 y then max a.1 (greatest_size (filter (λ d. not (same_common a d)) asked) y) else greatest_size (filter (λ d. not (same_common a d)) asked) y)
+    → (if bytes_eq a.0 y then max a.1 (greatest_size (filter (λ d. not (same_common a d)) asked) y)
+    else greatest_size (filter (λ d. not (same_common a d)) asked) y)
     ≡ (if bytes_eq a.0 y then max a.1 (greatest_size asked y) else greatest_size asked y)
 greatest-without a [] y = refl
 greatest-without a (d ∷ asked) y = by_same (same_common a d) refl (greatest-without a asked y) where
@@ -64,14 +65,17 @@ greatest-without a (d ∷ asked) y = by_same (same_common a d) refl (greatest-wi
   kept true false less more e = e
   kept false c less more e = ap (λ n. if c then max d.1 n else n) e
 
-  again : (b : Bool) (rest : ℕ) → (if b then max a.1 rest else rest) ≡ (if b then max a.1 (if b then max a.1 rest else rest) else (if b then max a.1 rest else rest))
+  again : (b : Bool) (rest : ℕ) → (if b then max a.1 rest else rest)
+      ≡ (if b then max a.1 (if b then max a.1 rest else rest) else (if b then max a.1 rest else rest))
   again true rest = max-twice a.1 rest
   again false rest = refl
 
   by_same : (b : Bool) → same_common a d ≡ b
-      → (if bytes_eq a.0 y then max a.1 (greatest_size (filter (λ d. not (same_common a d)) asked) y) else greatest_size (filter (λ d. not (same_common a d)) asked) y)
+      → (if bytes_eq a.0 y then max a.1 (greatest_size (filter (λ d. not (same_common a d)) asked) y)
+      else greatest_size (filter (λ d. not (same_common a d)) asked) y)
       ≡ (if bytes_eq a.0 y then max a.1 (greatest_size asked y) else greatest_size asked y)
-      → (if bytes_eq a.0 y then max a.1 (greatest_size (cond (not b) (d ∷ filter (λ d. not (same_common a d)) asked) (filter (λ d. not (same_common a d)) asked)) y)
+      → (if bytes_eq a.0 y then max a.1 (greatest_size (cond (not b) (d ∷ filter (λ d. not (same_common a d)) asked)
+      (filter (λ d. not (same_common a d)) asked)) y)
       else greatest_size (cond (not b) (d ∷ filter (λ d. not (same_common a d)) asked) (filter (λ d. not (same_common a d)) asked)) y)
       ≡ (if bytes_eq a.0 y then max a.1 (greatest_size (d ∷ asked) y) else greatest_size (d ∷ asked) y)
   by_same false e rest = kept (bytes_eq a.0 y) (bytes_eq d.0 y) (greatest_size (filter (λ d. not (same_common a d)) asked) y) (greatest_size asked y) rest

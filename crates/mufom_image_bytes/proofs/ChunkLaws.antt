@@ -1,5 +1,6 @@
 -- Chunks of bytes: more bytes after them, one chunk more, and a chunk that grows.
-use Rattle.std.proofs.Common.{◌≡◌, ℕ, zero, suc, ◌+◌, ◌-◌, ◌<◌, ◌≤◌, List, [], ◌∷◌, ◌++◌, length, take, drop, refl, sym, ◌∙◌, ap, subst, arith, append-nil, append_assoc, length-append}
+use Rattle.std.proofs.Common.{◌≡◌, ℕ, zero, suc, ◌+◌, ◌-◌, ◌<◌, ◌≤◌, List, [], ◌∷◌, ◌++◌, length, take, drop, refl, sym, ◌∙◌, ap, subst, arith}
+use Rattle.std.proofs.Common.{append-nil, append_assoc, length-append}
 use Rattle.mufom_meaning.specs.AddressMap.{cells_from}
 use Rattle.mufom_image_bytes.specs.declared.chunk.Chunk.{Chunk}
 use Rattle.mufom_image_bytes.specs.Chunks.{chunk_cells, cells_of_chunks, AreConsecutive}
@@ -61,17 +62,20 @@ pub consecutive-push : (start end : ℕ) (chunks : List Chunk) (c : Chunk) → A
 consecutive-push start end [] c h at some = let same = h in (at ∙ sym same, some, ap (λ n. n + c.count) same)
 consecutive-push start end (d ∷ chunks) c h at some = (h.0, h.1, consecutive-push (start + d.count) end chunks c h.2 at some)
 
-pub cells-push : (bytes : List ℕ) (chunks : List Chunk) (c : Chunk) → cells_of_chunks bytes (chunks ++ c ∷ []) ≡ cells_of_chunks bytes chunks ++ chunk_cells bytes c
+pub cells-push : (bytes : List ℕ) (chunks : List Chunk) (c : Chunk) → cells_of_chunks bytes (chunks ++ c ∷ []) ≡ cells_of_chunks bytes chunks
+    ++ chunk_cells bytes c
 cells-push bytes [] c = append-nil (chunk_cells bytes c)
 cells-push bytes (d ∷ chunks) c =
-    ap (λ cells. chunk_cells bytes d ++ cells) (cells-push bytes chunks c) ∙ sym (append_assoc (chunk_cells bytes d) (cells_of_chunks bytes chunks) (chunk_cells bytes c))
+    ap (λ cells. chunk_cells bytes d ++ cells) (cells-push bytes chunks c)
+    ∙ sym (append_assoc (chunk_cells bytes d) (cells_of_chunks bytes chunks) (chunk_cells bytes c))
 
 -- a chunk without bytes has no cells
 pub empty_chunk : (bytes : List ℕ) (c : Chunk) → c.count ≡ 0 → chunk_cells bytes c ≡ []
 empty_chunk bytes c none = ap (λ n. cells_from c.address (take n (drop c.start bytes))) none
 
 -- bytes that follow a chunk
-pub chunk_grown : (bytes more : List ℕ) (c grown : Chunk) → c.start + c.count ≡ length bytes → grown.address ≡ c.address → grown.start ≡ c.start → grown.count ≡ c.count + length more
+pub chunk_grown : (bytes more : List ℕ) (c grown : Chunk) → c.start + c.count ≡ length bytes → grown.address ≡ c.address → grown.start ≡ c.start
+    → grown.count ≡ c.count + length more
     → chunk_cells (bytes ++ more) grown ≡ chunk_cells bytes c ++ cells_from (c.address + c.count) more
 chunk_grown bytes more c grown ends address start count =
     let low : c.start ≤ length bytes = omega (arith, ends) in
@@ -89,20 +93,25 @@ chunk_grown bytes more c grown ends address start count =
     ∙ ap (λ own_bytes. cells_from c.address own_bytes ++ cells_from (c.address + c.count) more) (sym (take-all c.count (drop c.start bytes) own))
 
 -- the last chunk is put with the others
-pub closed : (chunks pushed : List Chunk) (last : Chunk) (end : ℕ) → pushed ≡ chunks ++ last ∷ [] → AreConsecutive 0 chunks last.start → last.start + last.count ≡ end → 0 < last.count
+pub closed : (chunks pushed : List Chunk) (last : Chunk) (end : ℕ) → pushed ≡ chunks ++ last ∷ [] → AreConsecutive 0 chunks last.start
+    → last.start + last.count ≡ end → 0 < last.count
     → AreConsecutive 0 pushed end
 closed chunks pushed last end same h ends some =
     subst (λ (x : List Chunk × ℕ). AreConsecutive 0 x.0 x.1) (λ i. (sym same i, ends i)) (consecutive-push 0 last.start chunks last h refl some)
 
 -- the last chunk has no bytes
-pub closed_empty : (chunks : List Chunk) (last : Chunk) (end : ℕ) → AreConsecutive 0 chunks last.start → last.start + last.count ≡ end → last.count ≡ 0 → AreConsecutive 0 chunks end
+pub closed_empty : (chunks : List Chunk) (last : Chunk) (end : ℕ) → AreConsecutive 0 chunks last.start → last.start + last.count ≡ end → last.count
+    ≡ 0 → AreConsecutive 0 chunks end
 closed_empty chunks last end h ends none = let same : last.start ≡ end = omega (arith, ends, none) in subst (AreConsecutive 0 chunks) same h
 
-pub without_last : (bytes : List ℕ) (chunks : List Chunk) (last : Chunk) → last.count ≡ 0 → cells_of_chunks bytes chunks ≡ cells_of_chunks bytes (chunks ++ last ∷ [])
-without_last bytes chunks last none = sym (append-nil (cells_of_chunks bytes chunks)) ∙ ap (λ cells. cells_of_chunks bytes chunks ++ cells) (sym (empty_chunk bytes last none)) ∙ sym (cells-push bytes chunks last)
+pub without_last : (bytes : List ℕ) (chunks : List Chunk) (last : Chunk) → last.count ≡ 0 → cells_of_chunks bytes chunks
+    ≡ cells_of_chunks bytes (chunks ++ last ∷ [])
+without_last bytes chunks last none = sym (append-nil (cells_of_chunks bytes chunks))
+    ∙ ap (λ cells. cells_of_chunks bytes chunks ++ cells) (sym (empty_chunk bytes last none)) ∙ sym (cells-push bytes chunks last)
 
 -- bytes that follow the last chunk
-pub extended : (chunks : List Chunk) (last grown : Chunk) (bytes more longer : List ℕ) → longer ≡ bytes ++ more → AreConsecutive 0 chunks last.start → last.start + last.count ≡ length bytes
+pub extended : (chunks : List Chunk) (last grown : Chunk) (bytes more longer : List ℕ) → longer ≡ bytes ++ more → AreConsecutive 0 chunks last.start
+    → last.start + last.count ≡ length bytes
     → grown.address ≡ last.address → grown.start ≡ last.start → grown.count ≡ last.count + length more
     → cells_of_chunks longer (chunks ++ grown ∷ []) ≡ cells_of_chunks bytes (chunks ++ last ∷ []) ++ cells_from (last.address + last.count) more
 extended chunks last grown bytes more longer same h ends address start count =

@@ -59,13 +59,16 @@ module _ (cells : List Cell) (bytes : List ℕ) (chunks sorted : List Chunk) (h 
   low_addresses : AreLow cells → (a : ℕ) → Contains (addresses_of chunks) a → a < 2 ^ 64
   low_addresses low a there = low a (subst (λ all. Contains all a) (sym own_addresses) there)
 
-  first_end : (result : Option Stop) (stop : Option LocateFact) → EndsFirst sorted (length bytes) stop (option_map fact_of result) → AreLow cells → (first_twice [] (cell_addresses cells) or_else stop) ≡ option_map fact_of result
+  first_end : (result : Option Stop) (stop : Option LocateFact) → EndsFirst sorted (length bytes) stop (option_map fact_of result) → AreLow cells
+      → (first_twice [] (cell_addresses cells) or_else stop) ≡ option_map fact_of result
   first_end result stop e low = ap (λ all. first_twice [] all or_else stop) own_addresses ∙ sym (e chunks (h.permuted, h.consecutive, low_addresses low))
 
-  pub refused : (other : Stop) (stop : Option LocateFact) → EndsFirst sorted (length bytes) stop (Some (fact_of other)) → IsRefusal cells stop (refusals.Stopped other)
+  pub refused : (other : Stop) (stop : Option LocateFact) → EndsFirst sorted (length bytes) stop (Some (fact_of other))
+      → IsRefusal cells stop (refusals.Stopped other)
   refused other stop e = λ low. first_end (Some other) stop e low
 
-  pub imaged : (stop : Option Stop) (runs : List Run) → EndsFirst sorted (length bytes) (option_map fact_of stop) None → stop ≡ None → AreApart 0 runs → run_cells runs ≡ cells_of_chunks bytes sorted
+  pub imaged : (stop : Option Stop) (runs : List Run) → EndsFirst sorted (length bytes) (option_map fact_of stop) None → stop ≡ None → AreApart 0 runs
+      → run_cells runs ≡ cells_of_chunks bytes sorted
       → IsImage cells (option_map fact_of stop) runs
   imaged stop runs e none apart rows = record {
     ended = ap (option_map fact_of) none;
@@ -76,7 +79,8 @@ module _ (cells : List Cell) (bytes : List ℕ) (chunks sorted : List Chunk) (h 
     };
   } where
     forth : (cell : Cell) → Contains cells cell → Contains (run_cells runs) cell
-    forth cell there = subst (λ all. Contains all cell) (sym rows) (cells_permuted bytes chunks sorted h.permuted cell (subst (λ all. Contains all cell) (sym h.same) there))
+    forth cell there = subst (λ all. Contains all cell) (sym rows)
+        (cells_permuted bytes chunks sorted h.permuted cell (subst (λ all. Contains all cell) (sym h.same) there))
 
     back : (cell : Cell) → Contains (run_cells runs) cell → Contains cells cell
     back cell there =
@@ -96,7 +100,8 @@ module _ (layout : Layout) (worth : WorthAt) (loads : List Load) (high : layout.
 
   module _ (s : Setting) (site : Sited) (h : AreWalked s site layout worth loads) where
     positive : 0 < s.modulus
-    positive = let same = h.laid_out.modulus in let two : 0 < 2 = omega arith in let low : 0 ≤ layout.width = omega arith in let some : 2 ^ 0 ≤ 2 ^ layout.width = pow-le-pow_right two low in omega (arith, same, some)
+    positive = let same = h.laid_out.modulus in let two : 0 < 2 = omega arith in let low : 0 ≤ layout.width = omega arith in
+        let some : 2 ^ 0 ≤ 2 ^ layout.width = pow-le-pow_right two low in omega (arith, same, some)
 
     first : AreFirstCounters s (first_counters layout)
     first = record {
@@ -120,7 +125,8 @@ module _ (layout : Layout) (worth : WorthAt) (loads : List Load) (high : layout.
         let most : 2 ^ layout.width ≤ 2 ^ 64 = pow-le-pow_right some high in
         omega (arith, under, same, most)
 
-  pub image_there : (cells : List Cell) (stop : Option LocateFact) (runs : List Run) → cells ≡ outcome.0.cells → stop ≡ outcome.1 → IsImage cells stop runs → IsImageOf layout worth loads runs
+  pub image_there : (cells : List Cell) (stop : Option LocateFact) (runs : List Run) → cells ≡ outcome.0.cells → stop ≡ outcome.1
+      → IsImage cells stop runs → IsImageOf layout worth loads runs
   image_there cells stop runs e f i = λ s site h.
       let w = walk s site h in
       let lowest = subst AreLow (sym e) (low s site h) in
@@ -129,7 +135,8 @@ module _ (layout : Layout) (worth : WorthAt) (loads : List Load) (high : layout.
         subst (λ all. AreRowsOf all runs) (e ∙ w.1 none) i.rows,
       )
 
-  pub refusal_there : (cells : List Cell) (stop : Option LocateFact) (refusal : ImageRefusal) → cells ≡ outcome.0.cells → stop ≡ outcome.1 → IsRefusal cells stop refusal → IsRefusalOf layout worth loads refusal
+  pub refusal_there : (cells : List Cell) (stop : Option LocateFact) (refusal : ImageRefusal) → cells ≡ outcome.0.cells → stop ≡ outcome.1
+      → IsRefusal cells stop refusal → IsRefusalOf layout worth loads refusal
   refusal_there cells stop refusals.NoMemory e f i = tt {0}
   refusal_there cells stop (refusals.Stopped other) e f i = λ s site h.
       (walk s site h).0

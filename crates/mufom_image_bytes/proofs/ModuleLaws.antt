@@ -1,5 +1,6 @@
 -- The loads of a module without a defect are walked so, once its sections are placed and its publics have values.
-use Rattle.std.proofs.Common.{◌≡◌, ℕ, zero, suc, ◌+◌, ◌*◌, ◌^◌, ◌<◌, ◌≤◌, ◌⊎◌, inl, inr, List, [], ◌∷◌, ◌++◌, length, Option, Some, None, true, false, not, ◌&&◌, ◌||◌, refl, sym, ◌∙◌, ap, subst, arith, rules, append-nil}
+use Rattle.std.proofs.Common.{◌≡◌, ℕ, zero, suc, ◌+◌, ◌*◌, ◌^◌, ◌<◌, ◌≤◌, ◌⊎◌, inl, inr, List, [], ◌∷◌, ◌++◌, length, Option, Some, None, true, false}
+use Rattle.std.proofs.Common.{not, ◌&&◌, ◌||◌, refl, sym, ◌∙◌, ap, subst, arith, rules, append-nil}
 use Rattle.std.specs.Prelude.{slice_get, ◌==◌, nat_lt, nat_le}
 use Rattle.std.specs.List.{All, list_any}
 use Rattle.std.proofs.lemmas.List.Elements.{All-nil, All-cons}
@@ -61,7 +62,8 @@ narrow_item (Field kind t size) e = (size_there size e).1
 narrow_items : (items : List Item) → list_any has_bad_size items ≡ false → All IsNarrow items
 narrow_items [] e = All-nil IsNarrow
 narrow_items (item ∷ items) e =
-    let two = either_false (has_bad_size item) (list_any has_bad_size items) e in All-cons IsNarrow item items (narrow_item item two.0) (narrow_items items two.1)
+    let two = either_false (has_bad_size item) (list_any has_bad_size items) e in
+    All-cons IsNarrow item items (narrow_item item two.0) (narrow_items items two.1)
 
 narrow_load : (load : Load) → any_item has_bad_size load ≡ false → HasNarrowItems load
 narrow_load (SetSection section) e = tt {0}
@@ -72,7 +74,8 @@ narrow_load (Repeat count items) e = narrow_items items e
 narrow_loads : (loads : List Load) → list_any (any_item has_bad_size) loads ≡ false → All HasNarrowItems loads
 narrow_loads [] e = All-nil HasNarrowItems
 narrow_loads (load ∷ loads) e =
-    let two = either_false (any_item has_bad_size load) (list_any (any_item has_bad_size) loads) e in All-cons HasNarrowItems load loads (narrow_load load two.0) (narrow_loads loads two.1)
+    let two = either_false (any_item has_bad_size load) (list_any (any_item has_bad_size) loads) e in
+    All-cons HasNarrowItems load loads (narrow_load load two.0) (narrow_loads loads two.1)
 
 -- the fields of a module without a defect have at most eight bytes
 pub valid_narrow : (m : Parts) → IsValid m → All HasNarrowItems m.loads
@@ -109,22 +112,27 @@ module _ (home : Sited) where
   own_item section (Literal bytes) e = refl
   own_item section (Field kind t size) e = (refl, (size_there size e).0)
 
-  own_items : (current : Option ℕ) (items : List Item) → list_any has_bad_size items ≡ false → (step : Step) → In step (item_steps home current items) → IsOwn home step
+  own_items : (current : Option ℕ) (items : List Item) → list_any has_bad_size items ≡ false → (step : Step) → In step (item_steps home current items)
+      → IsOwn home step
   own_items None items e step h = absurd h
   own_items (Some section) [] e step h = absurd h
   own_items (Some section) (item ∷ items) e step h =
-      let two = either_false (has_bad_size item) (list_any has_bad_size items) e in by_case h (own_items (Some section) items two.1 step) (own_item (home.first_section + section) item two.0) where
-        by_case : In step (item_steps home (Some section) (item ∷ items)) → (In step (item_steps home (Some section) items) → IsOwn home step) → IsOwn home (item_step home (home.first_section + section) item) → IsOwn home step
+      let two = either_false (has_bad_size item) (list_any has_bad_size items) e in
+      by_case h (own_items (Some section) items two.1 step) (own_item (home.first_section + section) item two.0) where
+        by_case : In step (item_steps home (Some section) (item ∷ items)) → (In step (item_steps home (Some section) items) → IsOwn home step)
+            → IsOwn home (item_step home (home.first_section + section) item) → IsOwn home step
         by_case (inl same) later own = subst (IsOwn home) same own
         by_case (inr k) later own = later k
 
-  either_own : (step : Step) (own rest : List Step) → In step (own ++ rest) → (In step own → IsOwn home step) → (In step rest → IsOwn home step) → IsOwn home step
+  either_own : (step : Step) (own rest : List Step) → In step (own ++ rest) → (In step own → IsOwn home step) → (In step rest → IsOwn home step)
+      → IsOwn home step
   either_own step own rest h here later = by_case (In-append step own rest h) where
     by_case : In step own ⊎ In step rest → IsOwn home step
     by_case (inl k) = here k
     by_case (inr k) = later k
 
-  own_steps : (current : Option ℕ) (loads : List Load) → list_any (any_item has_bad_size) loads ≡ false → (step : Step) → In step (steps_of home current loads) → IsOwn home step
+  own_steps : (current : Option ℕ) (loads : List Load) → list_any (any_item has_bad_size) loads ≡ false → (step : Step)
+      → In step (steps_of home current loads) → IsOwn home step
   own_steps current [] e step h = absurd h
   own_steps current (SetSection section ∷ loads) e step h = own_steps (Some section) loads e step h
   own_steps current (SetPc section t ∷ loads) e step (inl same) = subst (IsOwn home) same refl
@@ -141,11 +149,13 @@ module _ (home : Sited) where
 -- ---- from a public no zero divisor is met
 
 module _ (s : Setting) (clear : (q : SitedPublic) → StandsIn q s.publics → has_zero_divisor s q.site None q.entry.value ≡ false) where
-  public_clear : (c : CounterPlace) (site : Sited) (t : Tree) → MeetsZeroDivisor s c site t → c ≡ None → (q : SitedPublic) → StandsIn q s.publics → q.site ≡ site → q.entry.value ≡ t → ⊥
+  public_clear : (c : CounterPlace) (site : Sited) (t : Tree) → MeetsZeroDivisor s c site t → c ≡ None → (q : SitedPublic) → StandsIn q s.publics
+      → q.site ≡ site → q.entry.value ≡ t → ⊥
   public_clear _ _ _ (itself c site t h) none q there e f =
       let zero_there : has_zero_divisor s q.site None q.entry.value ≡ true = (λ i. has_zero_divisor s (e i) (counter_there s (sym none i)) (f i)) ∙ h in
       let no_zero = clear q there in cc
-  public_clear _ _ _ (through_name c site t p m later) none q there e f = public_clear None p.site p.entry.value later refl p (mentioned-among s site t p m) refl refl
+  public_clear _ _ _ (through_name c site t p m later) none q there e f =
+      public_clear None p.site p.entry.value later refl p (mentioned-among s site t p m) refl refl
   public_clear _ _ _ (through_counter earlier before section n site setter t set m last later) none q there e f = cc
 
 -- ---- the module
@@ -169,7 +179,8 @@ module _ (m : Parts) (valid : IsValid m) (placed : Bases) (bases : List ℕ) (wo
   named = has_all_named ms placed are_valid (h.count ∙ ap length (sym (append-nil m.sections))) h.once h.defined h.commons h.acyclic
 
   clear : (q : SitedPublic) → StandsIn q s.publics → has_zero_divisor s q.site None q.entry.value ≡ false
-  clear q there = chosen_none (has_zero_divisor s q.site None q.entry.value) (zero_divisor (sites.Public q.entry.name)) (first_some_none (public_fact s) s.publics h.publics q there.0 there.1)
+  clear q there = chosen_none (has_zero_divisor s q.site None q.entry.value) (zero_divisor (sites.Public q.entry.name))
+      (first_some_none (public_fact s) s.publics h.publics q there.0 there.1)
 
   has_worth : (t : Tree) → IsWellNamed s (home_of m) t → HasWorth s worth (home_of m) t
   has_worth t well = record {
@@ -193,7 +204,8 @@ module _ (m : Parts) (valid : IsValid m) (placed : Bases) (bases : List ℕ) (wo
   all_steps : steps ms ≡ steps_of (home_of m) None m.loads
   all_steps = append-nil (steps_of (home_of m) None m.loads)
 
-  walked_so : (layout : Layout) → layout.width ≡ 8 * m.maus → layout.bases.now ≡ bases → layout.sections.now ≡ m.sections → AreWalked s (home_of m) layout worth m.loads
+  walked_so : (layout : Layout) → layout.width ≡ 8 * m.maus → layout.bases.now ≡ bases → layout.sections.now ≡ m.sections
+      → AreWalked s (home_of m) layout worth m.loads
   walked_so layout wide based sectioned = record {
     laid_out = record {
       modulus = ap (λ n. 2 ^ n) (sym wide);
@@ -204,10 +216,12 @@ module _ (m : Parts) (valid : IsValid m) (placed : Bases) (bases : List ℕ) (wo
     at_first = refl;
     plain = λ step there.
         let in_steps = In-at step (steps_of (home_of m) None m.loads) there.0 there.1 in
-        plain_step step (own_steps (home_of m) None m.loads (no_defect m valid d.FieldSize) step in_steps) (named.loads step (subst (In step) (sym all_steps) in_steps));
+        plain_step step (own_steps (home_of m) None m.loads (no_defect m valid d.FieldSize) step in_steps)
+        (named.loads step (subst (In step) (sym all_steps) in_steps));
   }
 
-pub module_image : (m : Parts) → IsValid m → (layout : Layout) (bases : List ℕ) (worth : WorthAt) → layout.width ≡ 8 * m.maus → layout.bases.now ≡ bases → layout.sections.now ≡ m.sections → layout.order ≡ m.order
+pub module_image : (m : Parts) → IsValid m → (layout : Layout) (bases : List ℕ) (worth : WorthAt) → layout.width ≡ 8 * m.maus → layout.bases.now
+    ≡ bases → layout.sections.now ≡ m.sections → layout.order ≡ m.order
     → (runs : List Run) → IsImageOf layout worth m.loads runs → IsImageOfModule m bases worth runs
 module_image m valid layout bases worth wide based sectioned ordered runs image = λ placed h.
     let s = setting (m ∷ []) placed in
@@ -221,7 +235,8 @@ module_image m valid layout bases worth wide based sectioned ordered runs image 
           there.1,
     )
 
-pub module_refusal : (m : Parts) → IsValid m → (layout : Layout) (bases : List ℕ) (worth : WorthAt) → layout.width ≡ 8 * m.maus → layout.bases.now ≡ bases → layout.sections.now ≡ m.sections
+pub module_refusal : (m : Parts) → IsValid m → (layout : Layout) (bases : List ℕ) (worth : WorthAt) → layout.width ≡ 8 * m.maus → layout.bases.now
+    ≡ bases → layout.sections.now ≡ m.sections
     → (refusal : ImageRefusal) → IsRefusalOf layout worth m.loads refusal → IsRefusalOfModule m bases worth refusal
 module_refusal m valid layout bases worth wide based sectioned refusals.NoMemory there = tt {0}
 module_refusal m valid layout bases worth wide based sectioned (refusals.Stopped stop) there = λ placed h.

@@ -1,5 +1,6 @@
 -- One step of what bodies do not unfold: the outcome of an item.
-use Rattle.std.proofs.Common.{◌≡◌, ◌≢◌, ℕ, zero, suc, ◌+◌, ◌-◌, ◌<◌, cond, map, length, List, [], ◌∷◌, ◌++◌, Option, Some, None, Bool, true, false, refl, sym, ◌∙◌, ap, arith}
+use Rattle.std.proofs.Common.{◌≡◌, ◌≢◌, ℕ, zero, suc, ◌+◌, ◌-◌, ◌<◌, cond, map, length, List, [], ◌∷◌, ◌++◌, Option, Some, None, Bool, true, false}
+use Rattle.std.proofs.Common.{refl, sym, ◌∙◌, ap, arith}
 use Rattle.std.specs.Prelude.{◌==◌, nat_lt, is_some, filter, option_map, slice_index, if◌then◌else◌}
 use Rattle.mufom_loads.specs.declared.load.Item.{Item}
 use Rattle.mufom_loads.specs.Lengths.{byte_count, repeated}
@@ -19,12 +20,14 @@ module _ (layout : Layout) (worth : WorthAt) (section : ℕ) where
     zero_is h = grind (arith, h)
 
     chosen : (b : Bool) → b ≡ true → ◌≡◌ {A = Outcome}
-        (if b then (p, None) else placed_outcome layout worth section (slice_index p.counters section) item (outside_in layout section (slice_index p.counters section) (byte_count item)) p) (p, None)
+        (if b then (p, None) else placed_outcome layout worth section (slice_index p.counters section) item
+        (outside_in layout section (slice_index p.counters section) (byte_count item)) p) (p, None)
     chosen true e = refl
     chosen false e = absurd cc
 
   -- another one is put where none of its bytes lies outside
-  pub item_placed : (item : Item) (p : Progress) (at count : ℕ) (outside : Option LocateFact) → byte_count item ≢ 0 → at ≡ slice_index p.counters section → count ≡ byte_count item
+  pub item_placed : (item : Item) (p : Progress) (at count : ℕ) (outside : Option LocateFact) → byte_count item ≢ 0 → at
+      ≡ slice_index p.counters section → count ≡ byte_count item
       → outside ≡ outside_in layout section at count → item_outcome layout worth section item p ≡ placed_outcome layout worth section at item outside p
   unfolding item_outcome
   item_placed item p at count outside some here long e =
@@ -36,27 +39,35 @@ module _ (layout : Layout) (worth : WorthAt) (section : ℕ) where
         nonzero h = grind (arith, h)
 
         chosen : (b : Bool) → b ≡ false → ◌≡◌ {A = Outcome}
-            (if b then (p, None) else placed_outcome layout worth section (slice_index p.counters section) item (outside_in layout section (slice_index p.counters section) (byte_count item)) p)
-            (placed_outcome layout worth section (slice_index p.counters section) item (outside_in layout section (slice_index p.counters section) (byte_count item)) p)
+            (if b then (p, None) else placed_outcome layout worth section (slice_index p.counters section) item
+            (outside_in layout section (slice_index p.counters section) (byte_count item)) p)
+            (placed_outcome layout worth section (slice_index p.counters section) item
+            (outside_in layout section (slice_index p.counters section) (byte_count item)) p)
         chosen true e = absurd cc
         chosen false e = refl
 
   -- ---- items, one after another
 
   pub items_outcome-append : (xs ys : List Item) (p : Progress)
-      → items_outcome layout worth section (xs ++ ys) p ≡ (let first = items_outcome layout worth section xs p in continued first.0 first.1 (λ q. items_outcome layout worth section ys q))
+      → items_outcome layout worth section (xs ++ ys) p ≡ (let first = items_outcome layout worth section xs p in
+      continued first.0 first.1 (λ q. items_outcome layout worth section ys q))
   items_outcome-append [] ys p = refl
-  items_outcome-append (x ∷ xs) ys p = by_fact (item_outcome layout worth section x p).0 (item_outcome layout worth section x p).1 (λ q. items_outcome-append xs ys q) where
-    by_fact : (q : Progress) (f : Option LocateFact)
-        → ((q : Progress) → items_outcome layout worth section (xs ++ ys) q ≡ (let first = items_outcome layout worth section xs q in continued first.0 first.1 (λ q. items_outcome layout worth section ys q)))
-        → continued q f (λ q. items_outcome layout worth section (xs ++ ys) q)
-        ≡ (let first = continued q f (λ q. items_outcome layout worth section xs q) in continued first.0 first.1 (λ q. items_outcome layout worth section ys q))
-    by_fact q None later = later q
-    by_fact q (Some fact) later = refl
+  items_outcome-append (x ∷ xs) ys p = by_fact (item_outcome layout worth section x p).0 (item_outcome layout worth section x p).1
+      (λ q. items_outcome-append xs ys q) where
+        by_fact : (q : Progress) (f : Option LocateFact)
+            → ((q : Progress) → items_outcome layout worth section (xs ++ ys) q
+            ≡ (let first = items_outcome layout worth section xs q in continued first.0 first.1 (λ q. items_outcome layout worth section ys q)))
+            → continued q f (λ q. items_outcome layout worth section (xs ++ ys) q)
+            ≡ (let first = continued q f (λ q. items_outcome layout worth section xs q) in
+            continued first.0 first.1 (λ q. items_outcome layout worth section ys q))
+        by_fact q None later = later q
+        by_fact q (Some fact) later = refl
 
   -- one more copy of items
-  copy_more : (items : List Item) (count counter : ℕ) (p q : Progress) (f : Option LocateFact) → counter < count → ◌≡◌ {A = Outcome} (q, f) (items_outcome layout worth section items p)
-      → items_outcome layout worth section (repeated (count - counter) items) p ≡ continued q f (λ r. items_outcome layout worth section (repeated (count - (counter + 1)) items) r)
+  copy_more : (items : List Item) (count counter : ℕ) (p q : Progress) (f : Option LocateFact) → counter < count
+      → ◌≡◌ {A = Outcome} (q, f) (items_outcome layout worth section items p)
+      → items_outcome layout worth section (repeated (count - counter) items) p
+      ≡ continued q f (λ r. items_outcome layout worth section (repeated (count - (counter + 1)) items) r)
   copy_more items count counter p q f less e =
       let next : count - counter ≡ suc (count - (counter + 1)) = omega (arith, less) in
       ap (λ n. items_outcome layout worth section (repeated n items) p) next
@@ -78,10 +89,12 @@ module _ (layout : Layout) (worth : WorthAt) (section : ℕ) where
   copies_end items count counter first p q (Some stop) less some before e = sym (before ∙ copy_more items count counter p q (Some (fact_of stop)) less e)
 
   -- items without bytes change nothing
-  pub with_bytes_alone : (items : List Item) (p : Progress) → items_outcome layout worth section (filter has_bytes items) p ≡ items_outcome layout worth section items p
+  pub with_bytes_alone : (items : List Item) (p : Progress) → items_outcome layout worth section (filter has_bytes items) p
+      ≡ items_outcome layout worth section items p
   with_bytes_alone [] p = refl
   with_bytes_alone (item ∷ items) p = by_test (has_bytes item) refl (λ q. with_bytes_alone items q) where
-    same_after : (q : Progress) (f : Option LocateFact) → ((q : Progress) → items_outcome layout worth section (filter has_bytes items) q ≡ items_outcome layout worth section items q)
+    same_after : (q : Progress) (f : Option LocateFact) → ((q : Progress) → items_outcome layout worth section (filter has_bytes items) q
+        ≡ items_outcome layout worth section items q)
         → continued q f (λ r. items_outcome layout worth section (filter has_bytes items) r) ≡ continued q f (λ r. items_outcome layout worth section items r)
     same_after q None later = later q
     same_after q (Some fact) later = refl
@@ -89,23 +102,29 @@ module _ (layout : Layout) (worth : WorthAt) (section : ℕ) where
     no_bytes : (n : ℕ) → nat_lt 0 n ≡ false → n ≡ 0
     no_bytes n e = grind (arith, e)
 
-    by_test : (b : Bool) → has_bytes item ≡ b → ((q : Progress) → items_outcome layout worth section (filter has_bytes items) q ≡ items_outcome layout worth section items q)
-        → items_outcome layout worth section (cond b (item ∷ filter has_bytes items) (filter has_bytes items)) p ≡ items_outcome layout worth section (item ∷ items) p
+    by_test : (b : Bool) → has_bytes item ≡ b → ((q : Progress) → items_outcome layout worth section (filter has_bytes items) q
+        ≡ items_outcome layout worth section items q)
+        → items_outcome layout worth section (cond b (item ∷ filter has_bytes items) (filter has_bytes items)) p
+        ≡ items_outcome layout worth section (item ∷ items) p
     by_test true e later = same_after (item_outcome layout worth section item p).0 (item_outcome layout worth section item p).1 later
     by_test false e later =
-        later p ∙ ap (λ (first : Outcome). continued first.0 first.1 (λ q. items_outcome layout worth section items q)) (sym (item_empty item p (no_bytes (byte_count item) e)))
+        later p ∙ ap (λ (first : Outcome). continued first.0 first.1 (λ q. items_outcome layout worth section items q))
+        (sym (item_empty item p (no_bytes (byte_count item) e)))
 
   pub repeated_with_bytes : (count : ℕ) (items : List Item) (p : Progress)
       → items_outcome layout worth section (repeated count (filter has_bytes items)) p ≡ items_outcome layout worth section (repeated count items) p
   repeated_with_bytes zero items p = refl
   repeated_with_bytes (suc n) items p =
       items_outcome-append (filter has_bytes items) (repeated n (filter has_bytes items)) p
-      ∙ ap (λ (first : Outcome). continued first.0 first.1 (λ q. items_outcome layout worth section (repeated n (filter has_bytes items)) q)) (with_bytes_alone items p)
+      ∙ ap (λ (first : Outcome). continued first.0 first.1 (λ q. items_outcome layout worth section (repeated n (filter has_bytes items)) q))
+      (with_bytes_alone items p)
       ∙ same_after (items_outcome layout worth section items p).0 (items_outcome layout worth section items p).1 (λ q. repeated_with_bytes n items q)
       ∙ sym (items_outcome-append items (repeated n items) p) where
         same_after : (q : Progress) (f : Option LocateFact)
-            → ((q : Progress) → items_outcome layout worth section (repeated n (filter has_bytes items)) q ≡ items_outcome layout worth section (repeated n items) q)
-            → continued q f (λ r. items_outcome layout worth section (repeated n (filter has_bytes items)) r) ≡ continued q f (λ r. items_outcome layout worth section (repeated n items) r)
+            → ((q : Progress) → items_outcome layout worth section (repeated n (filter has_bytes items)) q
+            ≡ items_outcome layout worth section (repeated n items) q)
+            → continued q f (λ r. items_outcome layout worth section (repeated n (filter has_bytes items)) r)
+            ≡ continued q f (λ r. items_outcome layout worth section (repeated n items) r)
         same_after q None later = later q
         same_after q (Some fact) later = refl
 
@@ -114,6 +133,7 @@ module _ (layout : Layout) (worth : WorthAt) (section : ℕ) where
   nothing_repeated (suc n) = nothing_repeated n
 
   -- copies of no items change nothing
-  pub repeated_empty : {R : Type 0} (now : R → Item) (count : ℕ) (items : List R) (p : Progress) → length items ≡ 0 → ◌≡◌ {A = Outcome} (p, None) (items_outcome layout worth section (repeated count (map now items)) p)
+  pub repeated_empty : {R : Type 0} (now : R → Item) (count : ℕ) (items : List R) (p : Progress) → length items ≡ 0
+      → ◌≡◌ {A = Outcome} (p, None) (items_outcome layout worth section (repeated count (map now items)) p)
   repeated_empty now count [] p none = ap (λ all. items_outcome layout worth section all p) (sym (nothing_repeated count))
   repeated_empty now count (item ∷ items) p none = absurd (omega (arith, none))

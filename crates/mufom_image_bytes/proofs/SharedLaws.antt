@@ -1,5 +1,6 @@
 -- Chunks that go by address share an address exactly where one begins before the end of the one before it.
-use Rattle.std.proofs.Common.{◌≡◌, ℕ, zero, suc, ◌+◌, ◌-◌, ◌<◌, ◌≤◌, min, List, [], ◌∷◌, ◌++◌, length, take, drop, Some, None, Bool, true, false, ◌||◌, ◌&&◌, inl, inr, refl, sym, ◌∙◌, ap, subst, arith, length-append}
+use Rattle.std.proofs.Common.{◌≡◌, ℕ, zero, suc, ◌+◌, ◌-◌, ◌<◌, ◌≤◌, min, List, [], ◌∷◌, ◌++◌, length, take, drop, Some, None, Bool, true, false}
+use Rattle.std.proofs.Common.{◌||◌, ◌&&◌, inl, inr, refl, sym, ◌∙◌, ap, subst, arith, length-append}
 use Rattle.std.specs.Prelude.{◌==◌, nat_lt, nat_le, slice_get, if◌then◌else◌}
 use Rattle.std.specs.List.{sum_by}
 use Rattle.std.specs.List.Sorted.{IsPermutation}
@@ -58,8 +59,11 @@ none_often (x ∷ xs) earlier e a = by_case (has_number earlier x) refl e (none_
       let same = equal_numbers x a f in
       (omega (arith, gone, one), λ there. absurd (let clash : has_number earlier x ≡ true = ap (has_number earlier) same ∙ there in cc))
   by_number false f none later =
-      let zero_bit = ap bit f in
-      (let few = later.0 in omega (arith, few, zero_bit), λ there. let gone = later.1 (ap (λ c. c || has_number earlier a) f ∙ there) in omega (arith, gone, zero_bit))
+      let zero_bit = ap bit f in (
+        let few = later.0 in omega (arith, few, zero_bit),
+        λ there. let gone = later.1 (ap (λ c. c || has_number earlier a) f ∙ there) in
+            omega (arith, gone, zero_bit),
+      )
 
   by_case : (b : Bool) → has_number earlier x ≡ b → (if b then Some (loaded_twice x) else first_twice (x ∷ earlier) xs) ≡ None
       → (first_twice (x ∷ earlier) xs ≡ None → (c : ℕ) → (times c xs ≤ 1) × (has_number (x ∷ earlier) c ≡ true → times c xs ≡ 0))
@@ -130,7 +134,8 @@ covers_nothing low a = grind arith
 times_counted : (n at a : ℕ) → times a (counted_from n at) ≡ covers at n a
 times_counted zero at a = let none = covers_nothing at a in omega (arith, none)
 times_counted (suc n) at a = by_case (at == a) refl (times_counted n (suc at) a) where
-  by_case : (b : Bool) → (at == a) ≡ b → times a (counted_from n (suc at)) ≡ covers (suc at) n a → bit (at == a) + times a (counted_from n (suc at)) ≡ covers at (suc n) a
+  by_case : (b : Bool) → (at == a) ≡ b → times a (counted_from n (suc at)) ≡ covers (suc at) n a → bit (at == a) + times a (counted_from n (suc at))
+      ≡ covers at (suc n) a
   by_case true e later =
       let same = equal_numbers at a e in let one = ap bit e in
       let none : covers (suc at) n a ≡ 0 = covers_below (suc at) n a (omega (arith, same)) in
@@ -208,15 +213,17 @@ get_left (x ∷ xs) ys (suc i) less = get_left xs ys i (omega (arith, less))
 pub byte_address : (start end : ℕ) (chunks : List Chunk) → AreConsecutive start chunks end → (c : Chunk) → In c chunks → (n : ℕ) → HasByte c n
     → slice_get (addresses_of chunks) (n - start) ≡ Some (c.address + (n - c.start))
 byte_address start end [] h c there n has = absurd there
-byte_address start end (d ∷ chunks) h c (inl same) n has = subst (λ (e : Chunk). HasByte e n → slice_get (addresses_of (d ∷ chunks)) (n - start) ≡ Some (e.address + (n - e.start))) same first has where
-  first : HasByte d n → slice_get (addresses_of (d ∷ chunks)) (n - start) ≡ Some (d.address + (n - d.start))
-  first has =
-      let from = h.0 in
-      let less : n - start < d.count = omega (arith, from, has) in
-      let own = length_counted d.count d.address in
-      let short : n - start < length (chunk_addresses d) = omega (arith, less, own) in
-      let same_offset : n - start ≡ n - d.start = omega (arith, from) in
-      get_left (chunk_addresses d) (addresses_of chunks) (n - start) short ∙ counted_get d.count d.address (n - start) less ∙ ap (λ k. Some (d.address + k)) same_offset
+byte_address start end (d ∷ chunks) h c (inl same) n has = subst (λ (e : Chunk). HasByte e n → slice_get (addresses_of (d ∷ chunks)) (n - start)
+    ≡ Some (e.address + (n - e.start))) same first has where
+      first : HasByte d n → slice_get (addresses_of (d ∷ chunks)) (n - start) ≡ Some (d.address + (n - d.start))
+      first has =
+          let from = h.0 in
+          let less : n - start < d.count = omega (arith, from, has) in
+          let own = length_counted d.count d.address in
+          let short : n - start < length (chunk_addresses d) = omega (arith, less, own) in
+          let same_offset : n - start ≡ n - d.start = omega (arith, from) in
+          get_left (chunk_addresses d) (addresses_of chunks) (n - start) short ∙ counted_get d.count d.address (n - start) less
+          ∙ ap (λ k. Some (d.address + k)) same_offset
 byte_address start end (d ∷ chunks) h c (inr there) n has =
     let later = byte_address (start + d.count) end chunks h.2 c there n has in
     let low = starts_after (start + d.count) end chunks h.2 c there in
@@ -225,20 +232,24 @@ byte_address start end (d ∷ chunks) h c (inr there) n has =
     ap (slice_get (addresses_of (d ∷ chunks))) offset ∙ get-skip (chunk_addresses d) (addresses_of chunks) (n - (start + d.count)) ∙ later where
       starts_after : (start end : ℕ) (chunks : List Chunk) → AreConsecutive start chunks end → (c : Chunk) → In c chunks → start ≤ c.start
       starts_after start end [] h c there = absurd there
-      starts_after start end (e ∷ chunks) h c (inl same) = let from = h.0 in let equal : e.start ≡ c.start = ap (λ (x : Chunk). x.start) same in omega (arith, from, equal)
+      starts_after start end (e ∷ chunks) h c (inl same) = let from = h.0 in let equal : e.start ≡ c.start = ap (λ (x : Chunk). x.start) same in
+          omega (arith, from, equal)
       starts_after start end (e ∷ chunks) h c (inr there) = let later = starts_after (start + e.count) end chunks h.2 c there in omega (arith, later)
 
-pub byte_there : (start end : ℕ) (chunks : List Chunk) → AreConsecutive start chunks end → (n : ℕ) → start ≤ n → n < end → (c : Chunk) × In c chunks × HasByte c n
+pub byte_there : (start end : ℕ) (chunks : List Chunk) → AreConsecutive start chunks end → (n : ℕ) → start ≤ n → n < end → (c : Chunk) × In c chunks
+    × HasByte c n
 byte_there start end [] h n low high = let same = h in absurd (omega (arith, same, low, high))
 byte_there start end (c ∷ chunks) h n low high = by_case (nat_lt n (start + c.count)) refl (byte_there (start + c.count) end chunks h.2 n) where
-  by_case : (b : Bool) → nat_lt n (start + c.count) ≡ b → (start + c.count ≤ n → n < end → (d : Chunk) × In d chunks × HasByte d n) → (d : Chunk) × In d (c ∷ chunks) × HasByte d n
+  by_case : (b : Bool) → nat_lt n (start + c.count) ≡ b → (start + c.count ≤ n → n < end → (d : Chunk) × In d chunks × HasByte d n) → (d : Chunk)
+      × In d (c ∷ chunks) × HasByte d n
   by_case true e later = let less = of_lt n (start + c.count) e in let from = h.0 in (c, inl refl, (omega (arith, from, low), omega (arith, from, less)))
   by_case false e later = let more = of_not_lt n (start + c.count) e in let found = later more high in (found.0, inr found.1, found.2)
 
 -- ---- chunks by address
 
 -- where none begins before the end of the one before it, each address stands in one at most, and at the end or after it
-apart_chunks : (k end : ℕ) (chunks : List Chunk) → shares_from k end chunks ≡ false → (a : ℕ) → (total (in_part k a) chunks ≤ 1) × (a < end → total (in_part k a) chunks ≡ 0)
+apart_chunks : (k end : ℕ) (chunks : List Chunk) → shares_from k end chunks ≡ false → (a : ℕ) → (total (in_part k a) chunks ≤ 1)
+    × (a < end → total (in_part k a) chunks ≡ 0)
 apart_chunks k end [] e a = (omega arith, λ less. refl)
 apart_chunks k end (c ∷ chunks) e a = by_part (part_of k c) refl e (λ from f. apart_chunks k from chunks f a) where
   by_place : (n : ℕ) → part_of k c ≡ n → 0 < n → end ≤ c.address → (total (in_part k a) chunks ≤ 1) × (a < c.address + n → total (in_part k a) chunks ≡ 0)
@@ -248,12 +259,15 @@ apart_chunks k end (c ∷ chunks) e a = by_part (part_of k c) refl e (λ from f.
     own = ap (λ m. covers c.address m a) part
 
     few : (b : Bool) → nat_lt a (c.address + n) ≡ b → total (in_part k a) (c ∷ chunks) ≤ 1
-    few true f = let less = of_lt a (c.address + n) f in let gone = later.1 less in let one = covers_at_most c.address (part_of k c) a in omega (arith, gone, one)
-    few false f = let above = covers_above c.address n a (of_not_lt a (c.address + n) f) in let most = later.0 in let same = own in omega (arith, above, most, same)
+    few true f = let less = of_lt a (c.address + n) f in let gone = later.1 less in let one = covers_at_most c.address (part_of k c) a in
+        omega (arith, gone, one)
+    few false f = let above = covers_above c.address n a (of_not_lt a (c.address + n) f) in let most = later.0 in let same = own in
+        omega (arith, above, most, same)
 
     none : a < end → total (in_part k a) (c ∷ chunks) ≡ 0
     none less =
-        let gone = later.1 (omega (arith, less, low, some)) in let below = covers_below c.address n a (omega (arith, less, low)) in let same = own in omega (arith, gone, below, same)
+        let gone = later.1 (omega (arith, less, low, some)) in let below = covers_below c.address n a (omega (arith, less, low)) in let same = own in
+        omega (arith, gone, below, same)
 
   by_test : (n : ℕ) → part_of k c ≡ n → 0 < n → (b : Bool) → nat_lt c.address end ≡ b → (if b then true else shares_from k (c.address + n) chunks) ≡ false
       → ((from : ℕ) → shares_from k from chunks ≡ false → (total (in_part k a) chunks ≤ 1) × (a < from → total (in_part k a) chunks ≡ 0))
@@ -261,7 +275,8 @@ apart_chunks k end (c ∷ chunks) e a = by_part (part_of k c) refl e (λ from f.
   by_test n part some true f g later = absurd cc
   by_test n part some false f g later = by_place n part some (of_not_lt c.address end f) (later (c.address + n) g)
 
-  by_part : (n : ℕ) → part_of k c ≡ n → (if n == 0 then shares_from k end chunks else (if nat_lt c.address end then true else shares_from k (c.address + n) chunks)) ≡ false
+  by_part : (n : ℕ) → part_of k c ≡ n → (if n == 0 then shares_from k end chunks
+      else (if nat_lt c.address end then true else shares_from k (c.address + n) chunks)) ≡ false
       → ((from : ℕ) → shares_from k from chunks ≡ false → (total (in_part k a) chunks ≤ 1) × (a < from → total (in_part k a) chunks ≡ 0))
       → (total (in_part k a) (c ∷ chunks) ≤ 1) × (a < end → total (in_part k a) (c ∷ chunks) ≡ 0)
   by_part zero part g later =
@@ -270,7 +285,8 @@ apart_chunks k end (c ∷ chunks) e a = by_part (part_of k c) refl e (λ from f.
       (let most = rest.0 in omega (arith, most, none), λ less. let gone = rest.1 less in omega (arith, gone, none))
   by_part (suc n) part g later =
       by_test (suc n) part (omega arith) (nat_lt c.address end) refl
-      (ap (λ b. if b then shares_from k end chunks else (if nat_lt c.address end then true else shares_from k (c.address + suc n) chunks)) (sym (not_zero n)) ∙ g) later
+      (ap (λ b. if b then shares_from k end chunks else (if nat_lt c.address end then true else shares_from k (c.address + suc n) chunks))
+      (sym (not_zero n)) ∙ g) later
 
 weaker_rise : (low other : ℕ) (chunks : List Chunk) → low ≤ other → AreRisingFrom other chunks → AreRisingFrom low chunks
 weaker_rise low other [] less h = h
@@ -280,7 +296,8 @@ weaker_rise low other (c ∷ chunks) less h = let first = h.0 in (omega (arith, 
 abbrev HasDouble : ℕ → Chunk → List Chunk → Type 0
 HasDouble k p chunks = (a : ℕ) × (2 ≤ in_part k a p + total (in_part k a) chunks)
 
-shared_after : (k : ℕ) (p : Chunk) (chunks : List Chunk) (end : ℕ) → end ≡ p.address + part_of k p → AreRisingFrom p.address chunks → shares_from k end chunks ≡ true → HasDouble k p chunks
+shared_after : (k : ℕ) (p : Chunk) (chunks : List Chunk) (end : ℕ) → end ≡ p.address + part_of k p → AreRisingFrom p.address chunks
+    → shares_from k end chunks ≡ true → HasDouble k p chunks
 shared_after k p [] end ends rise e = absurd cc
 shared_after k p (c ∷ chunks) end ends rise e =
     by_part (part_of k c) refl e (λ f. shared_after k p chunks end ends (weaker_rise p.address c.address chunks rise.0 rise.1) f)
@@ -298,17 +315,21 @@ shared_after k p (c ∷ chunks) end ends rise e =
           let second : in_part k c.address c ≡ 1 = covers_in c.address (part_of k c) c.address (omega arith) (omega (arith, part)) in
           (c.address, omega (arith, first, second))
 
-      by_test : (n : ℕ) → part_of k c ≡ suc n → (b : Bool) → nat_lt c.address end ≡ b → (if b then true else shares_from k (c.address + part_of k c) chunks) ≡ true
+      by_test : (n : ℕ) → part_of k c ≡ suc n → (b : Bool) → nat_lt c.address end ≡ b
+          → (if b then true else shares_from k (c.address + part_of k c) chunks) ≡ true
           → (shares_from k (c.address + part_of k c) chunks ≡ true → HasDouble k c chunks) → HasDouble k p (c ∷ chunks)
       by_test n part true f g later = both n part (of_lt c.address end f)
       by_test n part false f g later = let there = later g in next there.0 there.1
 
-      by_part : (n : ℕ) → part_of k c ≡ n → (if n == 0 then shares_from k end chunks else (if nat_lt c.address end then true else shares_from k (c.address + part_of k c) chunks)) ≡ true
-          → (shares_from k end chunks ≡ true → HasDouble k p chunks) → (shares_from k (c.address + part_of k c) chunks ≡ true → HasDouble k c chunks) → HasDouble k p (c ∷ chunks)
+      by_part : (n : ℕ) → part_of k c ≡ n → (if n == 0 then shares_from k end chunks
+          else (if nat_lt c.address end then true else shares_from k (c.address + part_of k c) chunks)) ≡ true
+          → (shares_from k end chunks ≡ true → HasDouble k p chunks) → (shares_from k (c.address + part_of k c) chunks ≡ true → HasDouble k c chunks)
+          → HasDouble k p (c ∷ chunks)
       by_part zero part g same later = let there = same g in more there.0 there.1
       by_part (suc n) part g same later =
           by_test n part (nat_lt c.address end) refl
-          (ap (λ b. if b then shares_from k end chunks else (if nat_lt c.address end then true else shares_from k (c.address + part_of k c) chunks)) (sym (not_zero n)) ∙ g) later
+          (ap (λ b. if b then shares_from k end chunks else (if nat_lt c.address end then true else shares_from k (c.address + part_of k c) chunks))
+          (sym (not_zero n)) ∙ g) later
 
 shared_chunks : (k : ℕ) (chunks : List Chunk) → AreRisingFrom 0 chunks → shares_from k 0 chunks ≡ true → (a : ℕ) × (2 ≤ total (in_part k a) chunks)
 shared_chunks k [] rise e = absurd cc
@@ -318,13 +339,16 @@ shared_chunks k (c ∷ chunks) rise e =
       none_below : (a : ℕ) → nat_lt a 0 ≡ false
       none_below a = grind arith
 
-      by_part : (n : ℕ) → part_of k c ≡ n → (if n == 0 then shares_from k 0 chunks else (if nat_lt c.address 0 then true else shares_from k (c.address + part_of k c) chunks)) ≡ true
-          → (shares_from k 0 chunks ≡ true → (a : ℕ) × (2 ≤ total (in_part k a) chunks)) → (shares_from k (c.address + part_of k c) chunks ≡ true → HasDouble k c chunks)
+      by_part : (n : ℕ) → part_of k c ≡ n → (if n == 0 then shares_from k 0 chunks
+          else (if nat_lt c.address 0 then true else shares_from k (c.address + part_of k c) chunks)) ≡ true
+          → (shares_from k 0 chunks ≡ true → (a : ℕ) × (2 ≤ total (in_part k a) chunks))
+          → (shares_from k (c.address + part_of k c) chunks ≡ true → HasDouble k c chunks)
           → (a : ℕ) × (2 ≤ total (in_part k a) (c ∷ chunks))
       by_part zero part g same later = let there = same g in let two = there.1 in (there.0, omega (arith, two))
       by_part (suc n) part g same later =
           let there = later (ap (λ b. if b then true else shares_from k (c.address + part_of k c) chunks) (sym (none_below c.address))
-          ∙ ap (λ b. if b then shares_from k 0 chunks else (if nat_lt c.address 0 then true else shares_from k (c.address + part_of k c) chunks)) (sym (not_zero n)) ∙ g) in
+          ∙ ap (λ b. if b then shares_from k 0 chunks else (if nat_lt c.address 0 then true else shares_from k (c.address + part_of k c) chunks))
+          (sym (not_zero n)) ∙ g) in
           (there.0, there.1)
 
 -- of no bytes none share an address
@@ -332,7 +356,8 @@ pub none_share : (end : ℕ) (chunks : List Chunk) → shares_from 0 end chunks 
 none_share end [] = refl
 none_share end (c ∷ chunks) =
     let none : part_of 0 c ≡ 0 = omega arith in
-    ap (λ n. if n == 0 then shares_from 0 end chunks else (if nat_lt c.address end then true else shares_from 0 (c.address + n) chunks)) none ∙ none_share end chunks
+    ap (λ n. if n == 0 then shares_from 0 end chunks else (if nat_lt c.address end then true else shares_from 0 (c.address + n) chunks)) none
+    ∙ none_share end chunks
 
 -- so where some share one there is a byte
 pub some_byte : (count end : ℕ) (chunks : List Chunk) → shares_from count end chunks ≡ true → 0 < count
@@ -352,15 +377,17 @@ module _ (loaded chunks : List Chunk) (end : ℕ) (permuted : IsPermutation load
 
   -- among the first bytes no address stands twice
   pub apart_part : (k : ℕ) → shares_from k 0 chunks ≡ false → first_twice [] (take k all) ≡ None
-  apart_part k e = often_none (take k all) [] (λ a. let same = times_part k a in let most = (apart_chunks k 0 chunks e a).0 in omega (arith, same, most)) (λ a there. absurd cc)
+  apart_part k e = often_none (take k all) [] (λ a. let same = times_part k a in let most = (apart_chunks k 0 chunks e a).0 in
+      omega (arith, same, most)) (λ a there. absurd cc)
 
   pub all_apart : shares_from end 0 chunks ≡ false → first_twice [] all ≡ None
-  all_apart e = let long = length_consecutive 0 end loaded tiles in ap (first_twice []) (sym (take_whole end all (omega (arith, long)))) ∙ apart_part end e where
-    take_whole : (n : ℕ) (xs : List ℕ) → length xs ≤ n → take n xs ≡ xs
-    take_whole zero [] less = refl
-    take_whole zero (x ∷ xs) less = absurd (omega (arith, less))
-    take_whole (suc n) [] less = refl
-    take_whole (suc n) (x ∷ xs) less = ap (λ rest. x ∷ rest) (take_whole n xs (omega (arith, less)))
+  all_apart e = let long = length_consecutive 0 end loaded tiles in ap (first_twice []) (sym (take_whole end all (omega (arith, long))))
+      ∙ apart_part end e where
+        take_whole : (n : ℕ) (xs : List ℕ) → length xs ≤ n → take n xs ≡ xs
+        take_whole zero [] less = refl
+        take_whole zero (x ∷ xs) less = absurd (omega (arith, less))
+        take_whole (suc n) [] less = refl
+        take_whole (suc n) (x ∷ xs) less = ap (λ rest. x ∷ rest) (take_whole n xs (omega (arith, less)))
 
   -- among the first bytes some address stands twice
   shared_part : (k : ℕ) → AreRisingFrom 0 chunks → shares_from k 0 chunks ≡ true → first_twice [] (take k all) ≡ None → ⊥
@@ -383,7 +410,8 @@ module _ (loaded chunks : List Chunk) (end : ℕ) (permuted : IsPermutation load
       let before = apart_part n apart in
       ap (first_twice []) cut.0 ∙ twice-append (take n all) [] (a ∷ drop (suc n) all)
       ∙ ap (λ o. o or_else first_twice (passed [] (take n all)) (a ∷ drop (suc n) all)) before
-      ∙ ap (λ b. if b then Some (loaded_twice a) else first_twice (a ∷ passed [] (take n all)) (drop (suc n) all)) (there (has_number (passed [] (take n all)) a) refl) where
+      ∙ ap (λ b. if b then Some (loaded_twice a) else first_twice (a ∷ passed [] (take n all)) (drop (suc n) all))
+      (there (has_number (passed [] (take n all)) a) refl) where
         there : (b : Bool) → has_number (passed [] (take n all)) a ≡ b → b ≡ true
         there true e = refl
         there false e = absurd (shared_part (n + 1) rise shared (none e)) where

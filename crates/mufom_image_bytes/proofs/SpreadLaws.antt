@@ -1,5 +1,6 @@
 -- A row of neighbouring chunks is one run, and what follows it begins after an address that is free.
-use Rattle.std.proofs.Common.{◌≡◌, ◌≢◌, ℕ, zero, suc, ◌+◌, ◌<◌, ◌≤◌, List, [], ◌∷◌, ◌++◌, length, get_or, take, drop, Bool, true, false, inl, inr, refl, sym, ◌∙◌, ap, subst, arith, append-nil, append_assoc, length-append}
+use Rattle.std.proofs.Common.{◌≡◌, ◌≢◌, ℕ, zero, suc, ◌+◌, ◌<◌, ◌≤◌, List, [], ◌∷◌, ◌++◌, length, get_or, take, drop, Bool, true, false, inl, inr}
+use Rattle.std.proofs.Common.{refl, sym, ◌∙◌, ap, subst, arith, append-nil, append_assoc, length-append}
 use Rattle.std.specs.Prelude.{◌==◌, nat_lt, Contains, if◌then◌else◌}
 use Rattle.std.specs.List.{All}
 use Rattle.std.specs.List.Sorted.{IsPermutation}
@@ -42,8 +43,10 @@ row_cells bytes end (c ∷ chunks) among =
       own = chunk_length bytes c (All-head (IsAmong bytes) c chunks among)
 
       by_test : (b : Bool) → (c.address == end) ≡ b
-          → (let next = neighbours (c.address + c.count) chunks in cells_from (c.address + c.count) (bytes_of_chunks bytes (take next chunks)) ≡ cells_of_chunks bytes (take next chunks))
-          → (let n = (if b then suc (neighbours (c.address + c.count) chunks) else 0) in cells_from end (bytes_of_chunks bytes (take n (c ∷ chunks))) ≡ cells_of_chunks bytes (take n (c ∷ chunks)))
+          → (let next = neighbours (c.address + c.count) chunks in cells_from (c.address + c.count) (bytes_of_chunks bytes (take next chunks))
+          ≡ cells_of_chunks bytes (take next chunks))
+          → (let n = (if b then suc (neighbours (c.address + c.count) chunks) else 0) in cells_from end (bytes_of_chunks bytes (take n (c ∷ chunks)))
+          ≡ cells_of_chunks bytes (take n (c ∷ chunks)))
       by_test true e later =
           let same = equal_numbers c.address end e in
           let next = take (neighbours (c.address + c.count) chunks) chunks in
@@ -54,18 +57,22 @@ row_cells bytes end (c ∷ chunks) among =
 
 -- the first chunk with its neighbours
 row_of_first : (bytes : List ℕ) (c : Chunk) (chunks : List Chunk) → All (IsAmong bytes) (c ∷ chunks)
-    → (let n = neighbours (c.address + c.count) chunks in cells_from c.address (bytes_of_chunks bytes (take (suc n) (c ∷ chunks))) ≡ cells_of_chunks bytes (take (suc n) (c ∷ chunks)))
+    → (let n = neighbours (c.address + c.count) chunks in cells_from c.address (bytes_of_chunks bytes (take (suc n) (c ∷ chunks)))
+    ≡ cells_of_chunks bytes (take (suc n) (c ∷ chunks)))
 row_of_first bytes c chunks among =
     let own = chunk_length bytes c (All-head (IsAmong bytes) c chunks among) in
     let next = take (neighbours (c.address + c.count) chunks) chunks in
     row_on bytes c.address (chunk_bytes bytes c) (bytes_of_chunks bytes next) (cells_of_chunks bytes next)
-    (ap (λ n. cells_from (c.address + n) (bytes_of_chunks bytes next)) own ∙ row_cells bytes (c.address + c.count) chunks (All-tail (IsAmong bytes) c chunks among))
+    (ap (λ n. cells_from (c.address + n) (bytes_of_chunks bytes next)) own
+    ∙ row_cells bytes (c.address + c.count) chunks (All-tail (IsAmong bytes) c chunks among))
 
-cells-split : (bytes : List ℕ) (n : ℕ) (chunks : List Chunk) → cells_of_chunks bytes (take n chunks) ++ cells_of_chunks bytes (drop n chunks) ≡ cells_of_chunks bytes chunks
+cells-split : (bytes : List ℕ) (n : ℕ) (chunks : List Chunk) → cells_of_chunks bytes (take n chunks) ++ cells_of_chunks bytes (drop n chunks)
+    ≡ cells_of_chunks bytes chunks
 cells-split bytes zero chunks = refl
 cells-split bytes (suc n) [] = refl
 cells-split bytes (suc n) (c ∷ chunks) =
-    append_assoc (chunk_cells bytes c) (cells_of_chunks bytes (take n chunks)) (cells_of_chunks bytes (drop n chunks)) ∙ ap (λ cells. chunk_cells bytes c ++ cells) (cells-split bytes n chunks)
+    append_assoc (chunk_cells bytes c) (cells_of_chunks bytes (take n chunks)) (cells_of_chunks bytes (drop n chunks))
+    ∙ ap (λ cells. chunk_cells bytes c ++ cells) (cells-split bytes n chunks)
 
 -- what follows the row of neighbours begins after an address that is free
 after_row : (bytes : List ℕ) (end : ℕ) (chunks : List Chunk) → All (IsAmong bytes) chunks → AreSpread end chunks
@@ -80,14 +87,17 @@ after_row bytes end (c ∷ chunks) among h =
       differ a b e = λ same. grind (arith, e, same)
 
       by_test : (b : Bool) → (c.address == end) ≡ b
-          → (let next = neighbours (c.address + c.count) chunks in AreSpread (c.address + c.count + length (bytes_of_chunks bytes (take next chunks)) + 1) (drop next chunks))
-          → (let n = (if b then suc (neighbours (c.address + c.count) chunks) else 0) in AreSpread (end + length (bytes_of_chunks bytes (take n (c ∷ chunks))) + 1) (drop n (c ∷ chunks)))
+          → (let next = neighbours (c.address + c.count) chunks in
+          AreSpread (c.address + c.count + length (bytes_of_chunks bytes (take next chunks)) + 1) (drop next chunks))
+          → (let n = (if b then suc (neighbours (c.address + c.count) chunks) else 0) in
+          AreSpread (end + length (bytes_of_chunks bytes (take n (c ∷ chunks))) + 1) (drop n (c ∷ chunks)))
       by_test true e later =
           let same = equal_numbers c.address end e in
           let n = neighbours (c.address + c.count) chunks in
           let rest = bytes_of_chunks bytes (take n chunks) in
           let both = length-append (chunk_bytes bytes c) rest in
-          let long : c.address + c.count + length rest + 1 ≡ end + length (chunk_bytes bytes c ++ rest) + 1 = let mine = own in omega (arith, same, both, mine) in
+          let long : c.address + c.count + length rest + 1 ≡ end + length (chunk_bytes bytes c ++ rest) + 1 = let mine = own in
+          omega (arith, same, both, mine) in
           subst (λ from. AreSpread from (drop n chunks)) long later
       by_test false e later =
           let apart = differ c.address end e in let low = h.0 in
@@ -98,7 +108,8 @@ after_row bytes end (c ∷ chunks) among h =
 run-push : (from : ℕ) (runs : List Run) (run : Run) → AreApart from runs → free_after from runs ≤ run.address → 0 < length run.bytes
     → AreApart from (runs ++ run ∷ []) × (free_after from (runs ++ run ∷ []) ≡ run.address + length run.bytes + 1)
 run-push from [] run h low some = ((low, some, tt {0}), refl)
-run-push from (first ∷ runs) run h low some = let later = run-push (first.address + length first.bytes + 1) runs run h.2 low some in ((h.0, h.1, later.0), later.1)
+run-push from (first ∷ runs) run h low some = let later = run-push (first.address + length first.bytes + 1) runs run h.2 low some in
+    ((h.0, h.1, later.0), later.1)
 
 run_cells-push : (runs : List Run) (run : Run) → run_cells (runs ++ run ∷ []) ≡ run_cells runs ++ cells_from run.address run.bytes
 run_cells-push [] run = append-nil (cells_from run.address run.bytes)
@@ -147,7 +158,8 @@ row_step bytes chunks c more runs run h address row =
 
 -- the first row of what is left
 pub next_row : (bytes : List ℕ) (chunks rest after : List Chunk) (runs : List Run) (run : Run) (c : Chunk) → AreRowsSoFar bytes chunks rest runs
-    → 0 < length rest → run.address ≡ (get_or rest 0 c).address → run.bytes ≡ bytes_of_chunks bytes (take (first_row rest) rest) → after ≡ drop (first_row rest) rest
+    → 0 < length rest → run.address ≡ (get_or rest 0 c).address → run.bytes ≡ bytes_of_chunks bytes (take (first_row rest) rest) → after
+    ≡ drop (first_row rest) rest
     → AreRowsSoFar bytes chunks after (runs ++ run ∷ [])
 next_row bytes chunks [] after runs run c h some address row left = absurd (omega (arith, some))
 next_row bytes chunks (d ∷ more) after runs run c h some address row left =
@@ -184,30 +196,37 @@ spread_chunks end from (c ∷ chunks) room e =
       by_place true f g later = absurd cc
       by_place false f g later = (of_not_lt c.address from f, own.0, later g)
 
-      by_test : (n : ℕ) → n ≡ c.count → (if n == 0 then shares_from end from chunks else (if nat_lt c.address from then true else shares_from end (c.address + n) chunks)) ≡ false
+      by_test : (n : ℕ) → n ≡ c.count → (if n == 0 then shares_from end from chunks
+          else (if nat_lt c.address from then true else shares_from end (c.address + n) chunks)) ≡ false
           → (shares_from end (c.address + c.count) chunks ≡ false → AreSpread (c.address + c.count) chunks) → AreSpread from (c ∷ chunks)
       by_test n same g later =
           by_place (nat_lt c.address from) refl
-          (ap (λ b. if b then shares_from end from chunks else (if nat_lt c.address from then true else shares_from end (c.address + c.count) chunks)) (sym (not_zero c.count own.0))
-          ∙ ap (λ k. if k == 0 then shares_from end from chunks else (if nat_lt c.address from then true else shares_from end (c.address + k) chunks)) (sym same) ∙ g) later
+          (ap (λ b. if b then shares_from end from chunks else (if nat_lt c.address from then true else shares_from end (c.address + c.count) chunks))
+          (sym (not_zero c.count own.0))
+          ∙ ap (λ k. if k == 0 then shares_from end from chunks else (if nat_lt c.address from then true else shares_from end (c.address + k) chunks))
+          (sym same) ∙ g) later
 
 -- the addresses of the cells of chunks are those of the chunks
 pub chunks_addresses : (bytes : List ℕ) (chunks : List Chunk) → All (IsAmong bytes) chunks → cell_addresses (cells_of_chunks bytes chunks) ≡ addresses_of chunks
 chunks_addresses bytes [] among = refl
 chunks_addresses bytes (c ∷ chunks) among =
     map-append (λ (cell : Cell). cell.0) (chunk_cells bytes c) (cells_of_chunks bytes chunks)
-    ∙ ap (λ own. own ++ cell_addresses (cells_of_chunks bytes chunks)) (addresses-from (chunk_bytes bytes c) c.address ∙ ap (λ n. counted_from n c.address) (chunk_length bytes c (All-head (IsAmong bytes) c chunks among)))
+    ∙ ap (λ own. own ++ cell_addresses (cells_of_chunks bytes chunks)) (addresses-from (chunk_bytes bytes c) c.address
+    ∙ ap (λ n. counted_from n c.address) (chunk_length bytes c (All-head (IsAmong bytes) c chunks among)))
     ∙ ap (λ rest. chunk_addresses c ++ rest) (chunks_addresses bytes chunks (All-tail (IsAmong bytes) c chunks among))
 
 -- chunks in another order have the same cells
-pub cells_permuted : (bytes : List ℕ) (xs ys : List Chunk) → IsPermutation xs ys → (cell : Cell) → Contains (cells_of_chunks bytes xs) cell → Contains (cells_of_chunks bytes ys) cell
+pub cells_permuted : (bytes : List ℕ) (xs ys : List Chunk) → IsPermutation xs ys → (cell : Cell) → Contains (cells_of_chunks bytes xs) cell
+    → Contains (cells_of_chunks bytes ys) cell
 cells_permuted bytes xs ys permuted cell h =
     let there = flat_map-In (chunk_cells bytes) cell xs (Contains-In cell (cells_of_chunks bytes xs) h) in
     In-Contains cell (cells_of_chunks bytes ys)
-    (In-flat_map (chunk_cells bytes) there.0 cell ys (Contains-In there.0 ys (Contains-permutation xs ys there.0 permuted (In-Contains there.0 xs there.1))) there.2)
+    (In-flat_map (chunk_cells bytes) there.0 cell ys (Contains-In there.0 ys
+    (Contains-permutation xs ys there.0 permuted (In-Contains there.0 xs there.1))) there.2)
 
 -- chunks that do not decrease go by address
-pub rising_chunks : (low : ℕ) (chunks : List Chunk) → ((i j : ℕ) (d : Chunk) → i ≤ j → j < length chunks → (get_or chunks i d).address ≤ (get_or chunks j d).address)
+pub rising_chunks : (low : ℕ) (chunks : List Chunk) → ((i j : ℕ) (d : Chunk) → i ≤ j → j < length chunks
+    → (get_or chunks i d).address ≤ (get_or chunks j d).address)
     → ((d : Chunk) → 0 < length chunks → low ≤ (get_or chunks 0 d).address) → AreRisingFrom low chunks
 rising_chunks low [] up first = tt {0}
 rising_chunks low (c ∷ chunks) up first = (
@@ -222,21 +241,24 @@ rising_chunks low (c ∷ chunks) up first = (
 pub single_whole : (end : ℕ) (chunks sorted : List Chunk) → AreConsecutive 0 chunks end → IsPermutation chunks sorted → HasAllBytes end sorted
 single_whole end chunks [] h permuted = tt {0}
 single_whole end chunks (c ∷ d ∷ more) h permuted = tt {0}
-single_whole end chunks (c ∷ []) h permuted = by_chunks chunks h (length_permutation chunks (c ∷ []) permuted) (λ x there. Contains-permutation chunks (c ∷ []) x permuted there) where
-  by_chunks : (chunks : List Chunk) → AreConsecutive 0 chunks end → 1 ≡ length chunks → ((x : Chunk) → Contains chunks x → Contains (c ∷ []) x) → HasAllBytes end (c ∷ [])
-  by_chunks [] h count same = absurd (omega (arith, count))
-  by_chunks (x ∷ y ∷ more) h count same = absurd (omega (arith, count))
-  by_chunks (x ∷ []) h count same = by_member (Contains-In x (c ∷ []) (same x (In-Contains x (x ∷ []) (inl refl)))) where
-    by_member : In x (c ∷ []) → HasAllBytes end (c ∷ [])
-    by_member (inl e) =
-        let start : c.start ≡ 0 = ap (λ (z : Chunk). z.start) e ∙ h.0 in
-        let here = h.2 in
-        let count_same : c.count ≡ x.count = ap (λ (z : Chunk). z.count) e in
-        (start, omega (arith, here, count_same))
-    by_member (inr none) = absurd none
+single_whole end chunks (c ∷ []) h permuted = by_chunks chunks h (length_permutation chunks (c ∷ []) permuted)
+    (λ x there. Contains-permutation chunks (c ∷ []) x permuted there) where
+      by_chunks : (chunks : List Chunk) → AreConsecutive 0 chunks end → 1 ≡ length chunks → ((x : Chunk) → Contains chunks x → Contains (c ∷ []) x)
+          → HasAllBytes end (c ∷ [])
+      by_chunks [] h count same = absurd (omega (arith, count))
+      by_chunks (x ∷ y ∷ more) h count same = absurd (omega (arith, count))
+      by_chunks (x ∷ []) h count same = by_member (Contains-In x (c ∷ []) (same x (In-Contains x (x ∷ []) (inl refl)))) where
+        by_member : In x (c ∷ []) → HasAllBytes end (c ∷ [])
+        by_member (inl e) =
+            let start : c.start ≡ 0 = ap (λ (z : Chunk). z.start) e ∙ h.0 in
+            let here = h.2 in
+            let count_same : c.count ≡ x.count = ap (λ (z : Chunk). z.count) e in
+            (start, omega (arith, here, count_same))
+        by_member (inr none) = absurd none
 
 -- its bytes are one run
-pub single_run : (bytes : List ℕ) (chunks : List Chunk) (c : Chunk) (runs : List Run) (run : Run) → length chunks ≡ 1 → HasAllBytes (length bytes) chunks → AreSpread 0 chunks
+pub single_run : (bytes : List ℕ) (chunks : List Chunk) (c : Chunk) (runs : List Run) (run : Run) → length chunks ≡ 1
+    → HasAllBytes (length bytes) chunks → AreSpread 0 chunks
     → run.address ≡ (get_or chunks 0 c).address → run.bytes ≡ bytes → runs ≡ run ∷ [] → AreApart 0 runs × (run_cells runs ≡ cells_of_chunks bytes chunks)
 single_run bytes [] c runs run one whole spread address own e = absurd (omega (arith, one))
 single_run bytes (d ∷ x ∷ chunks) c runs run one whole spread address own e = absurd (omega (arith, one))

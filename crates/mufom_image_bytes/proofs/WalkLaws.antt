@@ -1,5 +1,6 @@
 -- The walk by places and values is the walk of the definitions.
-use Rattle.std.proofs.Common.{◌≡◌, ℕ, zero, suc, ◌+◌, ◌<◌, List, [], ◌∷◌, ◌++◌, length, get_or, Option, Some, None, refl, sym, ◌∙◌, ap, subst, arith, append-nil, append_assoc}
+use Rattle.std.proofs.Common.{◌≡◌, ℕ, zero, suc, ◌+◌, ◌<◌, List, [], ◌∷◌, ◌++◌, length, get_or, Option, Some, None, refl, sym, ◌∙◌, ap, subst, arith}
+use Rattle.std.proofs.Common.{append-nil, append_assoc}
 use Rattle.std.specs.Prelude.{◌%◌, option_map, slice_get}
 use Rattle.mufom_loads.specs.declared.load.Item.{Item}
 use Rattle.mufom_loads.specs.declared.load.Load.{Load}
@@ -17,7 +18,8 @@ use Rattle.mufom_meaning.proofs.Members.{In}
 use Rattle.mufom_meaning.proofs.Unfolding.{counter-none}
 use Rattle.mufom_image_bytes.specs.declared.layout.Layout.{Layout}
 use Rattle.mufom_image_bytes.specs.Chunks.{cell_addresses as addresses}
-use Rattle.mufom_image_bytes.specs.Outcomes.{WorthAt, Progress, Outcome, continued, item_outcome, items_outcome, current_outcome, counter_outcome, loads_outcome, progress_at_first}
+use Rattle.mufom_image_bytes.specs.Outcomes.{WorthAt, Progress, Outcome, continued, item_outcome, items_outcome, current_outcome, counter_outcome}
+use Rattle.mufom_image_bytes.specs.Outcomes.{loads_outcome, progress_at_first}
 use Rattle.mufom_image_bytes.specs.Walked.{IsLaidOut, IsPlainStep, AreWalked}
 use Rattle.mufom_image_bytes.proofs.WalkSteps.{Agrees, IsTaken, counter_taken, item_taken}
 
@@ -34,7 +36,8 @@ module _ (s : Setting) (layout : Layout) (worth : WorthAt) (laid : IsLaidOut s l
   ArePlain [] = Unit {0}
   ArePlain (step ∷ steps) = IsPlainStep s worth step × ArePlain steps
 
-  step_taken : (earlier : List Step) (p : Progress) → Agrees s layout worth laid earlier p → (step : Step) → IsPlainStep s worth step → IsTaken s layout worth laid earlier step p (step_outcome step p)
+  step_taken : (earlier : List Step) (p : Progress) → Agrees s layout worth laid earlier p → (step : Step) → IsPlainStep s worth step
+      → IsTaken s layout worth laid earlier step p (step_outcome step p)
   step_taken earlier p h (counter_step site section t) w = counter_taken s layout worth laid earlier p h site section w.0 t w.1
   step_taken earlier p h (item_step site section item) w = item_taken s layout worth laid earlier p h site section w.0 item w.1
 
@@ -51,12 +54,15 @@ module _ (s : Setting) (layout : Layout) (worth : WorthAt) (laid : IsLaidOut s l
         → ((q : Progress) → Agrees s layout worth laid (step ∷ earlier) q → IsWalk (step ∷ earlier) steps q (steps_outcome steps q))
         → IsWalk earlier (step ∷ steps) p (continued o.0 o.1 (λ q. steps_outcome steps q))
     by_step o taken later = by_fact o.0 o.1 taken where
-      by_fact : (q : Progress) (f : Option LocateFact) → IsTaken s layout worth laid earlier step p (q, f) → IsWalk earlier (step ∷ steps) p (continued q f (λ q. steps_outcome steps q))
+      by_fact : (q : Progress) (f : Option LocateFact) → IsTaken s layout worth laid earlier step p (q, f)
+          → IsWalk earlier (step ∷ steps) p (continued q f (λ q. steps_outcome steps q))
       by_fact q None taken =
           let rest = later q (taken.agrees refl) in record {
             facts = taken.facts (steps_fact s (step ∷ earlier) steps) ∙ rest.facts;
-            cells = λ none. rest.cells none ∙ ap (λ cells. cells ++ address_map layout.order s.modulus (readings_after s (step ∷ earlier) steps)) (taken.cells refl)
-                ∙ append_assoc p.cells (step_cells layout.order s.modulus (step_reading s earlier step)) (address_map layout.order s.modulus (readings_after s (step ∷ earlier) steps));
+            cells = λ none. rest.cells none ∙ ap (λ cells. cells ++ address_map layout.order s.modulus (readings_after s (step ∷ earlier) steps))
+                (taken.cells refl)
+                ∙ append_assoc p.cells (step_cells layout.order s.modulus (step_reading s earlier step))
+                (address_map layout.order s.modulus (readings_after s (step ∷ earlier) steps));
             low = λ h. rest.low (taken.low h);
           }
       by_fact q (Some fact) taken = record {
@@ -67,10 +73,12 @@ module _ (s : Setting) (layout : Layout) (worth : WorthAt) (laid : IsLaidOut s l
 
   -- ---- steps of loads
 
-  steps_outcome-append : (xs ys : List Step) (p : Progress) → steps_outcome (xs ++ ys) p ≡ (let first = steps_outcome xs p in continued first.0 first.1 (λ q. steps_outcome ys q))
+  steps_outcome-append : (xs ys : List Step) (p : Progress) → steps_outcome (xs ++ ys) p
+      ≡ (let first = steps_outcome xs p in continued first.0 first.1 (λ q. steps_outcome ys q))
   steps_outcome-append [] ys p = refl
   steps_outcome-append (x ∷ xs) ys p = by_fact (step_outcome x p).0 (step_outcome x p).1 (λ q. steps_outcome-append xs ys q) where
-    by_fact : (q : Progress) (f : Option LocateFact) → ((q : Progress) → steps_outcome (xs ++ ys) q ≡ (let first = steps_outcome xs q in continued first.0 first.1 (λ q. steps_outcome ys q)))
+    by_fact : (q : Progress) (f : Option LocateFact) → ((q : Progress) → steps_outcome (xs ++ ys) q
+        ≡ (let first = steps_outcome xs q in continued first.0 first.1 (λ q. steps_outcome ys q)))
         → continued q f (λ q. steps_outcome (xs ++ ys) q)
         ≡ (let first = continued q f (λ q. steps_outcome xs q) in continued first.0 first.1 (λ q. steps_outcome ys q))
     by_fact q None later = later q
@@ -84,54 +92,67 @@ module _ (s : Setting) (layout : Layout) (worth : WorthAt) (laid : IsLaidOut s l
     at_home : (n : ℕ) → site.first_section + n ≡ n
     at_home n = omega (arith, home)
 
-    items_as_steps : (section : ℕ) (items : List Item) (p : Progress) → steps_outcome (item_steps site (Some section) items) p ≡ items_outcome layout worth section items p
+    items_as_steps : (section : ℕ) (items : List Item) (p : Progress) → steps_outcome (item_steps site (Some section) items) p
+        ≡ items_outcome layout worth section items p
     items_as_steps section [] p = refl
     items_as_steps section (item ∷ items) p =
-        ap (λ n. let first = item_outcome layout worth n item p in continued first.0 first.1 (λ q. steps_outcome (item_steps site (Some section) items) q)) (at_home section)
+        ap (λ n. let first = item_outcome layout worth n item p in
+        continued first.0 first.1 (λ q. steps_outcome (item_steps site (Some section) items) q)) (at_home section)
         ∙ by_fact (item_outcome layout worth section item p).0 (item_outcome layout worth section item p).1 (λ q. items_as_steps section items q) where
-          by_fact : (q : Progress) (f : Option LocateFact) → ((q : Progress) → steps_outcome (item_steps site (Some section) items) q ≡ items_outcome layout worth section items q)
+          by_fact : (q : Progress) (f : Option LocateFact) → ((q : Progress) → steps_outcome (item_steps site (Some section) items) q
+              ≡ items_outcome layout worth section items q)
               → continued q f (λ q. steps_outcome (item_steps site (Some section) items) q) ≡ continued q f (λ q. items_outcome layout worth section items q)
           by_fact q None later = later q
           by_fact q (Some fact) later = refl
 
-    current_as_steps : (current : Option ℕ) (items : List Item) (p : Progress) → steps_outcome (item_steps site current items) p ≡ current_outcome layout worth current items p
+    current_as_steps : (current : Option ℕ) (items : List Item) (p : Progress) → steps_outcome (item_steps site current items) p
+        ≡ current_outcome layout worth current items p
     current_as_steps None items p = refl
     current_as_steps (Some section) items p = items_as_steps section items p
 
-    item_steps-append : (section : ℕ) (xs ys : List Item) → item_steps site (Some section) (xs ++ ys) ≡ item_steps site (Some section) xs ++ item_steps site (Some section) ys
+    item_steps-append : (section : ℕ) (xs ys : List Item) → item_steps site (Some section) (xs ++ ys) ≡ item_steps site (Some section) xs
+        ++ item_steps site (Some section) ys
     item_steps-append section [] ys = refl
     item_steps-append section (x ∷ xs) ys = ap (λ rest. item_step site (site.first_section + section) x ∷ rest) (item_steps-append section xs ys)
 
-    repeated_steps : (current : Option ℕ) (count : ℕ) (items : List Item) → repeated count (item_steps site current items) ≡ item_steps site current (repeated count items)
+    repeated_steps : (current : Option ℕ) (count : ℕ) (items : List Item) → repeated count (item_steps site current items)
+        ≡ item_steps site current (repeated count items)
     repeated_steps None zero items = refl
     repeated_steps None (suc n) items = repeated_steps None n items
     repeated_steps (Some section) zero items = refl
     repeated_steps (Some section) (suc n) items =
-        ap (λ rest. item_steps site (Some section) items ++ rest) (repeated_steps (Some section) n items) ∙ sym (item_steps-append section items (repeated n items))
+        ap (λ rest. item_steps site (Some section) items ++ rest) (repeated_steps (Some section) n items)
+        ∙ sym (item_steps-append section items (repeated n items))
 
     -- the outcome of a first part, and then of what follows it
-    same_after : (q : Progress) (f : Option LocateFact) (one other : Progress → Outcome) → ((r : Progress) → one r ≡ other r) → continued q f one ≡ continued q f other
+    same_after : (q : Progress) (f : Option LocateFact) (one other : Progress → Outcome) → ((r : Progress) → one r ≡ other r) → continued q f one
+        ≡ continued q f other
     same_after q None one other same = same q
     same_after q (Some fact) one other same = refl
 
-    items_then : (current : Option ℕ) (items : List Item) (more : List Step) (next : Progress → Outcome) (p : Progress) → ((q : Progress) → steps_outcome more q ≡ next q)
+    items_then : (current : Option ℕ) (items : List Item) (more : List Step) (next : Progress → Outcome) (p : Progress)
+        → ((q : Progress) → steps_outcome more q ≡ next q)
         → steps_outcome (item_steps site current items ++ more) p ≡ (let first = current_outcome layout worth current items p in continued first.0 first.1 next)
     items_then current items more next p same =
         steps_outcome-append (item_steps site current items) more p
         ∙ ap (λ (first : Outcome). continued first.0 first.1 (λ q. steps_outcome more q)) (current_as_steps current items p)
         ∙ same_after (current_outcome layout worth current items p).0 (current_outcome layout worth current items p).1 (λ q. steps_outcome more q) next same
 
-    loads_as_steps : (current : Option ℕ) (loads : List Load) (p : Progress) → steps_outcome (steps_of site current loads) p ≡ loads_outcome layout worth current loads p
+    loads_as_steps : (current : Option ℕ) (loads : List Load) (p : Progress) → steps_outcome (steps_of site current loads) p
+        ≡ loads_outcome layout worth current loads p
     loads_as_steps current [] p = refl
     loads_as_steps current (SetSection section ∷ loads) p = loads_as_steps (Some section) loads p
     loads_as_steps current (SetPc section t ∷ loads) p =
-        ap (λ n. let first = counter_outcome n (worth (get_or p.counters n 0) t) p in continued first.0 first.1 (λ q. steps_outcome (steps_of site current loads) q)) (at_home section)
+        ap (λ n. let first = counter_outcome n (worth (get_or p.counters n 0) t) p in
+        continued first.0 first.1 (λ q. steps_outcome (steps_of site current loads) q)) (at_home section)
         ∙ same_after (counter_outcome section (worth (get_or p.counters section 0) t) p).0 (counter_outcome section (worth (get_or p.counters section 0) t) p).1
         (λ q. steps_outcome (steps_of site current loads) q) (λ q. loads_outcome layout worth current loads q) (λ q. loads_as_steps current loads q)
-    loads_as_steps current (One item ∷ loads) p = items_then current (item ∷ []) (steps_of site current loads) (λ q. loads_outcome layout worth current loads q) p (λ q. loads_as_steps current loads q)
+    loads_as_steps current (One item ∷ loads) p = items_then current (item ∷ []) (steps_of site current loads)
+        (λ q. loads_outcome layout worth current loads q) p (λ q. loads_as_steps current loads q)
     loads_as_steps current (Repeat count items ∷ loads) p =
         ap (λ steps. steps_outcome (steps ++ steps_of site current loads) p) (repeated_steps current count items)
-        ∙ items_then current (repeated count items) (steps_of site current loads) (λ q. loads_outcome layout worth current loads q) p (λ q. loads_as_steps current loads q)
+        ∙ items_then current (repeated count items) (steps_of site current loads) (λ q. loads_outcome layout worth current loads q) p
+        (λ q. loads_as_steps current loads q)
 
 -- ---- the whole walk
 
@@ -145,7 +166,8 @@ slice_there [] n less = absurd (omega (arith, less))
 slice_there (x ∷ xs) zero less = refl
 slice_there (x ∷ xs) (suc n) less = slice_there xs n (omega (arith, less))
 
-pub first_agrees : (s : Setting) (layout : Layout) (worth : WorthAt) (laid : IsLaidOut s layout) (counters : List ℕ) → 0 < s.modulus → AreFirstCounters s counters
+pub first_agrees : (s : Setting) (layout : Layout) (worth : WorthAt) (laid : IsLaidOut s layout) (counters : List ℕ) → 0 < s.modulus
+    → AreFirstCounters s counters
     → Agrees s layout worth laid [] (progress_at_first counters)
 first_agrees s layout worth laid counters positive h = record {
   count = h.count;

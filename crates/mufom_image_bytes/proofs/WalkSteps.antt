@@ -1,5 +1,7 @@
 -- One step of the walk by places and values, against what is met at it.
-use Rattle.std.proofs.Common.{◌≡◌, ◌≢◌, ℕ, zero, suc, ◌+◌, ◌<◌, ◌≤◌, List, [], ◌∷◌, ◌++◌, map, length, get_or, set, Option, Some, None, Bool, true, false, ◌||◌, ◌⊎◌, inl, inr, refl, sym, ◌∙◌, ap, subst, arith, append-nil, add-zero, length-set, get_or-set_other, get_or-set_same}
+use Rattle.std.proofs.Common.{◌≡◌, ◌≢◌, ℕ, zero, suc, ◌+◌, ◌<◌, ◌≤◌, List, [], ◌∷◌, ◌++◌, map, length, get_or, set, Option, Some, None, Bool, true}
+use Rattle.std.proofs.Common.{false, ◌||◌, ◌⊎◌, inl, inr, refl, sym, ◌∙◌, ap, subst, arith, append-nil, add-zero, length-set, get_or-set_other}
+use Rattle.std.proofs.Common.{get_or-set_same}
 use Rattle.std.specs.Prelude.{◌%◌, ◌^◌, ◌==◌, option_map, slice_get, unwrap_or, nat_lt, nat_le, if◌then◌else◌}
 use Rattle.std.proofs.Math.Nat.{mod-eq_of_lt}
 use Rattle.std.proofs.lemmas.List.{map-append}
@@ -16,7 +18,8 @@ use Rattle.mufom_meaning.specs.Fields.{fits, field_number, number_bytes, in_byte
 use Rattle.mufom_meaning.specs.Flat.{Sited}
 use Rattle.mufom_meaning.specs.Steps.{Step, counter_step, item_step, counter, field_reading, item_reading, step_reading}
 use Rattle.mufom_meaning.specs.Values.{Setting, value, has_zero_divisor}
-use Rattle.mufom_meaning.specs.Walk.{zero_divisor_at, overflow_at, field_fact, step_fact, item_fact, base_number, size_at, counted_from, has_number, outside_at, first_twice, addresses_at, loaded_addresses}
+use Rattle.mufom_meaning.specs.Walk.{zero_divisor_at, overflow_at, field_fact, step_fact, item_fact, base_number, size_at, counted_from, has_number}
+use Rattle.mufom_meaning.specs.Walk.{outside_at, first_twice, addresses_at, loaded_addresses}
 use Rattle.mufom_meaning.proofs.Members.{In, In-append}
 use Rattle.mufom_meaning.proofs.Choices.{equal_numbers, of_not_lt, of_not_le}
 use Rattle.mufom_meaning.proofs.Tests.{chosen_none, either_false}
@@ -26,7 +29,8 @@ use Rattle.mufom_meaning.proofs.locations.OwnAddresses.{length-number_bytes, len
 use Rattle.mufom_meaning.proofs.values.Causes.{zero_divisor-none}
 use Rattle.mufom_image_bytes.specs.declared.layout.Layout.{Layout}
 use Rattle.mufom_image_bytes.specs.Chunks.{cell_addresses as addresses}
-use Rattle.mufom_image_bytes.specs.Outcomes.{WorthAt, Progress, Outcome, base_in, size_in, outside_in, field_outcome, item_bytes, placed_outcome, item_outcome, counter_outcome}
+use Rattle.mufom_image_bytes.specs.Outcomes.{WorthAt, Progress, Outcome, base_in, size_in, outside_in, field_outcome, item_bytes, placed_outcome}
+use Rattle.mufom_image_bytes.specs.Outcomes.{item_outcome, counter_outcome}
 use Rattle.mufom_image_bytes.specs.Walked.{IsLaidOut, HasWorth, IsPlainItem}
 use Rattle.mufom_image_bytes.proofs.TwiceLaws.{passed, twice-append, twice-same}
 
@@ -45,13 +49,15 @@ all_inside : (modulus section base size n at : ℕ) → first_some (outside_at m
     → (base ≤ at) × (at + suc n ≤ base + size)
 all_inside modulus section base size zero at e =
     let none = or_else_none (outside_at modulus section base size at) None e in
-    let tests = either_false (nat_lt at base) (nat_le (base + size) at) (chosen_none (nat_lt at base || nat_le (base + size) at) (load_outside section (at % modulus)) none.0) in
+    let tests = either_false (nat_lt at base) (nat_le (base + size) at)
+    (chosen_none (nat_lt at base || nat_le (base + size) at) (load_outside section (at % modulus)) none.0) in
     let low = of_not_lt at base tests.0 in
     let high = of_not_le (base + size) at tests.1 in
     (low, omega (arith, high))
 all_inside modulus section base size (suc n) at e =
     let none = or_else_none (outside_at modulus section base size at) (first_some (outside_at modulus section base size) (counted_from (suc n) (suc at))) e in
-    let tests = either_false (nat_lt at base) (nat_le (base + size) at) (chosen_none (nat_lt at base || nat_le (base + size) at) (load_outside section (at % modulus)) none.0) in
+    let tests = either_false (nat_lt at base) (nat_le (base + size) at)
+    (chosen_none (nat_lt at base || nat_le (base + size) at) (load_outside section (at % modulus)) none.0) in
     let low = of_not_lt at base tests.0 in
     let later = all_inside modulus section base size n (suc at) none.1 in
     (low, omega (arith, later.1))
@@ -99,7 +105,8 @@ or_else-assoc (Some x) b c = refl
 pub twice_later : (before more loaded : List ℕ) (late rest : Option LocateFact) → ((n : ℕ) → has_number loaded n ≡ has_number before n)
     → (first_twice [] before or_else ((first_twice loaded more or_else late) or_else rest)) ≡ (first_twice [] (before ++ more) or_else (late or_else rest))
 twice_later before more loaded late rest same =
-    let members : (n : ℕ) → has_number loaded n ≡ has_number (passed [] before) n = λ n. same n ∙ or_comm false (has_number before n) ∙ sym (has-passed before [] n) in
+    let members : (n : ℕ) → has_number loaded n ≡ has_number (passed [] before) n = λ n. same n ∙ or_comm false (has_number before n)
+    ∙ sym (has-passed before [] n) in
     let twice = twice-same more loaded (passed [] before) members in
     ap (λ o. first_twice [] before or_else o) (or_else-assoc (first_twice loaded more) late rest)
     ∙ ap (λ o. first_twice [] before or_else (o or_else (late or_else rest))) twice
@@ -115,11 +122,13 @@ chosen modulus section at kind size v b = if b then (field_number modulus kind s
 module _ (s : Setting) (layout : Layout) (worth : WorthAt) (laid : IsLaidOut s layout) where
   field_facts : (site : Sited) (section at : ℕ) (kind : FieldKind) (t : Tree) (size : ℕ) → HasWorth s worth site t
       → (v : Option ℕ) → value s site (Some at) t ≡ v
-      → (field_outcome s.modulus section at kind size v).1 ≡ (zero_divisor_at s site (Some at) t (sites.Field section at) or_else overflow_at s.modulus section at kind size v)
+      → (field_outcome s.modulus section at kind size v).1 ≡ (zero_divisor_at s site (Some at) t (sites.Field section at)
+      or_else overflow_at s.modulus section at kind size v)
   field_facts site section at kind t size h None e =
       ap (λ b. (if b then Some (zero_divisor (sites.Field section at)) else None) or_else None) (sym (h.divides at e))
   field_facts site section at kind t size h (Some v) e =
-      fitting (fits s.modulus kind size v) ∙ ap (λ b. (if b then Some (zero_divisor (sites.Field section at)) else None) or_else overflow_at s.modulus section at kind size (Some v)) (sym whole) where
+      fitting (fits s.modulus kind size v) ∙ ap (λ b. (if b then Some (zero_divisor (sites.Field section at)) else None)
+      or_else overflow_at s.modulus section at kind size (Some v)) (sym whole) where
         not_zero : (b : Bool) → has_zero_divisor s site (Some at) t ≡ b → b ≡ false
         not_zero true d = absurd (let none = zero_divisor-none s site (Some at) t d in cc)
         not_zero false d = refl
@@ -132,7 +141,8 @@ module _ (s : Setting) (layout : Layout) (worth : WorthAt) (laid : IsLaidOut s l
         fitting false = refl
 
   -- what is met at the bytes of an item is what the definitions meet at its field
-  item_facts : (site : Sited) (section at : ℕ) (item : Item) → IsPlainItem s worth site item → (item_bytes layout worth section at item).1 ≡ field_fact s site section at item
+  item_facts : (site : Sited) (section at : ℕ) (item : Item) → IsPlainItem s worth site item → (item_bytes layout worth section at item).1
+      ≡ field_fact s site section at item
   item_facts site section at (Literal bytes) h = refl
   item_facts site section at (Field kind t size) h =
       ap (λ m. (field_outcome m section at kind size (worth at t)).1) (sym laid.modulus)
@@ -160,12 +170,15 @@ module _ (s : Setting) (layout : Layout) (worth : WorthAt) (laid : IsLaidOut s l
         by_value w (Some v) same none =
             ap (λ o. cells_from at (in_byte_order layout.order (number_bytes size (field_outcome (2 ^ layout.width) section at kind size o).0))) same
             ∙ fitting (fits (2 ^ layout.width) kind size v) refl
-            (ap (λ m. (field_outcome m section at kind size (Some v)).1) (sym laid.modulus) ∙ ap (λ o. (field_outcome s.modulus section at kind size o).1) (sym same) ∙ none) where
+            (ap (λ m. (field_outcome m section at kind size (Some v)).1) (sym laid.modulus)
+            ∙ ap (λ o. (field_outcome s.modulus section at kind size o).1) (sym same) ∙ none) where
               fitting : (b : Bool) → fits (2 ^ layout.width) kind size v ≡ b → (field_outcome (2 ^ layout.width) section at kind size (Some v)).1 ≡ None
                   → cells_from at (in_byte_order layout.order (number_bytes size (field_outcome (2 ^ layout.width) section at kind size (Some v)).0))
                   ≡ cells_from at (in_byte_order layout.order (number_bytes size (field_number (2 ^ layout.width) kind size v)))
-              fitting true f g = ap (λ b. cells_from at (in_byte_order layout.order (number_bytes size (chosen (2 ^ layout.width) section at kind size v b).0))) f
-              fitting false f g = absurd (let gone : ◌≡◌ {A = Option LocateFact} (Some (overflow section at kind size v)) None = sym (ap (λ (b : Bool). (chosen (2 ^ layout.width) section at kind size v b).1) f) ∙ g in cc)
+              fitting true f g = ap (λ b. cells_from at (in_byte_order layout.order
+                  (number_bytes size (chosen (2 ^ layout.width) section at kind size v b).0))) f
+              fitting false f g = absurd (let gone : ◌≡◌ {A = Option LocateFact} (Some (overflow section at kind size v)) None =
+                  sym (ap (λ (b : Bool). (chosen (2 ^ layout.width) section at kind size v b).1) f) ∙ g in cc)
 
   -- ---- one step
 
@@ -181,13 +194,15 @@ module _ (s : Setting) (layout : Layout) (worth : WorthAt) (laid : IsLaidOut s l
     pub agrees : o.1 ≡ None → Agrees (step ∷ earlier) o.0
     pub cells : o.1 ≡ None → o.0.cells ≡ p.cells ++ step_cells layout.order s.modulus (step_reading s earlier step)
     pub facts : (rest : Option LocateFact)
-        → (first_twice [] (addresses p.cells) or_else (step_fact s earlier step or_else rest)) ≡ (first_twice [] (addresses o.0.cells) or_else (o.1 or_else rest))
+        → (first_twice [] (addresses p.cells) or_else (step_fact s earlier step or_else rest))
+        ≡ (first_twice [] (addresses o.0.cells) or_else (o.1 or_else rest))
     pub low : ((a : ℕ) → In a (addresses p.cells) → a < s.modulus) → (a : ℕ) → In a (addresses o.0.cells) → a < s.modulus
 
   -- a counter that is set
   other_counter : (counters : List ℕ) (section n v : ℕ) → section < length counters → (b : Bool) → (section == n) ≡ b
       → get_or (set counters section v) n 0 ≡ (if b then v else get_or counters n 0)
-  other_counter counters section n v less true e = let same = equal_numbers section n e in ap (λ k. get_or (set counters section v) k 0) (sym same) ∙ get_or-set_same counters section v 0 less
+  other_counter counters section n v less true e = let same = equal_numbers section n e in ap (λ k. get_or (set counters section v) k 0) (sym same)
+      ∙ get_or-set_same counters section v 0 less
   other_counter counters section n v less false e = get_or-set_other counters section n v 0 (differ section n e) where
     differ : (a b : ℕ) → (a == b) ≡ false → b ≢ a
     differ a b e = λ same. grind (arith, e, same)
@@ -213,7 +228,8 @@ module _ (s : Setting) (layout : Layout) (worth : WorthAt) (laid : IsLaidOut s l
         agrees = λ none. absurd (let gone : ◌≡◌ {A = Option LocateFact} (Some (zero_divisor (sites.Counter section))) None = none in cc);
         cells = λ none. absurd (let gone : ◌≡◌ {A = Option LocateFact} (Some (zero_divisor (sites.Counter section))) None = none in cc);
         facts = λ rest. ap (λ c. first_twice [] (addresses p.cells) or_else (zero_divisor_at s site c t (sites.Counter section) or_else rest)) counter_is
-            ∙ ap (λ b. first_twice [] (addresses p.cells) or_else ((if b then Some (zero_divisor (sites.Counter section)) else None) or_else rest)) (w.divides at (sym e));
+            ∙ ap (λ b. first_twice [] (addresses p.cells) or_else ((if b then Some (zero_divisor (sites.Counter section)) else None) or_else rest))
+            (w.divides at (sym e));
         low = λ h. h;
       }
       by_value (Some v) e = record {
@@ -237,16 +253,19 @@ module _ (s : Setting) (layout : Layout) (worth : WorthAt) (laid : IsLaidOut s l
 
         moved : (n : ℕ) → n < length s.bases → (b : Bool) → (section == n) ≡ b
             → (if section == n then value s site (counter s earlier n) t else counter s earlier n) ≡ Some (get_or (set p.counters section v) n 0)
-        moved n less true f = ap (λ c. if c then value s site (counter s earlier n) t else counter s earlier n) f ∙ ap (λ k. value s site (counter s earlier k) t) (sym (equal_numbers section n f))
+        moved n less true f = ap (λ c. if c then value s site (counter s earlier n) t else counter s earlier n) f
+            ∙ ap (λ k. value s site (counter s earlier k) t) (sym (equal_numbers section n f))
             ∙ known (Some v) e (Some v) refl ∙ ap Some (sym (other_counter p.counters section n v in_counters true f))
-        moved n less false f = ap (λ c. if c then value s site (counter s earlier n) t else counter s earlier n) f ∙ h.counters n less ∙ ap Some (sym (other_counter p.counters section n v in_counters false f))
+        moved n less false f = ap (λ c. if c then value s site (counter s earlier n) t else counter s earlier n) f ∙ h.counters n less
+            ∙ ap Some (sym (other_counter p.counters section n v in_counters false f))
 
         under : (n : ℕ) → n < length s.bases → (b : Bool) → (section == n) ≡ b → get_or (set p.counters section v) n 0 < s.modulus
         under n less true f = let same = other_counter p.counters section n v in_counters true f in let low = w.residue at v (sym e) in omega (arith, same, low)
         under n less false f = let same = other_counter p.counters section n v in_counters false f in let low = h.below n less in omega (arith, same, low)
 
     -- the facts of an item at its counter
-    item_step_facts : (item : Item) → step_fact s earlier (item_step site section item) ≡ item_fact s earlier site section (Some (get_or p.counters section 0)) item
+    item_step_facts : (item : Item) → step_fact s earlier (item_step site section item)
+        ≡ item_fact s earlier site section (Some (get_or p.counters section 0)) item
     item_step_facts item = ap (λ c. item_fact s earlier site section c item) counter_is
 
     -- an item without bytes changes nothing
@@ -260,7 +279,8 @@ module _ (s : Setting) (layout : Layout) (worth : WorthAt) (laid : IsLaidOut s l
         below = h.below;
         members = λ a. ap (λ c. has_number (addresses_at s.modulus c (Literal []) ++ loaded_addresses s earlier) a) counter_is ∙ h.members a;
       };
-      cells = λ e. sym (append-nil p.cells) ∙ ap (λ c. p.cells ++ step_cells layout.order s.modulus (item_reading s site section c (Literal []))) (sym counter_is);
+      cells = λ e. sym (append-nil p.cells) ∙ ap (λ c. p.cells ++ step_cells layout.order s.modulus (item_reading s site section c (Literal [])))
+          (sym counter_is);
       facts = λ rest. ap (λ o. first_twice [] (addresses p.cells) or_else (o or_else rest)) (item_step_facts (Literal []));
       low = λ h. h;
     } where
@@ -268,16 +288,20 @@ module _ (s : Setting) (layout : Layout) (worth : WorthAt) (laid : IsLaidOut s l
           → (if section == n then option_map (λ pc. (pc + 0) % s.modulus) (counter s earlier n) else counter s earlier n) ≡ Some (get_or p.counters n 0)
       moved n less true f =
           let low = h.below n less in
-          let again : (get_or p.counters n 0 + 0) % s.modulus ≡ get_or p.counters n 0 = ap (λ k. k % s.modulus) (add-zero (get_or p.counters n 0)) ∙ mod-eq_of_lt low in
+          let again : (get_or p.counters n 0 + 0) % s.modulus ≡ get_or p.counters n 0 = ap (λ k. k % s.modulus) (add-zero (get_or p.counters n 0))
+          ∙ mod-eq_of_lt low in
           ap (λ c. if c then option_map (λ pc. (pc + 0) % s.modulus) (counter s earlier n) else counter s earlier n) f
           ∙ ap (option_map (λ pc. (pc + 0) % s.modulus)) (h.counters n less) ∙ ap Some again
       moved n less false f = ap (λ c. if c then option_map (λ pc. (pc + 0) % s.modulus) (counter s earlier n) else counter s earlier n) f ∙ h.counters n less
 
-    outside_same : (at count : ℕ) → outside_in layout section at count ≡ first_some (outside_at s.modulus section (base_number s section) (size_at s section)) (counted_from count at)
+    outside_same : (at count : ℕ) → outside_in layout section at count
+        ≡ first_some (outside_at s.modulus section (base_number s section) (size_at s section)) (counted_from count at)
     outside_same at count =
         ap (λ m. first_some (outside_at m section (base_in layout section) (size_in layout section)) (counted_from count at)) (sym laid.modulus)
-        ∙ ap (λ bases. first_some (outside_at s.modulus section (unwrap_or (slice_get bases section) 0) (size_in layout section)) (counted_from count at)) (sym laid.bases)
-        ∙ ap (λ sections. first_some (outside_at s.modulus section (base_number s section) (unwrap_or (option_map (λ found. found.size) (slice_get sections section)) 0)) (counted_from count at)) (sym laid.sections)
+        ∙ ap (λ bases. first_some (outside_at s.modulus section (unwrap_or (slice_get bases section) 0) (size_in layout section))
+        (counted_from count at)) (sym laid.bases)
+        ∙ ap (λ sections. first_some (outside_at s.modulus section (base_number s section)
+        (unwrap_or (option_map (λ found. found.size) (slice_get sections section)) 0)) (counted_from count at)) (sym laid.sections)
 
     -- an item of which a byte lies outside
     outside_taken : (item : Item) (fact : LocateFact) → outside_in layout section (get_or p.counters section 0) (byte_count item) ≡ Some fact
@@ -286,7 +310,9 @@ module _ (s : Setting) (layout : Layout) (worth : WorthAt) (laid : IsLaidOut s l
       agrees = λ none. absurd (let gone : ◌≡◌ {A = Option LocateFact} (Some fact) None = none in cc);
       cells = λ none. absurd (let gone : ◌≡◌ {A = Option LocateFact} (Some fact) None = none in cc);
       facts = λ rest. ap (λ o. first_twice [] (addresses p.cells) or_else (o or_else rest)) (item_step_facts item)
-          ∙ ap (λ o. first_twice [] (addresses p.cells) or_else ((o or_else (first_twice (loaded_addresses s earlier) (addresses_at s.modulus (Some at) item) or_else field_fact s site section at item)) or_else rest))
+          ∙ ap (λ o. first_twice [] (addresses p.cells) or_else ((o
+          or_else (first_twice (loaded_addresses s earlier) (addresses_at s.modulus (Some at) item) or_else field_fact s site section at item))
+          or_else rest))
           (sym (outside_same at (byte_count item)) ∙ e);
       low = λ h. h;
     } where
@@ -307,12 +333,17 @@ module _ (s : Setting) (layout : Layout) (worth : WorthAt) (laid : IsLaidOut s l
       cells = λ none. ap (λ new. p.cells ++ new) (item_cells site section at item w none)
           ∙ ap (λ c. p.cells ++ step_cells layout.order s.modulus (item_reading s site section c item)) (sym counter_is);
       facts = λ rest. ap (λ o. first_twice [] (addresses p.cells) or_else (o or_else rest)) (item_step_facts item)
-          ∙ ap (λ o. first_twice [] (addresses p.cells) or_else ((o or_else (first_twice (loaded_addresses s earlier) (addresses_at s.modulus (Some at) item) or_else field_fact s site section at item)) or_else rest)) clear
-          ∙ twice_later (addresses p.cells) (addresses_at s.modulus (Some at) item) (loaded_addresses s earlier) (field_fact s site section at item) rest h.members
+          ∙ ap (λ o. first_twice [] (addresses p.cells) or_else ((o
+          or_else (first_twice (loaded_addresses s earlier) (addresses_at s.modulus (Some at) item) or_else field_fact s site section at item))
+          or_else rest)) clear
+          ∙ twice_later (addresses p.cells) (addresses_at s.modulus (Some at) item) (loaded_addresses s earlier) (field_fact s site section at item)
+          rest h.members
           ∙ ap (λ new. first_twice [] (addresses p.cells ++ new) or_else (field_fact s site section at item or_else rest)) new_addresses
-          ∙ ap (λ all. first_twice [] all or_else (field_fact s site section at item or_else rest)) (sym (map-append (λ (cell : Cell). cell.0) p.cells (cells_from at found.0)))
+          ∙ ap (λ all. first_twice [] all or_else (field_fact s site section at item or_else rest))
+          (sym (map-append (λ (cell : Cell). cell.0) p.cells (cells_from at found.0)))
           ∙ ap (λ o. first_twice [] (addresses (p.cells ++ cells_from at found.0)) or_else (o or_else rest)) (sym (item_facts site section at item w));
-      low = λ h a there. by_side a h (In-append a (addresses p.cells) (addresses (cells_from at found.0)) (subst (λ all. In a all) (map-append (λ (cell : Cell). cell.0) p.cells (cells_from at found.0)) there));
+      low = λ h a there. by_side a h (In-append a (addresses p.cells) (addresses (cells_from at found.0))
+          (subst (λ all. In a all) (map-append (λ (cell : Cell). cell.0) p.cells (cells_from at found.0)) there));
     } where
       at : ℕ
       at = get_or p.counters section 0
@@ -333,7 +364,8 @@ module _ (s : Setting) (layout : Layout) (worth : WorthAt) (laid : IsLaidOut s l
       fits_space : at + byte_count item ≤ s.modulus
       fits_space = let high = lies.1 in let inside = laid.inside section in omega (arith, counted, high, inside)
 
-      by_side : (a : ℕ) → ((a : ℕ) → In a (addresses p.cells) → a < s.modulus) → In a (addresses p.cells) ⊎ In a (addresses (cells_from at found.0)) → a < s.modulus
+      by_side : (a : ℕ) → ((a : ℕ) → In a (addresses p.cells) → a < s.modulus) → In a (addresses p.cells) ⊎ In a (addresses (cells_from at found.0))
+          → a < s.modulus
       by_side a h (inl old) = h a old
       by_side a h (inr new) =
           let count = item_count section at item in
@@ -346,7 +378,8 @@ module _ (s : Setting) (layout : Layout) (worth : WorthAt) (laid : IsLaidOut s l
           ∙ ap (λ n. counted_from n at) (sym (item_count section at item))
           ∙ sym (addresses-from found.0 at)
 
-      members_after : (a : ℕ) → has_number (addresses_at s.modulus (counter s earlier section) item ++ loaded_addresses s earlier) a ≡ has_number (addresses (p.cells ++ cells_from at found.0)) a
+      members_after : (a : ℕ) → has_number (addresses_at s.modulus (counter s earlier section) item ++ loaded_addresses s earlier) a
+          ≡ has_number (addresses (p.cells ++ cells_from at found.0)) a
       members_after a =
           ap (λ c. has_number (addresses_at s.modulus c item ++ loaded_addresses s earlier) a) counter_is
           ∙ has-append (addresses_at s.modulus (Some at) item) (loaded_addresses s earlier) a
@@ -360,9 +393,11 @@ module _ (s : Setting) (layout : Layout) (worth : WorthAt) (laid : IsLaidOut s l
       step_on = ap (option_map (λ pc. (pc + byte_count item) % s.modulus)) counter_is ∙ ap (λ m. Some ((at + byte_count item) % m)) laid.modulus
 
       moved : (n : ℕ) → n < length s.bases → (b : Bool) → (section == n) ≡ b
-          → (if section == n then option_map (λ pc. (pc + byte_count item) % s.modulus) (counter s earlier n) else counter s earlier n) ≡ Some (get_or (set p.counters section next) n 0)
+          → (if section == n then option_map (λ pc. (pc + byte_count item) % s.modulus) (counter s earlier n) else counter s earlier n)
+          ≡ Some (get_or (set p.counters section next) n 0)
       moved n less true f = ap (λ c. if c then option_map (λ pc. (pc + byte_count item) % s.modulus) (counter s earlier n) else counter s earlier n) f
-          ∙ ap (λ k. option_map (λ pc. (pc + byte_count item) % s.modulus) (counter s earlier k)) (sym (equal_numbers section n f)) ∙ step_on ∙ ap Some (sym (other_counter p.counters section n next in_counters true f))
+          ∙ ap (λ k. option_map (λ pc. (pc + byte_count item) % s.modulus) (counter s earlier k)) (sym (equal_numbers section n f)) ∙ step_on
+          ∙ ap Some (sym (other_counter p.counters section n next in_counters true f))
       moved n less false f = ap (λ c. if c then option_map (λ pc. (pc + byte_count item) % s.modulus) (counter s earlier n) else counter s earlier n) f
           ∙ h.counters n less ∙ ap Some (sym (other_counter p.counters section n next in_counters false f))
 
@@ -383,11 +418,13 @@ module _ (s : Setting) (layout : Layout) (worth : WorthAt) (laid : IsLaidOut s l
 
     counted_taken : (item : Item) → IsPlainItem s worth site item → (count : ℕ) → byte_count item ≡ count
         → IsTaken earlier (item_step site section item) p
-        (if count == 0 then (p, None) else placed_outcome layout worth section (get_or p.counters section 0) item (outside_in layout section (get_or p.counters section 0) (byte_count item)) p)
+        (if count == 0 then (p, None) else placed_outcome layout worth section (get_or p.counters section 0) item
+        (outside_in layout section (get_or p.counters section 0) (byte_count item)) p)
     counted_taken item w zero e = empty_taken item w e
     counted_taken item w (suc k) e =
         subst (λ b. IsTaken earlier (item_step site section item) p
-        (if b then (p, None) else placed_outcome layout worth section (get_or p.counters section 0) item (outside_in layout section (get_or p.counters section 0) (byte_count item)) p)) (sym (some k))
+        (if b then (p, None) else placed_outcome layout worth section (get_or p.counters section 0) item
+        (outside_in layout section (get_or p.counters section 0) (byte_count item)) p)) (sym (some k))
         (placed_taken item w k e (outside_in layout section (get_or p.counters section 0) (byte_count item)) refl) where
           some : (k : ℕ) → (suc k == 0) ≡ false
           some k = grind arith

@@ -1,5 +1,6 @@
 -- The first debug expression that divides by 0, and the start, as facts.
-use Rattle.std.proofs.Common.{◌≡◌, ℕ, zero, suc, ◌+◌, ◌<◌, List, [], ◌∷◌, map, length, drop, Option, Some, None, Bool, true, false, refl, sym, ◌∙◌, ap, zero-add, arith}
+use Rattle.std.proofs.Common.{◌≡◌, ℕ, zero, suc, ◌+◌, ◌<◌, List, [], ◌∷◌, map, length, drop, Option, Some, None, Bool, true, false, refl, sym, ◌∙◌}
+use Rattle.std.proofs.Common.{ap, zero-add, arith}
 use Rattle.std.specs.Prelude.{slice_get, option_map, option_to_list, if◌then◌else◌}
 use Rattle.std.specs.List.{enumerate_from}
 use Rattle.std.proofs.lemmas.Option.{slice_get-map}
@@ -17,7 +18,8 @@ use Rattle.mufom_image_entries.specs.Valued.{IsFirstDivision}
 
 -- ---- lists from a position on
 
-pub drop-next : {A : Type 0} (xs : List A) (n : ℕ) (x : A) (rest : List A) → drop n xs ≡ x ∷ rest → (drop (n + 1) xs ≡ rest) × (slice_get xs n ≡ Some x) × (n < length xs)
+pub drop-next : {A : Type 0} (xs : List A) (n : ℕ) (x : A) (rest : List A) → drop n xs ≡ x ∷ rest → (drop (n + 1) xs ≡ rest)
+    × (slice_get xs n ≡ Some x) × (n < length xs)
 drop-next [] zero x rest e = absurd cc
 drop-next [] (suc n) x rest e = absurd cc
 drop-next (y ∷ xs) zero x rest e = let same : y ≡ x = cc in let tail : xs ≡ rest = cc in (tail, ap Some same, omega arith)
@@ -62,7 +64,8 @@ module _ (s : Setting) (site : Sited) where
       none_first (debug_fact s) (enumerate_from 0 (map (λ t. (site, t)) trees)) (λ i e f. none trees i e (λ t h. fails i t h) f)
   first-debug trees (Some n) first =
       let t = first.0 in
-      let there = get_enumerate 0 (map (λ t. (site, t)) trees) n (site, t) (slice_get-map (λ (t : Tree). (site, t)) trees n ∙ ap (option_map (λ (t : Tree). (site, t))) first.1) in
+      let there = get_enumerate 0 (map (λ t. (site, t)) trees) n (site, t) (slice_get-map (λ (t : Tree). (site, t)) trees n
+      ∙ ap (option_map (λ (t : Tree). (site, t))) first.1) in
       let spot = there ∙ ap (λ k. Some (k, (site, t))) (zero-add n) in
       one_first (debug_fact s) (enumerate_from 0 (map (λ t. (site, t)) trees)) n (n, (site, t)) (zero_divisor (sites.Debug n)) spot (own n t true first.2)
       (λ j e less f. none trees j e (λ u h. first.3 j less u h) f)
@@ -72,7 +75,8 @@ module _ (s : Setting) (site : Sited) where
       → first_some (start_fact s) (map (λ t. (site, t)) (option_to_list start)) ≡ (if b then Some (zero_divisor sites.Start) else None)
   first-start None b without with = sym (ap (λ c. if c then Some (zero_divisor sites.Start) else None) (without refl))
   first-start (Some t) b without with = by_case (test t) refl where
-    by_case : (c : Bool) → test t ≡ c → ((if test t then Some (zero_divisor sites.Start) else None) or_else None) ≡ (if b then Some (zero_divisor sites.Start) else None)
+    by_case : (c : Bool) → test t ≡ c → ((if test t then Some (zero_divisor sites.Start) else None) or_else None)
+        ≡ (if b then Some (zero_divisor sites.Start) else None)
     by_case true e =
         ap (λ c. (if c then Some (zero_divisor sites.Start) else None) or_else None) e
         ∙ sym (ap (λ c. if c then Some (zero_divisor sites.Start) else None) (with t refl ∙ e))

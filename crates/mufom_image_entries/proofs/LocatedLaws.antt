@@ -32,7 +32,8 @@ module _ (s : Setting) (m : Parts) where
     by_case None e = absurd (some e)
     by_case (Some n) e = refl
 
-  the-head : (head : BlockHead) → HaveValues (option_to_list (offset_of head)) → located_head (head_reading s (alone m) head) ≡ Some (mapped_head number_or_zero head)
+  the-head : (head : BlockHead) → HaveValues (option_to_list (offset_of head)) → located_head (head_reading s (alone m) head)
+      ≡ Some (mapped_head number_or_zero head)
   the-head heads.Module some = refl
   the-head (heads.Global stack type_index t) some = ap (option_map (λ n. heads.Global stack type_index (number n))) (has-value t (some t (inl refl)))
   the-head (heads.Source numbers) some = refl

@@ -39,7 +39,8 @@ has-some names name k e =
 default-is : (values : List Evaluation) (commons : List ℕ) (weak : Option Weak) → worth_met values commons (Some (meeting_without weak)) ≡ default_of weak
 default-is values commons None = refl
 default-is values commons (Some weak) = by_size (weak.size == 0) where
-  by_size : (b : Bool) → worth_met values commons (Some (if b then meetings.Default weak.default else meetings.Nothing)) ≡ (if b then Some weak.default else None)
+  by_size : (b : Bool) → worth_met values commons (Some (if b then meetings.Default weak.default else meetings.Nothing))
+      ≡ (if b then Some weak.default else None)
   by_size true = refl
   by_size false = refl
 
@@ -77,7 +78,8 @@ module _ (m : Parts) (bases commons : List ℕ) (worth : Worth) (values : List E
       default-is values commons r.weak ∙ sym (ap (λ b. if b then s.common_base r.name else default_of r.weak) none)
 
   by_place : (r : Reference) (o : Option ℕ) → place_in (names_of m.names.publics) r.name ≡ o → ((c : ℕ) → o ≡ Some c → IsKnown c)
-      → worth_met values commons (Some (meeting_by o (place_in (common_list m) r.name) r.weak)) ≡ reference_value worth (first_named s.publics r.name) (unmet_value s r)
+      → worth_met values commons (Some (meeting_by o (place_in (common_list m) r.name) r.weak))
+      ≡ reference_value worth (first_named s.publics r.name) (unmet_value s r)
   by_place r (Some n) e known = by_public r n e (known n refl)
   by_place r None e known = by_common r (place_in (common_list m) r.name) refl ∙ sym (ap (λ o. reference_value worth o (unmet_value s r)) (unnamed r e))
 

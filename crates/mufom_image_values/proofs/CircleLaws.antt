@@ -1,5 +1,6 @@
 -- A public lies on a cycle of names exactly where its position lies on a circle of the graph.
-use Rattle.std.proofs.Common.{◌≡◌, ℕ, zero, suc, ◌<◌, ◌⊎◌, inl, inr, List, [], ◌∷◌, length, Option, Some, None, Bool, true, false, ◌||◌, refl, sym, ◌∙◌, ap, subst, append-nil, arith}
+use Rattle.std.proofs.Common.{◌≡◌, ℕ, zero, suc, ◌<◌, ◌⊎◌, inl, inr, List, [], ◌∷◌, length, Option, Some, None, Bool, true, false, ◌||◌, refl, sym}
+use Rattle.std.proofs.Common.{◌∙◌, ap, subst, append-nil, arith}
 use Rattle.std.specs.Prelude.{slice_get, option_map, option_and_then, if◌then◌else◌, Contains}
 use Rattle.std.specs.List.{list_any}
 use Rattle.std.specs.Str.{bytes_eq}
@@ -86,10 +87,13 @@ module _ (m : Parts) (distinct : AreDistinct (names_of m.names.publics)) where
   pub first-is : (a : ℕ) (p : Public) → slice_get m.names.publics a ≡ Some p → first_named (at_site (alone m) m.names.publics) p.name ≡ Some (sit m p)
   first-is a p e = named-public m p.name ∙ by_place (place_in (names_of m.names.publics) p.name) refl where
     among : has_name (names_of m.names.publics) p.name ≡ true
-    among = passes-In (bytes_eq p.name) (names_of m.names.publics) p.name (In-at p.name (names_of m.names.publics) a (named-at a p e)) ((bytes_eq-Decides p.name p.name).1 refl)
+    among = passes-In (bytes_eq p.name) (names_of m.names.publics) p.name (In-at p.name (names_of m.names.publics) a (named-at a p e))
+        ((bytes_eq-Decides p.name p.name).1 refl)
 
-    by_place : (o : Option ℕ) → place_in (names_of m.names.publics) p.name ≡ o → option_and_then (slice_get (at_site (alone m) m.names.publics)) o ≡ Some (sit m p)
-    by_place None f = absurd (let there : has_name (names_of m.names.publics) p.name ≡ true = among in let none : has_name (names_of m.names.publics) p.name ≡ false = place-none 0 (names_of m.names.publics) p.name f in cc)
+    by_place : (o : Option ℕ) → place_in (names_of m.names.publics) p.name ≡ o → option_and_then (slice_get (at_site (alone m) m.names.publics)) o
+        ≡ Some (sit m p)
+    by_place None f = absurd (let there : has_name (names_of m.names.publics) p.name ≡ true = among in
+        let none : has_name (names_of m.names.publics) p.name ≡ false = place-none 0 (names_of m.names.publics) p.name f in cc)
     by_place (Some k) f =
         let there = place-some 0 (names_of m.names.publics) p.name k f in
         let same = same_place there.0 a p.name there.2 (named-at a p e) in
@@ -133,7 +137,8 @@ module _ (m : Parts) (valid : IsValid m) where
   abbrev LeadsTo : ℕ → List ℕ → Type 0
   LeadsTo a name = (b : ℕ) × (q : Public) × (k : ℕ) × Leads steps k a b × (slice_get m.names.publics b ≡ Some q) × (q.name ≡ name)
 
-  test-chain : (k : ℕ) (name : List ℕ) (a : ℕ) (p : Public) → slice_get m.names.publics a ≡ Some p → leads_within s k name (alone m) p.value ≡ true → LeadsTo a name
+  test-chain : (k : ℕ) (name : List ℕ) (a : ℕ) (p : Public) → slice_get m.names.publics a ≡ Some p → leads_within s k name (alone m) p.value ≡ true
+      → LeadsTo a name
   test-chain zero name a p at e = absurd cc
   test-chain (suc k) name a p at e =
       let own : Option SitedPublic → Bool = λ o. is_or_leads (λ x y. leads_within s k name x y) name o in
@@ -217,12 +222,14 @@ no_cycle m none name h = by_first (first_named (setting (m ∷ []) no_bases).pub
   by_first (Some q) f g =
       let there = find_at (λ (q : SitedPublic). bytes_eq q.entry.name name) (setting (m ∷ []) no_bases).publics q f in
       let own : q.entry.name ≡ name = (bytes_eq-Decides q.entry.name name).0 there.1 in
-      let spot : slice_get (at_site (alone m) m.names.publics) there.0.0 ≡ Some q = ap (λ (qs : List SitedPublic). slice_get qs there.0.0) (sym (flat-alone m)) ∙ there.0.1 in
+      let spot : slice_get (at_site (alone m) m.names.publics) there.0.0 ≡ Some q =
+      ap (λ (qs : List SitedPublic). slice_get qs there.0.0) (sym (flat-alone m)) ∙ there.0.1 in
       let p = mapped_some (sit m) (slice_get m.names.publics there.0.0) q (sym (slice_get-map (sit m) m.names.publics there.0.0) ∙ spot) in
       let its : p.0.name ≡ name = ap (λ (q : SitedPublic). q.entry.name) p.2 ∙ own in
       let at : slice_get (names_of m.names.publics) there.0.0 ≡ Some name
       = slice_get-map (λ (p : Public). p.name) m.names.publics there.0.0 ∙ ap (option_map (λ (p : Public). p.name)) p.1 ∙ ap Some its in
-      let whole : slice_get (public_names (m ∷ [])) there.0.0 ≡ Some name = ap (λ (names : List (List ℕ)). slice_get names there.0.0) (append-nil (names_of m.names.publics)) ∙ at in
+      let whole : slice_get (public_names (m ∷ [])) there.0.0 ≡ Some name =
+      ap (λ (names : List (List ℕ)). slice_get names there.0.0) (append-nil (names_of m.names.publics)) ∙ at in
       let without : cycle_at (m ∷ []) name ≡ None = first_some_none (cycle_at (m ∷ [])) (public_names (m ∷ [])) none name there.0.0 whole in
       absurd (let clash : Some (cycle name) ≡ None = sym (ap (λ b. if b then Some (cycle name) else None) test) ∙ without in cc)
 
@@ -243,4 +250,5 @@ named-first graph h (Some a) first =
 
 -- all positions that the graph leads to are those of publics
 pub graph-closed : (graph : Graph) → IsGraph graph → IsClosed (edges graph.meetings.now graph.parts.now.names.publics) (length graph.parts.now.names.publics)
-graph-closed graph h = subst (λ met. IsClosed (edges met graph.parts.now.names.publics) (length graph.parts.now.names.publics)) (sym h.meetings) (closed graph.parts.now h.valid)
+graph-closed graph h = subst (λ met. IsClosed (edges met graph.parts.now.names.publics) (length graph.parts.now.names.publics)) (sym h.meetings)
+    (closed graph.parts.now h.valid)

@@ -1,5 +1,6 @@
 -- The first reference that stands for the first common has its name, and the first that passes a test is found one after another.
-use Rattle.std.proofs.Common.{◌≡◌, ℕ, zero, suc, ◌<◌, inl, inr, List, [], ◌∷◌, map, get_or, Option, Some, None, is_none, Bool, true, false, not, cond, if◌then◌else◌, refl, sym, ap, ◌∙◌, append-nil, arith}
+use Rattle.std.proofs.Common.{◌≡◌, ℕ, zero, suc, ◌<◌, inl, inr, List, [], ◌∷◌, map, get_or, Option, Some, None, is_none, Bool, true, false, not, cond}
+use Rattle.std.proofs.Common.{if◌then◌else◌, refl, sym, ap, ◌∙◌, append-nil, arith}
 use Rattle.std.specs.Prelude.{filter, find, option_map, slice_get, ◌==◌}
 use Rattle.std.specs.Str.{bytes_eq}
 use Rattle.std.proofs.lemmas.Option.{slice_get-map, get_or_from_slice_get}
@@ -89,8 +90,10 @@ module _ (m : Parts) where
       let free = filter-passes (λ (r : Reference). not (has_name (public_names (m ∷ [])) r.name)) r.0 (flat_references (m ∷ [])) unmet in
       let there = filter-In (λ (r : Reference). not (has_name (public_names (m ∷ [])) r.name)) r.0 (flat_references (m ∷ [])) unmet in
       let named : r.0.name ≡ name = ap (λ (common : List ℕ × ℕ). common.0) r.2 ∙ pair.2 in
-      let own : not (has_name (names_of m.names.publics) r.0.name) ≡ true = ap (λ names. not (has_name names r.0.name)) (sym (append-nil (names_of m.names.publics))) ∙ free in
-      let none : place_in (names_of m.names.publics) r.0.name ≡ None = lacks (place_in (names_of m.names.publics) r.0.name) (has-place 0 (names_of m.names.publics) r.0.name ∙ own) in
+      let own : not (has_name (names_of m.names.publics) r.0.name) ≡ true =
+      ap (λ names. not (has_name names r.0.name)) (sym (append-nil (names_of m.names.publics))) ∙ free in
+      let none : place_in (names_of m.names.publics) r.0.name ≡ None =
+      lacks (place_in (names_of m.names.publics) r.0.name) (has-place 0 (names_of m.names.publics) r.0.name ∙ own) in
       let first : place_in (common_list m) r.0.name ≡ Some 0
       = ap (place_in (common_list m)) named ∙ first-place (common_list m) name (distinct-head bytes_eq (common_names (m ∷ [])) ∙ e) in (
         r.0,
@@ -124,7 +127,8 @@ module _ (m : Parts) where
         absurd (let passes : stands r.0 ≡ true = r.2 in cc)
 
 -- what a reference stands for stands at its position
-pub meeting-at : (m : Parts) (met : List Meeting) (i : ℕ) (d : Meeting) (r : Reference) → met ≡ meetings_of m → slice_get m.names.references i ≡ Some r → get_or met i d ≡ meeting_of m r
+pub meeting-at : (m : Parts) (met : List Meeting) (i : ℕ) (d : Meeting) (r : Reference) → met ≡ meetings_of m → slice_get m.names.references i
+    ≡ Some r → get_or met i d ≡ meeting_of m r
 meeting-at m met i d r same e =
     get_or_from_slice_get met i (meeting_of m r) d
     (ap (λ (ms : List Meeting). slice_get ms i) same ∙ slice_get-map (meeting_of m) m.names.references i ∙ ap (option_map (meeting_of m)) e)

@@ -27,7 +27,8 @@ module _ (placed : PlacedModule) (h : IsPlaced placed) (values : List Evaluation
   pub value-is : (counter : Option ℕ) (t : Tree) → worth_at placed values counter t ≡ value (s placed h) (alone (m placed h)) counter t
   value-is counter t = worth_at-is placed h values counter t (λ c k. known-at placed h values counter (values-right placed values v) c (v.evaluated c))
 
-  pub divides-is : (counter : Option ℕ) (t : Tree) → divides_by_zero (worth_at placed values counter) t ≡ has_zero_divisor (s placed h) (alone (m placed h)) counter t
+  pub divides-is : (counter : Option ℕ) (t : Tree) → divides_by_zero (worth_at placed values counter) t
+      ≡ has_zero_divisor (s placed h) (alone (m placed h)) counter t
   divides-is counter t = λ i. divides_by_zero (λ part. value-is counter part i) t
 
   -- a public with a value does not divide by 0
@@ -42,13 +43,15 @@ module _ (placed : PlacedModule) (h : IsPlaced placed) (values : List Evaluation
 
     by_test : (b : Bool) → has_zero_divisor (s placed h) (alone (m placed h)) None p.value ≡ b → b ≡ false
     by_test false e = refl
-    by_test true e = absurd (no_value evaluation to other ((values-right placed values v).right n p evaluation at to) (zero_divisor-none (s placed h) (alone (m placed h)) None p.value e))
+    by_test true e = absurd (no_value evaluation to other ((values-right placed values v).right n p evaluation at to)
+        (zero_divisor-none (s placed h) (alone (m placed h)) None p.value e))
 
   -- what is met at a public, by whether it divides by 0
   pub fact-none : (p : Public) → has_zero_divisor (s placed h) (alone (m placed h)) None p.value ≡ false → public_fact (s placed h) (sit (m placed h) p) ≡ None
   fact-none p e = ap (λ b. if b then Some (zero_divisor (sites.Public p.name)) else None) e
 
-  fact-some : (p : Public) → has_zero_divisor (s placed h) (alone (m placed h)) None p.value ≡ true → public_fact (s placed h) (sit (m placed h) p) ≡ Some (zero_divisor (sites.Public p.name))
+  fact-some : (p : Public) → has_zero_divisor (s placed h) (alone (m placed h)) None p.value ≡ true → public_fact (s placed h) (sit (m placed h) p)
+      ≡ Some (zero_divisor (sites.Public p.name))
   fact-some p e = ap (λ b. if b then Some (zero_divisor (sites.Public p.name)) else None) e
 
   -- no public of those before a position divides by 0 itself
@@ -57,7 +60,8 @@ module _ (placed : PlacedModule) (h : IsPlaced placed) (values : List Evaluation
 
   sited_at : (j : ℕ) (q : SitedPublic) → slice_get (at_site (alone (m placed h)) (m placed h).names.publics) j ≡ Some q
       → (p : Public) × (slice_get (m placed h).names.publics j ≡ Some p) × (sit (m placed h) p ≡ q)
-  sited_at j q e = mapped_some (sit (m placed h)) (slice_get (m placed h).names.publics j) q (sym (slice_get-map (sit (m placed h)) (m placed h).names.publics j) ∙ e)
+  sited_at j q e = mapped_some (sit (m placed h)) (slice_get (m placed h).names.publics j) q
+      (sym (slice_get-map (sit (m placed h)) (m placed h).names.publics j) ∙ e)
 
   pub first-division-none : ((j : ℕ) (q : Public) → slice_get (m placed h).names.publics j ≡ Some q → public_fact (s placed h) (sit (m placed h) q) ≡ None)
       → first_some (public_fact (s placed h)) (s placed h).publics ≡ None
@@ -66,11 +70,13 @@ module _ (placed : PlacedModule) (h : IsPlaced placed) (values : List Evaluation
       ∙ none_first (public_fact (s placed h)) (at_site (alone (m placed h)) (m placed h).names.publics)
       (λ j q e. let p = sited_at j q e in sym (ap (public_fact (s placed h)) p.2) ∙ none j p.0 p.1)
 
-  pub first-division-some : (n : ℕ) (p : Public) → slice_get (m placed h).names.publics n ≡ Some p → NoneBefore n → has_zero_divisor (s placed h) (alone (m placed h)) None p.value ≡ true
+  pub first-division-some : (n : ℕ) (p : Public) → slice_get (m placed h).names.publics n ≡ Some p → NoneBefore n
+      → has_zero_divisor (s placed h) (alone (m placed h)) None p.value ≡ true
       → first_some (public_fact (s placed h)) (s placed h).publics ≡ Some (zero_divisor (sites.Public p.name))
   first-division-some n p at none e =
       ap (first_some (public_fact (s placed h))) (flat-alone (m placed h))
-      ∙ one_first (public_fact (s placed h)) (at_site (alone (m placed h)) (m placed h).names.publics) n (sit (m placed h) p) (zero_divisor (sites.Public p.name))
+      ∙ one_first (public_fact (s placed h)) (at_site (alone (m placed h)) (m placed h).names.publics) n (sit (m placed h) p)
+      (zero_divisor (sites.Public p.name))
       (slice_get-map (sit (m placed h)) (m placed h).names.publics n ∙ ap (option_map (sit (m placed h))) at)
       (fact-some p e)
       (λ j q less f. let own = sited_at j q f in sym (ap (public_fact (s placed h)) own.2) ∙ none j less own.0 own.1)

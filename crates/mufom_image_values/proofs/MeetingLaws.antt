@@ -9,7 +9,8 @@ use Rattle.mufom_names.specs.Names.{names_of}
 use Rattle.mufom_names.specs.Index.{Entry, position_of, numbered_from}
 use Rattle.mufom_module.specs.declared.module.Parts.{Parts}
 use Rattle.mufom_plan.specs.Names.{has_name}
-use Rattle.mufom_meaning.specs.Flat.{distinct, is_strong, is_common, common_size, same_common, public_names, flat_references, unmet_references, commons, common_names}
+use Rattle.mufom_meaning.specs.Flat.{distinct, is_strong, is_common, common_size, same_common, public_names, flat_references, unmet_references}
+use Rattle.mufom_meaning.specs.Flat.{commons, common_names}
 use Rattle.mufom_meaning.specs.LocateAnswer.{first_undefined}
 use Rattle.mufom_meaning.proofs.Distinct.{distinct-made, differs}
 use Rattle.mufom_meaning.proofs.Members.{In-at, In-distinct, distinct-In, passes-In}
@@ -26,7 +27,8 @@ named-pairs [] = refl
 named-pairs (r ∷ rs) = ap (λ names. r.name ∷ names) (named-pairs rs)
 
 -- distinct pairs have the same distinct names as all pairs
-distinct-names : (pairs : List (List ℕ × ℕ)) → distinct bytes_eq (map (λ common. common.0) (distinct same_common pairs)) ≡ distinct bytes_eq (map (λ common. common.0) pairs)
+distinct-names : (pairs : List (List ℕ × ℕ)) → distinct bytes_eq (map (λ common. common.0) (distinct same_common pairs))
+    ≡ distinct bytes_eq (map (λ common. common.0) pairs)
 distinct-names pairs =
     ap (λ (ps : List (List ℕ × ℕ)). distinct bytes_eq (map (λ common. common.0) ps)) (sym (filter-all (distinct same_common pairs)))
     ∙ distinct-made same_common same_common-decides bytes_eq bytes_eq-Decides (λ common. true) (λ common. common.0) pairs
@@ -44,10 +46,12 @@ asks-is : (m : Parts) (publics : List Entry) → FindsFirst publics (names_of m.
 asks-is m publics finds r =
     and-turned (is_common r) (is_none (position_of publics r.name))
     ∙ ap (λ b. b && is_common r)
-    (ap is_none (finds r.name) ∙ has-place 0 (names_of m.names.publics) r.name ∙ ap (λ names. not (has_name names r.name)) (sym (append-nil (names_of m.names.publics))))
+    (ap is_none (finds r.name) ∙ has-place 0 (names_of m.names.publics) r.name
+    ∙ ap (λ names. not (has_name names r.name)) (sym (append-nil (names_of m.names.publics))))
 
 -- what the references of a module ask for, one after another, are its commons
-pub asked-commons : (m : Parts) (publics : List Entry) → FindsFirst publics (names_of m.names.publics) → asked_after publics [] m.names.references ≡ common_list m
+pub asked-commons : (m : Parts) (publics : List Entry) → FindsFirst publics (names_of m.names.publics) → asked_after publics [] m.names.references
+    ≡ common_list m
 asked-commons m publics finds =
     let unmet : Reference → Bool = λ r. not (has_name (public_names (m ∷ [])) r.name) in
     let same : filter (asks publics) m.names.references ≡ filter is_common (filter unmet (flat_references (m ∷ []))) =
@@ -123,7 +127,8 @@ distinct-has names name = by_case (has_name (distinct bytes_eq names) name) refl
   back : has_name (distinct bytes_eq names) name ≡ true → has_name names name ≡ true
   back h =
       let at = name_at (distinct bytes_eq names) name h in
-      passes-In (bytes_eq name) names name (distinct-In bytes_eq name names (In-at name (distinct bytes_eq names) at.0 at.1)) ((bytes_eq-Decides name name).1 refl)
+      passes-In (bytes_eq name) names name (distinct-In bytes_eq name names (In-at name (distinct bytes_eq names) at.0 at.1))
+      ((bytes_eq-Decides name name).1 refl)
 
   by_case : (b : Bool) → has_name (distinct bytes_eq names) name ≡ b → (c : Bool) → has_name names name ≡ c → b ≡ c
   by_case true e c f = let h = back e in sym h ∙ f
@@ -136,7 +141,8 @@ undefined-is : (m : Parts) (r : Reference)
 undefined-is m r =
     ap (λ names. (not (has_name names r.name) && is_strong r) && not (has_name (common_names (m ∷ [])) r.name)) (append-nil (names_of m.names.publics))
     ∙ ap (λ b. (b && is_strong r) && not (has_name (common_names (m ∷ [])) r.name)) (sym (has-place 0 (names_of m.names.publics) r.name))
-    ∙ ap (λ b. (is_none (place_in (names_of m.names.publics) r.name) && is_strong r) && b) (ap not (sym (distinct-has (common_names (m ∷ [])) r.name)) ∙ sym (has-place 0 (common_list m) r.name))
+    ∙ ap (λ b. (is_none (place_in (names_of m.names.publics) r.name) && is_strong r) && b) (ap not (sym (distinct-has (common_names (m ∷ [])) r.name))
+    ∙ sym (has-place 0 (common_list m) r.name))
     ∙ by_place (place_in (names_of m.names.publics) r.name) (place_in (common_list m) r.name) where
       by_place : (o u : Option ℕ) → ((is_none o && is_strong r) && is_none u) ≡ (is_nothing (meeting_by o u r.weak) && is_strong r)
       by_place (Some n) u = refl
@@ -154,14 +160,16 @@ first_undefined-is m =
     (find-filter (λ r. p r.name) is_strong (unmet_references (m ∷ []))
     ∙ find-filter (λ r. is_strong r && p r.name) unmet (flat_references (m ∷ []))
     ∙ ap (find (λ r. unmet r && (is_strong r && p r.name))) (append-nil m.names.references)
-    ∙ find-same (λ r. unmet r && (is_strong r && p r.name)) (is_undefined m) (λ r. grouped (unmet r) (is_strong r) (p r.name) ∙ undefined-is m r) m.names.references)
+    ∙ find-same (λ r. unmet r && (is_strong r && p r.name)) (is_undefined m) (λ r. grouped (unmet r) (is_strong r) (p r.name)
+    ∙ undefined-is m r) m.names.references)
   where
     grouped : (a b c : Bool) → (a && (b && c)) ≡ ((a && b) && c)
     grouped true b c = refl
     grouped false b c = refl
 
 -- what references stand for by indexes of these names is what they stand for
-pub meetings-are : (m : Parts) (publics commons : List Entry) → FindsFirst publics (names_of m.names.publics) → commons ≡ numbered_from 0 (asked_after publics [] m.names.references)
+pub meetings-are : (m : Parts) (publics commons : List Entry) → FindsFirst publics (names_of m.names.publics) → commons
+    ≡ numbered_from 0 (asked_after publics [] m.names.references)
     → map (λ r. meeting_by (position_of publics r.name) (position_of commons r.name) r.weak) m.names.references ≡ meetings_of m
 meetings-are m publics commons finds is = all m.names.references where
   each : (r : Reference) → meeting_by (position_of publics r.name) (position_of commons r.name) r.weak ≡ meeting_of m r

@@ -1,6 +1,7 @@
 -- The graph of positions against the mentions of the definitions: a position leads to another exactly where the public at the one
 -- mentions the public at the other.
-use Rattle.std.proofs.Common.{◌≡◌, ℕ, ◌<◌, inl, inr, List, [], ◌∷◌, ◌++◌, length, Option, Some, None, Bool, true, false, refl, sym, ◌∙◌, ap, append-nil, zero-add, arith}
+use Rattle.std.proofs.Common.{◌≡◌, ℕ, ◌<◌, inl, inr, List, [], ◌∷◌, ◌++◌, length, Option, Some, None, Bool, true, false, refl, sym, ◌∙◌, ap}
+use Rattle.std.proofs.Common.{append-nil, zero-add, arith}
 use Rattle.std.specs.Prelude.{slice_get, option_map, option_and_then, option_to_list, flat_map, ◌==◌, if◌then◌else◌}
 use Rattle.std.proofs.lemmas.Option.{slice_get-map, slice_get_within}
 use Rattle.mufom_expr.specs.declared.token.Letter.{Letter}
@@ -55,7 +56,8 @@ module _ (met : List Meeting) where
   in-some (Some x) c e = inl cc
 
   -- a position that the tokens of a tree mention is that of a variable
-  pub mention-variable : (t : Tree) (c : ℕ) → In c (mentions_of met (tokens_of t)) → (v : Letter × ℕ) × In v (variables_of t) × (public_named met v.0 v.1 ≡ Some c)
+  pub mention-variable : (t : Tree) (c : ℕ) → In c (mentions_of met (tokens_of t)) → (v : Letter × ℕ) × In v (variables_of t)
+      × (public_named met v.0 v.1 ≡ Some c)
   mention-variable t c h =
       let there = flat_map-In (λ v. option_to_list (public_named met v.0 v.1)) c (variables_of t) (moved (by_variables t) h) in
       (there.0, there.1, some-in (public_named met there.0.0 there.0.1) c there.2) where
@@ -63,9 +65,10 @@ module _ (met : List Meeting) where
         moved e h = rw (← e) h
 
   pub variable-mention : (t : Tree) (v : Letter × ℕ) (c : ℕ) → In v (variables_of t) → public_named met v.0 v.1 ≡ Some c → In c (mentions_of met (tokens_of t))
-  variable-mention t v c h e = moved (sym (by_variables t)) (In-flat_map (λ v. option_to_list (public_named met v.0 v.1)) v c (variables_of t) h (in-some (public_named met v.0 v.1) c e)) where
-    moved : {xs ys : List ℕ} → xs ≡ ys → In c xs → In c ys
-    moved e h = rw (← e) h
+  variable-mention t v c h e = moved (sym (by_variables t)) (In-flat_map (λ v. option_to_list (public_named met v.0 v.1)) v c (variables_of t) h
+      (in-some (public_named met v.0 v.1) c e)) where
+        moved : {xs ys : List ℕ} → xs ≡ ys → In c xs → In c ys
+        moved e h = rw (← e) h
 
   -- the positions that a public leads to are those that its tokens mention
   pub edges-at : (publics : List Public) (a : ℕ) (p : Public) → slice_get publics a ≡ Some p → edges met publics a ≡ mentions_of met (tokens_of p.value)
@@ -82,7 +85,8 @@ flat-alone m = append-nil (at_site (alone m) m.names.publics)
 
 -- the first public of a name is that at its position
 pub named-public : (m : Parts) (name : List ℕ)
-    → first_named (at_site (alone m) m.names.publics) name ≡ option_and_then (slice_get (at_site (alone m) m.names.publics)) (place_in (names_of m.names.publics) name)
+    → first_named (at_site (alone m) m.names.publics) name ≡ option_and_then (slice_get (at_site (alone m) m.names.publics))
+    (place_in (names_of m.names.publics) name)
 named-public m name = by_place (place_in (names_of m.names.publics) name) refl where
   by_place : (o : Option ℕ) → place_in (names_of m.names.publics) name ≡ o
       → first_named (at_site (alone m) m.names.publics) name ≡ option_and_then (slice_get (at_site (alone m) m.names.publics)) o
@@ -160,7 +164,8 @@ module _ (m : Parts) (valid : IsValid m) where
     by_reference None e = absurd cc
     by_reference (Some r) e =
         let there = place-some 0 (names_of m.names.publics) r.name c (sym (met-public m r) ∙ e) in
-        let found = mapped_some (λ (p : Public). p.name) (slice_get m.names.publics there.0) r.name (sym (slice_get-map (λ (p : Public). p.name) m.names.publics there.0) ∙ there.2) in
+        let found = mapped_some (λ (p : Public). p.name) (slice_get m.names.publics there.0) r.name
+        (sym (slice_get-map (λ (p : Public). p.name) m.names.publics there.0) ∙ there.2) in
         let inside = slice_get_within m.names.publics there.0 found.0 found.1 in
         omega (arith, inside, there.1)
 

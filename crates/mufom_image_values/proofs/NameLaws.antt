@@ -1,5 +1,6 @@
 -- Indexes of names against the list of the names, and the commons that references ask for one after another.
-use Rattle.std.proofs.Common.{◌≡◌, ℕ, suc, ◌+◌, ◌<◌, ◌≤◌, List, [], ◌∷◌, ◌++◌, length, map, take, get_or, Some, None, is_none, Bool, true, false, not, cond, ◌||◌, ◌&&◌, if◌then◌else◌, refl, sym, ap, ◌∙◌, append_assoc, append-nil, length-append, arith}
+use Rattle.std.proofs.Common.{◌≡◌, ℕ, suc, ◌+◌, ◌<◌, ◌≤◌, List, [], ◌∷◌, ◌++◌, length, map, take, get_or, Some, None, is_none, Bool, true, false, not}
+use Rattle.std.proofs.Common.{cond, ◌||◌, ◌&&◌, if◌then◌else◌, refl, sym, ap, ◌∙◌, append_assoc, append-nil, length-append, arith}
 use Rattle.std.specs.Prelude.{filter, slice_get}
 use Rattle.std.specs.Str.{bytes_eq}
 use Rattle.std.proofs.lemmas.List.{map-append, length-map, take_more}
@@ -19,7 +20,8 @@ use Rattle.mufom_image_values.specs.Names.{place_in, FindsFirst, with_name, asks
 -- ---- what an index finds
 
 -- an index that finds the first positions of names does so with one name more
-finds-push : (es : List Entry) (names : List (List ℕ)) (key : List ℕ) (n : ℕ) → n ≡ length names → FindsFirst es names → FindsFirst (with_entry es key n) (names ++ key ∷ [])
+finds-push : (es : List Entry) (names : List (List ℕ)) (key : List ℕ) (n : ℕ) → n ≡ length names → FindsFirst es names
+    → FindsFirst (with_entry es key n) (names ++ key ∷ [])
 finds-push es names key n count known name =
     let place : n ≡ 0 + length names = omega (arith, count) in
     position_of-with es key n name
@@ -35,12 +37,14 @@ finds-more es publics i public inside is known name =
     let taken : length (take i publics) ≡ i = grind (arith, common_steps, inside) in
     let count = sym (length-map (take i publics) (λ (p : Public). p.name) ∙ taken) in
     let names : names_of (take (i + 1) publics) ≡ names_of (take i publics) ++ public.name ∷ []
-    = ap names_of (take_more publics i public inside ∙ ap (λ (p : Public). take i publics ++ p ∷ []) is) ∙ map-append (λ p. p.name) (take i publics) (public ∷ []) in
+    = ap names_of (take_more publics i public inside ∙ ap (λ (p : Public). take i publics ++ p ∷ []) is)
+    ∙ map-append (λ p. p.name) (take i publics) (public ∷ []) in
     finds-push es (names_of (take i publics)) public.name i count known name ∙ ap (λ ns. place_in ns name) (sym names)
 
 -- ---- where a name stands
 
-pub place-some : (n : ℕ) (names : List (List ℕ)) (name : List ℕ) (k : ℕ) → position_of (numbered_from n names) name ≡ Some k → (i : ℕ) × (k ≡ n + i) × (slice_get names i ≡ Some name)
+pub place-some : (n : ℕ) (names : List (List ℕ)) (name : List ℕ) (k : ℕ) → position_of (numbered_from n names) name ≡ Some k → (i : ℕ) × (k ≡ n + i)
+    × (slice_get names i ≡ Some name)
 place-some n [] name k e = absurd cc
 place-some n (x ∷ names) name k e = by_case (bytes_eq name x) refl e (place-some (suc n) names name k) where
   by_case : (b : Bool) → bytes_eq name x ≡ b → cond b (Some n) (position_of (numbered_from (suc n) names) name) ≡ Some k
@@ -72,7 +76,8 @@ has-place n (x ∷ names) name = by_case (bytes_eq name x) (has-place (suc n) na
   by_case false rest = rest
 
 -- one key more in an index of numbered names
-pub with_entry-numbered : (names : List (List ℕ)) (name : List ℕ) (n : ℕ) → n ≡ length names → with_entry (numbered_from 0 names) name n ≡ numbered_from 0 (with_name names name)
+pub with_entry-numbered : (names : List (List ℕ)) (name : List ℕ) (n : ℕ) → n ≡ length names → with_entry (numbered_from 0 names) name n
+    ≡ numbered_from 0 (with_name names name)
 with_entry-numbered names name n count =
     let place : n ≡ 0 + length names = omega (arith, count) in
     ap (λ b. if b then numbered_from 0 names ++ (name, n) ∷ [] else numbered_from 0 names) (has-place 0 names name)
@@ -155,7 +160,8 @@ names_after-is names (x ∷ xs) = by_case (has_name names x) refl (names_after-i
       → names_after names xs ≡ names ++ filter (new names) (distinct bytes_eq xs)
       → names_after (names ++ x ∷ []) xs ≡ (names ++ x ∷ []) ++ filter (new (names ++ x ∷ [])) (distinct bytes_eq xs)
       → names_after (if b then names else names ++ x ∷ []) xs
-      ≡ names ++ cond (not b) (x ∷ filter (new names) (filter (λ y. not (bytes_eq x y)) (distinct bytes_eq xs))) (filter (new names) (filter (λ y. not (bytes_eq x y)) (distinct bytes_eq xs)))
+      ≡ names ++ cond (not b) (x ∷ filter (new names) (filter (λ y. not (bytes_eq x y)) (distinct bytes_eq xs)))
+      (filter (new names) (filter (λ y. not (bytes_eq x y)) (distinct bytes_eq xs)))
   by_case true e known more = known ∙ ap (λ rest. names ++ rest) (sym (filter-weaker (new names) (λ y. not (bytes_eq x y)) (weaker e) (distinct bytes_eq xs)))
   by_case false e known more =
       more
@@ -169,8 +175,10 @@ names_after-is names (x ∷ xs) = by_case (has_name names x) refl (names_after-i
       swapped false true = refl
       swapped false false = refl
 
-      turned : filter (λ y. new names y && not (bytes_eq x y)) (distinct bytes_eq xs) ≡ filter (new names) (filter (λ y. not (bytes_eq x y)) (distinct bytes_eq xs))
-      turned = filter-same (λ y. new names y && not (bytes_eq x y)) (λ y. not (bytes_eq x y) && new names y) (λ y. swapped (new names y) (not (bytes_eq x y))) (distinct bytes_eq xs)
+      turned : filter (λ y. new names y && not (bytes_eq x y)) (distinct bytes_eq xs)
+          ≡ filter (new names) (filter (λ y. not (bytes_eq x y)) (distinct bytes_eq xs))
+      turned = filter-same (λ y. new names y && not (bytes_eq x y)) (λ y. not (bytes_eq x y)
+          && new names y) (λ y. swapped (new names y) (not (bytes_eq x y))) (distinct bytes_eq xs)
           ∙ sym (filter-both (new names) (λ y. not (bytes_eq x y)) (distinct bytes_eq xs))
 
 pub names_after-distinct : (xs : List (List ℕ)) → names_after [] xs ≡ distinct bytes_eq xs
@@ -184,7 +192,8 @@ asked-names publics names (r ∷ rs) = by_case (asks publics r) (asked-names pub
   by_case : (b : Bool)
       → asked_after publics names rs ≡ names_after names (map (λ r. r.name) (filter (asks publics) rs))
       → asked_after publics (with_name names r.name) rs ≡ names_after (with_name names r.name) (map (λ r. r.name) (filter (asks publics) rs))
-      → asked_after publics (if b then with_name names r.name else names) rs ≡ names_after names (map (λ r. r.name) (cond b (r ∷ filter (asks publics) rs) (filter (asks publics) rs)))
+      → asked_after publics (if b then with_name names r.name else names) rs
+      ≡ names_after names (map (λ r. r.name) (cond b (r ∷ filter (asks publics) rs) (filter (asks publics) rs)))
   by_case true known more = more
   by_case false known more = known
 
@@ -198,7 +207,8 @@ asked-more publics names (q ∷ references) r = asked-more publics (with_asked p
 pub asked-step : (publics : List Entry) (references : List Reference) (k : ℕ) (r : Reference) → k < length references → get_or references k r ≡ r
     → asked_after publics [] (take (k + 1) references) ≡ with_asked publics (asked_after publics [] (take k references)) r
 asked-step publics references k r inside is =
-    ap (asked_after publics []) (take_more references k r inside ∙ ap (λ (x : Reference). take k references ++ x ∷ []) is) ∙ asked-more publics [] (take k references) r
+    ap (asked_after publics []) (take_more references k r inside ∙ ap (λ (x : Reference). take k references ++ x ∷ []) is)
+    ∙ asked-more publics [] (take k references) r
 
 pub with_name-few : (names : List (List ℕ)) (name : List ℕ) → length (with_name names name) ≤ length names + 1
 with_name-few names name = by_case (has_name names name) where

@@ -40,17 +40,27 @@ first-some site n (p ∷ publics) name k e = by_case (bytes_eq name p.name) refl
       let first : n ≡ k = cc in
       (0, omega (arith, first), (its, ap (λ b. cond b (Some its) (first_named (at_site site publics) name)) (turned true f), refl))
   by_case false f e later =
-      let there = later e in
-      (suc there.0, omega (arith, there.1), (there.2.0, ap (λ b. cond b (Some its) (first_named (at_site site publics) name)) (turned false f) ∙ there.2.1, there.2.2))
+      let there = later e in (
+        suc there.0,
+        omega (arith, there.1),
+        (
+          there.2.0,
+          ap (λ b. cond b (Some its) (first_named (at_site site publics) name)) (turned false f)
+              ∙ there.2.1,
+          there.2.2,
+        ),
+      )
 
 -- a name that has no position is that of no public
-pub first-none : (site : Sited) (n : ℕ) (publics : List Public) (name : List ℕ) → position_of (numbered_from n (names_of publics)) name ≡ None → first_named (at_site site publics) name ≡ None
+pub first-none : (site : Sited) (n : ℕ) (publics : List Public) (name : List ℕ) → position_of (numbered_from n (names_of publics)) name ≡ None
+    → first_named (at_site site publics) name ≡ None
 first-none site n [] name e = refl
 first-none site n (p ∷ publics) name e = by_case (bytes_eq name p.name) (bytes_eq p.name name) refl refl e (first-none site (suc n) publics name) where
   its : SitedPublic
   its = record { site = site; entry = p }
 
-  by_case : (b c : Bool) → bytes_eq name p.name ≡ b → bytes_eq p.name name ≡ c → cond b (Some n) (position_of (numbered_from (suc n) (names_of publics)) name) ≡ None
+  by_case : (b c : Bool) → bytes_eq name p.name ≡ b → bytes_eq p.name name ≡ c
+      → cond b (Some n) (position_of (numbered_from (suc n) (names_of publics)) name) ≡ None
       → (position_of (numbered_from (suc n) (names_of publics)) name ≡ None → first_named (at_site site publics) name ≡ None)
       → cond c (Some its) (first_named (at_site site publics) name) ≡ None
   by_case true c f g e later = absurd cc

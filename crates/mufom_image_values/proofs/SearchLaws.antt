@@ -1,5 +1,6 @@
 -- A search through a graph: what it marks is reached, and at its end the marks are left by no step.
-use Rattle.std.proofs.Common.{◌≡◌, ℕ, zero, suc, ◌+◌, ◌<◌, ◌⊎◌, inl, inr, List, [], ◌∷◌, ◌++◌, length, get_or, set, replicate, Bool, true, false, refl, sym, ◌∙◌, ap, subst, length-append, arith}
+use Rattle.std.proofs.Common.{◌≡◌, ℕ, zero, suc, ◌+◌, ◌<◌, ◌⊎◌, inl, inr, List, [], ◌∷◌, ◌++◌, length, get_or, set, replicate, Bool, true, false}
+use Rattle.std.proofs.Common.{refl, sym, ◌∙◌, ap, subst, length-append, arith}
 use Rattle.std.specs.Prelude.{Contains, if◌then◌else◌}
 use Rattle.mufom_meaning.proofs.Members.{In, In-left, In-right, In-append, In-Contains, Contains-In}
 use Rattle.mufom_image_values.specs.Graph.{IsClosed}
@@ -63,7 +64,8 @@ mark-there (m ∷ marks) (suc n) b less = mark-there marks n b (omega (arith, le
 -- ---- one position more
 
 -- what holds after a position that is marked already, and after one that was not
-step_cases : (P : Search → Type 0) (s : Search) (n : ℕ) → (is_marked s n ≡ true → P s) → (is_marked s n ≡ false → P (search_of (set s.marks n true) (s.pending ++ n ∷ []))) → P (with_position s n)
+step_cases : (P : Search → Type 0) (s : Search) (n : ℕ) → (is_marked s n ≡ true → P s)
+    → (is_marked s n ≡ false → P (search_of (set s.marks n true) (s.pending ++ n ∷ []))) → P (with_position s n)
 step_cases P s n same more = by_case (is_marked s n) refl where
   by_case : (b : Bool) → is_marked s n ≡ b → P (if b then s else search_of (set s.marks n true) (s.pending ++ n ∷ []))
   by_case true e = same e
@@ -85,10 +87,11 @@ step-pending : (s : Search) (n k : ℕ) → In k s.pending → In k (with_positi
 step-pending s n k h = step_cases (λ t. In k t.pending) s n (λ e. h) (λ e. In-left k s.pending (n ∷ []) h)
 
 step-new : (s : Search) (n k : ℕ) → is_marked (with_position s n) k ≡ true → (is_marked s k ≡ true) ⊎ In k (with_position s n).pending
-step-new s n k = step_cases (λ t. is_marked t k ≡ true → (is_marked s k ≡ true) ⊎ In k t.pending) s n (λ e h. inl h) (λ e h. by_case (marked-only s.marks n k h)) where
-  by_case : (is_marked s k ≡ true) ⊎ (n ≡ k) → (is_marked s k ≡ true) ⊎ In k (s.pending ++ n ∷ [])
-  by_case (inl h) = inl h
-  by_case (inr same) = inr (In-right k s.pending (n ∷ []) (inl same))
+step-new s n k = step_cases (λ t. is_marked t k ≡ true → (is_marked s k ≡ true)
+    ⊎ In k t.pending) s n (λ e h. inl h) (λ e h. by_case (marked-only s.marks n k h)) where
+      by_case : (is_marked s k ≡ true) ⊎ (n ≡ k) → (is_marked s k ≡ true) ⊎ In k (s.pending ++ n ∷ [])
+      by_case (inl h) = inl h
+      by_case (inr same) = inr (In-right k s.pending (n ∷ []) (inl same))
 
 step-from : (s : Search) (n k : ℕ) → In k (with_position s n).pending → In k s.pending ⊎ (n ≡ k)
 step-from s n k = step_cases (λ t. In k t.pending → In k s.pending ⊎ (n ≡ k)) s n (λ e h. inl h) (λ e h. by_case (In-append k s.pending (n ∷ []) h)) where
@@ -117,7 +120,8 @@ followed-keeps (p ∷ ps) s k h = followed-keeps ps (with_position s p) k (step-
 
 pub followed-marks : (ps : List ℕ) (s : Search) → ((p : ℕ) → In p ps → p < length s.marks) → (k : ℕ) → In k ps → is_marked (followed ps s) k ≡ true
 followed-marks [] s within k h = absurd h
-followed-marks (p ∷ ps) s within k (inl same) = followed-keeps ps (with_position s p) k (subst (λ n. is_marked (with_position s p) n ≡ true) same (step-marks s p (within p (inl refl))))
+followed-marks (p ∷ ps) s within k (inl same) = followed-keeps ps (with_position s p) k
+    (subst (λ n. is_marked (with_position s p) n ≡ true) same (step-marks s p (within p (inl refl))))
 followed-marks (p ∷ ps) s within k (inr h) =
     followed-marks ps (with_position s p) (λ q i. let less = within q (inr i) in omega (arith, less, step-length s p)) k h
 
@@ -143,7 +147,8 @@ followed-new (p ∷ ps) s k h = by_case (followed-new ps (with_position s p) k h
   by_step (inl e) = inl e
   by_step (inr i) = inr (followed-pending ps (with_position s p) k i)
 
-  by_case : (is_marked (with_position s p) k ≡ true) ⊎ In k (followed ps (with_position s p)).pending → (is_marked s k ≡ true) ⊎ In k (followed (p ∷ ps) s).pending
+  by_case : (is_marked (with_position s p) k ≡ true) ⊎ In k (followed ps (with_position s p)).pending → (is_marked s k ≡ true)
+      ⊎ In k (followed (p ∷ ps) s).pending
   by_case (inl e) = by_step (step-new s p k e)
   by_case (inr i) = inr i
 
@@ -184,7 +189,8 @@ module _ (edges : ℕ → List ℕ) (count : ℕ) (closed : IsClosed edges count
   within n s size p i = let less = closed n p (In-Contains p (edges n) i) in omega (arith, less, size)
 
   -- it begins with what the origin leads to
-  pub begins : (s : Search) → length s.marks ≡ count → ((k : ℕ) → is_marked s k ≡ true → ⊥) → s.pending ≡ [] → IsSearching edges count origin (followed (edges origin) s)
+  pub begins : (s : Search) → length s.marks ≡ count → ((k : ℕ) → is_marked s k ≡ true → ⊥) → s.pending ≡ []
+      → IsSearching edges count origin (followed (edges origin) s)
   begins s size fresh empty = record {
     size = followed-length (edges origin) s ∙ size;
     below = λ k i. from_edges k (followed-from (edges origin) s k i);
@@ -214,7 +220,8 @@ module _ (edges : ℕ → List ℕ) (count : ℕ) (closed : IsClosed edges count
       marks n (inr i) = followed-marks (edges origin) s (within origin s size) n i
 
   -- it goes on with a position that is still to be followed
-  pub searches_on : (marks : List Bool) (rest : List ℕ) (n : ℕ) → IsSearching edges count origin (search_of marks (rest ++ n ∷ [])) → IsSearching edges count origin (followed (edges n) (search_of marks rest))
+  pub searches_on : (marks : List Bool) (rest : List ℕ) (n : ℕ) → IsSearching edges count origin (search_of marks (rest ++ n ∷ []))
+      → IsSearching edges count origin (followed (edges n) (search_of marks rest))
   searches_on marks rest n h = record {
     size = followed-length (edges n) t ∙ h.size;
     below = λ k i. from_edges k (followed-from (edges n) t k i);
@@ -241,7 +248,8 @@ module _ (edges : ℕ → List ℕ) (count : ℕ) (closed : IsClosed edges count
       all : (k : ℕ) → Contains (edges n) k → is_marked (followed (edges n) t) k ≡ true
       all k c = followed-marks (edges n) t (within n t h.size) k (Contains-In k (edges n) c)
 
-      by_place : (k : ℕ) → In k rest ⊎ In k (n ∷ []) → In k (followed (edges n) t).pending ⊎ ((c : ℕ) → Contains (edges k) c → is_marked (followed (edges n) t) c ≡ true)
+      by_place : (k : ℕ) → In k rest ⊎ In k (n ∷ []) → In k (followed (edges n) t).pending
+          ⊎ ((c : ℕ) → Contains (edges k) c → is_marked (followed (edges n) t) c ≡ true)
       by_place k (inl i) = inl (followed-pending (edges n) t k i)
       by_place k (inr (inl same)) = inr (subst (λ n'. (c : ℕ) → Contains (edges n') c → is_marked (followed (edges n) t) c ≡ true) same all)
       by_place k (inr (inr i)) = absurd i
@@ -261,11 +269,17 @@ module _ (edges : ℕ → List ℕ) (count : ℕ) (closed : IsClosed edges count
       marked k (inr i) = followed-marks (edges n) t (within n t h.size) k i
 
   -- with less left to do
-  pub searches_less : (marks : List Bool) (rest : List ℕ) (n : ℕ) → IsSearching edges count origin (search_of marks (rest ++ n ∷ [])) → left (followed (edges n) (search_of marks rest)) < left (search_of marks (rest ++ n ∷ []))
-  searches_less marks rest n h = omega (arith, followed-left (edges n) (search_of marks rest) (within n (search_of marks rest) h.size), length-append rest (n ∷ []))
+  pub searches_less : (marks : List Bool) (rest : List ℕ) (n : ℕ) → IsSearching edges count origin (search_of marks (rest ++ n ∷ []))
+      → left (followed (edges n) (search_of marks rest)) < left (search_of marks (rest ++ n ∷ []))
+  searches_less marks rest n h = omega (
+    arith,
+    followed-left (edges n) (search_of marks rest) (within n (search_of marks rest) h.size),
+    length-append rest (n ∷ []),
+  )
 
   -- at its end the origin is marked exactly where it is led back to
-  pub ends_search : (s : Search) → IsSearching edges count origin s → s.pending ≡ [] → (is_marked s origin ≡ true → IsOnCircle edges origin) × (IsOnCircle edges origin → is_marked s origin ≡ true)
+  pub ends_search : (s : Search) → IsSearching edges count origin s → s.pending ≡ [] → (is_marked s origin ≡ true → IsOnCircle edges origin)
+      × (IsOnCircle edges origin → is_marked s origin ≡ true)
   ends_search s h empty = (h.reached origin, λ circle. by_mark (is_marked s origin) refl circle) where
     stays : (a b : ℕ) → is_marked s a ≡ true → Contains (edges a) b → is_marked s b ≡ true
     stays a b e c = by_case (h.out a e) where

@@ -1,6 +1,7 @@
 -- Publics that are evaluated after those that they mention have their values, and in as many rounds as there are publics, and one
 -- more, all are evaluated.
-use Rattle.std.proofs.Common.{◌≡◌, ◌≢◌, ◌⊎◌, inl, inr, ℕ, zero, suc, ◌<◌, List, [], ◌∷◌, map, length, set, Option, Some, None, refl, sym, ◌∙◌, ap, subst, append-nil, arith}
+use Rattle.std.proofs.Common.{◌≡◌, ◌≢◌, ◌⊎◌, inl, inr, ℕ, zero, suc, ◌<◌, List, [], ◌∷◌, map, length, set, Option, Some, None, refl, sym, ◌∙◌, ap}
+use Rattle.std.proofs.Common.{subst, append-nil, arith}
 use Rattle.std.specs.Prelude.{slice_get, option_map, Contains}
 use Rattle.std.proofs.lemmas.List.{length-map}
 use Rattle.std.proofs.lemmas.Option.{slice_get-map, slice_get_within}
@@ -24,7 +25,8 @@ use Rattle.mufom_image_values.specs.declared.values.PlacedModule.{PlacedModule}
 use Rattle.mufom_image_values.specs.Meetings.{meetings_of}
 use Rattle.mufom_image_values.specs.Graph.{edges, mentions_of}
 use Rattle.mufom_image_values.specs.Surroundings.{known, known_of, worth_by}
-use Rattle.mufom_image_values.specs.Evaluated.{alone, bases_by, graph_edges, setting_of, public_value, IsRight, AreRight, IsEvaluated, AreEvaluated, AreKept, IsRound, IsPlaced, worth_at, AreValues}
+use Rattle.mufom_image_values.specs.Evaluated.{alone, bases_by, graph_edges, setting_of, public_value, IsRight, AreRight, IsEvaluated, AreEvaluated}
+use Rattle.mufom_image_values.specs.Evaluated.{AreKept, IsRound, IsPlaced, worth_at, AreValues}
 use Rattle.mufom_image_values.proofs.MentionLaws.{sit, flat-alone, edges-at, edge-mentions, closed}
 use Rattle.mufom_image_values.proofs.CircleLaws.{there_is, no_cycle}
 use Rattle.mufom_image_values.proofs.Around.{IsKnown, value_by-is}
@@ -113,22 +115,26 @@ module _ (placed : PlacedModule) (h : IsPlaced placed) where
   edges-are : (n : ℕ) → graph_edges placed.graph n ≡ edges (meetings_of m) m.names.publics n
   edges-are n = ap (λ met. edges met m.names.publics n) h.graph.meetings
 
-  mention-edge : (n c : ℕ) (p : Public) → slice_get m.names.publics n ≡ Some p → In c (mentions_of (meetings_of m) (tokens_of p.value)) → Contains (graph_edges placed.graph n) c
+  mention-edge : (n c : ℕ) (p : Public) → slice_get m.names.publics n ≡ Some p → In c (mentions_of (meetings_of m) (tokens_of p.value))
+      → Contains (graph_edges placed.graph n) c
   mention-edge n c p e k =
       In-Contains c (graph_edges placed.graph n) (subst (λ (xs : List ℕ). In c xs) (sym (edges-are n ∙ edges-at (meetings_of m) m.names.publics n p e)) k)
 
-  edge-mention : (n c : ℕ) (p : Public) → slice_get m.names.publics n ≡ Some p → Contains (graph_edges placed.graph n) c → In c (mentions_of (meetings_of m) (tokens_of p.value))
+  edge-mention : (n c : ℕ) (p : Public) → slice_get m.names.publics n ≡ Some p → Contains (graph_edges placed.graph n) c
+      → In c (mentions_of (meetings_of m) (tokens_of p.value))
   edge-mention n c p e k =
       subst (λ (xs : List ℕ). In c xs) (edges-are n ∙ edges-at (meetings_of m) m.names.publics n p e) (Contains-In c (graph_edges placed.graph n) k)
 
   -- a public all of whose mentions are evaluated is worth its value
-  pub public-worth : (values : List Evaluation) → AreRight placed values → (n : ℕ) (p : Public) → slice_get m.names.publics n ≡ Some p → AreEvaluated values (graph_edges placed.graph n)
+  pub public-worth : (values : List Evaluation) → AreRight placed values → (n : ℕ) (p : Public) → slice_get m.names.publics n ≡ Some p
+      → AreEvaluated values (graph_edges placed.graph n)
       → worth_at placed values None p.value ≡ public_value placed p
   public-worth values r n p e evaluated =
       worth_at-is values None p.value (λ c k. known-at values None r c (evaluated c (mention-edge n c p e k)))
 
   -- and may be set to it
-  pub set-right : (values : List Evaluation) → AreRight placed values → (n : ℕ) (p : Public) → slice_get m.names.publics n ≡ Some p → AreEvaluated values (graph_edges placed.graph n)
+  pub set-right : (values : List Evaluation) → AreRight placed values → (n : ℕ) (p : Public) → slice_get m.names.publics n ≡ Some p
+      → AreEvaluated values (graph_edges placed.graph n)
       → (evaluation : Evaluation) → known evaluation ≡ worth_at placed values None p.value → AreRight placed (set values n evaluation)
   set-right values r n p e evaluated evaluation is = record {
     count = set-length values n evaluation ∙ r.count;
@@ -142,7 +148,8 @@ module _ (placed : PlacedModule) (h : IsPlaced placed) where
           → (k ≡ n) ⊎ (k ≢ n) → IsRight (public_value placed q) found
       by_place k q found at f (inr other) = r.right k q found at (sym (set-other values n k evaluation other) ∙ f)
       by_place k q found at f (inl same) =
-          let here : ◌≡◌ {A = Option Evaluation} (Some evaluation) (Some found) = sym (set-same values n evaluation inside) ∙ ap (slice_get (set values n evaluation)) (sym same) ∙ f in
+          let here : ◌≡◌ {A = Option Evaluation} (Some evaluation) (Some found) = sym (set-same values n evaluation inside)
+          ∙ ap (slice_get (set values n evaluation)) (sym same) ∙ f in
           let its : evaluation ≡ found = cc in
           let own : ◌≡◌ {A = Option Public} (Some p) (Some q) = sym e ∙ ap (slice_get m.names.publics) (sym same) ∙ at in
           let public : p ≡ q = cc in
@@ -181,7 +188,8 @@ settled-first placed values n p e ends = absurd ends
 module _ (placed : PlacedModule) (h : IsPlaced placed) where
   pub settled-next : (k : ℕ) (before after : List Evaluation) → HaveSettled placed before k → IsRound placed before after → HaveSettled placed after (suc k)
   settled-next k before after settled round n p e ends = round n (slice_get_within (m placed h).names.publics n p e) (by_count k settled ends) where
-    mentions : (c : ℕ) → Contains (graph_edges placed.graph n) c → (q : Public) × (slice_get (m placed h).names.publics c ≡ Some q) × IsMentionedIn (s placed h) (alone (m placed h)) p.value (sit (m placed h) q)
+    mentions : (c : ℕ) → Contains (graph_edges placed.graph n) c → (q : Public) × (slice_get (m placed h).names.publics c ≡ Some q)
+        × IsMentionedIn (s placed h) (alone (m placed h)) p.value (sit (m placed h) q)
     mentions c k =
         let inner = edge-mention placed h n c p e k in
         let less = closed (m placed h) h.graph.valid n c (subst (λ (xs : List ℕ). Contains xs c) (edges-are placed h n) k) in
@@ -194,7 +202,8 @@ module _ (placed : PlacedModule) (h : IsPlaced placed) where
     by_count (suc j) settled ends = λ c k. let q = mentions c k in settled c q.0 q.1 (ends (sit (m placed h) q.0) q.2)
 
   -- after a round for each public, and one more, all are
-  pub all-settled : (values : List Evaluation) → AreRight placed values → HaveSettled placed values (suc (length (m placed h).names.publics)) → (n : ℕ) → IsEvaluated values n
+  pub all-settled : (values : List Evaluation) → AreRight placed values → HaveSettled placed values (suc (length (m placed h).names.publics))
+      → (n : ℕ) → IsEvaluated values n
   all-settled values r settled n e =
       let inside = slice_get_within values n evaluations.Waiting e in
       let count = r.count in
@@ -206,8 +215,11 @@ module _ (placed : PlacedModule) (h : IsPlaced placed) where
         ends : (t : Tree) → EndsWithin (s placed h) (length (s placed h).publics) (alone (m placed h)) t
         ends t =
             all_end (s placed h) (single_name (m placed h ∷ []) (once placed h))
-            (λ name k f. no_cycle (m placed h) h.acyclic name
-            (k, sym (leads_from-bases (m placed h ∷ []) (bases_by (m placed h) placed.bases.now placed.commons.now) name k (first_named (flat_publics (m placed h ∷ [])) name)) ∙ f))
+            (λ name k f. no_cycle (m placed h) h.acyclic name (
+              k,
+              sym (leads_from-bases (m placed h ∷ []) (bases_by (m placed h) placed.bases.now placed.commons.now) name k
+                  (first_named (flat_publics (m placed h ∷ [])) name)) ∙ f,
+            ))
             (alone (m placed h)) t
 
 -- ---- the values of all

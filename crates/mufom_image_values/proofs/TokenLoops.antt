@@ -1,5 +1,6 @@
 -- Tests of all that tokens mention, and of all positions.
-use Rattle.std.proofs.Common.{◌≡◌, ◌≢◌, ◌⊎◌, inl, inr, subst, ℕ, zero, suc, ◌+◌, ◌<◌, length, take, get_or, append-nil, arith, List, [], ◌∷◌, Option, Some, None, Bool, true, not, ◌&&◌, refl, sym, ap, ◌∙◌}
+use Rattle.std.proofs.Common.{◌≡◌, ◌≢◌, ◌⊎◌, inl, inr, subst, ℕ, zero, suc, ◌+◌, ◌<◌, length, take, get_or, append-nil, arith, List, [], ◌∷◌, Option}
+use Rattle.std.proofs.Common.{Some, None, Bool, true, not, ◌&&◌, refl, sym, ap, ◌∙◌}
 use Rattle.std.specs.Prelude.{slice_get, Contains, option_to_list, ◌++◌}
 use Rattle.std.specs.List.{list_all}
 use Rattle.std.proofs.lemmas.List.{take_more}
@@ -51,11 +52,14 @@ waits-not (Some evaluations.Nothing) other = refl
 waits-not (Some (evaluations.Value v)) other = refl
 
 -- all positions are ready where all are evaluated
-pub ready-evaluated : (values : List Evaluation) (positions : List ℕ) → list_all (λ n. is_ready values (Some n)) positions ≡ true → AreEvaluated values positions
+pub ready-evaluated : (values : List Evaluation) (positions : List ℕ) → list_all (λ n. is_ready values (Some n)) positions ≡ true
+    → AreEvaluated values positions
 ready-evaluated values positions e n h = not-waiting (slice_get values n) (all-Contains (λ n. is_ready values (Some n)) positions e n h)
 
-pub evaluated-ready : (values : List Evaluation) (positions : List ℕ) → AreEvaluated values positions → list_all (λ n. is_ready values (Some n)) positions ≡ true
-evaluated-ready values positions holds = In-all (λ n. is_ready values (Some n)) positions (λ n h. waits-not (slice_get values n) (holds n (In-Contains n positions h)))
+pub evaluated-ready : (values : List Evaluation) (positions : List ℕ) → AreEvaluated values positions
+    → list_all (λ n. is_ready values (Some n)) positions ≡ true
+evaluated-ready values positions holds = In-all (λ n. is_ready values (Some n)) positions
+    (λ n h. waits-not (slice_get values n) (holds n (In-Contains n positions h)))
 
 -- ---- what tokens mention, one after another
 
@@ -70,7 +74,8 @@ follow-step met tokens i d s o inside found =
     ap (λ ts. followed (mentions_of met ts) s) (take_more tokens i d inside)
     ∙ ap (λ ns. followed ns s) (mentions-append met (take i tokens) (get_or tokens i d ∷ []))
     ∙ followed-append (mentions_of met (take i tokens)) (mentions_of met (get_or tokens i d ∷ [])) s
-    ∙ ap (λ ns. followed ns (followed (mentions_of met (take i tokens)) s)) (append-nil (option_to_list (mentioned_in met (get_or tokens i d))) ∙ ap option_to_list (sym found))
+    ∙ ap (λ ns. followed ns (followed (mentions_of met (take i tokens)) s)) (append-nil (option_to_list (mentioned_in met (get_or tokens i d)))
+    ∙ ap option_to_list (sym found))
 
 -- what a token mentions is among what all mention
 pub mention-at : (met : List Meeting) (tokens : List Token) (i : ℕ) (d : Token) (n : ℕ) → i < length tokens → Some n ≡ mentioned_in met (get_or tokens i d)
@@ -107,5 +112,6 @@ below_more P k earlier own n less = by_case (nat_choice n k) where
   by_case (inr other) = earlier n (lt-from_other n k other less)
 
 -- where all steps from a position lead strictly down, each leads to a lesser number
-pub strictly-down : (number : ℕ → ℕ) (edges : ℕ → List ℕ) (n : ℕ) → leads_down number edges true n ≡ true → (next : ℕ) → Contains (edges n) next → number next < number n
+pub strictly-down : (number : ℕ → ℕ) (edges : ℕ → List ℕ) (n : ℕ) → leads_down number edges true n ≡ true → (next : ℕ) → Contains (edges n) next
+    → number next < number n
 strictly-down number edges n e next h = of_lt (number next) (number n) (all-Contains (λ next. is_down number (number n) true (Some next)) (edges n) e next h)

@@ -1,5 +1,6 @@
 -- Chains of positions in a graph, those that come back, and the search for them.
-use Rattle.std.specs.Prelude.{ℕ, zero, suc, ◌<◌, ◌≤◌, List, [], ◌∷◌, ◌++◌, get_or, set, Option, Some, None, slice_get, unwrap_or, Contains, Bool, true, false, nat_lt, nat_le, if◌then◌else◌}
+use Rattle.std.specs.Prelude.{ℕ, zero, suc, ◌<◌, ◌≤◌, List, [], ◌∷◌, ◌++◌, get_or, set, Option, Some, None, slice_get, unwrap_or, Contains, Bool}
+use Rattle.std.specs.Prelude.{true, false, nat_lt, nat_le, if◌then◌else◌}
 use Rattle.std.specs.List.{list_all}
 
 -- a chain from one position to another: one step, and the given number before it

@@ -1,5 +1,6 @@
 -- The values of the publics of a module, found from what its sections and commons have as bases.
-use Rattle.std.specs.Prelude.{◌≡◌, ◌≢◌, ℕ, ◌*◌, ◌^◌, ◌<◌, List, [], ◌∷◌, map, length, Option, Some, None, option_and_then, slice_get, Contains, Bool, true, false, not}
+use Rattle.std.specs.Prelude.{◌≡◌, ◌≢◌, ℕ, ◌*◌, ◌^◌, ◌<◌, List, [], ◌∷◌, map, length, Option, Some, None, option_and_then, slice_get, Contains, Bool}
+use Rattle.std.specs.Prelude.{true, false, not}
 use Rattle.mufom_expr.specs.Tree.{Tree}
 use Rattle.mufom_expr.specs.Value.{Environment, value_at}
 use Rattle.mufom_names.specs.Names.{names_of, AreDistinct}

@@ -26,10 +26,12 @@ use Rattle.mufom_meaning.proofs.NoDefects.{no_defect}
 
 marks-count : (marks : List DebugMark) → name_count marks ≤ sum_by mark_weight marks
 marks-count [] = omega arith
-marks-count (block_begin head name ∷ marks) = let a = sum_by-cons mark_weight (block_begin head name) marks in let rest = marks-count marks in omega (arith, a, rest)
+marks-count (block_begin head name ∷ marks) = let a = sum_by-cons mark_weight (block_begin head name) marks in let rest = marks-count marks in
+    omega (arith, a, rest)
 marks-count (block_end end ∷ marks) = let a = sum_by-cons mark_weight (block_end end) marks in let rest = marks-count marks in omega (arith, a, rest)
 marks-count (name_mark name ∷ marks) = let a = sum_by-cons mark_weight (name_mark name) marks in let rest = marks-count marks in omega (arith, a, rest)
-marks-count (note_mark name note ∷ marks) = let a = sum_by-cons mark_weight (note_mark name note) marks in let rest = marks-count marks in omega (arith, a, rest)
+marks-count (note_mark name note ∷ marks) = let a = sum_by-cons mark_weight (note_mark name note) marks in let rest = marks-count marks in
+    omega (arith, a, rest)
 marks-count (value_mark name t ∷ marks) = let a = sum_by-cons mark_weight (value_mark name t) marks in let rest = marks-count marks in omega (arith, a, rest)
 
 names-count : (m : Parts) → name_count (marks_of m.debug) ≤ weight m
@@ -93,7 +95,13 @@ made-notes : (notes : List Note) → AllByRecursion IsMadeNote notes → AllByRe
 made-notes [] made = tt
 made-notes (note ∷ notes) made =
     let few = made.0.few in (
-      record { type_index = made.0.type_index; attribute = made.0.attribute; count = omega (arith, few); numbers = recursion_from_All IsShort note.numbers.items made.0.numbers },
+      record {
+        type_index = made.0.type_index;
+        attribute = made.0.attribute;
+        count = omega (arith, few);
+        numbers =
+            recursion_from_All IsShort note.numbers.items made.0.numbers;
+      },
       made-notes notes made.1,
     )
 
@@ -107,7 +115,8 @@ short-one r light made =
       notes = made-notes r.notes (recursion_from_All IsMadeNote r.notes made.notes);
     }
 
-short-all : (n : ℕ) (rs : List Reference) → n < 2 ^ 32 → AllByRecursion (λ r. reference_weight r ≤ n) rs → AllByRecursion IsMadeReference rs → AllByRecursion IsShortReference rs
+short-all : (n : ℕ) (rs : List Reference) → n < 2 ^ 32 → AllByRecursion (λ r. reference_weight r ≤ n) rs → AllByRecursion IsMadeReference rs
+    → AllByRecursion IsShortReference rs
 short-all n [] bound light made = tt
 short-all n (r ∷ rs) bound light made = (short-one r (let a = light.0 in omega (arith, a, bound)) made.0, short-all n rs bound light.1 made.1)
 

@@ -1,5 +1,6 @@
 -- The lists of a link, module by module, come to those of the partial link.
-use Rattle.std.proofs.Common.{◌≡◌, ℕ, ◌+◌, ◌<◌, ◌≤◌, ◌^◌, Bool, List, [], ◌∷◌, ◌++◌, length, map, flat_map, Option, Some, None, option_to_list, refl, sym, ap, ◌∙◌, append_assoc, append-nil, length-append, sum_by, arith}
+use Rattle.std.proofs.Common.{◌≡◌, ℕ, ◌+◌, ◌<◌, ◌≤◌, ◌^◌, Bool, List, [], ◌∷◌, ◌++◌, length, map, flat_map, Option, Some, None, option_to_list, refl}
+use Rattle.std.proofs.Common.{sym, ap, ◌∙◌, append_assoc, append-nil, length-append, sum_by, arith}
 use Rattle.std.proofs.lemmas.List.{length-map}
 use Rattle.std.proofs.lemmas.List.Sums.{sum_by-cons}
 use Rattle.mufom_expr.specs.declared.token.Letter.{Letter}
@@ -81,7 +82,8 @@ ended ms all u = record {
 -- ---- one module more
 
 -- an appended list, with what is left
-appended : {X : Type 0} (old its mine new left left' whole : List X) → new ≡ old ++ its → its ≡ mine → left ≡ left' → old ++ (mine ++ left') ≡ whole → new ++ left ≡ whole
+appended : {X : Type 0} (old its mine new left left' whole : List X) → new ≡ old ++ its → its ≡ mine → left ≡ left' → old ++ (mine ++ left') ≡ whole
+    → new ++ left ≡ whole
 appended old its mine new left left' whole e f g h =
     (λ i. e i ++ g i) ∙ append_assoc old its left' ∙ ap (λ xs. old ++ (xs ++ left')) f ∙ h
 
@@ -104,7 +106,8 @@ module _ (ms : List Parts) (light : total_weight ms < 2 ^ 32) (m : Parts) (rest 
   site = record { parts = m; first_section = length all.sections.items; first_public = length all.publics.items; first_name = all.debug_names }
 
   abbrev after : List Sited
-  after = sited_from (length all.sections.items + length m.sections) (length all.publics.items + length m.names.publics) (all.debug_names + name_count (marks_of m.debug)) rest
+  after = sited_from (length all.sections.items + length m.sections) (length all.publics.items + length m.names.publics)
+      (all.debug_names + name_count (marks_of m.debug)) rest
 
   -- ---- all numbers fit
 
@@ -153,13 +156,16 @@ module _ (ms : List Parts) (light : total_weight ms < 2 ^ 32) (m : Parts) (rest 
 
     left : sites_left new rest ≡ after
     left =
-        let s : length new.sections.items ≡ length all.sections.items + length m.sections = ap length a.sections ∙ length-append all.sections.items m.sections in
+        let s : length new.sections.items ≡ length all.sections.items + length m.sections = ap length a.sections
+        ∙ length-append all.sections.items m.sections in
         let p : length new.publics.items ≡ length all.publics.items + length m.names.publics =
-        ap length a.publics ∙ length-append all.publics.items (map (renamed_public r) m.names.publics) ∙ ap (λ k. length all.publics.items + k) (length-map m.names.publics (renamed_public r)) in
+        ap length a.publics ∙ length-append all.publics.items (map (renamed_public r) m.names.publics)
+        ∙ ap (λ k. length all.publics.items + k) (length-map m.names.publics (renamed_public r)) in
         let d : new.debug_names ≡ all.debug_names + name_count (marks_of m.debug) = a.debug_names ∙ names-counted all.debug_names (marks_of m.debug) in
         λ i. sited_from (s i) (p i) (d i) rest
 
-    start-joined : (own_start old : Option Tree) → option_to_list old ++ (map (joined_tree ms site) (option_to_list own_start) ++ starts_at ms after) ≡ starts_at ms (sited ms)
+    start-joined : (own_start old : Option Tree) → option_to_list old ++ (map (joined_tree ms site) (option_to_list own_start) ++ starts_at ms after)
+        ≡ starts_at ms (sited ms)
         → map (renamed_tree r) (option_to_list own_start) ≡ map (joined_tree ms site) (option_to_list own_start)
         → option_to_list (start_after r own_start old) ++ starts_at ms after ≡ starts_at ms (sited ms)
     start-joined None old whole same = whole
@@ -178,14 +184,19 @@ module _ (ms : List Parts) (light : total_weight ms < 2 ^ 32) (m : Parts) (rest 
     pub joined : IsUnderway ms rest new
     joined = record {
       valid = λ v. u.valid (valid, v);
-      sections = appended all.sections.items m.sections m.sections new.sections.items (flat_sections rest) (flat_sections rest) (flat_sections ms) a.sections refl refl u.sections;
-      publics = appended all.publics.items (map (renamed_public r) m.names.publics) (map (joined_public ms site) m.names.publics) new.publics.items (publics_at ms (sites_left new rest)) (publics_at ms after) (publics_at ms (sited ms))
+      sections = appended all.sections.items m.sections m.sections new.sections.items (flat_sections rest) (flat_sections rest) (flat_sections ms)
+          a.sections refl refl u.sections;
+      publics = appended all.publics.items (map (renamed_public r) m.names.publics) (map (joined_public ms site) m.names.publics) new.publics.items
+          (publics_at ms (sites_left new rest)) (publics_at ms after) (publics_at ms (sited ms))
           a.publics (publics-agree ms site r agrees m.names.publics own.publics) (ap (publics_at ms) left) u.publics;
-      loads = appended all.loads.items (map (renamed_load r) m.loads) (map (joined_load ms site) m.loads) new.loads.items (loads_at ms (sites_left new rest)) (loads_at ms after) (loads_at ms (sited ms))
+      loads = appended all.loads.items (map (renamed_load r) m.loads) (map (joined_load ms site) m.loads) new.loads.items
+          (loads_at ms (sites_left new rest)) (loads_at ms after) (loads_at ms (sited ms))
           a.loads (loads-agree ms site r agrees m.loads own.loads) (ap (loads_at ms) left) u.loads;
       start = (λ i. option_to_list (a.start i) ++ starts_at ms (left i)) ∙ start-joined m.start all.start u.start (start-same m.start refl);
-      debug = appended (marks_of all.debug.items) (map (renamed_mark r) (marks_of m.debug)) (map (joined_mark ms site) (marks_of m.debug)) (marks_of new.debug.items) (marks_at ms (sites_left new rest)) (marks_at ms after) (marks_at ms (sited ms))
-          a.debug (marks-agree ms site r agrees 0 (marks_of m.debug) own.marks own.names (let e = names-counted 0 (marks_of m.debug) in omega (arith, e))) (ap (marks_at ms) left) u.debug;
+      debug = appended (marks_of all.debug.items) (map (renamed_mark r) (marks_of m.debug)) (map (joined_mark ms site) (marks_of m.debug))
+          (marks_of new.debug.items) (marks_at ms (sites_left new rest)) (marks_at ms after) (marks_at ms (sited ms))
+          a.debug (marks-agree ms site r agrees 0 (marks_of m.debug) own.marks own.names (let e = names-counted 0 (marks_of m.debug) in
+          omega (arith, e))) (ap (marks_at ms) left) u.debug;
       names =
           let b = sum_by-cons (λ (q : Parts). name_count (marks_of q.debug)) m rest in
           let c = u.names in

@@ -1,5 +1,6 @@
 -- An index of names against the list of the names.
-use Rattle.std.proofs.Common.{◌≡◌, ℕ, suc, ◌+◌, List, [], ◌∷◌, ◌++◌, length, Option, Some, None, is_some, is_none, Result, Ok, Err, Bool, true, false, cond, ◌||◌, if◌then◌else◌, refl, sym, ap, ◌∙◌, append_assoc, append-nil, arith}
+use Rattle.std.proofs.Common.{◌≡◌, ℕ, suc, ◌+◌, List, [], ◌∷◌, ◌++◌, length, Option, Some, None, is_some, is_none, Result, Ok, Err, Bool, true, false}
+use Rattle.std.proofs.Common.{cond, ◌||◌, if◌then◌else◌, refl, sym, ap, ◌∙◌, append_assoc, append-nil, arith}
 use Rattle.std.specs.Bool.{Decides}
 use Rattle.std.specs.Str.{bytes_eq}
 use Rattle.std.proofs.lemmas.Slice.Eq.{bytes_eq-Decides}
@@ -46,19 +47,24 @@ indexed-is : (entries : List Entry) (earlier : List (List ℕ)) (n : ℕ) (names
     → indexed entries n names ≡ outcome (first_duplicate earlier names) (entries ++ numbered_from n names)
 indexed-is entries earlier n [] known = ap (λ (es : List Entry). outcome None es) (sym (append-nil entries))
 indexed-is entries earlier n (name ∷ names) known =
-    by_case (position_of entries name) (sym (known name)) (indexed-is (entries ++ (name, n) ∷ []) (name ∷ earlier) (suc n) names (knows-push entries earlier name n known)) where
+    by_case (position_of entries name) (sym (known name)) (indexed-is (entries
+    ++ (name, n) ∷ []) (name ∷ earlier) (suc n) names (knows-push entries earlier name n known)) where
       by_case : (o : Option ℕ) → has_name earlier name ≡ is_some o
-          → indexed (entries ++ (name, n) ∷ []) (suc n) names ≡ outcome (first_duplicate (name ∷ earlier) names) ((entries ++ (name, n) ∷ []) ++ numbered_from (suc n) names)
-          → (if is_some o then Err name else indexed (if is_none o then entries ++ (name, n) ∷ [] else entries) (suc n) names) ≡ outcome_at (has_name earlier name) name earlier names (entries ++ (name, n) ∷ numbered_from (suc n) names)
+          → indexed (entries ++ (name, n) ∷ []) (suc n) names ≡ outcome (first_duplicate (name ∷ earlier) names) ((entries ++ (name, n) ∷ [])
+          ++ numbered_from (suc n) names)
+          → (if is_some o then Err name else indexed (if is_none o then entries ++ (name, n) ∷ [] else entries) (suc n) names)
+          ≡ outcome_at (has_name earlier name) name earlier names (entries ++ (name, n) ∷ numbered_from (suc n) names)
       by_case (Some p) there rest = sym (ap (λ b. outcome_at b name earlier names (entries ++ (name, n) ∷ numbered_from (suc n) names)) there)
       by_case None there rest =
           rest ∙ ap (outcome (first_duplicate (name ∷ earlier) names)) (append_assoc entries ((name, n) ∷ []) (numbered_from (suc n) names))
           ∙ sym (ap (λ b. outcome_at b name earlier names (entries ++ (name, n) ∷ numbered_from (suc n) names)) there)
 
 -- where all names are new, none stands twice, and the index has each with its position
-pub indexed-all : (names : List (List ℕ)) (after : List Entry) → indexed [] 0 names ≡ Ok after → (first_duplicate [] names ≡ None) × (after ≡ numbered_from 0 names)
+pub indexed-all : (names : List (List ℕ)) (after : List Entry) → indexed [] 0 names ≡ Ok after → (first_duplicate [] names ≡ None)
+    × (after ≡ numbered_from 0 names)
 indexed-all names after e = by_case (first_duplicate [] names) refl (sym (indexed-is [] [] 0 names (λ name. refl)) ∙ e) where
-  by_case : (o : Option (List ℕ)) → first_duplicate [] names ≡ o → outcome o (numbered_from 0 names) ≡ Ok after → (first_duplicate [] names ≡ None) × (after ≡ numbered_from 0 names)
+  by_case : (o : Option (List ℕ)) → first_duplicate [] names ≡ o → outcome o (numbered_from 0 names) ≡ Ok after → (first_duplicate [] names ≡ None)
+      × (after ≡ numbered_from 0 names)
   by_case None f h = let same : numbered_from 0 names ≡ after = cc in (f, sym same)
   by_case (Some name) f h = absurd cc
 
@@ -83,11 +89,13 @@ indexed-append entries n (x ∷ xs) ys after e = by_case (position_of entries x)
 
   by_case : (o : Option ℕ) → (if is_some o then Err x else indexed (if is_none o then entries ++ (x, n) ∷ [] else entries) (suc n) xs) ≡ Ok after
       → ((es : List Entry) → indexed es (suc n) xs ≡ Ok after → indexed es (suc n) (xs ++ ys) ≡ indexed after (suc n + length xs) ys)
-      → (if is_some o then Err x else indexed (if is_none o then entries ++ (x, n) ∷ [] else entries) (suc n) (xs ++ ys)) ≡ indexed after (n + length (x ∷ xs)) ys
+      → (if is_some o then Err x else indexed (if is_none o then entries ++ (x, n) ∷ [] else entries) (suc n) (xs ++ ys))
+      ≡ indexed after (n + length (x ∷ xs)) ys
   by_case (Some p) h rest = absurd cc
   by_case None h rest = rest (entries ++ (x, n) ∷ []) h ∙ ap (λ k. indexed after k ys) next
 
-pub indexed-stops : (entries : List Entry) (n : ℕ) (xs ys : List (List ℕ)) (name : List ℕ) → indexed entries n xs ≡ Err name → indexed entries n (xs ++ ys) ≡ Err name
+pub indexed-stops : (entries : List Entry) (n : ℕ) (xs ys : List (List ℕ)) (name : List ℕ) → indexed entries n xs ≡ Err name
+    → indexed entries n (xs ++ ys) ≡ Err name
 indexed-stops entries n [] ys name e = absurd cc
 indexed-stops entries n (x ∷ xs) ys name e = by_case (position_of entries x) e (λ es f. indexed-stops es (suc n) xs ys name f) where
   by_case : (o : Option ℕ) → (if is_some o then Err x else indexed (if is_none o then entries ++ (x, n) ∷ [] else entries) (suc n) xs) ≡ Err name
@@ -97,7 +105,8 @@ indexed-stops entries n (x ∷ xs) ys name e = by_case (position_of entries x) e
   by_case None h rest = rest (entries ++ (x, n) ∷ []) h
 
 -- one name more, which the index has already or not
-pub indexed-known : (entries : List Entry) (n : ℕ) (name : List ℕ) (names : List (List ℕ)) → is_some (position_of entries name) ≡ true → indexed entries n (name ∷ names) ≡ Err name
+pub indexed-known : (entries : List Entry) (n : ℕ) (name : List ℕ) (names : List (List ℕ)) → is_some (position_of entries name) ≡ true
+    → indexed entries n (name ∷ names) ≡ Err name
 indexed-known entries n name names e = ap (λ b. if b then Err name else indexed (with_entry entries name n) (suc n) names) e
 
 pub indexed-new : (entries : List Entry) (n : ℕ) (name : List ℕ) (names : List (List ℕ)) → is_some (position_of entries name) ≡ false
@@ -107,7 +116,8 @@ indexed-new entries n name names e =
     ap (λ b. if b then Err name else indexed (with_entry entries name n) (suc n) names) e ∙ ap (λ k. indexed (with_entry entries name n) k names) next
 
 -- a refusal by some names is one by these and more
-pub refused-later : (entries : List Entry) (n : ℕ) (xs ys : List (List ℕ)) (e : LinkRefusal) → IsRefusedName entries n xs e → IsRefusedName entries n (xs ++ ys) e
+pub refused-later : (entries : List Entry) (n : ℕ) (xs ys : List (List ℕ)) (e : LinkRefusal) → IsRefusedName entries n xs e
+    → IsRefusedName entries n (xs ++ ys) e
 refused-later entries n xs ys NoMemory h = tt
 refused-later entries n xs ys (Duplicate name) h = indexed-stops entries n xs ys name h
 refused-later entries n xs ys (Mismatch first other) h = h
@@ -128,7 +138,8 @@ pub position-numbered : (n : ℕ) (keys : List (List ℕ)) (key : List ℕ)
 position-numbered n [] key = refl
 position-numbered n (x ∷ xs) key = by_case (bytes_eq key x) (position-numbered (suc n) xs key) where
   by_case : (b : Bool) → position_of (numbered_from (suc n) xs) key ≡ (if has_name xs key then Some (suc n + place_of (bytes_eq key) xs) else None)
-      → cond b (Some n) (position_of (numbered_from (suc n) xs) key) ≡ (if b || has_name xs key then Some (n + cond b 0 (suc (place_of (bytes_eq key) xs))) else None)
+      → cond b (Some n) (position_of (numbered_from (suc n) xs) key)
+      ≡ (if b || has_name xs key then Some (n + cond b 0 (suc (place_of (bytes_eq key) xs))) else None)
   by_case true rest = let e : n ≡ n + 0 = omega arith in ap (λ k. Some k) e
   by_case false rest =
       let e : suc n + place_of (bytes_eq key) xs ≡ n + suc (place_of (bytes_eq key) xs) = omega arith in

@@ -1,5 +1,7 @@
 -- Keys of references against the references, and what is kept of them.
-use Rattle.std.proofs.Common.{◌≡◌, ℕ, zero, suc, ◌+◌, ◌<◌, ◌≤◌, get_or, List, [], ◌∷◌, ◌++◌, length, map, filter, Option, Some, None, is_none, Bool, true, false, not, cond, ◌||◌, ◌&&◌, if◌then◌else◌, refl, sym, ap, ◌∙◌, append_assoc, append-nil, zero-add, length-append, arith}
+use Rattle.std.proofs.Common.{◌≡◌, ℕ, zero, suc, ◌+◌, ◌<◌, ◌≤◌, get_or, List, [], ◌∷◌, ◌++◌, length, map, filter, Option, Some, None, is_none, Bool}
+use Rattle.std.proofs.Common.{true, false, not, cond, ◌||◌, ◌&&◌, if◌then◌else◌, refl, sym, ap, ◌∙◌, append_assoc, append-nil, zero-add}
+use Rattle.std.proofs.Common.{length-append, arith}
 use Rattle.std.specs.List.{AllByRecursion, list_any}
 use Rattle.std.specs.Str.{bytes_eq}
 use Rattle.std.proofs.lemmas.List.{map-append, length-map}
@@ -43,10 +45,12 @@ references-same r q s =
 -- equal keys are equal references
 key-same : (r q : Reference) → IsShortReference r → IsShortReference q → bytes_eq (reference_key r) (reference_key q) ≡ same_reference r q
 key-same r q short-r short-q =
-    decides-same (bytes_eq (reference_key r) (reference_key q)) (same_reference r q) (bytes_eq-Decides (reference_key r) (reference_key q)) (same_reference-decides r q)
+    decides-same (bytes_eq (reference_key r) (reference_key q)) (same_reference r q) (bytes_eq-Decides (reference_key r) (reference_key q))
+    (same_reference-decides r q)
     (λ e. references-same r q ((keys-tell r q short-r short-q).0 e)) (λ e. ap reference_key e)
 
-key-kept : (r : Reference) → IsShortReference r → (kept : List Reference) → AllByRecursion IsShortReference kept → has_name (map reference_key kept) (reference_key r) ≡ is_kept kept r
+key-kept : (r : Reference) → IsShortReference r → (kept : List Reference) → AllByRecursion IsShortReference kept
+    → has_name (map reference_key kept) (reference_key r) ≡ is_kept kept r
 key-kept r short [] all = refl
 key-kept r short (q ∷ kept) all = let a = key-same r q short all.0 in let b = key-kept r short kept all.1 in λ i. a i || b i
 
@@ -59,7 +63,8 @@ position-keyed : (r : Reference) (kept : List Reference) → IsShortReference r 
     → position_of (keyed kept) (reference_key r) ≡ (if is_kept kept r then Some (place_of (same_reference r) kept) else None)
 position-keyed r kept short all =
     position-numbered 0 (map reference_key kept) (reference_key r)
-    ∙ ap (λ k. if has_name (map reference_key kept) (reference_key r) then Some k else None) (zero-add (place_of (bytes_eq (reference_key r)) (map reference_key kept)) ∙ key-place r short kept all)
+    ∙ ap (λ k. if has_name (map reference_key kept) (reference_key r) then Some k
+    else None) (zero-add (place_of (bytes_eq (reference_key r)) (map reference_key kept)) ∙ key-place r short kept all)
     ∙ ap (λ b. if b then Some (place_of (same_reference r) kept) else None) (key-kept r short kept all)
 
 keyed-push : (kept : List Reference) (r : Reference) → keyed (kept ++ r ∷ []) ≡ keyed kept ++ (reference_key r, length kept) ∷ []
@@ -73,7 +78,8 @@ keyed-push kept r =
 absent-place : {A : Type 0} (test : A → Bool) (xs : List A) → list_any test xs ≡ false → place_of test xs ≡ length xs
 absent-place test [] e = refl
 absent-place test (x ∷ xs) e = by_case (test x) e (absent-place test xs) where
-  by_case : (b : Bool) → (b || list_any test xs) ≡ false → (list_any test xs ≡ false → place_of test xs ≡ length xs) → cond b 0 (suc (place_of test xs)) ≡ length (x ∷ xs)
+  by_case : (b : Bool) → (b || list_any test xs) ≡ false → (list_any test xs ≡ false → place_of test xs ≡ length xs)
+      → cond b 0 (suc (place_of test xs)) ≡ length (x ∷ xs)
   by_case true h rest = absurd cc
   by_case false h rest = let r = rest h in omega (arith, r)
 
@@ -88,7 +94,8 @@ module _ (r : Reference) (kept : List Reference) (short : IsShortReference r) (a
     unchanged : with_entry (keyed kept) (reference_key r) n ≡ keyed kept
     unchanged = ap (λ (o : Option ℕ). if is_none o then keyed kept ++ (reference_key r, n) ∷ [] else keyed kept) e
 
-    by_case : (b : Bool) → (if b then Some its else None) ≡ Some p → (p ≡ its) × ((if b then kept else kept ++ r ∷ []) ≡ kept) × (with_entry (keyed kept) (reference_key r) n ≡ keyed kept)
+    by_case : (b : Bool) → (if b then Some its else None) ≡ Some p → (p ≡ its) × ((if b then kept else kept ++ r ∷ []) ≡ kept)
+        × (with_entry (keyed kept) (reference_key r) n ≡ keyed kept)
     by_case true h = let same : its ≡ p = cc in (sym same, refl, unchanged)
     by_case false h = absurd cc
 
@@ -100,7 +107,8 @@ module _ (r : Reference) (kept : List Reference) (short : IsShortReference r) (a
     longer = ap (λ (o : Option ℕ). if is_none o then keyed kept ++ (reference_key r, length kept) ∷ [] else keyed kept) e ∙ sym (keyed-push kept r)
 
     by_case : (b : Bool) → is_kept kept r ≡ b → (if b then Some its else None) ≡ None
-        → (length kept ≡ its) × ((if b then kept else kept ++ r ∷ []) ≡ kept ++ r ∷ []) × (with_entry (keyed kept) (reference_key r) (length kept) ≡ keyed (kept ++ r ∷ []))
+        → (length kept ≡ its) × ((if b then kept else kept ++ r ∷ []) ≡ kept ++ r ∷ [])
+        × (with_entry (keyed kept) (reference_key r) (length kept) ≡ keyed (kept ++ r ∷ []))
     by_case true f h = absurd cc
     by_case false f h = (sym (absent-place (same_reference r) kept f), refl, longer)
 
@@ -109,7 +117,8 @@ module _ (r : Reference) (kept : List Reference) (short : IsShortReference r) (a
 any-append : {A : Type 0} (test : A → Bool) (xs ys : List A) → list_any test (xs ++ ys) ≡ (list_any test xs || list_any test ys)
 any-append test [] ys = refl
 any-append test (x ∷ xs) ys = by_case (test x) (any-append test xs ys) where
-  by_case : (b : Bool) → list_any test (xs ++ ys) ≡ (list_any test xs || list_any test ys) → (b || list_any test (xs ++ ys)) ≡ ((b || list_any test xs) || list_any test ys)
+  by_case : (b : Bool) → list_any test (xs ++ ys) ≡ (list_any test xs || list_any test ys) → (b || list_any test (xs ++ ys))
+      ≡ ((b || list_any test xs) || list_any test ys)
   by_case true rest = refl
   by_case false rest = rest
 
@@ -135,7 +144,8 @@ module _ (names : List (List ℕ)) where
   -- new for a list with one more is new for the list, and another one
   new-push : (kept : List Reference) (r q : Reference) → new_for (kept ++ r ∷ []) q ≡ (not (same_reference r q) && new_for kept q)
   new-push kept r q =
-      ap not (any-append (same_reference q) kept (r ∷ []) ∙ ap (λ b. is_kept kept q || (b || false)) turned) ∙ by_cases (is_kept kept q) (same_reference r q) where
+      ap not (any-append (same_reference q) kept (r ∷ []) ∙ ap (λ b. is_kept kept q || (b || false)) turned)
+      ∙ by_cases (is_kept kept q) (same_reference r q) where
         turned : same_reference q r ≡ same_reference r q
         turned = decides-same (same_reference q r) (same_reference r q) (same_reference-decides q r) (same_reference-decides r q) (λ e. sym e) (λ e. sym e)
 
@@ -161,14 +171,17 @@ module _ (names : List (List ℕ)) where
     by_case false true e old more =
         let rest = distinct same_reference (filter unmet rs) in
         old
-        ∙ ap (λ all. kept ++ all) (sym (filter-weaker (new_for kept) (λ q. not (same_reference r q)) (differs same_reference same_reference-decides (new_for kept) r (ap not e)) rest))
-        ∙ sym (ap (λ b. kept ++ cond (not b) (r ∷ filter (new_for kept) (filter (λ q. not (same_reference r q)) rest)) (filter (new_for kept) (filter (λ q. not (same_reference r q)) rest))) e)
+        ∙ ap (λ all. kept ++ all) (sym (filter-weaker (new_for kept) (λ q. not (same_reference r q))
+        (differs same_reference same_reference-decides (new_for kept) r (ap not e)) rest))
+        ∙ sym (ap (λ b. kept ++ cond (not b) (r ∷ filter (new_for kept) (filter (λ q. not (same_reference r q)) rest))
+        (filter (new_for kept) (filter (λ q. not (same_reference r q)) rest))) e)
     by_case false false e old more =
         let rest = distinct same_reference (filter unmet rs) in
         more
         ∙ append_assoc kept (r ∷ []) (filter (new_for (kept ++ r ∷ [])) rest)
         ∙ ap (λ all. kept ++ r ∷ all) (sym (filter-two (new_for kept) (λ q. not (same_reference r q)) (new_for (kept ++ r ∷ [])) (new-push kept r) rest))
-        ∙ sym (ap (λ b. kept ++ cond (not b) (r ∷ filter (new_for kept) (filter (λ q. not (same_reference r q)) rest)) (filter (new_for kept) (filter (λ q. not (same_reference r q)) rest))) e)
+        ∙ sym (ap (λ b. kept ++ cond (not b) (r ∷ filter (new_for kept) (filter (λ q. not (same_reference r q)) rest))
+        (filter (new_for kept) (filter (λ q. not (same_reference r q)) rest))) e)
 
   pub kept-all : (rs : List Reference) → kept_after names [] rs ≡ distinct same_reference (filter unmet rs)
   kept-all rs = kept-is [] rs ∙ filter-all (distinct same_reference (filter unmet rs))
@@ -180,7 +193,10 @@ module _ (names : List (List ℕ)) where
       → (◌≡◌ {A = Letter × ℕ} (letters.I, p) (target_in names kept r)) × (kept ≡ kept_with names kept r)
   target-met kept r p e = by_case (has_name names r.name) (sym (position-numbered 0 names r.name) ∙ e) where
     by_case : (b : Bool) → (if b then Some (0 + place_of (bytes_eq r.name) names) else None) ≡ Some p
-        → (◌≡◌ {A = Letter × ℕ} (letters.I, p) (cond b (letters.I, place_of (λ name. bytes_eq name r.name) names) (letters.X, place_of (same_reference r) kept))) × (kept ≡ cond b kept (merged_with kept r))
+        → (◌≡◌ {A = Letter × ℕ} (letters.I, p) (cond b (letters.I, place_of (λ name. bytes_eq name r.name) names) (
+          letters.X,
+          place_of (same_reference r) kept,
+        ))) × (kept ≡ cond b kept (merged_with kept r))
     by_case true h =
         let same : 0 + place_of (bytes_eq r.name) names ≡ p = cc in
         (ap (λ (k : ℕ). (letters.I, k)) (sym same ∙ zero-add (place_of (bytes_eq r.name) names) ∙ place-turned r.name names), refl)
@@ -191,7 +207,9 @@ module _ (names : List (List ℕ)) where
       → (◌≡◌ {A = Letter × ℕ} (letters.X, place_of (same_reference r) kept) (target_in names kept r)) × (merged_with kept r ≡ kept_with names kept r)
   target-unmet kept r e = by_case (has_name names r.name) (sym (position-numbered 0 names r.name) ∙ e) where
     by_case : (b : Bool) → (if b then Some (0 + place_of (bytes_eq r.name) names) else None) ≡ None
-        → (◌≡◌ {A = Letter × ℕ} (letters.X, place_of (same_reference r) kept) (cond b (letters.I, place_of (λ name. bytes_eq name r.name) names) (letters.X, place_of (same_reference r) kept))) × (merged_with kept r ≡ cond b kept (merged_with kept r))
+        → (◌≡◌ {A = Letter × ℕ} (letters.X, place_of (same_reference r) kept)
+        (cond b (letters.I, place_of (λ name. bytes_eq name r.name) names) (letters.X, place_of (same_reference r) kept)))
+        × (merged_with kept r ≡ cond b kept (merged_with kept r))
     by_case true h = absurd cc
     by_case false h = (refl, refl)
 
@@ -244,13 +262,15 @@ module _ (names : List (List ℕ)) where
     last [] e = (ap (λ b. b || false) itself, ap (λ b. cond b 0 1) itself)
     last (x ∷ xs) e = step (same_reference r x) e (last xs) where
       step : (b : Bool) → (b || list_any (same_reference r) xs) ≡ false
-          → (list_any (same_reference r) xs ≡ false → (list_any (same_reference r) (xs ++ r ∷ []) ≡ true) × (place_of (same_reference r) (xs ++ r ∷ []) ≡ length xs))
+          → (list_any (same_reference r) xs ≡ false → (list_any (same_reference r) (xs ++ r ∷ []) ≡ true)
+          × (place_of (same_reference r) (xs ++ r ∷ []) ≡ length xs))
           → ((b || list_any (same_reference r) (xs ++ r ∷ [])) ≡ true) × (cond b 0 (suc (place_of (same_reference r) (xs ++ r ∷ []))) ≡ length (x ∷ xs))
       step true h rest = absurd cc
       step false h rest = let both = rest h in let e = both.1 in (both.0, omega (arith, e))
 
     by_case : (b : Bool) → is_kept kept r ≡ b
-        → (is_kept (if b then kept else kept ++ r ∷ []) r ≡ true) × (place_of (same_reference r) (if b then kept else kept ++ r ∷ []) ≡ place_of (same_reference r) kept)
+        → (is_kept (if b then kept else kept ++ r ∷ []) r ≡ true)
+        × (place_of (same_reference r) (if b then kept else kept ++ r ∷ []) ≡ place_of (same_reference r) kept)
     by_case true e = (e, refl)
     by_case false e = let both = last kept e in (both.0, both.1 ∙ sym (absent-place (same_reference r) kept e))
 
@@ -258,7 +278,8 @@ module _ (names : List (List ℕ)) where
   abbrev target_by : Bool → Reference → List Reference → Letter × ℕ
   target_by b r all = cond b (letters.I, place_of (λ name. bytes_eq name r.name) names) (letters.X, place_of (same_reference r) all)
 
-  target-stays : (kept : List Reference) (r : Reference) (rs : List Reference) → target_in names kept r ≡ target_in names (kept_after names (kept_with names kept r) rs) r
+  target-stays : (kept : List Reference) (r : Reference) (rs : List Reference) → target_in names kept r
+      ≡ target_in names (kept_after names (kept_with names kept r) rs) r
   target-stays kept r rs = by_case (has_name names r.name) (kept-extends (kept_with names kept r) rs) refl where
     by_case : (b : Bool) → Extends (kept_with names kept r) (kept_after names (kept_with names kept r) rs) → has_name names r.name ≡ b
         → target_by b r kept ≡ target_by b r (kept_after names (kept_with names kept r) rs)

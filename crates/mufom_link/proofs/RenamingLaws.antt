@@ -1,5 +1,6 @@
 -- The renaming of a site, on the entries of a module without a defect, is that of the link.
-use Rattle.std.proofs.Common.{◌≡◌, ℕ, ◌+◌, ◌<◌, ◌≤◌, ◌^◌, List, [], ◌∷◌, map, length, Option, Some, None, option_map, Bool, true, false, ◌||◌, if◌then◌else◌, refl, ap, ◌∙◌, arith, rules}
+use Rattle.std.proofs.Common.{◌≡◌, ℕ, ◌+◌, ◌<◌, ◌≤◌, ◌^◌, List, [], ◌∷◌, map, length, Option, Some, None, option_map, Bool, true, false, ◌||◌}
+use Rattle.std.proofs.Common.{if◌then◌else◌, refl, ap, ◌∙◌, arith, rules}
 use Rattle.std.specs.Prelude.{slice_get, nat_le, nat_lt, is_none, option_and_then}
 use Rattle.std.specs.List.{AllByRecursion, list_any}
 use Rattle.std.proofs.lemmas.Option.{slice_get-map}
@@ -22,12 +23,14 @@ use Rattle.mufom_module.specs.declared.module.Defect.TheVariants as kinds
 use Rattle.mufom_module.specs.Contents.{any_of, item_any, debug_marks}
 use Rattle.mufom_module.specs.Defects.{IsValid, counts_of, is_outside, names_outside, has_bad_place, names_bad_section, has_bad_mark, declared_after}
 use Rattle.mufom_meaning.specs.Flat.{Sited, name_count, public_names}
-use Rattle.mufom_meaning.specs.Joined.{joined_variable, joined_reference, joined_tree, joined_public, joined_item, joined_load, joined_head, joined_mark, kept_references}
+use Rattle.mufom_meaning.specs.Joined.{joined_variable, joined_reference, joined_tree, joined_public, joined_item, joined_load, joined_head}
+use Rattle.mufom_meaning.specs.Joined.{joined_mark, kept_references}
 use Rattle.mufom_meaning.proofs.Tests.{either_false}
 use Rattle.mufom_meaning.proofs.Members.{get_some}
 use Rattle.mufom_meaning.proofs.NoDefects.{no_defect}
 use Rattle.mufom_link.specs.References.{target_in}
-use Rattle.mufom_link.specs.Renaming.{Renaming, renaming, moved, target_at, moved_variable, renamed_tree, renamed_public, renamed_item, renamed_load, renamed_head, renamed_mark}
+use Rattle.mufom_link.specs.Renaming.{Renaming, renaming, moved, target_at, moved_variable, renamed_tree, renamed_public, renamed_item, renamed_load}
+use Rattle.mufom_link.specs.Renaming.{renamed_head, renamed_mark}
 
 -- on what the module has, the renaming is that of the link at the site
 pub record Agrees (ms : List Parts) (site : Sited) (r : Renaming) : Type 0 where
@@ -41,11 +44,13 @@ pub names-counted : (n : ℕ) (marks : List DebugMark) → names_after_all n mar
 names-counted n [] = let e : n ≡ n + 0 = omega arith in e
 names-counted n (block_begin head name ∷ marks) = names-counted n marks
 names-counted n (block_end end ∷ marks) = names-counted n marks
-names-counted n (name_mark name ∷ marks) = let rest = names-counted (n + 1) marks in let e : n + 1 + name_count marks ≡ n + (1 + name_count marks) = omega arith in rest ∙ e
+names-counted n (name_mark name ∷ marks) = let rest = names-counted (n + 1) marks in let e : n + 1 + name_count marks ≡ n + (1 + name_count marks) =
+    omega arith in rest ∙ e
 names-counted n (note_mark name note ∷ marks) = names-counted n marks
 names-counted n (value_mark name t ∷ marks) = names-counted n marks
 
-map-agrees : {A B : Type 0} (f g : A → B) (test : A → Bool) → ((x : A) → test x ≡ false → f x ≡ g x) → (xs : List A) → list_any test xs ≡ false → map f xs ≡ map g xs
+map-agrees : {A B : Type 0} (f g : A → B) (test : A → Bool) → ((x : A) → test x ≡ false → f x ≡ g x) → (xs : List A) → list_any test xs ≡ false
+    → map f xs ≡ map g xs
 map-agrees f g test same [] e = refl
 map-agrees f g test same (x ∷ xs) e =
     let both = either_false (test x) (list_any test xs) e in
@@ -59,7 +64,8 @@ module _ (ms : List Parts) (site : Sited) (r : Renaming) (agrees : Agrees ms sit
 
   -- ---- expressions
 
-  all-variables : (vs : List (Letter × ℕ)) → list_any (is_outside (counts_of site.parts)) vs ≡ false → AllByRecursion (λ v. r.variable v.0 v.1 ≡ joined_variable ms site v.0 v.1) vs
+  all-variables : (vs : List (Letter × ℕ)) → list_any (is_outside (counts_of site.parts)) vs ≡ false
+      → AllByRecursion (λ v. r.variable v.0 v.1 ≡ joined_variable ms site v.0 v.1) vs
   all-variables [] e = tt
   all-variables (v ∷ vs) e =
       let both = either_false (is_outside (counts_of site.parts) v) (list_any (is_outside (counts_of site.parts)) vs) e in
@@ -77,7 +83,8 @@ module _ (ms : List Parts) (site : Sited) (r : Renaming) (agrees : Agrees ms sit
   public-agrees : (p : Public) → outside p.value ≡ false → renamed_public r p ≡ joined_public ms site p
   public-agrees p e = let value = tree-agrees p.value e in λ i. record { name = p.name; value = value i; notes = p.notes }
 
-  pub publics-agree : (publics : List Public) → list_any (λ p. outside p.value) publics ≡ false → map (renamed_public r) publics ≡ map (joined_public ms site) publics
+  pub publics-agree : (publics : List Public) → list_any (λ p. outside p.value) publics ≡ false → map (renamed_public r) publics
+      ≡ map (joined_public ms site) publics
   publics-agree publics e = map-agrees (renamed_public r) (joined_public ms site) (λ p. outside p.value) public-agrees publics e
 
   item-agrees : (item : Item) → item_any outside item ≡ false → renamed_item r item ≡ joined_item ms site item
@@ -96,12 +103,14 @@ module _ (ms : List Parts) (site : Sited) (r : Renaming) (agrees : Agrees ms sit
   load-agrees (One item) e = ap One (item-agrees item e)
   load-agrees (Repeat count items) e = ap (Repeat count) (map-agrees (renamed_item r) (joined_item ms site) (item_any outside) item-agrees items e)
 
-  pub loads-agree : (loads : List Load) → list_any (has_bad_place (counts_of site.parts)) loads ≡ false → map (renamed_load r) loads ≡ map (joined_load ms site) loads
+  pub loads-agree : (loads : List Load) → list_any (has_bad_place (counts_of site.parts)) loads ≡ false → map (renamed_load r) loads
+      ≡ map (joined_load ms site) loads
   loads-agree loads e = map-agrees (renamed_load r) (joined_load ms site) (has_bad_place (counts_of site.parts)) load-agrees loads e
 
   -- ---- debug marks
 
-  head-agrees : (head : BlockHead) → names_bad_section (counts_of site.parts) head ≡ false → any_of outside (offset_of head) ≡ false → renamed_head r head ≡ joined_head ms site head
+  head-agrees : (head : BlockHead) → names_bad_section (counts_of site.parts) head ≡ false → any_of outside (offset_of head) ≡ false
+      → renamed_head r head ≡ joined_head ms site head
   head-agrees heads.Module e f = refl
   head-agrees (heads.Global stack type_index offset) e f = ap (λ t. heads.Global stack type_index t) (tree-agrees offset f)
   head-agrees (heads.Local stack type_index offset) e f = ap (λ t. heads.Local stack type_index t) (tree-agrees offset f)
@@ -115,7 +124,8 @@ module _ (ms : List Parts) (site : Sited) (r : Renaming) (agrees : Agrees ms sit
   grows n marks = let e = names-counted n marks in omega (arith, e)
 
   -- a name that is declared before the mark is one of the module
-  used-name : (n name : ℕ) (marks : List DebugMark) → nat_lt name n ≡ true → names_after_all n marks ≤ name_count (marks_of site.parts.debug) → r.debug_name name ≡ site.first_name + name
+  used-name : (n name : ℕ) (marks : List DebugMark) → nat_lt name n ≡ true → names_after_all n marks ≤ name_count (marks_of site.parts.debug)
+      → r.debug_name name ≡ site.first_name + name
   used-name n name marks e bound =
       let less : name < n = search rules in
       let grown = grows n marks in
@@ -125,7 +135,8 @@ module _ (ms : List Parts) (site : Sited) (r : Renaming) (agrees : Agrees ms sit
       → names_after_all n marks ≤ name_count (marks_of site.parts.debug) → map (renamed_mark r) marks ≡ map (joined_mark ms site) marks
   marks-agree n [] e f bound = refl
   marks-agree n (block_begin head name ∷ marks) e f bound =
-      let both = either_false (names_bad_section (counts_of site.parts) head || any_of outside (offset_of head)) (list_any (has_bad_mark (counts_of site.parts)) marks) e in
+      let both = either_false (names_bad_section (counts_of site.parts) head
+      || any_of outside (offset_of head)) (list_any (has_bad_mark (counts_of site.parts)) marks) e in
       let own = either_false (names_bad_section (counts_of site.parts) head) (any_of outside (offset_of head)) both.0 in
       let first = head-agrees head own.0 own.1 in
       let rest = marks-agree n marks both.1 f bound in
@@ -190,16 +201,19 @@ module _ (ms : List Parts) (site : Sited) (targets : List (Letter × ℕ))
   section-fits : (n : ℕ) → nat_le (length site.parts.sections) n ≡ false → moved site.first_section n ≡ site.first_section + n
   section-fits n e = small site.first_section n (length site.parts.sections) (inside (length site.parts.sections) n e) sections
 
-  target-found : (n : ℕ) → nat_le (length site.parts.names.references) n ≡ false → target_at (slice_get targets n) ≡ joined_reference ms (slice_get site.parts.names.references n)
+  target-found : (n : ℕ) → nat_le (length site.parts.names.references) n ≡ false → target_at (slice_get targets n)
+      ≡ joined_reference ms (slice_get site.parts.names.references n)
   target-found n e =
       ap (λ ts. target_at (slice_get ts n)) found
       ∙ ap target_at (slice_get-map (target_in (public_names ms) (kept_references ms)) site.parts.names.references n)
       ∙ by_case (slice_get site.parts.names.references n) refl where
-        by_case : (o : Option Reference) → slice_get site.parts.names.references n ≡ o → target_at (option_map (target_in (public_names ms) (kept_references ms)) o) ≡ joined_reference ms o
+        by_case : (o : Option Reference) → slice_get site.parts.names.references n ≡ o
+            → target_at (option_map (target_in (public_names ms) (kept_references ms)) o) ≡ joined_reference ms o
         by_case None h = absurd (get_some site.parts.names.references n (inside (length site.parts.names.references) n e) h)
         by_case (Some q) h = refl
 
-  variable-agrees : (v : Letter × ℕ) → is_outside (counts_of site.parts) v ≡ false → moved_variable site.first_section site.first_public targets v.0 v.1 ≡ joined_variable ms site v.0 v.1
+  variable-agrees : (v : Letter × ℕ) → is_outside (counts_of site.parts) v ≡ false
+      → moved_variable site.first_section site.first_public targets v.0 v.1 ≡ joined_variable ms site v.0 v.1
   variable-agrees (letters.R, n) e = ap (λ (k : ℕ). (letters.R, k)) (section-fits n e)
   variable-agrees (letters.L, n) e = ap (λ (k : ℕ). (letters.L, k)) (section-fits n e)
   variable-agrees (letters.S, n) e = ap (λ (k : ℕ). (letters.S, k)) (section-fits n e)

@@ -1,5 +1,6 @@
 -- The references of a list, module by module, come to those of its link.
-use Rattle.std.proofs.Common.{◌≡◌, ℕ, ◌+◌, ◌<◌, ◌≤◌, ◌^◌, subst, List, [], ◌∷◌, ◌++◌, length, map, refl, sym, ap, ◌∙◌, append_assoc, append-nil, length-append, arith}
+use Rattle.std.proofs.Common.{◌≡◌, ℕ, ◌+◌, ◌<◌, ◌≤◌, ◌^◌, subst, List, [], ◌∷◌, ◌++◌, length, map, refl, sym, ap, ◌∙◌, append_assoc, append-nil}
+use Rattle.std.proofs.Common.{length-append, arith}
 use Rattle.std.specs.List.{AllByRecursion}
 use Rattle.mufom_expr.specs.declared.token.Letter.{Letter}
 use Rattle.mufom_names.specs.declared.name.Reference.{Reference}
@@ -65,14 +66,16 @@ module _ (ms : List Parts) (light : total_weight ms < 2 ^ 32) (m : Parts) (rest 
   resolving-more valid made new later found kept_now = record {
     found =
         (λ i. found i ++ targets_after (public_names ms) (kept_now i) (flat_references rest))
-        ∙ append_assoc targets (targets_after (public_names ms) kept m.names.references) (targets_after (public_names ms) (kept_after (public_names ms) kept m.names.references) (flat_references rest))
+        ∙ append_assoc targets (targets_after (public_names ms) kept m.names.references)
+        (targets_after (public_names ms) (kept_after (public_names ms) kept m.names.references) (flat_references rest))
         ∙ ap (λ ts. targets ++ ts) (sym (targets_after-append (public_names ms) kept m.names.references (flat_references rest)))
         ∙ h.found;
     left =
         ap (λ rs. kept_after (public_names ms) rs (flat_references rest)) kept_now
         ∙ sym (kept_after-append (public_names ms) kept m.names.references (flat_references rest))
         ∙ h.left;
-    short = subst (AllByRecursion IsShortReference) (sym kept_now) (kept-has (public_names ms) IsShortReference kept m.names.references h.short (short-references m valid made));
+    short = subst (AllByRecursion IsShortReference) (sym kept_now)
+        (kept-has (public_names ms) IsShortReference kept m.names.references h.short (short-references m valid made));
     few =
         let b = length-append m.names.references (flat_references rest) in
         let c = kept-longer (public_names ms) kept m.names.references in

@@ -30,7 +30,8 @@ chunks-next size (x ∷ xs) some =
     ap (λ rest. take (suc size) (x ∷ xs) ∷ rest) (enough size (length xs) (length (drop size xs)) (drop size xs) (omega (arith, left)) (omega arith))
 
 -- the same by the length of the first chunk
-pub chunks-first : (size n : ℕ) (xs : List ℕ) → 0 < length xs → n ≡ min (suc size) (length xs) → chunks (suc size) xs ≡ take n xs ∷ chunks (suc size) (drop n xs)
+pub chunks-first : (size n : ℕ) (xs : List ℕ) → 0 < length xs → n ≡ min (suc size) (length xs) → chunks (suc size) xs
+    ≡ take n xs ∷ chunks (suc size) (drop n xs)
 chunks-first size n xs some is =
     chunks-next size xs some
     ∙ (let own = ap (λ k. take k xs) is ∙ take_min (suc size) xs in let rest = ap (λ k. drop k xs) is ∙ drop_min (suc size) xs in
@@ -38,7 +39,8 @@ chunks-first size n xs some is =
 
 -- ---- a section that is opened once
 
-pub with_section-append : (section : ℕ) (loads more : List Load) → with_section section (loads ++ more) ≡ with_section section loads ++ opened (opens loads) section more
+pub with_section-append : (section : ℕ) (loads more : List Load) → with_section section (loads ++ more) ≡ with_section section loads
+    ++ opened (opens loads) section more
 with_section-append section [] more = refl
 with_section-append section (load ∷ loads) more = refl
 

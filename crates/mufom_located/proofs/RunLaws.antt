@@ -1,5 +1,6 @@
 -- Rows that go by address, and the part of them that lies between two addresses.
-use Rattle.std.proofs.Common.{◌≡◌, ℕ, zero, suc, ◌+◌, ◌-◌, ◌≤◌, ◌<◌, List, [], ◌∷◌, ◌++◌, take, drop, length, true, false, refl, sym, ap, ◌∙◌, subst, arith, rules, append-nil}
+use Rattle.std.proofs.Common.{◌≡◌, ℕ, zero, suc, ◌+◌, ◌-◌, ◌≤◌, ◌<◌, List, [], ◌∷◌, ◌++◌, take, drop, length, true, false, refl, sym, ap, ◌∙◌, subst}
+use Rattle.std.proofs.Common.{arith, rules, append-nil}
 use Rattle.std.specs.Prelude.{nat_le, nat_lt, slice_index_or}
 use Rattle.std.specs.List.{AllWithin}
 use Rattle.std.specs.List.Sorted.{IsNonDecreasingBy}
@@ -16,7 +17,8 @@ abbrev pub end_of : Run → ℕ
 end_of run = run.address + length run.bytes
 
 -- each row ends before the next begins
-adjacent : (from : ℕ) (runs : List Run) → AreApart from runs → (k : ℕ) (d : Run) → suc k < length runs → end_of (slice_index_or runs k d) < (slice_index_or runs (suc k) d).address
+adjacent : (from : ℕ) (runs : List Run) → AreApart from runs → (k : ℕ) (d : Run) → suc k < length runs
+    → end_of (slice_index_or runs k d) < (slice_index_or runs (suc k) d).address
 adjacent from [] h k d less = absurd (omega (arith, less))
 adjacent from (x ∷ []) h k d less = absurd (omega (arith, less))
 adjacent from (x ∷ y ∷ runs) h zero d less = let far = h.2.0 in omega (arith, far)
@@ -25,15 +27,18 @@ adjacent from (x ∷ y ∷ runs) h (suc k) d less = adjacent (end_of x + 1) (y �
 next_index : (k : ℕ) → suc k ≡ k + 1
 next_index k = omega arith
 
-apart_by : (runs : List Run) → AreRows runs → (k : ℕ) (d : Run) → k + 1 < length runs → end_of (slice_index_or runs k d) < (slice_index_or runs (k + 1) d).address
-apart_by runs h k d less = subst (λ j. end_of (slice_index_or runs k d) < (slice_index_or runs j d).address) (next_index k) (adjacent h.0 runs h.1 k d (omega (arith, less)))
+apart_by : (runs : List Run) → AreRows runs → (k : ℕ) (d : Run) → k + 1 < length runs
+    → end_of (slice_index_or runs k d) < (slice_index_or runs (k + 1) d).address
+apart_by runs h k d less = subst (λ j. end_of (slice_index_or runs k d) < (slice_index_or runs j d).address) (next_index k)
+    (adjacent h.0 runs h.1 k d (omega (arith, less)))
 
 -- so their ends rise, and their addresses
 pub ends_rise : (runs : List Run) → AreRows runs → IsNonDecreasingBy end_of runs
 ends_rise runs h = IsNonDecreasingBy-from_all_adjacent end_of runs (λ k d less. let far = apart_by runs h k d less in omega (arith, far))
 
 pub addresses_rise : (runs : List Run) → AreRows runs → IsNonDecreasingBy (λ (run : Run). run.address) runs
-addresses_rise runs h = IsNonDecreasingBy-from_all_adjacent (λ (run : Run). run.address) runs (λ k d less. let far = apart_by runs h k d less in omega (arith, far))
+addresses_rise runs h = IsNonDecreasingBy-from_all_adjacent (λ (run : Run). run.address) runs (λ k d less. let far = apart_by runs h k d less in
+    omega (arith, far))
 
 -- the rows from one on
 pub rows-drop : (runs : List Run) (i : ℕ) → AreRows runs → AreRows (drop i runs)
@@ -57,7 +62,8 @@ module _ (section from to : ℕ) where
       let none : to - run.address ≡ 0 = omega (arith, past) in
       drop_all (from - run.address) (take (to - run.address) run.bytes) (rw none (omega arith))
 
-  none_before : (runs : List Run) (i : ℕ) → AllWithin (λ (run : Run). nat_le (end_of run) from ≡ true) runs 0 i → loads_between section (take i runs) from to ≡ []
+  none_before : (runs : List Run) (i : ℕ) → AllWithin (λ (run : Run). nat_le (end_of run) from ≡ true) runs 0 i
+      → loads_between section (take i runs) from to ≡ []
   none_before runs zero all = refl
   none_before [] (suc i) all = refl
   none_before (run ∷ runs) (suc i) all =
@@ -66,7 +72,8 @@ module _ (section from to : ℕ) where
       let rest = none_before runs i (λ k d low less. all (suc k) d (omega arith) (omega (arith, less))) in
       (λ j. head j ++ rest j)
 
-  none_after : (runs : List Run) (i : ℕ) → AllWithin (λ (run : Run). nat_lt run.address to ≡ false) runs i (length runs) → loads_between section (drop i runs) from to ≡ []
+  none_after : (runs : List Run) (i : ℕ) → AllWithin (λ (run : Run). nat_lt run.address to ≡ false) runs i (length runs)
+      → loads_between section (drop i runs) from to ≡ []
   none_after [] zero all = refl
   none_after [] (suc i) all = refl
   none_after (run ∷ runs) zero all =
@@ -76,7 +83,8 @@ module _ (section from to : ℕ) where
       (λ j. head j ++ rest j)
   none_after (run ∷ runs) (suc i) all = none_after runs i (λ k d low less. all (suc k) d (omega (arith, low)) (omega (arith, less)))
 
-  split : (runs : List Run) (i : ℕ) → loads_between section runs from to ≡ loads_between section (take i runs) from to ++ loads_between section (drop i runs) from to
+  split : (runs : List Run) (i : ℕ) → loads_between section runs from to ≡ loads_between section (take i runs) from to
+      ++ loads_between section (drop i runs) from to
   split runs i = ap (λ all. loads_between section all from to) (sym (take-append-drop i runs)) ∙ flat_map-append _ (take i runs) (drop i runs)
 
   pub from_first : (runs : List Run) (i : ℕ) → AllWithin (λ (run : Run). nat_le (end_of run) from ≡ true) runs 0 i

@@ -1,5 +1,6 @@
 -- What the loads of rows weigh, and the bound on the weight of a location.
-use Rattle.std.proofs.Common.{◌≡◌, ℕ, suc, ◌+◌, ◌≤◌, ◌<◌, ◌^◌, ◌⊎◌, inl, inr, List, [], ◌∷◌, take, drop, length, map, get_or, filter, flat_map, sum_by, refl, sym, ap, ◌∙◌, arith, Bool, true, false, cond, min}
+use Rattle.std.proofs.Common.{◌≡◌, ℕ, suc, ◌+◌, ◌≤◌, ◌<◌, ◌^◌, ◌⊎◌, inl, inr, List, [], ◌∷◌, take, drop, length, map, get_or, filter, flat_map}
+use Rattle.std.proofs.Common.{sum_by, refl, sym, ap, ◌∙◌, arith, Bool, true, false, cond, min}
 use Rattle.std.specs.List.{enumerate_from}
 use Rattle.std.proofs.lemmas.List.{drop_more, append-nil, length-map}
 use Rattle.std.proofs.lemmas.List.FromFn.{length-enumerate_from}
@@ -31,7 +32,8 @@ use Rattle.mufom_located.proofs.LoadLaws.{chunks-first}
 
 -- ---- literals
 
-first_literal : (xs : List ℕ) (n : ℕ) → 0 < length xs → n ≡ min (suc 65534) (length xs) → literals_weight xs ≡ (10 + length (take n xs)) + literals_weight (drop n xs)
+first_literal : (xs : List ℕ) (n : ℕ) → 0 < length xs → n ≡ min (suc 65534) (length xs) → literals_weight xs
+    ≡ (10 + length (take n xs)) + literals_weight (drop n xs)
 first_literal xs n some is =
     let first = ap (λ (all : List (List ℕ)). sum_by load_weight (map (λ chunk. One (Literal chunk)) all)) (chunks-first 65534 n xs some is) in
     let split = sum_by-cons load_weight (One (Literal (take n xs))) (map (λ chunk. One (Literal chunk)) (chunks literal_limit (drop n xs))) in
@@ -60,12 +62,14 @@ with_section-none section (load ∷ loads) none = by_weight (some_weight (load �
   by_weight (inl e) = absurd cc
   by_weight (inr some) = absurd (omega (arith, none, some))
 
-pub with_section-some : (section : ℕ) (loads : List Load) → 0 < sum_by load_weight loads → sum_by load_weight (with_section section loads) ≡ sum_by load_weight loads + 10
+pub with_section-some : (section : ℕ) (loads : List Load) → 0 < sum_by load_weight loads → sum_by load_weight (with_section section loads)
+    ≡ sum_by load_weight loads + 10
 with_section-some section [] some = absurd (omega (arith, some))
 with_section-some section (load ∷ loads) some = let split = sum_by-cons load_weight (SetSection section) (load ∷ loads) in omega (arith, split)
 
 -- the section with the next number
-pub sections-next : (f : ℕ × Section → List Load) (sections : List Section) (i : ℕ) (section : Section) → i < length sections → section ≡ get_or sections i section
+pub sections-next : (f : ℕ × Section → List Load) (sections : List Section) (i : ℕ) (section : Section) → i < length sections → section
+    ≡ get_or sections i section
     → sum_by load_weight (flat_map f (enumerate_from i (drop i sections)))
     ≡ sum_by load_weight (f (i, section)) + sum_by load_weight (flat_map f (enumerate_from (i + 1) (drop (i + 1) sections)))
 sections-next f sections i section inside is =
@@ -76,12 +80,13 @@ sections-next f sections i section inside is =
 
 references_light : (references : List Reference) → length (filter is_common references) ≤ sum_by reference_weight references
 references_light [] = omega arith
-references_light (reference ∷ references) = by_case (is_common reference) (references_light references) (sum_by-cons reference_weight reference references) where
-  by_case : (b : Bool) → length (filter is_common references) ≤ sum_by reference_weight references
-      → sum_by reference_weight (reference ∷ references) ≡ reference_weight reference + sum_by reference_weight references
-      → length (cond b (reference ∷ filter is_common references) (filter is_common references)) ≤ sum_by reference_weight (reference ∷ references)
-  by_case true rest split = omega (arith, split, rest)
-  by_case false rest split = omega (arith, split, rest)
+references_light (reference ∷ references) = by_case (is_common reference) (references_light references)
+    (sum_by-cons reference_weight reference references) where
+      by_case : (b : Bool) → length (filter is_common references) ≤ sum_by reference_weight references
+          → sum_by reference_weight (reference ∷ references) ≡ reference_weight reference + sum_by reference_weight references
+          → length (cond b (reference ∷ filter is_common references) (filter is_common references)) ≤ sum_by reference_weight (reference ∷ references)
+      by_case true rest split = omega (arith, split, rest)
+      by_case false rest split = omega (arith, split, rest)
 
 pub located-light : AbsoluteWeighs → AllAnswersAreFacts → (r : LocatedParts) → IsLocated r → weight (absolute_of r) < 2 ^ 64
 located-light weighs facts r h =
@@ -93,13 +98,16 @@ located-light weighs facts r h =
     let sections = sections-count m in
     let all_sections = ap length (append-nil m.sections) in
     let references = references_light m.names.references in
-    let all_references : asking_count ms ≡ length (filter is_common m.names.references) = ap (λ all. length (filter is_common all)) (append-nil m.names.references) in
-    let few : ¬ (MOST_IMAGE_BYTES < loaded_total ms) = λ past. (facts ms h.plan).locate_complete h.is.locates (image_limit (loaded_total ms)) (inl (refl, past)) in
+    let all_references : asking_count ms ≡ length (filter is_common m.names.references) =
+    ap (λ all. length (filter is_common all)) (append-nil m.names.references) in
+    let few : ¬ (MOST_IMAGE_BYTES < loaded_total ms) = λ past. (facts ms h.plan).locate_complete h.is.locates (image_limit (loaded_total ms))
+    (inl (refl, past)) in
     omega (arith, whole, own, parts, sections, all_sections, references, all_references, few)
 
 pub sections-few : ModulesMayBePlaced → (r : LocatedParts) → IsLocated r → length r.sections < 2 ^ 32
 sections-few may r h =
     let placed = (may h.source h.plan h.valid).count in
-    let same = ap length h.is.sections ∙ length-map (enumerate_from 0 (extended_sections (h.source ∷ []) h.plan)) (placed_section (base_list (h.source ∷ []) h.plan))
+    let same = ap length h.is.sections ∙ length-map (enumerate_from 0 (extended_sections (h.source ∷ []) h.plan))
+    (placed_section (base_list (h.source ∷ []) h.plan))
     ∙ length-enumerate_from 0 (extended_sections (h.source ∷ []) h.plan) in
     omega (arith, placed, same)

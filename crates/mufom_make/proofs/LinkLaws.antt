@@ -1,5 +1,6 @@
 -- Links of generated modules, and what the link of all of them means.
-use Rattle.std.proofs.Common.{◌≡◌, ℕ, zero, suc, ◌+◌, ◌-◌, ◌*◌, ◌<◌, ◌≤◌, ◌++◌, ◌∷◌, [], List, length, None, true, sym, ◌∙◌, ap, subst, Result, Ok, Err, IfOk, arith, append_assoc, append-nil, length-append}
+use Rattle.std.proofs.Common.{◌≡◌, ℕ, zero, suc, ◌+◌, ◌-◌, ◌*◌, ◌<◌, ◌≤◌, ◌++◌, ◌∷◌, [], List, length, None, true, sym, ◌∙◌, ap, subst, Result, Ok}
+use Rattle.std.proofs.Common.{Err, IfOk, arith, append_assoc, append-nil, length-append}
 use Rattle.std.proofs.lemmas.List.Sums.{sum_by-append, sum_by-cons}
 use Rattle.mufom_names.specs.Names.{names_of, AreDistinct}
 use Rattle.mufom_module.specs.declared.module.Parts.{Parts}
@@ -21,7 +22,8 @@ use Rattle.mufom_make.proofs.ListLaws.{all-light, all-valid, distinct-names, len
 -- the name of a link is that of its first module, which is short
 short-link : (count more n : ℕ) (M : Parts) → n + more ≤ 65536 → NameStays [] M (modules_from count more n) → length M.name ≤ 6
 short-link count zero n M few named = absurd named
-short-link count (suc more) n M few named = let short = short-m n (omega (arith, few)) in let same = ap (λ (name : List ℕ). length name) named in omega (arith, short, same)
+short-link count (suc more) n M few named = let short = short-m n (omega (arith, few)) in let same = ap (λ (name : List ℕ). length name) named in
+    omega (arith, short, same)
 
 pub link-valid : (count more n : ℕ) (M : Parts) → n + more ≤ 65536 → IsLinkOf M (modules_from count more n) → IsValid M
 link-valid count more n M few link =
@@ -41,7 +43,8 @@ pub one-more : (count more n : ℕ) (before after : List Parts) (M : Parts) (lea
     → IsStaged (before ++ (modules_from count more n ++ after)) leaves → IsStaged ((before ++ M ∷ []) ++ after) leaves
 one-more count more n before after M leaves few link so_far =
     subst (λ (ms : List Parts). IsStaged ms leaves) (sym (append_assoc before (M ∷ []) after))
-    (linked leaves before (modules_from count more n) after M M.name so_far (link-valid count more n M few link) link.joined (stays before M (modules_from count more n) link.named))
+    (linked leaves before (modules_from count more n) after M M.name so_far (link-valid count more n M few link) link.joined
+    (stays before M (modules_from count more n) link.named))
 
 -- the links of the modules up to `first`, and one more link up to `end`
 pub one-pair : (count first end : ℕ) (pairs more : List Parts) (M : Parts) → first < end → end ≤ count → count ≤ 65536 → more ≡ pairs ++ M ∷ []
@@ -60,7 +63,8 @@ one-pair count first end pairs more M less within few same link staged =
     subst (λ (ms : List Parts). IsStaged (ms ++ modules_from count rest end) (made_modules count)) (sym same)
     (one-more count own first pairs (modules_from count rest end) M (made_modules count) (omega (arith, next, within, few)) link so_far)
 
-pub pair-light : (count first end : ℕ) (pairs more : List Parts) (M : Parts) → first < end → more ≡ pairs ++ M ∷ [] → IsLinkOf M (modules_from count (end - first) first)
+pub pair-light : (count first end : ℕ) (pairs more : List Parts) (M : Parts) → first < end → more ≡ pairs ++ M ∷ []
+    → IsLinkOf M (modules_from count (end - first) first)
     → total_weight pairs ≤ most_weight * first → total_weight more ≤ most_weight * end
 pair-light count first end pairs more M less same link light =
     let own = link.light in
@@ -89,7 +93,8 @@ link-found (Ok M) count more n list few same joined named own =
 -- what stands for the generated modules in stages means what they mean
 pub staged-means : (count : ℕ) (ms : List Parts) → count ≤ 65536 → IsStaged ms (made_modules count) → MeansTheSame ms (made_modules count)
 staged-means count ms few staged =
-    staged_means_the_same (module_at true 0) ms (made_modules count) staged (all-valid count count 0 (omega (arith, few))) (one-descriptor true 0 count count 0) (distinct-names count count 0 (omega (arith, few)))
+    staged_means_the_same (module_at true 0) ms (made_modules count) staged (all-valid count count 0 (omega (arith, few)))
+    (one-descriptor true 0 count count 0) (distinct-names count count 0 (omega (arith, few)))
 
 pub staged-linkable : (count : ℕ) (ms : List Parts) → count ≤ 65536 → IsStaged ms (made_modules count) → link_answer ms ≡ None
 staged-linkable count ms few staged = (staged-means count ms few staged).same_link ∙ linkable count count 0 (omega (arith, few))
@@ -125,7 +130,8 @@ all-found (Ok M) count pairs few staged light joined named own = link-of-all cou
 -- the link alone means what the generated modules mean
 pub link-means : (count : ℕ) (M : Parts) → count ≤ 65536 → IsLinkOf M (made_modules count) → MeansTheSame (M ∷ []) (made_modules count)
 link-means count M few link =
-    let whole : IsStaged ([] ++ (made_modules count ++ [])) (made_modules count) = subst (λ (ms : List Parts). IsStaged ms (made_modules count)) (sym (append-nil (made_modules count))) (unlinked (made_modules count)) in
+    let whole : IsStaged ([] ++ (made_modules count ++ [])) (made_modules count) =
+    subst (λ (ms : List Parts). IsStaged ms (made_modules count)) (sym (append-nil (made_modules count))) (unlinked (made_modules count)) in
     staged-means count (M ∷ []) few (one-more count count 0 [] [] M (made_modules count) (omega (arith, few)) link whole)
 
 pub link-distinct : (count : ℕ) (M : Parts) → count ≤ 65536 → IsLinkOf M (made_modules count) → AreDistinct (names_of M.names.publics)

@@ -1,5 +1,6 @@
 -- The generated modules as a list: it can be linked, and weighs no more than its modules do together.
-use Rattle.std.proofs.Common.{◌≡◌, ℕ, zero, suc, ◌+◌, ◌-◌, ◌*◌, ◌<◌, ◌≤◌, ◌++◌, ◌∷◌, [], List, length, Bool, Some, None, refl, sym, ◌∙◌, ap, arith, add-zero, zero-add}
+use Rattle.std.proofs.Common.{◌≡◌, ℕ, zero, suc, ◌+◌, ◌-◌, ◌*◌, ◌<◌, ◌≤◌, ◌++◌, ◌∷◌, [], List, length, Bool, Some, None, refl, sym, ◌∙◌, ap, arith}
+use Rattle.std.proofs.Common.{add-zero, zero-add}
 use Rattle.std.specs.Prelude.{codes, slice_get, ◌==◌}
 use Rattle.std.specs.Fmt.{decimal}
 use Rattle.std.proofs.lemmas.Fmt.{decimal_injective}
@@ -24,7 +25,8 @@ modules_from-append count (suc a) b n =
     let more : suc a + b ≡ suc (a + b) = omega arith in
     let after : n + 1 + a ≡ n + suc a = omega arith in
     ap (λ (k : ℕ). modules_from count k n) more
-    ∙ ap (λ (ms : List Parts). module_at (n + 1 == count) n ∷ ms) (modules_from-append count a b (n + 1) ∙ ap (λ (k : ℕ). modules_from count a (n + 1) ++ modules_from count b k) after)
+    ∙ ap (λ (ms : List Parts). module_at (n + 1 == count) n ∷ ms) (modules_from-append count a b (n + 1)
+    ∙ ap (λ (k : ℕ). modules_from count a (n + 1) ++ modules_from count b k) after)
 
 -- one more module at the end
 pub one-longer : (count first n : ℕ) (ms : List Parts) (m : Parts) → first ≤ n → ms ≡ modules_from count (n - first) first → m ≡ module_at (n + 1 == count) n

@@ -29,7 +29,8 @@ not_long text short = not_lt 65535 (length text) (omega (arith, short))
 
 short-references : (last : Bool) (n : ℕ) → n < 65536 → list_any (λ (r : Reference). is_long r.name) (references_at last n) ≡ false
 short-references true n few = refl
-short-references false n few = two_false (is_long (name_at (codes "f") (n + 1))) false (not_long (name_at (codes "f") (n + 1)) (short-f (n + 1) (omega (arith, few)))) refl
+short-references false n few = two_false (is_long (name_at (codes "f") (n + 1))) false
+    (not_long (name_at (codes "f") (n + 1)) (short-f (n + 1) (omega (arith, few)))) refl
 
 short-strings : (last : Bool) (n : ℕ) → n < 65536 → has_defect (module_at last n) d.LongId ≡ false
 short-strings last n few =

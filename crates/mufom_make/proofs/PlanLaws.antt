@@ -18,14 +18,16 @@ unfolding IsDistinct
 sound-plan count = record { names = (tt, tt); regions = omega arith; common = omega arith }
 
 -- the location of the link is that of the generated modules
-pub location-of-all : (r : Result LocatedParts LocateRefusal) (count : ℕ) (M : Parts) (plan : Plan) → count ≤ 65536 → IsLinkOf M (made_modules count) → plan ≡ made_plan count
+pub location-of-all : (r : Result LocatedParts LocateRefusal) (count : ℕ) (M : Parts) (plan : Plan) → count ≤ 65536 → IsLinkOf M (made_modules count)
+    → plan ≡ made_plan count
     → IfOk r (IsLocation (M ∷ []) plan) → IfOk r (IsLocation (made_modules count) (made_plan count))
 location-of-all (Err e) count M plan few link same located = tt
 location-of-all (Ok parts) count M plan few link same located =
     ((link-means count M few link).same_location (made_plan count) parts).0 (subst (λ (p : Plan). IsLocation (M ∷ []) p parts) same located)
 
 -- what is answered in its place is what is answered for the generated modules
-pub refusal-of-all : (r : Result LocatedParts LocateRefusal) (count : ℕ) (M : Parts) (plan : Plan) → count ≤ 65536 → IsLinkOf M (made_modules count) → plan ≡ made_plan count
+pub refusal-of-all : (r : Result LocatedParts LocateRefusal) (count : ℕ) (M : Parts) (plan : Plan) → count ≤ 65536 → IsLinkOf M (made_modules count)
+    → plan ≡ made_plan count
     → IfErr r (IsMet (locate_answer (M ∷ []) plan)) → IfErr r (IsMet (locate_answer (made_modules count) (made_plan count)))
 refusal-of-all r count M plan few link same refused =
     subst (λ answer. IfErr r (IsMet answer)) (ap (locate_answer (M ∷ [])) same ∙ (link-means count M few link).same_locate (made_plan count)) refused

@@ -36,7 +36,8 @@ bounded-runs r h =
     let ms : List Parts = h.source ∷ [] in
     let s : Setting = setting ms (planned_bases ms h.plan) in
     let cells : List Cell = address_map r.order (2 ^ width ms) (readings_after s [] (steps ms)) in
-    let few = fewer (run_cells r.runs) cells (apart_own r.runs h.is.rows.apart) (λ cell k. Contains-In cell cells ((h.is.rows.same cell).1 (In-Contains cell (run_cells r.runs) k))) in
+    let few = fewer (run_cells r.runs) cells (apart_own r.runs h.is.rows.apart)
+    (λ cell k. Contains-In cell cells ((h.is.rows.same cell).1 (In-Contains cell (run_cells r.runs) k))) in
     let count = cells_count r.order s [] (steps ms) in
     let all = counts_agree ms (h.valid, tt) in
     let limit : ¬ (MOST_IMAGE_BYTES < loaded_total ms) = λ past. no_fact_before ms h.plan h.is.locates (image_limit (loaded_total ms)) (refl, past) in

@@ -1,5 +1,6 @@
 -- A module without a defect may be placed, and a slice of such modules is a list of them.
-use Rattle.std.proofs.Common.{◌≡◌, ℕ, ◌+◌, ◌*◌, ◌<◌, ◌≤◌, ◌^◌, ◌⊎◌, inl, inr, List, [], ◌∷◌, take, drop, length, ◌-◌, None, Bool, true, false, sym, ◌∙◌, ap, subst, arith, rules, sum_by, append-nil, length-append}
+use Rattle.std.proofs.Common.{◌≡◌, ℕ, ◌+◌, ◌*◌, ◌<◌, ◌≤◌, ◌^◌, ◌⊎◌, inl, inr, List, [], ◌∷◌, take, drop, length, ◌-◌, None, Bool, true, false, sym}
+use Rattle.std.proofs.Common.{◌∙◌, ap, subst, arith, rules, sum_by, append-nil, length-append}
 use Rattle.std.specs.Prelude.{nat_le, All, ◌==◌, if◌then◌else◌}
 use Rattle.std.specs.Str.{bytes_eq}
 use Rattle.std.proofs.Math.Nat.{mul-mod_right}
@@ -104,7 +105,8 @@ module _ (m : Parts) (plan : Plan) (v : IsValid m) where
       let c = lighter-all (λ r. 32) asked_weight (λ r. omega arith) (asking ms plan) in
       let d = times 32 (asking ms plan) in
       let e = asked-lighter (flat_references ms) in
-      let f : sum_by reference_weight (flat_references ms) ≡ sum_by reference_weight m.names.references = ap (sum_by reference_weight) (append-nil m.names.references) in
+      let f : sum_by reference_weight (flat_references ms) ≡ sum_by reference_weight m.names.references =
+      ap (sum_by reference_weight) (append-nil m.names.references) in
       let g = commons_few in
       let h : length (flat_sections ms) ≡ length m.sections = ap length (append-nil m.sections) in
       let i = length-append (flat_sections ms) (placed_commons ms plan) in

@@ -45,10 +45,12 @@ pub filter-map-weaker : {A B : Type 0} (p : B → Bool) (f : A → B) (keep q : 
     → filter p (map f (filter keep (filter q xs))) ≡ filter p (map f (filter keep xs))
 filter-map-weaker p f keep q weaker [] = refl
 filter-map-weaker {A} {B} p f keep q weaker (x ∷ xs) = by_case (q x) refl (keep x) refl (p (f x)) refl (filter-map-weaker p f keep q weaker xs) where
-  kept_left : (c : Bool) → keep x ≡ c → filter p (map f (filter keep (x ∷ filter q xs))) ≡ filter p (map f (cond c (x ∷ filter keep (filter q xs)) (filter keep (filter q xs))))
+  kept_left : (c : Bool) → keep x ≡ c → filter p (map f (filter keep (x ∷ filter q xs)))
+      ≡ filter p (map f (cond c (x ∷ filter keep (filter q xs)) (filter keep (filter q xs))))
   kept_left c e = ap (λ b. filter p (map f (cond b (x ∷ filter keep (filter q xs)) (filter keep (filter q xs))))) e
 
-  by_case : (b : Bool) → q x ≡ b → (c : Bool) → keep x ≡ c → (d : Bool) → p (f x) ≡ d → filter p (map f (filter keep (filter q xs))) ≡ filter p (map f (filter keep xs))
+  by_case : (b : Bool) → q x ≡ b → (c : Bool) → keep x ≡ c → (d : Bool) → p (f x) ≡ d → filter p (map f (filter keep (filter q xs)))
+      ≡ filter p (map f (filter keep xs))
       → filter p (map f (filter keep (cond b (x ∷ filter q xs) (filter q xs)))) ≡ filter p (map f (cond c (x ∷ filter keep xs) (filter keep xs)))
   by_case true h false k d e rest = kept_left false k ∙ rest
   by_case true h true k true e rest = kept_left true k ∙ filter_step p (f x) _ true e ∙ ap (λ more. f x ∷ more) rest ∙ sym (filter_step p (f x) _ true e)
@@ -72,7 +74,8 @@ module _ {A : Type 0} (same : A → A → Bool) (decides : (x y : A) → Decides
   filter-distinct p [] = refl
   filter-distinct p (x ∷ xs) = by_case (p x) refl (filter-distinct p xs) where
     by_case : (b : Bool) → p x ≡ b → filter p (distinct same xs) ≡ distinct same (filter p xs)
-        → cond b (x ∷ filter p (filter (other x) (distinct same xs))) (filter p (filter (other x) (distinct same xs))) ≡ distinct same (cond b (x ∷ filter p xs) (filter p xs))
+        → cond b (x ∷ filter p (filter (other x) (distinct same xs))) (filter p (filter (other x) (distinct same xs)))
+        ≡ distinct same (cond b (x ∷ filter p xs) (filter p xs))
     by_case true e rest = ap (λ more. x ∷ more) (filter-swap p (other x) (distinct same xs) ∙ ap (filter (other x)) rest)
     by_case false e rest = filter-weaker p (other x) (differs p x e) (distinct same xs) ∙ rest
 
@@ -100,14 +103,16 @@ module _ {A : Type 0} (same : A → A → Bool) (decides : (x y : A) → Decides
       ∙ ap (filter (other x)) (distinct-prefix xs ys))
 
   -- lists with the same distinct elements are as good as one another between other lists
-  pub distinct-between : (before xs ys after : List A) → distinct same xs ≡ distinct same ys → distinct same (before ++ (xs ++ after)) ≡ distinct same (before ++ (ys ++ after))
+  pub distinct-between : (before xs ys after : List A) → distinct same xs ≡ distinct same ys → distinct same (before ++ (xs ++ after))
+      ≡ distinct same (before ++ (ys ++ after))
   distinct-between before xs ys after e =
       let inner : distinct same (xs ++ after) ≡ distinct same (ys ++ after)
       = sym (distinct-prefix xs after) ∙ ap (λ prefix. distinct same (prefix ++ after)) e ∙ distinct-prefix ys after in
       sym (distinct-back before (xs ++ after)) ∙ ap (λ back. distinct same (before ++ back)) inner ∙ distinct-back before (ys ++ after)
 
 -- what is made of the elements that are kept is the same of the distinct elements
-module _ {A B : Type 0} (same : A → A → Bool) (decides : (x y : A) → Decides (same x y) (x ≡ y)) (alike : B → B → Bool) (reveals : (x y : B) → Decides (alike x y) (x ≡ y)) (keep : A → Bool) (f : A → B) where
+module _ {A B : Type 0} (same : A → A → Bool) (decides : (x y : A) → Decides (same x y) (x ≡ y)) (alike : B → B → Bool) (reveals : (x y : B)
+    → Decides (alike x y) (x ≡ y)) (keep : A → Bool) (f : A → B) where
   made_differs : (u y : A) → not (alike (f u) (f y)) ≡ true → not (same u y) ≡ true
   made_differs u y h = by_case (same u y) refl where
     by_case : (b : Bool) → same u y ≡ b → not b ≡ true
@@ -118,7 +123,8 @@ module _ {A B : Type 0} (same : A → A → Bool) (decides : (x y : A) → Decid
   distinct-made [] = refl
   distinct-made (u ∷ us) = by_case (keep u) refl (distinct-made us) where
     by_case : (b : Bool) → keep u ≡ b → distinct alike (map f (filter keep (distinct same us))) ≡ distinct alike (map f (filter keep us))
-        → distinct alike (map f (cond b (u ∷ filter keep (filter (λ y. not (same u y)) (distinct same us))) (filter keep (filter (λ y. not (same u y)) (distinct same us)))))
+        → distinct alike (map f (cond b (u ∷ filter keep (filter (λ y. not (same u y)) (distinct same us)))
+        (filter keep (filter (λ y. not (same u y)) (distinct same us)))))
         ≡ distinct alike (map f (cond b (u ∷ filter keep us) (filter keep us)))
     by_case true k rest =
         ap (λ more. f u ∷ more)
@@ -167,4 +173,7 @@ none_same test (x ∷ xs) = by_case (test x) refl (none_same test xs) where
 pub IsDistinct-distinct : {A : Type 0} (same : A → A → Bool) (xs : List A) → IsDistinct same (distinct same xs)
 unfolding IsDistinct
 IsDistinct-distinct same [] = tt
-IsDistinct-distinct same (x ∷ xs) = (none_same (same x) (distinct same xs), IsDistinct-kept same (λ y. not (same x y)) (distinct same xs) (IsDistinct-distinct same xs))
+IsDistinct-distinct same (x ∷ xs) = (
+  none_same (same x) (distinct same xs),
+  IsDistinct-kept same (λ y. not (same x y)) (distinct same xs) (IsDistinct-distinct same xs),
+)

@@ -1,5 +1,6 @@
 -- What stands in a list, by cases on the list.
-use Rattle.std.proofs.Common.{◌≡◌, ℕ, zero, suc, ◌<◌, ◌⊎◌, inl, inr, List, [], ◌∷◌, ◌++◌, map, length, Some, None, Bool, true, false, not, ◌||◌, refl, sym, ◌∙◌, ap, cond, arith}
+use Rattle.std.proofs.Common.{◌≡◌, ℕ, zero, suc, ◌<◌, ◌⊎◌, inl, inr, List, [], ◌∷◌, ◌++◌, map, length, Some, None, Bool, true, false, not, ◌||◌, refl}
+use Rattle.std.proofs.Common.{sym, ◌∙◌, ap, cond, arith}
 use Rattle.std.specs.Prelude.{slice_get, slice_index_or, filter, flat_map, Contains}
 use Rattle.std.specs.List.{All, list_any}
 use Rattle.std.proofs.lemmas.List.Elements.{All-nil, All-cons}
@@ -14,7 +15,8 @@ In x (y ∷ ys) = (y ≡ x) ⊎ In x ys
 pub In-Contains : {A : Type 0} (x : A) (xs : List A) → In x xs → Contains xs x
 In-Contains x [] h = absurd h
 In-Contains x (y ∷ ys) (inl e) = let less : 0 < suc (length ys) = omega arith in (0, less, e)
-In-Contains x (y ∷ ys) (inr h) = let there = In-Contains x ys h in let less : suc there.0 < suc (length ys) = omega (arith, there.1) in (suc there.0, less, there.2)
+In-Contains x (y ∷ ys) (inr h) = let there = In-Contains x ys h in let less : suc there.0 < suc (length ys) = omega (arith, there.1) in
+    (suc there.0, less, there.2)
 
 pub In-at : {A : Type 0} (x : A) (xs : List A) (i : ℕ) → slice_get xs i ≡ Some x → In x xs
 In-at x [] i e = absurd cc

@@ -1,5 +1,6 @@
 -- The first public of a name, in a list that is put together.
-use Rattle.std.proofs.Common.{◌≡◌, ℕ, zero, suc, ◌+◌, ◌<◌, ◌||◌, sym, List, [], ◌∷◌, ◌++◌, map, length, Some, Bool, true, false, refl, ◌∙◌, ap, cond, zero-add, arith}
+use Rattle.std.proofs.Common.{◌≡◌, ℕ, zero, suc, ◌+◌, ◌<◌, ◌||◌, sym, List, [], ◌∷◌, ◌++◌, map, length, Some, Bool, true, false, refl, ◌∙◌, ap, cond}
+use Rattle.std.proofs.Common.{zero-add, arith}
 use Rattle.std.specs.Prelude.{slice_get, if◌then◌else◌}
 use Rattle.std.specs.Str.{bytes_eq}
 use Rattle.std.proofs.lemmas.Slice.Eq.{bytes_eq-Decides}
@@ -18,7 +19,8 @@ use Rattle.mufom_meaning.specs.Joined.{position_of}
 abbrev pub names_of : List SitedPublic → List (List ℕ)
 names_of publics = map (λ q. q.entry.name) publics
 
-named_of_site : (site : Sited) (publics : List Public) → names_of (map (λ entry. record { site = site; entry = entry }) publics) ≡ map (λ entry. entry.name) publics
+named_of_site : (site : Sited) (publics : List Public) → names_of (map (λ entry. record { site = site; entry = entry }) publics)
+    ≡ map (λ entry. entry.name) publics
 named_of_site site [] = refl
 named_of_site site (p ∷ ps) = ap (λ names. p.name ∷ names) (named_of_site site ps)
 
@@ -29,7 +31,8 @@ names_of-sited_publics s p d (x ∷ xs) =
     let rest : List SitedPublic = sited_publics (sited_from (s + length x.sections) (p + length x.names.publics) (d + name_count (marks_of x.debug)) xs) in
     map-append (λ q. q.entry.name) (map (λ entry. record { site = site; entry = entry }) x.names.publics) rest
     ∙ ap (λ prefix. prefix ++ names_of rest) (named_of_site site x.names.publics)
-    ∙ ap (λ back. map (λ entry. entry.name) x.names.publics ++ back) (names_of-sited_publics (s + length x.sections) (p + length x.names.publics) (d + name_count (marks_of x.debug)) xs)
+    ∙ ap (λ back. map (λ entry. entry.name) x.names.publics ++ back)
+    (names_of-sited_publics (s + length x.sections) (p + length x.names.publics) (d + name_count (marks_of x.debug)) xs)
 
 -- whether a name is among names, with the sides of the comparison turned
 pub has_name-turned : (x : List ℕ) (xs : List (List ℕ)) (name : List ℕ) → has_name (x ∷ xs) name ≡ (bytes_eq x name || has_name xs name)
@@ -48,7 +51,8 @@ has_name-append_right xs ys name h = list_any-append (bytes_eq name) xs ys ∙ a
 pub name_at : (xs : List (List ℕ)) (name : List ℕ) → has_name xs name ≡ true → (i : ℕ) × (slice_get xs i ≡ Some name)
 name_at [] name h = absurd cc
 name_at (x ∷ xs) name h = by_case (bytes_eq name x) refl h (name_at xs name) where
-  by_case : (b : Bool) → bytes_eq name x ≡ b → (b || has_name xs name) ≡ true → (has_name xs name ≡ true → (i : ℕ) × (slice_get xs i ≡ Some name)) → (i : ℕ) × (slice_get (x ∷ xs) i ≡ Some name)
+  by_case : (b : Bool) → bytes_eq name x ≡ b → (b || has_name xs name) ≡ true → (has_name xs name ≡ true → (i : ℕ) × (slice_get xs i ≡ Some name))
+      → (i : ℕ) × (slice_get (x ∷ xs) i ≡ Some name)
   by_case true e h later = (0, ap (λ s. Some s) (sym ((bytes_eq-Decides name x).0 e)))
   by_case false e h later = let at = later h in (suc at.0, at.1)
 
@@ -76,21 +80,24 @@ absent_before xs ys name distinct h = by_case (has_name xs name) refl where
 -- past publics that do not have the name, it is looked for in the others
 pub first_named-skip : (xs ys : List SitedPublic) (name : List ℕ) → has_name (names_of xs) name ≡ false → first_named (xs ++ ys) name ≡ first_named ys name
 first_named-skip [] ys name h = refl
-first_named-skip (x ∷ xs) ys name h = by_case (bytes_eq x.entry.name name) (sym (has_name-turned x.entry.name (names_of xs) name) ∙ h) (first_named-skip xs ys name) where
-  by_case : (b : Bool) → (b || has_name (names_of xs) name) ≡ false → (has_name (names_of xs) name ≡ false → first_named (xs ++ ys) name ≡ first_named ys name)
-      → cond b (Some x) (first_named (xs ++ ys) name) ≡ first_named ys name
-  by_case true e later = absurd cc
-  by_case false e later = later e
+first_named-skip (x ∷ xs) ys name h = by_case (bytes_eq x.entry.name name) (sym (has_name-turned x.entry.name (names_of xs) name)
+    ∙ h) (first_named-skip xs ys name) where
+      by_case : (b : Bool) → (b || has_name (names_of xs) name) ≡ false
+          → (has_name (names_of xs) name ≡ false → first_named (xs ++ ys) name ≡ first_named ys name)
+          → cond b (Some x) (first_named (xs ++ ys) name) ≡ first_named ys name
+      by_case true e later = absurd cc
+      by_case false e later = later e
 
 -- the first of a name is at the place of the name
 pub first_at_place : (xs ys : List SitedPublic) (name : List ℕ) → has_name (names_of xs) name ≡ true → (q : SitedPublic)
     × (slice_get (xs ++ ys) (position_of (λ other. bytes_eq other name) (names_of xs)) ≡ Some q) × (first_named (xs ++ ys) name ≡ Some q)
 first_at_place [] ys name h = absurd cc
-first_at_place (x ∷ xs) ys name h = by_case (bytes_eq x.entry.name name) (sym (has_name-turned x.entry.name (names_of xs) name) ∙ h) (first_at_place xs ys name) where
-  by_case : (b : Bool) → (b || has_name (names_of xs) name) ≡ true
-      → (has_name (names_of xs) name ≡ true → (q : SitedPublic)
-      × (slice_get (xs ++ ys) (position_of (λ other. bytes_eq other name) (names_of xs)) ≡ Some q) × (first_named (xs ++ ys) name ≡ Some q))
-      → (q : SitedPublic) × (slice_get (x ∷ (xs ++ ys)) (if b then 0 else suc (position_of (λ other. bytes_eq other name) (names_of xs))) ≡ Some q)
-      × (cond b (Some x) (first_named (xs ++ ys) name) ≡ Some q)
-  by_case true e later = (x, refl, refl)
-  by_case false e later = later e
+first_at_place (x ∷ xs) ys name h = by_case (bytes_eq x.entry.name name) (sym (has_name-turned x.entry.name (names_of xs) name)
+    ∙ h) (first_at_place xs ys name) where
+      by_case : (b : Bool) → (b || has_name (names_of xs) name) ≡ true
+          → (has_name (names_of xs) name ≡ true → (q : SitedPublic)
+          × (slice_get (xs ++ ys) (position_of (λ other. bytes_eq other name) (names_of xs)) ≡ Some q) × (first_named (xs ++ ys) name ≡ Some q))
+          → (q : SitedPublic) × (slice_get (x ∷ (xs ++ ys)) (if b then 0 else suc (position_of (λ other. bytes_eq other name) (names_of xs))) ≡ Some q)
+          × (cond b (Some x) (first_named (xs ++ ys) name) ≡ Some q)
+      by_case true e later = (x, refl, refl)
+      by_case false e later = later e

@@ -1,6 +1,7 @@
 -- Where a plan puts the sections and commons of a list: a base for each section and each common, and the same bases for lists that
 -- have the same sections and commons.
-use Rattle.std.proofs.Common.{◌≡◌, ℕ, zero, suc, ◌+◌, ◌<◌, List, [], ◌∷◌, ◌++◌, map, length, take, drop, Some, None, Bool, true, false, not, refl, sym, ◌∙◌, ap, subst, inl, inr, arith, length-append, zero-add}
+use Rattle.std.proofs.Common.{◌≡◌, ℕ, zero, suc, ◌+◌, ◌<◌, List, [], ◌∷◌, ◌++◌, map, length, take, drop, Some, None, Bool, true, false, not, refl}
+use Rattle.std.proofs.Common.{sym, ◌∙◌, ap, subst, inl, inr, arith, length-append, zero-add}
 use Rattle.std.specs.Prelude.{slice_get, filter, if◌then◌else◌}
 use Rattle.std.specs.List.{enumerate_from, AllByRecursion, IsDistinct}
 use Rattle.std.proofs.lemmas.Option.{slice_get_past}
@@ -16,7 +17,8 @@ use Rattle.mufom_plan.specs.declared.plan.Plan.{Plan}
 use Rattle.mufom_plan.specs.Commons.{has_common}
 use Rattle.mufom_plan.specs.Names.{has_name}
 use Rattle.mufom_place.specs.Bases.{numbered, bases, site_of}
-use Rattle.mufom_meaning.specs.Flat.{distinct, flat_sections, flat_references, unmet_references, public_names, is_common, common_size, same_common, commons, common_names}
+use Rattle.mufom_meaning.specs.Flat.{distinct, flat_sections, flat_references, unmet_references, public_names, is_common, common_size, same_common}
+use Rattle.mufom_meaning.specs.Flat.{commons, common_names}
 use Rattle.mufom_meaning.specs.Placed.{common_section, common_sections, placed_commons, extended_sections, base_list, base_named, planned_bases}
 use Rattle.mufom_meaning.specs.Location.{placed_section, located_sections}
 use Rattle.mufom_meaning.specs.Stands.{StandsIn}
@@ -28,7 +30,8 @@ use Rattle.mufom_meaning.proofs.Members.{In, In-at, In-map, map-In, at-In, In-di
 
 -- each section and each common has a base
 pub bases_count : (plan : Plan) (sections asked : List Section) → length (bases plan sections asked) ≡ length (sections ++ asked)
-bases_count plan sections asked = length-map (numbered (sections ++ asked)) (λ s. (site_of plan sections asked s).base) ∙ length-enumerate_from 0 (sections ++ asked)
+bases_count plan sections asked = length-map (numbered (sections ++ asked)) (λ s. (site_of plan sections asked s).base)
+    ∙ length-enumerate_from 0 (sections ++ asked)
 
 -- the first n elements stand where they stood
 pub get-take : {A : Type 0} (n : ℕ) (xs : List A) (i : ℕ) → i < n → slice_get (take n xs) i ≡ slice_get xs i
@@ -66,17 +69,19 @@ module _ (ms : List Parts) (plan : Plan) where
       ∙ length-append (flat_sections ms) (placed_commons ms plan)
 
 -- a section of this name has a base, where all have one
-named_has_base : (sections : List Section) (placed : List ℕ) (name : List ℕ) → length placed ≡ length sections → (section : Section) → In section sections → section.name ≡ name
+named_has_base : (sections : List Section) (placed : List ℕ) (name : List ℕ) → length placed ≡ length sections → (section : Section)
+    → In section sections → section.name ≡ name
     → base_named sections placed name ≡ None → ⊥
 named_has_base [] placed name count section h named e = h
 named_has_base (x ∷ sections) [] name count section h named e = absurd cc
-named_has_base (x ∷ sections) (base ∷ placed) name count section h named e = by_case (bytes_eq x.name name) refl e h (named_has_base sections placed name (omega (arith, count)) section) where
-  by_case : (b : Bool) → bytes_eq x.name name ≡ b → (if b then Some base else base_named sections placed name) ≡ None → In section (x ∷ sections)
-      → (In section sections → section.name ≡ name → base_named sections placed name ≡ None → ⊥) → ⊥
-  by_case true f e h later = cc
-  by_case false f e (inl same) later =
-      let holds : bytes_eq x.name name ≡ true = (bytes_eq-Decides x.name name).1 (ap (λ (s : Section). s.name) same ∙ named) in cc
-  by_case false f e (inr h) later = later h named e
+named_has_base (x ∷ sections) (base ∷ placed) name count section h named e =
+    by_case (bytes_eq x.name name) refl e h (named_has_base sections placed name (omega (arith, count)) section) where
+      by_case : (b : Bool) → bytes_eq x.name name ≡ b → (if b then Some base else base_named sections placed name) ≡ None → In section (x ∷ sections)
+          → (In section sections → section.name ≡ name → base_named sections placed name ≡ None → ⊥) → ⊥
+      by_case true f e h later = cc
+      by_case false f e (inl same) later =
+          let holds : bytes_eq x.name name ≡ true = (bytes_eq-Decides x.name name).1 (ap (λ (s : Section). s.name) same ∙ named) in cc
+      by_case false f e (inr h) later = later h named e
 
 -- a name of a common is that of one of the pairs
 pub common_there : (ms : List Parts) (name : List ℕ) → has_name (common_names ms) name ≡ true → (size : ℕ) × StandsIn (name, size) (commons ms)
@@ -88,7 +93,8 @@ common_there ms name e =
     (own.0.1, (there.0, there.1 ∙ (λ i. Some (same i, own.0.1))))
 
 -- where a region takes commons each common has a base
-pub common_has_base : (ms : List Parts) (plan : Plan) → has_common plan.regions ≡ true → (name : List ℕ) → has_name (common_names ms) name ≡ true → (planned_bases ms plan).commons name ≡ None → ⊥
+pub common_has_base : (ms : List Parts) (plan : Plan) → has_common plan.regions ≡ true → (name : List ℕ) → has_name (common_names ms) name ≡ true
+    → (planned_bases ms plan).commons name ≡ None → ⊥
 common_has_base ms plan common name e none =
     let found = name_at (common_names ms) name e in
     let among = In-distinct bytes_eq (λ x y. (bytes_eq-Decides x y).0) name (common_names ms) (In-at name (common_names ms) found.0 found.1) in
@@ -101,7 +107,8 @@ common_has_base ms plan common name e none =
     (subst (In (common_section (commons ms) name)) (sym all) there) refl none
 
 -- the base of a common is the one at its position
-named_at_position : (pairs : List (List ℕ × ℕ)) (names : List (List ℕ)) (placed : List ℕ) (n : ℕ) (name : List ℕ) → IsDistinct bytes_eq names → slice_get names n ≡ Some name
+named_at_position : (pairs : List (List ℕ × ℕ)) (names : List (List ℕ)) (placed : List ℕ) (n : ℕ) (name : List ℕ) → IsDistinct bytes_eq names
+    → slice_get names n ≡ Some name
     → base_named (map (common_section pairs) names) placed name ≡ slice_get placed n
 named_at_position pairs [] placed n name d e = absurd cc
 named_at_position pairs (x ∷ names) [] n name d e = sym (slice_get_past [] n (omega arith))
@@ -117,7 +124,8 @@ bases_by_position ms plan = record {
   of_sections = planned_get ms plan;
   of_commons = λ common n name e.
       ap (λ b. base_named (if b then common_sections ms else []) (drop (length (flat_sections ms)) (base_list ms plan)) name) common
-      ∙ named_at_position (commons ms) (distinct bytes_eq (common_names ms)) (drop (length (flat_sections ms)) (base_list ms plan)) n name (IsDistinct-distinct bytes_eq (common_names ms)) e
+      ∙ named_at_position (commons ms) (distinct bytes_eq (common_names ms)) (drop (length (flat_sections ms)) (base_list ms plan)) n name
+      (IsDistinct-distinct bytes_eq (common_names ms)) e
       ∙ get-drop (length (flat_sections ms)) (base_list ms plan) n;
   of_no_common = λ none name. ap (λ b. base_named (if b then common_sections ms else []) (drop (length (flat_sections ms)) (base_list ms plan)) name) none;
 }
@@ -125,7 +133,8 @@ bases_by_position ms plan = record {
 -- Lists with the same sections and the same commons are placed alike.
 module _ (ms ns : List Parts) (sections : flat_sections ms ≡ flat_sections ns) (asked : commons ms ≡ commons ns) (plan : Plan) where
   pub same_placed_commons : placed_commons ms plan ≡ placed_commons ns plan
-  same_placed_commons = ap (λ (pairs : List (List ℕ × ℕ)). if has_common plan.regions then map (common_section pairs) (distinct bytes_eq (map (λ common. common.0) pairs)) else []) asked
+  same_placed_commons = ap (λ (pairs : List (List ℕ × ℕ)). if has_common plan.regions
+      then map (common_section pairs) (distinct bytes_eq (map (λ common. common.0) pairs)) else []) asked
 
   pub same_extended : extended_sections ms plan ≡ extended_sections ns plan
   same_extended = let own = sections in let more = same_placed_commons in λ i. own i ++ more i
@@ -141,7 +150,8 @@ module _ (ms ns : List Parts) (sections : flat_sections ms ≡ flat_sections ns)
 pub common_reference : (ms : List Parts) (plan : Plan) (section : Section) → In section (placed_commons ms plan)
     → (r : Reference) × In r (flat_references ms) × (section ≡ common_section (commons ms) r.name)
 common_reference ms plan section h = by_region (has_common plan.regions) h where
-  by_region : (b : Bool) → In section (if b then common_sections ms else []) → (r : Reference) × In r (flat_references ms) × (section ≡ common_section (commons ms) r.name)
+  by_region : (b : Bool) → In section (if b then common_sections ms else []) → (r : Reference) × In r (flat_references ms)
+      × (section ≡ common_section (commons ms) r.name)
   by_region false h = absurd h
   by_region true h =
       let name = map-In (common_section (commons ms)) section (distinct bytes_eq (common_names ms)) h in

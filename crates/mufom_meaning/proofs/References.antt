@@ -40,7 +40,8 @@ module _ {A : Type 0} (same : A → A → Bool) (decides : (x y : A) → Decides
   Among-distinct x (y ∷ ys) zero e = (zero, e)
   Among-distinct x (y ∷ ys) (suc i) e = among_rest y x (distinct same ys) (same y x) refl (Among-distinct x ys i e)
 
-passes_at_head : {A : Type 0} (test : A → Bool) (x : A) → test x ≡ true → (y : A) (ys : List A) (b : Bool) → test y ≡ b → (i : ℕ) → slice_get (y ∷ ys) i ≡ Some x
+passes_at_head : {A : Type 0} (test : A → Bool) (x : A) → test x ≡ true → (y : A) (ys : List A) (b : Bool) → test y ≡ b → (i : ℕ)
+    → slice_get (y ∷ ys) i ≡ Some x
     → ((i : ℕ) → slice_get ys i ≡ Some x → (z : A) × (slice_get ys (position_of test ys) ≡ Some z) × (test z ≡ true))
     → (z : A) × (slice_get (y ∷ ys) (if b then 0 else suc (position_of test ys)) ≡ Some z) × (test z ≡ true)
 passes_at_head test x passes y ys true h i e later = (y, refl, h)

@@ -35,7 +35,8 @@ sited_from-shifted home s p d (x ∷ xs) =
     let b : (home.first_public + p) + length x.names.publics ≡ home.first_public + (p + length x.names.publics) = add_assoc _ _ _ in
     let c : (home.first_name + d) + name_count (marks_of x.debug) ≡ home.first_name + (d + name_count (marks_of x.debug)) = add_assoc _ _ _ in
     let rest = sited_from-shifted home (s + length x.sections) (p + length x.names.publics) (d + name_count (marks_of x.debug)) xs in
-    let moved : sited_from ((home.first_section + s) + length x.sections) ((home.first_public + p) + length x.names.publics) ((home.first_name + d) + name_count (marks_of x.debug)) xs
+    let moved : sited_from ((home.first_section + s) + length x.sections) ((home.first_public + p) + length x.names.publics)
+    ((home.first_name + d) + name_count (marks_of x.debug)) xs
     ≡ map (shifted home) (sited_from (s + length x.sections) (p + length x.names.publics) (d + name_count (marks_of x.debug)) xs) = rw (a, b, c) rest in
     ap (λ more. shifted home (record { parts = x; first_section = s; first_public = p; first_name = d }) ∷ more) moved
 
@@ -47,7 +48,8 @@ pub next_public-length : (s p d : ℕ) (xs : List Parts) → next_public p xs �
 next_public-length s p d [] = sym (add-zero p)
 next_public-length s p d (x ∷ xs) =
     let rest : next_public (p + length x.names.publics) xs
-    ≡ (p + length x.names.publics) + length (sited_publics (sited_from (s + length x.sections) (p + length x.names.publics) (d + name_count (marks_of x.debug)) xs))
+    ≡ (p + length x.names.publics) + length (sited_publics (sited_from (s + length x.sections) (p + length x.names.publics)
+    (d + name_count (marks_of x.debug)) xs))
     = next_public-length (s + length x.sections) (p + length x.names.publics) (d + name_count (marks_of x.debug)) xs in
     simp (length-append, length-map) (rest ∙ add_assoc _ _ _)
 

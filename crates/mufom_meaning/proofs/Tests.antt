@@ -3,7 +3,8 @@ use Rattle.std.proofs.Common.{◌≡◌, ℕ, zero, suc, ◌+◌, ◌≤◌, ◌
 use Rattle.std.specs.Prelude.{slice_get, nat_le, if◌then◌else◌}
 use Rattle.std.specs.List.{enumerate_from}
 
-pub enumerate_get : {A : Type 0} (k : ℕ) (xs : List A) (i : ℕ) (p : ℕ × A) → slice_get (enumerate_from k xs) i ≡ Some p → (p.0 ≡ k + i) × (slice_get xs i ≡ Some p.1)
+pub enumerate_get : {A : Type 0} (k : ℕ) (xs : List A) (i : ℕ) (p : ℕ × A) → slice_get (enumerate_from k xs) i ≡ Some p → (p.0 ≡ k + i)
+    × (slice_get xs i ≡ Some p.1)
 enumerate_get k [] i p e = absurd cc
 enumerate_get k (x ∷ xs) zero p e = let a : (k, x) ≡ p = cc in let n : k ≡ k + 0 = omega arith in (sym (ap (λ q. q.0) a) ∙ n, ap (λ q. Some q.1) a)
 enumerate_get k (x ∷ xs) (suc i) p e = let rest = enumerate_get (k + 1) xs i p e in let n : (k + 1) + i ≡ k + suc i = omega arith in (rest.0 ∙ n, rest.1)

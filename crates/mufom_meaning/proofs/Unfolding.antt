@@ -21,7 +21,8 @@ use Rattle.mufom_meaning.specs.Walk.{step_fact, steps_fact, walk_answer}
 use Rattle.mufom_meaning.specs.LocateAnswer.{first_undefined, first_unplaced_common, locate_answer, cycle_at, image_limit_at}
 
 -- with no step left a public has no value
-pub value_within-zero : (s : Setting) (site : Sited) (pc : Option ℕ) (t : Tree) → value_within s zero site pc t ≡ value_at s.modulus (environment s (λ site' t'. None) site pc) t
+pub value_within-zero : (s : Setting) (site : Sited) (pc : Option ℕ) (t : Tree) → value_within s zero site pc t
+    ≡ value_at s.modulus (environment s (λ site' t'. None) site pc) t
 unfolding value_within
 value_within-zero s site pc t = refl
 
@@ -38,7 +39,8 @@ counter-none s section = refl
 
 -- a step that sets a counter sets that of its section alone
 pub counter-set : (s : Setting) (earlier : List Step) (site : Sited) (other section : ℕ) (t : Tree)
-    → counter s (counter_step site other t ∷ earlier) section ≡ (if other == section then value s site (counter s earlier section) t else counter s earlier section)
+    → counter s (counter_step site other t ∷ earlier) section ≡ (if other == section then value s site (counter s earlier section) t
+    else counter s earlier section)
 unfolding counter
 counter-set s earlier site other section t = refl
 
@@ -73,7 +75,8 @@ unfolding readings
 readings-debug ms placed = refl
 
 -- a walk over steps meets what the first has, or else what the others have after it
-pub steps_fact-cons : (s : Setting) (earlier : List Step) (step : Step) (more : List Step) → steps_fact s earlier (step ∷ more) ≡ (step_fact s earlier step or_else steps_fact s (step ∷ earlier) more)
+pub steps_fact-cons : (s : Setting) (earlier : List Step) (step : Step) (more : List Step) → steps_fact s earlier (step ∷ more)
+    ≡ (step_fact s earlier step or_else steps_fact s (step ∷ earlier) more)
 steps_fact-cons s earlier step more = refl
 
 -- the answers in their order

@@ -12,7 +12,8 @@ use Rattle.mufom_debug.specs.Marks.{DebugMark, block_begin, block_end, name_mark
 use Rattle.mufom_module.specs.declared.module.Parts.{Parts}
 use Rattle.mufom_module.specs.declared.module.Defect.TheVariants as d
 use Rattle.mufom_module.specs.Contents.{debug_marks, any_of, any_expression, placed_loads}
-use Rattle.mufom_module.specs.Defects.{has_defect, IsValid, counts_of, count_for, is_outside, names_outside, has_bad_place, has_bad_mark, begins_badly, declared_after, has_other_counter, is_other_counter, misplaces_counter}
+use Rattle.mufom_module.specs.Defects.{has_defect, IsValid, counts_of, count_for, is_outside, names_outside, has_bad_place, has_bad_mark}
+use Rattle.mufom_module.specs.Defects.{begins_badly, declared_after, has_other_counter, is_other_counter, misplaces_counter}
 use Rattle.mufom_meaning.proofs.NoDefects.{no_defect}
 use Rattle.mufom_meaning.proofs.Tests.{either_false}
 use Rattle.mufom_meaning.proofs.Members.{In, fails-In}
@@ -49,10 +50,13 @@ module _ (m : Parts) (valid : IsValid m) where
   positions : has_defect m d.Position ≡ false
   positions = no_defect m valid d.Position
 
-  after_publics : (list_any (has_bad_place (counts_of m)) m.loads || (list_any (has_bad_mark (counts_of m)) (debug_marks m) || (any_of (names_outside (counts_of m)) m.start || is_none (declared_after 0 (debug_marks m))))) ≡ false
+  after_publics : (list_any (has_bad_place (counts_of m)) m.loads
+      || (list_any (has_bad_mark (counts_of m)) (debug_marks m)
+      || (any_of (names_outside (counts_of m)) m.start || is_none (declared_after 0 (debug_marks m))))) ≡ false
   after_publics = (either_false (list_any (λ p. names_outside (counts_of m) p.value) m.names.publics) _ positions).1
 
-  after_loads : (list_any (has_bad_mark (counts_of m)) (debug_marks m) || (any_of (names_outside (counts_of m)) m.start || is_none (declared_after 0 (debug_marks m)))) ≡ false
+  after_loads : (list_any (has_bad_mark (counts_of m)) (debug_marks m)
+      || (any_of (names_outside (counts_of m)) m.start || is_none (declared_after 0 (debug_marks m)))) ≡ false
   after_loads = (either_false (list_any (has_bad_place (counts_of m)) m.loads) _ after_publics).1
 
   after_marks : (any_of (names_outside (counts_of m)) m.start || is_none (declared_after 0 (debug_marks m))) ≡ false
@@ -69,13 +73,16 @@ module _ (m : Parts) (valid : IsValid m) where
 
   pub mark_inside : (mark : DebugMark) → In mark (debug_marks m) → (t : Tree) → In t (mark_expressions mark) → IsInside m t
   mark_inside mark h t k =
-      let good = fails-In (has_bad_mark (counts_of m)) (debug_marks m) (either_false (list_any (has_bad_mark (counts_of m)) (debug_marks m)) _ after_loads).0 mark h in
+      let good = fails-In (has_bad_mark (counts_of m)) (debug_marks m)
+      (either_false (list_any (has_bad_mark (counts_of m)) (debug_marks m)) _ after_loads).0 mark h in
       inside m t (in_mark (names_outside (counts_of m)) mark (either_false (begins_badly (counts_of m) mark) _ good).1 t k)
 
   pub start_inside : (t : Tree) → In t (option_to_list m.start) → IsInside m t
-  start_inside t h = inside m t (any_option (names_outside (counts_of m)) m.start (either_false (any_of (names_outside (counts_of m)) m.start) _ after_marks).0 t h)
+  start_inside t h = inside m t (any_option (names_outside (counts_of m)) m.start
+      (either_false (any_of (names_outside (counts_of m)) m.start) _ after_marks).0 t h)
 
-  counters_after_publics : (any_of (has_other_counter None) m.start || (list_any (any_expression (has_other_counter None)) (debug_marks m) || list_any misplaces_counter (placed_loads m))) ≡ false
+  counters_after_publics : (any_of (has_other_counter None) m.start
+      || (list_any (any_expression (has_other_counter None)) (debug_marks m) || list_any misplaces_counter (placed_loads m))) ≡ false
   counters_after_publics = (either_false (list_any (λ p. has_other_counter None p.value) m.names.publics) _ counters).1
 
   counters_after_start : (list_any (any_expression (has_other_counter None)) (debug_marks m) || list_any misplaces_counter (placed_loads m)) ≡ false
@@ -88,8 +95,10 @@ module _ (m : Parts) (valid : IsValid m) where
   public_free p h = counter_free p.value (fails-In (λ p. has_other_counter None p.value) m.names.publics (either_false _ _ counters).0 p h)
 
   pub start_free : (t : Tree) → In t (option_to_list m.start) → (k : ℕ) → In (letters.P, k) (variables_of t) → ⊥
-  start_free t h = counter_free t (any_option (has_other_counter None) m.start (either_false (any_of (has_other_counter None) m.start) _ counters_after_publics).0 t h)
+  start_free t h = counter_free t (any_option (has_other_counter None) m.start
+      (either_false (any_of (has_other_counter None) m.start) _ counters_after_publics).0 t h)
 
   pub mark_free : (mark : DebugMark) → In mark (debug_marks m) → (t : Tree) → In t (mark_expressions mark) → (k : ℕ) → In (letters.P, k) (variables_of t) → ⊥
   mark_free mark h t k =
-      counter_free t (in_mark (has_other_counter None) mark (fails-In (any_expression (has_other_counter None)) (debug_marks m) (either_false (list_any (any_expression (has_other_counter None)) (debug_marks m)) _ counters_after_start).0 mark h) t k)
+      counter_free t (in_mark (has_other_counter None) mark (fails-In (any_expression (has_other_counter None)) (debug_marks m)
+      (either_false (list_any (any_expression (has_other_counter None)) (debug_marks m)) _ counters_after_start).0 mark h) t k)

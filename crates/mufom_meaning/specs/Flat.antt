@@ -1,5 +1,6 @@
 -- A list of modules as one: the entries of all its modules in order, with their flat numbers (IEEE Std 695, module structure).
-use Rattle.std.specs.Prelude.{ℕ, ◌+◌, ◌*◌, ◌==◌, List, [], ◌∷◌, map, length, filter, find, flat_map, Option, Some, None, is_none, Bool, not, ◌&&◌, option_to_list}
+use Rattle.std.specs.Prelude.{ℕ, ◌+◌, ◌*◌, ◌==◌, List, [], ◌∷◌, map, length, filter, find, flat_map, Option, Some, None, is_none, Bool, not, ◌&&◌}
+use Rattle.std.specs.Prelude.{option_to_list}
 use Rattle.std.specs.Str.{bytes_eq}
 use Rattle.mufom_expr.specs.Tree.{Tree}
 use Rattle.mufom_sections.specs.declared.section.Section.{Section}

@@ -1,5 +1,6 @@
 -- A partial link: one module in the place of a list of modules.
-use Rattle.std.specs.Prelude.{◌≡◌, ℕ, suc, ◌+◌, ◌==◌, List, [], ◌∷◌, map, length, flat_map, Option, Some, None, option_map, option_to_list, slice_get, Bool, true, false, ◌&&◌, if◌then◌else◌}
+use Rattle.std.specs.Prelude.{◌≡◌, ℕ, suc, ◌+◌, ◌==◌, List, [], ◌∷◌, map, length, flat_map, Option, Some, None, option_map, option_to_list, slice_get}
+use Rattle.std.specs.Prelude.{Bool, true, false, ◌&&◌, if◌then◌else◌}
 use Rattle.std.specs.Str.{bytes_eq}
 use Rattle.std.specs.Cmp.Lexicographic.{pointwise}
 use Rattle.mufom_expr.specs.declared.token.Letter.{Letter}

@@ -13,7 +13,8 @@ use Rattle.mufom_meaning.specs.declared.located.PublicValue.{PublicValue}
 use Rattle.mufom_meaning.specs.declared.located.LocatedParts.{LocatedParts}
 use Rattle.mufom_meaning.specs.Flat.{width}
 use Rattle.mufom_meaning.specs.Placed.{extended_sections, base_list, planned_bases}
-use Rattle.mufom_meaning.specs.Readings.{readings, PublicReading, HeadReading, module_head, global_head, local_head, source_head, section_head, MarkReading, begin_reading, end_reading, name_reading, note_reading, value_reading}
+use Rattle.mufom_meaning.specs.Readings.{readings, PublicReading, HeadReading, module_head, global_head, local_head, source_head, section_head}
+use Rattle.mufom_meaning.specs.Readings.{MarkReading, begin_reading, end_reading, name_reading, note_reading, value_reading}
 use Rattle.mufom_meaning.specs.LinkAnswer.{link_answer}
 use Rattle.mufom_meaning.specs.LocateAnswer.{locate_answer}
 use Rattle.mufom_meaning.specs.AddressMap.{AreRowsOf, address_map}

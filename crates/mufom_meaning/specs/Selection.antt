@@ -1,5 +1,6 @@
 -- Which members are selected for a list of modules.
-use Rattle.std.specs.Prelude.{ℕ, suc, List, [], ◌∷◌, map, filter, flat_map, Option, Some, None, slice_get, Bool, true, ◌&&◌, ◌||◌, if◌then◌else◌, IsTrue, Contains}
+use Rattle.std.specs.Prelude.{ℕ, suc, List, [], ◌∷◌, map, filter, flat_map, Option, Some, None, slice_get, Bool, true, ◌&&◌, ◌||◌, if◌then◌else◌}
+use Rattle.std.specs.Prelude.{IsTrue, Contains}
 use Rattle.std.specs.List.{list_all}
 use Rattle.std.specs.List.Sorted.{IsStrictlyIncreasing}
 use Rattle.mufom_module.specs.declared.module.Parts.{Parts}

@@ -18,7 +18,8 @@ use Rattle.mufom_meaning.specs.Flat.{Sited, SitedPublic, public_names, flat_star
 use Rattle.mufom_meaning.specs.Values.{Setting, setting, value, has_zero_divisor}
 use Rattle.mufom_meaning.specs.Placed.{placed_commons, planned_bases}
 use Rattle.mufom_meaning.specs.Steps.{Step, counter_step, item_step, steps, counter}
-use Rattle.mufom_meaning.specs.Facts.{descriptor, LinkFact, mismatch, duplicate, duplicate_start, LocateFact, undefined, common_unplaced, cycle, image_limit, zero_divisor, load_outside, loaded_twice, overflow, placement}
+use Rattle.mufom_meaning.specs.Facts.{descriptor, LinkFact, mismatch, duplicate, duplicate_start, LocateFact, undefined, common_unplaced, cycle}
+use Rattle.mufom_meaning.specs.Facts.{image_limit, zero_divisor, load_outside, loaded_twice, overflow, placement}
 use Rattle.mufom_meaning.specs.Cycles.{IsOnCycle}
 use Rattle.mufom_meaning.specs.Walk.{size_at, loaded_addresses, SitedTree, start_trees, debug_trees, base_number}
 use Rattle.mufom_meaning.specs.Counts.{loaded_total}

@@ -1,5 +1,6 @@
 -- What is met on a walk over the publics, steps, starts and debug expressions of a list of modules, and which of it first.
-use Rattle.std.specs.Prelude.{ℕ, zero, suc, ◌+◌, ◌%◌, ◌==◌, List, [], ◌∷◌, ◌++◌, map, flat_map, Option, Some, None, option_map, slice_get, unwrap_or, Bool, ◌||◌, nat_lt, nat_le, if◌then◌else◌, option_to_list}
+use Rattle.std.specs.Prelude.{ℕ, zero, suc, ◌+◌, ◌%◌, ◌==◌, List, [], ◌∷◌, ◌++◌, map, flat_map, Option, Some, None, option_map, slice_get, unwrap_or}
+use Rattle.std.specs.Prelude.{Bool, ◌||◌, nat_lt, nat_le, if◌then◌else◌, option_to_list}
 use Rattle.std.specs.List.{enumerate_from, list_any}
 use Rattle.mufom_expr.specs.declared.token.FieldKind.{FieldKind}
 use Rattle.mufom_expr.specs.Tree.{Tree}

@@ -1,7 +1,8 @@
 //! Laws of values, locations and selections, each the contract of a function that does nothing.
 
 ghost use Rattle.mufom_meaning.specs.Valued.{NoneByDivision, ValuesExist};
-ghost use Rattle.mufom_meaning.specs.LocationLaws.{AllValued, LocationsExist, LocationIsSingle, AbsoluteIsLocatedAsItself, AbsoluteIsValid, AbsoluteWeighs, SelectionIsSingle};
+ghost use Rattle.mufom_meaning.specs.LocationLaws.{AllValued, LocationsExist, LocationIsSingle, AbsoluteIsLocatedAsItself, AbsoluteIsValid};
+ghost use Rattle.mufom_meaning.specs.LocationLaws.{AbsoluteWeighs, SelectionIsSingle};
 
 /// Where no link fact stands, and none that needs no walk, an expression of modules without a
 /// defect has no value exactly where it, or a public or a counter that it goes through, divides by 0.

@@ -1,6 +1,7 @@
 //! Laws of staging, each the contract of a function that does nothing.
 
-ghost use Rattle.mufom_meaning.specs.StagingLaws.{JoinedStandsFor, JoinedComposes, JoinedIsSingle, JoinedIsValid, LinkAnswersAgree, LinkFactsAgree, AllGroupsAnswer, FactsAgree, SelectionAgrees, StagedMeansTheSame};
+ghost use Rattle.mufom_meaning.specs.StagingLaws.{JoinedStandsFor, JoinedComposes, JoinedIsSingle, JoinedIsValid, LinkAnswersAgree, LinkFactsAgree};
+ghost use Rattle.mufom_meaning.specs.StagingLaws.{AllGroupsAnswer, FactsAgree, SelectionAgrees, StagedMeansTheSame};
 
 /// A partial link of modules without a defect stands for its list: in every context in which no
 /// public name stands twice, and wherever sections and commons stand, it means what the list means.

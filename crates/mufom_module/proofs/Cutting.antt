@@ -1,6 +1,7 @@
 -- Records cut off bytes one after another, by reading each where the one before it ends: they are whole, so that the
 -- grammar of a file can be computed.
-use Rattle.std.proofs.Common.{◌≡◌, ℕ, zero, suc, ◌<◌, ◌≤◌, Bool, true, false, not, ◌&&◌, nat_lt, nat_le, cond, List, [], ◌∷◌, ◌++◌, length, take, drop, Option, Some, None, refl, sym, ap, subst, ◌∙◌, arith}
+use Rattle.std.proofs.Common.{◌≡◌, ℕ, zero, suc, ◌<◌, ◌≤◌, Bool, true, false, not, ◌&&◌, nat_lt, nat_le, cond, List, [], ◌∷◌, ◌++◌, length, take}
+use Rattle.std.proofs.Common.{drop, Option, Some, None, refl, sym, ap, subst, ◌∙◌, arith}
 use Rattle.std.specs.List.{list_all}
 use Rattle.std.proofs.lemmas.List.{take-append-le, drop-append-le, take-append-drop}
 use Rattle.mufom_numbers.specs.declared.taken.Taken.{Taken}
@@ -14,7 +15,8 @@ use Rattle.mufom_records.specs.Reading.{record_at}
 use Rattle.mufom_records.proofs.RecordLaws.{record_at-got}
 use Rattle.mufom_module.specs.SpelledRecords.{SpelledRecord, bytes_of}
 use Rattle.mufom_module.specs.RecordParts.{Part, stands_in, opens_items, mode_of}
-use Rattle.mufom_module.specs.Grammar.{header_modes, AreOfModes, AreWhole, IsPart, file_limit, declares_again, states_again, names_unknown, has_no_section, Follows, FollowFrom}
+use Rattle.mufom_module.specs.Grammar.{header_modes, AreOfModes, AreWhole, IsPart, file_limit, declares_again, states_again, names_unknown}
+use Rattle.mufom_module.specs.Grammar.{has_no_section, Follows, FollowFrom}
 
 -- ---- tests
 
@@ -47,7 +49,8 @@ cut_by bytes (Bad offset reason) rest = None
 abbrev pub cut : ℕ → Bool → List ℕ → List ℕ → Option (List SpelledRecord)
 cut zero items bytes after = None
 cut (suc n) items [] after = Some []
-cut (suc n) items (b ∷ bytes) after = cut_by (b ∷ bytes) (record_at (mode_of items (b ∷ bytes)) ((b ∷ bytes) ++ after)) (λ row used. cut n (opens_items row) (drop used (b ∷ bytes)) after)
+cut (suc n) items (b ∷ bytes) after = cut_by (b ∷ bytes) (record_at (mode_of items (b ∷ bytes)) ((b ∷ bytes) ++ after))
+    (λ row used. cut n (opens_items row) (drop used (b ∷ bytes)) after)
 
 -- a record of each mode
 abbrev pub cut_modes : List Mode → List ℕ → List ℕ → Option (List SpelledRecord)
@@ -77,7 +80,8 @@ cond-some : {X : Type 0} (b : Bool) (o : Option X) (x : X) → cond b o None ≡
 cond-some true o x h = (refl, h)
 cond-some false o x h = cc
 
-with-some : (p : SpelledRecord) (o : Option (List SpelledRecord)) (records : List SpelledRecord) → with_record p o ≡ Some records → (others : List SpelledRecord) × (o ≡ Some others) × (records ≡ p ∷ others)
+with-some : (p : SpelledRecord) (o : Option (List SpelledRecord)) (records : List SpelledRecord) → with_record p o ≡ Some records
+    → (others : List SpelledRecord) × (o ≡ Some others) × (records ≡ p ∷ others)
 with-some p None records h = cc
 with-some p (Some others) records h = let e : p ∷ others ≡ records = cc in (others, refl, sym e)
 
@@ -87,8 +91,10 @@ at_most a b h = grind arith
 positive : (a : ℕ) → nat_lt 0 a ≡ true → 0 < a
 positive a h = grind arith
 
-cut_off : (m : Mode) (bytes after : List ℕ) (rest : Record → ℕ → Option (List SpelledRecord)) (records : List SpelledRecord) (answer : Taken Record) → AreBytes (bytes ++ after)
-    → IfGot answer (λ row used. (used ≤ length (bytes ++ after)) × IsWholeRecord m row (take used (bytes ++ after)) (first_of (drop used (bytes ++ after)) None))
+cut_off : (m : Mode) (bytes after : List ℕ) (rest : Record → ℕ → Option (List SpelledRecord)) (records : List SpelledRecord) (answer : Taken Record)
+    → AreBytes (bytes ++ after)
+    → IfGot answer (λ row used. (used ≤ length (bytes ++ after))
+    × IsWholeRecord m row (take used (bytes ++ after)) (first_of (drop used (bytes ++ after)) None))
     → cut_by bytes answer rest ≡ Some records → IsCutOff m bytes after rest records
 cut_off m bytes after rest records More fits got h = cc
 cut_off m bytes after rest records (Bad offset reason) fits got h = cc
@@ -104,7 +110,8 @@ cut_off m bytes after rest records (Got row used) fits got h =
       used = used;
       others = made.0;
       some = positive used used_is.0;
-      is_whole = subst (λ (l : List ℕ). IsWholeRecord m row (take used bytes) (first_of l None)) back (subst (λ (l : List ℕ). IsWholeRecord m row l (first_of (drop used (bytes ++ after)) None)) prefix got.1);
+      is_whole = subst (λ (l : List ℕ). IsWholeRecord m row (take used bytes) (first_of l None)) back
+          (subst (λ (l : List ℕ). IsWholeRecord m row l (first_of (drop used (bytes ++ after)) None)) prefix got.1);
       fits = subst (λ (l : List ℕ). AreBytes l) back (AreBytes-drop used (bytes ++ after) fits);
       gives = made.1;
       are = made.2;
@@ -116,27 +123,34 @@ mode_of-take items zero b bytes h = absurd (omega (arith, h))
 mode_of-take items (suc used) b bytes h = refl
 
 -- the records of a part are whole, and have its bytes
-pub cut-whole : (n : ℕ) (items : Bool) (bytes after : List ℕ) (records : List SpelledRecord) → AreBytes (bytes ++ after) → cut n items bytes after ≡ Some records
+pub cut-whole : (n : ℕ) (items : Bool) (bytes after : List ℕ) (records : List SpelledRecord) → AreBytes (bytes ++ after) → cut n items bytes after
+    ≡ Some records
     → AreWhole items records after × (bytes_of records ≡ bytes)
 cut-whole zero items bytes after records fits h = cc
-cut-whole (suc n) items [] after records fits h = let e : [] ≡ records = cc in subst (λ (l : List SpelledRecord). AreWhole items l after × (bytes_of l ≡ [])) e (tt, refl)
+cut-whole (suc n) items [] after records fits h = let e : [] ≡ records = cc in
+    subst (λ (l : List SpelledRecord). AreWhole items l after × (bytes_of l ≡ [])) e (tt, refl)
 cut-whole (suc n) items (b ∷ bytes) after records fits h =
     let all = b ∷ bytes in
     let m = mode_of items all in
-    let first = cut_off m all after (λ row used. cut n (opens_items row) (drop used all) after) records (record_at m (all ++ after)) fits (record_at-got m (all ++ after) fits) h in
+    let first = cut_off m all after (λ row used. cut n (opens_items row) (drop used all) after) records (record_at m (all ++ after)) fits
+    (record_at-got m (all ++ after) fits) h in
     let later = cut-whole n (opens_items first.row) (drop first.used all) after first.others first.fits first.gives in
     let its = subst (λ (l : List ℕ). IsWholeRecord m first.row (take first.used all) (first_of (l ++ after) None)) (sym later.1) first.is_whole in
-    let so = subst (λ (mode : Mode). IsWholeRecord mode first.row (take first.used all) (first_of (bytes_of first.others ++ after) None)) (sym (mode_of-take items first.used b bytes first.some)) its in
+    let so = subst (λ (mode : Mode). IsWholeRecord mode first.row (take first.used all) (first_of (bytes_of first.others ++ after) None))
+    (sym (mode_of-take items first.used b bytes first.some)) its in
     subst (λ (l : List SpelledRecord). AreWhole items l after × (bytes_of l ≡ all)) (sym first.are)
     ((so, later.0), ap (λ l. take first.used all ++ l) later.1 ∙ take-append-drop first.used all)
 
 -- and those of a header
-pub cut_modes-whole : (modes : List Mode) (bytes after : List ℕ) (records : List SpelledRecord) → AreBytes (bytes ++ after) → cut_modes modes bytes after ≡ Some records
+pub cut_modes-whole : (modes : List Mode) (bytes after : List ℕ) (records : List SpelledRecord) → AreBytes (bytes ++ after)
+    → cut_modes modes bytes after ≡ Some records
     → AreOfModes modes records after × (bytes_of records ≡ bytes)
-cut_modes-whole [] [] after records fits h = let e : [] ≡ records = cc in subst (λ (l : List SpelledRecord). AreOfModes [] l after × (bytes_of l ≡ [])) e (tt, refl)
+cut_modes-whole [] [] after records fits h = let e : [] ≡ records = cc in
+    subst (λ (l : List SpelledRecord). AreOfModes [] l after × (bytes_of l ≡ [])) e (tt, refl)
 cut_modes-whole [] (b ∷ bytes) after records fits h = cc
 cut_modes-whole (m ∷ modes) bytes after records fits h =
-    let first = cut_off m bytes after (λ row used. cut_modes modes (drop used bytes) after) records (record_at m (bytes ++ after)) fits (record_at-got m (bytes ++ after) fits) h in
+    let first = cut_off m bytes after (λ row used. cut_modes modes (drop used bytes) after) records (record_at m (bytes ++ after)) fits
+    (record_at-got m (bytes ++ after) fits) h in
     let later = cut_modes-whole modes (drop first.used bytes) after first.others first.fits first.gives in
     let its = subst (λ (l : List ℕ). IsWholeRecord m first.row (take first.used bytes) (first_of (l ++ after) None)) (sym later.1) first.is_whole in
     subst (λ (l : List SpelledRecord). AreOfModes (m ∷ modes) l after × (bytes_of l ≡ bytes)) (sym first.are)
@@ -157,7 +171,8 @@ not-true false h = refl
 
 follows-by_test : (before : List SpelledRecord) (p : SpelledRecord) → follows before p ≡ true → Follows before p
 follows-by_test before p h =
-    let one = and-both (not (declares_again before p.row)) (not (names_unknown before p) && (not (states_again before p.row) && not (has_no_section before p.row))) h in
+    let one = and-both (not (declares_again before p.row)) (not (names_unknown before p)
+    && (not (states_again before p.row) && not (has_no_section before p.row))) h in
     let two = and-both (not (names_unknown before p)) (not (states_again before p.row) && not (has_no_section before p.row)) one.1 in
     let three = and-both (not (states_again before p.row)) (not (has_no_section before p.row)) two.1 in
     record {
@@ -184,7 +199,8 @@ is_part part records after small cuts own = record {
 
 pub is_header : (records : List SpelledRecord) (after : List ℕ) → list_all (λ b. nat_lt b 256) (bytes_of records ++ after) ≡ true
     → cut_modes header_modes (bytes_of records) after ≡ Some records → AreOfModes header_modes records after
-is_header records after small cuts = (cut_modes-whole header_modes (bytes_of records) after records (are_bytes-by_test (bytes_of records ++ after) small) cuts).0
+is_header records after small cuts = (cut_modes-whole header_modes (bytes_of records) after records
+    (are_bytes-by_test (bytes_of records ++ after) small) cuts).0
 
 pub is_within : (bytes : List ℕ) → nat_le (length bytes) file_limit ≡ true → length bytes ≤ file_limit
 is_within bytes h = at_most (length bytes) file_limit h

@@ -1,5 +1,6 @@
 -- A file is one module: its bytes determine its records, its parts, and what they state.
-use Rattle.std.proofs.Common.{◌≡◌, ◌⊎◌, ℕ, zero, suc, ◌+◌, ◌<◌, Bool, true, false, List, [], ◌∷◌, ◌++◌, length, Option, Some, None, refl, sym, ap, subst, ◌∙◌, inl, inr, arith, append_assoc}
+use Rattle.std.proofs.Common.{◌≡◌, ◌⊎◌, ℕ, zero, suc, ◌+◌, ◌<◌, Bool, true, false, List, [], ◌∷◌, ◌++◌, length, Option, Some, None, refl, sym, ap}
+use Rattle.std.proofs.Common.{subst, ◌∙◌, inl, inr, arith, append_assoc}
 use Rattle.std.specs.Prelude.{MatchBool, option_to_list}
 use Rattle.std.proofs.lemmas.List.{append-nil, length-append}
 use Rattle.mufom_records.specs.declared.record.Mode.{Mode}
@@ -17,7 +18,9 @@ use Rattle.mufom_module.specs.declared.module.Parts.{Parts}
 use Rattle.mufom_module.specs.SpelledRecords.{SpelledRecord, bytes_of}
 use Rattle.mufom_module.specs.RecordParts.{opens_items, mode_of}
 use Rattle.mufom_module.specs.Gathered.{loads_of}
-use Rattle.mufom_module.specs.Grammar.{FileParts, header_of, parts_of, module_end, from_trailer, from_loads, from_debug, from_externals, after_header, AreOfModes, header_modes, AreWhole, offsets_in, StandAt, IsCutInto, indexes_of, NamesModule, Describes, IsLetterOf, States, SpellsModule}
+use Rattle.mufom_module.specs.Grammar.{FileParts, header_of, parts_of, module_end, from_trailer, from_loads, from_debug, from_externals, after_header}
+use Rattle.mufom_module.specs.Grammar.{AreOfModes, header_modes, AreWhole, offsets_in, StandAt, IsCutInto, indexes_of, NamesModule, Describes}
+use Rattle.mufom_module.specs.Grammar.{IsLetterOf, States, SpellsModule}
 
 -- ---- lists
 
@@ -43,14 +46,16 @@ same_record : (p q : SpelledRecord) → p.row ≡ q.row → p.bytes ≡ q.bytes 
 same_record p q row bytes = λ i. as_record (row i) (bytes i)
 
 -- two records of one mode at one place
-one_spelled : (m : Mode) (p q : SpelledRecord) (rest more : List ℕ) → IsWholeRecord m p.row p.bytes (first_of rest None) → IsWholeRecord m q.row q.bytes (first_of more None)
+one_spelled : (m : Mode) (p q : SpelledRecord) (rest more : List ℕ) → IsWholeRecord m p.row p.bytes (first_of rest None)
+    → IsWholeRecord m q.row q.bytes (first_of more None)
     → p.bytes ++ rest ≡ q.bytes ++ more → (p ≡ q) × (rest ≡ more)
 one_spelled m p q rest more first second same =
     let one = one_record m p.row q.row p.bytes rest q.bytes more first second same in
     (same_record p q one.0 one.1, same_after p.bytes rest more (same ∙ ap (λ (l : List ℕ). l ++ more) (sym one.1)))
 
 no_record : (row : Record) (bytes : List ℕ) (next : Option ℕ) → IsWholeRecord mode.Body row bytes next → bytes ≡ [] → ⊥
-no_record row bytes next (x, prefix, back, first, others, split) none = absurd (let e : x ∷ back ≡ [] = ap (λ (l : List ℕ). l ++ back) (sym first) ∙ sym split ∙ none in cc)
+no_record row bytes next (x, prefix, back, first, others, split) none =
+    absurd (let e : x ∷ back ≡ [] = ap (λ (l : List ℕ). l ++ back) (sym first) ∙ sym split ∙ none in cc)
 
 no_item : (items : Bool) → mode_of items [] ≡ mode.Body
 no_item true = refl
@@ -73,7 +78,8 @@ empty_prefix (x ∷ xs) ys e = absurd cc
 
 -- ---- the header
 
-header_once : (modes : List Mode) (ps qs : List SpelledRecord) (after more : List ℕ) → AreOfModes modes ps after → AreOfModes modes qs more → bytes_of ps ++ after ≡ bytes_of qs ++ more
+header_once : (modes : List Mode) (ps qs : List SpelledRecord) (after more : List ℕ) → AreOfModes modes ps after → AreOfModes modes qs more
+    → bytes_of ps ++ after ≡ bytes_of qs ++ more
     → (ps ≡ qs) × (after ≡ more)
 header_once [] [] [] after more first second same = (refl, same)
 header_once [] [] (q ∷ qs) after more first second same = absurd second
@@ -88,10 +94,13 @@ header_once (m ∷ modes) (p ∷ ps) (q ∷ qs) after more first second same =
 
 -- ---- the records of a part
 
-records_once : (items : Bool) (ps qs : List SpelledRecord) (after : List ℕ) → AreWhole items ps after → AreWhole items qs after → bytes_of ps ≡ bytes_of qs → ps ≡ qs
+records_once : (items : Bool) (ps qs : List SpelledRecord) (after : List ℕ) → AreWhole items ps after → AreWhole items qs after → bytes_of ps
+    ≡ bytes_of qs → ps ≡ qs
 records_once items [] [] after first second same = refl
-records_once items [] (q ∷ qs) after first second same = absurd (none_spelled items q (first_of (bytes_of qs ++ after) None) second.0 (empty_prefix q.bytes (bytes_of qs) (sym same)))
-records_once items (p ∷ ps) [] after first second same = absurd (none_spelled items p (first_of (bytes_of ps ++ after) None) first.0 (empty_prefix p.bytes (bytes_of ps) same))
+records_once items [] (q ∷ qs) after first second same = absurd
+    (none_spelled items q (first_of (bytes_of qs ++ after) None) second.0 (empty_prefix q.bytes (bytes_of qs) (sym same)))
+records_once items (p ∷ ps) [] after first second same = absurd
+    (none_spelled items p (first_of (bytes_of ps ++ after) None) first.0 (empty_prefix p.bytes (bytes_of ps) same))
 records_once items (p ∷ ps) (q ∷ qs) after first second same =
     let some = none_spelled items p (first_of (bytes_of ps ++ after) None) first.0 in
     let any = none_spelled items q (first_of (bytes_of qs ++ after) None) second.0 in
@@ -140,9 +149,11 @@ after_last w offsets at e = cc
 
 too_many : (offsets : List ℕ) (at : ℕ) (part : List ℕ) (parts : List (List ℕ)) → offsets ≡ at ∷ [] → StandAt offsets at (part ∷ parts) → ⊥
 too_many [] at part parts e stand = stand
-too_many (w ∷ offsets) at part parts e stand = none_left (at + length part) parts (subst (λ (l : List ℕ). StandAt l (at + length part) parts) (after_last w offsets at e) stand.1)
+too_many (w ∷ offsets) at part parts e stand = none_left (at + length part) parts
+    (subst (λ (l : List ℕ). StandAt l (at + length part) parts) (after_last w offsets at e) stand.1)
 
-parts_once : (offsets : List ℕ) (at : ℕ) (xs ys : List (List ℕ)) (after : List ℕ) → 0 < at → StandAt offsets at xs → StandAt offsets at ys → chain xs after ≡ chain ys after → xs ≡ ys
+parts_once : (offsets : List ℕ) (at : ℕ) (xs ys : List (List ℕ)) (after : List ℕ) → 0 < at → StandAt offsets at xs → StandAt offsets at ys
+    → chain xs after ≡ chain ys after → xs ≡ ys
 parts_once offsets at [] [] after h first second same = refl
 parts_once offsets at [] (y ∷ ys) after h first second same = absurd (too_many offsets at y ys first second)
 parts_once offsets at (x ∷ xs) [] after h first second same = absurd (too_many offsets at x xs second first)
@@ -174,10 +185,12 @@ abbrev bytes_rest : List (List ℕ) → List (List ℕ)
 bytes_rest [] = []
 bytes_rest (_ ∷ xs) = xs
 
-debug_once : (reads_debug : Bool) (ps qs : List SpelledRecord) (skipped passed after : List ℕ) → MatchBool reads_debug (skipped ≡ []) (ps ≡ []) → MatchBool reads_debug (passed ≡ []) (qs ≡ [])
+debug_once : (reads_debug : Bool) (ps qs : List SpelledRecord) (skipped passed after : List ℕ) → MatchBool reads_debug (skipped ≡ []) (ps ≡ [])
+    → MatchBool reads_debug (passed ≡ []) (qs ≡ [])
     → AreWhole false ps after → AreWhole false qs after → bytes_of ps ++ skipped ≡ bytes_of qs ++ passed → (ps ≡ qs) × (skipped ≡ passed)
 debug_once true ps qs skipped passed after none also first second same =
-    let bytes = sym (append-nil (bytes_of ps)) ∙ ap (λ (l : List ℕ). bytes_of ps ++ l) (sym none) ∙ same ∙ ap (λ (l : List ℕ). bytes_of qs ++ l) also ∙ append-nil (bytes_of qs) in
+    let bytes = sym (append-nil (bytes_of ps)) ∙ ap (λ (l : List ℕ). bytes_of ps ++ l) (sym none) ∙ same ∙ ap (λ (l : List ℕ). bytes_of qs ++ l) also
+    ∙ append-nil (bytes_of qs) in
     (records_once false ps qs after first second bytes, none ∙ sym also)
 debug_once false ps qs skipped passed after none also first second same =
     (none ∙ sym also, ap (λ (l : List SpelledRecord). bytes_of l ++ skipped) (sym none) ∙ same ∙ ap (λ (l : List SpelledRecord). bytes_of l ++ passed) also)
@@ -192,12 +205,15 @@ positive_header f after is = some f.begin.bytes refl where
 
 one_file : (bytes : List ℕ) (reads_debug : Bool) (f g : FileParts) → IsCutInto bytes reads_debug f → IsCutInto bytes reads_debug g → f ≡ g
 one_file bytes reads_debug f g first second =
-    let header = header_once header_modes (header_of f) (header_of g) (after_header f) (after_header g) first.header second.header (sym first.all ∙ second.all) in
+    let header = header_once header_modes (header_of f) (header_of g) (after_header f) (after_header g) first.header second.header (sym first.all
+    ∙ second.all) in
     let begin = ap (λ (l : List SpelledRecord). the_first l f.begin) header.0 in
     let descriptor = ap (λ (l : List SpelledRecord). the_first (the_rest l) f.begin) header.0 in
     let offsets = ap (λ (l : List SpelledRecord). the_rest (the_rest l)) header.0 in
-    let stand = subst (λ (l : List SpelledRecord). StandAt (offsets_in (the_rest (the_rest l))) (length (bytes_of l)) (parts_of g)) (sym header.0) second.offsets in
-    let parts = parts_once (offsets_in f.offsets) (length (bytes_of (header_of f))) (parts_of f) (parts_of g) module_end (positive_header f (after_header f) first.header) first.offsets stand header.1 in
+    let stand = subst (λ (l : List SpelledRecord). StandAt (offsets_in (the_rest (the_rest l))) (length (bytes_of l)) (parts_of g)) (sym header.0)
+    second.offsets in
+    let parts = parts_once (offsets_in f.offsets) (length (bytes_of (header_of f))) (parts_of f) (parts_of g) module_end
+    (positive_header f (after_header f) first.header) first.offsets stand header.1 in
     let extension = ap bytes_first parts in
     let environment = ap (λ (l : List (List ℕ)). bytes_first (bytes_rest l)) parts in
     let sections = ap (λ (l : List (List ℕ)). bytes_first (bytes_rest (bytes_rest l))) parts in
@@ -209,10 +225,14 @@ one_file bytes reads_debug f g first second =
     let after_debug : from_loads f ≡ from_loads g = λ i. loads i ++ after_loads i in
     let after_externals : from_debug f ≡ from_debug g = λ i. debug i ++ after_debug i in
     let after_sections : from_externals f ≡ from_externals g = λ i. externals i ++ after_externals i in
-    let section_records = records_once false f.sections g.sections (from_externals f) first.sections.are_whole (subst (λ (l : List ℕ). AreWhole false g.sections l) (sym after_sections) second.sections.are_whole) sections in
-    let external_records = records_once false f.externals g.externals (from_debug f) first.externals.are_whole (subst (λ (l : List ℕ). AreWhole false g.externals l) (sym after_externals) second.externals.are_whole) externals in
-    let debug_records = debug_once reads_debug f.debug g.debug f.skipped g.skipped (from_loads f) first.debug_read second.debug_read first.debug.are_whole (subst (λ (l : List ℕ). AreWhole false g.debug l) (sym after_debug) second.debug.are_whole) debug in
-    let load_records = records_once false f.loads g.loads (from_trailer f) first.loads.are_whole (subst (λ (l : List ℕ). AreWhole false g.loads l) (sym after_loads) second.loads.are_whole) loads in
+    let section_records = records_once false f.sections g.sections (from_externals f) first.sections.are_whole
+    (subst (λ (l : List ℕ). AreWhole false g.sections l) (sym after_sections) second.sections.are_whole) sections in
+    let external_records = records_once false f.externals g.externals (from_debug f) first.externals.are_whole
+    (subst (λ (l : List ℕ). AreWhole false g.externals l) (sym after_externals) second.externals.are_whole) externals in
+    let debug_records = debug_once reads_debug f.debug g.debug f.skipped g.skipped (from_loads f) first.debug_read second.debug_read
+    first.debug.are_whole (subst (λ (l : List ℕ). AreWhole false g.debug l) (sym after_debug) second.debug.are_whole) debug in
+    let load_records = records_once false f.loads g.loads (from_trailer f) first.loads.are_whole
+    (subst (λ (l : List ℕ). AreWhole false g.loads l) (sym after_loads) second.loads.are_whole) loads in
     let trailer_records = records_once false f.trailer g.trailer module_end first.trailer.are_whole second.trailer.are_whole trailer in
     λ i. record {
       begin = begin i;

@@ -1,5 +1,6 @@
 -- An expression is the tree that its bytes spell, and the positions of its variables stand for their indexes.
-use Rattle.std.proofs.Common.{◌≡◌, ℕ, zero, suc, ◌+◌, ◌<◌, ◌≤◌, ◌==◌, Bool, true, false, not, ◌&&◌, ◌||◌, cond, nat_lt, List, [], ◌∷◌, ◌++◌, length, drop, get_or, slice_get, position, Option, Some, None, unwrap_or, refl, sym, ap, ◌∙◌, arith}
+use Rattle.std.proofs.Common.{◌≡◌, ℕ, zero, suc, ◌+◌, ◌<◌, ◌≤◌, ◌==◌, Bool, true, false, not, ◌&&◌, ◌||◌, cond, nat_lt, List, [], ◌∷◌, ◌++◌, length}
+use Rattle.std.proofs.Common.{drop, get_or, slice_get, position, Option, Some, None, unwrap_or, refl, sym, ap, ◌∙◌, arith}
 use Rattle.std.specs.List.{list_any, position_or_len}
 use Rattle.std.proofs.lemmas.List.{drop_at}
 use Rattle.std.proofs.lemmas.List.Folds.{list_all-append}
@@ -21,7 +22,8 @@ use Rattle.mufom_module.specs.SpelledRecords.{position_in, positioned, are_liste
 
 -- ---- trees
 
-first_got : (token : Token) (used : ℕ) (after : ℕ → List Token) (answer : Taken Token) → answer ≡ taken.Got token used → first_token answer after ≡ token ∷ after used
+first_got : (token : Token) (used : ℕ) (after : ℕ → List Token) (answer : Taken Token) → answer ≡ taken.Got token used → first_token answer after
+    ≡ token ∷ after used
 first_got token used after answer e = ap (λ (a : Taken Token). first_token a after) e
 
 tokens_at-spelling : (k : ℕ) (tokens : List Token) (bytes : List ℕ) → SpellsTokens tokens bytes → length tokens ≤ k → tokens_at k bytes ≡ tokens
@@ -44,7 +46,8 @@ term-spelling tree bytes (few, spells) = ap the_term (tokens_at-spelling 255 (to
 found_within : (test : ℕ → Bool) (xs : List ℕ) → list_any test xs ≡ true → position_or_len test xs < length xs
 found_within test [] h = cc
 found_within test (x ∷ xs) h = by_case (test x) (found_within test xs) h where
-  by_case : (b : Bool) → (list_any test xs ≡ true → position_or_len test xs < length xs) → (b || list_any test xs) ≡ true → cond (not b) (1 + position_or_len test xs) 0 < length (x ∷ xs)
+  by_case : (b : Bool) → (list_any test xs ≡ true → position_or_len test xs < length xs) → (b || list_any test xs) ≡ true
+      → cond (not b) (1 + position_or_len test xs) 0 < length (x ∷ xs)
   by_case true rest h = omega arith
   by_case false rest h = omega (arith, rest h)
 

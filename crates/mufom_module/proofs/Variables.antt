@@ -16,9 +16,11 @@ or-false false = refl
 any-variables_in : (p : Letter × ℕ → Bool) (tokens : List Token) → list_any p (variables_in tokens) ≡ list_any (λ t. list_any p (variables_in (t ∷ []))) tokens
 any-variables_in p [] = refl
 any-variables_in p (Number n ∷ tokens) = any-variables_in p tokens
-any-variables_in p (Var l n ∷ tokens) = ap (λ b. p (l, n) || b) (any-variables_in p tokens) ∙ ap (λ b. b || list_any (λ t. list_any p (variables_in (t ∷ []))) tokens) (sym (or-false (p (l, n))))
+any-variables_in p (Var l n ∷ tokens) = ap (λ b. p (l, n) || b) (any-variables_in p tokens)
+    ∙ ap (λ b. b || list_any (λ t. list_any p (variables_in (t ∷ []))) tokens) (sym (or-false (p (l, n))))
 any-variables_in p (Fun f ∷ tokens) = any-variables_in p tokens
 
 -- a test of the variables of a tree looks at its tokens
-pub any-variables_of : (p : Letter × ℕ → Bool) (tree : Tree) → list_any (λ t. list_any p (variables_in (t ∷ []))) (tokens_of tree) ≡ list_any p (variables_of tree)
+pub any-variables_of : (p : Letter × ℕ → Bool) (tree : Tree) → list_any (λ t. list_any p (variables_in (t ∷ []))) (tokens_of tree)
+    ≡ list_any p (variables_of tree)
 any-variables_of p tree = sym (any-variables_in p (tokens_of tree)) ∙ ap (list_any p) (variables_in-tokens_of tree)

@@ -1,5 +1,6 @@
 -- Walks over loads and debug items: what is left of a list is its next entry and the rest.
-use Rattle.std.proofs.Common.{◌≡◌, ℕ, ◌+◌, ◌<◌, Bool, true, false, ◌||◌, List, [], ◌∷◌, ◌++◌, length, drop, get_or, Option, Some, None, refl, ap, sym, ◌∙◌, rules, add-one, drop-cons, option_and_then, option_map}
+use Rattle.std.proofs.Common.{◌≡◌, ℕ, ◌+◌, ◌<◌, Bool, true, false, ◌||◌, List, [], ◌∷◌, ◌++◌, length, drop, get_or, Option, Some, None, refl, ap, sym}
+use Rattle.std.proofs.Common.{◌∙◌, rules, add-one, drop-cons, option_and_then, option_map}
 use Rattle.std.specs.List.{list_any}
 use Rattle.std.proofs.lemmas.List.Folds.{list_any-append}
 use Rattle.mufom_loads.specs.declared.load.Load.{Load}
@@ -28,7 +29,8 @@ pub any_mark-Block : (p : DebugMark → Bool) (b : Block-F DebugItem (Unit {0}))
     → list_any p (marks_of_item (block_case b)) ≡ (p (block_begin b.head b.name) || (list_any p (marks_of b.items) || p (block_end b.end)))
 any_mark-Block p b =
     ap (list_any p) (marks-Block b)
-    ∙ ap (λ rest. p (block_begin b.head b.name) || rest) (list_any-append p (marks_of b.items) (block_end b.end ∷ []) ∙ ap (λ e. list_any p (marks_of b.items) || e) (or-false (p (block_end b.end))))
+    ∙ ap (λ rest. p (block_begin b.head b.name) || rest) (list_any-append p (marks_of b.items) (block_end b.end ∷ [])
+    ∙ ap (λ e. list_any p (marks_of b.items) || e) (or-false (p (block_end b.end))))
 
 -- the same of blocks
 pub any_block_next : (p : HeadAndEnd → Bool) (items : List DebugItem) (i : ℕ) (d : DebugItem) → i < length items
@@ -42,7 +44,8 @@ blocks-Block b = search (rules, the_lemmas)
 
 -- a test of the loads that are left looks at the next one and at the rest
 pub any_load_next : (p : Option ℕ × Load → Bool) (current : Option ℕ) (loads : List Load) (i : ℕ) (d : Load) → i < length loads
-    → list_any p (placed_from current (drop i loads)) ≡ (p (current, get_or loads i d) || list_any p (placed_from (current_after current (get_or loads i d)) (drop (i + 1) loads)))
+    → list_any p (placed_from current (drop i loads)) ≡ (p (current, get_or loads i d)
+    || list_any p (placed_from (current_after current (get_or loads i d)) (drop (i + 1) loads)))
 any_load_next p current loads i d inside = ap (λ xs. list_any p (placed_from current xs)) (next_of loads i d inside)
 
 pub or-true : (a b c : Bool) → a ≡ (b || c) → b ≡ true → a ≡ true
@@ -53,7 +56,8 @@ or-rest a b c e h = e ∙ ap (λ v. v || c) h
 
 -- ---- declared names
 
-both-then : (xs ys : List DebugMark) → ((k : ℕ) → declared_after k (xs ++ ys) ≡ option_and_then (λ j. declared_after j ys) (declared_after k xs)) → (o : Option ℕ)
+both-then : (xs ys : List DebugMark) → ((k : ℕ) → declared_after k (xs ++ ys) ≡ option_and_then (λ j. declared_after j ys) (declared_after k xs))
+    → (o : Option ℕ)
     → option_and_then (λ k. declared_after k (xs ++ ys)) o ≡ option_and_then (λ j. declared_after j ys) (option_and_then (λ k. declared_after k xs) o)
 both-then xs ys rest None = refl
 both-then xs ys rest (Some k) = rest k
@@ -75,7 +79,8 @@ declared_after-Block n b =
 
 -- what is declared after the items that are left is known by the next item and the rest
 pub declared_next : (n : ℕ) (items : List DebugItem) (i : ℕ) (d : DebugItem) → i < length items
-    → declared_after n (marks_of (drop i items)) ≡ option_and_then (λ k. declared_after k (marks_of (drop (i + 1) items))) (declared_after n (marks_of_item (get_or items i d)))
+    → declared_after n (marks_of (drop i items)) ≡ option_and_then (λ k. declared_after k (marks_of (drop (i + 1) items)))
+    (declared_after n (marks_of_item (get_or items i d)))
 declared_next n items i d inside =
     ap (λ xs. declared_after n (marks_of xs)) (next_of items i d inside)
     ∙ declared_after-append n (marks_of_item (get_or items i d)) (marks_of (drop (i + 1) items))

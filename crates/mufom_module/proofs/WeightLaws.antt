@@ -1,5 +1,6 @@
 -- The length of the widest form is the sum of the weights.
-use Rattle.std.proofs.Common.{◌≡◌, ℕ, suc, ◌+◌, ◌*◌, ◌==◌, Bool, true, false, cond, List, [], ◌∷◌, ◌++◌, length, sum_by, Option, Some, None, refl, ap, sym, ◌∙◌, arith, length-append}
+use Rattle.std.proofs.Common.{◌≡◌, ℕ, suc, ◌+◌, ◌*◌, ◌==◌, Bool, true, false, cond, List, [], ◌∷◌, ◌++◌, length, sum_by, Option, Some, None, refl, ap}
+use Rattle.std.proofs.Common.{sym, ◌∙◌, arith, length-append}
 use Rattle.std.proofs.lemmas.List.Sums.{sum_by-cons}
 use Rattle.mufom_expr.specs.declared.token.FieldKind.{FieldKind}
 use Rattle.mufom_expr.specs.declared.token.Token.{Token}
@@ -23,7 +24,10 @@ use Rattle.mufom_debug.specs.Marks.{DebugMark, block_begin, block_end, name_mark
 use Rattle.mufom_module.specs.declared.module.Parts.{Parts}
 use Rattle.mufom_module.specs.Written as w
 use Rattle.mufom_module.specs.Written.{widest, weight}
-use Rattle.mufom_module.specs.Weights.{token_weight, expression_weight, optional_expression_weight, section_letters_weight, purpose_weight, alignment_weight, size_weight, base_weight, section_weight, note_weight, notes_weight, public_weight, default_weight, weak_weight, reference_weight, head_weight, mark_weight, marks_weight, item_weight, items_weight, load_weight, start_weight, parts_weight}
+use Rattle.mufom_module.specs.Weights.{token_weight, expression_weight, optional_expression_weight, section_letters_weight, purpose_weight}
+use Rattle.mufom_module.specs.Weights.{alignment_weight, size_weight, base_weight, section_weight, note_weight, notes_weight, public_weight}
+use Rattle.mufom_module.specs.Weights.{default_weight, weak_weight, reference_weight, head_weight, mark_weight, marks_weight, item_weight}
+use Rattle.mufom_module.specs.Weights.{items_weight, load_weight, start_weight, parts_weight}
 
 -- entries whose forms have these lengths, wherever they stand
 length-each_from : {X : Type 0} (write : ℕ → X → List ℕ) (size : X → ℕ) → ((n : ℕ) (x : X) → length (write n x) ≡ size x)
@@ -71,7 +75,8 @@ length-base : (i : ℕ) (base : Option ℕ) → length (w.base_record widest i b
 length-base i None = refl
 length-base i (Some base) = refl
 
-length-section_record : (i : ℕ) (s : Section) → length (w.section_record widest i s) ≡ 13 + section_letters_weight s.absolute + purpose_weight s.purpose + length s.name
+length-section_record : (i : ℕ) (s : Section) → length (w.section_record widest i s)
+    ≡ 13 + section_letters_weight s.absolute + purpose_weight s.purpose + length s.name
 length-section_record i s =
     let name = w.string widest s.name in
     let letters = w.section_letters s.absolute in
@@ -210,7 +215,8 @@ length-offsets_from at [] = refl
 length-offsets_from at ([] ∷ rest) = let its = length-offsets_from at rest in omega (arith, its)
 length-offsets_from at ((b ∷ bytes) ∷ rest) = let its = length-offsets_from (at + length (b ∷ bytes)) rest in omega (arith, its)
 
-length-joined : (a b c d e f g : List ℕ) → length (joined (a ∷ b ∷ c ∷ d ∷ e ∷ f ∷ g ∷ [])) ≡ length a + length b + length c + length d + length e + length f + length g
+length-joined : (a b c d e f g : List ℕ) → length (joined (a ∷ b ∷ c ∷ d ∷ e ∷ f ∷ g ∷ []))
+    ≡ length a + length b + length c + length d + length e + length f + length g
 length-joined a b c d e f g =
     let la = length-append a (b ++ (c ++ (d ++ (e ++ (f ++ (g ++ [])))))) in
     let lb = length-append b (c ++ (d ++ (e ++ (f ++ (g ++ []))))) in
@@ -224,7 +230,8 @@ length-joined a b c d e f g =
 length-module_begin : (m : Parts) → length (w.module_begin widest m) ≡ 27 + length m.processor + length m.name
 length-module_begin m =
     let text = w.string widest m.processor in
-    let outer = length-append (0xE0 ∷ (text ++ w.string widest m.name)) (0xEC ∷ (w.number widest 8 ++ (w.number widest m.maus ++ w.order_letter m.order ∷ []))) in
+    let outer = length-append (0xE0 ∷ (text ++ w.string widest m.name))
+    (0xEC ∷ (w.number widest 8 ++ (w.number widest m.maus ++ w.order_letter m.order ∷ []))) in
     let inner = length-append text (w.string widest m.name) in
     omega (arith, outer, inner)
 
@@ -235,14 +242,16 @@ length-external m =
     length-append (w.each (w.public widest) m.names.publics) (w.each (w.reference widest) m.names.references) ∙ (λ i. publics i + references i)
 
 length-parts : (m : Parts) → length (joined (w.parts widest m)) ≡ length m.ext + length m.env + sum_by section_weight m.sections
-    + (sum_by public_weight m.names.publics + sum_by reference_weight m.names.references) + marks_weight (marks_of m.debug) + sum_by load_weight m.loads + start_weight m.start
+    + (sum_by public_weight m.names.publics + sum_by reference_weight m.names.references) + marks_weight (marks_of m.debug) + sum_by load_weight
+    m.loads + start_weight m.start
 length-parts m =
     let sections = length-each_from (w.section widest) section_weight length-section 0 m.sections in
     let external = length-external m in
     let debug = length-debug_records 0 (marks_of m.debug) in
     let loads = length-each_from (λ _. w.load widest) load_weight length-load 0 m.loads in
     let start = length-start m.start in
-    length-joined m.ext m.env (w.each (w.section widest) m.sections) (w.external widest m) (w.debug_records widest 0 (marks_of m.debug)) (w.each (λ _. w.load widest) m.loads) (w.start widest m.start)
+    length-joined m.ext m.env (w.each (w.section widest) m.sections) (w.external widest m) (w.debug_records widest 0 (marks_of m.debug))
+    (w.each (λ _. w.load widest) m.loads) (w.start widest m.start)
     ∙ (λ i. length m.ext + length m.env + sections i + external i + debug i + loads i + start i)
 
 whole : (a b c : List ℕ) → length (a ++ (b ++ (c ++ 0xE1 ∷ []))) ≡ length a + length b + length c + 1
@@ -252,7 +261,8 @@ whole a b c =
     let lc = length-append c (0xE1 ∷ []) in
     omega (arith, la, lb, lc)
 
-length-form : (m : Parts) → length (w.form widest m) ≡ length (w.module_begin widest m) + length (w.each (w.offset_record widest) (w.offsets widest m)) + length (joined (w.parts widest m)) + 1
+length-form : (m : Parts) → length (w.form widest m) ≡ length (w.module_begin widest m) + length
+    (w.each (w.offset_record widest) (w.offsets widest m)) + length (joined (w.parts widest m)) + 1
 length-form m = whole (w.module_begin widest m) (w.each (w.offset_record widest) (w.offsets widest m)) (joined (w.parts widest m))
 
 eight : (m : Parts) → length (w.each (w.offset_record widest) (w.offsets widest m)) ≡ 128

@@ -18,7 +18,8 @@ abbrev IsAt : ℕ → ℕ → List ℕ → Type 0
 IsAt w at bytes = (w ≡ at) ⊎ ((w ≡ 0) × (bytes ≡ []))
 
 late : StandAt (0 ∷ 0 ∷ 77 ∷ 0 ∷ 0 ∷ 101 ∷ 114 ∷ 119 ∷ []) 77
-    ([] ∷ [] ∷ (0xE6 ∷ 0x01 ∷ 0xC1 ∷ 0xD3 ∷ 0xD0 ∷ 0x04 ∷ 0x63 ∷ 0x6F ∷ 0x64 ∷ 0x65 ∷ 0xE7 ∷ 0x01 ∷ 0x02 ∷ 0xE2 ∷ 0xD3 ∷ 0x01 ∷ 0x04 ∷ 0xE2 ∷ 0xCC ∷ 0x01 ∷ 0x82 ∷ 0x10 ∷ 0x00 ∷ []) ∷ [] ∷ [] ∷ data_bytes ∷ (0xE2 ∷ 0xC7 ∷ 0x82 ∷ 0x10 ∷ 0x00 ∷ []) ∷ []) → ⊥
+    ([] ∷ [] ∷ (0xE6 ∷ 0x01 ∷ 0xC1 ∷ 0xD3 ∷ 0xD0 ∷ 0x04 ∷ 0x63 ∷ 0x6F ∷ 0x64 ∷ 0x65 ∷ 0xE7 ∷ 0x01 ∷ 0x02 ∷ 0xE2 ∷ 0xD3 ∷ 0x01 ∷ 0x04 ∷ 0xE2 ∷ 0xCC ∷
+    0x01 ∷ 0x82 ∷ 0x10 ∷ 0x00 ∷ []) ∷ [] ∷ [] ∷ data_bytes ∷ (0xE2 ∷ 0xC7 ∷ 0x82 ∷ 0x10 ∷ 0x00 ∷ []) ∷ []) → ⊥
 late h = elsewhere_than h.1.1.1.1.1.0 where
   elsewhere_than : IsAt 101 100 data_bytes → ⊥
   elsewhere_than (inl e) = absurd (omega (arith, e))
@@ -36,7 +37,8 @@ unknown_variable : names_unknown before (spelled (r.Start (span_at 2 2)) (0xE2 �
 unknown_variable = refl
 
 -- the value of a public may name a section that is declared later
-known_later : names_unknown (spelled (r.PublicName 32 (span_at 3 1)) (0xE8 ∷ 0x20 ∷ 0x01 ∷ 0x66 ∷ []) ∷ []) (spelled (r.PublicValue 32 (span_at 3 2)) (0xE2 ∷ 0xC9 ∷ 0x20 ∷ 0xD2 ∷ 0x02 ∷ [])) ≡ false
+known_later : names_unknown (spelled (r.PublicName 32 (span_at 3 1)) (0xE8 ∷ 0x20 ∷ 0x01 ∷ 0x66 ∷ []) ∷ [])
+    (spelled (r.PublicValue 32 (span_at 3 2)) (0xE2 ∷ 0xC9 ∷ 0x20 ∷ 0xD2 ∷ 0x02 ∷ [])) ≡ false
 known_later = refl
 
 again : declares_again before (r.SectionType 1 false None (span_at 3 1) None None None) ≡ true

@@ -10,7 +10,9 @@ use Rattle.mufom_module.specs.Defects.{IsValid}
 use Rattle.mufom_module.specs.SpelledRecords.{SpelledRecord, bytes_of, public, declared, is_declared, named_in_expression, value_of_public, is_assigned}
 use Rattle.mufom_module.specs.RecordParts.{Part, section_part, external_part, debug_part, data_part, trailer_part, stands_in}
 use Rattle.mufom_module.specs.Gathered.{sections_of, publics_of, references_of, marks, loads_of, starts_of}
-use Rattle.mufom_module.specs.Grammar.{FileParts, header_of, module_end, after_header, from_externals, from_debug, from_loads, from_trailer, parts_of, header_modes, offsets_in, StandAt, file_limit, IsPart, IsCutInto, indexes_of, records_of, HasNames, NamesModule, Describes, States, SpellsModule}
+use Rattle.mufom_module.specs.Grammar.{FileParts, header_of, module_end, after_header, from_externals, from_debug, from_loads, from_trailer, parts_of}
+use Rattle.mufom_module.specs.Grammar.{header_modes, offsets_in, StandAt, file_limit, IsPart, IsCutInto, indexes_of, records_of, HasNames}
+use Rattle.mufom_module.specs.Grammar.{NamesModule, Describes, States, SpellsModule}
 use Rattle.mufom_module.proofs.Cutting.{spelled, cut, cut_modes, is_part, is_header, is_within, follow_from, follow-by_test}
 
 -- ---- records
@@ -37,7 +39,8 @@ offsets_from k (w ∷ offsets) = spelled (r.Offset k w) (0xE2 ∷ 0xD7 ∷ k ∷
 
 -- an absolute section of four bytes at 1000
 abbrev pub absolute_code : List SpelledRecord
-absolute_code = spelled (r.SectionType 1 true (Some 0xD0) (span_at 6 4) None None None) (0xE6 ∷ 0x01 ∷ 0xC1 ∷ 0xD3 ∷ 0xD0 ∷ 0x04 ∷ 0x63 ∷ 0x6F ∷ 0x64 ∷ 0x65 ∷ [])
+absolute_code = spelled (r.SectionType 1 true (Some 0xD0) (span_at 6 4) None None None)
+    (0xE6 ∷ 0x01 ∷ 0xC1 ∷ 0xD3 ∷ 0xD0 ∷ 0x04 ∷ 0x63 ∷ 0x6F ∷ 0x64 ∷ 0x65 ∷ [])
     ∷ spelled (r.Alignment 1 2 None) (0xE7 ∷ 0x01 ∷ 0x02 ∷ [])
     ∷ spelled (r.SectionSize 1 4) (0xE2 ∷ 0xD3 ∷ 0x01 ∷ 0x04 ∷ [])
     ∷ spelled (r.SectionBase 1 4096) (0xE2 ∷ 0xCC ∷ 0x01 ∷ 0x82 ∷ 0x10 ∷ 0x00 ∷ [])
@@ -56,20 +59,23 @@ of_part part records after tests = is_part part records after tests.0 tests.1 te
 -- the bytes, the header, the parts of records, and the debug part that is read or passed over
 abbrev pub FileTests : List ℕ → Bool → FileParts → Type 0
 FileTests bytes reads_debug f = (bytes ≡ bytes_of (header_of f) ++ after_header f) × (nat_le (length bytes) file_limit ≡ true)
-    × (list_all (λ b. nat_lt b 256) (bytes_of (header_of f) ++ after_header f) ≡ true) × (cut_modes header_modes (bytes_of (header_of f)) (after_header f) ≡ Some (header_of f))
+    × (list_all (λ b. nat_lt b 256) (bytes_of (header_of f) ++ after_header f) ≡ true)
+    × (cut_modes header_modes (bytes_of (header_of f)) (after_header f) ≡ Some (header_of f))
     × PartTests section_part f.sections (from_externals f) × PartTests external_part f.externals (from_debug f) × PartTests debug_part f.debug (from_loads f)
     × PartTests data_part f.loads (from_trailer f) × PartTests trailer_part f.trailer module_end × MatchBool reads_debug (f.skipped ≡ []) (f.debug ≡ [])
 
 -- the records follow one another, and each public has a value, which names what is declared
 abbrev pub NameTests : FileParts → Type 0
-NameTests f = (follow_from [] (records_of f) ≡ true) × (list_all (λ p. list_all (is_declared (f.sections ++ f.externals)) (named_in_expression p)) f.externals ≡ true)
+NameTests f = (follow_from [] (records_of f) ≡ true) × (list_all (λ p. list_all (is_declared (f.sections ++ f.externals)) (named_in_expression p))
+    f.externals ≡ true)
     × (list_all (λ i. is_assigned f.externals (value_of_public i)) (declared public f.externals) ≡ true)
 
 -- what the parts state is what the module has
 abbrev pub StateTests : FileParts → Parts → Type 0
 StateTests f m = NamesModule m f.begin f.begin.row × Describes m f.descriptor.row × (m.ext ≡ f.extension) × (m.env ≡ f.environment)
     × (m.sections ≡ sections_of f.sections) × (m.names.publics ≡ publics_of (indexes_of f) f.externals) × (m.names.references ≡ references_of f.externals)
-    × (marks_of m.debug ≡ marks (indexes_of f) f.debug) × (m.loads ≡ loads_of (indexes_of f) m.maus f.loads) × (option_to_list m.start ≡ starts_of (indexes_of f) f.trailer)
+    × (marks_of m.debug ≡ marks (indexes_of f) f.debug) × (m.loads ≡ loads_of (indexes_of f) m.maus f.loads)
+    × (option_to_list m.start ≡ starts_of (indexes_of f) f.trailer)
 
 module _ (m : Parts) (bytes : List ℕ) (reads_debug : Bool) (f : FileParts) where
   is_cut : FileTests bytes reads_debug f → StandAt (offsets_in f.offsets) (length (bytes_of (header_of f))) (parts_of f) → IsCutInto bytes reads_debug f
@@ -104,6 +110,7 @@ module _ (m : Parts) (bytes : List ℕ) (reads_debug : Bool) (f : FileParts) whe
   }
 
   -- the offsets stand where they should, and all else is computed
-  pub spells : IsValid m → StandAt (offsets_in f.offsets) (length (bytes_of (header_of f))) (parts_of f) → FileTests bytes reads_debug f → NameTests f → StateTests f m
+  pub spells : IsValid m → StandAt (offsets_in f.offsets) (length (bytes_of (header_of f))) (parts_of f) → FileTests bytes reads_debug f → NameTests f
+      → StateTests f m
       → SpellsModule m bytes reads_debug
   spells valid offsets file names stated = (f, is_cut file offsets, has_names names, states stated, valid)

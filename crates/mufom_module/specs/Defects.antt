@@ -1,5 +1,6 @@
 -- What keeps the parts of a module from being a valid module: thirteen tests, in the order in which they are tried.
-use Rattle.std.specs.Prelude.{◌≡◌, ℕ, ◌+◌, ◌^◌, ◌==◌, ◌&&◌, ◌||◌, nat_lt, nat_le, Bool, true, false, not, List, [], ◌∷◌, length, Option, Some, None, is_some, is_none, if◌then◌else◌, option_and_then}
+use Rattle.std.specs.Prelude.{◌≡◌, ℕ, ◌+◌, ◌^◌, ◌==◌, ◌&&◌, ◌||◌, nat_lt, nat_le, Bool, true, false, not, List, [], ◌∷◌, length, Option, Some, None}
+use Rattle.std.specs.Prelude.{is_some, is_none, if◌then◌else◌, option_and_then}
 use Rattle.std.specs.List.{list_any, find}
 use Rattle.mufom_numbers.specs.declared.limits.TheConstants.{MOST_ALIGNMENT}
 use Rattle.mufom_expr.specs.declared.token.Letter.{Letter}

@@ -1,6 +1,7 @@
 -- When bytes are the file of a module, as a relation on the whole file (IEEE Std 695, module structure, in this project's
 -- profile).
-use Rattle.std.specs.Prelude.{◌≡◌, ◌⊎◌, ℕ, ◌+◌, ◌≤◌, Bool, true, false, not, ◌&&◌, List, [], ◌∷◌, ◌++◌, length, filter_map, Option, Some, None, option_to_list, MatchBool}
+use Rattle.std.specs.Prelude.{◌≡◌, ◌⊎◌, ℕ, ◌+◌, ◌≤◌, Bool, true, false, not, ◌&&◌, List, [], ◌∷◌, ◌++◌, length, filter_map, Option, Some, None}
+use Rattle.std.specs.Prelude.{option_to_list, MatchBool}
 use Rattle.std.specs.List.{list_all, list_any}
 use Rattle.mufom_numbers.specs.declared.limits.TheConstants.{MOST_FILE_BYTES}
 use Rattle.mufom_numbers.specs.declared.codes.TheConstants.{LETTER_L, LETTER_M, MODULE_END}
@@ -17,8 +18,10 @@ use Rattle.mufom_module.specs.declared.module.Order.TheVariants.{Least, Most}
 use Rattle.mufom_module.specs.declared.module.Parts.{Parts}
 use Rattle.mufom_module.specs.Contents.{any_of}
 use Rattle.mufom_module.specs.Defects.{IsValid}
-use Rattle.mufom_module.specs.SpelledRecords.{SpelledRecord, bytes_of, text_in, section, public, reference, debug_name, declared_by, declared, is_declared, named_in_expression, named_at_once, value_of_public, assigned_by, is_assigned}
-use Rattle.mufom_module.specs.RecordParts.{Part, section_part, external_part, debug_part, data_part, trailer_part, stands_in, opens_items, mode_of, is_loading, is_set_section}
+use Rattle.mufom_module.specs.SpelledRecords.{SpelledRecord, bytes_of, text_in, section, public, reference, debug_name, declared_by, declared}
+use Rattle.mufom_module.specs.SpelledRecords.{is_declared, named_in_expression, named_at_once, value_of_public, assigned_by, is_assigned}
+use Rattle.mufom_module.specs.RecordParts.{Part, section_part, external_part, debug_part, data_part, trailer_part, stands_in, opens_items, mode_of}
+use Rattle.mufom_module.specs.RecordParts.{is_loading, is_set_section}
 use Rattle.mufom_module.specs.Gathered.{sections_of, publics_of, references_of, marks, loads_of, starts_of}
 
 -- a file cut into its parts
@@ -97,7 +100,8 @@ header_modes = mode.Begin ∷ mode.Descriptor ∷ mode.Offset 0 ∷ mode.Offset 
 -- whole records, and items where items may stand and after an LR, with these bytes after them
 abbrev pub AreWhole : Bool → List SpelledRecord → List ℕ → Type 0
 AreWhole items [] after = Unit {0}
-AreWhole items (p ∷ records) after = IsWholeRecord (mode_of items p.bytes) p.row p.bytes (first_of (bytes_of records ++ after) None) × AreWhole (opens_items p.row) records after
+AreWhole items (p ∷ records) after = IsWholeRecord (mode_of items p.bytes) p.row p.bytes (first_of (bytes_of records ++ after) None)
+    × AreWhole (opens_items p.row) records after
 
 -- whole records of this part, which begins with no item
 pub record IsPart (part : Part) (records : List SpelledRecord) (after : List ℕ) : Type 0 where

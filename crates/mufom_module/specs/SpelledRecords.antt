@@ -1,5 +1,6 @@
 -- The records of a file with their bytes: what each declares, names and states once (IEEE Std 695, MUFOM commands).
-use Rattle.std.specs.Prelude.{ℕ, ◌+◌, ◌==◌, Bool, true, false, List, [], ◌++◌, map, filter_map, position, slice_range, Option, Some, None, option_map, option_to_list, unwrap_or, if◌then◌else◌}
+use Rattle.std.specs.Prelude.{ℕ, ◌+◌, ◌==◌, Bool, true, false, List, [], ◌++◌, map, filter_map, position, slice_range, Option, Some, None, option_map}
+use Rattle.std.specs.Prelude.{option_to_list, unwrap_or, if◌then◌else◌}
 use Rattle.std.specs.List.{list_any, list_all}
 use Rattle.mufom_numbers.specs.declared.taken.Span.{Span}
 use Rattle.mufom_expr.specs.declared.token.Letter.{Letter}

@@ -2,7 +2,11 @@
 -- of commands and brackets are those of the public `ieee.h`).
 use Rattle.std.specs.Prelude.{ℕ, ◌+◌, ◌==◌, Bool, true, false, List, [], ◌∷◌, ◌++◌, length, Option, Some, None, if◌then◌else◌}
 use Rattle.std.specs.Int.{w16, w32, w64, to_be_bytes}
-use Rattle.mufom_numbers.specs.declared.codes.TheConstants.{ASSIGNMENT, BLOCK_BEGIN, BLOCK_END, CONSTANT, DEBUG_NAME, DESCRIPTOR, LAST_NUMBER, LETTER_A, LETTER_C, LETTER_D, LETTER_G, LETTER_I, LETTER_L, LETTER_M, LETTER_N, LETTER_P, LETTER_R, LETTER_S, LETTER_W, LETTER_X, LONG_STRING, MODULE_BEGIN, MODULE_END, NOTE, NUMBER_OF_FOUR_BYTES, PUBLIC_NAME, REFERENCE_NAME, RELOCATE, REPEAT, SECTION_ALIGNMENT, SECTION_TYPE, SET_SECTION, WEAK_REFERENCE}
+use Rattle.mufom_numbers.specs.declared.codes.TheConstants.{ASSIGNMENT, BLOCK_BEGIN, BLOCK_END, CONSTANT, DEBUG_NAME, DESCRIPTOR, LAST_NUMBER}
+use Rattle.mufom_numbers.specs.declared.codes.TheConstants.{LETTER_A, LETTER_C, LETTER_D, LETTER_G, LETTER_I, LETTER_L, LETTER_M, LETTER_N, LETTER_P}
+use Rattle.mufom_numbers.specs.declared.codes.TheConstants.{LETTER_R, LETTER_S, LETTER_W, LETTER_X, LONG_STRING, MODULE_BEGIN, MODULE_END, NOTE}
+use Rattle.mufom_numbers.specs.declared.codes.TheConstants.{NUMBER_OF_FOUR_BYTES, PUBLIC_NAME, REFERENCE_NAME, RELOCATE, REPEAT, SECTION_ALIGNMENT}
+use Rattle.mufom_numbers.specs.declared.codes.TheConstants.{SECTION_TYPE, SET_SECTION, WEAK_REFERENCE}
 use Rattle.mufom_numbers.specs.Spelling.{shortest_number, shortest_lead}
 use Rattle.mufom_expr.specs.declared.token.Letter.{Letter}
 use Rattle.mufom_expr.specs.declared.token.Letter.TheVariants.{I, L, P, R, S, X}

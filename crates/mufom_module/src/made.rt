@@ -3,7 +3,8 @@
 ghost use Rattle.std.specs.Prelude.{◌<◌, ◌≤◌, ◌^◌, All, IfSome, length};
 ghost use Rattle.mufom_numbers.specs.Spelling.{AreBytes};
 ghost use Rattle.mufom_debug.specs.Marks.{block_begin, block_end, marks_of, marks_of_item};
-ghost use Rattle.mufom_module.specs.Made.{IsNumber, IsMadeTree, IsMadeSection, IsMadeNote, IsMadeWeak, IsMadePublic, IsMadeReference, IsMadeItem, IsMadeLoad, IsMadeHead, IsMadeMark, IsMade};
+ghost use Rattle.mufom_module.specs.Made.{IsNumber, IsMadeTree, IsMadeSection, IsMadeNote, IsMadeWeak, IsMadePublic, IsMadeReference, IsMadeItem};
+ghost use Rattle.mufom_module.specs.Made.{IsMadeLoad, IsMadeHead, IsMadeMark, IsMade};
 
 use crate::module::Parts;
 use mufom_debug::{BlockHead, DebugItem};

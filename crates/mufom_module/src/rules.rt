@@ -5,7 +5,9 @@ ghost use Rattle.std.specs.List.{list_any};
 ghost use Rattle.mufom_expr.specs.Mentions.{variables_in};
 ghost use Rattle.mufom_module.specs.declared.module.Defect.{Defect};
 ghost use Rattle.mufom_module.specs.Contents.{any_item, load_any, item_any, any_of, placed_from, current_after};
-ghost use Rattle.mufom_module.specs.Defects.{is_long, is_long_literal, is_outside, names_outside, names_no_section, has_bad_place, has_bad_size, counts_of, count_for, is_other_counter, has_other_counter, counter_of, misplaces_counter, is_loading, loads_nowhere, has_defect};
+ghost use Rattle.mufom_module.specs.Defects.{is_long, is_long_literal, is_outside, names_outside, names_no_section, has_bad_place, has_bad_size};
+ghost use Rattle.mufom_module.specs.Defects.{counts_of, count_for, is_other_counter, has_other_counter, counter_of, misplaces_counter, is_loading};
+ghost use Rattle.mufom_module.specs.Defects.{loads_nowhere, has_defect};
 
 use crate::debug_rules::{any_breaks, any_ends_badly, uses_name_early};
 use crate::module::{Defect, Parts};

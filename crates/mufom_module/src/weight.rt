@@ -3,7 +3,10 @@
 
 ghost use Rattle.std.specs.Prelude.{◌≡◌, sum_by};
 ghost use Rattle.mufom_module.specs.declared.module.Defect.{Defect};
-ghost use Rattle.mufom_module.specs.Weights.{capped, frame_weight, token_weight, expression_weight, optional_expression_weight, alignment_weight, size_weight, base_weight, section_weight, note_weight, notes_weight, public_weight, reference_weight, default_weight, weak_weight, head_weight, mark_weight, marks_weight, item_weight, items_weight, load_weight, start_weight, parts_weight};
+ghost use Rattle.mufom_module.specs.Weights.{capped, frame_weight, token_weight, expression_weight, optional_expression_weight, alignment_weight};
+ghost use Rattle.mufom_module.specs.Weights.{size_weight, base_weight, section_weight, note_weight, notes_weight, public_weight, reference_weight};
+ghost use Rattle.mufom_module.specs.Weights.{default_weight, weak_weight, head_weight, mark_weight, marks_weight, item_weight, items_weight};
+ghost use Rattle.mufom_module.specs.Weights.{load_weight, start_weight, parts_weight};
 ghost use Rattle.mufom_module.specs.Written.{weight};
 ghost use Rattle.mufom_module.specs.Defects.{has_defect};
 ghost use Rattle.mufom_debug.specs.Marks.{block_begin, block_end, marks_of, marks_of_item};

@@ -1,5 +1,6 @@
 -- An index as it is kept, a set of keys beside a list of positions, and as it is seen.
-use Rattle.std.proofs.Common.{get_or, suc, ◌≡◌, ℕ, ◌+◌, ◌<◌, List, [], ◌∷◌, ◌++◌, length, map, Bool, true, false, not, cond, ◌||◌, nat_lt, Some, None, is_none, refl, sym, ap, ◌∙◌, slice_get, position, arith, true≢false, if◌then◌else◌, Vec, Global, Bor}
+use Rattle.std.proofs.Common.{get_or, suc, ◌≡◌, ℕ, ◌+◌, ◌<◌, List, [], ◌∷◌, ◌++◌, length, map, Bool, true, false, not, cond, ◌||◌, nat_lt, Some, None}
+use Rattle.std.proofs.Common.{is_none, refl, sym, ap, ◌∙◌, slice_get, position, arith, true≢false, if◌then◌else◌, Vec, Global, Bor}
 use Rattle.std.specs.List.{list_any, position_or_len, zip, IsDistinct, AllByRecursion}
 use Rattle.std.specs.Str.{bytes_eq}
 use Rattle.std.proofs.lemmas.Option.{slice_get-get_or}
@@ -50,7 +51,8 @@ module _ {K : Type 0} (bytes : K → List ℕ) where
   present key [] positions e h = absurd (true≢false (sym h))
   present key (k ∷ keys) [] e h = absurd (omega (arith, e))
   present key (k ∷ keys) (p ∷ positions) e h = by_case (bytes_eq key (bytes k)) (present key keys positions (omega (arith, e))) h where
-    by_case : (b : Bool) → (is_kept key keys ≡ true → position_of (seen keys positions) key ≡ slice_get positions (place_in key keys)) → (b || is_kept key keys) ≡ true
+    by_case : (b : Bool) → (is_kept key keys ≡ true → position_of (seen keys positions) key ≡ slice_get positions (place_in key keys))
+        → (b || is_kept key keys) ≡ true
         → cond b (Some p) (position_of (seen keys positions) key) ≡ slice_get (p ∷ positions) (cond (not b) (1 + place_in key keys) 0)
     by_case true rest h = refl
     by_case false rest h = rest h ∙ sym (slice_get-past p positions (place_in key keys))
@@ -61,7 +63,8 @@ module _ {K : Type 0} (bytes : K → List ℕ) where
   apart-seen k (l ∷ keys) [] a = tt
   apart-seen k (l ∷ keys) (p ∷ positions) a = (a.0, apart-seen k keys positions a.1)
 
-  pub distinct-seen : (keys : List K) (positions : List ℕ) → IsDistinct (λ (key other : K). bytes_eq (bytes key) (bytes other)) keys → HaveDistinctKeys (seen keys positions)
+  pub distinct-seen : (keys : List K) (positions : List ℕ) → IsDistinct (λ (key other : K). bytes_eq (bytes key) (bytes other)) keys
+      → HaveDistinctKeys (seen keys positions)
   unfolding IsDistinct
   distinct-seen [] positions d = tt
   distinct-seen (k ∷ keys) [] d = tt
@@ -88,7 +91,8 @@ module _ {K : Type 0} (bytes : K → List ℕ) where
       → seen (keys ++ key ∷ []) (positions ++ place ∷ []) ≡ with_entry (seen keys positions) (bytes key) place
   added-new keys positions key place lengths new =
       seen-push keys positions key place lengths
-      ∙ sym (ap (λ found. if is_none found then seen keys positions ++ (bytes key, place) ∷ [] else seen keys positions) (absent (bytes key) keys positions new))
+      ∙ sym (ap (λ found. if is_none found then seen keys positions ++ (bytes key, place) ∷ []
+      else seen keys positions) (absent (bytes key) keys positions new))
 
 -- a key that has a position changes nothing
 pub added-old : (entries : List Entry) (key : List ℕ) (its place : ℕ) → Some its ≡ position_of entries key → entries ≡ with_entry entries key place

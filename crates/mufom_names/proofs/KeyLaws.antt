@@ -1,5 +1,6 @@
 -- Keys of references, taken apart from the beginning.
-use Rattle.std.proofs.Common.{◌≡◌, ℕ, ◌+◌, ◌<◌, List, [], ◌∷◌, ◌++◌, length, flat_map, take, get_or, Option, Some, None, IfSome, refl, sym, ap, ◌∙◌, append_assoc, append-nil, arith}
+use Rattle.std.proofs.Common.{◌≡◌, ℕ, ◌+◌, ◌<◌, List, [], ◌∷◌, ◌++◌, length, flat_map, take, get_or, Option, Some, None, IfSome, refl, sym, ap, ◌∙◌}
+use Rattle.std.proofs.Common.{append_assoc, append-nil, arith}
 use Rattle.std.specs.List.{AllByRecursion}
 use Rattle.std.specs.Int.{w64, from_be_bytes}
 use Rattle.std.proofs.lemmas.Nat.{from_be_bytes-to_be_bytes_8}
@@ -8,10 +9,12 @@ use Rattle.std.proofs.lemmas.Grind.{flat_map-append}
 use Rattle.mufom_names.specs.declared.name.Note.{Note}
 use Rattle.mufom_names.specs.declared.name.Weak.{Weak}
 use Rattle.mufom_names.specs.declared.name.Reference.{Reference}
-use Rattle.mufom_names.specs.Keys.{number_key, numbers_key, note_key, notes_key, weak_key, reference_key, IsSameNote, AreSameNotes, IsSameReference, IsShort, IsShortNote, IsShortWeak, IsShortReference, EqualKeysAreEqualReferences}
+use Rattle.mufom_names.specs.Keys.{number_key, numbers_key, note_key, notes_key, weak_key, reference_key, IsSameNote, AreSameNotes, IsSameReference}
+use Rattle.mufom_names.specs.Keys.{IsShort, IsShortNote, IsShortWeak, IsShortReference, EqualKeysAreEqualReferences}
 
 -- one element more adds what it gives
-pub one_more : {X : Type 0} (f : X → List ℕ) (xs : List X) (i : ℕ) (d : X) → i < length xs → flat_map f (take (i + 1) xs) ≡ flat_map f (take i xs) ++ f (get_or xs i d)
+pub one_more : {X : Type 0} (f : X → List ℕ) (xs : List X) (i : ℕ) (d : X) → i < length xs → flat_map f (take (i + 1) xs) ≡ flat_map f (take i xs)
+    ++ f (get_or xs i d)
 one_more f xs i d inside =
     ap (flat_map f) (take_more xs i d inside)
     ∙ flat_map-append f (take i xs) (get_or xs i d ∷ [])
@@ -41,7 +44,8 @@ first-cut : (m n : ℕ) (fs gs xs ys : List ℕ) → IsShort m → IsShort n →
 first-cut m n fs gs xs ys short-m short-n e =
     number-cut m n (fs ++ xs) (gs ++ ys) short-m short-n (sym (append_assoc (number_key m) fs xs) ∙ e ∙ append_assoc (number_key n) gs ys)
 
-numbers-cut : (ms ns xs ys : List ℕ) → length ms ≡ length ns → AllByRecursion IsShort ms → AllByRecursion IsShort ns → numbers_key ms ++ xs ≡ numbers_key ns ++ ys → (ms ≡ ns) × (xs ≡ ys)
+numbers-cut : (ms ns xs ys : List ℕ) → length ms ≡ length ns → AllByRecursion IsShort ms → AllByRecursion IsShort ns → numbers_key ms ++ xs
+    ≡ numbers_key ns ++ ys → (ms ≡ ns) × (xs ≡ ys)
 numbers-cut [] [] xs ys l a b e = (refl, e)
 numbers-cut [] (n ∷ ns) xs ys l a b e = absurd (omega (arith, l))
 numbers-cut (m ∷ ms) [] xs ys l a b e = absurd (omega (arith, l))
@@ -54,13 +58,16 @@ note-cut : (m n : Note) (xs ys : List ℕ) → IsShortNote m → IsShortNote n �
 note-cut m n xs ys short-m short-n e =
     let count-m = number_key (length m.numbers.items) ++ numbers_key m.numbers.items in
     let count-n = number_key (length n.numbers.items) ++ numbers_key n.numbers.items in
-    let one = first-cut m.type_index n.type_index (number_key m.attribute ++ count-m) (number_key n.attribute ++ count-n) xs ys short-m.type_index short-n.type_index e in
+    let one = first-cut m.type_index n.type_index (number_key m.attribute ++ count-m) (number_key n.attribute
+    ++ count-n) xs ys short-m.type_index short-n.type_index e in
     let two = first-cut m.attribute n.attribute count-m count-n xs ys short-m.attribute short-n.attribute one.1 in
-    let three = first-cut (length m.numbers.items) (length n.numbers.items) (numbers_key m.numbers.items) (numbers_key n.numbers.items) xs ys short-m.count short-n.count two.1 in
+    let three = first-cut (length m.numbers.items) (length n.numbers.items) (numbers_key m.numbers.items) (numbers_key n.numbers.items) xs ys
+    short-m.count short-n.count two.1 in
     let four = numbers-cut m.numbers.items n.numbers.items xs ys three.0 short-m.numbers short-n.numbers three.1 in
     (record { type_index = one.0; attribute = two.0; numbers = four.0 }, four.1)
 
-notes-cut : (ms ns : List Note) → length ms ≡ length ns → AllByRecursion IsShortNote ms → AllByRecursion IsShortNote ns → notes_key ms ≡ notes_key ns → AreSameNotes ms ns
+notes-cut : (ms ns : List Note) → length ms ≡ length ns → AllByRecursion IsShortNote ms → AllByRecursion IsShortNote ns → notes_key ms ≡ notes_key ns
+    → AreSameNotes ms ns
 notes-cut [] [] l a b e = tt
 notes-cut [] (n ∷ ns) l a b e = absurd (omega (arith, l))
 notes-cut (m ∷ ms) [] l a b e = absurd (omega (arith, l))
@@ -88,7 +95,8 @@ same-from-keys : (r q : Reference) → IsShortReference r → IsShortReference q
 same-from-keys r q short-r short-q e =
     let notes-r = number_key (length r.notes) ++ notes_key r.notes in
     let notes-q = number_key (length q.notes) ++ notes_key q.notes in
-    let size = number-cut (length r.name) (length q.name) (r.name ++ (weak_key r.weak ++ notes-r)) (q.name ++ (weak_key q.weak ++ notes-q)) short-r.name short-q.name e in
+    let size = number-cut (length r.name) (length q.name) (r.name ++ (weak_key r.weak ++ notes-r)) (q.name
+    ++ (weak_key q.weak ++ notes-q)) short-r.name short-q.name e in
     let name = cut r.name q.name (weak_key r.weak ++ notes-r) (weak_key q.weak ++ notes-q) size.0 size.1 in
     let weak = weak-cut r.weak q.weak notes-r notes-q short-r.weak short-q.weak name.1 in
     let count = number-cut (length r.notes) (length q.notes) (notes_key r.notes) (notes_key q.notes) short-r.count short-q.count weak.1 in

@@ -7,7 +7,8 @@ use Rattle.std.proofs.Math.Nat.{pow-le-pow_right}
 use Rattle.std.specs.Int.{w64, to_be_bytes, leading_zeros}
 use Rattle.mufom_numbers.specs.Spelling.{without_leading_zeros}
 use Rattle.mufom_numbers.proofs.Values.{big_endian-below}
-use Rattle.mufom_numbers.proofs.ShortestLaws.{without_leading_zeros-bytes, without_leading_zeros-high, without_leading_zeros-value, bytes_high_first-bytes, to_be_bytes-value}
+use Rattle.mufom_numbers.proofs.ShortestLaws.{without_leading_zeros-bytes, without_leading_zeros-high, without_leading_zeros-value}
+use Rattle.mufom_numbers.proofs.ShortestLaws.{bytes_high_first-bytes, to_be_bytes-value}
 
 -- a byte is eight bits
 bits_of_bytes : (k : ℕ) → 256 ^ k ≡ 2 ^ (8 * k)
@@ -35,8 +36,10 @@ significant-count (suc m) fits =
     let rest = without_leading_zeros bytes in
     let value = to_be_bytes-value n fits in
     let fit = without_leading_zeros-bytes bytes (bytes_high_first-bytes 8 n) in
-    let below : n < 2 ^ (8 * length rest) = rw (sym (bits_of_bytes (length rest))) (omega (arith, value, without_leading_zeros-value bytes, big_endian-below rest fit)) in
-    let above : 2 ^ (8 * (length rest - 1)) ≤ n = rw (sym (bits_of_bytes (length rest - 1))) (omega (arith, value, without_leading_zeros-high bytes (omega (arith, value)))) in
+    let below : n < 2 ^ (8 * length rest) = rw (sym (bits_of_bytes (length rest)))
+    (omega (arith, value, without_leading_zeros-value bytes, big_endian-below rest fit)) in
+    let above : 2 ^ (8 * (length rest - 1)) ≤ n = rw (sym (bits_of_bytes (length rest - 1)))
+    (omega (arith, value, without_leading_zeros-high bytes (omega (arith, value)))) in
     let top = leading_top 64 n (omega arith) fits in
     let low : top.0 < 8 * length rest = between top.0 (8 * length rest) n top.2 below in
     let high : 8 * (length rest - 1) < suc top.0 = between (8 * (length rest - 1)) (suc top.0) n above top.3 in

@@ -68,7 +68,15 @@ number_at-got (lead ∷ bytes) fits =
           | inr whole ↦
               let used : lead - 127 ≡ suc (lead - 128) = omega (arith, high) in
               let len : length (take (lead - 128) bytes) ≡ lead - 128 = omega (arith, length-take (lead - 128) bytes, whole) in
-              rw (le-ltb _ _ whole, used) (omega (arith, whole), inr (omega (arith, len, high), omega (arith, len, within), AreBytes-take (lead - 128) bytes fits.1, refl))
+              rw (le-ltb _ _ whole, used) (
+                omega (arith, whole),
+                inr (
+                  omega (arith, len, high),
+                  omega (arith, len, within),
+                  AreBytes-take (lead - 128) bytes fits.1,
+                  refl,
+                ),
+              )
         ])
       ])
     ]
@@ -79,7 +87,11 @@ number_at-cut_off [] n cut = refl
 number_at-cut_off (lead ∷ bytes) n (rest, more, inl short) = absurd (more (nil_from_length rest (omega (arith, length-append bytes rest, ap length short.1))))
 number_at-cut_off (lead ∷ bytes) n (rest, more, inr long) =
     let shorter = prefix_is_shorter bytes rest (bytes ++ rest) refl more in
-    rw (le-ltb lead 128 (omega (arith, long.0)), le-ltb 136 lead (omega (arith, long.0, long.1)), lt-ltb (length bytes) (lead - 128) (omega (arith, long.0, shorter))) refl
+    rw (
+      le-ltb lead 128 (omega (arith, long.0)),
+      le-ltb 136 lead (omega (arith, long.0, long.1)),
+      lt-ltb (length bytes) (lead - 128) (omega (arith, long.0, shorter)),
+    ) refl
 
 pub more-cut_off : (input : List ℕ) → AreBytes input → number_at input ≡ More → (n : ℕ) × IsCutOff (SpellsNumber n) input
 more-cut_off [] fits e = (0, (0 ∷ [], λ h. cc, inl (omega arith, refl, refl)))
@@ -87,14 +99,23 @@ more-cut_off (lead ∷ bytes) fits e =
     elim (cases_lt lead 128) [
       | inl low ↦ let bad : Got lead 1 ≡ More = rw (lt-ltb lead 128 low) at e in absurd cc
       | inr high ↦ elim (cases_lt 136 lead) [
-        | inl above ↦ let bad : number_at (lead ∷ bytes) ≡ Bad 0 BadNumber = rw (le-ltb lead 128 high, lt-ltb 136 lead above) refl in let no : Bad 0 BadNumber ≡ More = sym bad ∙ e in absurd cc
+        | inl above ↦ let bad : number_at (lead ∷ bytes) ≡ Bad 0 BadNumber = rw (le-ltb lead 128 high, lt-ltb 136 lead above) refl in
+            let no : Bad 0 BadNumber ≡ More = sym bad ∙ e in absurd cc
         | inr within ↦ elim (cases_lt (length bytes) (lead - 128)) [
           | inl short ↦
               let k = lead - 128 - length bytes in
               let rest = zeros k in
-              let len : length (bytes ++ rest) ≡ lead - 128 = omega (arith, length-append bytes rest, length-zeros k, short) in
-              (big_endian (bytes ++ rest), (rest, λ h. omega (arith, ap length h, length-zeros k, short), inr (omega (arith, len, high), omega (arith, len, within), AreBytes-append bytes rest fits.1 (AreBytes-zeros k), refl)))
-          | inr whole ↦ let got : number_at (lead ∷ bytes) ≡ Got (big_endian (take (lead - 128) bytes)) (lead - 127) = rw (le-ltb lead 128 high, le-ltb 136 lead within, le-ltb _ _ whole) refl in let no : Got (big_endian (take (lead - 128) bytes)) (lead - 127) ≡ More = sym got ∙ e in absurd cc
+              let len : length (bytes ++ rest) ≡ lead - 128 = omega (arith, length-append bytes rest, length-zeros k, short) in (
+                big_endian (bytes ++ rest),
+                (
+                  rest,
+                  λ h. omega (arith, ap length h, length-zeros k, short),
+                  inr (omega (arith, len, high), omega (arith, len, within), AreBytes-append bytes rest fits.1 (AreBytes-zeros k), refl),
+                ),
+              )
+          | inr whole ↦ let got : number_at (lead ∷ bytes) ≡ Got (big_endian (take (lead - 128) bytes)) (lead - 127) =
+              rw (le-ltb lead 128 high, le-ltb 136 lead within, le-ltb _ _ whole) refl in
+              let no : Got (big_endian (take (lead - 128) bytes)) (lead - 127) ≡ More = sym got ∙ e in absurd cc
         ]
       ]
     ]
@@ -109,10 +130,14 @@ bad-number_at (lead ∷ bytes) fits e =
     elim (cases_lt 136 lead) [
       | inl above ↦ (omega (arith, above), omega (arith, fits.0))
       | inr within ↦ elim (cases_lt lead 128) [
-        | inl low ↦ let got : number_at (lead ∷ bytes) ≡ Got lead 1 = rw (lt-ltb lead 128 low) refl in let no : Got lead 1 ≡ Bad 0 BadNumber = sym got ∙ e in absurd cc
+        | inl low ↦ let got : number_at (lead ∷ bytes) ≡ Got lead 1 = rw (lt-ltb lead 128 low) refl in let no : Got lead 1 ≡ Bad 0 BadNumber = sym got
+            ∙ e in absurd cc
         | inr high ↦ elim (cases_lt (length bytes) (lead - 128)) [
-          | inl short ↦ let more : number_at (lead ∷ bytes) ≡ More = rw (le-ltb lead 128 high, le-ltb 136 lead within, lt-ltb _ _ short) refl in let no : more_number ≡ Bad 0 BadNumber = sym more ∙ e in absurd cc
-          | inr whole ↦ let got : number_at (lead ∷ bytes) ≡ Got (big_endian (take (lead - 128) bytes)) (lead - 127) = rw (le-ltb lead 128 high, le-ltb 136 lead within, le-ltb _ _ whole) refl in let no : Got (big_endian (take (lead - 128) bytes)) (lead - 127) ≡ Bad 0 BadNumber = sym got ∙ e in absurd cc
+          | inl short ↦ let more : number_at (lead ∷ bytes) ≡ More = rw (le-ltb lead 128 high, le-ltb 136 lead within, lt-ltb _ _ short) refl in
+              let no : more_number ≡ Bad 0 BadNumber = sym more ∙ e in absurd cc
+          | inr whole ↦ let got : number_at (lead ∷ bytes) ≡ Got (big_endian (take (lead - 128) bytes)) (lead - 127) =
+              rw (le-ltb lead 128 high, le-ltb 136 lead within, le-ltb _ _ whole) refl in
+              let no : Got (big_endian (take (lead - 128) bytes)) (lead - 127) ≡ Bad 0 BadNumber = sym got ∙ e in absurd cc
         ]
       ]
     ]

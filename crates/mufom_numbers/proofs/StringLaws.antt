@@ -23,7 +23,8 @@ after : (lead len : ℕ) (input : List ℕ) → lead + len ≤ length input → 
 after lead len input there = rw (le-ltb (length input) (lead + len) there) refl
 
 -- a string is read after its lead, whatever follows it
-pub string_at-spelling : (lead text rest : List ℕ) → IsStringLead (length text) lead → string_at (lead ++ (text ++ rest)) ≡ Got (span_of (length lead) (length text)) (length lead + length text)
+pub string_at-spelling : (lead text rest : List ℕ) → IsStringLead (length text) lead → string_at (lead ++ (text ++ rest))
+    ≡ Got (span_of (length lead) (length text)) (length lead + length text)
 string_at-spelling [] text rest is = absurd is
 string_at-spelling (a ∷ []) text rest is =
     let there : 1 + length text ≤ length (a ∷ (text ++ rest)) = omega (arith, length-append text rest) in
@@ -102,12 +103,19 @@ string_at-cut_off text input (rest, more, (lead, is, fits, split)) = cut lead te
   cut (a ∷ b ∷ c ∷ d ∷ lead) text (i ∷ input) rest is split more = absurd is
 
 -- `len` bytes that a lead counts, of which some are not there yet
-completed : (len : ℕ) (lead bytes : List ℕ) → IsStringLead len lead → AreBytes bytes → length bytes < len → (text : List ℕ) × IsCutOff (SpellsString text) (lead ++ bytes)
+completed : (len : ℕ) (lead bytes : List ℕ) → IsStringLead len lead → AreBytes bytes → length bytes < len → (text : List ℕ)
+    × IsCutOff (SpellsString text) (lead ++ bytes)
 completed len lead bytes is fits short =
     let k = len - length bytes in
     let text = bytes ++ zeros k in
-    let count : length text ≡ len = omega (arith, length-append bytes (zeros k), length-zeros k, short) in
-    (text, (zeros k, λ none. omega (arith, ap length none, length-zeros k, short), (lead, rw count is, AreBytes-append bytes (zeros k) fits (AreBytes-zeros k), append_assoc lead bytes (zeros k))))
+    let count : length text ≡ len = omega (arith, length-append bytes (zeros k), length-zeros k, short) in (
+      text,
+      (
+        zeros k,
+        λ none. omega (arith, ap length none, length-zeros k, short),
+        (lead, rw count is, AreBytes-append bytes (zeros k) fits (AreBytes-zeros k), append_assoc lead bytes (zeros k)),
+      ),
+    )
 
 after_more : (lead len : ℕ) (input : List ℕ) → string_after lead len input ≡ More → length input < lead + len
 after_more lead len input wants = elim (cases_lt (length input) (lead + len)) [
@@ -129,7 +137,8 @@ two_bytes_more (b ∷ []) fits wants =
     let text = zeros (256 * b) in
     (text, (0 ∷ text, λ none. cc, (223 ∷ b ∷ 0 ∷ [], (refl, fits.0, omega arith, omega (arith, length-zeros (256 * b))), AreBytes-zeros (256 * b), refl)))
 two_bytes_more (b ∷ c ∷ bytes) fits wants =
-    completed (256 * b + c) (223 ∷ b ∷ c ∷ []) bytes (refl, fits.0, fits.1.0, refl) fits.1.1 (omega (arith, after_more 3 (256 * b + c) (223 ∷ b ∷ c ∷ bytes) wants))
+    completed (256 * b + c) (223 ∷ b ∷ c ∷ []) bytes (refl, fits.0, fits.1.0, refl) fits.1.1
+    (omega (arith, after_more 3 (256 * b + c) (223 ∷ b ∷ c ∷ bytes) wants))
 
 pub more-string_cut_off : (input : List ℕ) → AreBytes input → string_at input ≡ More → IsPrefix input
 more-string_cut_off [] fits wants = ([], (0 ∷ [], λ none. cc, (0 ∷ [], (omega arith, refl), tt, refl)))

@@ -16,7 +16,8 @@ value_after-low v (b ∷ bytes) = rw (pow-succ' 256 (length bytes)) (low_step v 
 
 pub value_after-high : (v : ℕ) (bytes : List ℕ) → AreBytes bytes → value_after v bytes < (v + 1) * 256 ^ length bytes
 value_after-high v [] fits = omega arith
-value_after-high v (b ∷ bytes) fits = rw (pow-succ' 256 (length bytes)) (high_step v b (256 ^ length bytes) _ fits.0 (value_after-high (256 * v + b) bytes fits.1))
+value_after-high v (b ∷ bytes) fits = rw (pow-succ' 256 (length bytes))
+    (high_step v b (256 ^ length bytes) _ fits.0 (value_after-high (256 * v + b) bytes fits.1))
 
 -- k bytes are worth less than 256 ^ k
 pub big_endian-below : (bytes : List ℕ) → AreBytes bytes → big_endian bytes < 256 ^ length bytes

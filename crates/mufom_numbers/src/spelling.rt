@@ -1,6 +1,7 @@
 ghost use Rattle.std.specs.Prelude.{◌≡◌, ◌↔◌, ◌⊎◌, ◌+◌, ◌<◌, ◌≤◌, ◌^◌, ℕ, List, [], ◌∷◌, ◌++◌, length, take};
 ghost use Rattle.std.specs.Int.{w64, to_be_bytes};
-ghost use Rattle.mufom_numbers.specs.Spelling.{IsStringLead, SpellsNumber, SpellsString, number_at, string_at, string_after, shortest_number, shortest_lead, without_leading_zeros, big_endian, IfGot, IsCutOff, BeginsIn, NoneIsShorter};
+ghost use Rattle.mufom_numbers.specs.Spelling.{IsStringLead, SpellsNumber, SpellsString, number_at, string_at, string_after, shortest_number};
+ghost use Rattle.mufom_numbers.specs.Spelling.{shortest_lead, without_leading_zeros, big_endian, IfGot, IsCutOff, BeginsIn, NoneIsShorter};
 
 use crate::{Reason, Span, Taken};
 use arrayvec::ArrayVec;

@@ -1,5 +1,6 @@
 -- Entries of several lists by one number, which counts them through all lists in order.
-use Rattle.std.specs.Prelude.{ℕ, zero, suc, ◌+◌, ◌-◌, ◌<◌, ◌≤◌, length, slice_index, List, [], ◌∷◌, ◌++◌, take, drop, min, flat_map, Option, Some, None, option_to_list, slice_get, nat_lt, if◌then◌else◌}
+use Rattle.std.specs.Prelude.{ℕ, zero, suc, ◌+◌, ◌-◌, ◌<◌, ◌≤◌, length, slice_index, List, [], ◌∷◌, ◌++◌, take, drop, min, flat_map, Option, Some}
+use Rattle.std.specs.Prelude.{None, option_to_list, slice_get, nat_lt, if◌then◌else◌}
 use Rattle.mufom_origins.specs.declared.origins.Place.{Place}
 
 -- where the entry with a number is, where lists from the one with a position on have this many entries

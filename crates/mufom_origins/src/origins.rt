@@ -1,4 +1,5 @@
-ghost use Rattle.std.specs.Prelude.{◌≡◌, ◌<◌, ◌≤◌, ◌^◌, ◌+◌, ◌++◌, drop, length, map, option_map, option_to_list, position, slice_get, take, nat_le, ℕ, List as list, IfOk, OnOk};
+ghost use Rattle.std.specs.Prelude.{◌≡◌, ◌<◌, ◌≤◌, ◌^◌, ◌+◌, ◌++◌, drop, length, map, option_map, option_to_list, position, slice_get, take, nat_le};
+ghost use Rattle.std.specs.Prelude.{ℕ, List as list, IfOk, OnOk};
 ghost use Rattle.std.specs.List.Sorted.{IsNonDecreasing};
 ghost use Rattle.mufom_origins.specs.Origins.{AreEnds, AreIndexed, count_of, counts_of, numbered, origin_of, origins_of};
 ghost use Rattle.mufom_origins.specs.Places.{HasEnded, at_positions, capped, ends_from, entries_before, place_in, with_chosen};

@@ -1,5 +1,6 @@
 -- Among lists in which no name stands twice, one entry at most stands for a name.
-use Rattle.std.proofs.Common.{◌≡◌, ◌≢◌, ℕ, ◌<◌, ◌≤◌, List, [], ◌∷◌, ◌++◌, length, get_or, Option, Some, None, Bool, true, false, not, ◌&&◌, ◌||◌, cond, refl, ap, ◌∙◌, subst, arith, rules}
+use Rattle.std.proofs.Common.{◌≡◌, ◌≢◌, ℕ, ◌<◌, ◌≤◌, List, [], ◌∷◌, ◌++◌, length, get_or, Option, Some, None, Bool, true, false, not, ◌&&◌, ◌||◌}
+use Rattle.std.proofs.Common.{cond, refl, ap, ◌∙◌, subst, arith, rules}
 use Rattle.std.specs.Prelude.{position, nat_lt, codes}
 use Rattle.std.specs.List.{AllByRecursion, IsDistinct, list_any, position_or_len}
 use Rattle.std.specs.Str.{bytes_eq}
@@ -49,7 +50,8 @@ no_position p xs e = by_test (nat_lt (position_or_len p xs) (length xs)) refl e 
   by_test true h e = absurd cc
   by_test false h e =
       let far = less_false (position_or_len p xs) (length xs) h in
-      list_any_none p xs (λ k d less. let before : k < position_or_len p xs = omega (arith, less, far) in not_true (p (get_or xs k d)) (prefix_len_passes (λ x. not (p x)) xs k d before))
+      list_any_none p xs (λ k d less. let before : k < position_or_len p xs = omega (arith, less, far) in
+      not_true (p (get_or xs k d)) (prefix_len_passes (λ x. not (p x)) xs k d before))
 
 -- no element passes where the list has none that does
 pub none_at : (p : List ℕ → Bool) (xs : List (List ℕ)) (k : ℕ) (d : List ℕ) → k < length xs → list_any p xs ≡ false → p (get_or xs k d) ≡ false
@@ -67,7 +69,8 @@ or_true true = refl
 or_true false = refl
 
 -- names at two different positions differ
-apart : (listed : List (List ℕ)) (j k : ℕ) → AreDistinctNames listed → j < length listed → k < length listed → k ≢ j → bytes_eq (get_or listed k []) (get_or listed j []) ≡ false
+apart : (listed : List (List ℕ)) (j k : ℕ) → AreDistinctNames listed → j < length listed → k < length listed → k ≢ j
+    → bytes_eq (get_or listed k []) (get_or listed j []) ≡ false
 apart listed j k h j_in k_in differ = by_order (nat_lt k j) refl where
   by_order : (b : Bool) → nat_lt k j ≡ b → bytes_eq (get_or listed k []) (get_or listed j []) ≡ false
   by_order true e = let less : k < j = search rules in apart_from_distinct bytes_eq listed k j [] h less j_in
@@ -109,7 +112,8 @@ entry_for-some listed name e h found = by_name (position (bytes_eq name) listed)
         within = there.0;
         stands = (λ i. bytes_eq (get_or listed at []) name || (same i && not (unknown i))) ∙ or_true (bytes_eq (get_or listed at []) name);
         alone = λ k less differ.
-            let first : bytes_eq (get_or listed k []) name ≡ false = nat_list_eq_equiv.symm (get_or listed k []) name ∙ none_at (bytes_eq name) listed k [] less unknown in
+            let first : bytes_eq (get_or listed k []) name ≡ false = nat_list_eq_equiv.symm (get_or listed k []) name
+            ∙ none_at (bytes_eq name) listed k [] less unknown in
             let second : bytes_eq (get_or listed k []) star ≡ false = ap (bytes_eq (get_or listed k [])) equal ∙ apart listed at k h there.0 less differ in
             λ i. first i || (second i && not (unknown i));
       }
@@ -121,13 +125,17 @@ entry_for-some listed name e h found = by_name (position (bytes_eq name) listed)
 -- no entry stands for a name that has none
 pub entry_for-none : (listed : List (List ℕ)) (name : List ℕ) → entry_for listed name ≡ None → is_listed listed name ≡ false
 entry_for-none listed name missing = by_name (position (bytes_eq name) listed) refl missing where
-  at : (k : ℕ) (d : List ℕ) → k < length listed → list_any (bytes_eq name) listed ≡ false → list_any (bytes_eq star) listed ≡ false → stands_for listed (get_or listed k d) name ≡ false
+  at : (k : ℕ) (d : List ℕ) → k < length listed → list_any (bytes_eq name) listed ≡ false → list_any (bytes_eq star) listed ≡ false
+      → stands_for listed (get_or listed k d) name ≡ false
   at k d less unknown no_star =
-      let first : bytes_eq (get_or listed k d) name ≡ false = nat_list_eq_equiv.symm (get_or listed k d) name ∙ none_at (bytes_eq name) listed k d less unknown in
-      let second : bytes_eq (get_or listed k d) star ≡ false = nat_list_eq_equiv.symm (get_or listed k d) star ∙ none_at (bytes_eq star) listed k d less no_star in
+      let first : bytes_eq (get_or listed k d) name ≡ false = nat_list_eq_equiv.symm (get_or listed k d) name
+      ∙ none_at (bytes_eq name) listed k d less unknown in
+      let second : bytes_eq (get_or listed k d) star ≡ false = nat_list_eq_equiv.symm (get_or listed k d) star
+      ∙ none_at (bytes_eq star) listed k d less no_star in
       λ i. first i || (second i && not (unknown i))
 
-  by_name : (named : Option ℕ) → position (bytes_eq name) listed ≡ named → last_of (position (bytes_eq star) listed) named ≡ None → is_listed listed name ≡ false
+  by_name : (named : Option ℕ) → position (bytes_eq name) listed ≡ named → last_of (position (bytes_eq star) listed) named ≡ None
+      → is_listed listed name ≡ false
   by_name (Some k) is missing = absurd cc
   by_name None is missing =
       let unknown = no_position (bytes_eq name) listed is in let no_star = no_position (bytes_eq star) listed missing in

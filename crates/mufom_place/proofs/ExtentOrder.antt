@@ -1,5 +1,6 @@
 -- Two ways to put extents in order agree: std's sort, and the one of the definition.
-use Rattle.std.proofs.Common.{◌≡◌, ◌≢◌, ℕ, zero, suc, ◌+◌, ◌<◌, ◌≤◌, ◌⊎◌, inl, inr, List, [], ◌∷◌, length, get_or, Some, Bool, true, false, ◌&&◌, ◌||◌, cond, refl, sym, ap, ◌∙◌, subst, arith, rules, IsPermutation, is_lt, nat_cmp, Ordering, Less, Equal, Greater}
+use Rattle.std.proofs.Common.{◌≡◌, ◌≢◌, ℕ, zero, suc, ◌+◌, ◌<◌, ◌≤◌, ◌⊎◌, inl, inr, List, [], ◌∷◌, length, get_or, Some, Bool, true, false, ◌&&◌}
+use Rattle.std.proofs.Common.{◌||◌, cond, refl, sym, ap, ◌∙◌, subst, arith, rules, IsPermutation, is_lt, nat_cmp, Ordering, Less, Equal, Greater}
 use Rattle.std.specs.Prelude.{slice_get, nat_lt, ◌==◌, if◌then◌else◌, Contains}
 use Rattle.std.specs.List.{AllByRecursion, IsDistinct, enumerate_from}
 use Rattle.std.specs.List.Sorted.{IsSortedBy}
@@ -165,7 +166,8 @@ in_order-InOrder (x ∷ xs) h =
     put_in_place x (in_order xs) (λ y i e. let there = in_order_members xs y i e in each_at x xs h.0 y there.0 there.1) (in_order-InOrder xs h.1)
 
 -- the extents of numbered sections have different positions
-from_above : (m n : ℕ) (sections : List Section) (placed : List ℕ) → m < n → AllByRecursion (λ (y : Extent). (m == y.section) ≡ false) (extents (enumerate_from n sections) placed)
+from_above : (m n : ℕ) (sections : List Section) (placed : List ℕ) → m < n
+    → AllByRecursion (λ (y : Extent). (m == y.section) ≡ false) (extents (enumerate_from n sections) placed)
 from_above m n [] placed less = tt
 from_above m n (section ∷ sections) [] less = tt
 from_above m n (section ∷ sections) (base ∷ placed) less = by_case (section.size == 0) (from_above m (n + 1) sections placed (omega (arith, less))) where
@@ -175,7 +177,8 @@ from_above m n (section ∷ sections) (base ∷ placed) less = by_case (section.
 
   by_case : (b : Bool) → AllByRecursion (λ (y : Extent). (m == y.section) ≡ false) (extents (enumerate_from (n + 1) sections) placed)
       → AllByRecursion (λ (y : Extent). (m == y.section) ≡ false)
-      (if b then extents (enumerate_from (n + 1) sections) placed else record { base = base; section = n; size = section.size } ∷ extents (enumerate_from (n + 1) sections) placed)
+      (if b then extents (enumerate_from (n + 1) sections) placed
+      else record { base = base; section = n; size = section.size } ∷ extents (enumerate_from (n + 1) sections) placed)
   by_case true later = later
   by_case false later = (differ (m == n) refl, later)
 
@@ -185,7 +188,8 @@ extents-distinct n [] placed = tt
 extents-distinct n (section ∷ sections) [] = tt
 extents-distinct n (section ∷ sections) (base ∷ placed) = by_case (section.size == 0) (extents-distinct (n + 1) sections placed) where
   by_case : (b : Bool) → IsDistinct same_section (extents (enumerate_from (n + 1) sections) placed)
-      → IsDistinct same_section (if b then extents (enumerate_from (n + 1) sections) placed else record { base = base; section = n; size = section.size } ∷ extents (enumerate_from (n + 1) sections) placed)
+      → IsDistinct same_section (if b then extents (enumerate_from (n + 1) sections) placed
+      else record { base = base; section = n; size = section.size } ∷ extents (enumerate_from (n + 1) sections) placed)
   by_case true later = later
   by_case false later = (from_above n (n + 1) sections placed (omega arith), later)
 
@@ -196,15 +200,19 @@ extent_cmp x y = ordering_then (nat_cmp x.base y.base) (ordering_then (nat_cmp x
 
 -- of two extents of which the second does not come before the first, the first comes before the second
 comes_from_cmp : (x y : Extent) → x.section ≢ y.section → is_lt (extent_cmp y x) ≡ false → Comes x y
-comes_from_cmp x y differ e = by_base (nat_lt y.base x.base) (y.base == x.base) (nat_lt y.section x.section) (y.section == x.section) refl refl refl refl e where
-  by_base : (less same earlier equal : Bool) → nat_lt y.base x.base ≡ less → (y.base == x.base) ≡ same → nat_lt y.section x.section ≡ earlier → (y.section == x.section) ≡ equal
-      → is_lt (ordering_then (cond less Less (cond same Equal Greater)) (ordering_then (cond earlier Less (cond equal Equal Greater)) (nat_cmp y.size x.size))) ≡ false → Comes x y
-  by_base true same earlier equal a b c d h = absurd cc
-  by_base false true true equal a b c d h = absurd cc
-  by_base false true false equal a b c d h =
-      let level = same_of y.base x.base b in let after : x.section ≤ y.section = false_less y.section x.section c in inr (sym level, omega (arith, after, differ))
-  by_base false false earlier equal a b c d h =
-      let after : x.base ≤ y.base = false_less y.base x.base a in let other = false_equal y.base x.base b in inl (omega (arith, after, other))
+comes_from_cmp x y differ e = by_base (nat_lt y.base x.base) (y.base == x.base) (nat_lt y.section x.section) (y.section == x.section) refl refl refl
+    refl e where
+      by_base : (less same earlier equal : Bool) → nat_lt y.base x.base ≡ less → (y.base == x.base) ≡ same → nat_lt y.section x.section ≡ earlier
+          → (y.section == x.section) ≡ equal
+          → is_lt (ordering_then (cond less Less (cond same Equal Greater))
+          (ordering_then (cond earlier Less (cond equal Equal Greater)) (nat_cmp y.size x.size))) ≡ false → Comes x y
+      by_base true same earlier equal a b c d h = absurd cc
+      by_base false true true equal a b c d h = absurd cc
+      by_base false true false equal a b c d h =
+          let level = same_of y.base x.base b in let after : x.section ≤ y.section = false_less y.section x.section c in
+          inr (sym level, omega (arith, after, differ))
+      by_base false false earlier equal a b c d h =
+          let after : x.base ≤ y.base = false_less y.base x.base a in let other = false_equal y.base x.base b in inl (omega (arith, after, other))
 
 rising : (xs : List Extent) → ((k : ℕ) (d : Extent) → suc k < length xs → Comes (get_or xs k d) (get_or xs (suc k) d)) → InOrder xs
 rising [] up = tt
@@ -239,7 +247,8 @@ to_Contains xs y h = (h.0, stands_within xs h.0 y h.1, get_or_from_slice_get xs 
 from_Contains : (xs : List Extent) (y : Extent) → Contains xs y → StandsIn y xs
 from_Contains xs y h = (h.0, slice_get-get_or xs h.0 y h.1 ∙ ap Some h.2)
 
-same_order : (xs ys : List Extent) → InOrder xs → InOrder ys → ((z : Extent) → StandsIn z xs → StandsIn z ys) → ((z : Extent) → StandsIn z ys → StandsIn z xs) → xs ≡ ys
+same_order : (xs ys : List Extent) → InOrder xs → InOrder ys → ((z : Extent) → StandsIn z xs → StandsIn z ys)
+    → ((z : Extent) → StandsIn z ys → StandsIn z xs) → xs ≡ ys
 same_order [] [] o p there back = refl
 same_order [] (y ∷ ys) o p there back = let none = back y (0, refl) in absurd (empty none.0 none.1) where
   empty : (i : ℕ) → slice_get [] i ≡ Some y → ⊥
@@ -247,27 +256,30 @@ same_order [] (y ∷ ys) o p there back = let none = back y (0, refl) in absurd 
 same_order (x ∷ xs) [] o p there back = let none = there x (0, refl) in absurd (empty none.0 none.1) where
   empty : (i : ℕ) → slice_get [] i ≡ Some x → ⊥
   empty i e = cc
-same_order (x ∷ xs) (y ∷ ys) o p there back = let equal = heads (there x (0, refl)) (back y (0, refl)) in let rest = same_order xs ys o.1 p.1 (forth equal) (home equal) in λ i. equal i ∷ rest i where
-  heads : StandsIn x (y ∷ ys) → StandsIn y (x ∷ xs) → x ≡ y
-  heads (zero, e) second = cc
-  heads (suc i, e) (zero, f) = cc
-  heads (suc i, e) (suc j, f) = absurd (comes_one_way x y (o.0 y j f) (p.0 x i e))
+same_order (x ∷ xs) (y ∷ ys) o p there back = let equal = heads (there x (0, refl)) (back y (0, refl)) in let rest =
+    same_order xs ys o.1 p.1 (forth equal) (home equal) in λ i. equal i ∷ rest i where
+      heads : StandsIn x (y ∷ ys) → StandsIn y (x ∷ xs) → x ≡ y
+      heads (zero, e) second = cc
+      heads (suc i, e) (zero, f) = cc
+      heads (suc i, e) (suc j, f) = absurd (comes_one_way x y (o.0 y j f) (p.0 x i e))
 
-  forth : x ≡ y → (z : Extent) → StandsIn z xs → StandsIn z ys
-  forth equal z h = at (there z (suc h.0, h.1)) where
-    at : StandsIn z (y ∷ ys) → StandsIn z ys
-    at (zero, e) = let same : y ≡ z = cc in let here = subst (Comes x) (sym (equal ∙ same)) (o.0 z h.0 h.1) in absurd (comes_one_way x x here here)
-    at (suc i, e) = (i, e)
+      forth : x ≡ y → (z : Extent) → StandsIn z xs → StandsIn z ys
+      forth equal z h = at (there z (suc h.0, h.1)) where
+        at : StandsIn z (y ∷ ys) → StandsIn z ys
+        at (zero, e) = let same : y ≡ z = cc in let here = subst (Comes x) (sym (equal ∙ same)) (o.0 z h.0 h.1) in absurd (comes_one_way x x here here)
+        at (suc i, e) = (i, e)
 
-  home : x ≡ y → (z : Extent) → StandsIn z ys → StandsIn z xs
-  home equal z h = at (back z (suc h.0, h.1)) where
-    at : StandsIn z (x ∷ xs) → StandsIn z xs
-    at (zero, e) = let same : x ≡ z = cc in let here = subst (Comes y) (sym (sym equal ∙ same)) (p.0 z h.0 h.1) in absurd (comes_one_way y y here here)
-    at (suc i, e) = (i, e)
+      home : x ≡ y → (z : Extent) → StandsIn z ys → StandsIn z xs
+      home equal z h = at (back z (suc h.0, h.1)) where
+        at : StandsIn z (x ∷ xs) → StandsIn z xs
+        at (zero, e) = let same : x ≡ z = cc in let here = subst (Comes y) (sym (sym equal ∙ same)) (p.0 z h.0 h.1) in absurd (comes_one_way y y here here)
+        at (suc i, e) = (i, e)
 
 -- what std's sort makes of extents with different positions is their order
-pub sorted-in_order : (xs ys : List Extent) → IsDistinct same_section xs → IsPermutation xs ys → IsSortedBy (λ x y. is_lt (extent_cmp x y)) ys → ys ≡ in_order xs
+pub sorted-in_order : (xs ys : List Extent) → IsDistinct same_section xs → IsPermutation xs ys → IsSortedBy (λ x y. is_lt (extent_cmp x y)) ys → ys
+    ≡ in_order xs
 sorted-in_order xs ys h same up =
     same_order ys (in_order xs) (sorted-InOrder ys (IsDistinct-IsPermutation same_section flips xs ys same h) up) (in_order-InOrder xs h)
-    (λ z there. let in_xs = from_Contains xs z (Contains-permutation ys xs z (IsPermutation-sym xs ys same) (to_Contains ys z there)) in in_order_keeps xs z in_xs.0 in_xs.1)
+    (λ z there. let in_xs = from_Contains xs z (Contains-permutation ys xs z (IsPermutation-sym xs ys same) (to_Contains ys z there)) in
+    in_order_keeps xs z in_xs.0 in_xs.1)
     (λ z there. from_Contains ys z (Contains-permutation xs ys z same (to_Contains xs z (in_order_members xs z there.0 there.1))))

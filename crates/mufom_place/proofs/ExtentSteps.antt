@@ -15,8 +15,10 @@ some_size n differ = by_case (n == 0) refl where
 
 -- an empty section has no extent, and another one stands at its base
 pub extents-empty : (s : Numbered) (more : List Numbered) (base : ℕ) (placed : List ℕ) → s.1.size ≡ 0 → extents (s ∷ more) (base ∷ placed) ≡ extents more placed
-extents-empty s more base placed e = ap (λ t. if t then extents more placed else record { base = base; section = s.0; size = s.1.size } ∷ extents more placed) (empty_size s.1.size e)
+extents-empty s more base placed e = ap (λ t. if t then extents more placed
+    else record { base = base; section = s.0; size = s.1.size } ∷ extents more placed) (empty_size s.1.size e)
 
 pub extents-some : (s : Numbered) (more : List Numbered) (base : ℕ) (placed : List ℕ) → s.1.size ≢ 0
     → extents (s ∷ more) (base ∷ placed) ≡ record { base = base; section = s.0; size = s.1.size } ∷ extents more placed
-extents-some s more base placed e = ap (λ t. if t then extents more placed else record { base = base; section = s.0; size = s.1.size } ∷ extents more placed) (some_size s.1.size e)
+extents-some s more base placed e = ap (λ t. if t then extents more placed
+    else record { base = base; section = s.0; size = s.1.size } ∷ extents more placed) (some_size s.1.size e)

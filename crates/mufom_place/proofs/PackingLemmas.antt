@@ -12,11 +12,14 @@ use Rattle.mufom_place.specs.declared.site.Placing.{Placing}
 use Rattle.mufom_place.specs.declared.site.Waiting.{Waiting}
 use Rattle.mufom_place.specs.Bases.{aligned_up, commons_in, numbered, packed, placings, site_by}
 use Rattle.mufom_place.specs.Packing.{end_of, placings_from}
-use Rattle.mufom_place.specs.Facts.{◌or_else◌, extents, first_overlap, first_some, in_order, last_sections, misfit_by, place_refusal, sections_before, unplaced_at}
+use Rattle.mufom_place.specs.Facts.{◌or_else◌, extents, first_overlap, first_some, in_order, last_sections, misfit_by, place_refusal, sections_before}
+use Rattle.mufom_place.specs.Facts.{unplaced_at}
 
-pub packed-append : (region address : ℕ) (xs ys : List Waiting) → packed region address (xs ++ ys) ≡ packed region address xs ++ packed region (end_of address xs) ys
+pub packed-append : (region address : ℕ) (xs ys : List Waiting) → packed region address (xs ++ ys) ≡ packed region address xs
+    ++ packed region (end_of address xs) ys
 packed-append region address [] ys = refl
-packed-append region address (w ∷ xs) ys = ap (λ more. record { section = w.section; region = region; base = aligned_up w.align address } ∷ more) (packed-append region (aligned_up w.align address + w.size) xs ys)
+packed-append region address (w ∷ xs) ys = ap (λ more. record { section = w.section; region = region; base = aligned_up w.align address } ∷ more)
+    (packed-append region (aligned_up w.align address + w.size) xs ys)
 
 pub end_of-append : (address : ℕ) (xs ys : List Waiting) → end_of address (xs ++ ys) ≡ end_of (end_of address xs) ys
 end_of-append address [] ys = refl
@@ -37,7 +40,8 @@ drop-prefix (x ∷ xs) ys = drop-prefix xs ys
 
 -- where the sections of each name wait, the regions give the bases that their lists state
 pub placings_from-waiting : (waiting : List ℕ → List Waiting) (commons : List Waiting) (n : ℕ) (regions : List Region)
-    → placings_from n regions (map waiting (listed_names regions)) commons ≡ flat_map (λ r. packed r.0 r.1.base (flat_map waiting r.1.sections ++ commons_in r.1 commons)) (enumerate_from n regions)
+    → placings_from n regions (map waiting (listed_names regions)) commons
+    ≡ flat_map (λ r. packed r.0 r.1.base (flat_map waiting r.1.sections ++ commons_in r.1 commons)) (enumerate_from n regions)
 placings_from-waiting waiting commons n [] = refl
 placings_from-waiting waiting commons n (region ∷ regions) =
     let all = map-append waiting region.sections (listed_names regions) in
@@ -59,11 +63,13 @@ place_refusal-by width plan before last sections given placed whole is based non
     (λ i. none i
     or_else (first_some (misfit_by (2 ^ width) plan.regions (sym is i)) (numbered (whole i))
     or_else first_overlap (in_order (extents (numbered (whole i)) (map (λ s. (site_by (sym is i) s).base) (numbered (whole i)))))))
-    ∙ ap (λ bs. first_some (misfit_by (2 ^ width) plan.regions given) (numbered sections) or_else first_overlap (in_order (extents (numbered sections) bs))) (sym based)
+    ∙ ap (λ bs. first_some (misfit_by (2 ^ width) plan.regions given) (numbered sections)
+    or_else first_overlap (in_order (extents (numbered sections) bs))) (sym based)
 
 -- some sections and the last ones of a list are the whole list
 pub sections_rejoined : (count : ℕ) (sections : List Section) → sections_before count sections ++ last_sections count sections ≡ sections
 sections_rejoined count sections = take-append-drop (length sections - count) sections
 
 pub sum_by-part : (entries : List (List Waiting)) (start count : ℕ) → sum_by length (take count (drop start entries)) ≤ sum_by length entries
-sum_by-part entries start count = let outer = sum_by-take-drop length entries start in let inner = sum_by-take-drop length (drop start entries) count in omega (arith, outer, inner)
+sum_by-part entries start count = let outer = sum_by-take-drop length entries start in let inner =
+    sum_by-take-drop length (drop start entries) count in omega (arith, outer, inner)

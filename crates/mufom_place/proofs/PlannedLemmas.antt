@@ -1,5 +1,6 @@
 -- The base of each section, placing by placing.
-use Rattle.std.proofs.Common.{◌≡◌, ◌≢◌, ℕ, ◌<◌, List, [], ◌∷◌, ◌++◌, length, get_or, Option, Some, None, Bool, true, false, refl, sym, ap, ◌∙◌, subst, rules, get_or-set_same, get_or-set_other}
+use Rattle.std.proofs.Common.{◌≡◌, ◌≢◌, ℕ, ◌<◌, List, [], ◌∷◌, ◌++◌, length, get_or, Option, Some, None, Bool, true, false, refl, sym, ap, ◌∙◌, subst}
+use Rattle.std.proofs.Common.{rules, get_or-set_same, get_or-set_other}
 use Rattle.std.specs.Prelude.{◌==◌, if◌then◌else◌}
 use Rattle.std.proofs.Math.ListN.{set}
 use Rattle.mufom_place.specs.declared.site.Placing.{Placing}
@@ -29,7 +30,8 @@ placing_of-next [] p n = by_last (here p n) where
 placing_of-next (q ∷ ps) p n = ap (last_of (here q n)) (placing_of-next ps p n) ∙ last_of-assoc (here q n) (placing_of ps n) (here p n)
 
 -- a placing that is written at its section
-pub planned-next : (planned : List (Option Placing)) (ps : List Placing) (p : Placing) (n : ℕ) → p.section < length planned → get_or planned n None ≡ placing_of ps n
+pub planned-next : (planned : List (Option Placing)) (ps : List Placing) (p : Placing) (n : ℕ) → p.section < length planned → get_or planned n None
+    ≡ placing_of ps n
     → get_or (set planned p.section (Some p)) n None ≡ placing_of (ps ++ p ∷ []) n
 planned-next planned ps p n within before = by_case (p.section == n) refl where
   by_case : (b : Bool) → (p.section == n) ≡ b → get_or (set planned p.section (Some p)) n None ≡ placing_of (ps ++ p ∷ []) n

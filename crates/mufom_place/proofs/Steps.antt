@@ -1,5 +1,6 @@
 -- One more step of a walk over numbered sections.
-use Rattle.std.proofs.Common.{◌≡◌, ℕ, ◌+◌, ◌<◌, ◌≤◌, List, [], ◌∷◌, ◌++◌, length, take, drop, get_or, Some, None, Option, true, false, refl, sym, ap, ◌∙◌, arith}
+use Rattle.std.proofs.Common.{◌≡◌, ℕ, ◌+◌, ◌<◌, ◌≤◌, List, [], ◌∷◌, ◌++◌, length, take, drop, get_or, Some, None, Option, true, false, refl, sym, ap}
+use Rattle.std.proofs.Common.{◌∙◌, arith}
 use Rattle.std.specs.Prelude.{is_some, is_none}
 use Rattle.std.proofs.lemmas.List.{drop_all, drop_more, take_more}
 use Rattle.std.proofs.lemmas.List.FromFn.{length-enumerate_from, get_or-enumerate_from}
@@ -8,7 +9,8 @@ use Rattle.mufom_place.specs.Bases.{Numbered, numbered}
 use Rattle.mufom_place.specs.Facts.{first_some, ◌or_else◌}
 
 -- the section at a position with that position
-numbered_at : (sections : List Section) (i : ℕ) (section : Section) → i < length sections → section ≡ get_or sections i section → get_or (numbered sections) i (i, section) ≡ (i, section)
+numbered_at : (sections : List Section) (i : ℕ) (section : Section) → i < length sections → section ≡ get_or sections i section
+    → get_or (numbered sections) i (i, section) ≡ (i, section)
 numbered_at sections i section h is = let none : 0 + i ≡ i = omega arith in get_or-enumerate_from 0 sections i (i, section) h ∙ (λ j. (none j, sym is j))
 
 numbered_long : (sections : List Section) (i : ℕ) → i < length sections → i < length (numbered sections)
@@ -16,11 +18,13 @@ numbered_long sections i h = let same = length-enumerate_from 0 sections in omeg
 
 pub drop-numbered : (sections : List Section) (i : ℕ) (section : Section) → i < length sections → section ≡ get_or sections i section
     → drop i (numbered sections) ≡ (i, section) ∷ drop (i + 1) (numbered sections)
-drop-numbered sections i section h is = drop_more (numbered sections) i (i, section) (numbered_long sections i h) ∙ ap (λ s. s ∷ drop (i + 1) (numbered sections)) (numbered_at sections i section h is)
+drop-numbered sections i section h is = drop_more (numbered sections) i (i, section) (numbered_long sections i h)
+    ∙ ap (λ s. s ∷ drop (i + 1) (numbered sections)) (numbered_at sections i section h is)
 
 pub take-numbered : (sections : List Section) (i : ℕ) (section : Section) → i < length sections → section ≡ get_or sections i section
     → take (i + 1) (numbered sections) ≡ take i (numbered sections) ++ (i, section) ∷ []
-take-numbered sections i section h is = take_more (numbered sections) i (i, section) (numbered_long sections i h) ∙ ap (λ s. take i (numbered sections) ++ s ∷ []) (numbered_at sections i section h is)
+take-numbered sections i section h is = take_more (numbered sections) i (i, section) (numbered_long sections i h)
+    ∙ ap (λ s. take i (numbered sections) ++ s ∷ []) (numbered_at sections i section h is)
 
 -- a section at which nothing is found is passed over
 pub first_some-next : {B : Type 0} (f : Numbered → Option B) (s : Numbered) (more : List Numbered) → f s ≡ None → first_some f (s ∷ more) ≡ first_some f more

@@ -3,7 +3,8 @@
 -- There are two lists. The first has the sections of the modules that are placed, which go by their own bases or by the lists of the
 -- plan's regions; the second has the commons, which have no base and go to the region that takes them. The positions of the commons
 -- follow those of the sections.
-use Rattle.std.specs.Prelude.{ℕ, ◌+◌, ◌-◌, ◌*◌, ◌/◌, ◌==◌, List, [], ◌∷◌, ◌++◌, length, map, filter, Option, Some, None, is_none, Bool, not, ◌&&◌, ◌||◌, if◌then◌else◌, codes}
+use Rattle.std.specs.Prelude.{ℕ, ◌+◌, ◌-◌, ◌*◌, ◌/◌, ◌==◌, List, [], ◌∷◌, ◌++◌, length, map, filter, Option, Some, None, is_none, Bool, not, ◌&&◌}
+use Rattle.std.specs.Prelude.{◌||◌, if◌then◌else◌, codes}
 use Rattle.std.specs.List.{enumerate_from, flat_map, list_any}
 use Rattle.std.specs.Str.{bytes_eq}
 use Rattle.mufom_sections.specs.declared.section.Section.{Section}
@@ -67,7 +68,8 @@ put_into plan sections commons region = taken_by plan sections region ++ commons
 -- sections put one after another from an address on, each aligned
 abbrev pub packed : ℕ → ℕ → List Waiting → List Placing
 packed region address [] = []
-packed region address (w ∷ more) = let base = aligned_up w.align address in record { section = w.section; region = region; base = base } ∷ packed region (base + w.size) more
+packed region address (w ∷ more) = let base = aligned_up w.align address in
+    record { section = w.section; region = region; base = base } ∷ packed region (base + w.size) more
 
 -- the bases that the regions of the plan give
 abbrev pub placings : Plan → List Section → List Section → List Placing

@@ -2,7 +2,8 @@ ghost use Rattle.std.specs.Prelude.{◌≡◌, ◌≤◌, ◌<◌, ◌+◌, ◌^
 ghost use Rattle.mufom_plan.specs.Commons.{HasAtMostOneCommon, has_common};
 ghost use Rattle.mufom_plan.specs.Names.{AreDistinctNames, listed_names};
 ghost use Rattle.mufom_place.specs.Bases.{bases as bases_of, numbered, placings as placings_of};
-ghost use Rattle.mufom_place.specs.Facts.{HasNoBase, IsAddressWidth, IsAligned, IsAnswer, first_some, last_sections, place_refusal, sections_before, unplaced_at};
+ghost use Rattle.mufom_place.specs.Facts.{HasNoBase, IsAddressWidth, IsAligned, IsAnswer, first_some, last_sections, place_refusal, sections_before};
+ghost use Rattle.mufom_place.specs.Facts.{unplaced_at};
 
 use crate::PlaceRefusal;
 use crate::bases::placings;

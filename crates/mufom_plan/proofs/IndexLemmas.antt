@@ -12,7 +12,8 @@ pub list_any-seen : (name : List ℕ) (names : List (Vec ℕ Global)) → list_a
 list_any-seen name [] = refl
 list_any-seen name (kept ∷ names) = ap (λ b. bytes_eq name kept.items || b) (list_any-seen name names)
 
-pub position_or_len-seen : (name : List ℕ) (names : List (Vec ℕ Global)) → position_or_len (λ kept. bytes_eq name kept.items) names ≡ position_or_len (bytes_eq name) (seen names)
+pub position_or_len-seen : (name : List ℕ) (names : List (Vec ℕ Global)) → position_or_len (λ kept. bytes_eq name kept.items) names
+    ≡ position_or_len (bytes_eq name) (seen names)
 position_or_len-seen name [] = refl
 position_or_len-seen name (kept ∷ names) = ap (λ n. cond (not (bytes_eq name kept.items)) (1 + n) 0) (position_or_len-seen name names)
 

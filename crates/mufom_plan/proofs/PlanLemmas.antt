@@ -1,5 +1,6 @@
 -- How the regions of a plan follow from its tables, that no section name stands twice, and that at most one region takes the commons.
-use Rattle.std.proofs.Common.{◌≡◌, ℕ, ◌+◌, List, [], ◌∷◌, ◌++◌, length, Option, Some, None, Result, Ok, Err, Bool, true, false, ◌||◌, cond, ◌⊎◌, inl, inr, refl, ap, sym, ◌∙◌, subst, append_assoc, arith}
+use Rattle.std.proofs.Common.{◌≡◌, ℕ, ◌+◌, List, [], ◌∷◌, ◌++◌, length, Option, Some, None, Result, Ok, Err, Bool, true, false, ◌||◌, cond, ◌⊎◌, inl}
+use Rattle.std.proofs.Common.{inr, refl, ap, sym, ◌∙◌, subst, append_assoc, arith}
 use Rattle.std.specs.Prelude.{filter, option_map, option_and_then, nat_lt, if◌then◌else◌, codes}
 use Rattle.std.specs.List.{IsDistinct, count_by}
 use Rattle.std.proofs.lemmas.List.{append-nil, map-append}
@@ -16,9 +17,11 @@ use Rattle.mufom_plan.specs.declared.refusal.PlanRefusal.TheVariants.{Shape, Bey
 use Rattle.mufom_plan.specs.Document.{has_only_keys, items_at, number_at, text_at, truth_at}
 use Rattle.mufom_plan.specs.Names.{AreDistinctNames, has_name, region_names, listed_names}
 use Rattle.mufom_plan.specs.Commons.{has_common, HasAtMostOneCommon}
-use Rattle.mufom_plan.specs.PlanText.{◌>>=◌, or_refuse, unless, in_prefix, region_keys, region_of, region_with, regions_of, regions_at, are_tables, plan_keys, plan_of_document, new_common, new_name, new_names, before_names}
+use Rattle.mufom_plan.specs.PlanText.{◌>>=◌, or_refuse, unless, in_prefix, region_keys, region_of, region_with, regions_of, regions_at, are_tables}
+use Rattle.mufom_plan.specs.PlanText.{plan_keys, plan_of_document, new_common, new_name, new_names, before_names}
 
-in_prefix-append : (first : List Region) (region : Region) (more : Result (List Region) PlanRefusal) → in_prefix first (in_prefix (region ∷ []) more) ≡ in_prefix (first ++ region ∷ []) more
+in_prefix-append : (first : List Region) (region : Region) (more : Result (List Region) PlanRefusal) → in_prefix first (in_prefix (region ∷ []) more)
+    ≡ in_prefix (first ++ region ∷ []) more
 in_prefix-append first region (Ok regions) = ap Ok (sym (append_assoc first (region ∷ []) regions))
 in_prefix-append first region (Err refusal) = refl
 
@@ -26,7 +29,8 @@ in_prefix-append first region (Err refusal) = refl
 pub regions_of-next : (taken : List Region) (value : Data) (more : List Data) (table : Members) (region : Region) → as_table value ≡ Some table
     → region_of (length taken) (region_names taken) (listed_names taken) (has_common taken) table ≡ Ok region
     → in_prefix taken (regions_of taken (value ∷ more)) ≡ in_prefix (taken ++ region ∷ []) (regions_of (taken ++ region ∷ []) more)
-regions_of-next taken value more table region is_table is_region = rw (is_table, is_region) (in_prefix-append taken region (regions_of (taken ++ region ∷ []) more))
+regions_of-next taken value more table region is_table is_region =
+    rw (is_table, is_region) (in_prefix-append taken region (regions_of (taken ++ region ∷ []) more))
 
 pub listed_names-append : (xs : List Region) (region : Region) → listed_names (xs ++ region ∷ []) ≡ listed_names xs ++ region.sections
 listed_names-append xs region = flat_map-append (λ r. r.sections) xs (region ∷ []) ∙ ap (λ names. listed_names xs ++ names) (append-nil region.sections)
@@ -42,11 +46,14 @@ by_known earlier name more names true h e = absurd cc
 by_known earlier name None names false h e = absurd cc
 by_known earlier name (Some rest) names false h e = (h, rest, refl, cc)
 
-pub new_names-distinct : (earlier : List (List ℕ)) (values : List Data) (names : List (List ℕ)) → new_names earlier values ≡ Some names → AreDistinctNames earlier → AreDistinctNames (earlier ++ names)
-new_names-distinct earlier [] names e h = let empty : [] ≡ names = cc in subst (λ more. AreDistinctNames (earlier ++ more)) empty (subst AreDistinctNames (sym (append-nil earlier)) h)
+pub new_names-distinct : (earlier : List (List ℕ)) (values : List Data) (names : List (List ℕ)) → new_names earlier values ≡ Some names
+    → AreDistinctNames earlier → AreDistinctNames (earlier ++ names)
+new_names-distinct earlier [] names e h = let empty : [] ≡ names = cc in
+    subst (λ more. AreDistinctNames (earlier ++ more)) empty (subst AreDistinctNames (sym (append-nil earlier)) h)
 new_names-distinct earlier (value ∷ values) names e h = by_text (as_str value) e (λ name. new_names-distinct (earlier ++ name ∷ []) values) where
   by_text : (text : Option (List ℕ)) → option_and_then (λ name. before_names earlier name (new_names (earlier ++ name ∷ []) values)) text ≡ Some names
-      → ((name : List ℕ) (rest : List (List ℕ)) → new_names (earlier ++ name ∷ []) values ≡ Some rest → AreDistinctNames (earlier ++ name ∷ []) → AreDistinctNames ((earlier ++ name ∷ []) ++ rest))
+      → ((name : List ℕ) (rest : List (List ℕ)) → new_names (earlier ++ name ∷ []) values ≡ Some rest → AreDistinctNames (earlier ++ name ∷ [])
+      → AreDistinctNames ((earlier ++ name ∷ []) ++ rest))
       → AreDistinctNames (earlier ++ names)
   by_text None e later = absurd cc
   by_text (Some name) e later =
@@ -55,7 +62,8 @@ new_names-distinct earlier (value ∷ values) names e h = by_text (as_str value)
       (later name parts.1 parts.2 (IsDistinct-push nat_list_eq_equiv earlier name h parts.0))
 
 -- what stands after regions that were read
-prefix_ok : (region : Region) (more : Result (List Region) PlanRefusal) (regions : List Region) → in_prefix (region ∷ []) more ≡ Ok regions → (rest : List Region) × (more ≡ Ok rest) × (regions ≡ region ∷ rest)
+prefix_ok : (region : Region) (more : Result (List Region) PlanRefusal) (regions : List Region) → in_prefix (region ∷ []) more ≡ Ok regions
+    → (rest : List Region) × (more ≡ Ok rest) × (regions ≡ region ∷ rest)
 prefix_ok region (Ok rest) regions e = (rest, refl, cc)
 prefix_ok region (Err refusal) regions e = absurd cc
 
@@ -64,7 +72,8 @@ pub record IsRegionOf (sections : Option (List (List ℕ))) (common : Option Boo
   pub listed : sections ≡ Some region.sections
   pub taken : common ≡ Some region.common
 
-is_region_of : (place : ℕ) (only : Bool) (name : Option (List ℕ)) (base size : Option ℕ) (sections : Option (List (List ℕ))) (common : Option Bool) (region : Region)
+is_region_of : (place : ℕ) (only : Bool) (name : Option (List ℕ)) (base size : Option ℕ) (sections : Option (List (List ℕ))) (common : Option Bool)
+    (region : Region)
     → region_with place only name base size sections common ≡ Ok region → IsRegionOf sections common region
 is_region_of place false name base size sections common region e = absurd cc
 is_region_of place true None base size sections common region e = absurd cc
@@ -73,19 +82,22 @@ is_region_of place true (Some name) (Some base) None sections common region e = 
 is_region_of place true (Some name) (Some base) (Some size) None common region e = absurd cc
 is_region_of place true (Some name) (Some base) (Some size) (Some sections) None region e = absurd cc
 is_region_of place true (Some name) (Some base) (Some size) (Some sections) (Some common) region e = by_end (nat_lt 9223372036854775807 (base + size)) e where
-  by_end : (beyond : Bool) → (if beyond then Err (Beyond place) else Ok (record { name = name; base = base; size = size; sections = sections; common = common })) ≡ Ok region
+  by_end : (beyond : Bool) → (if beyond then Err (Beyond place)
+      else Ok (record { name = name; base = base; size = size; sections = sections; common = common })) ≡ Ok region
       → IsRegionOf (Some sections) (Some common) region
   by_end true e = absurd cc
   by_end false e =
       let same : record { name = name; base = base; size = size; sections = sections; common = common } ≡ region = cc in
       record { listed = ap (λ (r : Region). Some r.sections) same; taken = ap (λ (r : Region). Some r.common) same }
 
-named_by : (listed : List (List ℕ)) (values : Option (List Data)) (names : List (List ℕ)) → option_and_then (new_names listed) values ≡ Some names → AreDistinctNames listed → AreDistinctNames (listed ++ names)
+named_by : (listed : List (List ℕ)) (values : Option (List Data)) (names : List (List ℕ)) → option_and_then (new_names listed) values ≡ Some names
+    → AreDistinctNames listed → AreDistinctNames (listed ++ names)
 named_by listed None names e h = absurd cc
 named_by listed (Some values) names e h = new_names-distinct listed values names e h
 
 -- a region takes the commons only where none before does
-new_after : (earlier : Bool) (truth : Option Bool) (common : Bool) → option_and_then (new_common earlier) truth ≡ Some common → (common ≡ false) ⊎ (earlier ≡ false)
+new_after : (earlier : Bool) (truth : Option Bool) (common : Bool) → option_and_then (new_common earlier) truth ≡ Some common → (common ≡ false)
+    ⊎ (earlier ≡ false)
 new_after earlier None common e = absurd cc
 new_after true (Some true) common e = absurd cc
 new_after true (Some false) common e = inl cc
@@ -99,7 +111,8 @@ none_common (region ∷ regions) h = by_case region.common (none_common regions)
   by_case true later e = absurd cc
   by_case false later e = later e
 
-count-append : (before : List Region) (region : Region) → count_by (λ r. r.common) (before ++ region ∷ []) ≡ count_by (λ r. r.common) before + (0 + cond region.common 1 0)
+count-append : (before : List Region) (region : Region) → count_by (λ r. r.common) (before ++ region ∷ [])
+    ≡ count_by (λ r. r.common) before + (0 + cond region.common 1 0)
 count-append before region = sum_by-append (λ (r : Region). cond r.common 1 0) before (region ∷ [])
 
 one_common : (before : List Region) (region : Region) (truth : Option Bool) → option_and_then (new_common (has_common before)) truth ≡ Some region.common
@@ -112,14 +125,16 @@ one_common before region truth e h = by_case (new_after (has_common before) trut
   by_case : (region.common ≡ false) ⊎ (has_common before ≡ false) → HasAtMostOneCommon (before ++ region ∷ [])
   by_case (inl plain) = let total = count-append before region ∙ ap (λ b. count_by (λ r. r.common) before + (0 + cond b 1 0)) plain in omega (arith, total, h)
   by_case (inr free) =
-      at_most region.common (count_by (λ r. r.common) before) (sym (length-filter (λ r. r.common) before) ∙ ap length (none_common before free)) (count-append before region)
+      at_most region.common (count_by (λ r. r.common) before) (sym (length-filter (λ r. r.common) before)
+      ∙ ap length (none_common before free)) (count-append before region)
 
 -- what the regions of a plan keep: no section name stands twice, and at most one region takes the commons
 pub record IsSound (regions : List Region) : Type 0 where
   pub distinct : AreDistinctNames (listed_names regions)
   pub common : HasAtMostOneCommon regions
 
-region_of-sound : (before : List Region) (table : Members) (region : Region) → region_of (length before) (region_names before) (listed_names before) (has_common before) table ≡ Ok region
+region_of-sound : (before : List Region) (table : Members) (region : Region)
+    → region_of (length before) (region_names before) (listed_names before) (has_common before) table ≡ Ok region
     → IsSound before → IsSound (before ++ region ∷ [])
 region_of-sound before table region e h =
     let is = is_region_of (length before) (has_only_keys region_keys table)
@@ -130,25 +145,33 @@ region_of-sound before table region e h =
     (option_and_then (new_common (has_common before)) (truth_at (get_member (codes "common") table)))
     region e in
     record {
-      distinct = subst AreDistinctNames (sym (listed_names-append before region)) (named_by (listed_names before) (items_at (get_member (codes "sections") table)) region.sections is.listed h.distinct);
+      distinct = subst AreDistinctNames (sym (listed_names-append before region))
+          (named_by (listed_names before) (items_at (get_member (codes "sections") table)) region.sections is.listed h.distinct);
       common = one_common before region (truth_at (get_member (codes "common") table)) is.taken h.common;
     }
 
-regions_of-sound : (before : List Region) (values : List Data) (regions : List Region) → regions_of before values ≡ Ok regions → IsSound before → IsSound (before ++ regions)
-regions_of-sound before [] regions e h = let empty : [] ≡ regions = cc in subst (λ more. IsSound (before ++ more)) empty (subst IsSound (sym (append-nil before)) h)
+regions_of-sound : (before : List Region) (values : List Data) (regions : List Region) → regions_of before values ≡ Ok regions → IsSound before
+    → IsSound (before ++ regions)
+regions_of-sound before [] regions e h = let empty : [] ≡ regions = cc in
+    subst (λ more. IsSound (before ++ more)) empty (subst IsSound (sym (append-nil before)) h)
 regions_of-sound before (value ∷ more) regions e h = by_table (as_table value) e (λ region. regions_of-sound (before ++ region ∷ []) more) where
-  by_region : (table : Members) (answer : Result Region PlanRefusal) → region_of (length before) (region_names before) (listed_names before) (has_common before) table ≡ answer
+  by_region : (table : Members) (answer : Result Region PlanRefusal)
+      → region_of (length before) (region_names before) (listed_names before) (has_common before) table ≡ answer
       → answer >>= (λ region. in_prefix (region ∷ []) (regions_of (before ++ region ∷ []) more)) ≡ Ok regions
-      → ((region : Region) (rest : List Region) → regions_of (before ++ region ∷ []) more ≡ Ok rest → IsSound (before ++ region ∷ []) → IsSound ((before ++ region ∷ []) ++ rest))
+      → ((region : Region) (rest : List Region) → regions_of (before ++ region ∷ []) more ≡ Ok rest → IsSound (before ++ region ∷ [])
+      → IsSound ((before ++ region ∷ []) ++ rest))
       → IsSound (before ++ regions)
   by_region table (Err refusal) is e later = absurd cc
   by_region table (Ok region) is e later =
       let parts = prefix_ok region (regions_of (before ++ region ∷ []) more) regions e in
-      subst IsSound (append_assoc before (region ∷ []) parts.0 ∙ ap (λ rest. before ++ rest) (sym parts.2)) (later region parts.0 parts.1 (region_of-sound before table region is h))
+      subst IsSound (append_assoc before (region ∷ []) parts.0 ∙ ap (λ rest. before ++ rest) (sym parts.2))
+      (later region parts.0 parts.1 (region_of-sound before table region is h))
 
   by_table : (table : Option Members)
-      → or_refuse (Shape None field.Region) table >>= (λ found. region_of (length before) (region_names before) (listed_names before) (has_common before) found >>= λ region. in_prefix (region ∷ []) (regions_of (before ++ region ∷ []) more)) ≡ Ok regions
-      → ((region : Region) (rest : List Region) → regions_of (before ++ region ∷ []) more ≡ Ok rest → IsSound (before ++ region ∷ []) → IsSound ((before ++ region ∷ []) ++ rest))
+      → or_refuse (Shape None field.Region) table >>= (λ found. region_of (length before) (region_names before) (listed_names before)
+      (has_common before) found >>= λ region. in_prefix (region ∷ []) (regions_of (before ++ region ∷ []) more)) ≡ Ok regions
+      → ((region : Region) (rest : List Region) → regions_of (before ++ region ∷ []) more ≡ Ok rest → IsSound (before ++ region ∷ [])
+      → IsSound ((before ++ region ∷ []) ++ rest))
       → IsSound (before ++ regions)
   by_table None e later = absurd cc
   by_table (Some table) e later = by_region table (region_of (length before) (region_names before) (listed_names before) (has_common before) table) refl e later
@@ -164,7 +187,8 @@ at_regions (Some value) regions e = by_items (items_at (Some value)) e where
   by_tables items true h = regions_of-sound [] items regions h none_sound
   by_tables items false h = absurd cc
 
-  by_items : (items : Option (List Data)) → or_refuse (Shape None field.Region) items >>= (λ values. unless (are_tables values) (Shape None field.Region) (regions_of [] values)) ≡ Ok regions → IsSound regions
+  by_items : (items : Option (List Data)) → or_refuse (Shape None field.Region)
+      items >>= (λ values. unless (are_tables values) (Shape None field.Region) (regions_of [] values)) ≡ Ok regions → IsSound regions
   by_items None h = absurd cc
   by_items (Some items) h = by_tables items (are_tables items) h
 
@@ -178,7 +202,8 @@ plan_of_document-sound document plan e = by_keys (has_only_keys plan_keys docume
       let whole : record { regions = regions } ≡ plan = cc in
       subst IsSound (ap (λ (p : Plan). p.regions) whole) (at_regions (get_member (codes "region") document) regions is)
 
-  by_keys : (test : Bool) → unless test (Shape None field.Extra) (regions_at (get_member (codes "region") document) >>= λ regions. Ok (record { regions = regions })) ≡ Ok plan
+  by_keys : (test : Bool) → unless test (Shape None field.Extra)
+      (regions_at (get_member (codes "region") document) >>= λ regions. Ok (record { regions = regions })) ≡ Ok plan
       → IsSound plan.regions
   by_keys true h = by_regions (regions_at (get_member (codes "region") document)) refl h
   by_keys false h = absurd cc
@@ -190,6 +215,7 @@ has_common-append [] region = by_case region.common where
   by_case true = refl
   by_case false = refl
 has_common-append (first ∷ before) region = by_case first.common (has_common-append before region) where
-  by_case : (b : Bool) → has_common (before ++ region ∷ []) ≡ (has_common before || region.common) → (b || has_common (before ++ region ∷ [])) ≡ ((b || has_common before) || region.common)
+  by_case : (b : Bool) → has_common (before ++ region ∷ []) ≡ (has_common before || region.common) → (b || has_common (before ++ region ∷ []))
+      ≡ ((b || has_common before) || region.common)
   by_case true later = refl
   by_case false later = later

@@ -1,5 +1,6 @@
 -- The plan that bytes state, or the first thing that is wrong with them.
-use Rattle.std.specs.Prelude.{ℕ, ◌+◌, ◌==◌, List, [], ◌∷◌, ◌++◌, length, Option, Some, None, option_map, option_and_then, Result, Ok, Err, Bool, true, false, ◌&&◌, ◌||◌, not, nat_lt, is_some, if◌then◌else◌, codes}
+use Rattle.std.specs.Prelude.{ℕ, ◌+◌, ◌==◌, List, [], ◌∷◌, ◌++◌, length, Option, Some, None, option_map, option_and_then, Result, Ok, Err, Bool, true}
+use Rattle.std.specs.Prelude.{false, ◌&&◌, ◌||◌, not, nat_lt, is_some, if◌then◌else◌, codes}
 use Rattle.std.specs.List.{list_all}
 use Rattle.toml.specs.Data.{Data, as_str, as_table, Members, get_member}
 use Rattle.mufom_plan.specs.declared.plan.Region.{Region}
@@ -95,7 +96,8 @@ are_tables values = list_all (λ value. is_some (as_table value)) values
 -- the regions at the key `region`, where an array of tables or nothing stands
 abbrev pub regions_at : Option Data → Result (List Region) PlanRefusal
 regions_at None = Ok []
-regions_at (Some value) = or_refuse (Shape None field.Region) (items_at (Some value)) >>= λ items. unless (are_tables items) (Shape None field.Region) (regions_of [] items)
+regions_at (Some value) = or_refuse (Shape None field.Region) (items_at (Some value)) >>= λ items. unless (are_tables items) (Shape None field.Region)
+    (regions_of [] items)
 
 -- the plan of a document
 abbrev pub plan_of_document : Members → Result Plan PlanRefusal

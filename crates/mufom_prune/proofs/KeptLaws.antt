@@ -1,5 +1,7 @@
 -- What is kept, list by list: what a kept entry mentions is kept.
-use Rattle.std.proofs.Common.{◌≡◌, ℕ, zero, suc, ◌+◌, ◌<◌, ◌≤◌, List, [], ◌∷◌, ◌++◌, length, map, flat_map, take, drop, get_or, slice_get, option_to_list, Option, Some, None, inl, inr, Bool, true, false, ◌||◌, ◌&&◌, if◌then◌else◌, refl, sym, ap, subst, ◌∙◌, true≢false, arith, rules, eq-eqb}
+use Rattle.std.proofs.Common.{◌≡◌, ℕ, zero, suc, ◌+◌, ◌<◌, ◌≤◌, List, [], ◌∷◌, ◌++◌, length, map, flat_map, take, drop, get_or, slice_get}
+use Rattle.std.proofs.Common.{option_to_list, Option, Some, None, inl, inr, Bool, true, false, ◌||◌, ◌&&◌, if◌then◌else◌, refl, sym, ap, subst, ◌∙◌}
+use Rattle.std.proofs.Common.{true≢false, arith, rules, eq-eqb}
 use Rattle.std.specs.Prelude.{nat_le, option_map}
 use Rattle.std.proofs.lemmas.List.{get_or-take, get_or-drop, length-map}
 use Rattle.std.proofs.lemmas.Option.{slice_get-map}
@@ -20,7 +22,8 @@ use Rattle.mufom_plan.specs.Names.{has_name}
 use Rattle.mufom_meaning.proofs.Members.{In}
 use Rattle.mufom_prune.specs.Reached.{HasAll}
 use Rattle.mufom_prune.specs.Kept.{first_for, entry_of, mentions, all_mentions, load_trees, home, mentions_for, section_needs, based_from, named, needs, IsKept}
-use Rattle.mufom_prune.specs.Pruned.{remaining, new_positions, positions_of, new_variable, new_public, is_left, stays, remains, without_others, with_commons, remaining_names}
+use Rattle.mufom_prune.specs.Pruned.{remaining, new_positions, positions_of, new_variable, new_public, is_left, stays, remains, without_others}
+use Rattle.mufom_prune.specs.Pruned.{with_commons, remaining_names}
 use Rattle.mufom_prune.specs.Steps.{entry_count}
 use Rattle.mufom_prune.proofs.NeedLaws.{length-needs, length-section_needs}
 use Rattle.mufom_prune.proofs.RemainLaws.{length-commons}
@@ -51,7 +54,8 @@ new_below k (true ∷ marks) (x ∷ xs) (suc n) same e = let rest = new_below (s
 new_below k (false ∷ marks) (x ∷ xs) zero same e = absurd (true≢false (sym e))
 new_below k (false ∷ marks) (x ∷ xs) (suc n) same e = new_below k marks xs n (omega (arith, same)) e
 
-pub commons_marked : (names : List (List ℕ)) (marks : List Bool) (references : List Reference) (n : ℕ) → length marks ≡ length references → is_marked marks n ≡ true
+pub commons_marked : (names : List (List ℕ)) (marks : List Bool) (references : List Reference) (n : ℕ) → length marks ≡ length references
+    → is_marked marks n ≡ true
     → is_marked (with_commons names marks references) n ≡ true
 commons_marked names [] references n same e = absurd (true≢false (sym e))
 commons_marked names (mark ∷ marks) [] n same e = absurd (omega (arith, same))
@@ -80,7 +84,8 @@ get_left (y ∷ xs) ys (suc n) x e = get_left xs ys n x e
 get_right : {X : Type 0} (xs ys : List X) (k n : ℕ) → k ≡ length xs → slice_get (xs ++ ys) (k + n) ≡ slice_get ys n
 get_right [] ys k n e = let same : k + n ≡ n = omega (arith, e) in ap (slice_get ys) same
 get_right (x ∷ xs) ys zero n e = absurd (omega (arith, e))
-get_right (x ∷ xs) ys (suc k) n e = let same : suc k + n ≡ suc (k + n) = omega arith in ap (slice_get (x ∷ (xs ++ ys))) same ∙ get_right xs ys k n (omega (arith, e))
+get_right (x ∷ xs) ys (suc k) n e = let same : suc k + n ≡ suc (k + n) = omega arith in ap (slice_get (x ∷ (xs ++ ys))) same
+    ∙ get_right xs ys k n (omega (arith, e))
 
 section_needs_at : (m : Parts) (placed : List (Option ℕ × Load)) (k : ℕ) (sections : List Section) (n : ℕ) → n < length sections
     → slice_get (section_needs m placed k sections) n ≡ Some (flat_map (mentions_for m (k + n)) placed)
@@ -134,7 +139,8 @@ module _ (m : Parts) (keep : List ℕ) (marks : List Bool) (kept : IsKept m keep
       let low : n < length m.names.publics = omega (arith, inside, publics_sized) in
       sym (get_or-drop (length m.sections) marks n false) ∙ sym (get_or-take (length m.names.publics) (drop (length m.sections) marks) n false low) ∙ h
 
-  pub mention_kept : (n : ℕ) → is_marked marks (length m.sections + length m.names.publics + n) ≡ true → is_marked (drop (length m.names.publics) (drop (length m.sections) marks)) n ≡ true
+  pub mention_kept : (n : ℕ) → is_marked marks (length m.sections + length m.names.publics + n) ≡ true
+      → is_marked (drop (length m.names.publics) (drop (length m.sections) marks)) n ≡ true
   mention_kept n h =
       let at : length m.sections + (length m.names.publics + n) ≡ length m.sections + length m.names.publics + n = omega arith in
       get_or-drop (length m.names.publics) (drop (length m.sections) marks) n false
@@ -146,13 +152,15 @@ module _ (m : Parts) (keep : List ℕ) (marks : List Bool) (kept : IsKept m keep
       let marks' = drop (length m.names.publics) (drop (length m.sections) marks) in
       commons_marked (remaining_names marks' m.names.references) marks' m.names.references n mentioned_sized (mention_kept n h)
 
-  section_inside : (n : ℕ) → n < length m.sections → is_marked marks n ≡ true → nat_le (length (remaining (remains m marks).sections m.sections)) (get_or (new_positions 0 (remains m marks).sections) n 0) ≡ false
+  section_inside : (n : ℕ) → n < length m.sections → is_marked marks n ≡ true
+      → nat_le (length (remaining (remains m marks).sections m.sections)) (get_or (new_positions 0 (remains m marks).sections) n 0) ≡ false
   section_inside n low h =
       let c = remains m marks in
       let less = new_below 0 c.sections m.sections n sections_sized (section_kept n low h) in
       not_outside (length (remaining c.sections m.sections)) (get_or (new_positions 0 c.sections) n 0) (omega (arith, less))
 
-  pub new_section : (n : ℕ) → is_marked (remains m marks).sections n ≡ true → nat_le (length (remaining (remains m marks).sections m.sections)) (get_or (new_positions 0 (remains m marks).sections) n 0) ≡ false
+  pub new_section : (n : ℕ) → is_marked (remains m marks).sections n ≡ true
+      → nat_le (length (remaining (remains m marks).sections m.sections)) (get_or (new_positions 0 (remains m marks).sections) n 0) ≡ false
   new_section n h = let was = section_was n h in section_inside n was.0 was.1
 
   -- the new position of a kept entry is one of the new lists
@@ -162,7 +170,8 @@ module _ (m : Parts) (keep : List ℕ) (marks : List Bool) (kept : IsKept m keep
       let c = remains m marks in
       let less = new_below 0 c.publics m.names.publics n publics_sized (public_kept n low h) in
       let all = length-map (remaining c.publics m.names.publics) (new_public (positions_of c)) in
-      not_outside (length (map (new_public (positions_of c)) (remaining c.publics m.names.publics))) (get_or (new_positions 0 c.publics) n 0) (omega (arith, less, all))
+      not_outside (length (map (new_public (positions_of c)) (remaining c.publics m.names.publics))) (get_or (new_positions 0 c.publics) n 0)
+      (omega (arith, less, all))
   new_inside (letters.L, n) low h = let from : 0 + n ≡ n = omega arith in section_inside n low (ap (is_marked marks) (sym from) ∙ h)
   new_inside (letters.P, n) low h = let from : 0 + n ≡ n = omega arith in section_inside n low (ap (is_marked marks) (sym from) ∙ h)
   new_inside (letters.R, n) low h = let from : 0 + n ≡ n = omega arith in section_inside n low (ap (is_marked marks) (sym from) ∙ h)
@@ -177,15 +186,18 @@ module _ (m : Parts) (keep : List ℕ) (marks : List Bool) (kept : IsKept m keep
   -- a variable of an expression whose mentions are kept
   pub variable_kept : (t : Tree) → HasAll (is_marked marks) (mentions m t) → (v : Letter × ℕ) → In v (variables_of t) → is_outside (counts_of m) v ≡ false
       → is_marked marks (first_for m v.0 + v.1) ≡ true
-  variable_kept t all v h low = by_case (is_outside (counts_of m) v) low (all_at (is_marked marks) (λ v. option_to_list (entry_of m v)) (variables_of t) v all h) where
-    by_case : (b : Bool) → b ≡ false → HasAll (is_marked marks) (option_to_list (if b then None else Some (first_for m v.0 + v.1))) → is_marked marks (first_for m v.0 + v.1) ≡ true
-    by_case true e h = absurd (true≢false e)
-    by_case false e h = h.0
+  variable_kept t all v h low = by_case (is_outside (counts_of m) v) low
+      (all_at (is_marked marks) (λ v. option_to_list (entry_of m v)) (variables_of t) v all h) where
+        by_case : (b : Bool) → b ≡ false → HasAll (is_marked marks) (option_to_list (if b then None else Some (first_for m v.0 + v.1)))
+            → is_marked marks (first_for m v.0 + v.1) ≡ true
+        by_case true e h = absurd (true≢false e)
+        by_case false e h = h.0
 
   needs_section : (n : ℕ) → n < length m.sections → slice_get (needs m) n ≡ Some (flat_map (mentions_for m n) (placed_loads m))
   needs_section n low =
       let from : 0 + n ≡ n = omega arith in
-      get_left (section_needs m (placed_loads m) 0 m.sections) _ n _ (section_needs_at m (placed_loads m) 0 m.sections n low ∙ ap (λ i. Some (flat_map (mentions_for m i) (placed_loads m))) from)
+      get_left (section_needs m (placed_loads m) 0 m.sections) _ n _ (section_needs_at m (placed_loads m) 0 m.sections n low
+      ∙ ap (λ i. Some (flat_map (mentions_for m i) (placed_loads m))) from)
 
   needs_public : (n : ℕ) (p : Public) → slice_get m.names.publics n ≡ Some p → slice_get (needs m) (length m.sections + n) ≡ Some (mentions m p.value)
   needs_public n p e =
@@ -193,29 +205,36 @@ module _ (m : Parts) (keep : List ℕ) (marks : List Bool) (kept : IsKept m keep
       ∙ get_left (map (λ (p : Public). mentions m p.value) m.names.publics) _ n (mentions m p.value)
       (slice_get-map (λ (p : Public). mentions m p.value) m.names.publics n ∙ ap (option_map (λ (p : Public). mentions m p.value)) e)
 
-  needs_reference : (n : ℕ) (r : Reference) → slice_get m.names.references n ≡ Some r → slice_get (needs m) (length m.sections + length m.names.publics + n) ≡ Some (option_to_list (named m r.name))
+  needs_reference : (n : ℕ) (r : Reference) → slice_get m.names.references n ≡ Some r
+      → slice_get (needs m) (length m.sections + length m.names.publics + n) ≡ Some (option_to_list (named m r.name))
   needs_reference n r e =
       let second = map (λ (p : Public). mentions m p.value) m.names.publics in
       let third = map (λ (r : Reference). option_to_list (named m r.name)) m.names.references in
       let at : length m.sections + length m.names.publics + n ≡ length m.sections + (length m.names.publics + n) = omega arith in
       ap (slice_get (needs m)) at
-      ∙ get_right (section_needs m (placed_loads m) 0 m.sections) (second ++ third) (length m.sections) (length m.names.publics + n) (sym (length-section_needs m (placed_loads m) 0 m.sections))
+      ∙ get_right (section_needs m (placed_loads m) 0 m.sections) (second
+      ++ third) (length m.sections) (length m.names.publics + n) (sym (length-section_needs m (placed_loads m) 0 m.sections))
       ∙ get_right second third (length m.names.publics) n (sym (length-map m.names.publics (λ (p : Public). mentions m p.value)))
-      ∙ slice_get-map (λ (r : Reference). option_to_list (named m r.name)) m.names.references n ∙ ap (option_map (λ (r : Reference). option_to_list (named m r.name))) e
+      ∙ slice_get-map (λ (r : Reference). option_to_list (named m r.name)) m.names.references n
+      ∙ ap (option_map (λ (r : Reference). option_to_list (named m r.name))) e
 
   -- what the value of a kept public mentions is kept
-  pub public_mentions : (n : ℕ) (p : Public) → slice_get m.names.publics n ≡ Some p → is_marked (remains m marks).publics n ≡ true → HasAll (is_marked marks) (mentions m p.value)
+  pub public_mentions : (n : ℕ) (p : Public) → slice_get m.names.publics n ≡ Some p → is_marked (remains m marks).publics n ≡ true
+      → HasAll (is_marked marks) (mentions m p.value)
   public_mentions n p e h = kept.closed.further (length m.sections + n) (mentions m p.value) (public_was n h) (needs_public n p e)
 
   -- the public of a kept reference's name is kept
-  pub reference_names : (n : ℕ) (r : Reference) → slice_get m.names.references n ≡ Some r → is_marked marks (length m.sections + length m.names.publics + n) ≡ true
+  pub reference_names : (n : ℕ) (r : Reference) → slice_get m.names.references n ≡ Some r
+      → is_marked marks (length m.sections + length m.names.publics + n) ≡ true
       → HasAll (is_marked marks) (option_to_list (named m r.name))
   reference_names n r e h = kept.closed.further (length m.sections + length m.names.publics + n) (option_to_list (named m r.name)) h (needs_reference n r e)
 
   -- what a load that remains mentions is kept
-  pub load_mentions : (p : Option ℕ × Load) → In p (placed_loads m) → stays (remains m marks).sections p ≡ true → HasAll (is_marked marks) (all_mentions m (load_trees p.1))
+  pub load_mentions : (p : Option ℕ × Load) → In p (placed_loads m) → stays (remains m marks).sections p ≡ true
+      → HasAll (is_marked marks) (all_mentions m (load_trees p.1))
   load_mentions p h left = by_home (home p.0 p.1) refl left where
-    here : (s : ℕ) (o : Option ℕ) → o ≡ Some s → HasAll (is_marked marks) (if is_this o s then all_mentions m (load_trees p.1) else []) → HasAll (is_marked marks) (all_mentions m (load_trees p.1))
+    here : (s : ℕ) (o : Option ℕ) → o ≡ Some s → HasAll (is_marked marks) (if is_this o s then all_mentions m (load_trees p.1) else [])
+        → HasAll (is_marked marks) (all_mentions m (load_trees p.1))
     here s o e a =
         let its : is_this o s ≡ true = ap (λ o. is_this o s) e ∙ eq-eqb s s refl in
         subst (λ b. HasAll (is_marked marks) (if b then all_mentions m (load_trees p.1) else [])) its a

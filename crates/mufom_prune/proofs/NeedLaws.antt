@@ -1,5 +1,7 @@
 -- What entries need, found step by step, and that it is made of entries.
-use Rattle.std.proofs.Common.{◌≡◌, ℕ, zero, suc, ◌+◌, ◌<◌, ◌≤◌, ◌^◌, ◌||◌, List, [], ◌∷◌, ◌++◌, length, map, flat_map, set, get_or, replicate, option_to_list, Option, Some, None, Bool, true, false, if◌then◌else◌, eq-eqb, eqb-true, refl, sym, ap, ◌∙◌, append-nil, append_assoc, arith, rules}
+use Rattle.std.proofs.Common.{◌≡◌, ℕ, zero, suc, ◌+◌, ◌<◌, ◌≤◌, ◌^◌, ◌||◌, List, [], ◌∷◌, ◌++◌, length, map, flat_map, set, get_or, replicate}
+use Rattle.std.proofs.Common.{option_to_list, Option, Some, None, Bool, true, false, if◌then◌else◌, eq-eqb, eqb-true, refl, sym, ap, ◌∙◌, append-nil}
+use Rattle.std.proofs.Common.{append_assoc, arith, rules}
 use Rattle.std.specs.Prelude.{nat_le, is_some, ◌==◌}
 use Rattle.std.specs.Str.{bytes_eq}
 use Rattle.std.proofs.lemmas.List.{length-map}
@@ -25,7 +27,8 @@ use Rattle.mufom_module.proofs.EntryCounts.{counted}
 use Rattle.mufom_plan.specs.Names.{has_name}
 use Rattle.mufom_meaning.proofs.Choices.{of_not_le}
 use Rattle.mufom_meaning.proofs.NoDefects.{no_defect}
-use Rattle.mufom_prune.specs.Kept.{first_for, entry_of, mentions, all_mentions, load_trees, home, mentions_for, section_needs, named_from, named, needs, based_from, roots}
+use Rattle.mufom_prune.specs.Kept.{first_for, entry_of, mentions, all_mentions, load_trees, home, mentions_for, section_needs, named_from, named}
+use Rattle.mufom_prune.specs.Kept.{needs, based_from, roots}
 use Rattle.mufom_prune.specs.Steps.{entry_count, with_names, with_more, with_loads, reference_needs}
 use Rattle.mufom_prune.specs.Underway.{AreBelow, AllBelow}
 
@@ -35,7 +38,8 @@ first_of-choice : (b : Bool) (n : ℕ) (rest : Option ℕ) → first_of (given b
 first_of-choice true n rest = refl
 first_of-choice false n rest = refl
 
-position_of-names : (es : List Entry) (n : ℕ) (publics : List Public) (name : List ℕ) → position_of (with_names es n publics) name ≡ first_of (position_of es name) (named_from n publics name)
+position_of-names : (es : List Entry) (n : ℕ) (publics : List Public) (name : List ℕ) → position_of (with_names es n publics) name
+    ≡ first_of (position_of es name) (named_from n publics name)
 position_of-names es n [] name = sym (first_of-None (position_of es name))
 position_of-names es n (p ∷ publics) name =
     let rest = named_from (suc n) publics name in
@@ -102,7 +106,8 @@ plus_one n p placed k (e ∷ es) = λ i. head (is_this (home p.0 p.1) k) i ∷ p
   more : List ℕ
   more = all_mentions n (load_trees p.1)
 
-  head : (b : Bool) → (if b then e ++ all_mentions n (load_trees p.1) else e) ++ flat_map (mentions_for n k) placed ≡ e ++ ((if b then all_mentions n (load_trees p.1) else []) ++ flat_map (mentions_for n k) placed)
+  head : (b : Bool) → (if b then e ++ all_mentions n (load_trees p.1) else e) ++ flat_map (mentions_for n k) placed ≡ e
+      ++ ((if b then all_mentions n (load_trees p.1) else []) ++ flat_map (mentions_for n k) placed)
   head true = append_assoc e (all_mentions n (load_trees p.1)) (flat_map (mentions_for n k) placed)
   head false = refl
 
@@ -113,11 +118,13 @@ with_loads-plus n es (p ∷ placed) =
     ∙ ap (plus_loads n placed 0) (with_more-add es (home p.0 p.1) (all_mentions n (load_trees p.1)))
     ∙ plus_one n p placed 0 es
 
-plus_empty : (n : Parts) (placed : List (Option ℕ × Load)) (k : ℕ) (sections : List Section) → plus_loads n placed k (replicate (length sections) []) ≡ section_needs n placed k sections
+plus_empty : (n : Parts) (placed : List (Option ℕ × Load)) (k : ℕ) (sections : List Section) → plus_loads n placed k (replicate (length sections) [])
+    ≡ section_needs n placed k sections
 plus_empty n placed k [] = refl
 plus_empty n placed k (s ∷ sections) = ap (λ rest. flat_map (mentions_for n k) placed ∷ rest) (plus_empty n placed (suc k) sections)
 
-pub loads_are_needs : (n : Parts) (placed : List (Option ℕ × Load)) (sections : List Section) → with_loads n (replicate (length sections) []) placed ≡ section_needs n placed 0 sections
+pub loads_are_needs : (n : Parts) (placed : List (Option ℕ × Load)) (sections : List Section) → with_loads n (replicate (length sections) []) placed
+    ≡ section_needs n placed 0 sections
 loads_are_needs n placed sections = with_loads-plus n (replicate (length sections) []) placed ∙ plus_empty n placed 0 sections
 
 -- ---- all that is needed is an entry
@@ -161,7 +168,10 @@ mentions_for-below n k p = by_case (is_this (home p.0 p.1) k) where
 
 sections-below : (n : Parts) (placed : List (Option ℕ × Load)) (k : ℕ) (sections : List Section) → AllBelow (entry_count n) (section_needs n placed k sections)
 sections-below n placed k [] = tt
-sections-below n placed k (s ∷ sections) = (below_all (entry_count n) (mentions_for n k) (mentions_for-below n k) placed, sections-below n placed (suc k) sections)
+sections-below n placed k (s ∷ sections) = (
+  below_all (entry_count n) (mentions_for n k) (mentions_for-below n k) placed,
+  sections-below n placed (suc k) sections,
+)
 
 mapped-below : {X : Type 0} (k : ℕ) (f : X → List ℕ) → ((x : X) → AreBelow k (f x)) → (xs : List X) → AllBelow k (map f xs)
 mapped-below k f h [] = tt
@@ -171,17 +181,20 @@ all_join : (k : ℕ) (xs ys : List (List ℕ)) → AllBelow k xs → AllBelow k 
 all_join k [] ys a b = b
 all_join k (x ∷ xs) ys a b = (a.0, all_join k xs ys a.1 b)
 
-named-below : (k : ℕ) (publics : List Public) (name : List ℕ) (size : ℕ) → k + length publics ≤ size → AreBelow size (option_to_list (named_from k publics name))
+named-below : (k : ℕ) (publics : List Public) (name : List ℕ) (size : ℕ) → k + length publics ≤ size
+    → AreBelow size (option_to_list (named_from k publics name))
 named-below k [] name size low = tt
 named-below k (p ∷ publics) name size low = by_case (bytes_eq name p.name) (named-below (suc k) publics name size (omega (arith, low))) where
-  by_case : (b : Bool) → AreBelow size (option_to_list (named_from (suc k) publics name)) → AreBelow size (option_to_list (if b then Some k else named_from (suc k) publics name))
+  by_case : (b : Bool) → AreBelow size (option_to_list (named_from (suc k) publics name))
+      → AreBelow size (option_to_list (if b then Some k else named_from (suc k) publics name))
   by_case true rest = (omega (arith, low), tt)
   by_case false rest = rest
 
 based-below : (k : ℕ) (sections : List Section) (size : ℕ) → k + length sections ≤ size → AreBelow size (based_from k sections)
 based-below k [] size low = tt
 based-below k (s ∷ sections) size low = by_case (is_some s.base) (based-below (suc k) sections size (omega (arith, low))) where
-  by_case : (b : Bool) → AreBelow size (based_from (suc k) sections) → AreBelow size (if b then k ∷ based_from (suc k) sections else based_from (suc k) sections)
+  by_case : (b : Bool) → AreBelow size (based_from (suc k) sections)
+      → AreBelow size (if b then k ∷ based_from (suc k) sections else based_from (suc k) sections)
   by_case true rest = (omega (arith, low), rest)
   by_case false rest = rest
 
@@ -189,7 +202,8 @@ length-join : {X : Type 0} (xs ys : List X) → length (xs ++ ys) ≡ length xs 
 length-join [] ys = omega arith
 length-join (x ∷ xs) ys = let rest = length-join xs ys in omega (arith, rest)
 
-pub length-section_needs : (n : Parts) (placed : List (Option ℕ × Load)) (k : ℕ) (sections : List Section) → length (section_needs n placed k sections) ≡ length sections
+pub length-section_needs : (n : Parts) (placed : List (Option ℕ × Load)) (k : ℕ) (sections : List Section)
+    → length (section_needs n placed k sections) ≡ length sections
 length-section_needs n placed k [] = refl
 length-section_needs n placed k (s ∷ sections) = ap suc (length-section_needs n placed (suc k) sections)
 
@@ -209,8 +223,10 @@ length-needs m =
 pub needs-inside : (m : Parts) → AllBelow (entry_count m) (needs m)
 needs-inside m =
     all_join (entry_count m) (section_needs m (placed_loads m) 0 m.sections) _ (sections-below m (placed_loads m) 0 m.sections)
-    (all_join (entry_count m) (map (λ (p : Public). mentions m p.value) m.names.publics) _ (mapped-below (entry_count m) (λ (p : Public). mentions m p.value) (λ p. mentions-below m p.value) m.names.publics)
-    (mapped-below (entry_count m) (λ (r : Reference). option_to_list (named m r.name)) (λ r. named-below (length m.sections) m.names.publics r.name (entry_count m) (omega arith)) m.names.references))
+    (all_join (entry_count m) (map (λ (p : Public). mentions m p.value) m.names.publics) _
+    (mapped-below (entry_count m) (λ (p : Public). mentions m p.value) (λ p. mentions-below m p.value) m.names.publics)
+    (mapped-below (entry_count m) (λ (r : Reference). option_to_list (named m r.name))
+    (λ r. named-below (length m.sections) m.names.publics r.name (entry_count m) (omega arith)) m.names.references))
 
 pub roots-inside : (m : Parts) (keep : List ℕ) → AreBelow (entry_count m) (roots m keep)
 roots-inside m keep =
@@ -220,7 +236,8 @@ roots-inside m keep =
 
 -- ---- the name is known or not
 
-pub none_named : (n : ℕ) (publics : List Public) (name : List ℕ) → named_from n publics name ≡ None → has_name (map (λ (p : Public). p.name) publics ++ []) name ≡ false
+pub none_named : (n : ℕ) (publics : List Public) (name : List ℕ) → named_from n publics name ≡ None
+    → has_name (map (λ (p : Public). p.name) publics ++ []) name ≡ false
 none_named n [] name e = refl
 none_named n (p ∷ publics) name e = by_case (bytes_eq name p.name) e (none_named (suc n) publics name) where
   by_case : (b : Bool) → (if b then Some n else named_from (suc n) publics name) ≡ None
@@ -229,7 +246,8 @@ none_named n (p ∷ publics) name e = by_case (bytes_eq name p.name) e (none_nam
   by_case true e later = absurd cc
   by_case false e later = later e
 
-pub some_named : (n : ℕ) (publics : List Public) (name : List ℕ) (k : ℕ) → named_from n publics name ≡ Some k → has_name (map (λ (p : Public). p.name) publics ++ []) name ≡ true
+pub some_named : (n : ℕ) (publics : List Public) (name : List ℕ) (k : ℕ) → named_from n publics name ≡ Some k
+    → has_name (map (λ (p : Public). p.name) publics ++ []) name ≡ true
 some_named n [] name k e = absurd cc
 some_named n (p ∷ publics) name k e = by_case (bytes_eq name p.name) e (some_named (suc n) publics name k) where
   by_case : (b : Bool) → (if b then Some n else named_from (suc n) publics name) ≡ Some k

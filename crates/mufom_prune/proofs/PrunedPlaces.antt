@@ -1,5 +1,6 @@
 -- The positions and program counters of what remains are those of its own lists.
-use Rattle.std.proofs.Common.{◌≡◌, ℕ, List, [], ◌∷◌, map, filter, get_or, Option, Some, None, inl, inr, Bool, true, false, not, ◌||◌, ◌&&◌, cond, refl, sym, ap, ◌∙◌, true≢false, eq-eqb, rules}
+use Rattle.std.proofs.Common.{◌≡◌, ℕ, List, [], ◌∷◌, map, filter, get_or, Option, Some, None, inl, inr, Bool, true, false, not, ◌||◌, ◌&&◌, cond}
+use Rattle.std.proofs.Common.{refl, sym, ap, ◌∙◌, true≢false, eq-eqb, rules}
 use Rattle.std.specs.Prelude.{is_none, option_map}
 use Rattle.std.specs.List.{list_any}
 use Rattle.mufom_expr.specs.declared.token.Letter.{Letter}
@@ -34,15 +35,18 @@ load_was test (SetSection section) e t h = absurd h
 load_was test (SetPc section value) e t (inl same) = ap test (sym same) ∙ e
 load_was test (SetPc section value) e t (inr h) = absurd h
 load_was test (One item) e t h = item_was test item e t h
-load_was test (Repeat count items) e t h = let its = flat_map-In item_trees t items h in item_was test its.0 (fails-In (item_any test) items e its.0 its.1) t its.2
+load_was test (Repeat count items) e t h = let its = flat_map-In item_trees t items h in
+    item_was test its.0 (fails-In (item_any test) items e its.0 its.1) t its.2
 
 module _ (new : NewPositions) where
-  item_fails : (test : Tree → Bool) (item : Item) → ((t : Tree) → In t (item_trees item) → test (new_tree new t) ≡ false) → item_any test (new_item new item) ≡ false
+  item_fails : (test : Tree → Bool) (item : Item) → ((t : Tree) → In t (item_trees item) → test (new_tree new t) ≡ false)
+      → item_any test (new_item new item) ≡ false
   item_fails test (Literal bytes) each = refl
   item_fails test (Field kind t size) each = each t (inl refl)
 
   -- a test that fails at each new expression of a load fails at the new load
-  pub load_fails : (test : Tree → Bool) (load : Load) → ((t : Tree) → In t (load_trees load) → test (new_tree new t) ≡ false) → load_any test (new_load new load) ≡ false
+  pub load_fails : (test : Tree → Bool) (load : Load) → ((t : Tree) → In t (load_trees load) → test (new_tree new t) ≡ false)
+      → load_any test (new_load new load) ≡ false
   load_fails test (SetSection section) each = refl
   load_fails test (SetPc section t) each = each t (inl refl)
   load_fails test (One item) each = item_fails test item each
@@ -52,7 +56,8 @@ module _ (new : NewPositions) where
 
   -- ---- program counters
 
-  pub tree_fails : (other : Letter × ℕ → Bool) (t : Tree) → ((v : Letter × ℕ) → In v (variables_of t) → other (new_variable new v.0 v.1) ≡ false) → list_any other (variables_of (new_tree new t)) ≡ false
+  pub tree_fails : (other : Letter × ℕ → Bool) (t : Tree) → ((v : Letter × ℕ) → In v (variables_of t) → other (new_variable new v.0 v.1) ≡ false)
+      → list_any other (variables_of (new_tree new t)) ≡ false
   tree_fails other t each =
       ap (list_any other) (variables_of-with_variables (new_variable new) t)
       ∙ list_any-mapped other (λ v. new_variable new v.0 v.1) (variables_of t)
@@ -68,7 +73,8 @@ module _ (new : NewPositions) where
       let same : k ≡ n = search rules in
       ap not (eq-eqb (get_or new.sections k 0) (get_or new.sections n 0) (ap (λ i. get_or new.sections i 0) same))
 
-  counter-variable : (allowed : Option ℕ) (v : Letter × ℕ) → is_other_counter allowed v ≡ false → is_other_counter (moved allowed) (new_variable new v.0 v.1) ≡ false
+  counter-variable : (allowed : Option ℕ) (v : Letter × ℕ) → is_other_counter allowed v ≡ false
+      → is_other_counter (moved allowed) (new_variable new v.0 v.1) ≡ false
   counter-variable allowed (letters.I, n) e = refl
   counter-variable allowed (letters.L, n) e = refl
   counter-variable allowed (letters.P, n) e = counter-here allowed n e
@@ -77,7 +83,8 @@ module _ (new : NewPositions) where
   counter-variable allowed (letters.X, n) e = refl
 
   pub tree_counter : (allowed : Option ℕ) (t : Tree) → has_other_counter allowed t ≡ false → has_other_counter (moved allowed) (new_tree new t) ≡ false
-  tree_counter allowed t e = tree_fails (is_other_counter (moved allowed)) t (λ v h. counter-variable allowed v (fails-In (is_other_counter allowed) (variables_of t) e v h))
+  tree_counter allowed t e = tree_fails (is_other_counter (moved allowed)) t
+      (λ v h. counter-variable allowed v (fails-In (is_other_counter allowed) (variables_of t) e v h))
 
   load_counter : (load : Load) (k : ℕ) (now : Option ℕ) → now ≡ Some (get_or new.sections k 0) → load_any (has_other_counter (Some k)) load ≡ false
       → load_any (has_other_counter now) (new_load new load) ≡ false
@@ -105,7 +112,8 @@ module _ (new : NewPositions) where
 
     -- one load more, which remains or goes
     abbrev more_of : Bool → Option ℕ → Load → List Load → List Load
-    more_of b current load rest = map (λ (p : Option ℕ × Load). new_load new p.1) (cond b ((current, load) ∷ filter (stays marks) (placed_from current rest)) (filter (stays marks) (placed_from current rest)))
+    more_of b current load rest = map (λ (p : Option ℕ × Load). new_load new p.1)
+        (cond b ((current, load) ∷ filter (stays marks) (placed_from current rest)) (filter (stays marks) (placed_from current rest)))
 
     one_item : (current now : Option ℕ) (item : Item) (loads : List Load) → Runs current now → (b : Bool) → is_left marks current ≡ b
         → load_any (has_other_counter current) (One item) ≡ false → Keep now (rest_of current loads) → Keep now (more_of b current (One item) loads)
@@ -118,7 +126,8 @@ module _ (new : NewPositions) where
         )
 
     one_repeat : (current now : Option ℕ) (count : ℕ) (items : List Item) (loads : List Load) → Runs current now → (b : Bool) → is_left marks current ≡ b
-        → load_any (has_other_counter current) (Repeat count items) ≡ false → Keep now (rest_of current loads) → Keep now (more_of b current (Repeat count items) loads)
+        → load_any (has_other_counter current) (Repeat count items) ≡ false → Keep now (rest_of current loads)
+        → Keep now (more_of b current (Repeat count items) loads)
     one_repeat current now count items loads runs false e f keep = keep
     one_repeat None now count items loads runs true e f keep = absurd (true≢false (sym e))
     one_repeat (Some s) now count items loads runs true e f keep =
@@ -127,21 +136,29 @@ module _ (new : NewPositions) where
           ap (λ (o : Option ℕ). (is_none o && true) || list_any loads_nowhere (placed_from now (rest_of (Some s) loads))) at ∙ keep.1,
         )
 
-    one_pc : (current now : Option ℕ) (s : ℕ) (t : Tree) (loads : List Load) (b : Bool) → has_other_counter (Some s) t ≡ false → Keep now (rest_of current loads) → Keep now (more_of b current (SetPc s t) loads)
+    one_pc : (current now : Option ℕ) (s : ℕ) (t : Tree) (loads : List Load) (b : Bool) → has_other_counter (Some s) t ≡ false
+        → Keep now (rest_of current loads) → Keep now (more_of b current (SetPc s t) loads)
     one_pc current now s t loads false f keep = keep
     one_pc current now s t loads true f keep = (
       ap (λ b. b || list_any misplaces_counter (placed_from now (rest_of current loads))) (tree_counter (Some s) t f) ∙ keep.0,
       ap (λ b. b || list_any loads_nowhere (placed_from now (rest_of current loads))) (and_false (is_none now)) ∙ keep.1,
     )
 
-    one_section : (current now : Option ℕ) (s : ℕ) (loads : List Load) (b : Bool) → is_marked marks s ≡ b → ((next : Option ℕ) → Runs (Some s) next → Keep next (rest_of (Some s) loads))
-        → Keep now (map (λ (p : Option ℕ × Load). new_load new p.1) (cond b ((current, SetSection s) ∷ filter (stays marks) (placed_from (Some s) loads)) (filter (stays marks) (placed_from (Some s) loads))))
+    one_section : (current now : Option ℕ) (s : ℕ) (loads : List Load) (b : Bool) → is_marked marks s ≡ b
+        → ((next : Option ℕ) → Runs (Some s) next → Keep next (rest_of (Some s) loads))
+        → Keep now (map (λ (p : Option ℕ × Load). new_load new p.1)
+        (cond b ((current, SetSection s) ∷ filter (stays marks) (placed_from (Some s) loads)) (filter (stays marks) (placed_from (Some s) loads))))
     one_section current now s loads true e keep =
-        let next = keep (Some (get_or new.sections s 0)) (λ k same h. sym (ap (λ (o : Option ℕ). option_map (λ i. get_or new.sections i 0) o) (sym same))) in
-        (next.0, ap (λ b. b || list_any loads_nowhere (placed_from (Some (get_or new.sections s 0)) (rest_of (Some s) loads))) (and_false (is_none now)) ∙ next.1)
-    one_section current now s loads false e keep = keep now (λ k same h. let its : s ≡ k = cc in absurd (true≢false (sym h ∙ ap (is_marked marks) (sym its) ∙ e)))
+        let next = keep (Some (get_or new.sections s 0)) (λ k same h. sym (ap (λ (o : Option ℕ). option_map (λ i. get_or new.sections i 0) o) (sym same))) in (
+          next.0,
+          ap (λ b. b || list_any loads_nowhere (placed_from (Some (get_or new.sections s 0)) (rest_of (Some s) loads)))
+              (and_false (is_none now)) ∙ next.1,
+        )
+    one_section current now s loads false e keep = keep now (λ k same h. let its : s ≡ k = cc in
+        absurd (true≢false (sym h ∙ ap (is_marked marks) (sym its) ∙ e)))
 
-    pub loads_keep : (loads : List Load) (current now : Option ℕ) → Runs current now → list_any misplaces_counter (placed_from current loads) ≡ false → Keep now (rest_of current loads)
+    pub loads_keep : (loads : List Load) (current now : Option ℕ) → Runs current now → list_any misplaces_counter (placed_from current loads) ≡ false
+        → Keep now (rest_of current loads)
     loads_keep [] current now runs e = (refl, refl)
     loads_keep (SetSection s ∷ loads) current now runs e =
         one_section current now s loads (is_marked marks s) refl (λ next r. loads_keep loads (Some s) next r (either_false false _ e).1)

@@ -17,7 +17,8 @@ use Rattle.mufom_loads.specs.declared.load.Load.TheVariants.{SetSection, SetPc, 
 use Rattle.mufom_module.specs.declared.module.Parts.{Parts}
 use Rattle.mufom_module.specs.Contents.{placed_from, placed_loads, current_after}
 use Rattle.mufom_module.specs.Written.{weight}
-use Rattle.mufom_module.specs.Weights.{token_weight, expression_weight, section_weight, public_weight, notes_weight, reference_weight, item_weight, load_weight, start_weight}
+use Rattle.mufom_module.specs.Weights.{token_weight, expression_weight, section_weight, public_weight, notes_weight, reference_weight, item_weight}
+use Rattle.mufom_module.specs.Weights.{load_weight, start_weight}
 use Rattle.mufom_module.proofs.WeightLaws.{weight-sum}
 use Rattle.mufom_meaning.proofs.staging.JoinedWeight.{sum_by-mapped, filter-lighter}
 use Rattle.mufom_prune.specs.declared.positions.NewPositions.{NewPositions}
@@ -36,7 +37,8 @@ expression-renamed rename t =
 remaining-lighter : {X : Type 0} (w : X → ℕ) (marks : List Bool) (xs : List X) → sum_by w (remaining marks xs) ≤ sum_by w xs
 remaining-lighter w [] xs = omega arith
 remaining-lighter w (mark ∷ marks) [] = omega arith
-remaining-lighter w (true ∷ marks) (x ∷ xs) = let a = sum_by-cons w x (remaining marks xs) in let b = sum_by-cons w x xs in let rest = remaining-lighter w marks xs in omega (arith, a, b, rest)
+remaining-lighter w (true ∷ marks) (x ∷ xs) = let a = sum_by-cons w x (remaining marks xs) in let b = sum_by-cons w x xs in let rest =
+    remaining-lighter w marks xs in omega (arith, a, b, rest)
 remaining-lighter w (false ∷ marks) (x ∷ xs) = let b = sum_by-cons w x xs in let rest = remaining-lighter w marks xs in omega (arith, b, rest)
 
 module _ (new : NewPositions) where
@@ -57,7 +59,8 @@ module _ (new : NewPositions) where
   start-new None = refl
   start-new (Some t) = ap (λ n. 4 + n) (expression-renamed (new_variable new) t)
 
-placed-weight : (current : Option ℕ) (loads : List Load) → sum_by (λ (p : Option ℕ × Load). load_weight p.1) (placed_from current loads) ≡ sum_by load_weight loads
+placed-weight : (current : Option ℕ) (loads : List Load) → sum_by (λ (p : Option ℕ × Load). load_weight p.1) (placed_from current loads)
+    ≡ sum_by load_weight loads
 placed-weight current [] = refl
 placed-weight current (load ∷ loads) =
     let rest = placed-weight (current_after current load) loads in
@@ -76,7 +79,8 @@ pruned_weighs m c =
     let publics' = sum_by-mapped public_weight public_weight (new_public new) (public-new new) (remaining c.publics m.names.publics) in
     let references = remaining-lighter reference_weight c.references m.names.references in
     let loads = filter-lighter (λ (p : Option ℕ × Load). load_weight p.1) (stays c.sections) placed in
-    let loads' = sum_by-mapped load_weight (λ (p : Option ℕ × Load). load_weight p.1) (λ (p : Option ℕ × Load). new_load new p.1) (λ p. load-new new p.1) (filter (stays c.sections) placed) in
+    let loads' = sum_by-mapped load_weight (λ (p : Option ℕ × Load). load_weight p.1) (λ (p : Option ℕ × Load). new_load new p.1)
+    (λ p. load-new new p.1) (filter (stays c.sections) placed) in
     let loads'' = placed-weight None m.loads in
     let start = start-new new m.start in
     omega (arith, own, whole, sections, publics, publics', references, loads, loads', loads'', start)

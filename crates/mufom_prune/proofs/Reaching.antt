@@ -1,5 +1,6 @@
 -- The entries that are marked in the end are the least closed set.
-use Rattle.std.proofs.Common.{◌≡◌, ℕ, zero, suc, ◌+◌, ◌<◌, ◌≤◌, List, [], ◌∷◌, length, get_or, slice_get, Some, Bool, true, false, refl, sym, ap, subst, ◌∙◌, true≢false, arith, nat_lt}
+use Rattle.std.proofs.Common.{◌≡◌, ℕ, zero, suc, ◌+◌, ◌<◌, ◌≤◌, List, [], ◌∷◌, length, get_or, slice_get, Some, Bool, true, false, refl, sym, ap}
+use Rattle.std.proofs.Common.{subst, ◌∙◌, true≢false, arith, nat_lt}
 use Rattle.std.proofs.lemmas.Bool.Decides.{nat_tests}
 use Rattle.std.proofs.lemmas.Option.{slice_get_within}
 use Rattle.std.specs.List.{AllByRecursion}
@@ -35,7 +36,8 @@ needs-below size (x ∷ needs) zero ns a e = let same : x ≡ ns = cc in subst (
 needs-below size (x ∷ needs) (suc n) ns a e = needs-below size needs n ns a.1 e
 
 -- The roots are marked first.
-pub begun : (needs : List (List ℕ)) (roots : List ℕ) (c : Choice) → IsStart (length needs) c → AreBelow (length needs) roots → IsUnderway needs roots 0 (with_members c roots)
+pub begun : (needs : List (List ℕ)) (roots : List ℕ) (c : Choice) → IsStart (length needs) c → AreBelow (length needs) roots
+    → IsUnderway needs roots 0 (with_members c roots)
 begun needs roots c s inside = record {
   one = (all (λ k. true) (anything roots)).one;
   rooted = (all (λ k. true) (anything roots)).chosen;
@@ -47,7 +49,8 @@ begun needs roots c s inside = record {
     all has t = steps (length needs) has c roots (start-one (length needs) c s) inside t
 
 -- One entry of the order is looked at: what it needs is marked after the others.
-pub looked : (needs : List (List ℕ)) (roots : List ℕ) (place n : ℕ) (ns : List ℕ) (c : Choice) → IsUnderway needs roots place c → slice_get c.order place ≡ Some n
+pub looked : (needs : List (List ℕ)) (roots : List ℕ) (place n : ℕ) (ns : List ℕ) (c : Choice) → IsUnderway needs roots place c
+    → slice_get c.order place ≡ Some n
     → slice_get needs n ≡ Some ns → AreBelow (length needs) ns → IsUnderway needs roots (place + 1) (with_members c ns)
 looked needs roots place n ns c u at its inside = record {
   one = all.one;
@@ -61,7 +64,8 @@ looked needs roots place n ns c u at its inside = record {
     all : StepsTo (length needs) (λ k. true) c ns (with_members c ns)
     all = steps (length needs) (λ k. true) c ns u.one inside (anything ns)
 
-    done : (j k : ℕ) (ks : List ℕ) → j < place + 1 → slice_get (with_members c ns).order j ≡ Some k → slice_get needs k ≡ Some ks → AreMarked (with_members c ns) ks
+    done : (j k : ℕ) (ks : List ℕ) → j < place + 1 → slice_get (with_members c ns).order j ≡ Some k → slice_get needs k ≡ Some ks
+        → AreMarked (with_members c ns) ks
     done j k ks before here that =
         let within = slice_get_within c.order place n at in
         let old = all.grows.prefix j k (omega (arith, before, within)) here in
@@ -77,7 +81,8 @@ looked needs roots place n ns c u at its inside = record {
               subst (AreMarked (with_members c ns)) (sym one) all.chosen
 
 -- Where the number of those looked at is no less than that of the order, all of it was looked at.
-pub all-done : (needs : List (List ℕ)) (roots : List ℕ) (place : ℕ) (c : Choice) → IsUnderway needs roots place c → length c.order ≤ place → IsUnderway needs roots (length c.order) c
+pub all-done : (needs : List (List ℕ)) (roots : List ℕ) (place : ℕ) (c : Choice) → IsUnderway needs roots place c → length c.order ≤ place
+    → IsUnderway needs roots (length c.order) c
 all-done needs roots place c u past = record {
   one = u.one;
   rooted = u.rooted;

@@ -1,5 +1,6 @@
 -- Lists of what remains, one element after another.
-use Rattle.std.proofs.Common.{◌≡◌, ℕ, zero, suc, ◌+◌, ◌<◌, ◌≤◌, List, [], ◌∷◌, ◌++◌, length, drop, get_or, slice_get, Option, Some, None, is_some, Bool, true, false, ◌||◌, ◌&&◌, refl, sym, ap, ◌∙◌, append_assoc, append-nil, arith}
+use Rattle.std.proofs.Common.{◌≡◌, ℕ, zero, suc, ◌+◌, ◌<◌, ◌≤◌, List, [], ◌∷◌, ◌++◌, length, drop, get_or, slice_get, Option, Some, None, is_some}
+use Rattle.std.proofs.Common.{Bool, true, false, ◌||◌, ◌&&◌, refl, sym, ap, ◌∙◌, append_assoc, append-nil, arith}
 use Rattle.std.specs.Str.{bytes_eq}
 use Rattle.std.proofs.lemmas.List.{drop_more, drop_all}
 use Rattle.mufom_names.specs.declared.name.Reference.{Reference}
@@ -36,7 +37,8 @@ keep_step f g cons marks xs i d rest new whole low same marked is now =
     ∙ now
 
 -- one that goes
-pub skip_step : {X Y : Type 0} (g : List X → List Y) (marks : List Bool) (xs : List X) (i : ℕ) (rest new whole : List Y) → i < length xs → length marks ≡ length xs
+pub skip_step : {X Y : Type 0} (g : List X → List Y) (marks : List Bool) (xs : List X) (i : ℕ) (rest new whole : List Y) → i < length xs
+    → length marks ≡ length xs
     → get_or marks i false ≡ false → new ≡ rest → rest ++ g (remaining (drop i marks) (drop i xs)) ≡ whole
     → new ++ g (remaining (drop (i + 1) marks) (drop (i + 1) xs)) ≡ whole
 skip_step {X = X} g marks xs i rest new whole low same unmarked is now = by_drop (drop i xs) refl where
@@ -55,7 +57,8 @@ skip_step {X = X} g marks xs i rest new whole low same unmarked is now = by_drop
 
 -- ---- the names of marked references
 
-pub index_keep : (marks : List Bool) (references : List Reference) (i : ℕ) (d : Reference) (index new whole : List Entry) → i < length references → length marks ≡ length references
+pub index_keep : (marks : List Bool) (references : List Reference) (i : ℕ) (d : Reference) (index new whole : List Entry) → i < length references
+    → length marks ≡ length references
     → get_or marks i false ≡ true → new ≡ with_entry index (get_or references i d).name 0 → with_remaining index (drop i marks) (drop i references) ≡ whole
     → with_remaining new (drop (i + 1) marks) (drop (i + 1) references) ≡ whole
 index_keep marks references i d index new whole low same marked is now =
@@ -64,7 +67,8 @@ index_keep marks references i d index new whole low same marked is now =
     ∙ sym (λ j. with_remaining index (drop_more marks i false (omega (arith, low, same)) j) (drop_more references i d low j))
     ∙ now
 
-pub index_skip : (marks : List Bool) (references : List Reference) (i : ℕ) (index new whole : List Entry) → i < length references → length marks ≡ length references
+pub index_skip : (marks : List Bool) (references : List Reference) (i : ℕ) (index new whole : List Entry) → i < length references → length marks
+    ≡ length references
     → get_or marks i false ≡ false → new ≡ index → with_remaining index (drop i marks) (drop i references) ≡ whole
     → with_remaining new (drop (i + 1) marks) (drop (i + 1) references) ≡ whole
 index_skip marks references i index new whole low same unmarked is now =
@@ -93,16 +97,19 @@ found es [] references name = or_no (is_some (position_of es name))
 found es (mark ∷ marks) [] name = or_no (is_some (position_of es name))
 found es (true ∷ marks) (r ∷ references) name =
     found (with_entry es r.name 0) marks references name
-    ∙ ap (λ b. b || has_name (remaining_names marks references) name) (ap is_some (position_of-with es r.name 0 name) ∙ some_first (position_of es name) (bytes_eq name r.name) 0)
+    ∙ ap (λ b. b || has_name (remaining_names marks references) name) (ap is_some (position_of-with es r.name 0 name)
+    ∙ some_first (position_of es name) (bytes_eq name r.name) 0)
     ∙ or_assoc (is_some (position_of es name)) (bytes_eq name r.name) (has_name (remaining_names marks references) name)
 found es (false ∷ marks) (r ∷ references) name = found es marks references name
 
-pub finds_remaining : (marks : List Bool) (references : List Reference) (name : List ℕ) → is_some (position_of (with_remaining [] marks references) name) ≡ has_name (remaining_names marks references) name
+pub finds_remaining : (marks : List Bool) (references : List Reference) (name : List ℕ)
+    → is_some (position_of (with_remaining [] marks references) name) ≡ has_name (remaining_names marks references) name
 finds_remaining marks references name = found [] marks references name
 
 -- ---- marks of references
 
-pub commons_step : (names : List (List ℕ)) (marks : List Bool) (references : List Reference) (i : ℕ) (d : Reference) (all new whole : List Bool) → i < length references → length marks ≡ length references
+pub commons_step : (names : List (List ℕ)) (marks : List Bool) (references : List Reference) (i : ℕ) (d : Reference) (all new whole : List Bool)
+    → i < length references → length marks ≡ length references
     → new ≡ all ++ (get_or marks i false || (is_common (get_or references i d) && has_name names (get_or references i d).name)) ∷ []
     → all ++ with_commons names (drop i marks) (drop i references) ≡ whole
     → new ++ with_commons names (drop (i + 1) marks) (drop (i + 1) references) ≡ whole
@@ -114,7 +121,8 @@ commons_step names marks references i d all new whole low same is now =
     ∙ sym (λ j. all ++ with_commons names (drop_more marks i false (omega (arith, low, same)) j) (drop_more references i d low j))
     ∙ now
 
-pub length-commons : (names : List (List ℕ)) (marks : List Bool) (references : List Reference) → length marks ≡ length references → length (with_commons names marks references) ≡ length references
+pub length-commons : (names : List (List ℕ)) (marks : List Bool) (references : List Reference) → length marks ≡ length references
+    → length (with_commons names marks references) ≡ length references
 length-commons names [] [] same = refl
 length-commons names [] (r ∷ references) same = absurd (omega (arith, same))
 length-commons names (mark ∷ marks) [] same = absurd (omega (arith, same))
@@ -127,4 +135,5 @@ commons_none names (mark ∷ marks) = refl
 pub commons_end : (names : List (List ℕ)) (marks : List Bool) (references : List Reference) (i : ℕ) (all whole : List Bool) → length references ≤ i
     → all ++ with_commons names (drop i marks) (drop i references) ≡ whole → all ≡ whole
 commons_end names marks references i all whole past e =
-    sym (append-nil all) ∙ ap (λ n. all ++ n) (sym (ap (with_commons names (drop i marks)) (drop_all i references past) ∙ commons_none names (drop i marks))) ∙ e
+    sym (append-nil all) ∙ ap (λ n. all ++ n) (sym (ap (with_commons names (drop i marks)) (drop_all i references past)
+    ∙ commons_none names (drop i marks))) ∙ e

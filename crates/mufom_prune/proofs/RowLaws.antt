@@ -1,5 +1,6 @@
 -- Tests by which the worked examples show that marks are the least closed set.
-use Rattle.std.proofs.Common.{◌≡◌, ℕ, zero, suc, ◌+◌, List, [], ◌∷◌, length, get_or, slice_get, Option, Some, None, Bool, true, false, not, ◌&&◌, ◌||◌, ◌⊎◌, nat_eq, eqb-true, inl, inr, refl, sym, ap, subst, ◌∙◌, true≢false, arith}
+use Rattle.std.proofs.Common.{◌≡◌, ℕ, zero, suc, ◌+◌, List, [], ◌∷◌, length, get_or, slice_get, Option, Some, None, Bool, true, false, not, ◌&&◌}
+use Rattle.std.proofs.Common.{◌||◌, ◌⊎◌, nat_eq, eqb-true, inl, inr, refl, sym, ap, subst, ◌∙◌, true≢false, arith}
 use Rattle.std.specs.List.{list_all, list_any}
 use Rattle.mufom_select.specs.Choice.{is_marked}
 use Rattle.mufom_meaning.specs.Walk.{has_number}
@@ -26,12 +27,14 @@ abbrev pub is_shut : List Bool → ℕ → List (List ℕ) → Bool
 is_shut marks n [] = true
 is_shut marks n (ns ∷ needs) = (not (is_marked marks n) || list_all (is_marked marks) ns) && is_shut marks (suc n) needs
 
-shut_at : (marks : List Bool) (k : ℕ) (needs : List (List ℕ)) (n : ℕ) (ns : List ℕ) → is_shut marks k needs ≡ true → is_marked marks (k + n) ≡ true → slice_get needs n ≡ Some ns → HasAll (is_marked marks) ns
+shut_at : (marks : List Bool) (k : ℕ) (needs : List (List ℕ)) (n : ℕ) (ns : List ℕ) → is_shut marks k needs ≡ true → is_marked marks (k + n) ≡ true
+    → slice_get needs n ≡ Some ns → HasAll (is_marked marks) ns
 shut_at marks k [] n ns e h at = absurd cc
 shut_at marks k (x ∷ needs) zero ns e h at =
     let here : k + 0 ≡ k = omega arith in
     let same : x ≡ ns = cc in
-    subst (HasAll (is_marked marks)) same (all_of (is_marked marks) x (by_case (is_marked marks k) (ap (is_marked marks) (sym here) ∙ h) (both_true (not (is_marked marks k) || list_all (is_marked marks) x) _ e).0)) where
+    subst (HasAll (is_marked marks)) same (all_of (is_marked marks) x
+    (by_case (is_marked marks k) (ap (is_marked marks) (sym here) ∙ h) (both_true (not (is_marked marks k) || list_all (is_marked marks) x) _ e).0)) where
       by_case : (b : Bool) → b ≡ true → (not b || list_all (is_marked marks) x) ≡ true → list_all (is_marked marks) x ≡ true
       by_case true t e = e
       by_case false t e = absurd (true≢false (sym t))
@@ -64,11 +67,13 @@ from_seen : (needs : List (List ℕ)) (roots : List ℕ) (has : ℕ → Bool) �
     → list_any (λ k. has_number (get_or needs k []) n) ks ≡ true → has n ≡ true
 from_seen needs roots has closed n [] all e = absurd (true≢false (sym e))
 from_seen needs roots has closed n (k ∷ ks) all e = pick (either (has_number (get_or needs k []) n) _ e) (from_seen needs roots has closed n ks all.1) where
-  pick : (has_number (get_or needs k []) n ≡ true) ⊎ (list_any (λ k. has_number (get_or needs k []) n) ks ≡ true) → (list_any (λ k. has_number (get_or needs k []) n) ks ≡ true → has n ≡ true) → has n ≡ true
+  pick : (has_number (get_or needs k []) n ≡ true) ⊎ (list_any (λ k. has_number (get_or needs k []) n) ks ≡ true)
+      → (list_any (λ k. has_number (get_or needs k []) n) ks ≡ true → has n ≡ true) → has n ≡ true
   pick (inl its) later = one_of has (get_or needs k []) n (need_of needs roots has closed k all.0) its
   pick (inr more) later = later more
 
-derived : (needs : List (List ℕ)) (roots : List ℕ) (has : ℕ → Bool) → IsClosed needs roots has → (seen ns : List ℕ) → HasAll has seen → is_derived needs roots seen ns ≡ true → HasAll has ns
+derived : (needs : List (List ℕ)) (roots : List ℕ) (has : ℕ → Bool) → IsClosed needs roots has → (seen ns : List ℕ) → HasAll has seen
+    → is_derived needs roots seen ns ≡ true → HasAll has ns
 derived needs roots has closed seen [] before e = tt
 derived needs roots has closed seen (n ∷ ns) before e =
     let two = both_true (has_number roots n || list_any (λ k. has_number (get_or needs k []) n) seen) _ e in
@@ -92,7 +97,8 @@ listed k (mark ∷ marks) order (suc n) e h =
     ap (has_number order) here ∙ listed (suc k) marks order n (both_true (not mark || has_number order k) _ e).1 h
 
 -- all tests at once; the order is one in which the entries are found
-pub shown : (needs : List (List ℕ)) (roots : List ℕ) (marks : List Bool) (order : List ℕ) → length marks ≡ length needs → list_all (is_marked marks) roots ≡ true
+pub shown : (needs : List (List ℕ)) (roots : List ℕ) (marks : List Bool) (order : List ℕ) → length marks ≡ length needs
+    → list_all (is_marked marks) roots ≡ true
     → is_shut marks 0 needs ≡ true → is_derived needs roots [] order ≡ true → are_listed 0 marks order ≡ true → IsReached needs roots marks
 shown needs roots marks order sized rooted shut found all = record {
   sized = sized;

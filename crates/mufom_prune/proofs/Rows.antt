@@ -70,7 +70,8 @@ bytes = One (Literal (1 ∷ 2 ∷ 3 ∷ 4 ∷ []))
 -- ---- a section keeps the one that it mentions; the public and the section beside it go, and the reference that only this one uses
 
 abbrev plain : Parts
-plain = a_module (section_of a ∷ section_of b ∷ section_of c ∷ []) (public_of (codes "main") (at 0) ∷ public_of (codes "u") (at 1) ∷ []) (strong (codes "q") ∷ [])
+plain = a_module (section_of a ∷ section_of b ∷ section_of c ∷ []) (public_of (codes "main") (at 0) ∷ public_of (codes "u") (at 1) ∷ [])
+    (strong (codes "q") ∷ [])
     (SetSection 0 ∷ field (at 2) ∷ SetSection 1 ∷ field (variable letters.X 0) ∷ SetSection 2 ∷ bytes ∷ []) None
 
 pub plain_pruned : IsPruned (a_module (section_of a ∷ section_of c ∷ []) (public_of (codes "main") (at 0) ∷ []) []
@@ -85,10 +86,12 @@ plain_pruned = record {
 
 abbrev ring : Parts
 ring = a_module (section_of a ∷ section_of b ∷ based_at c 64 ∷ section_of (codes "d") ∷ []) (public_of (codes "main") (at 1) ∷ []) []
-    (SetSection 0 ∷ SetPc 0 (two plus (variable letters.P 0) (number 1)) ∷ SetPc 3 (at 3) ∷ SetPc 0 (at 0) ∷ Repeat 2 (Field Either (at 1) 2 ∷ []) ∷ SetSection 1 ∷ field (at 0) ∷ SetSection 3 ∷ bytes ∷ []) None
+    (SetSection 0 ∷ SetPc 0 (two plus (variable letters.P 0) (number 1)) ∷ SetPc 3 (at 3) ∷ SetPc 0 (at 0) ∷ Repeat 2
+    (Field Either (at 1) 2 ∷ []) ∷ SetSection 1 ∷ field (at 0) ∷ SetSection 3 ∷ bytes ∷ []) None
 
 pub ring_pruned : IsPruned (a_module (section_of a ∷ section_of b ∷ based_at c 64 ∷ []) (public_of (codes "main") (at 1) ∷ []) []
-    (SetSection 0 ∷ SetPc 0 (two plus (variable letters.P 0) (number 1)) ∷ SetPc 0 (at 0) ∷ Repeat 2 (Field Either (at 1) 2 ∷ []) ∷ SetSection 1 ∷ field (at 0) ∷ []) None) ring (codes "main")
+    (SetSection 0 ∷ SetPc 0 (two plus (variable letters.P 0) (number 1)) ∷ SetPc 0 (at 0) ∷ Repeat 2 (Field Either (at 1) 2 ∷ []) ∷ SetSection
+    1 ∷ field (at 0) ∷ []) None) ring (codes "main")
 ring_pruned = record {
   marks = true ∷ true ∷ true ∷ false ∷ true ∷ [];
   kept = shown (needs ring) (roots ring (codes "main")) (true ∷ true ∷ true ∷ false ∷ true ∷ []) (4 ∷ 1 ∷ 0 ∷ 2 ∷ []) refl refl refl refl refl;
@@ -98,7 +101,8 @@ ring_pruned = record {
 -- ---- a public that only a removed load mentions goes; what the start mentions stays, by S and by P of kept loads too
 
 abbrev started : Parts
-started = a_module (section_of a ∷ section_of b ∷ section_of c ∷ []) (public_of (codes "gone") (at 1) ∷ public_of (codes "main") (number 7) ∷ public_of (codes "step") (variable letters.S 2) ∷ []) []
+started = a_module (section_of a ∷ section_of b ∷ section_of c ∷ [])
+    (public_of (codes "gone") (at 1) ∷ public_of (codes "main") (number 7) ∷ public_of (codes "step") (variable letters.S 2) ∷ []) []
     (SetSection 1 ∷ field (variable letters.I 0) ∷ SetSection 2 ∷ field (variable letters.P 2) ∷ []) (Some (variable letters.I 2))
 
 pub started_pruned : IsPruned (a_module (section_of c ∷ []) (public_of (codes "main") (number 7) ∷ public_of (codes "step") (variable letters.S 0) ∷ []) []
@@ -121,6 +125,7 @@ pub named_pruned : IsPruned (a_module (section_of b ∷ []) (public_of (codes "m
     (SetSection 0 ∷ field (variable letters.X 1) ∷ []) None) named (codes "main")
 named_pruned = record {
   marks = false ∷ true ∷ true ∷ true ∷ false ∷ true ∷ true ∷ false ∷ false ∷ false ∷ [];
-  kept = shown (needs named) (roots named (codes "main")) (false ∷ true ∷ true ∷ true ∷ false ∷ true ∷ true ∷ false ∷ false ∷ false ∷ []) (2 ∷ 5 ∷ 3 ∷ 1 ∷ 6 ∷ []) refl refl refl refl refl;
+  kept = shown (needs named) (roots named (codes "main")) (false ∷ true ∷ true ∷ true ∷ false ∷ true ∷ true ∷ false ∷ false ∷ false ∷ [])
+      (2 ∷ 5 ∷ 3 ∷ 1 ∷ 6 ∷ []) refl refl refl refl refl;
   is = refl;
 }

@@ -1,5 +1,6 @@
 -- A module without what is not kept: the entries that remain, with the positions of the new lists.
-use Rattle.std.specs.Prelude.{◌≡◌, ℕ, suc, List, [], ◌∷◌, length, map, filter, take, drop, get_or, Option, Some, None, option_map, Bool, true, false, ◌&&◌, ◌||◌}
+use Rattle.std.specs.Prelude.{◌≡◌, ℕ, suc, List, [], ◌∷◌, length, map, filter, take, drop, get_or, Option, Some, None, option_map, Bool, true, false}
+use Rattle.std.specs.Prelude.{◌&&◌, ◌||◌}
 use Rattle.mufom_expr.specs.declared.token.Letter.{Letter}
 use Rattle.mufom_expr.specs.declared.token.Letter.TheVariants as letters
 use Rattle.mufom_expr.specs.Tree.{Tree}

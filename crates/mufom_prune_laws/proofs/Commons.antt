@@ -1,5 +1,6 @@
 -- The commons of a module and of what remains of it.
-use Rattle.std.proofs.Common.{◌≡◌, ℕ, List, [], ◌∷◌, ◌++◌, map, filter, length, inl, inr, Bool, true, false, not, ◌||◌, ◌&&◌, refl, sym, ap, subst, ◌∙◌, true≢false, append-nil, arith, rules}
+use Rattle.std.proofs.Common.{◌≡◌, ℕ, List, [], ◌∷◌, ◌++◌, map, filter, length, inl, inr, Bool, true, false, not, ◌||◌, ◌&&◌, refl, sym, ap, subst}
+use Rattle.std.proofs.Common.{◌∙◌, true≢false, append-nil, arith, rules}
 use Rattle.std.specs.Prelude.{◌==◌}
 use Rattle.std.specs.List.{list_any}
 use Rattle.std.specs.Str.{bytes_eq}
@@ -15,7 +16,8 @@ use Rattle.mufom_prune.proofs.PrunedValid.{filter-passes}
 any-In : {A : Type 0} (p : A → Bool) (xs : List A) → list_any p xs ≡ true → (x : A) × In x xs × (p x ≡ true)
 any-In p [] e = absurd (true≢false (sym e))
 any-In p (x ∷ xs) e = by_case (p x) refl e (any-In p xs) where
-  by_case : (b : Bool) → p x ≡ b → (b || list_any p xs) ≡ true → (list_any p xs ≡ true → (y : _) × In y xs × (p y ≡ true)) → (y : _) × In y (x ∷ xs) × (p y ≡ true)
+  by_case : (b : Bool) → p x ≡ b → (b || list_any p xs) ≡ true → (list_any p xs ≡ true → (y : _) × In y xs × (p y ≡ true)) → (y : _) × In y (x ∷ xs)
+      × (p y ≡ true)
   by_case true t e later = (x, inl refl, t)
   by_case false t e later = let rest = later e in (rest.0, inr rest.1, rest.2)
 
@@ -54,13 +56,15 @@ module _ (m : Parts) (name : List ℕ) where
       let found = any-In (bytes_eq name) (common_names (m ∷ [])) e in
       let pair = map-In (λ (c : List ℕ × ℕ). c.0) found.0 (commons (m ∷ [])) found.1 in
       let all = filter is_common (unmet_references (m ∷ [])) in
-      let its = map-In (λ (r : Reference). (r.name, common_size r.weak)) pair.0 all (distinct-In same_common pair.0 (map (λ (r : Reference). (r.name, common_size r.weak)) all) pair.1) in
+      let its = map-In (λ (r : Reference). (r.name, common_size r.weak)) pair.0 all
+      (distinct-In same_common pair.0 (map (λ (r : Reference). (r.name, common_size r.weak)) all) pair.1) in
       let unmet = filter-In is_common its.0 (unmet_references (m ∷ [])) its.1 in
       record {
         reference = its.0;
         there = filter-In (λ (r : Reference). not (has_name (public_names (m ∷ [])) r.name)) its.0 references unmet;
         common = filter-passes is_common its.0 (unmet_references (m ∷ [])) its.1;
-        unmet = flip (has_name (public_names (m ∷ [])) its.0.name) (filter-passes (λ (r : Reference). not (has_name (public_names (m ∷ [])) r.name)) its.0 references unmet);
+        unmet = flip (has_name (public_names (m ∷ [])) its.0.name)
+            (filter-passes (λ (r : Reference). not (has_name (public_names (m ∷ [])) r.name)) its.0 references unmet);
         same = (bytes_eq-Decides name found.0).0 found.2 ∙ sym (ap (λ (c : List ℕ × ℕ). c.0) its.2 ∙ pair.2);
       }
 
@@ -69,8 +73,11 @@ module _ (m : Parts) (name : List ℕ) where
       let unmet = In-filter (λ (r : Reference). not (has_name (public_names (m ∷ [])) r.name)) h.reference (ap not h.unmet) references h.there in
       let own = In-filter is_common h.reference h.common (unmet_references (m ∷ [])) unmet in
       let pair = In-map (λ (r : Reference). (r.name, common_size r.weak)) h.reference (filter is_common (unmet_references (m ∷ []))) own in
-      let one = In-distinct same_common same_common-same (h.reference.name, common_size h.reference.weak) (map (λ (r : Reference). (r.name, common_size r.weak)) (filter is_common (unmet_references (m ∷ [])))) pair in
-      passes-In (bytes_eq name) (common_names (m ∷ [])) h.reference.name (In-map (λ (c : List ℕ × ℕ). c.0) (h.reference.name, common_size h.reference.weak) (commons (m ∷ [])) one) ((bytes_eq-Decides name h.reference.name).1 h.same)
+      let one = In-distinct same_common same_common-same (h.reference.name, common_size h.reference.weak)
+      (map (λ (r : Reference). (r.name, common_size r.weak)) (filter is_common (unmet_references (m ∷ [])))) pair in
+      passes-In (bytes_eq name) (common_names (m ∷ [])) h.reference.name
+      (In-map (λ (c : List ℕ × ℕ). c.0) (h.reference.name, common_size h.reference.weak) (commons (m ∷ [])) one)
+      ((bytes_eq-Decides name h.reference.name).1 h.same)
 
 pub same_truth : (a b : Bool) → (a ≡ true → b ≡ true) → (b ≡ true → a ≡ true) → a ≡ b
 same_truth true b f g = sym (f refl)
@@ -103,10 +110,11 @@ common-remains names (mark ∷ marks) (x ∷ xs) r sized (inl same) c n = by_cas
   by_case : (b : Bool) → b ≡ true → In r (remaining (b ∷ with_commons names marks xs) (x ∷ xs))
   by_case true e = inl same
   by_case false e = absurd (true≢false (sym e))
-common-remains names (mark ∷ marks) (x ∷ xs) r sized (inr h) c n = by_case (mark || (is_common x && has_name names x.name)) (common-remains names marks xs r (omega (arith, sized)) h c n) where
-  by_case : (b : Bool) → In r (remaining (with_commons names marks xs) xs) → In r (remaining (b ∷ with_commons names marks xs) (x ∷ xs))
-  by_case true e = inr e
-  by_case false e = e
+common-remains names (mark ∷ marks) (x ∷ xs) r sized (inr h) c n =
+    by_case (mark || (is_common x && has_name names x.name)) (common-remains names marks xs r (omega (arith, sized)) h c n) where
+      by_case : (b : Bool) → In r (remaining (with_commons names marks xs) xs) → In r (remaining (b ∷ with_commons names marks xs) (x ∷ xs))
+      by_case true e = inr e
+      by_case false e = e
 
 -- What a name that no public has finds among the commons is the same, where a kept reference has it.
 pub same_commons : (m M : Parts) (names : List (List ℕ)) (marks : List Bool) (name : List ℕ) → length marks ≡ length m.names.references
@@ -120,7 +128,8 @@ same_commons m M names marks name sized is kept none none' = same_truth _ _ back
       let there = subst (In h.reference) (append-nil M.names.references ∙ is) h.there in
       from_common m name (record {
         reference = h.reference;
-        there = subst (In h.reference) (sym (append-nil m.names.references)) (remaining-In (with_commons names marks m.names.references) m.names.references h.reference there);
+        there = subst (In h.reference) (sym (append-nil m.names.references))
+            (remaining-In (with_commons names marks m.names.references) m.names.references h.reference there);
         common = h.common;
         unmet = ap (has_name (public_names (m ∷ []))) (sym h.same) ∙ none;
         same = h.same;
@@ -132,7 +141,8 @@ same_commons m M names marks name sized is kept none none' = same_truth _ _ back
       let there = subst (In h.reference) (append-nil m.names.references) h.there in
       from_common M name (record {
         reference = h.reference;
-        there = subst (In h.reference) (sym (append-nil M.names.references ∙ is)) (common-remains names marks m.names.references h.reference sized there h.common (ap (has_name names) (sym h.same) ∙ kept));
+        there = subst (In h.reference) (sym (append-nil M.names.references ∙ is))
+            (common-remains names marks m.names.references h.reference sized there h.common (ap (has_name names) (sym h.same) ∙ kept));
         common = h.common;
         unmet = ap (has_name (public_names (M ∷ []))) (sym h.same) ∙ none';
         same = h.same;

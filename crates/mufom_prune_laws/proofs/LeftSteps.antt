@@ -1,5 +1,6 @@
 -- The steps of what remains are those of the sections that remain, and have the counters that they had.
-use Rattle.std.proofs.Common.{◌≡◌, ℕ, zero, suc, ◌+◌, List, [], ◌∷◌, ◌++◌, map, filter, get_or, Option, Some, None, inl, inr, Bool, true, false, cond, refl, sym, ap, subst, ◌∙◌, true≢false, zero-add}
+use Rattle.std.proofs.Common.{◌≡◌, ℕ, zero, suc, ◌+◌, List, [], ◌∷◌, ◌++◌, map, filter, get_or, Option, Some, None, inl, inr, Bool, true, false, cond}
+use Rattle.std.proofs.Common.{refl, sym, ap, subst, ◌∙◌, true≢false, zero-add}
 use Rattle.std.specs.Prelude.{option_map}
 use Rattle.std.proofs.lemmas.List.{map-append}
 use Rattle.std.proofs.lemmas.List.Elements.{filter-append}
@@ -61,7 +62,8 @@ module _ (home home' : Sited) (first : home.first_section ≡ 0) (first' : home'
     split true = refl
     split false = refl
 
-  items-left : (s : ℕ) (items : List Item) → is_marked c.sections s ≡ true → left (item_steps home (Some s) items) ≡ item_steps home' (Some (at s)) (map (new_item (positions_of c)) items)
+  items-left : (s : ℕ) (items : List Item) → is_marked c.sections s ≡ true → left (item_steps home (Some s) items)
+      ≡ item_steps home' (Some (at s)) (map (new_item (positions_of c)) items)
   items-left s [] h = refl
   items-left s (item ∷ items) h =
       left-one (item_step home (home.first_section + s) item) (item_steps home (Some s) items) true (ap (is_marked c.sections) (own s) ∙ h)
@@ -70,7 +72,8 @@ module _ (home home' : Sited) (first : home.first_section ≡ 0) (first' : home'
   items-gone : (s : ℕ) (items : List Item) → is_marked c.sections s ≡ false → left (item_steps home (Some s) items) ≡ []
   items-gone s [] h = refl
   items-gone s (item ∷ items) h =
-      left-one (item_step home (home.first_section + s) item) (item_steps home (Some s) items) false (ap (is_marked c.sections) (own s) ∙ h) ∙ items-gone s items h
+      left-one (item_step home (home.first_section + s) item) (item_steps home (Some s) items) false (ap (is_marked c.sections) (own s) ∙ h)
+      ∙ items-gone s items h
 
   abbrev Runs : Option ℕ → Option ℕ → Type 0
   Runs current now = (s : ℕ) → current ≡ Some s → is_marked c.sections s ≡ true → now ≡ Some (at s)
@@ -79,24 +82,29 @@ module _ (home home' : Sited) (first : home.first_section ≡ 0) (first' : home'
   rest_of current loads = remaining_loads c.sections (positions_of c) (placed_from current loads)
 
   abbrev more_of : Bool → Option ℕ → Load → Option ℕ → List Load → List Load
-  more_of b current load next rest = map (λ (p : Option ℕ × Load). new_load (positions_of c) p.1) (cond b ((current, load) ∷ filter (stays c.sections) (placed_from next rest)) (filter (stays c.sections) (placed_from next rest)))
+  more_of b current load next rest = map (λ (p : Option ℕ × Load). new_load (positions_of c) p.1)
+      (cond b ((current, load) ∷ filter (stays c.sections) (placed_from next rest)) (filter (stays c.sections) (placed_from next rest)))
 
   abbrev Left : Option ℕ → Option ℕ → List Load → Type 0
   Left current now loads = steps_of home' now (rest_of current loads) ≡ left (steps_of home current loads)
 
-  one_section : (current now : Option ℕ) (s : ℕ) (loads : List Load) (b : Bool) → is_marked c.sections s ≡ b → ((next : Option ℕ) → Runs (Some s) next → Left (Some s) next loads)
+  one_section : (current now : Option ℕ) (s : ℕ) (loads : List Load) (b : Bool) → is_marked c.sections s ≡ b
+      → ((next : Option ℕ) → Runs (Some s) next → Left (Some s) next loads)
       → steps_of home' now (more_of b current (SetSection s) (Some s) loads) ≡ left (steps_of home (Some s) loads)
   one_section current now s loads true e later = later (Some (at s)) (λ k same h. sym (ap (λ (o : Option ℕ). option_map (λ i. at i) o) (sym same)))
-  one_section current now s loads false e later = later now (λ k same h. let its : s ≡ k = cc in absurd (true≢false (sym h ∙ ap (is_marked c.sections) (sym its) ∙ e)))
+  one_section current now s loads false e later = later now (λ k same h. let its : s ≡ k = cc in
+      absurd (true≢false (sym h ∙ ap (is_marked c.sections) (sym its) ∙ e)))
 
   one_pc : (current now : Option ℕ) (s : ℕ) (t : Tree) (loads : List Load) (b : Bool) → is_marked c.sections s ≡ b → Left current now loads
       → steps_of home' now (more_of b current (SetPc s t) current loads) ≡ left (counter_step home (home.first_section + s) t ∷ steps_of home current loads)
   one_pc current now s t loads true e later =
       (λ i. counter_step home' ((own' (at s) ∙ ap at (sym (own s))) i) (new_tree (positions_of c) t) ∷ later i)
       ∙ sym (left-one (counter_step home (home.first_section + s) t) (steps_of home current loads) true (ap (is_marked c.sections) (own s) ∙ e))
-  one_pc current now s t loads false e later = later ∙ sym (left-one (counter_step home (home.first_section + s) t) (steps_of home current loads) false (ap (is_marked c.sections) (own s) ∙ e))
+  one_pc current now s t loads false e later = later ∙ sym (left-one (counter_step home (home.first_section + s) t) (steps_of home current loads)
+      false (ap (is_marked c.sections) (own s) ∙ e))
 
-  one_item : (current now : Option ℕ) (item : Item) (loads : List Load) → Runs current now → (b : Bool) → is_left c.sections current ≡ b → Left current now loads
+  one_item : (current now : Option ℕ) (item : Item) (loads : List Load) → Runs current now → (b : Bool) → is_left c.sections current ≡ b
+      → Left current now loads
       → steps_of home' now (more_of b current (One item) current loads) ≡ left (item_steps home current (item ∷ []) ++ steps_of home current loads)
   one_item None now item loads runs true e later = absurd (true≢false (sym e))
   one_item None now item loads runs false e later = later
@@ -104,27 +112,34 @@ module _ (home home' : Sited) (first : home.first_section ≡ 0) (first' : home'
       ap (λ (o : Option ℕ). item_steps home' o (new_item (positions_of c) item ∷ []) ++ steps_of home' now (rest_of (Some s) loads)) (runs s refl e)
       ∙ (λ i. sym (items-left s (item ∷ []) e) i ++ later i) ∙ sym (left-append (item_steps home (Some s) (item ∷ [])) (steps_of home (Some s) loads))
   one_item (Some s) now item loads runs false e later =
-      later ∙ ap (λ xs. xs ++ left (steps_of home (Some s) loads)) (sym (items-gone s (item ∷ []) e)) ∙ sym (left-append (item_steps home (Some s) (item ∷ [])) (steps_of home (Some s) loads))
+      later ∙ ap (λ xs. xs ++ left (steps_of home (Some s) loads)) (sym (items-gone s (item ∷ []) e))
+      ∙ sym (left-append (item_steps home (Some s) (item ∷ [])) (steps_of home (Some s) loads))
 
-  one_repeat : (current now : Option ℕ) (count : ℕ) (items : List Item) (loads : List Load) → Runs current now → (b : Bool) → is_left c.sections current ≡ b → Left current now loads
-      → steps_of home' now (more_of b current (Repeat count items) current loads) ≡ left (repeated count (item_steps home current items) ++ steps_of home current loads)
+  one_repeat : (current now : Option ℕ) (count : ℕ) (items : List Item) (loads : List Load) → Runs current now → (b : Bool)
+      → is_left c.sections current ≡ b → Left current now loads
+      → steps_of home' now (more_of b current (Repeat count items) current loads)
+      ≡ left (repeated count (item_steps home current items) ++ steps_of home current loads)
   one_repeat None now count items loads runs true e later = absurd (true≢false (sym e))
   one_repeat None now count items loads runs false e later = later ∙ ap (λ xs. left (xs ++ steps_of home None loads)) (sym (repeated-none count))
   one_repeat (Some s) now count items loads runs true e later =
-      ap (λ (o : Option ℕ). repeated count (item_steps home' o (map (new_item (positions_of c)) items)) ++ steps_of home' now (rest_of (Some s) loads)) (runs s refl e)
+      ap (λ (o : Option ℕ). repeated count (item_steps home' o (map (new_item (positions_of c)) items))
+      ++ steps_of home' now (rest_of (Some s) loads)) (runs s refl e)
       ∙ (λ i. (ap (repeated count) (sym (items-left s items e)) ∙ sym (left-repeated count (item_steps home (Some s) items))) i ++ later i)
       ∙ sym (left-append (repeated count (item_steps home (Some s) items)) (steps_of home (Some s) loads))
   one_repeat (Some s) now count items loads runs false e later =
       later
-      ∙ ap (λ xs. xs ++ left (steps_of home (Some s) loads)) (sym (left-repeated count (item_steps home (Some s) items) ∙ ap (repeated count) (items-gone s items e) ∙ repeated-none count))
+      ∙ ap (λ xs. xs ++ left (steps_of home (Some s) loads)) (sym (left-repeated count (item_steps home (Some s) items)
+      ∙ ap (repeated count) (items-gone s items e) ∙ repeated-none count))
       ∙ sym (left-append (repeated count (item_steps home (Some s) items)) (steps_of home (Some s) loads))
 
   pub steps_left : (loads : List Load) (current now : Option ℕ) → Runs current now → Left current now loads
   steps_left [] current now runs = refl
-  steps_left (SetSection s ∷ loads) current now runs = one_section current now s loads (is_marked c.sections s) refl (λ next r. steps_left loads (Some s) next r)
+  steps_left (SetSection s ∷ loads) current now runs = one_section current now s loads (is_marked c.sections s) refl
+      (λ next r. steps_left loads (Some s) next r)
   steps_left (SetPc s t ∷ loads) current now runs = one_pc current now s t loads (is_marked c.sections s) refl (steps_left loads current now runs)
   steps_left (One item ∷ loads) current now runs = one_item current now item loads runs (is_left c.sections current) refl (steps_left loads current now runs)
-  steps_left (Repeat count items ∷ loads) current now runs = one_repeat current now count items loads runs (is_left c.sections current) refl (steps_left loads current now runs)
+  steps_left (Repeat count items ∷ loads) current now runs = one_repeat current now count items loads runs (is_left c.sections current) refl
+      (steps_left loads current now runs)
 
   -- ---- what steps hold
 
@@ -154,25 +169,31 @@ module _ (home home' : Sited) (first : home.first_section ≡ 0) (first' : home'
     hold-item (Literal bytes) each = tt
     hold-item (Field kind t size) each = each t (inl refl)
 
-    hold-items : (current : Option ℕ) (items : List Item) → (is_left c.sections current ≡ true → (item : Item) → In item items → HoldsItem item) → AllHold (item_steps home current items)
+    hold-items : (current : Option ℕ) (items : List Item) → (is_left c.sections current ≡ true → (item : Item) → In item items → HoldsItem item)
+        → AllHold (item_steps home current items)
     hold-items None items each = tt
     hold-items (Some s) [] each = tt
     hold-items (Some s) (item ∷ items) each =
         ((λ h. (refl, each (ap (is_marked c.sections) (sym (own s)) ∙ h) item (inl refl))), hold-items (Some s) items (λ e x h. each e x (inr h)))
 
-    pub all_hold : (loads : List Load) (current : Option ℕ) → ((p : Option ℕ × Load) → In p (placed_from current loads) → stays c.sections p ≡ true → (t : Tree) → In t (load_trees p.1) → Whole t)
+    pub all_hold : (loads : List Load) (current : Option ℕ) → ((p : Option ℕ × Load) → In p (placed_from current loads) → stays c.sections p ≡ true
+        → (t : Tree) → In t (load_trees p.1) → Whole t)
         → AllHold (steps_of home current loads)
     all_hold [] current each = tt
     all_hold (SetSection s ∷ loads) current each = all_hold loads (Some s) (λ p h. each p (inr h))
-    all_hold (SetPc s t ∷ loads) current each =
-        ((λ h. (refl, each (current, SetPc s t) (inl refl) (ap (is_marked c.sections) (sym (own s)) ∙ h) t (inl refl))), all_hold loads current (λ p h. each p (inr h)))
+    all_hold (SetPc s t ∷ loads) current each = (
+      (λ h. (refl, each (current, SetPc s t) (inl refl) (ap (is_marked c.sections) (sym (own s)) ∙ h) t (inl refl))),
+      all_hold loads current (λ p h. each p (inr h)),
+    )
     all_hold (One item ∷ loads) current each =
         hold-join (item_steps home current (item ∷ [])) (steps_of home current loads)
-        (hold-items current (item ∷ []) (λ e x h. one_of x h (hold-item item (λ t k. each (current, One item) (inl refl) e t k)))) (all_hold loads current (λ p h. each p (inr h))) where
+        (hold-items current (item ∷ []) (λ e x h. one_of x h (hold-item item (λ t k. each (current, One item) (inl refl) e t k))))
+        (all_hold loads current (λ p h. each p (inr h))) where
           one_of : (x : Item) → In x (item ∷ []) → HoldsItem item → HoldsItem x
           one_of x (inl same) h = subst HoldsItem same h
           one_of x (inr k) h = absurd k
     all_hold (Repeat count items ∷ loads) current each =
         hold-join (repeated count (item_steps home current items)) (steps_of home current loads)
-        (hold-repeated count (item_steps home current items) (hold-items current items (λ e x h. hold-item x (λ t k. each (current, Repeat count items) (inl refl) e t (In-flat_map item_trees x t items h k)))))
+        (hold-repeated count (item_steps home current items) (hold-items current items
+        (λ e x h. hold-item x (λ t k. each (current, Repeat count items) (inl refl) e t (In-flat_map item_trees x t items h k)))))
         (all_hold loads current (λ p h. each p (inr h)))

@@ -1,5 +1,6 @@
 -- What remains of a module means what the module means of it.
-use Rattle.std.proofs.Common.{◌≡◌, ℕ, ◌<◌, List, [], ◌∷◌, ◌++◌, map, Option, Some, None, inl, inr, Bool, true, false, refl, sym, ap, subst, ◌∙◌, append-nil, rules}
+use Rattle.std.proofs.Common.{◌≡◌, ℕ, ◌<◌, List, [], ◌∷◌, ◌++◌, map, Option, Some, None, inl, inr, Bool, true, false, refl, sym, ap, subst, ◌∙◌}
+use Rattle.std.proofs.Common.{append-nil, rules}
 use Rattle.std.specs.Prelude.{nat_le, option_map, option_to_list, slice_get}
 use Rattle.mufom_expr.specs.Tree.{Tree}
 use Rattle.mufom_names.specs.declared.name.Public.{Public}
@@ -43,15 +44,19 @@ module _ (m : Parts) (keep : List ℕ) (marks : List Bool) (kept : IsKept m keep
   start_whole t h = whole_of t (start_inside m valid t h) (start_mentions m keep marks kept t h)
 
   one_public : (p : Public) → In p (remaining (remains m marks).publics m.names.publics)
-      → public_reading (s' m keep marks kept bases) (wrap (site' m keep marks kept bases) (new_public (positions_of (remains m marks)) p)) ≡ public_reading (s m keep marks kept bases) (wrap (site m keep marks kept bases) p)
+      → public_reading (s' m keep marks kept bases) (wrap (site' m keep marks kept bases) (new_public (positions_of (remains m marks)) p))
+      ≡ public_reading (s m keep marks kept bases) (wrap (site m keep marks kept bases) p)
   one_public p h =
       let at = remaining-at (remains m marks).publics m.names.publics p h in
       let same = same_value m keep marks kept bases public_whole None p.value (public_whole at.0 p at.1 at.2) in
       λ i. record { name = p.name; notes = p.notes; value = same i }
 
   all_publics : (left : List Bool) (publics : List Public)
-      → ((p : Public) → In p (remaining left publics) → public_reading (s' m keep marks kept bases) (wrap (site' m keep marks kept bases) (new_public (positions_of (remains m marks)) p)) ≡ public_reading (s m keep marks kept bases) (wrap (site m keep marks kept bases) p))
-      → map (public_reading (s' m keep marks kept bases)) (map (wrap (site' m keep marks kept bases)) (map (new_public (positions_of (remains m marks))) (remaining left publics)) ++ [])
+      → ((p : Public) → In p (remaining left publics) → public_reading (s' m keep marks kept bases)
+      (wrap (site' m keep marks kept bases) (new_public (positions_of (remains m marks)) p))
+      ≡ public_reading (s m keep marks kept bases) (wrap (site m keep marks kept bases) p))
+      → map (public_reading (s' m keep marks kept bases)) (map (wrap (site' m keep marks kept bases))
+      (map (new_public (positions_of (remains m marks))) (remaining left publics)) ++ [])
       ≡ remaining left (map (public_reading (s m keep marks kept bases)) (map (wrap (site m keep marks kept bases)) publics ++ []))
   all_publics [] publics each = refl
   all_publics (mark ∷ left) [] each = refl
@@ -59,7 +64,8 @@ module _ (m : Parts) (keep : List ℕ) (marks : List Bool) (kept : IsKept m keep
   all_publics (false ∷ left) (p ∷ publics) each = all_publics left publics each
 
   all_starts : (o : Option Tree) → ((t : Tree) → In t (option_to_list o) → Whole t)
-      → map (value (s' m keep marks kept bases) (site' m keep marks kept bases) None) (option_to_list (option_map (new_tree (positions_of (remains m marks))) o)) ++ []
+      → map (value (s' m keep marks kept bases) (site' m keep marks kept bases) None)
+      (option_to_list (option_map (new_tree (positions_of (remains m marks))) o)) ++ []
       ≡ map (value (s m keep marks kept bases) (site m keep marks kept bases) None) (option_to_list o) ++ []
   all_starts None each = refl
   all_starts (Some t) each = ap (λ (v : Option ℕ). v ∷ []) (same_value m keep marks kept bases public_whole None t (each t (inl refl)))
@@ -68,7 +74,8 @@ module _ (m : Parts) (keep : List ℕ) (marks : List Bool) (kept : IsKept m keep
   load_whole p h left t k =
       let good = load_inside m valid p.1 (placed-In None m.loads p h) in
       let low = (either_false (names_no_section (counts_of m) p.1) (load_any (names_outside (counts_of m)) p.1) good).1 in
-      whole_of t (inside m t (load_was (names_outside (counts_of m)) p.1 low t k)) (all_at (is_marked marks) (mentions m) (load_trees p.1) t (load_mentions m keep marks kept p h left) k)
+      whole_of t (inside m t (load_was (names_outside (counts_of m)) p.1 low t k))
+      (all_at (is_marked marks) (mentions m) (load_trees p.1) t (load_mentions m keep marks kept p h left) k)
 
   all_steps : readings_after (s' m keep marks kept bases) [] (steps_of (site' m keep marks kept bases) None (without_others m (remains m marks)).loads ++ [])
       ≡ left_readings (remains m marks).sections (readings_after (s m keep marks kept bases) [] (steps_of (site m keep marks kept bases) None m.loads ++ []))
@@ -78,7 +85,8 @@ module _ (m : Parts) (keep : List ℕ) (marks : List Bool) (kept : IsKept m keep
       let c = remains m marks in
       let moved = steps_left home home' refl refl c m.loads None None (λ k e h. absurd cc) in
       let hold = all_hold home home' refl refl c Whole m.loads None load_whole in
-      let same = same_readings home home' refl refl c Whole (s m keep marks kept bases) (s' m keep marks kept bases) refl refl (same_value m keep marks kept bases public_whole) [] (steps_of home None m.loads) tt hold in
+      let same = same_readings home home' refl refl c Whole (s m keep marks kept bases) (s' m keep marks kept bases) refl refl
+      (same_value m keep marks kept bases public_whole) [] (steps_of home None m.loads) tt hold in
       ap (readings_after (s' m keep marks kept bases) []) (append-nil (steps_of home' None (without_others m c).loads) ∙ moved)
       ∙ same
       ∙ ap (λ xs. left_readings c.sections (readings_after (s m keep marks kept bases) [] xs)) (sym (append-nil (steps_of home None m.loads)))

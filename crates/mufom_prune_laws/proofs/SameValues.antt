@@ -1,5 +1,6 @@
 -- Expressions that remain have the values that they had.
-use Rattle.std.proofs.Common.{◌≡◌, ℕ, zero, suc, ◌+◌, ◌-◌, ◌<◌, ◌≤◌, List, [], ◌∷◌, ◌++◌, map, drop, length, get_or, Option, Some, None, Bool, true, false, ◌||◌, if◌then◌else◌, refl, sym, ap, ◌∙◌, true≢false, append-nil, arith}
+use Rattle.std.proofs.Common.{◌≡◌, ℕ, zero, suc, ◌+◌, ◌-◌, ◌<◌, ◌≤◌, List, [], ◌∷◌, ◌++◌, map, drop, length, get_or, Option, Some, None, Bool, true}
+use Rattle.std.proofs.Common.{false, ◌||◌, if◌then◌else◌, refl, sym, ap, ◌∙◌, true≢false, append-nil, arith}
 use Rattle.std.specs.Prelude.{slice_get, option_map, option_to_list}
 use Rattle.std.specs.Str.{bytes_eq}
 use Rattle.std.proofs.lemmas.Slice.Eq.{bytes_eq-Decides}
@@ -19,7 +20,8 @@ use Rattle.mufom_select.specs.Choice.{is_marked}
 use Rattle.mufom_plan.specs.Names.{has_name}
 use Rattle.mufom_meaning.specs.Bases.{Bases}
 use Rattle.mufom_meaning.specs.Flat.{Sited, SitedPublic}
-use Rattle.mufom_meaning.specs.Values.{Setting, setting, Worth, worth_of, default_of, unmet_value, reference_value, worth_of_reference, environment, value_within, value}
+use Rattle.mufom_meaning.specs.Values.{Setting, setting, Worth, worth_of, default_of, unmet_value, reference_value, worth_of_reference, environment}
+use Rattle.mufom_meaning.specs.Values.{value_within, value}
 use Rattle.mufom_meaning.proofs.Members.{In, In-at, In-map, passes-In, get_some}
 use Rattle.mufom_meaning.proofs.Tests.{either_false}
 use Rattle.mufom_meaning.proofs.values.Causes.{worth_below, within_is}
@@ -49,15 +51,19 @@ empty-at (suc n) = refl
 pub at_new : {X : Type 0} (k : ℕ) (marks : List Bool) (xs : List X) (n : ℕ) → is_marked marks n ≡ true → At k marks xs n
 at_new k [] xs n h = absurd (true≢false (sym h))
 at_new k (true ∷ marks) [] zero h = record { place = 0; is = omega arith; same = refl }
-at_new {X = X} k (true ∷ marks) [] (suc n) h = let rest = at_new {X = X} (suc k) marks [] n h in record { place = suc rest.place; is = omega (arith, rest.is); same = refl }
+at_new {X = X} k (true ∷ marks) [] (suc n) h = let rest = at_new {X = X} (suc k) marks [] n h in
+    record { place = suc rest.place; is = omega (arith, rest.is); same = refl }
 at_new k (false ∷ marks) [] zero h = absurd (true≢false (sym h))
-at_new {X = X} k (false ∷ marks) [] (suc n) h = let rest = at_new {X = X} k marks [] n h in record { place = rest.place; is = rest.is; same = empty-at rest.place }
+at_new {X = X} k (false ∷ marks) [] (suc n) h = let rest = at_new {X = X} k marks [] n h in
+    record { place = rest.place; is = rest.is; same = empty-at rest.place }
 at_new k (true ∷ marks) (x ∷ xs) zero h = record { place = 0; is = omega arith; same = refl }
-at_new k (true ∷ marks) (x ∷ xs) (suc n) h = let rest = at_new (suc k) marks xs n h in record { place = suc rest.place; is = omega (arith, rest.is); same = rest.same }
+at_new k (true ∷ marks) (x ∷ xs) (suc n) h = let rest = at_new (suc k) marks xs n h in
+    record { place = suc rest.place; is = omega (arith, rest.is); same = rest.same }
 at_new k (false ∷ marks) (x ∷ xs) zero h = absurd (true≢false (sym h))
 at_new k (false ∷ marks) (x ∷ xs) (suc n) h = let rest = at_new k marks xs n h in record { place = rest.place; is = rest.is; same = rest.same }
 
-new_at : {X : Type 0} (marks : List Bool) (xs : List X) (n : ℕ) → is_marked marks n ≡ true → slice_get (remaining marks xs) (0 + get_or (new_positions 0 marks) n 0) ≡ slice_get xs (0 + n)
+new_at : {X : Type 0} (marks : List Bool) (xs : List X) (n : ℕ) → is_marked marks n ≡ true
+    → slice_get (remaining marks xs) (0 + get_or (new_positions 0 marks) n 0) ≡ slice_get xs (0 + n)
 new_at marks xs n h =
     let there = at_new 0 marks xs n h in
     let from : 0 + get_or (new_positions 0 marks) n 0 ≡ there.place = omega (arith, there.is) in
@@ -71,21 +77,25 @@ remaining-shorter (true ∷ marks) (x ∷ xs) = let rest = remaining-shorter mar
 remaining-shorter (false ∷ marks) (x ∷ xs) = let rest = remaining-shorter marks xs in omega (arith, rest)
 
 -- a marked reference gives its name
-names-at : (marks : List Bool) (references : List Reference) (n : ℕ) (r : Reference) → is_marked marks n ≡ true → slice_get references n ≡ Some r → In r (remaining marks references)
+names-at : (marks : List Bool) (references : List Reference) (n : ℕ) (r : Reference) → is_marked marks n ≡ true → slice_get references n ≡ Some r
+    → In r (remaining marks references)
 names-at marks references n r h e =
     let there = at_new 0 marks references n h in
     In-at r (remaining marks references) there.place (there.same ∙ e)
 
 name_in : (rs : List Reference) (r : Reference) → In r rs → has_name (map (λ (q : Reference). q.name) rs) r.name ≡ true
-name_in rs r h = passes-In (bytes_eq r.name) (map (λ (q : Reference). q.name) rs) r.name (In-map (λ (q : Reference). q.name) r rs h) ((bytes_eq-Decides r.name r.name).1 refl)
+name_in rs r h = passes-In (bytes_eq r.name) (map (λ (q : Reference). q.name) rs) r.name (In-map (λ (q : Reference). q.name) r rs h)
+    ((bytes_eq-Decides r.name r.name).1 refl)
 
 names_left : (f : Public → Public) → ((p : Public) → (f p).name ≡ p.name) → (marks : List Bool) (publics : List Public) (name : List ℕ)
-    → has_name (map (λ (p : Public). p.name) publics ++ []) name ≡ false → has_name (map (λ (p : Public). p.name) (map f (remaining marks publics)) ++ []) name ≡ false
+    → has_name (map (λ (p : Public). p.name) publics ++ []) name ≡ false
+    → has_name (map (λ (p : Public). p.name) (map f (remaining marks publics)) ++ []) name ≡ false
 names_left f same [] publics name e = refl
 names_left f same (mark ∷ marks) [] name e = refl
 names_left f same (true ∷ marks) (p ∷ publics) name e =
     let both = either_false (bytes_eq name p.name) _ e in
-    ap (λ b. b || has_name (map (λ (p : Public). p.name) (map f (remaining marks publics)) ++ []) name) (ap (bytes_eq name) (same p) ∙ both.0) ∙ names_left f same marks publics name both.1
+    ap (λ b. b || has_name (map (λ (p : Public). p.name) (map f (remaining marks publics)) ++ []) name) (ap (bytes_eq name) (same p) ∙ both.0)
+    ∙ names_left f same marks publics name both.1
 names_left f same (false ∷ marks) (p ∷ publics) name e = names_left f same marks publics name (either_false (bytes_eq name p.name) _ e).1
 
 within : {X : Type 0} (xs : List X) (i : ℕ) (x : X) → slice_get xs i ≡ Some x → i < length xs
@@ -122,14 +132,16 @@ module _ (m : Parts) (keep : List ℕ) (marks : List Bool) (kept : IsKept m keep
 
   -- what publics that remain are worth is the same
   abbrev Same : Worth → Worth → Type 0
-  Same worth worth' = (n : ℕ) (p : Public) → slice_get m.names.publics n ≡ Some p → is_marked (remains m marks).publics n ≡ true → worth' site' (new p.value) ≡ worth site p.value
+  Same worth worth' = (n : ℕ) (p : Public) → slice_get m.names.publics n ≡ Some p → is_marked (remains m marks).publics n ≡ true
+      → worth' site' (new p.value) ≡ worth site p.value
 
   module _ (worth worth' : Worth) (same : Same worth worth') where
     same_section : (n : ℕ) → n < length m.sections → is_marked marks (0 + n) ≡ true → is_marked (remains m marks).sections n ≡ true
     same_section n low h = let from : n ≡ 0 + n = omega arith in section_kept m keep marks kept n low (ap (is_marked marks) from ∙ h)
 
     same_size : (n : ℕ) → n < length m.sections → is_marked marks (0 + n) ≡ true
-        → option_map (λ (x : Section). x.size) (slice_get (rest.sections ++ []) (0 + get_or (new_positions 0 (remains m marks).sections) n 0)) ≡ option_map (λ (x : Section). x.size) (slice_get (m.sections ++ []) (0 + n))
+        → option_map (λ (x : Section). x.size) (slice_get (rest.sections ++ []) (0 + get_or (new_positions 0 (remains m marks).sections) n 0))
+        ≡ option_map (λ (x : Section). x.size) (slice_get (m.sections ++ []) (0 + n))
     same_size n low h =
         ap (option_map (λ (x : Section). x.size))
         (ap (λ (xs : List Section). slice_get xs (0 + get_or (new_positions 0 (remains m marks).sections) n 0)) (append-nil rest.sections)
@@ -137,7 +149,8 @@ module _ (m : Parts) (keep : List ℕ) (marks : List Bool) (kept : IsKept m keep
         ∙ ap (λ (xs : List Section). slice_get xs (0 + n)) (sym (append-nil m.sections)))
 
     same_base : (n : ℕ) → n < length m.sections → is_marked marks (0 + n) ≡ true
-        → slice_get (remaining (remains m marks).sections bases.sections) (0 + get_or (new_positions 0 (remains m marks).sections) n 0) ≡ slice_get bases.sections (0 + n)
+        → slice_get (remaining (remains m marks).sections bases.sections) (0 + get_or (new_positions 0 (remains m marks).sections) n 0)
+        ≡ slice_get bases.sections (0 + n)
     same_base n low h = new_at (remains m marks).sections bases.sections n (same_section n low h)
 
     -- a public at its position
@@ -156,7 +169,8 @@ module _ (m : Parts) (keep : List ℕ) (marks : List Bool) (kept : IsKept m keep
           ∙ ap (option_map (λ (p : Public). wrap site p)) e
 
       now : (o : Option Public) → slice_get m.names.publics n ≡ o
-          → slice_get s'.publics (0 + get_or (new_positions 0 (remains m marks).publics) n 0) ≡ option_map (λ p. wrap site' (new_public (positions_of (remains m marks)) p)) o
+          → slice_get s'.publics (0 + get_or (new_positions 0 (remains m marks).publics) n 0)
+          ≡ option_map (λ p. wrap site' (new_public (positions_of (remains m marks)) p)) o
       now o e =
           let f = new_public (positions_of (remains m marks)) in
           let xs = remaining (remains m marks).publics m.names.publics in
@@ -164,9 +178,11 @@ module _ (m : Parts) (keep : List ℕ) (marks : List Bool) (kept : IsKept m keep
           let from : 0 + n ≡ n = omega arith in
           ap (λ (xs : List SitedPublic). slice_get xs place) (append-nil (map (λ (p : Public). wrap site' p) (map f xs)))
           ∙ slice_get-map (λ (p : Public). wrap site' p) (map f xs) place
-          ∙ ap (option_map (λ (p : Public). wrap site' p)) (slice_get-map f xs place ∙ ap (option_map f) (new_at (remains m marks).publics m.names.publics n marked ∙ ap (slice_get m.names.publics) from ∙ e))
+          ∙ ap (option_map (λ (p : Public). wrap site' p)) (slice_get-map f xs place
+          ∙ ap (option_map f) (new_at (remains m marks).publics m.names.publics n marked ∙ ap (slice_get m.names.publics) from ∙ e))
           ∙ twice o where
-            twice : (o : Option Public) → option_map (λ (p : Public). wrap site' p) (option_map (new_public (positions_of (remains m marks))) o) ≡ option_map (λ p. wrap site' (new_public (positions_of (remains m marks)) p)) o
+            twice : (o : Option Public) → option_map (λ (p : Public). wrap site' p) (option_map (new_public (positions_of (remains m marks))) o)
+                ≡ option_map (λ p. wrap site' (new_public (positions_of (remains m marks)) p)) o
             twice None = refl
             twice (Some p) = refl
 
@@ -179,7 +195,8 @@ module _ (m : Parts) (keep : List ℕ) (marks : List Bool) (kept : IsKept m keep
     same_named : (n : ℕ) (r : Reference) → slice_get m.names.references n ≡ Some r → is_marked marks (length m.sections + length m.names.publics + n) ≡ true
         → worth_of_reference s' worth' (Some r) ≡ worth_of_reference s worth (Some r)
     same_named n r e h = by_case (named m r.name) refl (reference_names m keep marks kept n r e h) where
-      by_case : (o : Option ℕ) → named m r.name ≡ o → HasAll (is_marked marks) (option_to_list o) → worth_of_reference s' worth' (Some r) ≡ worth_of_reference s worth (Some r)
+      by_case : (o : Option ℕ) → named m r.name ≡ o → HasAll (is_marked marks) (option_to_list o) → worth_of_reference s' worth' (Some r)
+          ≡ worth_of_reference s worth (Some r)
       by_case None none all =
           let f = new_public (positions_of (remains m marks)) in
           let c = remains m marks in
@@ -188,7 +205,8 @@ module _ (m : Parts) (keep : List ℕ) (marks : List Bool) (kept : IsKept m keep
           let known = name_in (remaining marks' m.names.references) r (names-at marks' m.names.references n r (mention_kept m keep marks kept n h) e) in
           let own = none_named (length m.sections) m.names.publics r.name none in
           let theirs = names_left f (λ p. refl) c.publics m.names.publics r.name own in
-          let commons = same_commons m rest (remaining_names marks' m.names.references) marks' r.name (mentioned_sized m keep marks kept) refl known own theirs in
+          let commons = same_commons m rest (remaining_names marks' m.names.references) marks' r.name (mentioned_sized m keep marks kept) refl known
+          own theirs in
           ap (λ o. reference_value worth' o (unmet_value s' r)) both.1
           ∙ ap (λ b. if b then bases.commons r.name else default_of r.weak) commons
           ∙ sym (ap (λ o. reference_value worth o (unmet_value s r)) both.0)
@@ -203,7 +221,8 @@ module _ (m : Parts) (keep : List ℕ) (marks : List Bool) (kept : IsKept m keep
           ∙ sym (ap (λ o. reference_value worth o (unmet_value s r)) there.before)
 
     same_reference : (n : ℕ) → n < length m.names.references → is_marked marks (length m.sections + length m.names.publics + n) ≡ true
-        → worth_of_reference s' worth' (slice_get rest.names.references (get_or (new_positions 0 (remains m marks).references) n 0)) ≡ worth_of_reference s worth (slice_get m.names.references n)
+        → worth_of_reference s' worth' (slice_get rest.names.references (get_or (new_positions 0 (remains m marks).references) n 0))
+        ≡ worth_of_reference s worth (slice_get m.names.references n)
     same_reference n low h = by_case (slice_get m.names.references n) refl where
       now : slice_get rest.names.references (get_or (new_positions 0 (remains m marks).references) n 0) ≡ slice_get m.names.references n
       now =
@@ -212,7 +231,8 @@ module _ (m : Parts) (keep : List ℕ) (marks : List Bool) (kept : IsKept m keep
           ap (slice_get (remaining (remains m marks).references m.names.references)) from ∙ there.same
 
       by_case : (o : Option Reference) → slice_get m.names.references n ≡ o
-          → worth_of_reference s' worth' (slice_get rest.names.references (get_or (new_positions 0 (remains m marks).references) n 0)) ≡ worth_of_reference s worth (slice_get m.names.references n)
+          → worth_of_reference s' worth' (slice_get rest.names.references (get_or (new_positions 0 (remains m marks).references) n 0))
+          ≡ worth_of_reference s worth (slice_get m.names.references n)
       by_case None e = absurd (get_some m.names.references n low e)
       by_case (Some r) e = ap (worth_of_reference s' worth') (now ∙ e) ∙ same_named n r e h ∙ ap (worth_of_reference s worth) (sym e)
 
@@ -225,7 +245,8 @@ module _ (m : Parts) (keep : List ℕ) (marks : List Bool) (kept : IsKept m keep
     same_variable pc (letters.I, n) low h = same_public n low h
     same_variable pc (letters.X, n) low h = same_reference n low h
 
-    same_step : (pc : Option ℕ) (t : Tree) → IsWhole t → value_at s'.modulus (environment s' worth' site' pc) (new t) ≡ value_at s.modulus (environment s worth site pc) t
+    same_step : (pc : Option ℕ) (t : Tree) → IsWhole t → value_at s'.modulus (environment s' worth' site' pc) (new t)
+        ≡ value_at s.modulus (environment s worth site pc) t
     same_step pc t whole =
         value_at-renamed s'.modulus (environment s' worth' site' pc) (new_variable (positions_of (remains m marks))) t
         ∙ value_at-agrees_on_variables s.modulus _ (environment s worth site pc) t (λ v h. same_variable pc v (whole v h).0 (whole v h).1)
@@ -250,7 +271,8 @@ module _ (m : Parts) (keep : List ℕ) (marks : List Bool) (kept : IsKept m keep
         let c = remains m marks in
         let f = new_public (positions_of c) in
         let xs = remaining c.publics m.names.publics in
-        let a = ap length (append-nil (map (λ (p : Public). wrap site' p) (map f xs))) ∙ length-map (map f xs) (λ (p : Public). wrap site' p) ∙ length-map xs f in
+        let a = ap length (append-nil (map (λ (p : Public). wrap site' p) (map f xs))) ∙ length-map (map f xs) (λ (p : Public). wrap site' p)
+        ∙ length-map xs f in
         let b = ap length (append-nil (map (λ (p : Public). wrap site p) m.names.publics)) ∙ length-map m.names.publics (λ (p : Public). wrap site p) in
         let less = remaining-shorter c.publics m.names.publics in
         omega (arith, a, b, less)

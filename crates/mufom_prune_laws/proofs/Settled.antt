@@ -1,5 +1,6 @@
 -- As many steps of names as there are publics are enough in any setting: more give the same, also where names lead in a circle.
-use Rattle.std.proofs.Common.{◌≡◌, ℕ, zero, suc, ◌+◌, ◌-◌, ◌<◌, ◌≤◌, ◌⊎◌, inl, inr, List, [], ◌∷◌, length, Option, Some, None, is_some, Bool, true, false, refl, sym, ◌∙◌, ap, subst, true≢false, arith}
+use Rattle.std.proofs.Common.{◌≡◌, ℕ, zero, suc, ◌+◌, ◌-◌, ◌<◌, ◌≤◌, ◌⊎◌, inl, inr, List, [], ◌∷◌, length, Option, Some, None, is_some, Bool, true}
+use Rattle.std.proofs.Common.{false, refl, sym, ◌∙◌, ap, subst, true≢false, arith}
 use Rattle.std.specs.Prelude.{slice_get, if◌then◌else◌}
 use Rattle.mufom_expr.specs.declared.token.Letter.{Letter}
 use Rattle.mufom_expr.specs.declared.token.Letter.TheVariants as letters
@@ -33,7 +34,8 @@ agree_on_more p q x xs here rest y zero e = let same : x ≡ y = cc in ap p (sym
 agree_on_more p q x xs here rest y (suc i) e = rest y i e
 
 -- a test that passes at least as much passes the same, or more elements
-agree_or_more : {A : Type 0} (p q : A → Bool) → ((x : A) → p x ≡ true → q x ≡ true) → (xs : List A) → (AgreeOn p q xs ⊎ (passing p xs < passing q xs)) × (passing p xs ≤ passing q xs)
+agree_or_more : {A : Type 0} (p q : A → Bool) → ((x : A) → p x ≡ true → q x ≡ true) → (xs : List A) → (AgreeOn p q xs ⊎ (passing p xs < passing q xs))
+    × (passing p xs ≤ passing q xs)
 agree_or_more p q keeps [] = (inl (λ x i e. absurd cc), omega arith)
 agree_or_more p q keeps (x ∷ xs) = let rest = agree_or_more p q keeps xs in by_case (p x) refl (q x) refl rest.0 rest.1 where
   by_case : (b : Bool) → p x ≡ b → (c : Bool) → q x ≡ c → AgreeOn p q xs ⊎ (passing p xs < passing q xs) → passing p xs ≤ passing q xs
@@ -56,7 +58,8 @@ module _ (s : Setting) where
     same_public i None e = refl
     same_public i (Some q) e = agree q i e
 
-    same_named : (name : List ℕ) (unmet : Option ℕ) (o : Option SitedPublic) → first_named s.publics name ≡ o → reference_value worth o unmet ≡ reference_value other o unmet
+    same_named : (name : List ℕ) (unmet : Option ℕ) (o : Option SitedPublic) → first_named s.publics name ≡ o → reference_value worth o unmet
+        ≡ reference_value other o unmet
     same_named name unmet None e = refl
     same_named name unmet (Some q) e = let there = (find_at _ s.publics q e).0 in agree q there.0 there.1
 
@@ -72,7 +75,8 @@ module _ (s : Setting) where
     same_environment site pc letters.I n = same_public (site.first_public + n) (slice_get s.publics (site.first_public + n)) refl
     same_environment site pc letters.X n = same_reference (slice_get site.parts.names.references n)
 
-    same_value : (site : Sited) (pc : Option ℕ) (t : Tree) → value_at s.modulus (environment s worth site pc) t ≡ value_at s.modulus (environment s other site pc) t
+    same_value : (site : Sited) (pc : Option ℕ) (t : Tree) → value_at s.modulus (environment s worth site pc) t
+        ≡ value_at s.modulus (environment s other site pc) t
     same_value site pc t = value_at-agrees s.modulus (environment s worth site pc) (environment s other site pc) (same_environment site pc) t
 
   -- one step more changes no public
@@ -105,7 +109,8 @@ module _ (s : Setting) where
 
   agreed : (k : ℕ) (q : SitedPublic) → has k q ≡ has (suc k) q → worth_below s k q.site q.entry.value ≡ worth_below s (suc k) q.site q.entry.value
   agreed k q h = by_case (worth_below s k q.site q.entry.value) refl (worth_below s (suc k) q.site q.entry.value) refl h where
-    by_case : (o : Option ℕ) → worth_below s k q.site q.entry.value ≡ o → (u : Option ℕ) → worth_below s (suc k) q.site q.entry.value ≡ u → is_some o ≡ is_some u → o ≡ u
+    by_case : (o : Option ℕ) → worth_below s k q.site q.entry.value ≡ o → (u : Option ℕ) → worth_below s (suc k) q.site q.entry.value ≡ u → is_some o
+        ≡ is_some u → o ≡ u
     by_case None e None f h = refl
     by_case None e (Some w) f h = absurd (true≢false (sym h))
     by_case (Some v) e u f h = sym (worth-more k q.site q.entry.value v e) ∙ f
@@ -113,7 +118,8 @@ module _ (s : Setting) where
   stable_or_many : (k : ℕ) → ((j : ℕ) × (j < k) × IsStable j) ⊎ (k ≤ passing (has k) s.publics)
   stable_or_many zero = inr (omega arith)
   stable_or_many (suc k) = by_case (stable_or_many k) where
-    by_case : ((j : ℕ) × (j < k) × IsStable j) ⊎ (k ≤ passing (has k) s.publics) → ((j : ℕ) × (j < suc k) × IsStable j) ⊎ (suc k ≤ passing (has (suc k)) s.publics)
+    by_case : ((j : ℕ) × (j < k) × IsStable j) ⊎ (k ≤ passing (has k) s.publics) → ((j : ℕ) × (j < suc k) × IsStable j)
+        ⊎ (suc k ≤ passing (has (suc k)) s.publics)
     by_case (inl h) = let less : h.0 < suc k = omega (arith, h.1) in inl (h.0, less, h.2)
     by_case (inr h) = grown h (agree_or_more (has k) (has (suc k)) (keeps k) s.publics).0 where
       grown : k ≤ passing (has k) s.publics → AgreeOn (has k) (has (suc k)) s.publics ⊎ (passing (has k) s.publics < passing (has (suc k)) s.publics)
@@ -134,7 +140,8 @@ module _ (s : Setting) where
       let rest : (length s.publics - early.0) + early.0 ≡ length s.publics = omega (arith, early.1) in
       subst IsStable rest (stays_stable (length s.publics - early.0) early.0 early.2)
 
-  pub settled : (d : ℕ) (site : Sited) (pc : Option ℕ) (t : Tree) → value_within s (d + length s.publics) site pc t ≡ value_within s (length s.publics) site pc t
+  pub settled : (d : ℕ) (site : Sited) (pc : Option ℕ) (t : Tree) → value_within s (d + length s.publics) site pc t
+      ≡ value_within s (length s.publics) site pc t
   settled zero site pc t = let same : 0 + length s.publics ≡ length s.publics = omega arith in ap (λ n. value_within s n site pc t) same
   settled (suc d) site pc t =
       let same : suc d + length s.publics ≡ suc (d + length s.publics) = omega arith in

@@ -5,7 +5,8 @@ use Rattle.mufom_prune.specs.Pruned.{remains, without_others}
 use Rattle.mufom_prune_laws.specs.Meaning.{PrunedIsSingle}
 use Rattle.mufom_prune_laws.proofs.Commons.{same_truth}
 
-marks_same : (xs ys : List Bool) → length xs ≡ length ys → ((n : ℕ) → is_marked xs n ≡ true → is_marked ys n ≡ true) → ((n : ℕ) → is_marked ys n ≡ true → is_marked xs n ≡ true) → xs ≡ ys
+marks_same : (xs ys : List Bool) → length xs ≡ length ys → ((n : ℕ) → is_marked xs n ≡ true → is_marked ys n ≡ true)
+    → ((n : ℕ) → is_marked ys n ≡ true → is_marked xs n ≡ true) → xs ≡ ys
 marks_same [] [] sized f g = refl
 marks_same [] (y ∷ ys) sized f g = absurd (omega (arith, sized))
 marks_same (x ∷ xs) [] sized f g = absurd (omega (arith, sized))
@@ -15,5 +16,6 @@ pub pruned_is_single : PrunedIsSingle
 pruned_is_single M N m keep p q =
     p.is
     ∙ ap (λ (marks : List Bool). without_others m (remains m marks))
-    (marks_same p.marks q.marks (p.kept.sized ∙ sym q.kept.sized) (λ n h. p.kept.least (is_marked q.marks) q.kept.closed n h) (λ n h. q.kept.least (is_marked p.marks) p.kept.closed n h))
+    (marks_same p.marks q.marks (p.kept.sized ∙ sym q.kept.sized) (λ n h. p.kept.least (is_marked q.marks) q.kept.closed n h)
+    (λ n h. q.kept.least (is_marked p.marks) p.kept.closed n h))
     ∙ sym q.is

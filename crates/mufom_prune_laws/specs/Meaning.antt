@@ -38,7 +38,8 @@ pub record MeansTheRest (M m : Parts) (c : Remains) (bases : Bases) : Type 0 whe
 
 -- This holds of what remains of each module without a defect, for each name.
 abbrev pub PrunedMeansTheRest : Type 0
-PrunedMeansTheRest = (M m : Parts) (keep : List ℕ) → IsValid m → (pruned : IsPruned M m keep) → (bases : Bases) → MeansTheRest M m (remains m pruned.marks) bases
+PrunedMeansTheRest = (M m : Parts) (keep : List ℕ) → IsValid m → (pruned : IsPruned M m keep) → (bases : Bases)
+    → MeansTheRest M m (remains m pruned.marks) bases
 
 -- There is one module at most that remains of a module for a name.
 abbrev pub PrunedIsSingle : Type 0

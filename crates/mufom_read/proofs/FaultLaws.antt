@@ -15,14 +15,16 @@ use Rattle.mufom_read.proofs.so_far.SectionFaults.{unbased-first}
 use Rattle.mufom_read.proofs.so_far.PublicFaults.{external-least}
 
 -- the fault of the first section that is kept and lacks a base is that of the section part
-pub section-fault : (f : Prefix) (prefix : List Step) → IsPrefixOf f prefix → first_unbased f.contents.sections.starts.items f.contents.sections.list.items ≡ whole_fault section_part prefix
+pub section-fault : (f : Prefix) (prefix : List Step) → IsPrefixOf f prefix
+    → first_unbased f.contents.sections.starts.items f.contents.sections.list.items ≡ whole_fault section_part prefix
 section-fault f prefix is =
     (λ k. first_unbased (is.contents.sections.starts k) (is.contents.sections.list k))
     ∙ unbased-first (offset_records_of prefix)
     ∙ ap (λ ps. first_fault (section_fault ps) (offset_records_of prefix)) (sym (records-placed prefix))
 
 -- the least fault of the publics that are kept is that of the external part
-pub external-fault : (f : Prefix) (prefix : List Step) → IsPrefixOf f prefix → least_from None (public_faults f.tables f.contents.publics.marks.items f.contents.publics.list.items) ≡ whole_fault external_part prefix
+pub external-fault : (f : Prefix) (prefix : List Step) → IsPrefixOf f prefix
+    → least_from None (public_faults f.tables f.contents.publics.marks.items f.contents.publics.list.items) ≡ whole_fault external_part prefix
 external-fault f prefix is =
     let same = records-placed prefix in
     (λ k. least_from None (public_faults ((is.tables ∙ ap tables_of same) k) (is.contents.publics.marks k) (is.contents.publics.list k)))

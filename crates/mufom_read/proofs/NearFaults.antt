@@ -61,11 +61,13 @@ token_near tokens terms bytes offset why.Depth is = absurd is
 token_near tokens terms bytes offset why.AfterEnd is = absurd is
 token_near tokens terms bytes offset why.FileLimit is = absurd is
 
-expression_near : (at : ℕ) (bytes : List ℕ) (fault_offset : ℕ) (reason : Reason) → ExpressionFault at bytes fault_offset reason → fault_offset ≤ at + length bytes
+expression_near : (at : ℕ) (bytes : List ℕ) (fault_offset : ℕ) (reason : Reason) → ExpressionFault at bytes fault_offset reason
+    → fault_offset ≤ at + length bytes
 expression_near at bytes fault_offset reason (offset, (tokens, terms, prefix, rest, spells, leaves, few, (fault, here), all)) =
     omega (arith, here, token_near _ _ rest offset reason fault, ap length all, length-append prefix rest)
 
-field_near : (f : Field) (at : ℕ) (bytes : List ℕ) (fault_offset : ℕ) (reason : Reason) → IsNear f → FieldFault f at bytes fault_offset reason → fault_offset ≤ at + length bytes
+field_near : (f : Field) (at : ℕ) (bytes : List ℕ) (fault_offset : ℕ) (reason : Reason) → IsNear f → FieldFault f at bytes fault_offset reason
+    → fault_offset ≤ at + length bytes
 field_near byte at bytes fault_offset reason near is = absurd is
 field_near (number fits where_ fault) at bytes fault_offset reason near (inl is) = omega (arith, is.1)
 field_near (number fits where_ fault) at bytes fault_offset reason near (inr is) = omega (arith, is.1, near at)
@@ -77,7 +79,8 @@ field_near (numbers most) at bytes fault_offset reason near is = absurd is
 field_near expression at bytes fault_offset reason near is = expression_near at bytes fault_offset reason is
 field_near optional_expression at bytes fault_offset reason near is = expression_near at bytes fault_offset reason is.1
 
-near : (layout : Layout) (at : ℕ) (bytes : List ℕ) (fault_offset : ℕ) (reason : Reason) → AreNear layout → HasFault layout at bytes fault_offset reason → fault_offset ≤ at + length bytes
+near : (layout : Layout) (at : ℕ) (bytes : List ℕ) (fault_offset : ℕ) (reason : Reason) → AreNear layout
+    → HasFault layout at bytes fault_offset reason → fault_offset ≤ at + length bytes
 near (Layouts.whole row) at bytes fault_offset reason good is = absurd is
 near (Layouts.refused back why_) at bytes fault_offset reason good is = omega (arith, is.0)
 near (Layouts.field f rest) at bytes fault_offset reason good (inl is) = field_near f at bytes fault_offset reason good.0 is
@@ -128,7 +131,14 @@ start_by (Some b) = (tt, λ (v : Span). (tt, λ (c : ℕ). by_test (c == Layouts
 
 comma_near : (b : ℕ) (v : Span) (c : Option ℕ) → AreNear (Layouts.item_by_comma b v c)
 comma_near b v None = (tt, λ (e : ℕ). by_test (e == Layouts.partner b) (Layouts.whole (r.FieldItem (Layouts.kind_of b) v None)) _ tt tt)
-comma_near b v (Some c) = (itself, λ (n : ℕ). (tt, λ (e : ℕ). by_test (e == Layouts.partner b) (Layouts.whole (r.FieldItem (Layouts.kind_of b) v (Some n))) _ tt tt))
+comma_near b v (Some c) = (
+  itself,
+  λ (n : ℕ). (
+    tt,
+    λ (e : ℕ). by_test (e == Layouts.partner b)
+        (Layouts.whole (r.FieldItem (Layouts.kind_of b) v (Some n))) _ tt tt,
+  ),
+)
 
 bracket_near : (o : Option ℕ) → AreNear (Layouts.item_by_bracket o)
 bracket_near None = constant_near r.ConstantItem
@@ -144,7 +154,10 @@ block_near = (
       λ (name : Span).
           by_test (kind == 3) _ _ tt
           (by_test (kind == 5) (Layouts.source_begin kind n name) _ (tt, λ _. tt)
-          (by_test (kind == 11) (Layouts.section_begin kind n name) _ (itself, λ (a : ℕ). (itself, λ (b : ℕ). (tt, λ (v : Span). tt))) (itself, λ (a : ℕ). (itself, λ (b : ℕ). (tt, λ (v : Span). tt))))),
+          (by_test (kind == 11) (Layouts.section_begin kind n name) _ (itself, λ (a : ℕ). (itself, λ (b : ℕ). (tt, λ (v : Span). tt))) (
+            itself,
+            λ (a : ℕ). (itself, λ (b : ℕ). (tt, λ (v : Span). tt)),
+          ))),
     ),
   ),
 )

@@ -1,12 +1,14 @@
 -- What a record names by its position stands in its bytes.
-use Rattle.std.proofs.Common.{◌≡◌, ℕ, ◌+◌, ◌-◌, ◌≤◌, Bool, true, false, cond, ◌==◌, List, [], ◌∷◌, ◌++◌, length, take, drop, Option, Some, None, refl, sym, ap, subst, ◌∙◌, arith, append_assoc, length-append}
+use Rattle.std.proofs.Common.{◌≡◌, ℕ, ◌+◌, ◌-◌, ◌≤◌, Bool, true, false, cond, ◌==◌, List, [], ◌∷◌, ◌++◌, length, take, drop, Option, Some, None, refl}
+use Rattle.std.proofs.Common.{sym, ap, subst, ◌∙◌, arith, append_assoc, length-append}
 use Rattle.std.specs.Prelude.{slice_range}
 use Rattle.mufom_numbers.specs.declared.taken.Span.{Span}
 use Rattle.mufom_expr.specs.Tree.{Tree}
 use Rattle.mufom_expr.specs.Spelled.{SpellsTree}
 use Rattle.mufom_records.specs.declared.record.Record.{Record}
 use Rattle.mufom_records.specs.declared.record.Record.TheVariants as r
-use Rattle.mufom_records.specs.Fields.{Field, ValueOf, byte, number, string, run, letter, optional_number, numbers, expression, optional_expression, is_one_of, SpellsField, span_at, first_of}
+use Rattle.mufom_records.specs.Fields.{Field, ValueOf, byte, number, string, run, letter, optional_number, numbers, expression, optional_expression}
+use Rattle.mufom_records.specs.Fields.{is_one_of, SpellsField, span_at, first_of}
 use Rattle.mufom_records.specs.Layouts
 use Rattle.mufom_records.specs.Parts.{LiesIn, IsExpressionIn, IsOptionalExpressionIn, HasParts}
 
@@ -46,16 +48,21 @@ slice_mid pre x back =
     let count : length pre + length x - length pre ≡ length x = omega arith in
     ap (take (length pre + length x - length pre)) (drop_prefix pre (x ++ back)) ∙ ap (λ n. take n (x ++ back)) count ∙ take_prefix x back
 
-expression_in : (text pre bytes back : List ℕ) (span : Span) → text ≡ pre ++ (bytes ++ back) → ((tree : Tree) × SpellsTree tree bytes) → span ≡ span_at (length pre) (length bytes) → IsExpressionIn text span
+expression_in : (text pre bytes back : List ℕ) (span : Span) → text ≡ pre ++ (bytes ++ back) → ((tree : Tree) × SpellsTree tree bytes) → span
+    ≡ span_at (length pre) (length bytes) → IsExpressionIn text span
 expression_in text pre bytes back span all tree is =
-    subst (λ (t : List ℕ). IsExpressionIn t span) (sym all) (subst (λ (s : Span). IsExpressionIn (pre ++ (bytes ++ back)) s) (sym is)
-    (omega (arith, length-append pre (bytes ++ back), length-append bytes back), (tree.0, subst (λ (b : List ℕ). SpellsTree tree.0 b) (sym (slice_mid pre bytes back)) tree.1)))
+    subst (λ (t : List ℕ). IsExpressionIn t span) (sym all) (subst (λ (s : Span). IsExpressionIn (pre ++ (bytes ++ back)) s) (sym is) (
+      omega (arith, length-append pre (bytes ++ back), length-append bytes back),
+      (tree.0, subst (λ (b : List ℕ). SpellsTree tree.0 b) (sym (slice_mid pre bytes back)) tree.1),
+    ))
 
-lies_in : (text pre bytes back : List ℕ) (span : Span) (start len : ℕ) → text ≡ pre ++ (bytes ++ back) → span ≡ span_at start len → length pre ≤ start → start + len ≤ length pre + length bytes → LiesIn text span
+lies_in : (text pre bytes back : List ℕ) (span : Span) (start len : ℕ) → text ≡ pre ++ (bytes ++ back) → span ≡ span_at start len → length pre ≤ start
+    → start + len ≤ length pre + length bytes → LiesIn text span
 lies_in text pre bytes back span start len all is low high =
     subst (λ (s : Span). LiesIn text s) (sym is) (omega (arith, high, ap length all, length-append pre (bytes ++ back), length-append bytes back))
 
-field_owned : (f : Field) (x : ValueOf f) (text pre bytes back : List ℕ) (next : Option ℕ) → text ≡ pre ++ (bytes ++ back) → SpellsField f x (length pre) bytes next → Owned text f x
+field_owned : (f : Field) (x : ValueOf f) (text pre bytes back : List ℕ) (next : Option ℕ) → text ≡ pre ++ (bytes ++ back)
+    → SpellsField f x (length pre) bytes next → Owned text f x
 field_owned byte x text pre bytes back next all is = tt
 field_owned (number fits fault_offset fault) x text pre bytes back next all is = tt
 field_owned string x text pre bytes back next all is =
@@ -68,7 +75,8 @@ field_owned expression x text pre bytes back next all is = expression_in text pr
 field_owned optional_expression None text pre bytes back next all is = tt
 field_owned optional_expression (Some span) text pre bytes back next all is = expression_in text pre bytes back span all is.0 is.1
 
-owned : (text pre bytes : List ℕ) (layout : Layout) (row : Record) (next : Option ℕ) → text ≡ pre ++ bytes → Layouts.SpellsRecord layout row (length pre) bytes next → Owns text layout → HasParts text row
+owned : (text pre bytes : List ℕ) (layout : Layout) (row : Record) (next : Option ℕ) → text ≡ pre ++ bytes
+    → Layouts.SpellsRecord layout row (length pre) bytes next → Owns text layout → HasParts text row
 owned text pre bytes (Layouts.whole it) row next all is has = subst (HasParts text) (sym is.0) has
 owned text pre bytes (Layouts.refused back reason) row next all is has = absurd is
 owned text pre bytes (Layouts.field f rest) row next all is has =
@@ -88,7 +96,8 @@ named_owned text i absolute = λ (p : Option ℕ) _ (name : Span) x (a : Option 
 
 section_owned : (text : List ℕ) → Owns text Layouts.section_type
 section_owned text = λ (i : ℕ) _ (c : ℕ) _. by_test text (c == 0xC3) (Layouts.named_section i false) _ (named_owned text i false)
-    (by_test text (c == 0xC1) (Layouts.absolute_section i) _ (λ (s : ℕ) _. by_test text (s == 0xD3) (Layouts.named_section i true) _ (named_owned text i true) tt) tt)
+    (by_test text (c == 0xC1) (Layouts.absolute_section i) _ (λ (s : ℕ) _. by_test text (s == 0xD3) (Layouts.named_section i true) _
+    (named_owned text i true) tt) tt)
 
 repeat_owned : (text : List ℕ) → Owns text Layouts.repeat
 repeat_owned text = λ (times : ℕ) _ (b : ℕ) _. by_test text (b == 0xED) (Layouts.constant (r.RepeatConstant times)) _ (λ (n : ℕ) _ (span : Span) x. x)
@@ -100,7 +109,8 @@ start_owned text (Some b) = λ (v : Span) x (c : ℕ) _. by_test text (c == Layo
 
 comma_owned : (text : List ℕ) (b : ℕ) (v : Span) (c : Option ℕ) → IsExpressionIn text v → Owns text (Layouts.item_by_comma b v c)
 comma_owned text b v None x = λ (e : ℕ) _. by_test text (e == Layouts.partner b) (Layouts.whole (r.FieldItem (Layouts.kind_of b) v None)) _ x tt
-comma_owned text b v (Some c) x = λ (n : ℕ) _ (e : ℕ) _. by_test text (e == Layouts.partner b) (Layouts.whole (r.FieldItem (Layouts.kind_of b) v (Some n))) _ x tt
+comma_owned text b v (Some c) x = λ (n : ℕ) _ (e : ℕ) _. by_test text (e == Layouts.partner b)
+    (Layouts.whole (r.FieldItem (Layouts.kind_of b) v (Some n))) _ x tt
 
 bracket_owned : (text : List ℕ) (o : Option ℕ) → Owns text (Layouts.item_by_bracket o)
 bracket_owned text None = λ (n : ℕ) _ (span : Span) x. x
@@ -157,5 +167,7 @@ body_owned it bytes next is = owned bytes [] bytes Layouts.body it next refl is 
 pub item_owned : (it : Record) (bytes : List ℕ) (next : Option ℕ) → Layouts.SpellsRecord Layouts.item it 0 bytes next → HasParts bytes it
 item_owned it bytes next is = owned bytes [] bytes Layouts.item it next refl is (λ (o : Option ℕ) _. bracket_owned bytes o)
 
-pub begin_owned : (it : Record) (bytes : List ℕ) (next : Option ℕ) → Layouts.SpellsRecord (Layouts.begins_with 1 0xE0 Layouts.module_begin) it 0 bytes next → HasParts bytes it
-begin_owned it bytes next is = owned bytes [] bytes (Layouts.begins_with 1 0xE0 Layouts.module_begin) it next refl is (λ (b : ℕ) _. by_test bytes (b == 0xE0) Layouts.module_begin _ (λ (p : Span) x (n : Span) y. (x, y)) tt)
+pub begin_owned : (it : Record) (bytes : List ℕ) (next : Option ℕ)
+    → Layouts.SpellsRecord (Layouts.begins_with 1 0xE0 Layouts.module_begin) it 0 bytes next → HasParts bytes it
+begin_owned it bytes next is = owned bytes [] bytes (Layouts.begins_with 1 0xE0 Layouts.module_begin) it next refl is
+    (λ (b : ℕ) _. by_test bytes (b == 0xE0) Layouts.module_begin _ (λ (p : Span) x (n : Span) y. (x, y)) tt)

@@ -1,5 +1,6 @@
 -- What holds of a record that was got, and of a fault.
-use Rattle.std.proofs.Common.{◌≡◌, ℕ, zero, suc, ◌+◌, ◌<◌, Bool, true, false, cond, List, [], ◌∷◌, ◌++◌, length, Option, Some, None, is_some, nat_le, le-leb, sym, ap, subst, ◌∙◌, arith, length-append}
+use Rattle.std.proofs.Common.{◌≡◌, ℕ, zero, suc, ◌+◌, ◌<◌, Bool, true, false, cond, List, [], ◌∷◌, ◌++◌, length, Option, Some, None, is_some, nat_le}
+use Rattle.std.proofs.Common.{le-leb, sym, ap, subst, ◌∙◌, arith, length-append}
 use Rattle.mufom_numbers.specs.Spelling.{SpellsNumber}
 use Rattle.mufom_records.specs.declared.record.Mode.TheVariants as mode
 use Rattle.mufom_records.specs.declared.record.Record.TheVariants as r
@@ -23,7 +24,8 @@ number_some n (b ∷ bytes) is = omega arith
 byte_some : (b : ℕ) (prefix back bytes : List ℕ) → prefix ≡ b ∷ [] → bytes ≡ prefix ++ back → 0 < length bytes
 byte_some b prefix back bytes is all = omega (arith, ap length is, ap length all, length-append prefix back)
 
-item_some : (row : Record) (at : ℕ) (after : Option ℕ) (back bytes : List ℕ) → Layouts.SpellsRecord (Layouts.constant r.ConstantItem) row at back after → bytes ≡ back → 0 < length bytes
+item_some : (row : Record) (at : ℕ) (after : Option ℕ) (back bytes : List ℕ)
+    → Layouts.SpellsRecord (Layouts.constant r.ConstantItem) row at back after → bytes ≡ back → 0 < length bytes
 item_some row at after back bytes is all = omega (arith, number_some is.0 is.1 is.3.0, ap length is.5, length-append is.1 is.2, ap length all)
 
 -- it has a byte
@@ -32,7 +34,8 @@ got-some mode.Begin row bytes after is = byte_some is.0 is.1 is.2 bytes is.3 is.
 got-some mode.Descriptor row bytes after is = byte_some is.0 is.1 is.2 bytes is.3 is.5
 got-some (mode.Offset k) row bytes after is = byte_some is.0 is.1 is.2 bytes is.3 is.5
 got-some mode.Body row bytes after is = byte_some is.0 is.1 is.2 bytes is.3 is.5
-got-some mode.Items row bytes after (None, prefix, back, none, constant, all) = item_some row (0 + length prefix) after back bytes constant (all ∙ ap (λ l. l ++ back) none.0)
+got-some mode.Items row bytes after (None, prefix, back, none, constant, all) =
+    item_some row (0 + length prefix) after back bytes constant (all ∙ ap (λ l. l ++ back) none.0)
 got-some mode.Items row bytes after (Some b, prefix, back, here, field, all) = byte_some b prefix back bytes here.0 all
 
 -- what it names by its position stands in its bytes
@@ -50,17 +53,21 @@ got-header (suc zero) row bytes after is = let d = descriptor_row row bytes afte
 got-header (suc (suc k)) row bytes after is = let o = offset_row k row bytes after is in subst IsHeaderRow (sym o.1) tt
 
 -- and those after the first two have an offset
-pub got-offset : (k : ℕ) (row : Record) (bytes : List ℕ) (after : Option ℕ) → Layouts.IsWholeRecord (header_mode k) row bytes after → is_some (offset_in row) ≡ nat_le 2 k
+pub got-offset : (k : ℕ) (row : Record) (bytes : List ℕ) (after : Option ℕ) → Layouts.IsWholeRecord (header_mode k) row bytes after
+    → is_some (offset_in row) ≡ nat_le 2 k
 got-offset zero row bytes after is = let b = begin_row row bytes after is in ap (λ x. is_some (offset_in x)) b.2
 got-offset (suc zero) row bytes after is = let d = descriptor_row row bytes after is in ap (λ x. is_some (offset_in x)) d.3
-got-offset (suc (suc k)) row bytes after is = let o = offset_row k row bytes after is in ap (λ x. is_some (offset_in x)) o.1 ∙ sym (le-leb 2 (suc (suc k)) (omega arith))
+got-offset (suc (suc k)) row bytes after is = let o = offset_row k row bytes after is in ap (λ x. is_some (offset_in x)) o.1
+    ∙ sym (le-leb 2 (suc (suc k)) (omega arith))
 
 -- the kind of a block is one with what it adds
-got-kind : (items : Bool) (row : Record) (bytes : List ℕ) (after : Option ℕ) → Layouts.IsWholeRecord (cond items mode.Items mode.Body) row bytes after → HasKind row
+got-kind : (items : Bool) (row : Record) (bytes : List ℕ) (after : Option ℕ) → Layouts.IsWholeRecord (cond items mode.Items mode.Body) row bytes after
+    → HasKind row
 got-kind true row bytes after is = items_kind row bytes after is
 got-kind false row bytes after is = body_kind row bytes after is
 
-pub got-placed : (prefix : List Step) (at : code.Location) (rest : List ℕ) (row : Record) (bytes : List ℕ) (after : Option ℕ) → Layouts.IsWholeRecord (mode_at prefix (as_location at) rest) row bytes after → IsPlacedWell at row
+pub got-placed : (prefix : List Step) (at : code.Location) (rest : List ℕ) (row : Record) (bytes : List ℕ) (after : Option ℕ)
+    → Layouts.IsWholeRecord (mode_at prefix (as_location at) rest) row bytes after → IsPlacedWell at row
 got-placed prefix (fault_offset.Header k) rest row bytes after is = (got-header k row bytes after is, got-offset k row bytes after is)
 got-placed prefix (fault_offset.Part e) rest row bytes after is = got-kind _ row bytes after is
 got-placed prefix fault_offset.End rest row bytes after is = tt

@@ -1,5 +1,6 @@
 -- The rules for a record, read off the tables, are the rules after a prefix.
-use Rattle.std.proofs.Common.{◌≡◌, ℕ, ◌&&◌, ◌||◌, Bool, true, false, not, List, [], ◌∷◌, Option, Some, None, is_none, filter_map, map, option_to_list, cond, refl, sym, ap, ◌∙◌, append-nil}
+use Rattle.std.proofs.Common.{◌≡◌, ℕ, ◌&&◌, ◌||◌, Bool, true, false, not, List, [], ◌∷◌, Option, Some, None, is_none, filter_map, map, option_to_list}
+use Rattle.std.proofs.Common.{cond, refl, sym, ap, ◌∙◌, append-nil}
 use Rattle.std.specs.List.{list_any, list_all, last_or}
 use Rattle.std.proofs.lemmas.List.Folds.{list_all-append}
 use Rattle.mufom_numbers.specs.declared.reason.Reason.{Reason}
@@ -15,12 +16,14 @@ use Rattle.std.specs.List.{cons_option}
 use Rattle.mufom_debug.specs.Marks.{joined}
 use Rattle.mufom_module.specs.Contents.{any_of}
 use Rattle.mufom_module.specs.Defects.{has_other_counter}
-use Rattle.mufom_module.specs.SpelledRecords.{SpelledRecord, FileIndex, is_declared, named_by, named_in_expression, is_public_value, index_of_variable, tree_of_record}
+use Rattle.mufom_module.specs.SpelledRecords.{SpelledRecord, FileIndex, is_declared, named_by, named_in_expression, is_public_value}
+use Rattle.mufom_module.specs.SpelledRecords.{index_of_variable, tree_of_record}
 use Rattle.mufom_module.specs.RecordParts.{is_loading, is_set_section}
 use Rattle.mufom_module.specs.Grammar.{declares_again, states_again, names_unknown, has_no_section}
 use Rattle.mufom_read.specs.Prefixes.{Step, records_of, offset_records_of}
 use Rattle.mufom_read.specs.Faults.{set_by, counter_allowed, misplaces_counter, open_blocks, ends_badly, is_too_deep, has_bad_alignment, rule_broken}
-use Rattle.mufom_read.specs.Kept.{tables_of, statements, declares_again_in, states_again_in, is_declared_in, is_unknown, names_unknown_in, has_no_section_in, counter_allowed_in, misplaces_counter_in, rule_broken_in}
+use Rattle.mufom_read.specs.Kept.{tables_of, statements, declares_again_in, states_again_in, is_declared_in, is_unknown, names_unknown_in}
+use Rattle.mufom_read.specs.Kept.{has_no_section_in, counter_allowed_in, misplaces_counter_in, rule_broken_in}
 use Rattle.mufom_read.proofs.TableLaws.{alignment-has, size-has, base-has, value-has, weakness-has}
 
 pub declares : (ps : List SpelledRecord) (row : Record) → declares_again_in (tables_of ps) row ≡ declares_again ps row
@@ -85,7 +88,8 @@ states ps (r.Start a) = refl
 
 -- ---- indexes that are named
 
-named-entry : (ps : List SpelledRecord) (row : Record) → list_all (is_declared_in (tables_of ps)) (option_to_list (named_by row)) ≡ list_all (is_declared ps) (option_to_list (named_by row))
+named-entry : (ps : List SpelledRecord) (row : Record) → list_all (is_declared_in (tables_of ps)) (option_to_list (named_by row))
+    ≡ list_all (is_declared ps) (option_to_list (named_by row))
 named-entry ps (r.ModuleBegin a b) = refl
 named-entry ps (r.Descriptor a b c) = refl
 named-entry ps (r.Offset a b) = refl
@@ -126,7 +130,8 @@ declared-variable ps (R, i) = refl
 declared-variable ps (S, i) = refl
 declared-variable ps (X, i) = refl
 
-known-variables : (ps : List SpelledRecord) (vs : List (Letter × ℕ)) → list_any (is_unknown (tables_of ps)) vs ≡ not (list_all (is_declared ps) (map index_of_variable vs))
+known-variables : (ps : List SpelledRecord) (vs : List (Letter × ℕ)) → list_any (is_unknown (tables_of ps)) vs
+    ≡ not (list_all (is_declared ps) (map index_of_variable vs))
 known-variables ps [] = refl
 known-variables ps (v ∷ vs) =
     ap (λ b. not b || list_any (is_unknown (tables_of ps)) vs) (declared-variable ps v)
@@ -137,13 +142,16 @@ known-variables ps (v ∷ vs) =
       or-not false b = refl
 
 -- the variables of an expression, where there is one
-pub known-tree : (ps : List SpelledRecord) (tree : Option Tree) → any_of (λ t. list_any (is_unknown (tables_of ps)) (variables_of t)) tree ≡ not (list_all (is_declared ps) (map index_of_variable (joined (map variables_of (option_to_list tree)))))
+pub known-tree : (ps : List SpelledRecord) (tree : Option Tree) → any_of (λ t. list_any (is_unknown (tables_of ps)) (variables_of t)) tree
+    ≡ not (list_all (is_declared ps) (map index_of_variable (joined (map variables_of (option_to_list tree)))))
 known-tree ps None = refl
-known-tree ps (Some t) = known-variables ps (variables_of t) ∙ ap (λ vs. not (list_all (is_declared ps) (map index_of_variable vs))) (sym (append-nil (variables_of t)))
+known-tree ps (Some t) = known-variables ps (variables_of t)
+    ∙ ap (λ vs. not (list_all (is_declared ps) (map index_of_variable vs))) (sym (append-nil (variables_of t)))
 
 unknown : (ps : List SpelledRecord) (p : SpelledRecord) → names_unknown_in (tables_of ps) p.row (tree_of_record p) ≡ names_unknown ps p
 unknown ps p =
-    ap (λ b. not b || (not (is_public_value p.row) && any_of (λ t. list_any (is_unknown (tables_of ps)) (variables_of t)) (tree_of_record p))) (named-entry ps p.row)
+    ap (λ b. not b || (not (is_public_value p.row) && any_of (λ t. list_any (is_unknown (tables_of ps)) (variables_of t)) (tree_of_record p)))
+    (named-entry ps p.row)
     ∙ ap (λ b. not (entry) || (not (is_public_value p.row) && b)) (known-tree ps (tree_of_record p))
     ∙ by_case entry (is_public_value p.row)
     ∙ ap not (sym (list_all-append (is_declared ps) (option_to_list (named_by p.row)) (if_waits (is_public_value p.row)))) where
@@ -153,14 +161,16 @@ unknown ps p =
       if_waits : Bool → List FileIndex
       if_waits b = cond b [] (named_in_expression p)
 
-      by_case : (a b : Bool) → (not a || (not b && not (list_all (is_declared ps) (named_in_expression p)))) ≡ not (a && list_all (is_declared ps) (cond b [] (named_in_expression p)))
+      by_case : (a b : Bool) → (not a || (not b && not (list_all (is_declared ps) (named_in_expression p))))
+          ≡ not (a && list_all (is_declared ps) (cond b [] (named_in_expression p)))
       by_case true true = refl
       by_case true false = refl
       by_case false b = refl
 
 -- ---- the current section
 
-current-from : (o : Option ℕ) (ps : List SpelledRecord) → is_none (last_or o (filter_map (λ p. set_by p.row) ps)) ≡ (is_none o && not (list_any (λ q. is_set_section q.row) ps))
+current-from : (o : Option ℕ) (ps : List SpelledRecord) → is_none (last_or o (filter_map (λ p. set_by p.row) ps))
+    ≡ (is_none o && not (list_any (λ q. is_set_section q.row) ps))
 current-from None [] = refl
 current-from (Some i) [] = refl
 current-from o (p ∷ ps) = by_row p.row (λ o. current-from o ps) where
@@ -168,7 +178,10 @@ current-from o (p ∷ ps) = by_row p.row (λ o. current-from o ps) where
   nothing None = refl
   nothing (Some i) = refl
 
-  by_row : (row : Record) → ((o : Option ℕ) → is_none (last_or o (filter_map (λ q. set_by q.row) ps)) ≡ (is_none o && not (list_any (λ q. is_set_section q.row) ps))) → is_none (last_or o (cons_option (set_by row) (filter_map (λ q. set_by q.row) ps))) ≡ (is_none o && not (is_set_section row || list_any (λ q. is_set_section q.row) ps))
+  by_row : (row : Record) → ((o : Option ℕ) → is_none (last_or o (filter_map (λ q. set_by q.row) ps))
+      ≡ (is_none o && not (list_any (λ q. is_set_section q.row) ps)))
+      → is_none (last_or o (cons_option (set_by row) (filter_map (λ q. set_by q.row) ps)))
+      ≡ (is_none o && not (is_set_section row || list_any (λ q. is_set_section q.row) ps))
   by_row (r.ModuleBegin a b) rest = rest o
   by_row (r.Descriptor a b c) rest = rest o
   by_row (r.Offset a b) rest = rest o
@@ -238,19 +251,26 @@ misplaced ps p = ap (λ o. any_of (has_other_counter o) (tree_of_record p)) (all
 
 -- the first of eight rules that is broken
 abbrev first_broken : (a b c d e f g h : Bool) → Option Reason
-first_broken a b c d e f g h = cond a (Some why.DuplicateIndex) (cond b (Some why.UnknownIndex) (cond c (Some why.DuplicateValue) (cond d (Some why.BadAlignment)
+first_broken a b c d e f g h = cond a (Some why.DuplicateIndex)
+    (cond b (Some why.UnknownIndex) (cond c (Some why.DuplicateValue) (cond d (Some why.BadAlignment)
     (cond e (Some why.NoSection) (cond f (Some why.BadP) (cond g (Some why.BlockNesting) (cond h (Some why.Depth) None)))))))
 
 -- The rule that the tables show to be broken is the first that the record breaks.
-pub rule_broken-tables : (prefix : List Step) (p : SpelledRecord) → rule_broken_in (tables_of (records_of prefix)) (open_blocks (offset_records_of prefix)) p.row (tree_of_record p) ≡ rule_broken prefix p
+pub rule_broken-tables : (prefix : List Step) (p : SpelledRecord)
+    → rule_broken_in (tables_of (records_of prefix)) (open_blocks (offset_records_of prefix)) p.row (tree_of_record p) ≡ rule_broken prefix p
 rule_broken-tables prefix p =
     let ps = records_of prefix in
     let t = tables_of ps in
     let row = p.row in
     let g = ends_badly (open_blocks (offset_records_of prefix)) row in
     let h = is_too_deep (open_blocks (offset_records_of prefix)) row in
-    ap (λ x. first_broken x (names_unknown_in t row (tree_of_record p)) (states_again_in t row) (has_bad_alignment row) (has_no_section_in t row) (misplaces_counter_in t row (tree_of_record p)) g h) (declares ps row)
-    ∙ ap (λ x. first_broken (declares_again ps row) x (states_again_in t row) (has_bad_alignment row) (has_no_section_in t row) (misplaces_counter_in t row (tree_of_record p)) g h) (unknown ps p)
-    ∙ ap (λ x. first_broken (declares_again ps row) (names_unknown ps p) x (has_bad_alignment row) (has_no_section_in t row) (misplaces_counter_in t row (tree_of_record p)) g h) (states ps row)
-    ∙ ap (λ x. first_broken (declares_again ps row) (names_unknown ps p) (states_again ps row) (has_bad_alignment row) x (misplaces_counter_in t row (tree_of_record p)) g h) (no-section ps row)
-    ∙ ap (λ x. first_broken (declares_again ps row) (names_unknown ps p) (states_again ps row) (has_bad_alignment row) (has_no_section ps row) x g h) (misplaced ps p)
+    ap (λ x. first_broken x (names_unknown_in t row (tree_of_record p)) (states_again_in t row) (has_bad_alignment row) (has_no_section_in t row)
+    (misplaces_counter_in t row (tree_of_record p)) g h) (declares ps row)
+    ∙ ap (λ x. first_broken (declares_again ps row) x (states_again_in t row) (has_bad_alignment row) (has_no_section_in t row)
+    (misplaces_counter_in t row (tree_of_record p)) g h) (unknown ps p)
+    ∙ ap (λ x. first_broken (declares_again ps row) (names_unknown ps p) x (has_bad_alignment row) (has_no_section_in t row)
+    (misplaces_counter_in t row (tree_of_record p)) g h) (states ps row)
+    ∙ ap (λ x. first_broken (declares_again ps row) (names_unknown ps p) (states_again ps row) (has_bad_alignment row) x
+    (misplaces_counter_in t row (tree_of_record p)) g h) (no-section ps row)
+    ∙ ap (λ x. first_broken (declares_again ps row) (names_unknown ps p) (states_again ps row) (has_bad_alignment row) (has_no_section ps row) x g h)
+    (misplaced ps p)

@@ -1,5 +1,6 @@
 -- What the tables answer is what the records state.
-use Rattle.std.proofs.Common.{◌≡◌, ◌⊎◌, ℕ, ◌==◌, ◌||◌, nat_eq, List, [], ◌∷◌, Option, Some, None, is_some, IsSome, ◌↔◌, Contains, filter_map, refl, sym, ap, ◌∙◌, eq-eqb, ne_eqb, inl, inr, true≢false}
+use Rattle.std.proofs.Common.{◌≡◌, ◌⊎◌, ℕ, ◌==◌, ◌||◌, nat_eq, List, [], ◌∷◌, Option, Some, None, is_some, IsSome, ◌↔◌, Contains, filter_map, refl}
+use Rattle.std.proofs.Common.{sym, ap, ◌∙◌, eq-eqb, ne_eqb, inl, inr, true≢false}
 use Rattle.std.specs.List.{list_any}
 use Rattle.std.specs.Cmp.{nat_eq_equiv}
 use Rattle.std.proofs.lemmas.Bool.{cases_eq, false_from_ne_true}

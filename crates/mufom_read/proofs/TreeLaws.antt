@@ -1,5 +1,6 @@
 -- The expression of a record, and the tree that its bytes spell.
-use Rattle.std.proofs.Common.{◌≡◌, ℕ, zero, suc, ◌≤◌, List, [], ◌∷◌, ◌++◌, length, drop, Option, Some, None, refl, sym, ap, subst, ◌∙◌, arith, Result, Ok, Err, IfOk}
+use Rattle.std.proofs.Common.{◌≡◌, ℕ, zero, suc, ◌≤◌, List, [], ◌∷◌, ◌++◌, length, drop, Option, Some, None, refl, sym, ap, subst, ◌∙◌, arith, Result}
+use Rattle.std.proofs.Common.{Ok, Err, IfOk}
 use Rattle.std.specs.Prelude.{IfSome}
 use Rattle.mufom_numbers.specs.declared.taken.Span.{Span}
 use Rattle.mufom_expr.specs.declared.token.Token.{Token}
@@ -35,7 +36,8 @@ pub tree-spelled : (tree : Tree) (bytes : List ℕ) → SpellsTree tree bytes �
 tree-spelled tree bytes s = sym (ap the_term (spelled 255 (tokens_of tree) bytes s.0 s.1) ∙ the_term-tokens_of tree)
 
 -- the same of an expression that was read, where one was
-pub tree-read : {E : Type 0} (r : Result Tree E) (text bytes : List ℕ) → text ≡ bytes → IfOk r (λ tree. SpellsTree tree text) → IfOk r (λ tree. tree ≡ the_term (tokens_in bytes))
+pub tree-read : {E : Type 0} (r : Result Tree E) (text bytes : List ℕ) → text ≡ bytes → IfOk r (λ tree. SpellsTree tree text)
+    → IfOk r (λ tree. tree ≡ the_term (tokens_in bytes))
 tree-read (Ok tree) text bytes same s = tree-spelled tree bytes (subst (λ b. SpellsTree tree b) same s)
 tree-read (Err e) text bytes same s = tt
 

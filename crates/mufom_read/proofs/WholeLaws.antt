@@ -1,5 +1,6 @@
 -- Faults of the header and of parts as wholes, read off the tables.
-use Rattle.std.proofs.Common.{◌≡◌, ℕ, zero, suc, ◌+◌, ◌==◌, ◌&&◌, Bool, not, List, [], ◌∷◌, ◌++◌, length, Option, Some, None, refl, sym, ap, ◌∙◌, arith, ◌⊎◌, inl, inr, eq-eqb, ne_eqb, length-append, Result, Ok, Err, IfOk}
+use Rattle.std.proofs.Common.{◌≡◌, ℕ, zero, suc, ◌+◌, ◌==◌, ◌&&◌, Bool, not, List, [], ◌∷◌, ◌++◌, length, Option, Some, None, refl, sym, ap, ◌∙◌}
+use Rattle.std.proofs.Common.{arith, ◌⊎◌, inl, inr, eq-eqb, ne_eqb, length-append, Result, Ok, Err, IfOk}
 use Rattle.std.proofs.lemmas.Bool.{cases_eq}
 use Rattle.std.specs.Option.{option_or}
 use Rattle.mufom_numbers.specs.declared.reason.Reason.TheVariants as why
@@ -52,7 +53,8 @@ same_first f g [] same = refl
 same_first f g (p ∷ placed) same = ap (λ o. option_or o (first_fault f placed)) (same p) ∙ ap (λ o. option_or (g p) o) (same_first f g placed same)
 
 -- the first public without a value, or value with a variable that names no entry
-pub external_fault-tables : (ps : List SpelledRecord) (placed : List OffsetRecord) → first_fault (external_fault_in (tables_of ps)) placed ≡ first_fault (external_fault ps) placed
+pub external_fault-tables : (ps : List SpelledRecord) (placed : List OffsetRecord) → first_fault (external_fault_in (tables_of ps)) placed
+    ≡ first_fault (external_fault ps) placed
 external_fault-tables ps placed = same_first _ _ placed (λ p.
     ap (λ b. option_or (fault_if b p.0 why.UnknownIndex) (fault_if (lacks_value_in (tables_of ps) p.1.row) p.0 why.MissingValue)) (unknown ps p.1)
     ∙ ap (λ b. option_or (fault_if (has_unknown_variable ps p.1) p.0 why.UnknownIndex) (fault_if b p.0 why.MissingValue)) (value ps p.1.row))

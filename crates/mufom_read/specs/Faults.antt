@@ -1,6 +1,7 @@
 -- The faults of records in their locations, and of parts as wholes, after a prefix of the stream. Each is a fact of what
 -- stands before it: no running state is kept here.
-use Rattle.std.specs.Prelude.{ℕ, ◌+◌, ◌-◌, ◌==◌, ◌&&◌, ◌||◌, nat_lt, nat_le, Bool, true, false, not, List, [], ◌∷◌, ◌++◌, length, filter_map, Option, Some, None, is_some, if◌then◌else◌}
+use Rattle.std.specs.Prelude.{ℕ, ◌+◌, ◌-◌, ◌==◌, ◌&&◌, ◌||◌, nat_lt, nat_le, Bool, true, false, not, List, [], ◌∷◌, ◌++◌, length, filter_map, Option}
+use Rattle.std.specs.Prelude.{Some, None, is_some, if◌then◌else◌}
 use Rattle.std.specs.List.{list_all, list_any, find, last_or}
 use Rattle.std.specs.Option.{option_or}
 use Rattle.mufom_numbers.specs.declared.limits.TheConstants.{MOST_ALIGNMENT}
@@ -12,10 +13,12 @@ use Rattle.mufom_records.specs.declared.record.Record.{Record}
 use Rattle.mufom_records.specs.declared.record.Record.TheVariants as r
 use Rattle.mufom_module.specs.Contents.{any_of}
 use Rattle.mufom_module.specs.Defects.{is_unit_count, has_other_counter}
-use Rattle.mufom_module.specs.SpelledRecords.{SpelledRecord, value_of_public, section_base, is_declared, named_in_expression, is_assigned, is_public_value, tree_of_record}
+use Rattle.mufom_module.specs.SpelledRecords.{SpelledRecord, value_of_public, section_base, is_declared, named_in_expression, is_assigned}
+use Rattle.mufom_module.specs.SpelledRecords.{is_public_value, tree_of_record}
 use Rattle.mufom_module.specs.RecordParts.{Part, section_part, external_part, debug_part, end_part, stands_in}
 use Rattle.mufom_module.specs.Grammar.{declares_again, states_again, names_unknown, has_no_section}
-use Rattle.mufom_read.specs.Prefixes.{Step, raw, read, OffsetRecord, Extent, Location, in_header, in_part, at_end, size_of, records_of, offset_records_of, offsets_of, first_present, part_at, location_after, next_step}
+use Rattle.mufom_read.specs.Prefixes.{Step, raw, read, OffsetRecord, Extent, Location, in_header, in_part, at_end, size_of, records_of}
+use Rattle.mufom_read.specs.Prefixes.{offset_records_of, offsets_of, first_present, part_at, location_after, next_step}
 
 -- the offset at which a stream is refused, and why
 abbrev pub Fault : Type 0

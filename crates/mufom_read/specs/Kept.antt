@@ -1,5 +1,6 @@
 -- What the code keeps of the records of a prefix: which indexes they declare, and which they give a value.
-use Rattle.std.specs.Prelude.{ℕ, zero, suc, ◌<◌, ◌-◌, ◌^◌, ◌==◌, ◌||◌, ◌&&◌, Bool, true, false, not, List, [], ◌∷◌, ◌++◌, length, filter_map, Option, Some, None, is_none, option_to_list, if◌then◌else◌}
+use Rattle.std.specs.Prelude.{ℕ, zero, suc, ◌<◌, ◌-◌, ◌^◌, ◌==◌, ◌||◌, ◌&&◌, Bool, true, false, not, List, [], ◌∷◌, ◌++◌, length, filter_map, Option}
+use Rattle.std.specs.Prelude.{Some, None, is_none, option_to_list, if◌then◌else◌}
 use Rattle.std.specs.List.{list_any, list_all}
 use Rattle.mufom_numbers.specs.declared.reason.Reason.{Reason}
 use Rattle.mufom_numbers.specs.declared.reason.Reason.TheVariants as why
@@ -12,7 +13,9 @@ use Rattle.mufom_records.specs.declared.record.Record.TheVariants as r
 use Rattle.mufom_module.specs.Contents.{any_of}
 use Rattle.mufom_module.specs.Defects.{has_other_counter}
 use Rattle.mufom_module.specs.RecordParts.{is_loading}
-use Rattle.mufom_module.specs.SpelledRecords.{SpelledRecord, Kind, FileIndex, section, public, reference, debug_name, declared, named_by, is_public_value, tree_of_record, index_of_variable, Once, value_of_public, weakness, alignment, section_size, section_base, start_address, assigned_by, is_assigned}
+use Rattle.mufom_module.specs.SpelledRecords.{SpelledRecord, Kind, FileIndex, section, public, reference, debug_name, declared, named_by}
+use Rattle.mufom_module.specs.SpelledRecords.{is_public_value, tree_of_record, index_of_variable, Once, value_of_public, weakness, alignment}
+use Rattle.mufom_module.specs.SpelledRecords.{section_size, section_base, start_address, assigned_by, is_assigned}
 use Rattle.mufom_read.specs.declared.tables.Tables.{Tables}
 use Rattle.std.specs.Option.{option_or}
 use Rattle.mufom_records.specs.Parts.{HasParts}

@@ -1,5 +1,6 @@
 -- What the code keeps of a prefix, and which prefix that is.
-use Rattle.std.specs.Prelude.{◌≡◌, ◌⊎◌, ℕ, ◌+◌, ◌-◌, ◌<◌, ◌≤◌, nat_lt, nat_le, min, Bool, true, false, List, [], ◌∷◌, ◌++◌, length, take, drop, None, Some, is_some, if◌then◌else◌}
+use Rattle.std.specs.Prelude.{◌≡◌, ◌⊎◌, ℕ, ◌+◌, ◌-◌, ◌<◌, ◌≤◌, nat_lt, nat_le, min, Bool, true, false, List, [], ◌∷◌, ◌++◌, length, take, drop, None}
+use Rattle.std.specs.Prelude.{Some, is_some, if◌then◌else◌}
 use Rattle.std.specs.List.{last_or, cons_option}
 use Rattle.mufom_records.specs.declared.record.Mode.{Mode}
 use Rattle.mufom_records.specs.declared.record.Mode.TheVariants as mode
@@ -18,7 +19,9 @@ use Rattle.mufom_read.specs.declared.part.Part.TheVariants as part_of_code
 use Rattle.mufom_read.specs.declared.part.Extent as extents
 use Rattle.mufom_read.specs.declared.prefix.Next.{Next}
 use Rattle.mufom_read.specs.declared.prefix.Next.TheVariants as next
-use Rattle.mufom_read.specs.Prefixes.{Step, step_bytes, read, header_mode, body_mode, is_raw, part_among, parts_in_order, location_by, location_after, size_of, records_of, offset_records_of, offsets_of, first_present, header_count, Location, in_header, in_part, at_end, next_step, awaits_items, is_module_end, is_ended}
+use Rattle.mufom_read.specs.Prefixes.{Step, step_bytes, read, header_mode, body_mode, is_raw, part_among, parts_in_order, location_by, location_after}
+use Rattle.mufom_read.specs.Prefixes.{size_of, records_of, offset_records_of, offsets_of, first_present, header_count, Location, in_header, in_part}
+use Rattle.mufom_read.specs.Prefixes.{at_end, next_step, awaits_items, is_module_end, is_ended}
 use Rattle.mufom_read.specs.Faults.{open_blocks, ends_badly, record_fault, step_fault, ended_part_fault, fault_after}
 use Rattle.mufom_read.specs.Judging.{IsSoundFrom}
 use Rattle.mufom_read.specs.Stated.{part_bytes}
@@ -190,5 +193,6 @@ abbrev pub HasAdvanced : Bool → List Step → List ℕ → Prefix → Next →
 HasAdvanced reads_debug prefix rest new (next.Took n) = (steps : List Step) × IsPrefixOf new (prefix ++ steps) × IsSoundFrom reads_debug prefix steps rest
     × (size_of steps ≡ n) × (0 < n) × (n ≤ length rest) × (is_ended (prefix ++ steps) ≡ false → ended_part_fault (prefix ++ steps) ≡ None)
 HasAdvanced reads_debug prefix rest new next.More = IsPrefixOf new prefix × (next_step reads_debug prefix rest ≡ More)
-HasAdvanced reads_debug prefix rest new (next.Refused f) = (steps : List Step) × IsSoundFrom reads_debug prefix steps rest × (is_ended (prefix ++ steps) ≡ false)
+HasAdvanced reads_debug prefix rest new (next.Refused f) = (steps : List Step) × IsSoundFrom reads_debug prefix steps rest
+    × (is_ended (prefix ++ steps) ≡ false)
     × (fault_after reads_debug (prefix ++ steps) (drop (size_of steps) rest) ≡ Some (as_fault f))

@@ -1,6 +1,7 @@
 -- Prefixes of a stream: the bytes of parts that are not read and the records with which it begins, where the next byte
 -- stands, and what stands there (IEEE Std 695, module structure).
-use Rattle.std.specs.Prelude.{ℕ, zero, suc, ◌==◌, ◌&&◌, nat_lt, nat_le, Bool, true, false, not, List, [], ◌∷◌, length, map, take, filter_map, Option, Some, None, if◌then◌else◌}
+use Rattle.std.specs.Prelude.{ℕ, zero, suc, ◌==◌, ◌&&◌, nat_lt, nat_le, Bool, true, false, not, List, [], ◌∷◌, length, map, take, filter_map, Option}
+use Rattle.std.specs.Prelude.{Some, None, if◌then◌else◌}
 use Rattle.std.specs.List.{last_or}
 use Rattle.mufom_numbers.specs.declared.taken.Taken.{Taken}
 use Rattle.mufom_numbers.specs.declared.taken.Taken.TheVariants.{Got, More, Bad}
@@ -11,7 +12,8 @@ use Rattle.mufom_records.specs.declared.record.Record.TheVariants as r
 use Rattle.mufom_records.specs.Reading.{record_at}
 use Rattle.mufom_debug.specs.Marks.{joined}
 use Rattle.mufom_module.specs.SpelledRecords.{SpelledRecord}
-use Rattle.mufom_module.specs.RecordParts.{Part, extension_part, environment_part, section_part, external_part, debug_part, data_part, trailer_part, opens_items, begins_item}
+use Rattle.mufom_module.specs.RecordParts.{Part, extension_part, environment_part, section_part, external_part, debug_part, data_part, trailer_part}
+use Rattle.mufom_module.specs.RecordParts.{opens_items, begins_item}
 use Rattle.mufom_module.specs.Grammar.{offsets_in}
 
 -- a byte of a part that is not read, or a record with the offset at which it begins
@@ -123,7 +125,8 @@ awaits_items (Some p) = opens_items p.row
 
 -- Items stand after an LR and after one another, and never first in a part.
 abbrev pub body_mode : List Step → Extent → List ℕ → Mode
-body_mode prefix extent rest = if not (size_of prefix == extent.from) && (awaits_items (last_or None (records_of prefix)) && begins_item rest) then mode.Items else mode.Body
+body_mode prefix extent rest = if not (size_of prefix == extent.from) && (awaits_items (last_or None (records_of prefix)) && begins_item rest)
+    then mode.Items else mode.Body
 
 -- what a record makes of the next step
 abbrev pub as_step : ℕ → List ℕ → Taken Record → Taken Step

@@ -23,9 +23,11 @@ pub record IsIncomplete (reads_debug : Bool) (prefix : List Step) (rest : List �
 -- What all that the bytes after a prefix have was taken is: a prefix without a fault, after which the module has ended or more
 -- bytes are wanted; or a fault after one.
 abbrev pub HasTakenAll : Bool → List Step → List ℕ → Prefix → Result ℕ ReadStop → Type 0
-HasTakenAll reads_debug before rest new (Ok n) = (steps : List Step) × IsPrefixOf new (before ++ steps) × IsSoundFrom reads_debug before steps rest × (size_of steps ≡ n) × (n ≤ length rest)
+HasTakenAll reads_debug before rest new (Ok n) = (steps : List Step) × IsPrefixOf new (before ++ steps) × IsSoundFrom reads_debug before steps rest
+    × (size_of steps ≡ n) × (n ≤ length rest)
     × ((is_ended (before ++ steps) ≡ true) ⊎ IsIncomplete reads_debug (before ++ steps) (drop n rest))
-HasTakenAll reads_debug before rest new (Err (stop.Refused f)) = (steps : List Step) × IsSoundFrom reads_debug before steps rest × (is_ended (before ++ steps) ≡ false)
+HasTakenAll reads_debug before rest new (Err (stop.Refused f)) = (steps : List Step) × IsSoundFrom reads_debug before steps rest
+    × (is_ended (before ++ steps) ≡ false)
     × (fault_after reads_debug (before ++ steps) (drop (size_of steps) rest) ≡ Some (as_fault f))
 HasTakenAll reads_debug before rest new (Err stop.NoMemory) = Unit {0}
 
@@ -46,7 +48,8 @@ HasNoStep reads_debug prefix rest = ((is_ended prefix ≡ true) × (rest ≡ [])
 -- wanted; or a step was taken of all that was pending and as many of them as are answered, and none are pending; or there is
 -- a fault.
 abbrev pub HasCompleted : Bool → List Step → List ℕ → List ℕ → State → Result ℕ ReadStop → Type 0
-HasCompleted reads_debug before pending chunk new (Ok n) = (IsPrefixOf new.prefix before × (new.rest.items ≡ pending ++ chunk) × IsIncomplete reads_debug before (pending ++ chunk))
+HasCompleted reads_debug before pending chunk new (Ok n) = (IsPrefixOf new.prefix before × (new.rest.items ≡ pending ++ chunk)
+    × IsIncomplete reads_debug before (pending ++ chunk))
     ⊎ ((new.rest.items ≡ []) × HasGoneOn reads_debug before (pending ++ chunk) new.prefix (length pending + n))
 HasCompleted reads_debug before pending chunk new (Err s) = HasTakenAll reads_debug before (pending ++ chunk) new.prefix (Err s)
 

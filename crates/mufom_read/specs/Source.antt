@@ -42,7 +42,8 @@ ReadsNoFurther reads_debug limit before after = IfSome before (λ left. (earlier
 -- A module is that of all bytes that were left, with their number; each stop but out of memory and a failed read has its
 -- cause in them.
 abbrev pub ReadsModule : Bool → ℕ → Option (List ℕ) → Option (List ℕ) → Result (Parts × ℕ) SourceStop → Type 0
-ReadsModule reads_debug limit before after (Ok read) = IfSome before (λ left. IsModule reads_debug left read.0 × (read.1 ≡ length left) × (length left ≤ limit) × (after ≡ Some []))
+ReadsModule reads_debug limit before after (Ok read) = IfSome before (λ left. IsModule reads_debug left read.0 × (read.1 ≡ length left)
+    × (length left ≤ limit) × (after ≡ Some []))
 ReadsModule reads_debug limit before after (Err (stop.Refused r)) = IfSome before (λ left. IsRefusedWithin reads_debug limit left r.place r.reason)
 ReadsModule reads_debug limit before after (Err stop.Limit) = IfSome before (λ left. IsPastLimit reads_debug limit left)
 ReadsModule reads_debug limit before after (Err stop.Fault) = Unit {0}
@@ -59,7 +60,8 @@ stop_by read_stop.NoMemory = stop.NoMemory
 -- refused; or it is refused with the bytes that may be read; or it is not, and the chunk has more.
 abbrev pub HasFed : ℕ → List ℕ → List ℕ → State → Result (Unit {0}) SourceStop → Type 0
 HasFed room stream chunk reader (Ok done) = (length chunk ≤ room) × HasRead reader (stream ++ chunk) × IsUnrefused (reads_debug_of reader) (stream ++ chunk)
-HasFed room stream chunk reader (Err (stop.Refused r)) = AreBytes (stream ++ take room chunk) × IsRefusedAt (reads_debug_of reader) (stream ++ take room chunk) r.place r.reason
+HasFed room stream chunk reader (Err (stop.Refused r)) = AreBytes (stream ++ take room chunk)
+    × IsRefusedAt (reads_debug_of reader) (stream ++ take room chunk) r.place r.reason
 HasFed room stream chunk reader (Err stop.Limit) = (room < length chunk) × IsUnrefused (reads_debug_of reader) (stream ++ take room chunk)
 HasFed room stream chunk reader (Err stop.Fault) = ⊥
 HasFed room stream chunk reader (Err stop.NoMemory) = Unit {0}
@@ -67,14 +69,18 @@ HasFed room stream chunk reader (Err stop.NoMemory) = Unit {0}
 -- A reader of this stream was fed what one read gave, of which it may read the given number of bytes: it has read them, and no byte where
 -- none was left, and the stream is not refused; or it is refused with the bytes that may be read; or it is not, and more are left.
 abbrev pub HasReadChunk : ℕ → Option (List ℕ) → Option (List ℕ) → List ℕ → State → Result ℕ SourceStop → Type 0
-HasReadChunk room before after stream reader (Ok n) = (chunk : List ℕ) × (length chunk ≡ n) × (n ≤ room) × ReadsOff before after chunk × HasRead reader (stream ++ chunk) × (n ≡ 0 → IfSome before (λ left. left ≡ []))
+HasReadChunk room before after stream reader (Ok n) = (chunk : List ℕ) × (length chunk ≡ n) × (n ≤ room) × ReadsOff before after chunk
+    × HasRead reader (stream ++ chunk) × (n ≡ 0 → IfSome before (λ left. left ≡ []))
     × IsUnrefused (reads_debug_of reader) (stream ++ chunk)
-HasReadChunk room before after stream reader (Err (stop.Refused r)) = IfSome before (λ left. IsRefusedAt (reads_debug_of reader) (stream ++ take room left) r.place r.reason)
-HasReadChunk room before after stream reader (Err stop.Limit) = IfSome before (λ left. (room < length left) × IsUnrefused (reads_debug_of reader) (stream ++ take room left))
+HasReadChunk room before after stream reader (Err (stop.Refused r)) =
+    IfSome before (λ left. IsRefusedAt (reads_debug_of reader) (stream ++ take room left) r.place r.reason)
+HasReadChunk room before after stream reader (Err stop.Limit) =
+    IfSome before (λ left. (room < length left) × IsUnrefused (reads_debug_of reader) (stream ++ take room left))
 HasReadChunk room before after stream reader (Err stop.Fault) = Unit {0}
 HasReadChunk room before after stream reader (Err stop.NoMemory) = Unit {0}
 
 -- The reader has read all that was left, at most the given number of bytes; or the stop has its cause in what was left.
 abbrev pub HasReadAll : ℕ → Option (List ℕ) → Option (List ℕ) → State → Result ℕ SourceStop → Type 0
-HasReadAll limit before after reader (Ok n) = (bytes : List ℕ) × (length bytes ≡ n) × (n ≤ limit) × HasRead reader bytes × IfSome before (λ left. (left ≡ bytes) × (after ≡ Some []))
+HasReadAll limit before after reader (Ok n) = (bytes : List ℕ) × (length bytes ≡ n) × (n ≤ limit) × HasRead reader bytes
+    × IfSome before (λ left. (left ≡ bytes) × (after ≡ Some []))
 HasReadAll limit before after reader (Err s) = ReadsModule (reads_debug_of reader) limit before after (Err s)

@@ -1,6 +1,7 @@
 //! Laws of judging, each the contract of a function that does nothing.
 
-ghost use Rattle.mufom_read.specs.Laws.{EndedPrefixIsModule, PrefixesAreOne, PrefixesOfModulesAreCutOff, PrefixesStay, HasJudgment, HasOneJudgment, JudgmentsExcludeEachOther, ModuleIsEndedPrefix, RefusalIsSingle, RefusalStays};
+ghost use Rattle.mufom_read.specs.Laws.{EndedPrefixIsModule, PrefixesAreOne, PrefixesOfModulesAreCutOff, PrefixesStay, HasJudgment, HasOneJudgment};
+ghost use Rattle.mufom_read.specs.Laws.{JudgmentsExcludeEachOther, ModuleIsEndedPrefix, RefusalIsSingle, RefusalStays};
 
 /// Of two sound prefixes of a stream one begins with the other.
 pub fn prefixes_are_one()

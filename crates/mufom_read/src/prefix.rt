@@ -1,6 +1,7 @@
 //! The records and unread bytes with which a stream begins, and the step after them.
 
-ghost use Rattle.std.specs.Prelude.{◌≡◌, ◌≢◌, ◌+◌, ◌-◌, ◌≤◌, ◌<◌, [], ◌++◌, ◌∷◌, ℕ, Bool, true, false, ◌==◌, ◌&&◌, not, if◌then◌else◌, Some, OnOk, List, length, take, None, option_map, IfOk, IsTrue, MatchOption};
+ghost use Rattle.std.specs.Prelude.{◌≡◌, ◌≢◌, ◌+◌, ◌-◌, ◌≤◌, ◌<◌, [], ◌++◌, ◌∷◌, ℕ, Bool, true, false, ◌==◌, ◌&&◌, not, if◌then◌else◌, Some, OnOk};
+ghost use Rattle.std.specs.Prelude.{List, length, take, None, option_map, IfOk, IsTrue, MatchOption};
 ghost use Rattle.std.specs.List.{cons_option};
 ghost use Rattle.mufom_module.specs.SpelledRecords as records;
 ghost use Rattle.mufom_module.specs.RecordParts as parts;
@@ -10,7 +11,8 @@ ghost use Rattle.mufom_read.specs.PartsOfCode.{as_part, as_extent};
 ghost use Rattle.mufom_read.specs.Kept.{record_of_seen, placed, HasOwnParts, HasRoom, is_new, as_fault};
 ghost use Rattle.mufom_read.specs.DebugSoFar.{HasKind, opened};
 ghost use Rattle.mufom_read.specs.ContentsSoFar.{AreContentsOf, AreContentsBefore, AreMarked};
-ghost use Rattle.mufom_read.specs.PrefixOfCode.{IsPrefixOf, IsRead, IsRawPart, HasJudged, HasRaw, HasSkipped, IsPlacedWell, with_record, as_location, next_location, is_inside, mode_at, HasTaken, IsStepTaken, HasAdvanced};
+ghost use Rattle.mufom_read.specs.PrefixOfCode.{IsPrefixOf, IsRead, IsRawPart, HasJudged, HasRaw, HasSkipped, IsPlacedWell, with_record, as_location};
+ghost use Rattle.mufom_read.specs.PrefixOfCode.{next_location, is_inside, mode_at, HasTaken, IsStepTaken, HasAdvanced};
 ghost use Rattle.mufom_read.specs.declared.prefix.Next.TheVariants as nexts;
 ghost use Rattle.mufom_records.specs.Reading.{record_at};
 ghost use Rattle.mufom_records.specs.declared.record.Mode.TheVariants as modes;

@@ -1,6 +1,7 @@
 //! The publics so far, with what was stated of each.
 
-ghost use Rattle.std.specs.Prelude.{◌≡◌, ◌<◌, ◌^◌, ◌==◌, ◌++◌, ◌∷◌, [], true, List, nat_eq, length, map, slice_get, slice_set, None, Some, IfOk, OnOk, option_map};
+ghost use Rattle.std.specs.Prelude.{◌≡◌, ◌<◌, ◌^◌, ◌==◌, ◌++◌, ◌∷◌, [], true, List, nat_eq, length, map, slice_get, slice_set, None, Some, IfOk};
+ghost use Rattle.std.specs.Prelude.{OnOk, option_map};
 ghost use Rattle.std.specs.List.{list_any, IsDistinct};
 ghost use Rattle.mufom_expr.specs.Tree.{Tree, number};
 ghost use Rattle.mufom_names.specs.declared.name.Public as name_public;

@@ -11,7 +11,9 @@ ghost use Rattle.mufom_module.specs.RecordParts as parts;
 ghost use Rattle.mufom_read.specs.Prefixes.{Step, records_of, offset_records_of};
 ghost use Rattle.mufom_read.specs.Faults as faults;
 ghost use Rattle.mufom_read.specs.DebugSoFar.{stacked};
-ghost use Rattle.mufom_read.specs.Kept.{tables_of, declares_again_in, states_again_in, entries_in, is_declared_in, is_unknown, names_unknown_entry_in, names_unknown_in, has_no_section_in, counter_allowed_in, misplaces_counter_in, rule_broken_in};
+ghost use Rattle.mufom_read.specs.Kept.{tables_of, declares_again_in, states_again_in, entries_in, is_declared_in, is_unknown};
+ghost use Rattle.mufom_read.specs.Kept.{names_unknown_entry_in, names_unknown_in, has_no_section_in, counter_allowed_in, misplaces_counter_in};
+ghost use Rattle.mufom_read.specs.Kept.{rule_broken_in};
 
 use crate::debug::{OpenBlock, ends_badly, is_too_deep};
 use crate::tables::{Tables, has};

@@ -1,5 +1,6 @@
 -- Bytes and numbers are read exactly.
-use Rattle.std.proofs.Common.{◌≡◌, ℕ, ◌+◌, ◌-◌, ◌≤◌, Bool, true, false, List, [], ◌∷◌, ◌++◌, length, take, drop, Option, Some, None, Ok, Err, refl, sym, ap, subst, ◌∙◌, inl, inr, arith, append_assoc, if◌then◌else◌}
+use Rattle.std.proofs.Common.{◌≡◌, ℕ, ◌+◌, ◌-◌, ◌≤◌, Bool, true, false, List, [], ◌∷◌, ◌++◌, length, take, drop, Option, Some, None, Ok, Err, refl}
+use Rattle.std.proofs.Common.{sym, ap, subst, ◌∙◌, inl, inr, arith, append_assoc, if◌then◌else◌}
 use Rattle.std.proofs.lemmas.Bool.{cases_Bool, cases_lt, lt-ltb, le-ltb}
 use Rattle.std.proofs.lemmas.List.{length-take, take-append-drop}
 use Rattle.mufom_numbers.specs.declared.reason.Reason.{Reason}
@@ -51,7 +52,9 @@ pub record FoundNumber (input : List ℕ) (at n after : ℕ) : Type 0 where
   pub split : drop at input ≡ prefix ++ rest
   pub count : after ≡ at + length prefix
 
-plain_got : (input : List ℕ) (at n after : ℕ) (answer : Taken ℕ) → IfGot answer (λ m used. (used ≤ length (drop at input)) × SpellsNumber m (take used (drop at input))) → moved at answer ≡ Ok (n, after) → FoundNumber input at n after
+plain_got : (input : List ℕ) (at n after : ℕ) (answer : Taken ℕ)
+    → IfGot answer (λ m used. (used ≤ length (drop at input)) × SpellsNumber m (take used (drop at input))) → moved at answer ≡ Ok (n, after)
+    → FoundNumber input at n after
 plain_got input at n after (taken.Got m used) got gives =
     let bytes = drop at input in
     let count : length (take used bytes) ≡ used = omega (arith, length-take used bytes, got.0) in
@@ -66,10 +69,13 @@ plain_got input at n after taken.More got gives = absurd (ok_not_err n after Mor
 plain_got input at n after (taken.Bad offset reason) got gives = absurd (ok_not_err n after (Bad (at + offset) reason) (sym gives))
 
 pub plain-got : (input : List ℕ) (at : ℕ) → AreBytes input → (n after : ℕ) → plain_number_at input at ≡ Ok (n, after) → FoundNumber input at n after
-plain-got input at fits n after gives = plain_got input at n after (number_at (drop at input)) (number_at-got (drop at input) (AreBytes-drop at input fits)) gives
+plain-got input at fits n after gives = plain_got input at n after (number_at (drop at input))
+    (number_at-got (drop at input) (AreBytes-drop at input fits)) gives
 
-pub plain-only : (input : List ℕ) (at n : ℕ) (prefix rest : List ℕ) → SpellsNumber n prefix → drop at input ≡ prefix ++ rest → plain_number_at input at ≡ Ok (n, at + length prefix)
-plain-only input at n prefix rest spells split = ap (λ (l : List ℕ). moved at (number_at l)) split ∙ ap (λ (t : Taken ℕ). moved at t) (number_at-spelling n prefix rest spells)
+pub plain-only : (input : List ℕ) (at n : ℕ) (prefix rest : List ℕ) → SpellsNumber n prefix → drop at input ≡ prefix ++ rest
+    → plain_number_at input at ≡ Ok (n, at + length prefix)
+plain-only input at n prefix rest spells split = ap (λ (l : List ℕ). moved at (number_at l)) split
+    ∙ ap (λ (t : Taken ℕ). moved at t) (number_at-spelling n prefix rest spells)
 
 abbrev more_number : Taken ℕ
 more_number = taken.More
@@ -86,7 +92,8 @@ not_bad b bytes low offset reason e = elim (cases_lt b 128) [
   | inl short ↦ let no : got_number b 1 ≡ bad_number offset reason = rw (lt-ltb b 128 short) at e in cc
   | inr long ↦ elim (cases_lt (length bytes) (b - 128)) [
     | inl cut ↦ let no : more_number ≡ bad_number offset reason = rw (le-ltb b 128 long, le-ltb 136 b low, lt-ltb _ _ cut) at e in cc
-    | inr whole ↦ let no : got_number (big_endian (take (b - 128) bytes)) (b - 127) ≡ bad_number offset reason = rw (le-ltb b 128 long, le-ltb 136 b low, le-ltb _ _ whole) at e in cc
+    | inr whole ↦ let no : got_number (big_endian (take (b - 128) bytes)) (b - 127) ≡ bad_number offset reason =
+        rw (le-ltb b 128 long, le-ltb 136 b low, le-ltb _ _ whole) at e in cc
   ]
 ]
 
@@ -98,10 +105,12 @@ bad_is (b ∷ bytes) offset reason e = elim (cases_lt 136 b) [
   | inr within ↦ absurd (not_bad b bytes within offset reason e)
 ]
 
-plain_bad : (input : List ℕ) (at fault_offset : ℕ) (reason : Reason) → AreBytes (drop at input) → (answer : Taken ℕ) → number_at (drop at input) ≡ answer → moved at answer ≡ Err (Bad fault_offset reason)
+plain_bad : (input : List ℕ) (at fault_offset : ℕ) (reason : Reason) → AreBytes (drop at input) → (answer : Taken ℕ) → number_at (drop at input)
+    ≡ answer → moved at answer ≡ Err (Bad fault_offset reason)
     → (reason ≡ BadNumber) × (fault_offset ≡ at) × BeginsIn 0x89 0xFF (drop at input)
 plain_bad input at fault_offset reason fits (taken.Got m used) is gives = absurd (ok_not_err m (at + used) (Bad fault_offset reason) gives)
-plain_bad input at fault_offset reason fits taken.More is gives = let same : More ≡ Bad fault_offset reason = same_stop {X = ℕ} More (Bad fault_offset reason) gives in absurd cc
+plain_bad input at fault_offset reason fits taken.More is gives = let same : More ≡ Bad fault_offset reason =
+    same_stop {X = ℕ} More (Bad fault_offset reason) gives in absurd cc
 plain_bad input at fault_offset reason fits (taken.Bad offset why) is gives =
     let same : Bad (at + offset) why ≡ Bad fault_offset reason = same_stop {X = ℕ} (Bad (at + offset) why) (Bad fault_offset reason) gives in
     let one = bad_is (drop at input) offset why is in
@@ -109,16 +118,19 @@ plain_bad input at fault_offset reason fits (taken.Bad offset why) is gives =
     let place_is : at + offset ≡ fault_offset = cc in
     (cc, omega (arith, offset_is, place_is), bad-number_at (drop at input) fits (is ∙ sym one))
 
-pub plain-bad : (input : List ℕ) (at : ℕ) → AreBytes input → (fault_offset : ℕ) (reason : Reason) → plain_number_at input at ≡ Err (Bad fault_offset reason) → (reason ≡ BadNumber) × (fault_offset ≡ at) × BeginsIn 0x89 0xFF (drop at input)
+pub plain-bad : (input : List ℕ) (at : ℕ) → AreBytes input → (fault_offset : ℕ) (reason : Reason) → plain_number_at input at
+    ≡ Err (Bad fault_offset reason) → (reason ≡ BadNumber) × (fault_offset ≡ at) × BeginsIn 0x89 0xFF (drop at input)
 plain-bad input at fits fault_offset reason gives = plain_bad input at fault_offset reason (AreBytes-drop at input fits) (number_at (drop at input)) refl gives
 
 pub plain-fault : (input : List ℕ) (at : ℕ) → BeginsIn 0x89 0xFF (drop at input) → plain_number_at input at ≡ Err (Bad at BadNumber)
 plain-fault input at begins = let same : at + 0 ≡ at = omega arith in rw (number_at-bad (drop at input) begins, same) refl
 
-plain_more : (input : List ℕ) (at : ℕ) → AreBytes (drop at input) → (answer : Taken ℕ) → number_at (drop at input) ≡ answer → moved at answer ≡ Err More → IsCutOffNumber (drop at input)
+plain_more : (input : List ℕ) (at : ℕ) → AreBytes (drop at input) → (answer : Taken ℕ) → number_at (drop at input) ≡ answer → moved at answer
+    ≡ Err More → IsCutOffNumber (drop at input)
 plain_more input at fits (taken.Got m used) is gives = absurd (ok_not_err m (at + used) More gives)
 plain_more input at fits taken.More is gives = more-cut_off (drop at input) fits is
-plain_more input at fits (taken.Bad offset why) is gives = let same : Bad (at + offset) why ≡ More = same_stop {X = ℕ} (Bad (at + offset) why) More gives in absurd cc
+plain_more input at fits (taken.Bad offset why) is gives = let same : Bad (at + offset) why ≡ More =
+    same_stop {X = ℕ} (Bad (at + offset) why) More gives in absurd cc
 
 pub plain-more : (input : List ℕ) (at : ℕ) → AreBytes input → plain_number_at input at ≡ Err More → IsCutOffNumber (drop at input)
 plain-more input at fits gives = plain_more input at (AreBytes-drop at input fits) (number_at (drop at input)) refl gives
@@ -136,17 +148,20 @@ module _ (fits : ℕ → Bool) (where_ : ℕ → ℕ) (fault : Reason) where
   abbrev tested : ℕ → ℕ × ℕ → Reading ℕ
   tested at n = if fits n.0 then Ok (n.0, n.1) else Err (Bad (where_ at) fault)
 
-  number_got : (input : List ℕ) (at : ℕ) → AreBytes input → (x after : ℕ) (answer : Reading ℕ) → plain_number_at input at ≡ answer → (answer >>= tested at) ≡ Ok (x, after) → Found (number fits where_ fault) input at x after
+  number_got : (input : List ℕ) (at : ℕ) → AreBytes input → (x after : ℕ) (answer : Reading ℕ) → plain_number_at input at ≡ answer
+      → (answer >>= tested at) ≡ Ok (x, after) → Found (number fits where_ fault) input at x after
   number_got input at are x after (Err stop) is gives = absurd (ok_not_err x after stop (sym gives))
   number_got input at are x after (Ok r) is gives = elim (cases_Bool (fits r.0)) [
     | inl h ↦
         let e : ok r.0 r.1 ≡ ok x after = rw h at gives in
         let one = plain-got input at are r.0 r.1 is in
-        found-as (number fits where_ fault) input at r.0 r.1 x after (found (number fits where_ fault) input at r.0 r.1 one.prefix one.rest (one.spells, h) one.split one.count) e
+        found-as (number fits where_ fault) input at r.0 r.1 x after
+        (found (number fits where_ fault) input at r.0 r.1 one.prefix one.rest (one.spells, h) one.split one.count) e
     | inr h ↦ let e : stopped {X = ℕ} (Bad (where_ at) fault) ≡ ok x after = rw h at gives in absurd (ok_not_err x after (Bad (where_ at) fault) (sym e))
   ]
 
-  number_bad : (input : List ℕ) (at : ℕ) → AreBytes input → (fault_offset : ℕ) (reason : Reason) (answer : Reading ℕ) → plain_number_at input at ≡ answer → (answer >>= tested at) ≡ Err (Bad fault_offset reason) → FieldFault (number fits where_ fault) at (drop at input) fault_offset reason
+  number_bad : (input : List ℕ) (at : ℕ) → AreBytes input → (fault_offset : ℕ) (reason : Reason) (answer : Reading ℕ) → plain_number_at input at
+      ≡ answer → (answer >>= tested at) ≡ Err (Bad fault_offset reason) → FieldFault (number fits where_ fault) at (drop at input) fault_offset reason
   number_bad input at are fault_offset reason (Err stop) is gives = inl (plain-bad input at are fault_offset reason (is ∙ gives))
   number_bad input at are fault_offset reason (Ok r) is gives = elim (cases_Bool (fits r.0)) [
     | inl h ↦ let e : ok r.0 r.1 ≡ stopped (Bad fault_offset reason) = rw h at gives in absurd (ok_not_err r.0 r.1 (Bad fault_offset reason) e)
@@ -157,11 +172,14 @@ module _ (fits : ℕ → Bool) (where_ : ℕ → ℕ) (fault : Reason) where
         inr (cc, cc, (r.0, one.prefix, one.rest, one.spells, h, one.split))
   ]
 
-  number_fault : (input : List ℕ) (at fault_offset : ℕ) (reason : Reason) → FieldFault (number fits where_ fault) at (drop at input) fault_offset reason → (plain_number_at input at >>= tested at) ≡ Err (Bad fault_offset reason)
+  number_fault : (input : List ℕ) (at fault_offset : ℕ) (reason : Reason)
+      → FieldFault (number fits where_ fault) at (drop at input) fault_offset reason → (plain_number_at input at >>= tested at) ≡ Err (Bad fault_offset reason)
   number_fault input at fault_offset reason (inl (why, same, begins)) = rw (why, same, plain-fault input at begins) refl
-  number_fault input at fault_offset reason (inr (why, same, (n, text, rest, spells, fails, split))) = rw (why, same, plain-only input at n text rest spells split, fails) refl
+  number_fault input at fault_offset reason (inr (why, same, (n, text, rest, spells, fails, split))) =
+      rw (why, same, plain-only input at n text rest spells split, fails) refl
 
-  number_more : (input : List ℕ) (at : ℕ) → AreBytes input → (answer : Reading ℕ) → plain_number_at input at ≡ answer → (answer >>= tested at) ≡ Err More → IsCutOffNumber (drop at input)
+  number_more : (input : List ℕ) (at : ℕ) → AreBytes input → (answer : Reading ℕ) → plain_number_at input at ≡ answer → (answer >>= tested at)
+      ≡ Err More → IsCutOffNumber (drop at input)
   number_more input at are (Err stop) is gives = plain-more input at are (is ∙ gives)
   number_more input at are (Ok r) is gives = elim (cases_Bool (fits r.0)) [
     | inl h ↦ let e : ok r.0 r.1 ≡ stopped More = rw h at gives in absurd (ok_not_err r.0 r.1 More e)
@@ -170,7 +188,8 @@ module _ (fits : ℕ → Bool) (where_ : ℕ → ℕ) (fault : Reason) where
         let same = same_stop {X = ℕ} (Bad (where_ at) fault) More e in absurd cc
   ]
 
-  number_grows : (at : ℕ) (bytes more : List ℕ) (fault_offset : ℕ) (reason : Reason) → FieldFault (number fits where_ fault) at bytes fault_offset reason → FieldFault (number fits where_ fault) at (bytes ++ more) fault_offset reason
+  number_grows : (at : ℕ) (bytes more : List ℕ) (fault_offset : ℕ) (reason : Reason)
+      → FieldFault (number fits where_ fault) at bytes fault_offset reason → FieldFault (number fits where_ fault) at (bytes ++ more) fault_offset reason
   number_grows at bytes more fault_offset reason (inl (why, same, begins)) = inl (why, same, BeginsIn-grows 0x89 0xFF bytes more begins)
   number_grows at bytes more fault_offset reason (inr (why, same, (n, text, rest, spells, fails, split))) =
       inr (why, same, (n, text, rest ++ more, spells, fails, ap (λ (l : List ℕ). l ++ more) split ∙ append_assoc text rest more))
@@ -190,7 +209,8 @@ module _ (fits : ℕ → Bool) (where_ : ℕ → ℕ) (fault : Reason) where
 -- ---- one of some letters, or none
 
 module _ (known : List ℕ) where
-  letter_yes : (input : List ℕ) (at b : ℕ) (rest : List ℕ) → drop at input ≡ b ∷ rest → is_one_of known b ≡ true → letter_at known input at ≡ Ok (Some b, at + 1)
+  letter_yes : (input : List ℕ) (at b : ℕ) (rest : List ℕ) → drop at input ≡ b ∷ rest → is_one_of known b ≡ true → letter_at known input at
+      ≡ Ok (Some b, at + 1)
   letter_yes input at b rest e h = rw (e, h) refl
 
   letter_no : (input : List ℕ) (at b : ℕ) (rest : List ℕ) → drop at input ≡ b ∷ rest → is_one_of known b ≡ false → letter_at known input at ≡ Ok (None, at)
@@ -199,14 +219,18 @@ module _ (known : List ℕ) where
   letter_end : (input : List ℕ) (at : ℕ) → drop at input ≡ [] → letter_at known input at ≡ Err More
   letter_end input at e = rw e refl
 
-  letter_got : (input : List ℕ) (at : ℕ) (x : Option ℕ) (after : ℕ) (bytes : List ℕ) → drop at input ≡ bytes → letter_at known input at ≡ Ok (x, after) → Found (letter known) input at x after
+  letter_got : (input : List ℕ) (at : ℕ) (x : Option ℕ) (after : ℕ) (bytes : List ℕ) → drop at input ≡ bytes → letter_at known input at
+      ≡ Ok (x, after) → Found (letter known) input at x after
   letter_got input at x after [] e gives = absurd (ok_not_err x after More (sym gives ∙ letter_end input at e))
   letter_got input at x after (b ∷ rest) e gives = elim (cases_Bool (is_one_of known b)) [
-    | inl h ↦ found-as (letter known) input at (Some b) (at + 1) x after (found (letter known) input at (Some b) (at + 1) (b ∷ []) rest (refl, h) e refl) (sym (letter_yes input at b rest e h) ∙ gives)
-    | inr h ↦ found-as (letter known) input at None at x after (found (letter known) input at None at [] (b ∷ rest) (refl, h) e (omega arith)) (sym (letter_no input at b rest e h) ∙ gives)
+    | inl h ↦ found-as (letter known) input at (Some b) (at + 1) x after
+        (found (letter known) input at (Some b) (at + 1) (b ∷ []) rest (refl, h) e refl) (sym (letter_yes input at b rest e h) ∙ gives)
+    | inr h ↦ found-as (letter known) input at None at x after (found (letter known) input at None at [] (b ∷ rest) (refl, h) e (omega arith))
+        (sym (letter_no input at b rest e h) ∙ gives)
   ]
 
-  letter_only : (input : List ℕ) (at : ℕ) (x : Option ℕ) (prefix rest : List ℕ) → SpellsField (letter known) x at prefix (first_of rest None) → drop at input ≡ prefix ++ rest → letter_at known input at ≡ Ok (x, at + length prefix)
+  letter_only : (input : List ℕ) (at : ℕ) (x : Option ℕ) (prefix rest : List ℕ) → SpellsField (letter known) x at prefix (first_of rest None)
+      → drop at input ≡ prefix ++ rest → letter_at known input at ≡ Ok (x, at + length prefix)
   letter_only input at None prefix [] spells split = absurd spells.1
   letter_only input at None prefix (b ∷ rest) spells split =
       let count : at ≡ at + length prefix = omega (arith, ap length spells.0) in
@@ -215,14 +239,16 @@ module _ (known : List ℕ) where
       let count : at + 1 ≡ at + length prefix = omega (arith, ap length spells.0) in
       letter_yes input at b rest (split ∙ ap (λ (l : List ℕ). l ++ rest) spells.0) spells.1 ∙ ap (λ (n : ℕ). ok (Some b) n) count
 
-  letter_stops : (input : List ℕ) (at : ℕ) (stop : Stop) (bytes : List ℕ) → drop at input ≡ bytes → letter_at known input at ≡ Err stop → (bytes ≡ []) × (stop ≡ More)
+  letter_stops : (input : List ℕ) (at : ℕ) (stop : Stop) (bytes : List ℕ) → drop at input ≡ bytes → letter_at known input at ≡ Err stop → (bytes ≡ [])
+      × (stop ≡ More)
   letter_stops input at stop [] e gives = (refl, same_stop {X = Option ℕ} stop More (sym gives ∙ letter_end input at e))
   letter_stops input at stop (b ∷ rest) e gives = elim (cases_Bool (is_one_of known b)) [
     | inl h ↦ absurd (ok_not_err (Some b) (at + 1) stop (sym (letter_yes input at b rest e h) ∙ gives))
     | inr h ↦ absurd (ok_not_err None at stop (sym (letter_no input at b rest e h) ∙ gives))
   ]
 
-  letter_later : (x : Option ℕ) (at : ℕ) (prefix : List ℕ) (next : Option ℕ) → SpellsField (letter known) x at prefix None → SpellsField (letter known) x at prefix next
+  letter_later : (x : Option ℕ) (at : ℕ) (prefix : List ℕ) (next : Option ℕ) → SpellsField (letter known) x at prefix None
+      → SpellsField (letter known) x at prefix next
   letter_later None at prefix next spells = absurd spells.1
   letter_later (Some b) at prefix next spells = spells
 
@@ -255,7 +281,8 @@ begins_low b h = grind (arith, h)
 abbrev some_number : ℕ × ℕ → Reading (Option ℕ)
 some_number n = Ok (Some n.0, n.1)
 
-optional_yes : (input : List ℕ) (at b : ℕ) (rest : List ℕ) → drop at input ≡ b ∷ rest → begins_number b ≡ true → optional_number_at input at ≡ (plain_number_at input at >>= some_number)
+optional_yes : (input : List ℕ) (at b : ℕ) (rest : List ℕ) → drop at input ≡ b ∷ rest → begins_number b ≡ true → optional_number_at input at
+    ≡ (plain_number_at input at >>= some_number)
 optional_yes input at b rest e h = rw (e, h) refl
 
 optional_no : (input : List ℕ) (at b : ℕ) (rest : List ℕ) → drop at input ≡ b ∷ rest → begins_number b ≡ false → optional_number_at input at ≡ Ok (None, at)
@@ -264,20 +291,25 @@ optional_no input at b rest e h = rw (e, h) refl
 optional_end : (input : List ℕ) (at : ℕ) → drop at input ≡ [] → optional_number_at input at ≡ Err More
 optional_end input at e = rw e refl
 
-some_got : (input : List ℕ) (at : ℕ) → AreBytes input → (x : Option ℕ) (after : ℕ) (answer : Reading ℕ) → plain_number_at input at ≡ answer → (answer >>= some_number) ≡ Ok (x, after) → Found optional_number input at x after
+some_got : (input : List ℕ) (at : ℕ) → AreBytes input → (x : Option ℕ) (after : ℕ) (answer : Reading ℕ) → plain_number_at input at ≡ answer
+    → (answer >>= some_number) ≡ Ok (x, after) → Found optional_number input at x after
 some_got input at fits x after (Ok r) is gives =
     let one = plain-got input at fits r.0 r.1 is in
-    found-as optional_number input at (Some r.0) r.1 x after (found optional_number input at (Some r.0) r.1 one.prefix one.rest one.spells one.split one.count) gives
+    found-as optional_number input at (Some r.0) r.1 x after (found optional_number input at (Some r.0) r.1 one.prefix one.rest one.spells one.split
+    one.count) gives
 some_got input at fits x after (Err stop) is gives = absurd (ok_not_err x after stop (sym gives))
 
-optional_got : (input : List ℕ) (at : ℕ) → AreBytes input → (x : Option ℕ) (after : ℕ) (bytes : List ℕ) → drop at input ≡ bytes → optional_number_at input at ≡ Ok (x, after) → Found optional_number input at x after
+optional_got : (input : List ℕ) (at : ℕ) → AreBytes input → (x : Option ℕ) (after : ℕ) (bytes : List ℕ) → drop at input ≡ bytes
+    → optional_number_at input at ≡ Ok (x, after) → Found optional_number input at x after
 optional_got input at fits x after [] e gives = absurd (ok_not_err x after More (sym gives ∙ optional_end input at e))
 optional_got input at fits x after (b ∷ rest) e gives = elim (cases_Bool (begins_number b)) [
   | inl h ↦ some_got input at fits x after (plain_number_at input at) refl (sym (optional_yes input at b rest e h) ∙ gives)
-  | inr h ↦ found-as optional_number input at None at x after (found optional_number input at None at [] (b ∷ rest) (refl, h) e (omega arith)) (sym (optional_no input at b rest e h) ∙ gives)
+  | inr h ↦ found-as optional_number input at None at x after (found optional_number input at None at [] (b ∷ rest) (refl, h) e (omega arith))
+      (sym (optional_no input at b rest e h) ∙ gives)
 ]
 
-optional_only : (input : List ℕ) (at : ℕ) (x : Option ℕ) (prefix rest : List ℕ) → SpellsField optional_number x at prefix (first_of rest None) → drop at input ≡ prefix ++ rest → optional_number_at input at ≡ Ok (x, at + length prefix)
+optional_only : (input : List ℕ) (at : ℕ) (x : Option ℕ) (prefix rest : List ℕ) → SpellsField optional_number x at prefix (first_of rest None)
+    → drop at input ≡ prefix ++ rest → optional_number_at input at ≡ Ok (x, at + length prefix)
 optional_only input at None prefix [] spells split = absurd spells.1
 optional_only input at None prefix (b ∷ rest) spells split =
     let count : at ≡ at + length prefix = omega (arith, ap length spells.0) in
@@ -287,7 +319,8 @@ optional_only input at (Some n) prefix rest spells split =
     let e : drop at input ≡ first.0 ∷ (first.1 ++ rest) = split ∙ ap (λ (l : List ℕ). l ++ rest) first.2 in
     optional_yes input at first.0 (first.1 ++ rest) e first.3 ∙ ap (λ (r : Reading ℕ). r >>= some_number) (plain-only input at n prefix rest spells split)
 
-some_stops : (input : List ℕ) (at : ℕ) (stop : Stop) (answer : Reading ℕ) → plain_number_at input at ≡ answer → (answer >>= some_number) ≡ Err stop → plain_number_at input at ≡ Err stop
+some_stops : (input : List ℕ) (at : ℕ) (stop : Stop) (answer : Reading ℕ) → plain_number_at input at ≡ answer → (answer >>= some_number) ≡ Err stop
+    → plain_number_at input at ≡ Err stop
 some_stops input at stop (Ok r) is gives = absurd (ok_not_err (Some r.0) r.1 stop gives)
 some_stops input at stop (Err s) is gives = is ∙ ap (λ (t : Stop). stopped t) (same_stop {X = Option ℕ} s stop gives)
 
@@ -295,8 +328,10 @@ begins_apart : (b : ℕ) (bytes rest : List ℕ) → bytes ≡ b ∷ rest → be
 begins_apart b [] rest e h begins = begins
 begins_apart b (c ∷ bytes) rest e h begins = let same : c ≡ b = cc in let low = begins_low b h in omega (arith, begins.0, low, same)
 
-optional_bad : (input : List ℕ) (at : ℕ) → AreBytes input → (fault_offset : ℕ) (reason : Reason) (bytes : List ℕ) → drop at input ≡ bytes → optional_number_at input at ≡ Err (Bad fault_offset reason) → ⊥
-optional_bad input at fits fault_offset reason [] e gives = let same : More ≡ Bad fault_offset reason = same_stop {X = Option ℕ} More (Bad fault_offset reason) (sym (optional_end input at e) ∙ gives) in cc
+optional_bad : (input : List ℕ) (at : ℕ) → AreBytes input → (fault_offset : ℕ) (reason : Reason) (bytes : List ℕ) → drop at input ≡ bytes
+    → optional_number_at input at ≡ Err (Bad fault_offset reason) → ⊥
+optional_bad input at fits fault_offset reason [] e gives = let same : More ≡ Bad fault_offset reason =
+    same_stop {X = Option ℕ} More (Bad fault_offset reason) (sym (optional_end input at e) ∙ gives) in cc
 optional_bad input at fits fault_offset reason (b ∷ rest) e gives = elim (cases_Bool (begins_number b)) [
   | inl h ↦
       let plain = some_stops input at (Bad fault_offset reason) (plain_number_at input at) refl (sym (optional_yes input at b rest e h) ∙ gives) in
@@ -304,7 +339,8 @@ optional_bad input at fits fault_offset reason (b ∷ rest) e gives = elim (case
   | inr h ↦ ok_not_err None at (Bad fault_offset reason) (sym (optional_no input at b rest e h) ∙ gives)
 ]
 
-optional_more : (input : List ℕ) (at : ℕ) → AreBytes input → (bytes : List ℕ) → drop at input ≡ bytes → optional_number_at input at ≡ Err More → IsCutOffNumber (drop at input)
+optional_more : (input : List ℕ) (at : ℕ) → AreBytes input → (bytes : List ℕ) → drop at input ≡ bytes → optional_number_at input at ≡ Err More
+    → IsCutOffNumber (drop at input)
 optional_more input at fits [] e gives = plain-more input at fits (rw e refl)
 optional_more input at fits (b ∷ rest) e gives = elim (cases_Bool (begins_number b)) [
   | inl h ↦ plain-more input at fits (some_stops input at More (plain_number_at input at) refl (sym (optional_yes input at b rest e h) ∙ gives))
@@ -322,9 +358,11 @@ cut_first b rest (n, (more, some, spells)) =
 optional_ends : (input : List ℕ) (at : ℕ) (bytes : List ℕ) → drop at input ≡ bytes → IsCutOffNumber bytes → optional_number_at input at ≡ Err More
 optional_ends input at [] e ends = optional_end input at e
 optional_ends input at (b ∷ rest) e ends =
-    optional_yes input at b rest e (cut_first b rest ends) ∙ ap (λ (r : Reading ℕ). r >>= some_number) (plain-ends input at (subst (λ (l : List ℕ). IsCutOffNumber l) (sym e) ends))
+    optional_yes input at b rest e (cut_first b rest ends) ∙ ap (λ (r : Reading ℕ). r >>= some_number)
+    (plain-ends input at (subst (λ (l : List ℕ). IsCutOffNumber l) (sym e) ends))
 
-optional_later : (x : Option ℕ) (at : ℕ) (prefix : List ℕ) (next : Option ℕ) → SpellsField optional_number x at prefix None → SpellsField optional_number x at prefix next
+optional_later : (x : Option ℕ) (at : ℕ) (prefix : List ℕ) (next : Option ℕ) → SpellsField optional_number x at prefix None
+    → SpellsField optional_number x at prefix next
 optional_later None at prefix next spells = absurd spells.1
 optional_later (Some n) at prefix next spells = spells
 

@@ -38,7 +38,8 @@ pub record Next (input rest : List ℕ) (built : List Token) (token : Token) (us
 abbrev got_token : Token → ℕ → Taken Token
 got_token token used = taken.Got token used
 
-pub left_next : (input rest : List ℕ) (built : List Token) (token : Token) (used : ℕ) → IsLeft input rest built → 0 < length rest → token_at rest ≡ taken.Got token used → Next input rest built token used
+pub left_next : (input rest : List ℕ) (built : List Token) (token : Token) (used : ℕ) → IsLeft input rest built → 0 < length rest → token_at rest
+    ≡ taken.Got token used → Next input rest built token used
 left_next input rest built token used is some got = by_tokens is.tokens is.spells is.split where
   by_tokens : (tokens : List Token) → SpellsTokens tokens rest → tokens_of is.tree ≡ built ++ tokens → Next input rest built token used
   by_tokens [] none split = absurd (omega (arith, some, ap length none))
@@ -85,7 +86,14 @@ left_none input rest built is none = by_tokens is.tokens is.spells is.split wher
       }
 
 pub left_start : (input : List ℕ) (built : List Token) → (tree : Tree) × SpellsTree tree input → built ≡ [] → IsLeft input input built
-left_start input built spells none = record { tree = spells.0; tokens = tokens_of spells.0; whole = spells.1; spells = spells.1.1; split = ap (λ (l : List Token). l ++ tokens_of spells.0) (sym none) }
+left_start input built spells none = record {
+  tree = spells.0;
+  tokens = tokens_of spells.0;
+  whole = spells.1;
+  spells = spells.1.1;
+  split =
+      ap (λ (l : List Token). l ++ tokens_of spells.0) (sym none);
+}
 
 -- a tree is spelled by some bytes
 pub some_bytes : (input : List ℕ) → (tree : Tree) × SpellsTree tree input → 0 < length input
@@ -95,7 +103,8 @@ some_bytes [] spells = let whole = left_none [] [] [] (left_start [] [] spells r
   no_terms e = cc
 
 -- a token that all bytes of a tree spell is that tree
-pub alone : (input : List ℕ) (token : Token) (used : ℕ) → (tree : Tree) × SpellsTree tree input → token_at input ≡ taken.Got token used → used ≡ length input → Whole input (token ∷ [])
+pub alone : (input : List ℕ) (token : Token) (used : ℕ) → (tree : Tree) × SpellsTree tree input → token_at input ≡ taken.Got token used → used
+    ≡ length input → Whole input (token ∷ [])
 alone input token used spells got all =
     let next = left_next input input [] token used (left_start input [] spells refl) (some_bytes input spells) got in
     left_none input (drop used input) (token ∷ []) next.left (omega (arith, length-drop used input))

@@ -59,7 +59,8 @@ pub data States (mode : Mode) (input : List ℕ) : Taken Record → Type 0 where
   states_more : IsCutOffRecord mode input → States mode input taken.More
   states_bad : (offset : ℕ) (reason : Reason) → IsFaulty mode input offset reason → States mode input (taken.Bad offset reason)
 
-states_by : (mode : Mode) (input : List ℕ) → AreBytes input → (answer : Reading Record) → read (layout_of mode) input 0 ≡ answer → States mode input (as_taken answer)
+states_by : (mode : Mode) (input : List ℕ) → AreBytes input → (answer : Reading Record) → read (layout_of mode) input 0 ≡ answer
+    → States mode input (as_taken answer)
 states_by mode input fits (Ok (row, used)) is = states_got row used (prefix_of mode input row used (read-got exact (layout_of mode) input 0 fits row used is))
 states_by mode input fits (Err More) is = states_more (read-more exact (layout_of mode) input 0 fits is)
 states_by mode input fits (Err (Bad offset reason)) is = states_bad offset reason (read-bad exact (layout_of mode) input 0 fits offset reason is)
@@ -67,21 +68,27 @@ states_by mode input fits (Err (Bad offset reason)) is = states_bad offset reaso
 pub states : (mode : Mode) (input : List ℕ) → AreBytes input → States mode input (record_at mode input)
 states mode input fits = states_by mode input fits (read (layout_of mode) input 0) refl
 
-stated_got : (mode : Mode) (input : List ℕ) (answer : Taken Record) → States mode input answer → IfGot answer (λ row used. (used ≤ length input) × IsWholeRecord mode row (take used input) (first_of (drop used input) None))
+stated_got : (mode : Mode) (input : List ℕ) (answer : Taken Record) → States mode input answer
+    → IfGot answer (λ row used. (used ≤ length input) × IsWholeRecord mode row (take used input) (first_of (drop used input) None))
 stated_got mode input answer (states_got row used is) = (is.within, is.is_whole)
 stated_got mode input answer (states_more ends) = tt
 stated_got mode input answer (states_bad offset reason has) = tt
 
-pub record_at-got : (mode : Mode) (input : List ℕ) → AreBytes input → IfGot (record_at mode input) (λ row used. (used ≤ length input) × IsWholeRecord mode row (take used input) (first_of (drop used input) None))
+pub record_at-got : (mode : Mode) (input : List ℕ) → AreBytes input
+    → IfGot (record_at mode input) (λ row used. (used ≤ length input) × IsWholeRecord mode row (take used input) (first_of (drop used input) None))
 record_at-got mode input fits = stated_got mode input (record_at mode input) (states mode input fits)
 
-pub record_at-only : (mode : Mode) (input : List ℕ) (row : Record) (text rest : List ℕ) → IsWholeRecord mode row text (first_of rest None) → input ≡ text ++ rest → record_at mode input ≡ taken.Got row (length text)
-record_at-only mode input row text rest is split = let none : 0 + length text ≡ length text = omega arith in rw (read-only exact (layout_of mode) input 0 row text rest is split, none) refl
+pub record_at-only : (mode : Mode) (input : List ℕ) (row : Record) (text rest : List ℕ) → IsWholeRecord mode row text (first_of rest None) → input
+    ≡ text ++ rest → record_at mode input ≡ taken.Got row (length text)
+record_at-only mode input row text rest is split = let none : 0 + length text ≡ length text = omega arith in
+    rw (read-only exact (layout_of mode) input 0 row text rest is split, none) refl
 
-pub record_at-bad : (mode : Mode) (input : List ℕ) (offset : ℕ) (reason : Reason) → IsFaulty mode input offset reason → record_at mode input ≡ taken.Bad offset reason
+pub record_at-bad : (mode : Mode) (input : List ℕ) (offset : ℕ) (reason : Reason) → IsFaulty mode input offset reason → record_at mode input
+    ≡ taken.Bad offset reason
 record_at-bad mode input offset reason has = ap (λ a. as_taken a) (read-fault exact (layout_of mode) input 0 offset reason has)
 
-stated_bad : (mode : Mode) (input : List ℕ) (offset : ℕ) (reason : Reason) (answer : Taken Record) → States mode input answer → answer ≡ taken.Bad offset reason → IsFaulty mode input offset reason
+stated_bad : (mode : Mode) (input : List ℕ) (offset : ℕ) (reason : Reason) (answer : Taken Record) → States mode input answer → answer
+    ≡ taken.Bad offset reason → IsFaulty mode input offset reason
 stated_bad mode input offset reason answer (states_got row used is) same = let wrong : got_record row used ≡ bad_record offset reason = same in absurd cc
 stated_bad mode input offset reason answer (states_more ends) same = let wrong : more_record ≡ bad_record offset reason = same in absurd cc
 stated_bad mode input offset reason answer (states_bad where_ why has) same =
@@ -90,7 +97,8 @@ stated_bad mode input offset reason answer (states_bad where_ why has) same =
     let reason_is : why ≡ reason = cc in
     subst (λ (p : ℕ). IsFaulty mode input p reason) place_is (subst (λ (r : Reason). IsFaulty mode input where_ r) reason_is has)
 
-pub bad-record_at : (mode : Mode) (input : List ℕ) → AreBytes input → (offset : ℕ) (reason : Reason) → record_at mode input ≡ taken.Bad offset reason → IsFaulty mode input offset reason
+pub bad-record_at : (mode : Mode) (input : List ℕ) → AreBytes input → (offset : ℕ) (reason : Reason) → record_at mode input ≡ taken.Bad offset reason
+    → IsFaulty mode input offset reason
 bad-record_at mode input fits offset reason e = stated_bad mode input offset reason (record_at mode input) (states mode input fits) e
 
 pub record_at-more : (mode : Mode) (input : List ℕ) → IsCutOffRecord mode input → record_at mode input ≡ taken.More
@@ -106,26 +114,32 @@ more-record_at mode input fits e = stated_more mode input (record_at mode input)
 
 -- ---- laws
 
-later_of : (mode : Mode) (it : Record) (text rest more : List ℕ) → IsWholeRecord mode it text (first_of rest None) → IsWholeRecord mode it text (first_of (rest ++ more) None)
+later_of : (mode : Mode) (it : Record) (text rest more : List ℕ) → IsWholeRecord mode it text (first_of rest None)
+    → IsWholeRecord mode it text (first_of (rest ++ more) None)
 later_of mode it text [] more is = record-later exact (layout_of mode) it 0 text (first_of more None) is
 later_of mode it text (b ∷ rest) more is = is
 
-stable_by : (mode : Mode) (input more : List ℕ) (answer : Taken Record) → States mode input answer → (answer ≡ taken.More → ⊥) → record_at mode (input ++ more) ≡ answer
+stable_by : (mode : Mode) (input more : List ℕ) (answer : Taken Record) → States mode input answer → (answer ≡ taken.More → ⊥)
+    → record_at mode (input ++ more) ≡ answer
 stable_by mode input more answer (states_got row used is) wanted =
     let text = take used input in
     let rest = drop used input in
     let split : input ≡ text ++ rest = sym (take-append-drop used input) in
     let count : length text ≡ used = omega (arith, length-take used input, is.within) in
-    record_at-only mode (input ++ more) row text (rest ++ more) (later_of mode row text rest more is.is_whole) (ap (λ (l : List ℕ). l ++ more) split ∙ append_assoc text rest more) ∙ ap (λ (n : ℕ). got_record row n) count
+    record_at-only mode (input ++ more) row text (rest ++ more) (later_of mode row text rest more is.is_whole) (ap (λ (l : List ℕ). l ++ more) split
+    ∙ append_assoc text rest more) ∙ ap (λ (n : ℕ). got_record row n) count
 stable_by mode input more answer (states_more ends) wanted = absurd (wanted refl)
-stable_by mode input more answer (states_bad offset reason has) wanted = record_at-bad mode (input ++ more) offset reason (fault-grows exact (layout_of mode) 0 input more offset reason has)
+stable_by mode input more answer (states_bad offset reason has) wanted =
+    record_at-bad mode (input ++ more) offset reason (fault-grows exact (layout_of mode) 0 input more offset reason has)
 
 -- a longer input has the same answer, once it is not More
-pub record_at-stable : (mode : Mode) (input more : List ℕ) → AreBytes input → (record_at mode input ≡ taken.More → ⊥) → record_at mode (input ++ more) ≡ record_at mode input
+pub record_at-stable : (mode : Mode) (input more : List ℕ) → AreBytes input → (record_at mode input ≡ taken.More → ⊥) → record_at mode (input ++ more)
+    ≡ record_at mode input
 record_at-stable mode input more fits wanted = stable_by mode input more (record_at mode input) (states mode input fits) wanted
 
 -- two whole records at one offset are one
-pub one_record : (mode : Mode) (r s : Record) (text rest other more : List ℕ) → IsWholeRecord mode r text (first_of rest None) → IsWholeRecord mode s other (first_of more None) → text ++ rest ≡ other ++ more → (r ≡ s) × (text ≡ other)
+pub one_record : (mode : Mode) (r s : Record) (text rest other more : List ℕ) → IsWholeRecord mode r text (first_of rest None)
+    → IsWholeRecord mode s other (first_of more None) → text ++ rest ≡ other ++ more → (r ≡ s) × (text ≡ other)
 one_record mode r s text rest other more first second same =
     let one = record_at-only mode (text ++ rest) r text rest first refl in
     let two = record_at-only mode (text ++ rest) s other more second same in

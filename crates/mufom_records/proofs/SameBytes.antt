@@ -1,5 +1,6 @@
 -- The bytes of a record determine it, whatever follows them.
-use Rattle.std.proofs.Common.{◌≡◌, ℕ, zero, suc, ◌+◌, ◌<◌, List, [], ◌∷◌, ◌++◌, length, drop, Option, Some, None, refl, sym, ap, subst, ◌∙◌, inl, inr, arith, append_assoc}
+use Rattle.std.proofs.Common.{◌≡◌, ℕ, zero, suc, ◌+◌, ◌<◌, List, [], ◌∷◌, ◌++◌, length, drop, Option, Some, None, refl, sym, ap, subst, ◌∙◌, inl, inr}
+use Rattle.std.proofs.Common.{arith, append_assoc}
 use Rattle.std.specs.Option.{option_to_list}
 use Rattle.std.proofs.lemmas.Bool.{cases_lt}
 use Rattle.std.proofs.lemmas.List.{append-nil, length-append}
@@ -11,7 +12,8 @@ use Rattle.mufom_expr.specs.Tree.{Tree}
 use Rattle.mufom_expr.specs.Spelled.{SpellsTree}
 use Rattle.mufom_records.specs.declared.record.Mode.{Mode}
 use Rattle.mufom_records.specs.declared.record.Record.{Record}
-use Rattle.mufom_records.specs.Fields.{Field, ValueOf, byte, number, string, run, letter, optional_number, numbers, expression, optional_expression, SpellsField, SpellsNumbers, first_of, items_of}
+use Rattle.mufom_records.specs.Fields.{Field, ValueOf, byte, number, string, run, letter, optional_number, numbers, expression, optional_expression}
+use Rattle.mufom_records.specs.Fields.{SpellsField, SpellsNumbers, first_of, items_of}
 use Rattle.mufom_records.specs.Layouts.{Layout, whole, refused, field, SpellsRecord, layout_of, IsWholeRecord}
 use Rattle.mufom_records.proofs.Exact.{same_value, same_place, first_of-append}
 use Rattle.mufom_records.proofs.ExpressionLaws.{tree_first}
@@ -22,7 +24,8 @@ use Rattle.mufom_records.proofs.RecordLaws.{exact}
 -- two numbers at the start of one list are one
 one_number : (n m : ℕ) (one two rest more : List ℕ) → SpellsNumber n one → SpellsNumber m two → one ++ rest ≡ two ++ more → (n ≡ m) × (length one ≡ length two)
 one_number n m one two rest more first second same =
-    let e : taken.Got n (length one) ≡ taken.Got m (length two) = sym (number_at-spelling n one rest first) ∙ ap number_at same ∙ number_at-spelling m two more second in
+    let e : taken.Got n (length one) ≡ taken.Got m (length two) = sym (number_at-spelling n one rest first) ∙ ap number_at same
+    ∙ number_at-spelling m two more second in
     (cc, cc)
 
 same_length : (one two rest more : List ℕ) → one ++ rest ≡ two ++ more → length one ≡ length two → (one ≡ two) × (rest ≡ more)
@@ -75,9 +78,11 @@ by_bytes : (f : Field) (x y : ValueOf f) (at : ℕ) (prefix : List ℕ) → Spel
 by_bytes f x y at prefix first second =
     let input = zeros at ++ prefix in
     let split : drop at input ≡ prefix ++ [] = dropped at prefix ∙ sym (append-nil prefix) in
-    same_value x y (at + length prefix) (at + length prefix) (sym ((exact f).only input at x prefix [] first split) ∙ (exact f).only input at y prefix [] second split)
+    same_value x y (at + length prefix) (at + length prefix) (sym ((exact f).only input at x prefix [] first split)
+    ∙ (exact f).only input at y prefix [] second split)
 
-same_field : (f : Field) (x y : ValueOf f) (at : ℕ) (prefix : List ℕ) (next other : Option ℕ) → SpellsField f x at prefix next → SpellsField f y at prefix other → x ≡ y
+same_field : (f : Field) (x y : ValueOf f) (at : ℕ) (prefix : List ℕ) (next other : Option ℕ) → SpellsField f x at prefix next
+    → SpellsField f y at prefix other → x ≡ y
 same_field byte x y at prefix next other first second = by_bytes byte x y at prefix first second
 same_field (number fits offset fault) x y at prefix next other first second = by_bytes (number fits offset fault) x y at prefix first second
 same_field string x y at prefix next other first second = by_bytes string x y at prefix first second
@@ -104,7 +109,8 @@ first_of-option None = refl
 first_of-option (Some b) = refl
 
 -- of two values that the same fields begin with, neither has fewer bytes
-not_shorter : (f : Field) (x y : ValueOf f) (at : ℕ) (prefix back front2 back2 : List ℕ) (next other : Option ℕ) → SpellsField f x at prefix (first_of back next) → SpellsField f y at front2 (first_of back2 other) → prefix ++ back ≡ front2 ++ back2
+not_shorter : (f : Field) (x y : ValueOf f) (at : ℕ) (prefix back front2 back2 : List ℕ) (next other : Option ℕ)
+    → SpellsField f x at prefix (first_of back next) → SpellsField f y at front2 (first_of back2 other) → prefix ++ back ≡ front2 ++ back2
     → length prefix < length front2 → ⊥
 not_shorter f x y at prefix [] front2 back2 next other first second same less =
     omega (arith, less, ap length same, length-append prefix [], length-append front2 back2)
@@ -112,33 +118,40 @@ not_shorter f x y at prefix (b ∷ back) front2 back2 next other first second sa
     let after = option_to_list other in
     let input = zeros at ++ ((prefix ++ b ∷ back) ++ after) in
     let one : drop at input ≡ prefix ++ ((b ∷ back) ++ after) = dropped at ((prefix ++ b ∷ back) ++ after) ∙ append_assoc prefix (b ∷ back) after in
-    let two : drop at input ≡ front2 ++ (back2 ++ after) = dropped at ((prefix ++ b ∷ back) ++ after) ∙ ap (λ (l : List ℕ). l ++ after) same ∙ append_assoc front2 back2 after in
+    let two : drop at input ≡ front2 ++ (back2 ++ after) = dropped at ((prefix ++ b ∷ back) ++ after) ∙ ap (λ (l : List ℕ). l ++ after) same
+    ∙ append_assoc front2 back2 after in
     let follows : first_of (back2 ++ after) None ≡ first_of back2 other = first_of-append back2 after None ∙ ap (first_of back2) (first_of-option other) in
     let x_read = (exact f).only input at x prefix ((b ∷ back) ++ after) first one in
     let y_read = (exact f).only input at y front2 (back2 ++ after) (subst (λ (n : Option ℕ). SpellsField f y at front2 n) (sym follows) second) two in
     let offset = same_place x y (at + length prefix) (at + length front2) (sym x_read ∙ y_read) in
     omega (arith, less, offset)
 
-one_prefix : (f : Field) (x y : ValueOf f) (at : ℕ) (prefix back front2 back2 : List ℕ) (next other : Option ℕ) → SpellsField f x at prefix (first_of back next) → SpellsField f y at front2 (first_of back2 other) → prefix ++ back ≡ front2 ++ back2
+one_prefix : (f : Field) (x y : ValueOf f) (at : ℕ) (prefix back front2 back2 : List ℕ) (next other : Option ℕ)
+    → SpellsField f x at prefix (first_of back next) → SpellsField f y at front2 (first_of back2 other) → prefix ++ back ≡ front2 ++ back2
     → (prefix ≡ front2) × (back ≡ back2)
-one_prefix f x y at prefix back front2 back2 next other first second same = same_length prefix front2 back back2 same (elim (cases_lt (length prefix) (length front2)) [
-  | inl less ↦ absurd (not_shorter f x y at prefix back front2 back2 next other first second same less)
-  | inr most ↦ elim (cases_lt (length front2) (length prefix)) [
-    | inl less ↦ absurd (not_shorter f y x at front2 back2 prefix back other next second first (sym same) less)
-    | inr least ↦ omega (arith, most, least)
-  ]
-])
+one_prefix f x y at prefix back front2 back2 next other first second same =
+    same_length prefix front2 back back2 same (elim (cases_lt (length prefix) (length front2)) [
+      | inl less ↦ absurd (not_shorter f x y at prefix back front2 back2 next other first second same less)
+      | inr most ↦ elim (cases_lt (length front2) (length prefix)) [
+        | inl less ↦ absurd (not_shorter f y x at front2 back2 prefix back other next second first (sym same) less)
+        | inr least ↦ omega (arith, most, least)
+      ]
+    ])
 
-same_record : (layout : Layout) (r s : Record) (at : ℕ) (bytes : List ℕ) (next other : Option ℕ) → SpellsRecord layout r at bytes next → SpellsRecord layout s at bytes other → r ≡ s
+same_record : (layout : Layout) (r s : Record) (at : ℕ) (bytes : List ℕ) (next other : Option ℕ) → SpellsRecord layout r at bytes next
+    → SpellsRecord layout s at bytes other → r ≡ s
 same_record (whole row) r s at bytes next other first second = first.0 ∙ sym second.0
 same_record (refused back reason) r s at bytes next other first second = absurd first
 same_record (field f rest) r s at bytes next other (x, prefix, back, spelled, spells, parts) (y, front2, back2, spelled2, spells2, parts2) =
     let both = one_prefix f x y at prefix back front2 back2 next other spelled spelled2 (sym parts ∙ parts2) in
-    let same : x ≡ y = same_field f x y at prefix (first_of back next) (first_of back2 other) spelled (subst (λ (l : List ℕ). SpellsField f y at l (first_of back2 other)) (sym both.0) spelled2) in
+    let same : x ≡ y = same_field f x y at prefix (first_of back next) (first_of back2 other) spelled
+    (subst (λ (l : List ℕ). SpellsField f y at l (first_of back2 other)) (sym both.0) spelled2) in
     let other_spells : SpellsRecord (rest x) s (at + length prefix) back other
     = subst (λ (v : ValueOf f). SpellsRecord (rest v) s (at + length prefix) back other) (sym same)
-    (subst (λ (l : List ℕ). SpellsRecord (rest y) s (at + length l) back other) (sym both.0) (subst (λ (l : List ℕ). SpellsRecord (rest y) s (at + length front2) l other) (sym both.1) spells2)) in
+    (subst (λ (l : List ℕ). SpellsRecord (rest y) s (at + length l) back other) (sym both.0)
+    (subst (λ (l : List ℕ). SpellsRecord (rest y) s (at + length front2) l other) (sym both.1) spells2)) in
     same_record (rest x) r s (at + length prefix) back next other spells other_spells
 
-pub one_by_bytes : (mode : Mode) (r s : Record) (text : List ℕ) (next other : Option ℕ) → IsWholeRecord mode r text next → IsWholeRecord mode s text other → r ≡ s
+pub one_by_bytes : (mode : Mode) (r s : Record) (text : List ℕ) (next other : Option ℕ) → IsWholeRecord mode r text next
+    → IsWholeRecord mode s text other → r ≡ s
 one_by_bytes mode r s text next other first second = same_record (layout_of mode) r s 0 text next other first second

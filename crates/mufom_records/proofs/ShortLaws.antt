@@ -1,5 +1,6 @@
 -- An input of which more is wanted is short: the longest record whose end may not stand yet is a module's begin, with two strings.
-use Rattle.std.proofs.Common.{◌≡◌, ◌≢◌, ℕ, ◌+◌, ◌-◌, ◌*◌, ◌<◌, ◌≤◌, ◌==◌, Bool, true, false, List, [], ◌∷◌, ◌++◌, length, Option, Some, None, refl, ap, ◌∙◌, inl, inr, arith, length-append, if◌then◌else◌}
+use Rattle.std.proofs.Common.{◌≡◌, ◌≢◌, ℕ, ◌+◌, ◌-◌, ◌*◌, ◌<◌, ◌≤◌, ◌==◌, Bool, true, false, List, [], ◌∷◌, ◌++◌, length, Option, Some, None, refl}
+use Rattle.std.proofs.Common.{ap, ◌∙◌, inl, inr, arith, length-append, if◌then◌else◌}
 use Rattle.std.proofs.lemmas.Bool.{leb-true}
 use Rattle.mufom_numbers.specs.Spelling.{AreBytes, SpellsNumber, SpellsString, IsStringLead}
 use Rattle.mufom_expr.specs.declared.token.Token.{Token}
@@ -7,7 +8,8 @@ use Rattle.mufom_expr.specs.declared.token.Token.TheVariants.{Number, Var, Fun}
 use Rattle.mufom_expr.specs.Spelled.{SpellsToken, SpellsTokens, IsCutOffToken}
 use Rattle.mufom_records.specs.declared.record.Mode.{Mode}
 use Rattle.mufom_records.specs.declared.record.Mode.TheVariants as mode
-use Rattle.mufom_records.specs.Fields.{Field, ValueOf, byte, number, string, run, letter, optional_number, numbers, expression, optional_expression, is_one_of, SpellsField, SpellsNumbers}
+use Rattle.mufom_records.specs.Fields.{Field, ValueOf, byte, number, string, run, letter, optional_number, numbers, expression, optional_expression}
+use Rattle.mufom_records.specs.Fields.{is_one_of, SpellsField, SpellsNumbers}
 use Rattle.mufom_records.specs.Faults.{IsCutOffNumber, IsCutOffExpression, IsCutOffField, IsCutOffLayout}
 use Rattle.mufom_records.specs.declared.record.Record.{Record}
 use Rattle.mufom_records.specs.declared.record.Record.TheVariants as r
@@ -103,7 +105,8 @@ ends_short bytes (tokens, terms, prefix, rest, spells, leave, few, cut, same) =
 spelled_short : (f : Field) (x : ValueOf f) (at : ℕ) (bytes : List ℕ) (next : Option ℕ) → SpellsField f x at bytes next → length bytes ≤ most f
 spelled_short byte x at bytes next is = let all = ap length is in omega (arith, all)
 spelled_short (number fits fault_offset fault) x at bytes next is = number_short x bytes is.0
-spelled_short string x at bytes next (lead, text, leads, fits, fault_offset, same) = let few = string_short text bytes (lead, leads, fits, same) in omega (arith, few)
+spelled_short string x at bytes next (lead, text, leads, fits, fault_offset, same) = let few = string_short text bytes (lead, leads, fits, same) in
+    omega (arith, few)
 spelled_short (run n) x at bytes next is = let all = is.0 in omega (arith, all)
 spelled_short (letter known) None at bytes next is = let all = ap length is.0 in omega (arith, all)
 spelled_short (letter known) (Some b) at bytes next is = let all = ap length is.0 in omega (arith, all)
@@ -199,8 +202,16 @@ numbered_offset_short : (k : ℕ) → AtMost (rows.numbered_offset k) 131075
 numbered_offset_short k = (omega arith, λ n ok. (omega arith, λ value ok. tt))
 
 named_section_short : (i : ℕ) (absolute : Bool) (n : ℕ) → 65566 ≤ n → AtMost (rows.named_section i absolute) n
-named_section_short i absolute n room =
-    (omega (arith, room), λ purpose ok. (omega (arith, room), λ name ok. (omega (arith, room), λ a ok. (omega (arith, room), λ b ok. (omega (arith, room), λ c ok. tt)))))
+named_section_short i absolute n room = (
+  omega (arith, room),
+  λ purpose ok. (
+    omega (arith, room),
+    λ name ok. (
+      omega (arith, room),
+      λ a ok. (omega (arith, room), λ b ok. (omega (arith, room), λ c ok. tt)),
+    ),
+  ),
+)
 
 section_type_short : AtMost rows.section_type 131076
 section_type_short = (
@@ -251,7 +262,14 @@ constant_short : (row : Span → Record) (n : ℕ) → 65545 ≤ n → AtMost (r
 constant_short row n room = (omega (arith, room), λ count ok. (let few = leb-true _ _ ok in omega (arith, room, few), λ bytes ok. tt))
 
 repeat_short : AtMost rows.repeat 131076
-repeat_short = (omega arith, λ times ok. (omega arith, λ b ok. choose (b == 0xED) _ _ _ (constant_short (r.RepeatConstant times) _ (omega arith)) (choose (b == 0xE4) _ _ _ tt tt)))
+repeat_short = (
+  omega arith,
+  λ times ok. (
+    omega arith,
+    λ b ok. choose (b == 0xED) _ _ _ (constant_short (r.RepeatConstant times) _ (omega arith))
+        (choose (b == 0xE4) _ _ _ tt tt),
+  ),
+)
 
 by_bracket : (bracket : Option ℕ) → AtMost (rows.start_by_bracket bracket) 131074
 by_bracket None = (omega arith, λ value ok. tt)
@@ -278,7 +296,8 @@ assignment_short b = choose (b == 0xD7) _ _ _ offset_short (choose (b == 0xD3) _
     (choose (b == 0xC7) _ _ _ start_short (choose (is_one_of rows.left_out_assignments b) _ _ _ tt tt)))))))
 
 noted_short : (b : ℕ) → AtMost (rows.noted b) 131075
-noted_short b = choose (b == 0xC9) _ _ _ (note_short r.PublicNote) (choose (b == 0xD8) _ _ _ (note_short r.ReferenceNote) (choose (b == 0xCE) _ _ _ debug_note_short tt))
+noted_short b = choose (b == 0xC9) _ _ _ (note_short r.PublicNote)
+    (choose (b == 0xD8) _ _ _ (note_short r.ReferenceNote) (choose (b == 0xCE) _ _ _ debug_note_short tt))
 
 coded_short : (b : ℕ) → AtMost (rows.coded b) 131076
 coded_short b = choose (b == 0xE0) _ _ _ module_begin_short (choose (b == 0xE1) _ _ _ tt (choose (b == 0xE2) _ _ _ (omega arith, λ c ok. assignment_short c)

@@ -1,5 +1,6 @@
 -- One token of an expression, and what is answered where it stands, is cut off or has a fault.
-use Rattle.std.proofs.Common.{◌≡◌, ℕ, zero, suc, ◌+◌, ◌-◌, ◌<◌, ◌≤◌, ◌==◌, true, false, List, [], ◌∷◌, ◌++◌, length, take, drop, Option, Some, None, Ok, Err, refl, sym, ap, subst, ◌∙◌, inl, inr, arith}
+use Rattle.std.proofs.Common.{◌≡◌, ℕ, zero, suc, ◌+◌, ◌-◌, ◌<◌, ◌≤◌, ◌==◌, true, false, List, [], ◌∷◌, ◌++◌, length, take, drop, Option, Some, None}
+use Rattle.std.proofs.Common.{Ok, Err, refl, sym, ap, subst, ◌∙◌, inl, inr, arith}
 use Rattle.std.specs.Prelude.{option_map, option_and_then}
 use Rattle.std.proofs.lemmas.Bool.{cases_Bool, cases_lt, cases_eq, lt-ltb, le-ltb, eq-eqb, ne_eqb}
 use Rattle.std.proofs.lemmas.List.{take-append-drop}
@@ -95,7 +96,8 @@ pub tokens-none : (room terms : ℕ) (input : List ℕ) (at : ℕ) → drop at i
 tokens-none zero terms input at e = rw e refl
 tokens-none (suc room) terms input at e = rw e refl
 
-tokens_end : (room terms : ℕ) (input : List ℕ) (at b : ℕ) (rest : List ℕ) → drop at input ≡ b ∷ rest → begins_token b ≡ false → tokens_from room terms input at ≡ expression_end (room == 255) terms at
+tokens_end : (room terms : ℕ) (input : List ℕ) (at b : ℕ) (rest : List ℕ) → drop at input ≡ b ∷ rest → begins_token b ≡ false
+    → tokens_from room terms input at ≡ expression_end (room == 255) terms at
 tokens_end zero terms input at b rest e h = rw (e, h) refl
 tokens_end (suc room) terms input at b rest e h = rw (e, h) refl
 
@@ -103,27 +105,33 @@ ends_at : (bytes : List ℕ) → EndsTokens bytes → (b : ℕ) × (rest : List 
 ends_at [] ends = absurd ends
 ends_at (b ∷ rest) ends = (b, rest, refl, ends)
 
-pub tokens-end : (room terms : ℕ) (input : List ℕ) (at : ℕ) → EndsTokens (drop at input) → tokens_from room terms input at ≡ expression_end (room == 255) terms at
+pub tokens-end : (room terms : ℕ) (input : List ℕ) (at : ℕ) → EndsTokens (drop at input) → tokens_from room terms input at
+    ≡ expression_end (room == 255) terms at
 tokens-end room terms input at ends = let e = ends_at (drop at input) ends in tokens_end room terms input at e.0 e.1 e.2 e.3
 
-tokens_stop : (room terms : ℕ) (input : List ℕ) (at : ℕ) (stop : Stop) → Begins (drop at input) → terms_with room terms at (token_at (drop at input)) ≡ Err stop → tokens_from room terms input at ≡ Err stop
+tokens_stop : (room terms : ℕ) (input : List ℕ) (at : ℕ) (stop : Stop) → Begins (drop at input) → terms_with room terms at (token_at (drop at input))
+    ≡ Err stop → tokens_from room terms input at ≡ Err stop
 tokens_stop room terms input at stop begins e = tokens-stop room terms at input begins.0 (at + 1) stop (begins-byte_at input at begins) begins.3 e
 
 -- a token that finds its terms, and room
-pub tokens-next : (room terms : ℕ) (input : List ℕ) (at : ℕ) (token : Token) (text rest : List ℕ) → SpellsToken token text → drop at input ≡ text ++ rest → operands_of token ≤ terms → 0 < room
+pub tokens-next : (room terms : ℕ) (input : List ℕ) (at : ℕ) (token : Token) (text rest : List ℕ) → SpellsToken token text → drop at input ≡ text
+    ++ rest → operands_of token ≤ terms → 0 < room
     → tokens_from room terms input at ≡ tokens_from (room - 1) (terms - operands_of token + 1) input (at + length text)
 tokens-next room terms input at token text rest spells split found some =
     let begins : Begins (drop at input) = subst (λ (l : List ℕ). Begins l) (sym split) (token_first token text rest spells) in
     let got : token_at (drop at input) ≡ taken.Got token (length text) = ap token_at split ∙ token_at-spelling token text rest spells in
     let step : terms_with room terms at (token_at (drop at input)) ≡ Ok (terms - operands_of token + 1, at + length text)
     = ap (λ t. terms_with room terms at t) got ∙ with_room room terms at token (length text) found some in
-    tokens-got room terms at input begins.0 (at + 1) (terms - operands_of token + 1) (at + length text) some (begins-byte_at input at begins) begins.3 step where
-      with_room : (room terms at : ℕ) (token : Token) (used : ℕ) → operands_of token ≤ terms → 0 < room → terms_with room terms at (taken.Got token used) ≡ Ok (terms - operands_of token + 1, at + used)
+    tokens-got room terms at input begins.0 (at + 1) (terms - operands_of token + 1) (at + length text) some (begins-byte_at input at begins) begins.3
+    step where
+      with_room : (room terms at : ℕ) (token : Token) (used : ℕ) → operands_of token ≤ terms → 0 < room
+          → terms_with room terms at (taken.Got token used) ≡ Ok (terms - operands_of token + 1, at + used)
       with_room zero terms at token used found some = absurd (omega (arith, some))
       with_room (suc room) terms at token used found some = rw (le-ltb terms (operands_of token) found, ne_eqb (suc room) 0 (λ e. omega (arith, e))) refl
 
 -- where a token is cut off, more is wanted
-pub tokens-cut : (room terms : ℕ) (input : List ℕ) (at : ℕ) (bytes : List ℕ) → drop at input ≡ bytes → IsCutOffToken bytes → tokens_from room terms input at ≡ Err More
+pub tokens-cut : (room terms : ℕ) (input : List ℕ) (at : ℕ) (bytes : List ℕ) → drop at input ≡ bytes → IsCutOffToken bytes
+    → tokens_from room terms input at ≡ Err More
 tokens-cut room terms input at [] e cut = tokens-none room terms input at e
 tokens-cut room terms input at (b ∷ rest) e cut =
     let more : token_at (drop at input) ≡ taken.More = ap token_at e ∙ cut_off-more (b ∷ rest) cut in
@@ -140,11 +148,13 @@ index_bad : (room terms at tokens : ℕ) → tokens + room ≡ 255 → tokens < 
 index_bad zero terms at tokens count few = absurd (omega (arith, count, few))
 index_bad (suc room) terms at tokens count few = refl
 
-token_under : (room terms at : ℕ) (token : Token) (used : ℕ) → terms < operands_of token → terms_with room terms at (taken.Got token used) ≡ Err (Bad (at + 0) Underflow)
+token_under : (room terms at : ℕ) (token : Token) (used : ℕ) → terms < operands_of token → terms_with room terms at (taken.Got token used)
+    ≡ Err (Bad (at + 0) Underflow)
 token_under zero terms at token used few = let same : at + 0 ≡ at = omega arith in rw (lt-ltb terms (operands_of token) few, same) refl
 token_under (suc room) terms at token used few = let same : at + 0 ≡ at = omega arith in rw (lt-ltb terms (operands_of token) few, same) refl
 
-token_long : (room terms at : ℕ) (token : Token) (used : ℕ) → room ≡ 0 → operands_of token ≤ terms → terms_with room terms at (taken.Got token used) ≡ Err (Bad (at + 0) TooLong)
+token_long : (room terms at : ℕ) (token : Token) (used : ℕ) → room ≡ 0 → operands_of token ≤ terms → terms_with room terms at (taken.Got token used)
+    ≡ Err (Bad (at + 0) TooLong)
 token_long zero terms at token used none found = let same : at + 0 ≡ at = omega arith in rw (le-ltb terms (operands_of token) found, same) refl
 token_long (suc room) terms at token used none found = absurd (omega (arith, none))
 
@@ -162,31 +172,40 @@ pub end_whole : (room at : ℕ) → (room ≡ 255 → ⊥) → expression_end (r
 end_whole room at some = rw (ne_eqb room 255 some) refl
 
 -- each fault of a token is answered at its offset
-pub tokens-fault : (room terms : ℕ) (input : List ℕ) (at tokens offset : ℕ) (reason : Reason) → tokens + room ≡ 255 → (tokens ≡ 0 → terms ≡ 0) → TokenFault tokens terms (drop at input) offset reason
+pub tokens-fault : (room terms : ℕ) (input : List ℕ) (at tokens offset : ℕ) (reason : Reason) → tokens + room ≡ 255 → (tokens ≡ 0 → terms ≡ 0)
+    → TokenFault tokens terms (drop at input) offset reason
     → tokens_from room terms input at ≡ Err (Bad (at + offset) reason)
 tokens-fault room terms input at tokens offset UnsupportedFunction count start (none, begins) =
-    rw none (tokens_stop room terms input at (Bad (at + 0) UnsupportedFunction) (left_out_first (drop at input) begins) (ap (λ t. terms_with room terms at t) (left_out-function (drop at input) begins) ∙ bad_here room terms at UnsupportedFunction))
+    rw none (tokens_stop room terms input at (Bad (at + 0) UnsupportedFunction) (left_out_first (drop at input) begins)
+    (ap (λ t. terms_with room terms at t) (left_out-function (drop at input) begins) ∙ bad_here room terms at UnsupportedFunction))
 tokens-fault room terms input at tokens offset UnsupportedVariable count start (none, begins) =
     let both = letter_first (drop at input) begins in
-    rw none (tokens_stop room terms input at (Bad (at + 0) UnsupportedVariable) both.0 (ap (λ t. terms_with room terms at t) (left_out-letter (drop at input) both.1) ∙ bad_here room terms at UnsupportedVariable)) where
+    rw none (tokens_stop room terms input at (Bad (at + 0) UnsupportedVariable) both.0
+    (ap (λ t. terms_with room terms at t) (left_out-letter (drop at input) both.1) ∙ bad_here room terms at UnsupportedVariable)) where
       letter_first : (bytes : List ℕ) → BeginsWith (λ b. (begins_token b ≡ true) × IsLeftOutLetter b) bytes → Begins bytes × BeginsWith IsLeftOutLetter bytes
       letter_first [] begins = absurd begins
       letter_first (b ∷ bytes) begins = ((b, bytes, refl, begins.0), begins.1)
 tokens-fault room terms input at tokens offset BadNumber count start (one, few, wrong) =
-    rw one (tokens_stop room terms input at (Bad (at + 1) BadNumber) (bad_index_first (drop at input) wrong) (ap (λ t. terms_with room terms at t) (bad_index (drop at input) wrong) ∙ index_bad room terms at tokens count few))
+    rw one (tokens_stop room terms input at (Bad (at + 1) BadNumber) (bad_index_first (drop at input) wrong)
+    (ap (λ t. terms_with room terms at t) (bad_index (drop at input) wrong) ∙ index_bad room terms at tokens count few))
 tokens-fault room terms input at tokens offset Underflow count start (none, (token, text, rest, spells, few, split)) =
     let begins : Begins (drop at input) = subst (λ (l : List ℕ). Begins l) (sym split) (token_first token text rest spells) in
     let got : token_at (drop at input) ≡ taken.Got token (length text) = ap token_at split ∙ token_at-spelling token text rest spells in
-    rw none (tokens_stop room terms input at (Bad (at + 0) Underflow) begins (ap (λ t. terms_with room terms at t) got ∙ token_under room terms at token (length text) few))
+    rw none (tokens_stop room terms input at (Bad (at + 0) Underflow) begins (ap (λ t. terms_with room terms at t) got
+    ∙ token_under room terms at token (length text) few))
 tokens-fault room terms input at tokens offset TooLong count start (none, all, inl (token, text, rest, spells, found, split)) =
     let begins : Begins (drop at input) = subst (λ (l : List ℕ). Begins l) (sym split) (token_first token text rest spells) in
     let got : token_at (drop at input) ≡ taken.Got token (length text) = ap token_at split ∙ token_at-spelling token text rest spells in
-    rw none (tokens_stop room terms input at (Bad (at + 0) TooLong) begins (ap (λ t. terms_with room terms at t) got ∙ token_long room terms at token (length text) (omega (arith, count, all)) found))
+    rw none (tokens_stop room terms input at (Bad (at + 0) TooLong) begins (ap (λ t. terms_with room terms at t) got
+    ∙ token_long room terms at token (length text) (omega (arith, count, all)) found))
 tokens-fault room terms input at tokens offset TooLong count start (none, all, inr wrong) =
-    rw none (tokens_stop room terms input at (Bad (at + 0) TooLong) (bad_index_first (drop at input) wrong) (ap (λ t. terms_with room terms at t) (bad_index (drop at input) wrong) ∙ index_long room terms at (omega (arith, count, all))))
-tokens-fault room terms input at tokens offset Empty count start (none, empty, ends) = rw none (tokens-end room terms input at ends ∙ end_empty room terms at (omega (arith, count, empty)))
+    rw none (tokens_stop room terms input at (Bad (at + 0) TooLong) (bad_index_first (drop at input) wrong)
+    (ap (λ t. terms_with room terms at t) (bad_index (drop at input) wrong) ∙ index_long room terms at (omega (arith, count, all))))
+tokens-fault room terms input at tokens offset Empty count start (none, empty, ends) =
+    rw none (tokens-end room terms input at ends ∙ end_empty room terms at (omega (arith, count, empty)))
 tokens-fault room terms input at tokens offset SurplusTerms count start (none, many, ends) =
-    rw none (tokens-end room terms input at ends ∙ end_surplus room terms at (λ all. omega (arith, many, start (omega (arith, count, all)))) (λ one. omega (arith, many, one)))
+    rw none (tokens-end room terms input at ends ∙ end_surplus room terms at (λ all. omega (arith, many, start (omega (arith, count, all))))
+    (λ one. omega (arith, many, one)))
 tokens-fault room terms input at tokens offset _ count start has = absurd has
 
 -- ---- how many terms stand
@@ -198,21 +217,26 @@ none_is : (a : ℕ) → ◌≡◌ {A = Option ℕ} None (Some a) → ⊥
 none_is a e = cc
 
 -- a token that stands before others found its terms
-pub leaves-enough : (before after : List Token) (token : Token) (m n : ℕ) → leaves before ≡ Some m → leaves (before ++ token ∷ after) ≡ Some n → operands_of token ≤ m
-leaves-enough before after token m n first whole = by_terms (terms_after before []) first (sym (ap (option_map length) (terms_after-append before (token ∷ after) [])) ∙ whole) where
-  by_step : (s : List Tree) (o : Option (List Tree)) → after_token token s ≡ o → length s ≡ m → option_map length (option_and_then (terms_after after) o) ≡ Some n → operands_of token ≤ m
-  by_step s None step count whole = absurd (none_is n whole)
-  by_step s (Some s') step count whole = omega (arith, enough token s s' step, count)
+pub leaves-enough : (before after : List Token) (token : Token) (m n : ℕ) → leaves before ≡ Some m → leaves (before ++ token ∷ after) ≡ Some n
+    → operands_of token ≤ m
+leaves-enough before after token m n first whole = by_terms (terms_after before []) first
+    (sym (ap (option_map length) (terms_after-append before (token ∷ after) [])) ∙ whole) where
+      by_step : (s : List Tree) (o : Option (List Tree)) → after_token token s ≡ o → length s ≡ m
+          → option_map length (option_and_then (terms_after after) o) ≡ Some n → operands_of token ≤ m
+      by_step s None step count whole = absurd (none_is n whole)
+      by_step s (Some s') step count whole = omega (arith, enough token s s' step, count)
 
-  by_terms : (o : Option (List Tree)) → option_map length o ≡ Some m → option_map length (option_and_then (terms_after (token ∷ after)) o) ≡ Some n → operands_of token ≤ m
-  by_terms None first whole = absurd (none_is m first)
-  by_terms (Some s) first whole = by_step s (after_token token s) refl (some_is (length s) m first) whole
+      by_terms : (o : Option (List Tree)) → option_map length o ≡ Some m → option_map length (option_and_then (terms_after (token ∷ after)) o) ≡ Some n
+          → operands_of token ≤ m
+      by_terms None first whole = absurd (none_is m first)
+      by_terms (Some s) first whole = by_step s (after_token token s) refl (some_is (length s) m first) whole
 
 -- ---- a step
 
 pub data Step (room terms : ℕ) (before : List Token) (input : List ℕ) (at : ℕ) : Type 0 where
   cut : IsCutOffToken (drop at input) → tokens_from room terms input at ≡ Err More → Step room terms before input at
-  faulty : (offset : ℕ) (reason : Reason) → TokenFault (length before) terms (drop at input) offset reason → tokens_from room terms input at ≡ Err (Bad (at + offset) reason) → Step room terms before input at
+  faulty : (offset : ℕ) (reason : Reason) → TokenFault (length before) terms (drop at input) offset reason → tokens_from room terms input at
+      ≡ Err (Bad (at + offset) reason) → Step room terms before input at
   ended : EndsTokens (drop at input) → terms ≡ 1 → tokens_from room terms input at ≡ Ok (tt, at) → Step room terms before input at
   goes_on : (token : Token) (text rest : List ℕ) → SpellsToken token text → drop at input ≡ text ++ rest → operands_of token ≤ terms → 0 < room
       → tokens_from room terms input at ≡ tokens_from (room - 1) (terms - operands_of token + 1) input (at + length text) → Step room terms before input at
@@ -231,7 +255,8 @@ module _ (room terms : ℕ) (before : List Token) (input : List ℕ) (at : ℕ) 
   end_step ends = elim (cases_eq (length before) 0) [
     | inl none ↦ as_fault 0 Empty (refl, none, ends)
     | inr some ↦ elim (cases_eq terms 1) [
-      | inl one ↦ ended ends one (tokens-end room terms input at ends ∙ ap (λ (n : ℕ). expression_end (room == 255) n at) one ∙ end_whole room at (λ all. some (omega (arith, count, all))))
+      | inl one ↦ ended ends one (tokens-end room terms input at ends ∙ ap (λ (n : ℕ). expression_end (room == 255) n at) one
+          ∙ end_whole room at (λ all. some (omega (arith, count, all))))
       | inr many ↦ as_fault 0 SurplusTerms (refl, at_least some many, ends)
     ]
   ] where
@@ -250,7 +275,8 @@ module _ (room terms : ℕ) (before : List Token) (input : List ℕ) (at : ℕ) 
         | inl under ↦ as_fault 0 Underflow (refl, (token, text, rest, spells, under, split))
         | inr found ↦ elim (cases_eq room 0) [
           | inl none ↦ as_fault 0 TooLong (refl, omega (arith, count, none), inl (token, text, rest, spells, found, split))
-          | inr some ↦ goes_on token text rest spells split found (omega (arith, some)) (tokens-next room terms input at token text rest spells split found (omega (arith, some)))
+          | inr some ↦ goes_on token text rest spells split found (omega (arith, some))
+              (tokens-next room terms input at token text rest spells split found (omega (arith, some)))
         ]
       ]
 

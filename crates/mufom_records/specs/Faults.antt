@@ -2,7 +2,8 @@
 -- bytes that show it, whatever follows them.
 use Rattle.std.specs.Prelude.{◌≡◌, ◌⊎◌, ℕ, ◌+◌, ◌-◌, ◌<◌, ◌≤◌, true, false, List, [], ◌++◌, length, Some, None}
 use Rattle.mufom_numbers.specs.declared.reason.Reason.{Reason}
-use Rattle.mufom_numbers.specs.declared.reason.Reason.TheVariants.{BadNumber, BadId, UnsupportedFunction, UnsupportedVariable, Underflow, SurplusTerms, Empty, TooLong}
+use Rattle.mufom_numbers.specs.declared.reason.Reason.TheVariants.{BadNumber, BadId, UnsupportedFunction, UnsupportedVariable, Underflow}
+use Rattle.mufom_numbers.specs.declared.reason.Reason.TheVariants.{SurplusTerms, Empty, TooLong}
 use Rattle.mufom_numbers.specs.Spelling.{SpellsNumber, SpellsString, IsCutOff, BeginsIn}
 use Rattle.mufom_expr.specs.declared.token.Token.{Token}
 use Rattle.mufom_expr.specs.Codes.{operands_of}
@@ -10,7 +11,8 @@ use Rattle.mufom_expr.specs.Terms.{leaves}
 use Rattle.mufom_expr.specs.Spelled.{SpellsToken, SpellsTokens, BeginsWith, IsLeftOutFunction, IsLeftOutLetter, HasBadIndex, IsCutOffToken}
 use Rattle.mufom_expr.specs.TokenAt.{begins_token}
 use Rattle.mufom_records.specs.declared.record.Mode.{Mode}
-use Rattle.mufom_records.specs.Fields.{Field, ValueOf, byte, number, string, run, letter, optional_number, numbers, expression, optional_expression, SpellsField, SpellsNumbers, first_of}
+use Rattle.mufom_records.specs.Fields.{Field, ValueOf, byte, number, string, run, letter, optional_number, numbers, expression, optional_expression}
+use Rattle.mufom_records.specs.Fields.{SpellsField, SpellsNumbers, first_of}
 use Rattle.mufom_records.specs.Layouts.{Layout, whole, refused, field, layout_of}
 
 -- ---- expressions
@@ -42,7 +44,8 @@ AfterTokens bytes Is = (tokens : List Token) × (terms : ℕ) × (prefix : List 
 
 -- tokens stand first, and then this fault of one, or of their end
 abbrev pub ExpressionFault : ℕ → List ℕ → ℕ → Reason → Type 0
-ExpressionFault at bytes fault_offset reason = (offset : ℕ) × AfterTokens bytes (λ tokens terms prefix rest. TokenFault tokens terms rest offset reason × (fault_offset ≡ at + length prefix + offset))
+ExpressionFault at bytes fault_offset reason = (offset : ℕ) × AfterTokens bytes
+    (λ tokens terms prefix rest. TokenFault tokens terms rest offset reason × (fault_offset ≡ at + length prefix + offset))
 
 -- tokens stand first, and then the bytes end before another one or inside it
 abbrev pub IsCutOffExpression : List ℕ → Type 0
@@ -79,7 +82,8 @@ IsCutOffField string bytes = (text : List ℕ) × IsCutOff (SpellsString text) b
 IsCutOffField (run n) bytes = length bytes < n
 IsCutOffField (letter known) bytes = bytes ≡ []
 IsCutOffField optional_number bytes = IsCutOffNumber bytes
-IsCutOffField (numbers most) bytes = (ns : List ℕ) × (prefix : List ℕ) × (rest : List ℕ) × SpellsNumbers ns prefix × (length ns < most) × IsCutOffNumber rest × (bytes ≡ prefix ++ rest)
+IsCutOffField (numbers most) bytes = (ns : List ℕ) × (prefix : List ℕ) × (rest : List ℕ) × SpellsNumbers ns prefix × (length ns < most)
+    × IsCutOffNumber rest × (bytes ≡ prefix ++ rest)
 IsCutOffField expression bytes = IsCutOffExpression bytes
 IsCutOffField optional_expression bytes = IsCutOffExpression bytes
 
@@ -90,14 +94,16 @@ abbrev pub HasFault : Layout → ℕ → List ℕ → ℕ → Reason → Type 0
 HasFault (whole row) at bytes fault_offset reason = ⊥
 HasFault (refused back why) at bytes fault_offset reason = (fault_offset ≡ at - back) × (reason ≡ why)
 HasFault (field f rest) at bytes fault_offset reason = FieldFault f at bytes fault_offset reason
-    ⊎ ((x : ValueOf f) × (prefix : List ℕ) × (back : List ℕ) × SpellsField f x at prefix (first_of back None) × HasFault (rest x) (at + length prefix) back fault_offset reason × (bytes ≡ prefix ++ back))
+    ⊎ ((x : ValueOf f) × (prefix : List ℕ) × (back : List ℕ) × SpellsField f x at prefix (first_of back None)
+    × HasFault (rest x) (at + length prefix) back fault_offset reason × (bytes ≡ prefix ++ back))
 
 -- Fields of the layout stand first, and then the bytes end too early.
 abbrev pub IsCutOffLayout : Layout → ℕ → List ℕ → Type 0
 IsCutOffLayout (whole row) at bytes = ⊥
 IsCutOffLayout (refused back why) at bytes = ⊥
 IsCutOffLayout (field f rest) at bytes = IsCutOffField f bytes
-    ⊎ ((x : ValueOf f) × (prefix : List ℕ) × (back : List ℕ) × SpellsField f x at prefix (first_of back None) × IsCutOffLayout (rest x) (at + length prefix) back × (bytes ≡ prefix ++ back))
+    ⊎ ((x : ValueOf f) × (prefix : List ℕ) × (back : List ℕ) × SpellsField f x at prefix (first_of back None)
+    × IsCutOffLayout (rest x) (at + length prefix) back × (bytes ≡ prefix ++ back))
 
 -- The input shows this fault of a record that would stand at its start, named at that offset.
 abbrev pub IsFaulty : Mode → List ℕ → ℕ → Reason → Type 0

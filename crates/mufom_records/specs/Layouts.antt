@@ -1,10 +1,15 @@
 -- The table of records: which fields a record has after its code, in order (IEEE Std 695, MUFOM commands; the codes are
 -- those of the public `ieee.h`, what follows them is this project's profile).
 use Rattle.std.specs.Prelude.{◌≡◌, ℕ, ◌+◌, ◌^◌, Bool, true, false, List, [], ◌∷◌, ◌++◌, length, Option, Some, None, ◌==◌, nat_lt, nat_le, ◌&&◌, if◌then◌else◌}
-use Rattle.mufom_numbers.specs.declared.codes.TheConstants.{ASSIGNMENT, BLOCK_BEGIN, BLOCK_END, COMMA, CONSTANT, DEBUG_NAME, DESCRIPTOR, LETTER_A, LETTER_B, LETTER_C, LETTER_D, LETTER_F, LETTER_G, LETTER_I, LETTER_L, LETTER_M, LETTER_N, LETTER_P, LETTER_R, LETTER_S, LETTER_W, LETTER_X, MODULE_BEGIN, MODULE_END, NOTE, OPEN_EITHER, OPEN_SIGNED, OPEN_UNSIGNED, PUBLIC_NAME, REFERENCE_NAME, RELOCATE, REPEAT, SECTION_ALIGNMENT, SECTION_TYPE, SET_SECTION, TYPE, WEAK_REFERENCE}
+use Rattle.mufom_numbers.specs.declared.codes.TheConstants.{ASSIGNMENT, BLOCK_BEGIN, BLOCK_END, COMMA, CONSTANT, DEBUG_NAME, DESCRIPTOR, LETTER_A}
+use Rattle.mufom_numbers.specs.declared.codes.TheConstants.{LETTER_B, LETTER_C, LETTER_D, LETTER_F, LETTER_G, LETTER_I, LETTER_L, LETTER_M, LETTER_N}
+use Rattle.mufom_numbers.specs.declared.codes.TheConstants.{LETTER_P, LETTER_R, LETTER_S, LETTER_W, LETTER_X, MODULE_BEGIN, MODULE_END, NOTE}
+use Rattle.mufom_numbers.specs.declared.codes.TheConstants.{OPEN_EITHER, OPEN_SIGNED, OPEN_UNSIGNED, PUBLIC_NAME, REFERENCE_NAME, RELOCATE, REPEAT}
+use Rattle.mufom_numbers.specs.declared.codes.TheConstants.{SECTION_ALIGNMENT, SECTION_TYPE, SET_SECTION, TYPE, WEAK_REFERENCE}
 use Rattle.arrayvec.specs.ArrayVec.{ArrayVec}
 use Rattle.mufom_numbers.specs.declared.reason.Reason.{Reason}
-use Rattle.mufom_numbers.specs.declared.reason.Reason.TheVariants.{BadNumber, BadRecord, UnsupportedRecord, LongRun, BadFieldSize, BracketMismatch, BadSectionType, UnsupportedBlock, UnsupportedAttribute, BadHeader}
+use Rattle.mufom_numbers.specs.declared.reason.Reason.TheVariants.{BadNumber, BadRecord, UnsupportedRecord, LongRun, BadFieldSize, BracketMismatch}
+use Rattle.mufom_numbers.specs.declared.reason.Reason.TheVariants.{BadSectionType, UnsupportedBlock, UnsupportedAttribute, BadHeader}
 use Rattle.mufom_numbers.specs.declared.taken.Span.{Span}
 use Rattle.mufom_expr.specs.declared.token.FieldKind.{FieldKind}
 use Rattle.mufom_expr.specs.declared.token.FieldKind.TheVariants.{Signed, Unsigned, Either}
@@ -13,7 +18,8 @@ use Rattle.mufom_records.specs.declared.record.Mode.TheVariants as mode
 use Rattle.mufom_records.specs.declared.record.BlockTail.TheVariants as tail
 use Rattle.mufom_records.specs.declared.record.Record.{Record}
 use Rattle.mufom_records.specs.declared.record.Record.TheVariants as r
-use Rattle.mufom_records.specs.Fields.{Field, ValueOf, byte, number, string, run, letter, optional_number, numbers, expression, optional_expression, is_one_of, SpellsField, first_of}
+use Rattle.mufom_records.specs.Fields.{Field, ValueOf, byte, number, string, run, letter, optional_number, numbers, expression, optional_expression}
+use Rattle.mufom_records.specs.Fields.{is_one_of, SpellsField, first_of}
 
 -- a field and what may follow each value of it; no further field, and the record; or that the last `back` bytes may not
 -- stand there
@@ -182,7 +188,8 @@ weak_reference = index ▹ λ i. any_number ▹ λ n. optional_number ▹ λ def
 
 -- BB 4 and 6: the size of the stack, the type, and the offset
 abbrev pub scope_begin : ℕ → ℕ → Span → Layout
-scope_begin kind n name = any_number ▹ λ stack. any_number ▹ λ type_index. expression ▹ λ value. whole (r.BlockBegin kind n name (tail.Scope stack type_index value))
+scope_begin kind n name = any_number ▹ λ stack. any_number ▹ λ type_index. expression ▹ λ value. whole
+    (r.BlockBegin kind n name (tail.Scope stack type_index value))
 
 -- BB 5: at most six numbers
 abbrev pub source_begin : ℕ → ℕ → Span → Layout

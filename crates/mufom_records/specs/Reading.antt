@@ -14,7 +14,8 @@ use Rattle.mufom_records.specs.declared.record.Mode.{Mode}
 use Rattle.mufom_records.specs.declared.record.Record.{Record}
 use Rattle.mufom_records.specs.declared.stop.Stop.{Stop}
 use Rattle.mufom_records.specs.declared.stop.Stop.TheVariants.{More, Bad}
-use Rattle.mufom_records.specs.Fields.{Field, ValueOf, byte, number, string, run, letter, optional_number, numbers, expression, optional_expression, span_at, is_one_of, items_of}
+use Rattle.mufom_records.specs.Fields.{Field, ValueOf, byte, number, string, run, letter, optional_number, numbers, expression, optional_expression}
+use Rattle.mufom_records.specs.Fields.{span_at, is_one_of, items_of}
 use Rattle.mufom_records.specs.Layouts.{Layout, whole, refused, field, layout_of}
 
 -- a value and the offset after it, or why there is none

@@ -1,8 +1,10 @@
 //! The fields of records, each read at an offset of the input: its value and the offset after it.
 
 ghost use Rattle.std.specs.Prelude.{◌≡◌, ◌<◌, ◌≤◌, length, IfOk};
-ghost use Rattle.mufom_records.specs.Fields.{is_one_of, letter as letters, optional_number as an_optional_number, numbers as some_numbers, string as a_string, run as a_run, byte as a_byte};
-ghost use Rattle.mufom_records.specs.Layouts.{any_number, index as an_index, count as a_count, block_kind as a_block_kind, debug_attribute as a_debug_attribute, field_size as a_field_size, offset_number as an_offset_number};
+ghost use Rattle.mufom_records.specs.Fields.{is_one_of, letter as letters, optional_number as an_optional_number, numbers as some_numbers};
+ghost use Rattle.mufom_records.specs.Fields.{string as a_string, run as a_run, byte as a_byte};
+ghost use Rattle.mufom_records.specs.Layouts.{any_number, index as an_index, count as a_count, block_kind as a_block_kind};
+ghost use Rattle.mufom_records.specs.Layouts.{debug_attribute as a_debug_attribute, field_size as a_field_size, offset_number as an_offset_number};
 ghost use Rattle.mufom_records.specs.Parts.{LiesIn};
 ghost use Rattle.mufom_records.specs.Reading.{field_at, plain_number_at};
 

@@ -1,5 +1,6 @@
 -- The place of a number in a list of numbers.
-use Rattle.std.proofs.Common.{◌≡◌, ◌+◌, ◌<◌, ℕ, List, [], ◌∷◌, ◌++◌, length, Bool, true, false, not, cond, ◌||◌, nat_eq, slice_get, position, Some, None, is_some, Contains, refl, sym, ap, ◌∙◌, get_or, true≢false, arith}
+use Rattle.std.proofs.Common.{◌≡◌, ◌+◌, ◌<◌, ℕ, List, [], ◌∷◌, ◌++◌, length, Bool, true, false, not, cond, ◌||◌, nat_eq, slice_get, position, Some}
+use Rattle.std.proofs.Common.{None, is_some, Contains, refl, sym, ap, ◌∙◌, get_or, true≢false, arith}
 use Rattle.std.specs.List.{list_any, position_or_len}
 use Rattle.std.proofs.lemmas.Bool.{lt-ltb, le-ltb}
 use Rattle.std.proofs.lemmas.List.Folds.{list_any-append}

@@ -1,5 +1,7 @@
 -- Members that are chosen one after another: what stays, and that nothing is chosen without need.
-use Rattle.std.proofs.Common.{◌≡◌, ℕ, zero, suc, ◌+◌, ◌<◌, ◌≤◌, List, [], ◌∷◌, ◌++◌, length, get_or, set, take, flat_map, if◌then◌else◌, slice_get, Option, Some, None, Bool, true, false, cond, nat_eq, eq-eqb, eqb-true, refl, sym, ap, subst, ◌∙◌, true≢false, append-nil, arith}
+use Rattle.std.proofs.Common.{◌≡◌, ℕ, zero, suc, ◌+◌, ◌<◌, ◌≤◌, List, [], ◌∷◌, ◌++◌, length, get_or, set, take, flat_map, if◌then◌else◌, slice_get}
+use Rattle.std.proofs.Common.{Option, Some, None, Bool, true, false, cond, nat_eq, eq-eqb, eqb-true, refl, sym, ap, subst, ◌∙◌, true≢false}
+use Rattle.std.proofs.Common.{append-nil, arith}
 use Rattle.std.specs.List.{AllByRecursion}
 use Rattle.std.proofs.lemmas.List.{get_or-set_other, length-set, take_more}
 use Rattle.std.proofs.lemmas.Grind.{common_steps, get_or-set_at, flat_map-append}
@@ -172,7 +174,8 @@ all_more f c xs i d inside =
     ∙ ap (λ its. with_members c (flat_map f (take i xs) ++ its)) (append-nil (f (get_or xs i d)))
     ∙ with_members-append c (flat_map f (take i xs)) (f (get_or xs i d))
 
-pub positions_from-push : (n : ℕ) (marks : List Bool) (b : Bool) → positions_from n (marks ++ b ∷ []) ≡ (if b then positions_from n marks ++ (n + length marks) ∷ [] else positions_from n marks)
+pub positions_from-push : (n : ℕ) (marks : List Bool) (b : Bool) → positions_from n (marks ++ b ∷ [])
+    ≡ (if b then positions_from n marks ++ (n + length marks) ∷ [] else positions_from n marks)
 positions_from-push n [] true = let e : n ≡ n + 0 = omega arith in ap (λ k. k ∷ []) e
 positions_from-push n [] false = refl
 positions_from-push n (true ∷ marks) true = let e : suc n + length marks ≡ n + length (true ∷ marks) = omega arith in

@@ -1,5 +1,7 @@
 -- The marked members are the selected ones.
-use Rattle.std.proofs.Common.{◌≡◌, ℕ, zero, suc, ◌+◌, ◌<◌, List, [], ◌∷◌, ◌++◌, length, map, filter, get_or, slice_get, Option, Some, None, option_to_list, Bool, true, false, cond, ◌&&◌, ◌||◌, if◌then◌else◌, nat_eq, eq-eqb, eqb-true, refl, sym, ap, subst, ◌∙◌, true≢false, zero-add, arith}
+use Rattle.std.proofs.Common.{◌≡◌, ℕ, zero, suc, ◌+◌, ◌<◌, List, [], ◌∷◌, ◌++◌, length, map, filter, get_or, slice_get, Option, Some, None}
+use Rattle.std.proofs.Common.{option_to_list, Bool, true, false, cond, ◌&&◌, ◌||◌, if◌then◌else◌, nat_eq, eq-eqb, eqb-true, refl, sym, ap, subst, ◌∙◌}
+use Rattle.std.proofs.Common.{true≢false, zero-add, arith}
 use Rattle.std.specs.Prelude.{Contains}
 use Rattle.std.specs.List.{AllByRecursion, list_all, slice_index_or}
 use Rattle.std.specs.List.Sorted.{IsStrictlyIncreasing}
@@ -162,7 +164,8 @@ module _ (ms members : List Parts) (chosen : List ℕ) where
   pub provided-needed : (rs : List Reference) → provided rs ≡ true → AllByRecursion Has (needed_by ms members rs)
   provided-needed [] h = tt
   provided-needed (r ∷ rs) h = by_case (is_strong r) h (λ used. provided-needed rs used) where
-    by_case : (b : Bool) → list_all (is_provided ms members chosen) (map (λ (q : Reference). q.name) (cond b (r ∷ filter is_strong rs) (filter is_strong rs))) ≡ true
+    by_case : (b : Bool) → list_all (is_provided ms members chosen)
+        (map (λ (q : Reference). q.name) (cond b (r ∷ filter is_strong rs) (filter is_strong rs))) ≡ true
         → (provided rs ≡ true → AllByRecursion Has (needed_by ms members rs))
         → AllByRecursion Has (option_to_list (if b then needed ms members r.name else None) ++ needed_by ms members rs)
     by_case true h rest =
@@ -177,7 +180,8 @@ module _ (ms members : List Parts) (chosen : List ℕ) where
   member-provided [] n m among its all = absurd (true≢false (sym among))
   member-provided (x ∷ xs) n m among its all =
       by_case (nat_eq x n) refl among (λ used. member-provided xs n m used its (later (slice_get members x) all)) where
-        later : (o : Option Parts) → provided (flat_references (member_at o ++ members_at members xs)) ≡ true → provided (flat_references (members_at members xs)) ≡ true
+        later : (o : Option Parts) → provided (flat_references (member_at o ++ members_at members xs)) ≡ true
+            → provided (flat_references (members_at members xs)) ≡ true
         later None h = h
         later (Some q) h =
             let more = flat_references (members_at members xs) in
@@ -191,7 +195,8 @@ module _ (ms members : List Parts) (chosen : List ℕ) where
             subst (λ (p : Parts). provided p.names.references ≡ true) same
             (and-left (provided q.names.references) (provided more) (sym (provided-append q.names.references more) ∙ h))
 
-        by_case : (b : Bool) → nat_eq x n ≡ b → (b || has_number xs n) ≡ true → (has_number xs n ≡ true → provided m.names.references ≡ true) → provided m.names.references ≡ true
+        by_case : (b : Bool) → nat_eq x n ≡ b → (b || has_number xs n) ≡ true → (has_number xs n ≡ true → provided m.names.references ≡ true)
+            → provided m.names.references ≡ true
         by_case true t h rest = first (slice_get members x) (ap (slice_get members) (eqb-true x n t) ∙ its) all
         by_case false t h rest = rest h
 
@@ -232,7 +237,8 @@ module _ (ms members : List Parts) (c : Choice) (u : IsUnderway ms members (leng
       let rooted = All-more (Marked c) (λ n. has_number chosen n ≡ true) from-mark (needed_by ms members (flat_references ms)) u.rooted in
       let theirs = flat_references (members_at members chosen) in
       let more = All-more (Marked c) (λ n. has_number chosen n ≡ true) from-mark (needed_by ms members theirs) (all-needs chosen marked) in
-      and-both (list_all (is_provided ms members chosen) (strong_names ms)) (list_all (is_provided ms members chosen) (strong_names (members_at members chosen)))
+      and-both (list_all (is_provided ms members chosen) (strong_names ms))
+      (list_all (is_provided ms members chosen) (strong_names (members_at members chosen)))
       (needed-provided ms members chosen (flat_references ms) rooted)
       (needed-provided ms members chosen theirs more)
 
@@ -262,7 +268,8 @@ module _ (ms members : List Parts) (c : Choice) (u : IsUnderway ms members (leng
 
 provided-alone : (ms : List Parts) (names : List (List ℕ)) → list_all (is_provided ms [] []) names ≡ true
 provided-alone ms [] = refl
-provided-alone ms (name ∷ names) = and-both (is_provided ms [] [] name) (list_all (is_provided ms [] []) names) (or-right (has_name (public_names ms) name) true refl) (provided-alone ms names)
+provided-alone ms (name ∷ names) = and-both (is_provided ms [] [] name) (list_all (is_provided ms [] []) names)
+    (or-right (has_name (public_names ms) name) true refl) (provided-alone ms names)
 
 -- where there is no member none is selected
 pub none-selected : (ms members : List Parts) (ns : List ℕ) → length members ≡ 0 → ns ≡ [] → IsSelected ms members ns

@@ -1,5 +1,6 @@
 -- What the indexes of names find: what the list defines, and the first member that defines a name.
-use Rattle.std.proofs.Common.{◌≡◌, ℕ, suc, ◌+◌, ◌<◌, List, [], ◌∷◌, ◌++◌, length, map, take, get_or, Option, Some, None, is_some, IfSome, Bool, true, false, if◌then◌else◌, refl, sym, ap, subst, ◌∙◌, append-nil, arith}
+use Rattle.std.proofs.Common.{◌≡◌, ℕ, suc, ◌+◌, ◌<◌, List, [], ◌∷◌, ◌++◌, length, map, take, get_or, Option, Some, None, is_some, IfSome, Bool, true}
+use Rattle.std.proofs.Common.{false, if◌then◌else◌, refl, sym, ap, subst, ◌∙◌, append-nil, arith}
 use Rattle.std.specs.Str.{bytes_eq}
 use Rattle.std.proofs.lemmas.List.{take_more}
 use Rattle.std.proofs.lemmas.Grind.{common_steps}
@@ -50,7 +51,8 @@ is_some-given true p = refl
 is_some-given false p = refl
 
 -- the index of the roots finds what they define
-pub finds_defined : (roots : Parts) (name : List ℕ) → is_some (position_of (with_publics [] 0 roots.names.publics) name) ≡ has_name (public_names (roots ∷ [])) name
+pub finds_defined : (roots : Parts) (name : List ℕ) → is_some (position_of (with_publics [] 0 roots.names.publics) name)
+    ≡ has_name (public_names (roots ∷ [])) name
 finds_defined roots name =
     let its = names roots.names.publics in
     ap is_some (position_of-publics [] 0 roots.names.publics name)
@@ -59,7 +61,8 @@ finds_defined roots name =
 
 -- ---- one entry more
 
-pub with_publics-push : (es : List Entry) (p : ℕ) (publics : List Public) (public : Public) → with_publics es p (publics ++ public ∷ []) ≡ with_entry (with_publics es p publics) public.name p
+pub with_publics-push : (es : List Entry) (p : ℕ) (publics : List Public) (public : Public) → with_publics es p (publics ++ public ∷ [])
+    ≡ with_entry (with_publics es p publics) public.name p
 with_publics-push es p [] public = refl
 with_publics-push es p (q ∷ publics) public = with_publics-push (with_entry es q.name p) p publics public
 

@@ -1,5 +1,7 @@
 -- The choice that ends is the least one that is closed.
-use Rattle.std.proofs.Common.{◌≡◌, ℕ, zero, suc, append-nil, ◌+◌, ◌<◌, ◌≤◌, List, [], ◌∷◌, ◌++◌, length, flat_map, get_or, slice_get, Option, Some, None, option_to_list, IfSome, Bool, true, false, if◌then◌else◌, is_some, refl, sym, ap, subst, ◌∙◌, true≢false, arith, nat_lt}
+use Rattle.std.proofs.Common.{◌≡◌, ℕ, zero, suc, append-nil, ◌+◌, ◌<◌, ◌≤◌, List, [], ◌∷◌, ◌++◌, length, flat_map, get_or, slice_get, Option, Some}
+use Rattle.std.proofs.Common.{None, option_to_list, IfSome, Bool, true, false, if◌then◌else◌, is_some, refl, sym, ap, subst, ◌∙◌, true≢false, arith}
+use Rattle.std.proofs.Common.{nat_lt}
 use Rattle.std.proofs.lemmas.Bool.Decides.{nat_tests}
 use Rattle.std.specs.List.{AllByRecursion}
 use Rattle.mufom_names.specs.declared.name.Reference.{Reference}
@@ -27,7 +29,8 @@ all-needed roots members [] = refl
 all-needed roots members (r ∷ references) = λ i. option_to_list (needed_in-needed roots members r i) ++ all-needed roots members references i
 
 -- One member of the order is looked at: what it needs is marked after the others.
-pub looked : (roots members : List Parts) (place n : ℕ) (m : Parts) (c : Choice) → IsUnderway roots members place c → slice_get c.order place ≡ Some n → place < length c.order
+pub looked : (roots members : List Parts) (place n : ℕ) (m : Parts) (c : Choice) → IsUnderway roots members place c → slice_get c.order place ≡ Some n
+    → place < length c.order
     → slice_get members n ≡ Some m → AllByRecursion (λ k. k < length members) (needed_by roots members m.names.references)
     → IsUnderway roots members (place + 1) (with_members c (needed_by roots members m.names.references))
 looked roots members place n m c u at within its inside =
@@ -60,29 +63,33 @@ looked roots members place n m c u at within its inside =
     done j k q before here that =
         let old = grown.prefix j k (omega (arith, before, within)) here in
         by_case (nat_lt j place) refl old where
-          by_case : (b : Bool) → nat_lt j place ≡ b → slice_get c.order j ≡ Some k → AllByRecursion (Marked (with_members c ns')) (needed_by roots members q.names.references)
-          by_case true lt old = All-more (Marked c) (Marked (with_members c ns')) grown.kept (needed_by roots members q.names.references) (u.done j k q (grind (arith, nat_tests, lt)) old that)
+          by_case : (b : Bool) → nat_lt j place ≡ b → slice_get c.order j ≡ Some k
+              → AllByRecursion (Marked (with_members c ns')) (needed_by roots members q.names.references)
+          by_case true lt old = All-more (Marked c) (Marked (with_members c ns')) grown.kept (needed_by roots members q.names.references)
+              (u.done j k q (grind (arith, nat_tests, lt)) old that)
           by_case false ge old =
               let last : j ≡ place = grind (arith, nat_tests, ge, before) in
               let same : Some k ≡ Some n = sym old ∙ ap (slice_get c.order) last ∙ at in
               let its-own : k ≡ n = cc in
               let member : Some q ≡ Some m = sym that ∙ ap (slice_get members) its-own ∙ its in
               let one : q ≡ m = cc in
-              subst (λ (p : Parts). AllByRecursion (Marked (with_members c ns')) (needed_by roots members p.names.references)) (sym one) (all (λ k. true)).chosen
+              subst (λ (p : Parts). AllByRecursion (Marked (with_members c ns')) (needed_by roots members p.names.references)) (sym one)
+              (all (λ k. true)).chosen
 
 -- what is needed is a member of the list
 pub needed-within : (roots members : List Parts) (references : List Reference) → AllByRecursion (λ k. k < length members) (needed_by roots members references)
 needed-within roots members [] = tt
-needed-within roots members (r ∷ references) = before (needed_for roots members r) (bound (is_strong r) (has_name (public_names roots) r.name)) (needed-within roots members references) where
-  before : (o : Option ℕ) → IfSome o (λ k. k < length members) → AllByRecursion (λ k. k < length members) (needed_by roots members references)
-      → AllByRecursion (λ k. k < length members) (option_to_list o ++ needed_by roots members references)
-  before None h rest = rest
-  before (Some k) h rest = (h, rest)
+needed-within roots members (r ∷ references) = before (needed_for roots members r) (bound (is_strong r) (has_name (public_names roots) r.name))
+    (needed-within roots members references) where
+      before : (o : Option ℕ) → IfSome o (λ k. k < length members) → AllByRecursion (λ k. k < length members) (needed_by roots members references)
+          → AllByRecursion (λ k. k < length members) (option_to_list o ++ needed_by roots members references)
+      before None h rest = rest
+      before (Some k) h rest = (h, rest)
 
-  bound : (b c : Bool) → IfSome (if b then (if c then None else provider members r.name) else None) (λ k. k < length members)
-  bound true true = tt
-  bound true false = provider-within members r.name
-  bound false c = tt
+      bound : (b c : Bool) → IfSome (if b then (if c then None else provider members r.name) else None) (λ k. k < length members)
+      bound true true = tt
+      bound true false = provider-within members r.name
+      bound false c = tt
 
 none-marked : (marks : List Bool) (n : ℕ) → count marks ≡ 0 → get_or marks n false ≡ true → ⊥
 none-marked [] n e h = true≢false (sym h)
@@ -106,7 +113,8 @@ begun roots members c s = record {
   one = (all (λ k. true) (anything ns)).one;
   rooted = subst (AllByRecursion (Marked (with_members c ns))) same (all (λ k. true) (anything ns)).chosen;
   done = λ j n m before. absurd (omega (arith, before));
-  least = λ test passes. (all test (subst (AllByRecursion (λ k. test k ≡ true)) (sym same) passes.first)).grows.least (subst (AllByRecursion (λ k. test k ≡ true)) (sym s.empty) tt);
+  least = λ test passes. (all test (subst (AllByRecursion (λ k. test k ≡ true)) (sym same) passes.first)).grows.least
+      (subst (AllByRecursion (λ k. test k ≡ true)) (sym s.empty) tt);
 }
   where
     ns : List ℕ
@@ -123,7 +131,8 @@ begun roots members c s = record {
     all test t = steps (length members) test c ns (start-one (length members) c s) (needed-within (roots ∷ []) members roots.names.references) t
 
 -- Where the number of those looked at is no less than that of the order, all of it was looked at.
-pub all-done : (roots members : List Parts) (place : ℕ) (c : Choice) → IsUnderway roots members place c → length c.order ≤ place → IsUnderway roots members (length c.order) c
+pub all-done : (roots members : List Parts) (place : ℕ) (c : Choice) → IsUnderway roots members place c → length c.order ≤ place
+    → IsUnderway roots members (length c.order) c
 all-done roots members place c u past = record {
   one = u.one;
   rooted = u.rooted;

@@ -1,5 +1,6 @@
 -- Members that are chosen one after another: by marks, and in the order of the choice.
-use Rattle.std.specs.Prelude.{ℕ, suc, ◌<◌, List, [], ◌∷◌, ◌++◌, flat_map, get_or, set, Option, None, is_some, IfSome, option_to_list, Bool, true, false, if◌then◌else◌}
+use Rattle.std.specs.Prelude.{ℕ, suc, ◌<◌, List, [], ◌∷◌, ◌++◌, flat_map, get_or, set, Option, None, is_some, IfSome, option_to_list, Bool, true}
+use Rattle.std.specs.Prelude.{false, if◌then◌else◌}
 use Rattle.mufom_names.specs.declared.name.Public.{Public}
 use Rattle.mufom_names.specs.declared.name.Reference.{Reference}
 use Rattle.mufom_names.specs.Index.{Entry, position_of, with_entry}

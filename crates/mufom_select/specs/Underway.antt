@@ -30,13 +30,15 @@ references_of m = m.names.references
 -- a test that passes what the roots need, and what each member needs that it passes
 pub record Passes (roots members : List Parts) (test : ℕ → Bool) : Type 0 where
   pub first : AllByRecursion (λ n. test n ≡ true) (needed_by roots members (flat_map references_of roots))
-  pub more : (n : ℕ) (m : Parts) → test n ≡ true → slice_get members n ≡ Some m → AllByRecursion (λ k. test k ≡ true) (needed_by roots members m.names.references)
+  pub more : (n : ℕ) (m : Parts) → test n ≡ true → slice_get members n ≡ Some m
+      → AllByRecursion (λ k. test k ≡ true) (needed_by roots members m.names.references)
 
 -- What the loop keeps once what the first members of the order need is marked; turns is their number.
 pub record IsUnderway (roots members : List Parts) (turns : ℕ) (c : Choice) : Type 0 where
   pub one : AreOne (length members) c
   pub rooted : AllByRecursion (Marked c) (needed_by roots members (flat_map references_of roots))
-  pub done : (j n : ℕ) (m : Parts) → j < turns → slice_get c.order j ≡ Some n → slice_get members n ≡ Some m → AllByRecursion (Marked c) (needed_by roots members m.names.references)
+  pub done : (j n : ℕ) (m : Parts) → j < turns → slice_get c.order j ≡ Some n → slice_get members n ≡ Some m
+      → AllByRecursion (Marked c) (needed_by roots members m.names.references)
   pub least : (test : ℕ → Bool) → Passes roots members test → AllByRecursion (λ n. test n ≡ true) c.order
 
 -- no member is marked, and there is a mark for each

@@ -1,6 +1,7 @@
 ghost use Rattle.std.specs.Prelude.{◌≡◌, ◌<◌, ◌^◌, [], ◌∷◌, length, option_to_list, IfSome, IfOk, OnOk};
 ghost use Rattle.mufom_meaning.specs.Selection.{IsSelected};
-ghost use Rattle.mufom_select.specs.Choice.{needed_in, all_needed_in, choice, with_member, with_members, positions_from, with_publics, with_providers, IsWithin};
+ghost use Rattle.mufom_select.specs.Choice.{needed_in, all_needed_in, choice, with_member, with_members, positions_from, with_publics};
+ghost use Rattle.mufom_select.specs.Choice.{with_providers, IsWithin};
 ghost use Rattle.mufom_select.specs.Underway.{IsStart, IsUnderway};
 
 use crate::providers::{defined, providers};

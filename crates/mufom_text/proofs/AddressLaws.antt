@@ -32,7 +32,8 @@ number-by_tokens (two f a b) = applied (tokens_of a ++ tokens_of b) (function_of
 -- ---- addresses
 
 pub addresses-Block : (names : List (List ℕ)) (b : Block-F DebugItem (Unit {0})) → addresses_of_item names (block_case b)
-    ≡ address_in (begin_of (kind_number b.head) b.name) (offset_of b.head) ++ (addresses_of names b.items ++ address_in (end_of (kind_number b.head) b.name) b.end)
+    ≡ address_in (begin_of (kind_number b.head) b.name) (offset_of b.head)
+    ++ (addresses_of names b.items ++ address_in (end_of (kind_number b.head) b.name) b.end)
 addresses-Block names b = search (rules, the_lemmas)
 
 pub addresses-more : (names : List (List ℕ)) (items : List DebugItem) (i : ℕ) (x : DebugItem) → i < length items → x ≡ get_or items i x

@@ -31,11 +31,13 @@ pub record Printed (a c : Meaning) (f h : Faults) (text : List ℕ) (r : Result 
   pub grows : Grows a.out c.out r text
   pub cause : HasCause f.writes h.writes r
 
-pub all_printed : (a b c : Meaning) (f g h : Faults) (held holds keeps text : List ℕ) (had so_far has : Bool) (r : Result (Unit {0}) Failed) → held ≡ [] → had ≡ false
+pub all_printed : (a b c : Meaning) (f g h : Faults) (held holds keeps text : List ℕ) (had so_far has : Bool) (r : Result (Unit {0}) Failed) → held
+    ≡ [] → had ≡ false
     → Puts a b f g held holds had so_far text → Puts b c g h holds keeps so_far has [] → is_err r ≡ has → (has ≡ false → keeps ≡ []) → Printed a c f h text r
 all_printed a b c f g h held holds keeps text had so_far has r nothing fine p q answer empty =
     let both = Puts-joins a b c f g h held holds keeps text [] had so_far has p q in
     let added : Adds a c f h [] keeps false has text =
     subst (λ (l : List ℕ). Adds a c f h [] keeps false has l) (append-nil text)
-    (subst (λ (l : List ℕ). Adds a c f h l keeps false has (text ++ [])) nothing (subst (λ (x : Bool). Adds a c f h held keeps x has (text ++ [])) fine both.added)) in
+    (subst (λ (l : List ℕ). Adds a c f h l keeps false has (text ++ [])) nothing
+    (subst (λ (x : Bool). Adds a c f h held keeps x has (text ++ [])) fine both.added)) in
     record { grows = grown a c f h keeps text has r answer empty added; cause = caused a c f h keeps text has r answer both.later added }

@@ -72,18 +72,23 @@ module _ (m : Parts) (plan : Plan) (r : LocatedParts) (valid : IsValid m) (h : I
   cell_below cell home =
       let there = get-prefix (flat_sections ms) (placed_commons ms plan) home.place home.section home.found in
       let site = site_of plan (flat_sections ms) (placed_commons ms plan) (home.place, home.section) in
-      let based : base_number s home.place ≡ site.base = ap (λ o. unwrap_or o 0) (planned_get ms plan home.place there.1 ∙ base_there plan (flat_sections ms) (placed_commons ms plan) home.place home.section there.0) in
-      let inside = ends_inside plan (flat_sections ms) (placed_commons ms plan) (width ms) (placement_none m [] plan r (valid, tt) h) home.place home.section there.0 in
+      let based : base_number s home.place ≡ site.base = ap (λ o. unwrap_or o 0) (planned_get ms plan home.place there.1
+      ∙ base_there plan (flat_sections ms) (placed_commons ms plan) home.place home.section there.0) in
+      let inside = ends_inside plan (flat_sections ms) (placed_commons ms plan) (width ms) (placement_none m [] plan r (valid, tt) h) home.place
+      home.section there.0 in
       let ends = not_past (site.base + home.section.size) (2 ^ width ms) (λ past. inside (inr past)) in
       omega (arith, home.high, based, ends)
 
   cell_there : (cell : Cell) → In cell (run_cells r.runs) → cell.0 < 2 ^ width ms
   unfolding readings
   cell_there cell k =
-      let among = Contains-In cell (address_map r.order s.modulus (readings_after s [] (steps ms))) ((h.rows.same cell).1 (In-Contains cell (run_cells r.runs) k)) in
+      let among = Contains-In cell (address_map r.order s.modulus (readings_after s [] (steps ms)))
+      ((h.rows.same cell).1 (In-Contains cell (run_cells r.runs) k)) in
       cell_below cell (cell_home r.order ms s
-      (λ address f. (answers_are_facts ms plan).locate_complete h.locates (loaded_twice address) (inr (no_link_fact ms h.links, no_fact_before ms plan h.locates, f)))
-      (λ section address f. (answers_are_facts ms plan).locate_complete h.locates (load_outside section address) (inr (no_link_fact ms h.links, no_fact_before ms plan h.locates, f)))
+      (λ address f. (answers_are_facts ms plan).locate_complete h.locates (loaded_twice address)
+      (inr (no_link_fact ms h.links, no_fact_before ms plan h.locates, f)))
+      (λ section address f. (answers_are_facts ms plan).locate_complete h.locates (load_outside section address)
+      (inr (no_link_fact ms h.links, no_fact_before ms plan h.locates, f)))
       cell among)
 
   run_fits : (run : Run) → In run r.runs → FitsIn run

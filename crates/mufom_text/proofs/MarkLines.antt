@@ -1,17 +1,20 @@
 -- The lines of marks, one list of marks after another.
-use Rattle.std.proofs.Common.{◌≡◌, ℕ, zero, suc, ◌+◌, ◌-◌, ◌<◌, ◌≤◌, max, List, [], ◌∷◌, ◌++◌, length, take, get_or, refl, sym, ap, ◌∙◌, arith, rules, append_assoc, append-nil}
+use Rattle.std.proofs.Common.{◌≡◌, ℕ, zero, suc, ◌+◌, ◌-◌, ◌<◌, ◌≤◌, max, List, [], ◌∷◌, ◌++◌, length, take, get_or, refl, sym, ap, ◌∙◌, arith, rules}
+use Rattle.std.proofs.Common.{append_assoc, append-nil}
 use Rattle.mufom_expr.specs.Tree.{Tree}
 use Rattle.mufom_names.specs.declared.name.Note.{Note}
 use Rattle.mufom_debug.specs.declared.item.BlockHead.TheVariants as heads
 use Rattle.mufom_debug.specs.declared.item.DebugItem.{DebugItem, Block as block_case, Name as name_case, Note as note_case, Value as value_case, the_lemmas}
 use Rattle.mufom_debug.specs.declared.item.DebugItem.TheOpen.{Block-F}
-use Rattle.mufom_debug.specs.Marks.{DebugMark, block_begin, block_end, name_mark, note_mark, value_mark, marks_of_item, marks_of, open_after, depth_from, depth_of, IsBalanced, names_after, names_after_all}
+use Rattle.mufom_debug.specs.Marks.{DebugMark, block_begin, block_end, name_mark, note_mark, value_mark, marks_of_item, marks_of, open_after}
+use Rattle.mufom_debug.specs.Marks.{depth_from, depth_of, IsBalanced, names_after, names_after_all}
 use Rattle.mufom_debug.proofs.MarksLemmas.{marks-Block, marks_of_more}
 use Rattle.mufom_debug.proofs.Balance.{items_balanced}
 use Rattle.mufom_text.specs.Words.{indent, line}
 use Rattle.mufom_text.specs.Show.{mark_line, mark_lines, depth_after_all, end_text}
 
-pub lines-append : (depth n : ℕ) (xs ys : List DebugMark) → mark_lines depth n (xs ++ ys) ≡ mark_lines depth n xs ++ mark_lines (depth_after_all depth xs) (names_after_all n xs) ys
+pub lines-append : (depth n : ℕ) (xs ys : List DebugMark) → mark_lines depth n (xs ++ ys) ≡ mark_lines depth n xs
+    ++ mark_lines (depth_after_all depth xs) (names_after_all n xs) ys
 lines-append depth n [] ys = refl
 lines-append depth n (x ∷ xs) ys =
     let inside = open_after depth x in
@@ -85,7 +88,8 @@ lines-Value depth n name value =
 -- ---- one item more
 
 pub lines-more : (depth n : ℕ) (items : List DebugItem) (i : ℕ) (x : DebugItem) → i < length items → x ≡ get_or items i x
-    → mark_lines depth n (marks_of (take (i + 1) items)) ≡ mark_lines depth n (marks_of (take i items)) ++ mark_lines depth (names_after_all n (marks_of (take i items))) (marks_of_item x)
+    → mark_lines depth n (marks_of (take (i + 1) items)) ≡ mark_lines depth n (marks_of (take i items))
+    ++ mark_lines depth (names_after_all n (marks_of (take i items))) (marks_of_item x)
 lines-more depth n items i x inside is =
     let before = marks_of (take i items) in
     let names = names_after_all n before in

@@ -1,5 +1,6 @@
 -- A row of bytes as text, byte by byte.
-use Rattle.std.proofs.Common.{◌≡◌, ℕ, ◌+◌, ◌<◌, ◌==◌, Bool, false, List, [], ◌∷◌, ◌++◌, length, get_or, drop, refl, sym, ap, ◌∙◌, inl, inr, arith, add-one, drop-cons}
+use Rattle.std.proofs.Common.{◌≡◌, ℕ, ◌+◌, ◌<◌, ◌==◌, Bool, false, List, [], ◌∷◌, ◌++◌, length, get_or, drop, refl, sym, ap, ◌∙◌, inl, inr, arith}
+use Rattle.std.proofs.Common.{add-one, drop-cons}
 use Rattle.std.proofs.lemmas.Bool.{cases_eq, eq-eqb, ne_eqb}
 use Rattle.std.proofs.lemmas.List.{append_assoc, length-drop, nil_from_length}
 use Rattle.mufom_text.specs.Words.{Text}
@@ -17,7 +18,8 @@ is_last-length i bytes in_it = elim (cases_eq (i + 1) (length bytes)) [
 
 module _ (maus : ℕ) where
   row_text-drop : (first : Bool) (a i : ℕ) (bytes : List ℕ) → i < length bytes
-      → row_text maus first a (drop i bytes) ≡ byte_text maus first (i + 1 == length bytes) a (get_or bytes i 0) ++ row_text maus false (a + 1) (drop (i + 1) bytes)
+      → row_text maus first a (drop i bytes) ≡ byte_text maus first (i + 1 == length bytes) a (get_or bytes i 0)
+      ++ row_text maus false (a + 1) (drop (i + 1) bytes)
   row_text-drop first a i bytes in_it =
       let rest = drop (i + 1) bytes in
       let cons : drop i bytes ≡ get_or bytes i 0 ∷ rest = rw add-one (drop-cons bytes i 0 in_it) in

@@ -1,12 +1,15 @@
 -- The last token of an expression shows its tree's form.
-use Rattle.std.proofs.Common.{◌≡◌, ℕ, ◌-◌, ◌<◌, Bool, true, false, List, [], ◌∷◌, ◌++◌, length, take, drop, codes, refl, sym, ap, ◌∙◌, subst, append_assoc, length-append, arith, true≢false}
+use Rattle.std.proofs.Common.{◌≡◌, ℕ, ◌-◌, ◌<◌, Bool, true, false, List, [], ◌∷◌, ◌++◌, length, take, drop, codes, refl, sym, ap, ◌∙◌, subst}
+use Rattle.std.proofs.Common.{append_assoc, length-append, arith, true≢false}
 use Rattle.std.proofs.Math.Seq.{take-append_seam, drop-append_seam}
 use Rattle.std.proofs.lemmas.List.{take_all, length-drop}
 use Rattle.mufom_expr.specs.declared.token.Letter.{Letter}
 use Rattle.mufom_expr.specs.declared.token.Function.{Function}
 use Rattle.mufom_expr.specs.declared.token.Token.{Token}
 use Rattle.mufom_expr.specs.declared.token.Token.TheVariants as token
-use Rattle.mufom_expr.specs.Tree.{Tree, number, variable, one, two, OneOperand, TwoOperands, function_of_one, function_of_two, absolute, negated, plus, minus, divided, times, larger, smaller, modulo, is_less, is_greater, is_equal, is_unequal, and_bits, or_bits, xor_bits, tokens_of}
+use Rattle.mufom_expr.specs.Tree.{Tree, number, variable, one, two, OneOperand, TwoOperands, function_of_one, function_of_two, absolute, negated}
+use Rattle.mufom_expr.specs.Tree.{plus, minus, divided, times, larger, smaller, modulo, is_less, is_greater, is_equal, is_unequal, and_bits, or_bits}
+use Rattle.mufom_expr.specs.Tree.{xor_bits, tokens_of}
 use Rattle.std.specs.Fmt.{decimal}
 use Rattle.mufom_expr.specs.Terms.{the_term}
 use Rattle.mufom_expr.specs.TreeCode.{the_term-tokens_of}
@@ -47,15 +50,18 @@ snoc_same (a ∷ xs) (b ∷ ys) x y e =
     ((λ i. first i ∷ rest.0 i), rest.1)
 
 -- a token that is no function ends a tree of one token
-pub plain_end : (prefix : List Token) (tree : Tree) (before : List Token) (last : Token) → ((function : Function) → last ≡ token.Fun function → ⊥) → before ++ last ∷ [] ≡ prefix ++ tokens_of tree
+pub plain_end : (prefix : List Token) (tree : Tree) (before : List Token) (last : Token) → ((function : Function) → last ≡ token.Fun function → ⊥)
+    → before ++ last ∷ [] ≡ prefix ++ tokens_of tree
     → (before ≡ prefix) × (tokens_of tree ≡ last ∷ [])
 plain_end prefix (number n) before last plain e = let same = snoc_same before prefix last (token.Number n) e in (same.0, λ i. sym same.1 i ∷ [])
 plain_end prefix (variable l p) before last plain e = let same = snoc_same before prefix last (token.Var l p) e in (same.0, λ i. sym same.1 i ∷ [])
 plain_end prefix (one f a) before last plain e =
-    let same = snoc_same before (prefix ++ tokens_of a) last (token.Fun (function_of_one f)) (e ∙ sym (append_assoc prefix (tokens_of a) (token.Fun (function_of_one f) ∷ []))) in
+    let same = snoc_same before (prefix ++ tokens_of a) last (token.Fun (function_of_one f)) (e
+    ∙ sym (append_assoc prefix (tokens_of a) (token.Fun (function_of_one f) ∷ []))) in
     absurd (plain (function_of_one f) same.1)
 plain_end prefix (two f a b) before last plain e =
-    let same = snoc_same before (prefix ++ (tokens_of a ++ tokens_of b)) last (token.Fun (function_of_two f)) (e ∙ sym (append_assoc prefix (tokens_of a ++ tokens_of b) (token.Fun (function_of_two f) ∷ []))) in
+    let same = snoc_same before (prefix ++ (tokens_of a ++ tokens_of b)) last (token.Fun (function_of_two f)) (e
+    ∙ sym (append_assoc prefix (tokens_of a ++ tokens_of b) (token.Fun (function_of_two f) ∷ []))) in
     absurd (plain (function_of_two f) same.1)
 
 same_function : (f g : Function) → token.Fun f ≡ token.Fun g → f ≡ g
@@ -78,25 +84,43 @@ pub record Operands (prefix : List Token) (tree : Tree) (before : List Token) (f
   pub function_is : function ≡ function_of_two f
   pub split : before ≡ (prefix ++ tokens_of a) ++ tokens_of b
 
-pub one_end : (prefix : List Token) (tree : Tree) (before : List Token) (function : Function) → takes_one function ≡ true → before ++ token.Fun function ∷ [] ≡ prefix ++ tokens_of tree → Operand prefix tree before function
-one_end prefix (number n) before function takes e = let same = snoc_same before prefix (token.Fun function) (token.Number n) e in absurd (let wrong = same.1 in cc)
-one_end prefix (variable l p) before function takes e = let same = snoc_same before prefix (token.Fun function) (token.Var l p) e in absurd (let wrong = same.1 in cc)
+pub one_end : (prefix : List Token) (tree : Tree) (before : List Token) (function : Function) → takes_one function ≡ true → before
+    ++ token.Fun function ∷ [] ≡ prefix ++ tokens_of tree → Operand prefix tree before function
+one_end prefix (number n) before function takes e = let same = snoc_same before prefix (token.Fun function) (token.Number n) e in
+    absurd (let wrong = same.1 in cc)
+one_end prefix (variable l p) before function takes e = let same = snoc_same before prefix (token.Fun function) (token.Var l p) e in
+    absurd (let wrong = same.1 in cc)
 one_end prefix (one f a) before function takes e =
-    let same = snoc_same before (prefix ++ tokens_of a) (token.Fun function) (token.Fun (function_of_one f)) (e ∙ sym (append_assoc prefix (tokens_of a) (token.Fun (function_of_one f) ∷ []))) in
+    let same = snoc_same before (prefix ++ tokens_of a) (token.Fun function) (token.Fun (function_of_one f)) (e
+    ∙ sym (append_assoc prefix (tokens_of a) (token.Fun (function_of_one f) ∷ []))) in
     record { f = f; a = a; is = refl; function_is = same_function function (function_of_one f) same.1; split = same.0 }
 one_end prefix (two f a b) before function takes e =
-    let same = snoc_same before (prefix ++ (tokens_of a ++ tokens_of b)) (token.Fun function) (token.Fun (function_of_two f)) (e ∙ sym (append_assoc prefix (tokens_of a ++ tokens_of b) (token.Fun (function_of_two f) ∷ []))) in
+    let same = snoc_same before (prefix ++ (tokens_of a ++ tokens_of b)) (token.Fun function) (token.Fun (function_of_two f)) (e
+    ∙ sym (append_assoc prefix (tokens_of a ++ tokens_of b) (token.Fun (function_of_two f) ∷ []))) in
     absurd (true≢false (sym takes ∙ ap takes_one (same_function function (function_of_two f) same.1) ∙ two_takes_two f))
 
-pub two_end : (prefix : List Token) (tree : Tree) (before : List Token) (function : Function) → takes_one function ≡ false → before ++ token.Fun function ∷ [] ≡ prefix ++ tokens_of tree → Operands prefix tree before function
-two_end prefix (number n) before function takes e = let same = snoc_same before prefix (token.Fun function) (token.Number n) e in absurd (let wrong = same.1 in cc)
-two_end prefix (variable l p) before function takes e = let same = snoc_same before prefix (token.Fun function) (token.Var l p) e in absurd (let wrong = same.1 in cc)
+pub two_end : (prefix : List Token) (tree : Tree) (before : List Token) (function : Function) → takes_one function ≡ false → before
+    ++ token.Fun function ∷ [] ≡ prefix ++ tokens_of tree → Operands prefix tree before function
+two_end prefix (number n) before function takes e = let same = snoc_same before prefix (token.Fun function) (token.Number n) e in
+    absurd (let wrong = same.1 in cc)
+two_end prefix (variable l p) before function takes e = let same = snoc_same before prefix (token.Fun function) (token.Var l p) e in
+    absurd (let wrong = same.1 in cc)
 two_end prefix (one f a) before function takes e =
-    let same = snoc_same before (prefix ++ tokens_of a) (token.Fun function) (token.Fun (function_of_one f)) (e ∙ sym (append_assoc prefix (tokens_of a) (token.Fun (function_of_one f) ∷ []))) in
+    let same = snoc_same before (prefix ++ tokens_of a) (token.Fun function) (token.Fun (function_of_one f)) (e
+    ∙ sym (append_assoc prefix (tokens_of a) (token.Fun (function_of_one f) ∷ []))) in
     absurd (true≢false (sym (ap takes_one (same_function function (function_of_one f) same.1) ∙ one_takes_one f) ∙ takes))
 two_end prefix (two f a b) before function takes e =
-    let same = snoc_same before (prefix ++ (tokens_of a ++ tokens_of b)) (token.Fun function) (token.Fun (function_of_two f)) (e ∙ sym (append_assoc prefix (tokens_of a ++ tokens_of b) (token.Fun (function_of_two f) ∷ []))) in
-    record { f = f; a = a; b = b; is = refl; function_is = same_function function (function_of_two f) same.1; split = same.0 ∙ sym (append_assoc prefix (tokens_of a) (tokens_of b)) }
+    let same = snoc_same before (prefix ++ (tokens_of a ++ tokens_of b)) (token.Fun function) (token.Fun (function_of_two f)) (e
+    ∙ sym (append_assoc prefix (tokens_of a ++ tokens_of b) (token.Fun (function_of_two f) ∷ []))) in
+    record {
+      f = f;
+      a = a;
+      b = b;
+      is = refl;
+      function_is = same_function function (function_of_two f) same.1;
+      split = same.0
+          ∙ sym (append_assoc prefix (tokens_of a) (tokens_of b));
+    }
 
 -- after the operands of a function a term ends
 pub last_known : (before : List Token) (function : Function) → EndsWithTerm (before ++ token.Fun function ∷ []) → EndsWithTerm before
@@ -109,21 +133,30 @@ last_known before function (prefix, tree, e) = by_case (takes_one function) refl
 pub first_known : (before : List Token) (function : Function) (last : ℕ) → takes_one function ≡ false → EndsWithTerm (before ++ token.Fun function ∷ [])
     → ((prefix : List Token) (tree : Tree) → before ≡ prefix ++ tokens_of tree → last ≡ length prefix) → EndsWithTerm (take last before)
 first_known before function last takes (prefix, tree, e) starts =
-    let it = two_end prefix tree before function takes e in
-    (prefix, it.a, ap (λ n. take n before) (starts (prefix ++ tokens_of it.a) it.b it.split) ∙ ap (take (length (prefix ++ tokens_of it.a))) it.split ∙ take-append_seam (prefix ++ tokens_of it.a) (tokens_of it.b))
+    let it = two_end prefix tree before function takes e in (
+      prefix,
+      it.a,
+      ap (λ n. take n before) (starts (prefix ++ tokens_of it.a) it.b it.split) ∙ ap (take (length (prefix ++ tokens_of it.a))) it.split
+          ∙ take-append_seam (prefix ++ tokens_of it.a) (tokens_of it.b),
+    )
 
-pub first_start : (before : List Token) (function : Function) (last first : ℕ) → takes_one function ≡ false → ((prefix : List Token) (tree : Tree) → before ≡ prefix ++ tokens_of tree → last ≡ length prefix)
-    → ((prefix : List Token) (tree : Tree) → take last before ≡ prefix ++ tokens_of tree → first ≡ length prefix) → (prefix : List Token) (tree : Tree) → before ++ token.Fun function ∷ [] ≡ prefix ++ tokens_of tree → first ≡ length prefix
+pub first_start : (before : List Token) (function : Function) (last first : ℕ) → takes_one function ≡ false
+    → ((prefix : List Token) (tree : Tree) → before ≡ prefix ++ tokens_of tree → last ≡ length prefix)
+    → ((prefix : List Token) (tree : Tree) → take last before ≡ prefix ++ tokens_of tree → first ≡ length prefix)
+    → (prefix : List Token) (tree : Tree) → before ++ token.Fun function ∷ [] ≡ prefix ++ tokens_of tree → first ≡ length prefix
 first_start before function last first takes starts begins prefix tree e =
     let it = two_end prefix tree before function takes e in
-    begins prefix it.a (ap (λ n. take n before) (starts (prefix ++ tokens_of it.a) it.b it.split) ∙ ap (take (length (prefix ++ tokens_of it.a))) it.split ∙ take-append_seam (prefix ++ tokens_of it.a) (tokens_of it.b))
+    begins prefix it.a (ap (λ n. take n before) (starts (prefix ++ tokens_of it.a) it.b it.split)
+    ∙ ap (take (length (prefix ++ tokens_of it.a))) it.split ∙ take-append_seam (prefix ++ tokens_of it.a) (tokens_of it.b))
 
 -- the last token is the function that ends a term
-pub split_known : (tokens before : List Token) (last : Token) (function : Function) → tokens ≡ before ++ last ∷ [] → last ≡ token.Fun function → EndsWithTerm tokens → EndsWithTerm (before ++ token.Fun function ∷ [])
+pub split_known : (tokens before : List Token) (last : Token) (function : Function) → tokens ≡ before ++ last ∷ [] → last ≡ token.Fun function
+    → EndsWithTerm tokens → EndsWithTerm (before ++ token.Fun function ∷ [])
 split_known tokens before last function split is known = subst EndsWithTerm (split ∙ ap (λ t. before ++ t ∷ []) is) known
 
 -- where a term of one token begins
-pub plain_start : (tokens before : List Token) (last : Token) → tokens ≡ before ++ last ∷ [] → ((function : Function) → last ≡ token.Fun function → ⊥) → (prefix : List Token) (tree : Tree) → tokens ≡ prefix ++ tokens_of tree
+pub plain_start : (tokens before : List Token) (last : Token) → tokens ≡ before ++ last ∷ [] → ((function : Function) → last ≡ token.Fun function → ⊥)
+    → (prefix : List Token) (tree : Tree) → tokens ≡ prefix ++ tokens_of tree
     → length before ≡ length prefix
 plain_start tokens before last split plain prefix tree e = ap length (plain_end prefix tree before last plain (sym split ∙ e)).0
 
@@ -155,20 +188,25 @@ some_left tokens none (tree, e) = none_ends tokens none ([], tree, e)
 pub number_form : (n : ℕ) (tree : Tree) → tokens_of tree ≡ token.Number n ∷ [] → infix_text tree ≡ decimal n
 number_form n tree e = ap infix_text (sym (the_term-tokens_of tree) ∙ ap the_term e)
 
-pub variable_form : (letter : Letter) (place : ℕ) (tree : Tree) → tokens_of tree ≡ token.Var letter place ∷ [] → infix_text tree ≡ letter_text letter ++ decimal place
+pub variable_form : (letter : Letter) (place : ℕ) (tree : Tree) → tokens_of tree ≡ token.Var letter place ∷ [] → infix_text tree ≡ letter_text letter
+    ++ decimal place
 variable_form letter place tree e = ap infix_text (sym (the_term-tokens_of tree) ∙ ap the_term e)
 
 -- the tokens of a tree that end with no function are one
-pub plain_whole : (tokens before : List Token) (last : Token) → tokens ≡ before ++ last ∷ [] → ((function : Function) → last ≡ token.Fun function → ⊥) → (tree : Tree) → tokens ≡ tokens_of tree → tokens_of tree ≡ last ∷ []
+pub plain_whole : (tokens before : List Token) (last : Token) → tokens ≡ before ++ last ∷ [] → ((function : Function) → last ≡ token.Fun function → ⊥)
+    → (tree : Tree) → tokens ≡ tokens_of tree → tokens_of tree ≡ last ∷ []
 plain_whole tokens before last split plain tree e = (plain_end [] tree before last plain (sym split ∙ e)).1
 
-pub whole_known : (tokens before : List Token) (last : Token) (function : Function) → tokens ≡ before ++ last ∷ [] → last ≡ token.Fun function → (tree : Tree) × (tokens ≡ tokens_of tree) → (tree : Tree) × (before ++ token.Fun function ∷ [] ≡ tokens_of tree)
+pub whole_known : (tokens before : List Token) (last : Token) (function : Function) → tokens ≡ before ++ last ∷ [] → last ≡ token.Fun function
+    → (tree : Tree) × (tokens ≡ tokens_of tree) → (tree : Tree) × (before ++ token.Fun function ∷ [] ≡ tokens_of tree)
 whole_known tokens before last function split is (tree, e) = (tree, ap (λ t. before ++ t ∷ []) (sym is) ∙ sym split ∙ e)
 
-pub operand_known : (operand : List Token) (function : Function) → takes_one function ≡ true → (tree : Tree) × (operand ++ token.Fun function ∷ [] ≡ tokens_of tree) → (a : Tree) × (operand ≡ tokens_of a)
+pub operand_known : (operand : List Token) (function : Function) → takes_one function ≡ true → (tree : Tree)
+    × (operand ++ token.Fun function ∷ [] ≡ tokens_of tree) → (a : Tree) × (operand ≡ tokens_of a)
 operand_known operand function takes (tree, e) = let it = one_end [] tree operand function takes e in (it.a, it.split)
 
-pub operands_known : (operands : List Token) (function : Function) → takes_one function ≡ false → (tree : Tree) × (operands ++ token.Fun function ∷ [] ≡ tokens_of tree) → EndsWithTerm operands
+pub operands_known : (operands : List Token) (function : Function) → takes_one function ≡ false → (tree : Tree)
+    × (operands ++ token.Fun function ∷ [] ≡ tokens_of tree) → EndsWithTerm operands
 operands_known operands function takes (tree, e) = let it = two_end [] tree operands function takes e in (tokens_of it.a, it.b, it.split)
 
 -- where the second operand begins, the first one ends
@@ -181,7 +219,8 @@ pub record Parted (operands : List Token) (second : ℕ) (function : Function) (
   pub first_is : take second operands ≡ tokens_of a
   pub second_is : drop second operands ≡ tokens_of b
 
-pub parted : (operands : List Token) (second : ℕ) (function : Function) → takes_one function ≡ false → ((prefix : List Token) (tree : Tree) → operands ≡ prefix ++ tokens_of tree → second ≡ length prefix)
+pub parted : (operands : List Token) (second : ℕ) (function : Function) → takes_one function ≡ false
+    → ((prefix : List Token) (tree : Tree) → operands ≡ prefix ++ tokens_of tree → second ≡ length prefix)
     → (tree : Tree) → operands ++ token.Fun function ∷ [] ≡ tokens_of tree → Parted operands second function tree
 parted operands second function takes starts tree e =
     let it = two_end [] tree operands function takes e in
@@ -205,7 +244,8 @@ over_one_form operand function tree takes e =
 
 pub over_two_form : (operands : List Token) (second : ℕ) (function : Function) (tree : Tree) (p : Parted operands second function tree)
     → infix_text tree ≡ (((opening_text function ++ infix_text p.a) ++ middle_text function) ++ infix_text p.b) ++ codes ")"
-over_two_form operands second function tree p = ap infix_text p.is ∙ ap (λ f. (((opening_text f ++ infix_text p.a) ++ middle_text f) ++ infix_text p.b) ++ codes ")") (sym p.function_is)
+over_two_form operands second function tree p = ap infix_text p.is
+    ∙ ap (λ f. (((opening_text f ++ infix_text p.a) ++ middle_text f) ++ infix_text p.b) ++ codes ")") (sym p.function_is)
 
 -- all that stands from a place on
 pub all_after : (tokens : List Token) (n : ℕ) → take (length tokens - n) (drop n tokens) ≡ drop n tokens

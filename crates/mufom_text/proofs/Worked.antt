@@ -44,9 +44,11 @@ no_bytes : item_text (items.Literal []) ≡ codes "bytes 0"
 no_bytes = refl
 
 -- a block in a block: names count through all of them, and an end stands as deep as its begin
-blocks : mark_lines 0 0 (block_begin heads.Module (0x6D ∷ []) ∷ name_mark (0x61 ∷ []) ∷ block_begin (heads.Local 1 2 (variable letters.R 0)) (0x66 ∷ []) ∷ name_mark (0x62 ∷ [])
+blocks : mark_lines 0 0 (block_begin heads.Module (0x6D ∷ []) ∷ name_mark (0x61 ∷ []) ∷ block_begin (heads.Local 1 2 (variable letters.R 0))
+    (0x66 ∷ []) ∷ name_mark (0x62 ∷ [])
     ∷ value_mark 1 (two minus (number 9) (number 4)) ∷ block_end (Some (number 7)) ∷ block_end None ∷ name_mark (0x63 ∷ []) ∷ [])
-    ≡ line (codes "block 3 \"m\"") ++ line (codes "  name 0 \"a\"") ++ line (codes "  block 6 \"f\" stack 1 type 2 offset R0") ++ line (codes "    name 1 \"b\"")
+    ≡ line (codes "block 3 \"m\"") ++ line (codes "  name 0 \"a\"") ++ line (codes "  block 6 \"f\" stack 1 type 2 offset R0")
+    ++ line (codes "    name 1 \"b\"")
     ++ line (codes "    value 1 = (9 - 4)") ++ line (codes "  end = 7") ++ line (codes "end") ++ line (codes "name 2 \"c\"")
 unfolding digits
 blocks = refl

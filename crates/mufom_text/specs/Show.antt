@@ -33,7 +33,8 @@ order_letter Least = codes "L"
 order_letter Most = codes "M"
 
 abbrev pub module_line : Parts → Text
-module_line m = line (codes "module " ++ quoted m.name ++ codes " processor " ++ quoted m.processor ++ codes " maus " ++ decimal m.maus ++ codes " order " ++ order_letter m.order)
+module_line m = line (codes "module " ++ quoted m.name ++ codes " processor " ++ quoted m.processor ++ codes " maus " ++ decimal m.maus
+    ++ codes " order " ++ order_letter m.order)
 
 -- what is printed of a part that is not read: the number of its bytes, or all of them
 abbrev pub raw_text : TextForm → List ℕ → Text
@@ -97,7 +98,8 @@ abbrev pub scope_text : ℕ → ℕ → Tree → Text
 scope_text stack type_index offset = codes " stack " ++ decimal stack ++ codes " type " ++ decimal type_index ++ codes " offset " ++ infix_text offset
 
 abbrev pub part_text : ℕ → ℕ → Tree → Text
-part_text section_type section offset = codes " section-type " ++ decimal section_type ++ codes " section " ++ decimal section ++ codes " offset " ++ infix_text offset
+part_text section_type section offset = codes " section-type " ++ decimal section_type ++ codes " section " ++ decimal section ++ codes " offset "
+    ++ infix_text offset
 
 -- what the kind of a block adds to its line
 abbrev pub head_text : BlockHead → Text
@@ -156,7 +158,8 @@ abbrev pub load_lines : TextForm → Load → Text
 load_lines form (SetSection n) = line (codes "select " ++ decimal n)
 load_lines form (SetPc n value) = line (codes "counter " ++ decimal n ++ codes " = " ++ infix_text value)
 load_lines form (One item) = line (item_text item)
-load_lines form (Repeat count items) = line (codes "repeat " ++ decimal count) ++ flat_map (λ item. line (codes "  " ++ item_text item)) items ++ repeat_end form
+load_lines form (Repeat count items) = line (codes "repeat " ++ decimal count) ++ flat_map (λ item. line (codes "  " ++ item_text item)) items
+    ++ repeat_end form
 
 abbrev pub start_line : Option Tree → Text
 start_line None = []

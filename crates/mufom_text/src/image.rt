@@ -5,7 +5,8 @@ ghost use Rattle.std.specs.Fmt.{decimal};
 ghost use Rattle.hex.specs.Hex.{encode_upper};
 ghost use Rattle.mufom_text.specs.Words.{each, quoted};
 ghost use Rattle.mufom_text.specs.Addresses.{address_seen, all_seen, role_seen};
-ghost use Rattle.mufom_text.specs.Image.{address, address_text, block_text, byte_text, line_end, line_start, public_text, role_text, row_text, run_text, start_text};
+ghost use Rattle.mufom_text.specs.Image.{address, address_text, block_text, byte_text, line_end, line_start, public_text, role_text, row_text};
+ghost use Rattle.mufom_text.specs.Image.{run_text, start_text};
 ghost use Rattle.mufom_text.specs.Fitting.{FitsIn, IsUnitCount};
 
 use crate::addresses::{DebugAddress, Role};

@@ -1,5 +1,6 @@
 -- A text with which nothing is wrong is one that gives its bytes to its addresses.
-use Rattle.std.proofs.Common.{◌≡◌, ℕ, suc, ◌+◌, ◌^◌, ◌<◌, List, [], ◌∷◌, ◌++◌, length, map, replicate, Option, Some, None, option_map, Bool, true, false, refl, sym, ◌∙◌, ap, subst}
+use Rattle.std.proofs.Common.{◌≡◌, ℕ, suc, ◌+◌, ◌^◌, ◌<◌, List, [], ◌∷◌, ◌++◌, length, map, replicate, Option, Some, None, option_map, Bool, true}
+use Rattle.std.proofs.Common.{false, refl, sym, ◌∙◌, ap, subst}
 use Rattle.std.specs.Prelude.{if◌then◌else◌}
 use Rattle.std.specs.List.{All}
 use Rattle.mufom_place.specs.Facts.{◌or_else◌}
@@ -11,7 +12,8 @@ use Rattle.mufom_titxt.specs.declared.refusal.TxtReason.{TxtReason}
 use Rattle.mufom_titxt.specs.declared.refusal.TxtReason.TheVariants.{Twice}
 use Rattle.mufom_titxt.specs.declared.refusal.TxtRefusal.{TxtRefusal}
 use Rattle.mufom_titxt.specs.Lines.{Line, blank_line, address_line, byte_line, end_line, line_of, lines_of}
-use Rattle.mufom_titxt.specs.Texts.{nothing_stated, line_cells, next_after, cells_of_lines, IsInside, AreInside, refusal_at, cells_after, txt_refusal, txt_cells, TxtMap}
+use Rattle.mufom_titxt.specs.Texts.{nothing_stated, line_cells, next_after, cells_of_lines, IsInside, AreInside, refusal_at, cells_after, txt_refusal}
+use Rattle.mufom_titxt.specs.Texts.{txt_cells, TxtMap}
 use Rattle.mufom_titxt.specs.Reading.{Place, line_stop, cells_read, places_read, stop_read}
 use Rattle.mufom_titxt.proofs.RefusalLaws.{first_second, refusal-parts, cells_read-whole, places-addresses, cells_read-low}
 
@@ -47,7 +49,8 @@ after_end modulus count next (Some (byte_line bytes) ∷ lines) e = absurd (cc e
 after_end modulus count next (Some end_line ∷ lines) e = absurd (cc e)
 
 -- lines of which none is wrong by itself
-pub before_end : (modulus count : ℕ) (next : Option ℕ) (lines : List (Option Line)) → stop_read modulus count (record { ended = false; next = next }) lines ≡ None
+pub before_end : (modulus count : ℕ) (next : Option ℕ) (lines : List (Option Line))
+    → stop_read modulus count (record { ended = false; next = next }) lines ≡ None
     → AreLines next lines (cells_after (record { ended = false; next = next }) lines)
 before_end modulus count next [] e = absurd (cc e)
 before_end modulus count next (None ∷ lines) e = absurd (cc e)
@@ -57,9 +60,11 @@ before_end modulus count next (Some (address_line address) ∷ lines) e =
 before_end modulus count None (Some (byte_line bytes) ∷ lines) e = absurd (cc e)
 before_end modulus count (Some at) (Some (byte_line bytes) ∷ lines) e =
     more_lines (Some at) (byte_line bytes) lines _ tt
-    (before_end modulus (suc count) (Some (at + length bytes)) lines (later (line_stop modulus (record { ended = false; next = Some at }) (Some (byte_line bytes))) e)) where
+    (before_end modulus (suc count) (Some (at + length bytes)) lines
+    (later (line_stop modulus (record { ended = false; next = Some at }) (Some (byte_line bytes))) e)) where
       later : (stop : Option TxtReason)
-          → (option_map (refusal_at (suc count)) stop or_else stop_read modulus (suc count) (record { ended = false; next = Some (at + length bytes) }) lines) ≡ None
+          → (option_map (refusal_at (suc count)) stop or_else stop_read modulus (suc count)
+          (record { ended = false; next = Some (at + length bytes) }) lines) ≡ None
           → stop_read modulus (suc count) (record { ended = false; next = Some (at + length bytes) }) lines ≡ None
       later None e = e
       later (Some reason) e = absurd (cc e)

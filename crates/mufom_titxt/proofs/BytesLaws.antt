@@ -46,8 +46,10 @@ line_found [] h = absurd (cc h)
 line_found ([] ∷ words) h = absurd (cc h)
 line_found ((b ∷ more) ∷ words) h = by_tests (b == 64) ((b == 113 || b == 81) && not (has_bytes more)) h where
   by_tests : (s t : Bool)
-      → shape_of (if s then alone words (option_map address_line (address_of more)) else if t then alone words (Some end_line) else option_map byte_line (bytes_of ((b ∷ more) ∷ words))) ≡ Bytes
-      → (if s then alone words (option_map address_line (address_of more)) else if t then alone words (Some end_line) else option_map byte_line (bytes_of ((b ∷ more) ∷ words)))
+      → shape_of (if s then alone words (option_map address_line (address_of more)) else if t then alone words (Some end_line)
+      else option_map byte_line (bytes_of ((b ∷ more) ∷ words))) ≡ Bytes
+      → (if s then alone words (option_map address_line (address_of more)) else if t then alone words (Some end_line)
+      else option_map byte_line (bytes_of ((b ∷ more) ∷ words)))
       ≡ Some (byte_line (word_bytes ((b ∷ more) ∷ words)))
   by_tests true t h = absurd (not_address words (address_of more) h)
   by_tests false true h = absurd (not_end words h)

@@ -1,5 +1,6 @@
 -- The line at which an address gets its second byte.
-use Rattle.std.proofs.Common.{◌≡◌, ℕ, zero, suc, ◌+◌, ◌-◌, ◌^◌, ◌<◌, ◌≤◌, List, [], ◌∷◌, ◌++◌, map, Option, Some, None, IsSome, is_some, Bool, true, false, refl, sym, ◌∙◌, ap, arith}
+use Rattle.std.proofs.Common.{◌≡◌, ℕ, zero, suc, ◌+◌, ◌-◌, ◌^◌, ◌<◌, ◌≤◌, List, [], ◌∷◌, ◌++◌, map, Option, Some, None, IsSome, is_some, Bool, true}
+use Rattle.std.proofs.Common.{false, refl, sym, ◌∙◌, ap, arith}
 use Rattle.std.specs.Prelude.{◌==◌, min, nat_lt, if◌then◌else◌}
 use Rattle.mufom_meaning.specs.AddressMap.{Cell}
 use Rattle.mufom_titxt.specs.declared.refusal.TxtReason.{TxtReason}
@@ -32,16 +33,20 @@ second_line-places a n [] more (suc (suc hits)) low = absurd (omega (arith, low)
 second_line-places a n (cell ∷ cells) more (suc (suc hits)) low = absurd (omega (arith, low))
 second_line-places a n (cell ∷ cells) more zero low =
     by_case (second_line-places a n cells more 0 (omega arith)) (second_line-places a n cells more 1 (omega arith)) (a == cell.0) where
-      by_case : second_line a 0 (places_at n cells ++ more) ≡ (if nat_lt 1 (hits_after (Some a) 0 cells) then n else second_line a (hits_after (Some a) 0 cells) more)
-          → second_line a 1 (places_at n cells ++ more) ≡ (if nat_lt 1 (hits_after (Some a) 1 cells) then n else second_line a (hits_after (Some a) 1 cells) more)
+      by_case : second_line a 0 (places_at n cells ++ more) ≡ (if nat_lt 1 (hits_after (Some a) 0 cells) then n
+          else second_line a (hits_after (Some a) 0 cells) more)
+          → second_line a 1 (places_at n cells ++ more) ≡ (if nat_lt 1 (hits_after (Some a) 1 cells) then n
+          else second_line a (hits_after (Some a) 1 cells) more)
           → (b : Bool) → (if b then (if nat_lt 0 0 then n else second_line a 1 (places_at n cells ++ more)) else second_line a 0 (places_at n cells ++ more))
           ≡ (if nat_lt 1 (hits_after (Some a) (if b then min (0 + 1) (2 ^ 32 - 1) else 0) cells) then n
           else second_line a (hits_after (Some a) (if b then min (0 + 1) (2 ^ 32 - 1) else 0) cells) more)
       by_case same once true = once
       by_case same once false = same
 second_line-places a n (cell ∷ cells) more (suc zero) low =
-    by_case (second_line-places a n cells more 1 (omega arith)) (above_one (hits_after (Some a) 2 cells) (hits_rise (Some a) 2 cells (omega arith))) (a == cell.0) where
-      by_case : second_line a 1 (places_at n cells ++ more) ≡ (if nat_lt 1 (hits_after (Some a) 1 cells) then n else second_line a (hits_after (Some a) 1 cells) more)
+    by_case (second_line-places a n cells more 1 (omega arith)) (above_one (hits_after (Some a) 2 cells) (hits_rise (Some a) 2 cells (omega arith)))
+    (a == cell.0) where
+      by_case : second_line a 1 (places_at n cells ++ more) ≡ (if nat_lt 1 (hits_after (Some a) 1 cells) then n
+          else second_line a (hits_after (Some a) 1 cells) more)
           → nat_lt 1 (hits_after (Some a) 2 cells) ≡ true
           → (b : Bool) → (if b then (if nat_lt 0 1 then n else second_line a 1 (places_at n cells ++ more)) else second_line a 1 (places_at n cells ++ more))
           ≡ (if nat_lt 1 (hits_after (Some a) (if b then min (1 + 1) (2 ^ 32 - 1) else 1) cells) then n
@@ -70,7 +75,8 @@ module _ (a count n all : ℕ) (s : SoFar) (stop : Option TxtReason) (places : L
       ap (λ o. second_line a n (unless o places)) none ∙ (sym (ap (λ b. if b then suc count else second_line a n (unless stop places)) low) ∙ e)
 
 -- a line more: it gets its second byte there, or nothing more is read, or more is read
-pub second_line-line : (a modulus count : ℕ) (s : SoFar) (left : Option (List ℕ)) (text line : List ℕ) (rest : Option (List ℕ)) (watched : Option ℕ) (hits n all : ℕ)
+pub second_line-line : (a modulus count : ℕ) (s : SoFar) (left : Option (List ℕ)) (text line : List ℕ) (rest : Option (List ℕ)) (watched : Option ℕ)
+    (hits n all : ℕ)
     → left ≡ Some text → lines_of text ≡ line ∷ lines_later rest → hits ≤ 1 → watched ≡ Some a
     → n ≡ hits_after watched hits (line_read modulus s (line_of line))
     → second_line a hits (places_read modulus count s (map line_of (lines_later left))) ≡ all

@@ -1,5 +1,6 @@
 -- The module of runs has no defect.
-use Rattle.std.proofs.Common.{◌≡◌, ℕ, zero, suc, ◌+◌, ◌*◌, ◌^◌, ◌<◌, ◌≤◌, List, [], ◌∷◌, ◌++◌, map, length, take, drop, Option, Some, None, Bool, true, false, cond, not, sum_by, refl, sym, ◌∙◌, ap, arith}
+use Rattle.std.proofs.Common.{◌≡◌, ℕ, zero, suc, ◌+◌, ◌*◌, ◌^◌, ◌<◌, ◌≤◌, List, [], ◌∷◌, ◌++◌, map, length, take, drop, Option, Some, None, Bool}
+use Rattle.std.proofs.Common.{true, false, cond, not, sum_by, refl, sym, ◌∙◌, ap, arith}
 use Rattle.std.specs.Prelude.{◌||◌, nat_le, ◌==◌}
 use Rattle.std.specs.List.{find, list_any}
 use Rattle.std.proofs.lemmas.List.{length-take, length-append, take-append-drop}
@@ -12,7 +13,8 @@ use Rattle.mufom_module.specs.declared.module.Parts.{Parts}
 use Rattle.mufom_module.specs.declared.module.Defect.{Defect}
 use Rattle.mufom_module.specs.declared.module.Defect.TheVariants as d
 use Rattle.mufom_module.specs.Contents.{any_item, placed_from}
-use Rattle.mufom_module.specs.Defects.{has_defect, defects, is_long, is_unit_count, has_bad_alignment, lacks_base, has_bad_place, misplaces_counter, loads_nowhere, is_long_literal, has_bad_size, counts_of, IsValid}
+use Rattle.mufom_module.specs.Defects.{has_defect, defects, is_long, is_unit_count, has_bad_alignment, lacks_base, has_bad_place, misplaces_counter}
+use Rattle.mufom_module.specs.Defects.{loads_nowhere, is_long_literal, has_bad_size, counts_of, IsValid}
 use Rattle.mufom_module.specs.Weights.{section_weight, load_weight, size_weight}
 use Rattle.mufom_module.specs.Written.{weight}
 use Rattle.mufom_module.proofs.WeightLaws.{weight-sum}
@@ -108,7 +110,8 @@ short : (n : ℕ) (loads : List Load) → ArePlain n loads → list_any (any_ite
 short n [] p = refl
 short n (SetSection section ∷ loads) p = short n loads p.1
 short n (SetPc section value ∷ loads) p = absurd p
-short n (One (Literal bytes) ∷ loads) p = two_false (is_long bytes) (list_any (any_item is_long_literal) loads) (not_lt 65535 (length bytes) p.0) (short n loads p.1)
+short n (One (Literal bytes) ∷ loads) p = two_false (is_long bytes) (list_any (any_item is_long_literal) loads) (not_lt 65535 (length bytes) p.0)
+    (short n loads p.1)
 short n (One (Field kind value size) ∷ loads) p = absurd p
 short n (Repeat count items ∷ loads) p = absurd p
 
@@ -158,7 +161,8 @@ literals_weigh (suc most) (b ∷ bytes) =
       own : (part : List ℕ) → sum_by load_weight (One (Literal part) ∷ []) ≡ 10 + length part
       own part = omega arith
 
-      one_more_literal : (all one more part rest count : ℕ) → all ≡ one + more → one ≡ 10 + part → more ≤ 11 * rest → part + rest ≡ count → 1 ≤ part → all ≤ 11 * count
+      one_more_literal : (all one more part rest count : ℕ) → all ≡ one + more → one ≡ 10 + part → more ≤ 11 * rest → part + rest ≡ count → 1 ≤ part
+          → all ≤ 11 * count
       one_more_literal all one more part rest count e same few both some = omega (arith, e, same, few, both, some)
 
 loads_weigh : (section : ℕ) (runs : List Run)
@@ -191,13 +195,15 @@ module _ (maus : ℕ) (runs : List Run) (low : 1 ≤ maus) (high : maus ≤ 8) (
   has_units = grind (arith, low, high)
 
   light : weight (text_parts maus runs) < 2 ^ 32
-  light = bound (weight (text_parts maus runs)) _ _ (length runs) _ (whole _ _ (weight-sum (text_parts maus runs))) (sections_weigh runs) (loads_weigh 0 runs) few bytes where
-    whole : (sections loads : ℕ) → weight (text_parts maus runs) ≡ 163 + sections + 0 + 0 + 0 + loads + 0 → weight (text_parts maus runs) ≡ 163 + sections + loads
-    whole sections loads e = omega (arith, e)
+  light = bound (weight (text_parts maus runs)) _ _ (length runs) _ (whole _ _ (weight-sum (text_parts maus runs))) (sections_weigh runs)
+      (loads_weigh 0 runs) few bytes where
+        whole : (sections loads : ℕ) → weight (text_parts maus runs) ≡ 163 + sections + 0 + 0 + 0 + loads + 0 → weight (text_parts maus runs)
+            ≡ 163 + sections + loads
+        whole sections loads e = omega (arith, e)
 
-    bound : (all sections loads count bytes : ℕ) → all ≡ 163 + sections + loads → sections ≤ 58 * count → loads ≤ 10 * count + 11 * bytes
-        → count ≤ 33554432 → bytes ≤ 33554432 → all < 2 ^ 32
-    bound all sections loads count bytes e a b c f = omega (arith, e, a, b, c, f)
+        bound : (all sections loads count bytes : ℕ) → all ≡ 163 + sections + loads → sections ≤ 58 * count → loads ≤ 10 * count + 11 * bytes
+            → count ≤ 33554432 → bytes ≤ 33554432 → all < 2 ^ 32
+        bound all sections loads count bytes e a b c f = omega (arith, e, a, b, c, f)
 
   no_defect : (defect : Defect) → has_defect (text_parts maus runs) defect ≡ false
   no_defect d.Depth = refl

@@ -1,16 +1,19 @@
 -- The lines of the bytes of a run, byte by byte, and part by part.
-use Rattle.std.proofs.Common.{◌≡◌, ◌≢◌, ℕ, zero, suc, ◌+◌, ◌%◌, ◌<◌, List, [], ◌∷◌, ◌++◌, length, get_or, drop, Bool, true, false, refl, sym, ◌∙◌, ap, arith, add-one, drop-cons}
+use Rattle.std.proofs.Common.{◌≡◌, ◌≢◌, ℕ, zero, suc, ◌+◌, ◌%◌, ◌<◌, List, [], ◌∷◌, ◌++◌, length, get_or, drop, Bool, true, false, refl, sym, ◌∙◌, ap}
+use Rattle.std.proofs.Common.{arith, add-one, drop-cons}
 use Rattle.std.specs.Prelude.{◌==◌, ◌||◌, if◌then◌else◌}
 use Rattle.std.proofs.lemmas.List.{length-drop, append-nil}
 use Rattle.mufom_titxt.specs.Written.{byte_digits, byte_lines, without_zeros}
 
 -- a byte, and what is after it
 pub line_step : (i : ℕ) (bytes : List ℕ) → i < length bytes
-    → byte_lines i (drop i bytes) ≡ (byte_digits (get_or bytes i 0) ++ (if (i + 1 == length bytes) || (i % 16 == 15) then 10 else 32) ∷ []) ++ byte_lines (i + 1) (drop (i + 1) bytes)
+    → byte_lines i (drop i bytes) ≡ (byte_digits (get_or bytes i 0) ++ (if (i + 1 == length bytes) || (i % 16 == 15) then 10 else 32) ∷ [])
+    ++ byte_lines (i + 1) (drop (i + 1) bytes)
 line_step i bytes less =
     ap (byte_lines i) (drop-cons bytes i 0 less)
     ∙ (by_rest (drop (suc i) bytes) (let e = length-drop (suc i) bytes in omega (arith, e, less))
-    ∙ ap (λ k. (byte_digits (get_or bytes i 0) ++ (if (i + 1 == length bytes) || (i % 16 == 15) then 10 else 32) ∷ []) ++ byte_lines (i + 1) (drop k bytes)) (sym (add-one i))) where
+    ∙ ap (λ k. (byte_digits (get_or bytes i 0) ++ (if (i + 1 == length bytes) || (i % 16 == 15) then 10 else 32) ∷ [])
+    ++ byte_lines (i + 1) (drop k bytes)) (sym (add-one i))) where
       by_rest : (rest : List ℕ) → length rest + suc i ≡ length bytes
           → byte_lines i (get_or bytes i 0 ∷ rest)
           ≡ (byte_digits (get_or bytes i 0) ++ (if (i + 1 == length bytes) || (i % 16 == 15) then 10 else 32) ∷ []) ++ byte_lines (i + 1) rest

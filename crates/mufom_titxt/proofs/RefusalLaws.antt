@@ -14,8 +14,10 @@ use Rattle.mufom_titxt.specs.declared.refusal.TxtReason.{TxtReason}
 use Rattle.mufom_titxt.specs.declared.refusal.TxtReason.TheVariants.{Beyond, Twice}
 use Rattle.mufom_titxt.specs.declared.refusal.TxtRefusal.{TxtRefusal}
 use Rattle.mufom_titxt.specs.Lines.{Line, blank_line, address_line, byte_line, end_line}
-use Rattle.mufom_titxt.specs.Texts.{SoFar, so_far, cells_at, line_cells, cells_on, byte_fault, bytes_fault, inner_fault, later_fault, line_fault, taken_after, refusal_at, refusal_after, cells_after}
-use Rattle.mufom_titxt.specs.Reading.{open_cells, open_fault, bytes_read, bytes_stop, inner_read, inner_stop, line_read, line_stop, Place, places_at, unless, cells_read, places_read, stop_read, second_line}
+use Rattle.mufom_titxt.specs.Texts.{SoFar, so_far, cells_at, line_cells, cells_on, byte_fault, bytes_fault, inner_fault, later_fault, line_fault}
+use Rattle.mufom_titxt.specs.Texts.{taken_after, refusal_at, refusal_after, cells_after}
+use Rattle.mufom_titxt.specs.Reading.{open_cells, open_fault, bytes_read, bytes_stop, inner_read, inner_stop, line_read, line_stop, Place, places_at}
+use Rattle.mufom_titxt.specs.Reading.{unless, cells_read, places_read, stop_read, second_line}
 
 -- ---- an address of a line that has a byte already
 
@@ -26,15 +28,17 @@ twice_reason taken (cell ∷ cells) = if has_number taken cell.0 then Some (Twic
 byte_fault-parts : (modulus : ℕ) (taken : List ℕ) (at : ℕ) (bytes : List ℕ)
     → byte_fault modulus taken at bytes ≡ (twice_reason taken (open_cells modulus at bytes) or_else open_fault modulus at bytes)
 byte_fault-parts modulus taken at [] = refl
-byte_fault-parts modulus taken at (b ∷ bytes) = by_case (byte_fault-parts modulus (at ∷ taken) (suc at) bytes) (nat_lt at modulus) (has_number taken at) refl where
-  by_case : byte_fault modulus (at ∷ taken) (suc at) bytes ≡ (twice_reason (at ∷ taken) (open_cells modulus (suc at) bytes) or_else open_fault modulus (suc at) bytes)
-      → (low had : Bool) → has_number taken at ≡ had
-      → (if low then (if had then Some (Twice at) else byte_fault modulus (at ∷ taken) (suc at) bytes) else Some Beyond)
-      ≡ (twice_reason taken (if low then (at, b) ∷ open_cells modulus (suc at) bytes else [])
-      or_else (if low then open_fault modulus (suc at) bytes else Some Beyond))
-  by_case later false had e = refl
-  by_case later true true e = rw e refl
-  by_case later true false e = rw e later
+byte_fault-parts modulus taken at (b ∷ bytes) = by_case (byte_fault-parts modulus (at ∷ taken) (suc at) bytes) (nat_lt at modulus)
+    (has_number taken at) refl where
+      by_case : byte_fault modulus (at ∷ taken) (suc at) bytes ≡ (twice_reason (at ∷ taken) (open_cells modulus (suc at) bytes)
+          or_else open_fault modulus (suc at) bytes)
+          → (low had : Bool) → has_number taken at ≡ had
+          → (if low then (if had then Some (Twice at) else byte_fault modulus (at ∷ taken) (suc at) bytes) else Some Beyond)
+          ≡ (twice_reason taken (if low then (at, b) ∷ open_cells modulus (suc at) bytes else [])
+          or_else (if low then open_fault modulus (suc at) bytes else Some Beyond))
+      by_case later false had e = refl
+      by_case later true true e = rw e refl
+      by_case later true false e = rw e later
 
 bytes_fault-parts : (modulus : ℕ) (taken : List ℕ) (next : Option ℕ) (bytes : List ℕ)
     → bytes_fault modulus taken next bytes ≡ (twice_reason taken (bytes_read modulus next bytes) or_else bytes_stop modulus next bytes)
@@ -103,7 +107,8 @@ first_second taken (place ∷ places) =
     if has_number taken place.1 then Some (refusal_at place.0 (Twice place.1)) else first_second (place.1 ∷ taken) places
 
 first_second-line : (n : ℕ) (cells : List Cell) (more : List Place) (taken : List ℕ)
-    → first_second taken (places_at n cells ++ more) ≡ (option_map (refusal_at n) (twice_reason taken cells) or_else first_second (taken_after taken cells) more)
+    → first_second taken (places_at n cells ++ more) ≡ (option_map (refusal_at n) (twice_reason taken cells)
+    or_else first_second (taken_after taken cells) more)
 first_second-line n [] more taken = refl
 first_second-line n (cell ∷ cells) more taken = by_case (first_second-line n cells more (cell.0 ∷ taken)) (has_number taken cell.0) where
   by_case : first_second (cell.0 ∷ taken) (places_at n cells ++ more)
@@ -138,7 +143,8 @@ refusal-parts modulus (line ∷ lines) count s taken =
       by_case later (Some twice) stop e = refl
       by_case later None (Some stop) e = refl
       by_case later None None e = later
-          ∙ ap (λ cells. first_second (taken_after taken cells) (places_read modulus (suc count) (so_far s line) lines) or_else stop_read modulus (suc count) (so_far s line) lines)
+          ∙ ap (λ cells. first_second (taken_after taken cells) (places_read modulus (suc count) (so_far s line) lines)
+          or_else stop_read modulus (suc count) (so_far s line) lines)
           (sym (line_read-whole modulus s line e))
 
 -- lines with which nothing is wrong are read whole
@@ -159,17 +165,23 @@ pub places-addresses : (modulus : ℕ) (lines : List (Option Line)) (count : ℕ
     → map (λ (place : Place). place.1) (places_read modulus count s lines) ≡ cell_addresses (cells_read modulus s lines)
 places-addresses modulus [] count s = refl
 places-addresses modulus (line ∷ lines) count s =
-    map-append (λ (place : Place). place.1) (places_at (suc count) (line_read modulus s line)) (unless (line_stop modulus s line) (places_read modulus (suc count) (so_far s line) lines))
-    ∙ (ap (λ xs. xs ++ map (λ (place : Place). place.1) (unless (line_stop modulus s line) (places_read modulus (suc count) (so_far s line) lines))) (of_line (suc count) (line_read modulus s line))
-    ∙ (ap (λ xs. cell_addresses (line_read modulus s line) ++ xs) (by_case (places-addresses modulus lines (suc count) (so_far s line)) (line_stop modulus s line))
-    ∙ sym (map-append (λ (cell : Cell). cell.0) (line_read modulus s line) (unless (line_stop modulus s line) (cells_read modulus (so_far s line) lines))))) where
+    map-append (λ (place : Place). place.1) (places_at (suc count) (line_read modulus s line))
+    (unless (line_stop modulus s line) (places_read modulus (suc count) (so_far s line) lines))
+    ∙ (ap (λ xs. xs ++ map (λ (place : Place). place.1) (unless (line_stop modulus s line) (places_read modulus (suc count) (so_far s line) lines)))
+    (of_line (suc count) (line_read modulus s line))
+    ∙ (ap (λ xs. cell_addresses (line_read modulus s line) ++ xs)
+    (by_case (places-addresses modulus lines (suc count) (so_far s line)) (line_stop modulus s line))
+    ∙ sym (map-append (λ (cell : Cell). cell.0) (line_read modulus s line)
+    (unless (line_stop modulus s line) (cells_read modulus (so_far s line) lines))))) where
       of_line : (n : ℕ) (cells : List Cell) → map (λ (place : Place). place.1) (places_at n cells) ≡ cell_addresses cells
       of_line n [] = refl
       of_line n (cell ∷ cells) = ap (λ xs. cell.0 ∷ xs) (of_line n cells)
 
-      by_case : map (λ (place : Place). place.1) (places_read modulus (suc count) (so_far s line) lines) ≡ cell_addresses (cells_read modulus (so_far s line) lines)
+      by_case : map (λ (place : Place). place.1) (places_read modulus (suc count) (so_far s line) lines)
+          ≡ cell_addresses (cells_read modulus (so_far s line) lines)
           → (stop : Option TxtReason)
-          → map (λ (place : Place). place.1) (unless stop (places_read modulus (suc count) (so_far s line) lines)) ≡ cell_addresses (unless stop (cells_read modulus (so_far s line) lines))
+          → map (λ (place : Place). place.1) (unless stop (places_read modulus (suc count) (so_far s line) lines))
+          ≡ cell_addresses (unless stop (cells_read modulus (so_far s line) lines))
       by_case later None = later
       by_case later (Some stop) = refl
 
@@ -209,10 +221,12 @@ second-some [] taken a e = absurd (cc e)
 second-some (place ∷ places) taken a e = by_case (second-some places (place.1 ∷ taken) a) (has_number taken place.1) refl e where
   here : has_number taken place.1 ≡ true → place.1 ≡ a → place.0 ≡ second_line a (hits_of taken a) (place ∷ places)
   here had same =
-      let P : ℕ → Type 0 = λ x. place.0 ≡ (if x == place.1 then (if nat_lt 0 (hits_of taken x) then place.0 else second_line x 1 places) else second_line x (hits_of taken x) places) in
+      let P : ℕ → Type 0 = λ x. place.0 ≡ (if x == place.1 then (if nat_lt 0 (hits_of taken x) then place.0 else second_line x 1 places)
+      else second_line x (hits_of taken x) places) in
       subst P same (first (place.1 == place.1) (grind arith)) where
         first : (b : Bool) → b ≡ true
-            → place.0 ≡ (if b then (if nat_lt 0 (hits_of taken place.1) then place.0 else second_line place.1 1 places) else second_line place.1 (hits_of taken place.1) places)
+            → place.0 ≡ (if b then (if nat_lt 0 (hits_of taken place.1) then place.0 else second_line place.1 1 places)
+            else second_line place.1 (hits_of taken place.1) places)
         first b e = rw (e, had) refl
 
   by_case : (first_twice (place.1 ∷ taken) (map (λ (p : Place). p.1) places) ≡ Some (loaded_twice a)
@@ -269,7 +283,8 @@ pub cells_read-low : (modulus : ℕ) (lines : List (Option Line)) (s : SoFar) �
 cells_read-low modulus [] s = nothing modulus
 cells_read-low modulus (line ∷ lines) s =
     rw (map-append (λ (cell : Cell). cell.0) (line_read modulus s line) (unless (line_stop modulus s line) (cells_read modulus (so_far s line) lines)))
-    (All-append (λ (a : ℕ). a < modulus) (cell_addresses (line_read modulus s line)) (cell_addresses (unless (line_stop modulus s line) (cells_read modulus (so_far s line) lines)))
+    (All-append (λ (a : ℕ). a < modulus) (cell_addresses (line_read modulus s line))
+    (cell_addresses (unless (line_stop modulus s line) (cells_read modulus (so_far s line) lines)))
     (line_read-low modulus s line) (by_case (cells_read-low modulus lines (so_far s line)) (line_stop modulus s line))) where
       by_case : All (λ a. a < modulus) (cell_addresses (cells_read modulus (so_far s line) lines)) → (stop : Option TxtReason)
           → All (λ a. a < modulus) (cell_addresses (unless stop (cells_read modulus (so_far s line) lines)))

@@ -22,7 +22,8 @@ use Rattle.mufom_titxt.specs.Rows.{NamesTwice}
 use Rattle.mufom_titxt.specs.Lines.{Line, line_of, lines_of}
 use Rattle.mufom_titxt.specs.Texts.{nothing_stated, refusal_at, refusal_after, txt_refusal, IsTxtOf}
 use Rattle.mufom_titxt.specs.Reading.{Place, cells_read, places_read, stop_read, second_line}
-use Rattle.mufom_titxt.proofs.RefusalLaws.{first_second, refusal-parts, cells_read-whole, places-addresses, second-none, second-some, cells_read-low, twice-names}
+use Rattle.mufom_titxt.proofs.RefusalLaws.{first_second, refusal-parts, cells_read-whole, places-addresses, second-none, second-some, cells_read-low}
+use Rattle.mufom_titxt.proofs.RefusalLaws.{twice-names}
 
 module _ (text : List ℕ) (width modulus : ℕ) (same : modulus ≡ 2 ^ width) (cells : List Cell)
     (read : cells ≡ cells_read modulus nothing_stated (map line_of (lines_of text))) where

@@ -1,5 +1,6 @@
 -- Text that is written in parts.
-use Rattle.std.proofs.Common.{◌≡◌, ℕ, ◌+◌, ◌%◌, ◌<◌, ◌≤◌, min, List, ◌++◌, length, take, drop, Ok, Err, Bool, true, false, refl, sym, ◌∙◌, ap, subst, arith, append_assoc}
+use Rattle.std.proofs.Common.{◌≡◌, ℕ, ◌+◌, ◌%◌, ◌<◌, ◌≤◌, min, List, ◌++◌, length, take, drop, Ok, Err, Bool, true, false, refl, sym, ◌∙◌, ap, subst}
+use Rattle.std.proofs.Common.{arith, append_assoc}
 use Rattle.std.specs.Prelude.{nat_lt}
 use Rattle.std.proofs.Math.Seq.{take-length, drop-length}
 use Rattle.std.proofs.lemmas.List.{append-nil, take-append-drop, length-take-le}
@@ -7,7 +8,8 @@ use Rattle.mufom_meaning.proofs.Choices.{of_lt, of_not_lt}
 use Rattle.mufom_host.specs.declared.world.Failed.{Failed}
 use Rattle.mufom_host.specs.World.{Meaning, Faults, WritesAll, MakingGrowsByPrefix, HasCause, KeepsAllButMaking, KeepsAllButWrites}
 use Rattle.mufom_host.specs.Spans.{AfterWrites}
-use Rattle.mufom_host.proofs.Composing.{MakingGrowsBy-trans, MakingGrowsByPrefix-trans, MakingGrowsByPrefix-more, KeepsAllButMaking-trans, KeepsAllButWrites-trans}
+use Rattle.mufom_host.proofs.Composing.{MakingGrowsBy-trans, MakingGrowsByPrefix-trans, MakingGrowsByPrefix-more, KeepsAllButMaking-trans}
+use Rattle.mufom_host.proofs.Composing.{KeepsAllButWrites-trans}
 use Rattle.mufom_titxt.specs.Written.{byte_lines}
 use Rattle.mufom_titxt.proofs.PageLaws.{lines-append}
 
@@ -32,7 +34,8 @@ regroup passed page part after = append_assoc passed (page ++ part) after ∙ ap
 
 module _ (a b c : Meaning) (f g h : Faults) (passed page part after total : List ℕ) (whole : passed ++ (page ++ (part ++ after)) ≡ total)
     (so_far : AfterWrites a b f g passed) where
-  pub part_written : WritesAll b.making c.making (Ok tt) (page ++ part) → KeepsAllButMaking b c → HasCause {T = Unit {0}} g.writes h.writes (Ok tt) → KeepsAllButWrites g h
+  pub part_written : WritesAll b.making c.making (Ok tt) (page ++ part) → KeepsAllButMaking b c → HasCause {T = Unit {0}} g.writes h.writes (Ok tt)
+      → KeepsAllButWrites g h
       → (all : List ℕ) × AfterWrites a c f h all × (all ++ after ≡ total)
   part_written grows stays cause counts = (
     passed ++ (page ++ part),

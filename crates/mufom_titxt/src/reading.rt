@@ -4,7 +4,8 @@ ghost use Rattle.std.specs.Prelude.{◌≡◌, ◌+◌, ◌≤◌, ◌<◌, ◌^
 ghost use Rattle.mufom_image_bytes.specs.Loaded.{loaded_cells, IsTiled};
 ghost use Rattle.mufom_titxt.specs.Lines.{line_of, lines_of, words_of};
 ghost use Rattle.mufom_titxt.specs.Texts.{so_far, nothing_stated, end_fault};
-ghost use Rattle.mufom_titxt.specs.Reading.{stated, word_bytes, bytes_read, bytes_stop, inner_read, inner_stop, line_read, line_stop, cells_read, stop_read, hits_after};
+ghost use Rattle.mufom_titxt.specs.Reading.{stated, word_bytes, bytes_read, bytes_stop, inner_read, inner_stop, line_read, line_stop, cells_read};
+ghost use Rattle.mufom_titxt.specs.Reading.{stop_read, hits_after};
 
 use crate::lines::next_line;
 use crate::refusal::{TxtReason, TxtRefusal};

@@ -4,7 +4,8 @@ use Rattle.std.specs.Prelude.{min}
 use Rattle.std.specs.Int.Digits.{number_from_digits_after}
 use Rattle.std.proofs.lemmas.Int.Digits.{number_after_ge}
 
-pub capped-after : (bound n : ℕ) (digits : List ℕ) → min bound (number_from_digits_after 10 (min n bound) digits) ≡ min bound (number_from_digits_after 10 n digits)
+pub capped-after : (bound n : ℕ) (digits : List ℕ) → min bound (number_from_digits_after 10 (min n bound) digits)
+    ≡ min bound (number_from_digits_after 10 n digits)
 capped-after bound n digits = by_case (nat_le n bound) refl where
   by_case : (b : Bool) → nat_le n bound ≡ b → min bound (number_from_digits_after 10 (min n bound) digits) ≡ min bound (number_from_digits_after 10 n digits)
   by_case true h =

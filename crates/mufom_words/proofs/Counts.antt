@@ -1,13 +1,20 @@
 -- No more words name files than there are words: at each word of a walk, what it holds for them
 -- grows by at most one.
-use Rattle.std.proofs.Common.{◌≡◌, ◌∙◌, ◌≤◌, ◌+◌, ◌⊎◌, ℕ, Bool, cond, true, false, zero, suc, refl, sym, ap, arith, codes, List, [], ◌∷◌, ◌++◌, length, drop, Option, Some, None, inl, inr, fold, zero-add, length-append, length-drop, ◌&&◌}
+use Rattle.std.proofs.Common.{◌≡◌, ◌∙◌, ◌≤◌, ◌+◌, ◌⊎◌, ℕ, Bool, cond, true, false, zero, suc, refl, sym, ap, arith, codes, List, [], ◌∷◌, ◌++◌}
+use Rattle.std.proofs.Common.{length, drop, Option, Some, None, inl, inr, fold, zero-add, length-append, length-drop, ◌&&◌}
 use Rattle.std.specs.Prelude.{find, min, slice_get, encode_utf8}
 use Rattle.std.specs.Option.{IfSome, option_map, unwrap_or}
 use Rattle.std.specs.Str.{bytes_eq, chars}
 use Rattle.std.proofs.lemmas.Slice.Eq.{bytes_eq-Decides}
 use Rattle.clap.specs.Lexer.{long_of, short_of}
 use Rattle.clap.specs.Simple.{argument_words, built, names_of}
-use Rattle.clap.specs.Walk.{Held, Names, Outcome, Row, Rule, Step, Text, Waiting, Walk, action_of, after_flag, after_step, all_of, arg_by_id, arg_by_index, arg_by_long, arg_by_short, at_row, attached_value, count_of, bundle, bundle_met, bundle_step, counted, default_rows, done, flag_met, has_row, is_pending, long_met, long_or_other, more_values, new_count, next, nothing_held, option, option_met, option_word, plain, plain_word, positional_held, pushed, reacted, reading_by, refused, rows_after, settled, settled_rows, short_met, short_or_plain, subcommand, subcommand_met, subcommand_or_other, takes_several, takes_values, to_positional, trailing, used, used_as, used_by_id, value, values_or_missing, waits, walk, walk_from, walked, walked_from, with_count, with_default, with_values, without, word_met}
+use Rattle.clap.specs.Walk.{Held, Names, Outcome, Row, Rule, Step, Text, Waiting, Walk, action_of, after_flag, after_step, all_of, arg_by_id}
+use Rattle.clap.specs.Walk.{arg_by_index, arg_by_long, arg_by_short, at_row, attached_value, count_of, bundle, bundle_met, bundle_step, counted}
+use Rattle.clap.specs.Walk.{default_rows, done, flag_met, has_row, is_pending, long_met, long_or_other, more_values, new_count, next, nothing_held}
+use Rattle.clap.specs.Walk.{option, option_met, option_word, plain, plain_word, positional_held, pushed, reacted, reading_by, refused, rows_after}
+use Rattle.clap.specs.Walk.{settled, settled_rows, short_met, short_or_plain, subcommand, subcommand_met, subcommand_or_other, takes_several}
+use Rattle.clap.specs.Walk.{takes_values, to_positional, trailing, used, used_as, used_by_id, value, values_or_missing, waits, walk, walk_from}
+use Rattle.clap.specs.Walk.{walked, walked_from, with_count, with_default, with_values, without, word_met}
 use Rattle.clap.specs.Walk.{idle, positional}
 use Rattle.mufom_words.specs.declared.form.Form.{Form}
 use Rattle.mufom_words.specs.declared.form.Form.TheVariants as form
@@ -64,7 +71,8 @@ module _ (id : Text) (other : is_files id ≡ false) where
   without-other rows = at_row-other id (λ _. []) [] rows other (λ r rest e. refl) refl
 
   with_values-other : (how : Reading) (s : ValueSource) (values : List Text) (rows : List Row) → files_row (with_values id how s values rows) ≡ files_row rows
-  with_values-other how s values rows = at_row-other id (more_values s values) _ rows other (λ r rest e. passed r.id _ (files_row rest) e) (passed id _ None other)
+  with_values-other how s values rows = at_row-other id (more_values s values) _ rows other (λ r rest e. passed r.id _ (files_row rest) e)
+      (passed id _ None other)
 
   with_count-other : (how : Reading) (s : ValueSource) (n : ℕ) (rows : List Row) → files_row (with_count id how s n rows) ≡ files_row rows
   with_count-other how s n rows = at_row-other id (new_count s n) _ rows other (λ r rest e. passed r.id _ (files_row rest) e) (passed id _ None other)
@@ -92,12 +100,14 @@ module _ (id : Text) (other : is_files id ≡ false) where
   default_rows-other how (v ∷ values) rows = with_values-other how DefaultValue (v ∷ values) rows
 
 -- values at the id itself are added
-with_values-files : (how : Reading) (s : ValueSource) (values : List Text) (rows : List Row) → count (with_values files how s values rows) ≡ count rows + length values
+with_values-files : (how : Reading) (s : ValueSource) (values : List Text) (rows : List Row) → count (with_values files how s values rows)
+    ≡ count rows + length values
 with_values-files how s values [] = sym (zero-add (length values))
 with_values-files how s values (r ∷ rows) = go (is_files r.id) refl (with_values-files how s values rows)
   where
     go : (b : Bool) → is_files r.id ≡ b → count (with_values files how s values rows) ≡ count rows + length values
-        → number (files_row (cond b (more_values s values r ++ rows) (r ∷ with_values files how s values rows))) ≡ number (cond b (Some r) (files_row rows)) + length values
+        → number (files_row (cond b (more_values s values r ++ rows) (r ∷ with_values files how s values rows)))
+        ≡ number (cond b (Some r) (files_row rows)) + length values
     go true e rest = met r.id _ (files_row rows) e ∙ length-append r.values values
     go false e rest = ap (λ b. number (cond b (Some r) (files_row (with_values files how s values rows)))) e ∙ rest
 
@@ -141,10 +151,12 @@ used_as-Append action id how values rows append as_files = rw (append, as_files)
 count-used : (a : Rule) (values : List Text) (rows : List Row) → IsMild a → count (used a values rows) ≤ count rows + share a.id values
 count-used a values rows mild = elim mild [
   | inl other ↦
-      let same : count (used a values rows) ≡ count rows = ap number (used_as-other a.id other (action_of a) (reading_by a) (values_or_missing a values) rows) in
+      let same : count (used a values rows) ≡ count rows = ap number
+      (used_as-other a.id other (action_of a) (reading_by a) (values_or_missing a values) rows) in
       omega arith
   | inr own ↦
-      let more : count (used a values rows) ≡ count rows + length (values_or_missing a values) = used_as-Append (action_of a) a.id (reading_by a) (values_or_missing a values) rows own.1 own.0 in
+      let more : count (used a values rows) ≡ count rows + length (values_or_missing a values) =
+      used_as-Append (action_of a) a.id (reading_by a) (values_or_missing a values) rows own.1 own.0 in
       let all : share a.id values ≡ length values = ap (λ id. share id values) own.0 in
       let given : length (values_or_missing a values) ≡ length values = ap length (same_values a values own.2) in
       omega arith
@@ -241,7 +253,8 @@ module _ (c : List Rule) (mild : AreMild c) where
       let more = held-reacted a [] h own in
       omega arith
 
-  held-long_met : (found : Option Rule) (v : Option Text) (h : Held) → IfSome found IsMild → held (long_met c found v h).0 ≤ held h + spent (long_met c found v h).1
+  held-long_met : (found : Option Rule) (v : Option Text) (h : Held) → IfSome found IsMild
+      → held (long_met c found v h).0 ≤ held h + spent (long_met c found v h).1
   held-long_met None v h own = omega arith
   held-long_met (Some a) v h own = go (takes_values a)
     where
@@ -350,7 +363,8 @@ module _ (c : List Rule) (mild : AreMild c) where
   held-after_step word w h (subcommand name) = omega arith
   held-after_step word w h value = held-to_positional (arg_by_index c w.position) word w h
 
-  held-walked_from : (names : Names) (stopped : Option (Text × List Text)) (w : Walk) (word : Text) → held (walked_from c names stopped w word).held ≤ held w.held + 1
+  held-walked_from : (names : Names) (stopped : Option (Text × List Text)) (w : Walk) (word : Text)
+      → held (walked_from c names stopped w word).held ≤ held w.held + 1
   held-walked_from names (Some p) w word = omega arith
   held-walked_from names None w word =
       let met = word_met c names w.is_trailing w.waiting w.position word w.held in

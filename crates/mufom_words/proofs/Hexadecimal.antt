@@ -1,5 +1,6 @@
 -- Hexadecimal digits alone are read as the number that they state.
-use Rattle.std.proofs.Common.{◌≡◌, ℕ, ◌≤◌, ◌<◌, ◌^◌, ◌&&◌, ◌==◌, rules, drop, Bool, cond, true, false, nat_le, nat_lt, List, [], ◌∷◌, length, Result, Ok, Err, Some, None, refl, sym, ap, subst, arith}
+use Rattle.std.proofs.Common.{◌≡◌, ℕ, ◌≤◌, ◌<◌, ◌^◌, ◌&&◌, ◌==◌, rules, drop, Bool, cond, true, false, nat_le, nat_lt, List, [], ◌∷◌, length, Result}
+use Rattle.std.proofs.Common.{Ok, Err, Some, None, refl, sym, ap, subst, arith}
 use Rattle.std.specs.Char.{digit_value}
 use Rattle.std.specs.List.{list_all}
 use Rattle.std.specs.Result.{OkIff}
@@ -12,7 +13,8 @@ use Rattle.mufom_words.specs.Values.{hexadecimal_of, is_hexadecimal}
 all_digits : (bs : List ℕ) → list_all is_hexadecimal bs ≡ true → AllDigits 16 bs
 all_digits [] all = tt
 all_digits (b ∷ bs) all = by (is_hexadecimal b) refl all (all_digits bs) where
-  by : (t : Bool) → is_hexadecimal b ≡ t → (t && list_all is_hexadecimal bs) ≡ true → (list_all is_hexadecimal bs ≡ true → AllDigits 16 bs) → AllDigits 16 (b ∷ bs)
+  by : (t : Bool) → is_hexadecimal b ≡ t → (t && list_all is_hexadecimal bs) ≡ true → (list_all is_hexadecimal bs ≡ true → AllDigits 16 bs)
+      → AllDigits 16 (b ∷ bs)
   by true is rest more = (ltb-true (digit_value b) 16 is, more rest)
   by false is rest more = absurd cc
 
@@ -32,7 +34,8 @@ no_plus (b ∷ bs) all = by (b == 43) refl where
   by false is = refl
 
 -- so the tests of a value hold
-pub hexadecimal-is : (least most : ℕ) (bs : List ℕ) → least ≤ length bs → length bs ≤ most → list_all is_hexadecimal bs ≡ true → hexadecimal_of least most bs ≡ Some (digits_value 16 bs)
+pub hexadecimal-is : (least most : ℕ) (bs : List ℕ) → least ≤ length bs → length bs ≤ most → list_all is_hexadecimal bs ≡ true
+    → hexadecimal_of least most bs ≡ Some (digits_value 16 bs)
 hexadecimal-is least most bs some within all =
     let low : nat_le least (length bs) ≡ true = search rules in
     let high : nat_le (length bs) most ≡ true = search rules in
@@ -49,7 +52,8 @@ below bs most all within =
     let power = pow-le-pow_right {n = 16} (omega arith) within in
     omega (arith, value, power)
 
-pub read : {E : Type 0} (bs : List ℕ) (most : ℕ) (r : Result ℕ E) → ParsesUnsigned 64 16 bs r → list_all is_hexadecimal bs ≡ true → 1 ≤ length bs → length bs ≤ most → most ≤ 16
+pub read : {E : Type 0} (bs : List ℕ) (most : ℕ) (r : Result ℕ E) → ParsesUnsigned 64 16 bs r → list_all is_hexadecimal bs ≡ true → 1 ≤ length bs
+    → length bs ≤ most → most ≤ 16
     → r ≡ Ok (digits_value 16 bs)
 read {E = E} bs most r parses all some within fits =
     by r (subst (λ (l : List ℕ). OkIff r (IsNumeral 16 l × (digits_value 16 l < 2 ^ 64)) (digits_value 16 l)) (no_plus bs all) parses) where

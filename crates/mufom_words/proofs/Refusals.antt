@@ -12,7 +12,8 @@ use Rattle.mufom_words.specs.declared.stop.UsageFault.TheVariants as fault
 use Rattle.std.proofs.Common.{Some, cond}
 
 -- an error of a kind that the words give, or of out of memory
-pub refusal_answers : (f : Form) (words : List Text) (k : ErrorKind) → (k ≡ kind.OutOfMemory) ⊎ IsAmong k (fault_of (app_for f) words) → stop_by k ≢ stop.NoMemory
+pub refusal_answers : (f : Form) (words : List Text) (k : ErrorKind) → (k ≡ kind.OutOfMemory) ⊎ IsAmong k (fault_of (app_for f) words)
+    → stop_by k ≢ stop.NoMemory
     → answer_for (Some f) words ≡ Err (stop_by k)
 refusal_answers f words k found other = elim found [
   | inl memory ↦ absurd (other (ap stop_by memory))
@@ -20,7 +21,8 @@ refusal_answers f words k found other = elim found [
 ]
   where
     by_kind : (b : Bool) (kinds : Kinds) → IsAmong k kinds → cond b stop.NoMemory (stop.Usage fault.BadWords) ≢ stop.NoMemory
-        → unless_stopped (words_stop (usage_of f) kinds (given f words)) (command_by (usage_of f) (given f words)) ≡ Err (cond b stop.NoMemory (stop.Usage fault.BadWords))
+        → unless_stopped (words_stop (usage_of f) kinds (given f words)) (command_by (usage_of f) (given f words))
+        ≡ Err (cond b stop.NoMemory (stop.Usage fault.BadWords))
     by_kind b [] among other = absurd among
     by_kind true (x ∷ kinds) among other = absurd (other refl)
     by_kind false (x ∷ kinds) among other = refl

@@ -1,5 +1,6 @@
 -- Each command that words give is sound.
-use Rattle.std.proofs.Common.{◌≡◌, ◌≢◌, ◌≤◌, ℕ, Bool, cond, true, false, nat_lt, refl, ap, sym, ◌∙◌, arith, true≢false, codes, inl, inr, ◌⊎◌, ◌||◌, ◌-◌, length, List, [], ◌∷◌, Option, Some, None, Ok, subst, Result}
+use Rattle.std.proofs.Common.{◌≡◌, ◌≢◌, ◌≤◌, ℕ, Bool, cond, true, false, nat_lt, refl, ap, sym, ◌∙◌, arith, true≢false, codes, inl, inr, ◌⊎◌, ◌||◌}
+use Rattle.std.proofs.Common.{◌-◌, length, List, [], ◌∷◌, Option, Some, None, Ok, subst, Result}
 use Rattle.std.specs.Prelude.{IfSome, IsSome, is_none, unwrap_or, not, nat_le, ◌==◌, ◌&&◌}
 use Rattle.std.specs.List.{list_all}
 use Rattle.std.specs.Result.{result_unwrap_or}
@@ -21,15 +22,19 @@ use Rattle.mufom_words.specs.declared.options.Setting.TheVariants as setting
 use Rattle.mufom_words.specs.declared.stop.UsageFault.{UsageFault}
 use Rattle.mufom_words.specs.declared.stop.UsageFault.TheVariants as fault
 use Rattle.mufom_words.specs.declared.stop.WordsStop.{WordsStop}
-use Rattle.mufom_words.specs.Options.{Text, Usage, Given, usage_of, app_for, form_of, takes, id_of, given_by, makes_file, makes_modules, names_module, prints_help, reads_files, reads_plan, takes_one_file}
-use Rattle.mufom_words.specs.Operands.{word_of, file_words, is_name, names_in, operands_fault, number_fault, count_fault, count_of, is_digit, decimal_number, most_modules, number_of, files_of, marks_of, depth_of}
+use Rattle.mufom_words.specs.Options.{Text, Usage, Given, usage_of, app_for, form_of, takes, id_of, given_by, makes_file, makes_modules, names_module}
+use Rattle.mufom_words.specs.Options.{prints_help, reads_files, reads_plan, takes_one_file}
+use Rattle.mufom_words.specs.Operands.{word_of, file_words, is_name, names_in, operands_fault, number_fault, count_fault, count_of, is_digit}
+use Rattle.mufom_words.specs.Operands.{decimal_number, most_modules, number_of, files_of, marks_of, depth_of}
 use Rattle.std.specs.Str.{bytes_eq}
 use Rattle.mufom_words.specs.declared.command.Verb.{Verb}
 use Rattle.mufom_words.specs.declared.command.Verb.TheVariants as verb
 use Rattle.mufom_words.specs.Help.{own_answer, own_command, own_text, own_verb, printing}
 use Rattle.mufom_words.specs.Values.{byte_of, address_of}
 use Rattle.mufom_words.specs.Tree.{tree_of, leaves}
-use Rattle.mufom_words.specs.Answer.{◌or_else◌, most_files, longest_name, given_fault, missing_fault, number_by, options_fault, name_fault, unless_read, usage_fault, value_fault, limit_stop, limit_stop_by, usage, words_stop, command_by, unless_stopped, answer_by, answer_for, answer_of, given}
+use Rattle.mufom_words.specs.Answer.{◌or_else◌, most_files, longest_name, given_fault, missing_fault, number_by, options_fault, name_fault}
+use Rattle.mufom_words.specs.Answer.{unless_read, usage_fault, value_fault, limit_stop, limit_stop_by, usage, words_stop, command_by, unless_stopped}
+use Rattle.mufom_words.specs.Answer.{answer_by, answer_for, answer_of, given}
 use Rattle.mufom_words.specs.Sound.{numbers_from, IsSound, CommandsAreSound}
 use Rattle.mufom_words.proofs.TreeOfWords.{tree_count, count-some, count-some-plain, length-numbers_from, IsTreeOf, tree-of-words, tree-of-plain}
 
@@ -70,9 +75,11 @@ accepted_by u refused g none =
     let tests = (or_else-none (missing_fault u setting.At g.at) (usage_fault u g.out g.name g.operands or_else value_fault g.fill g.at)
     (usage-none (given_fault u g) parts.0)).1 in
     let usages = or_else-none (usage_fault u g.out g.name g.operands) (value_fault g.fill g.at) tests in
-    let first = or_else-none (missing_fault u setting.Out g.out) (operands_fault u.operands g.operands or_else number_fault u.operands g.operands or_else name_fault g.name or_else count_fault u.operands g.operands)
+    let first = or_else-none (missing_fault u setting.Out g.out) (operands_fault u.operands g.operands or_else number_fault u.operands g.operands
+    or_else name_fault g.name or_else count_fault u.operands g.operands)
     usages.0 in
-    let second = or_else-none (operands_fault u.operands g.operands) (number_fault u.operands g.operands or_else name_fault g.name or_else count_fault u.operands g.operands) first.1 in
+    let second = or_else-none (operands_fault u.operands g.operands) (number_fault u.operands g.operands or_else name_fault g.name
+    or_else count_fault u.operands g.operands) first.1 in
     let third = or_else-none (number_fault u.operands g.operands) (name_fault g.name or_else count_fault u.operands g.operands) second.1 in
     let fourth = or_else-none (name_fault g.name) (count_fault u.operands g.operands) third.1 in
     record {
@@ -114,11 +121,29 @@ record IsFitting (o : Operands) (marks : List Mark) (files : List Text) : Type 0
 
 fitting : (o : Operands) (words : List Text) → operands_fault o words ≡ None → IsFitting o (marks_of o words) (files_of o words)
 fitting OneFile words none =
-    record { count = tree_count (file_words words); tree = tree-of-plain (file_words words) none; within = count-within words; some = λ other. count-some-plain (file_words words) none }
+    record {
+      count = tree_count (file_words words);
+      tree = tree-of-plain (file_words words) none;
+      within = count-within words;
+      some =
+          λ other. count-some-plain (file_words words) none;
+    }
 fitting SomeFiles words none =
-    record { count = tree_count (file_words words); tree = tree-of-plain (file_words words) none; within = count-within words; some = λ other. count-some-plain (file_words words) none }
+    record {
+      count = tree_count (file_words words);
+      tree = tree-of-plain (file_words words) none;
+      within = count-within words;
+      some =
+          λ other. count-some-plain (file_words words) none;
+    }
 fitting GroupedFiles words none =
-    record { count = tree_count (file_words words); tree = tree-of-words (file_words words) none; within = count-within words; some = λ other. count-some (file_words words) 0 false none }
+    record {
+      count = tree_count (file_words words);
+      tree = tree-of-words (file_words words) none;
+      within = count-within words;
+      some =
+          λ other. count-some (file_words words) 0 false none;
+    }
 fitting OneCount words none = record { count = 0; tree = record { spelled = refl; numbered = refl }; within = omega arith; some = λ other. absurd (other refl) }
 
 -- one word and one file at least are one file
@@ -266,7 +291,8 @@ sound_by f rows is =
     let o : Operands = (usage_of f).operands in
     let words : List Text = (given_by f rows).operands in
     let fits : IsFitting o (marks_of o words) (files_of o words) = fitting o words is.operand in
-    let long : length (leaves (tree_of (marks_of o words))) ≡ fits.count = ap (λ (l : List ℕ). length l) fits.tree.numbered ∙ length-numbers_from 0 fits.count in
+    let long : length (leaves (tree_of (marks_of o words))) ≡ fits.count = ap (λ (l : List ℕ). length l) fits.tree.numbered
+    ∙ length-numbers_from 0 fits.count in
     record {
       tree = record {
         spelled = fits.tree.spelled;

@@ -22,9 +22,12 @@ spelled-spelling empty marks = refl
 spelled-spelling (file n rest) marks = ap (λ (s : Spelled). record s { inner = file n s.inner }) (spelled-spelling rest marks)
 spelled-spelling (group inner rest) marks =
     let after = spelled-spelling rest marks in
-    let whole : spelled (spelling inner ++ Close ∷ (spelling rest ++ marks)) ≡ record { inner = prepended inner empty; others = prepended rest (spelled marks).inner ∷ (spelled marks).others }
-    = spelled-spelling inner (Close ∷ (spelling rest ++ marks)) ∙ ap (λ (s : Spelled). record { inner = prepended inner empty; others = s.inner ∷ s.others }) after in
-    let split : (spelling inner ++ Close ∷ spelling rest) ++ marks ≡ spelling inner ++ Close ∷ (spelling rest ++ marks) = append_assoc (spelling inner) (Close ∷ spelling rest) marks in
+    let whole : spelled (spelling inner ++ Close ∷ (spelling rest ++ marks))
+    ≡ record { inner = prepended inner empty; others = prepended rest (spelled marks).inner ∷ (spelled marks).others }
+    = spelled-spelling inner (Close ∷ (spelling rest ++ marks))
+    ∙ ap (λ (s : Spelled). record { inner = prepended inner empty; others = s.inner ∷ s.others }) after in
+    let split : (spelling inner ++ Close ∷ spelling rest) ++ marks ≡ spelling inner ++ Close ∷ (spelling rest ++ marks) =
+    append_assoc (spelling inner) (Close ∷ spelling rest) marks in
     ap (λ (l : List Mark). opened (spelled l).inner (spelled l).others) split ∙ (ap (λ (s : Spelled). opened s.inner s.others) whole
     ∙ ap (λ (f : Forest). record { inner = group f (prepended rest (spelled marks).inner); others = (spelled marks).others }) (prepended-empty inner))
 

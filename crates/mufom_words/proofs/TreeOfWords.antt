@@ -37,7 +37,8 @@ record Spells (s : Spelled) (depth : ℕ) (marks : List Mark) : Type 0 where
   same : marks_of_spelled s ≡ marks
 
 -- a group that is opened before them
-spells-opened : (inner : Forest) (others : List Forest) (depth : ℕ) (marks : List Mark) → Spells (record { inner = inner; others = others }) (suc depth) marks → Spells (opened inner others) depth (Open ∷ marks)
+spells-opened : (inner : Forest) (others : List Forest) (depth : ℕ) (marks : List Mark)
+    → Spells (record { inner = inner; others = others }) (suc depth) marks → Spells (opened inner others) depth (Open ∷ marks)
 spells-opened inner [] depth marks is = absurd (omega (arith, is.deep))
 spells-opened inner (more ∷ others) depth marks is = record {
   deep = omega (arith, is.deep);
@@ -45,7 +46,8 @@ spells-opened inner (more ∷ others) depth marks is = record {
 }
 
 -- the words from here on have no fault: the marks are spelled so
-spells-words : (words : List FileWord) (n depth : ℕ) (fresh any : Bool) → fault_from (walk.Tree depth fresh any) words ≡ None → Spells (spelled (marks_from n words)) depth (marks_from n words)
+spells-words : (words : List FileWord) (n depth : ℕ) (fresh any : Bool) → fault_from (walk.Tree depth fresh any) words ≡ None
+    → Spells (spelled (marks_from n words)) depth (marks_from n words)
 spells-words [] n zero fresh any none = record { deep = refl; same = refl }
 spells-words [] n (suc depth) fresh any none = absurd cc
 spells-words (Opening ∷ words) n depth fresh any none =
@@ -120,7 +122,8 @@ length-zero (x ∷ xs) same = absurd (omega (arith, same))
 
 whole-tree : (words : List FileWord) → Spells (spelled (marks_from 0 words)) 0 (marks_from 0 words) → IsTreeOf (marks_from 0 words) (tree_count words)
 whole-tree words is = closed (spelled (marks_from 0 words)) refl is.deep where
-  closed : (s : Spelled) → spelled (marks_from 0 words) ≡ s → length (spelled (marks_from 0 words)).others ≡ 0 → IsTreeOf (marks_from 0 words) (tree_count words)
+  closed : (s : Spelled) → spelled (marks_from 0 words) ≡ s → length (spelled (marks_from 0 words)).others ≡ 0
+      → IsTreeOf (marks_from 0 words) (tree_count words)
   closed s same deep =
       let none : (spelled (marks_from 0 words)).others ≡ [] = length-zero (spelled (marks_from 0 words)).others deep in
       let inner : Forest = tree_of (marks_from 0 words) in

@@ -26,7 +26,20 @@ marks n (_ ∷ files) = File n ∷ marks (suc n) files
 
 -- a command of files in no group
 abbrev of_files : Verb → Bool → List Text → Command
-of_files v no_debug files = record { verb = v; no_debug = no_debug; name = None; out = None; plan = None; marks = marks 0 files; files = files; count = 0; listing = false; fill = 0; at = 0; help = None }
+of_files v no_debug files = record {
+  verb = v;
+  no_debug = no_debug;
+  name = None;
+  out = None;
+  plan = None;
+  marks = marks 0 files;
+  files = files;
+  count = 0;
+  listing = false;
+  fill = 0;
+  at = 0;
+  help = None;
+}
 
 -- ---- no command
 
@@ -64,7 +77,8 @@ no_flag : answer_of (codes "dump" ∷ codes "a" ∷ []) ≡ Ok (of_files verb.Du
 unfolding clap_on_literals
 no_flag = refl
 
-options_end : answer_of (codes "check" ∷ codes "--" ∷ codes "-x" ∷ codes "--no-debug" ∷ []) ≡ Ok (of_files verb.Check false (codes "-x" ∷ codes "--no-debug" ∷ []))
+options_end : answer_of (codes "check" ∷ codes "--" ∷ codes "-x" ∷ codes "--no-debug" ∷ [])
+    ≡ Ok (of_files verb.Check false (codes "-x" ∷ codes "--no-debug" ∷ []))
 unfolding clap_on_literals
 options_end = refl
 
@@ -196,7 +210,8 @@ count_before_limit = refl
 abbrev none_given : Given
 none_given = record { no_debug = false; name = None; plan = None; out = None; listing = false; at = None; fill = None; operands = codes "a" ∷ [] }
 
-linked : given form.Link (codes "link" ∷ codes "-oc" ∷ codes "a" ∷ codes "[" ∷ codes "b" ∷ codes "--no-debug" ∷ codes "]" ∷ codes "--" ∷ codes "+" ∷ codes "-m" ∷ [])
+linked : given form.Link (codes "link" ∷ codes "-oc" ∷ codes "a" ∷ codes "[" ∷ codes "b" ∷ codes "--no-debug" ∷ codes "]" ∷ codes "--" ∷ codes
+    "+" ∷ codes "-m" ∷ [])
     ≡ record none_given { no_debug = true; out = Some (codes "c"); operands = codes "a" ∷ codes "[" ∷ codes "b" ∷ codes "]" ∷ codes "+" ∷ codes "-m" ∷ [] }
 unfolding clap_on_literals
 linked = refl
@@ -224,7 +239,8 @@ no_out : fault_of (app_for form.Locate) (codes "locate" ∷ codes "a" ∷ []) �
 unfolding clap_on_literals
 no_out = refl
 
-plan_twice : fault_of (app_for form.Locate) (codes "locate" ∷ codes "--plan" ∷ codes "p" ∷ codes "--plan=q" ∷ codes "-oc" ∷ codes "a" ∷ []) ≡ kind.ArgumentConflict ∷ []
+plan_twice : fault_of (app_for form.Locate) (codes "locate" ∷ codes "--plan" ∷ codes "p" ∷ codes "--plan=q" ∷ codes "-oc" ∷ codes "a" ∷ [])
+    ≡ kind.ArgumentConflict ∷ []
 unfolding clap_on_literals
 plan_twice = refl
 

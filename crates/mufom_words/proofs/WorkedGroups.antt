@@ -16,13 +16,28 @@ use Rattle.mufom_words.specs.Tree.{Forest, empty, file, group, tree_of, leaves, 
 -- ---- commands
 
 abbrev dumps : Command
-dumps = record { verb = verb.Dump; no_debug = false; name = None; out = None; plan = None; marks = []; files = []; count = 0; listing = false; fill = 0; at = 0; help = None }
+dumps = record {
+  verb = verb.Dump;
+  no_debug = false;
+  name = None;
+  out = None;
+  plan = None;
+  marks = [];
+  files = [];
+  count = 0;
+  listing = false;
+  fill =
+      0;
+  at = 0;
+  help = None;
+}
 
 a_dump : answer_for (Some form.Dump) (codes "dump" ∷ codes "m1" ∷ []) ≡ Ok (record dumps { marks = File 0 ∷ []; files = codes "m1" ∷ [] })
 unfolding clap_on_literals
 a_dump = refl
 
-a_dump_of_groups : answer_for (Some form.Dump) (codes "dump" ∷ codes "[" ∷ codes "a" ∷ codes "]" ∷ codes "b" ∷ codes "+" ∷ codes "c" ∷ codes "--plan" ∷ codes "p" ∷ [])
+a_dump_of_groups : answer_for (Some form.Dump) (codes "dump" ∷ codes "[" ∷ codes "a" ∷ codes "]" ∷ codes "b" ∷ codes "+" ∷ codes "c" ∷ codes
+    "--plan" ∷ codes "p" ∷ [])
     ≡ Ok (record dumps { plan = Some (codes "p"); marks = Open ∷ File 0 ∷ Close ∷ File 1 ∷ []; files = codes "a" ∷ codes "b" ∷ codes "c" ∷ [] })
 unfolding clap_on_literals
 a_dump_of_groups = refl
@@ -80,7 +95,8 @@ deep_and_open : answer_for (Some form.Dump) (codes "dump" ∷ repeated 65 (codes
 unfolding clap_on_literals
 deep_and_open = refl
 
-many_and_deep : answer_for (Some form.Dump) (codes "dump" ∷ repeated 65 (codes "[") (repeated 1025 (codes "a") (repeated 65 (codes "]") []))) ≡ Err (stop.TooManyFiles 1025)
+many_and_deep : answer_for (Some form.Dump) (codes "dump" ∷ repeated 65 (codes "[") (repeated 1025 (codes "a") (repeated 65 (codes "]") [])))
+    ≡ Err (stop.TooManyFiles 1025)
 unfolding clap_on_literals
 many_and_deep = refl
 

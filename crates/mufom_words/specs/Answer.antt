@@ -1,7 +1,8 @@
 -- The command of the words, or the first thing that is wrong with them, in a fixed order: the command's name; the options; the words
 -- that are no option, from left to right, and then their end; their number; the name; the count; the values of
 -- options that are numbers; and after all these the limits of a run.
-use Rattle.std.specs.Prelude.{ℕ, Bool, true, false, ◌&&◌, nat_lt, if◌then◌else◌, List, [], ◌∷◌, length, Option, Some, None, option_map, is_none, unwrap_or, IsSome, Result, Ok, Err}
+use Rattle.std.specs.Prelude.{ℕ, Bool, true, false, ◌&&◌, nat_lt, if◌then◌else◌, List, [], ◌∷◌, length, Option, Some, None, option_map, is_none}
+use Rattle.std.specs.Prelude.{unwrap_or, IsSome, Result, Ok, Err}
 use Rattle.std.specs.Option.{option_or}
 use Rattle.clap.specs.Faults.{fault_of}
 use Rattle.clap.specs.Kinds.{Kinds}

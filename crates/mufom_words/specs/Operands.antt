@@ -1,6 +1,7 @@
 -- The words that are no option: files in groups, members, or a count. What is wrong with them is what is wrong with the first word
 -- with which anything is, and then with the end.
-use Rattle.std.specs.Prelude.{ℕ, zero, suc, ◌-◌, ◌==◌, ◌&&◌, nat_lt, nat_le, max, Bool, true, false, not, List, [], ◌∷◌, length, map, filter, Option, Some, None, Result, Ok, Err, codes, unwrap_or, is_none, if◌then◌else◌}
+use Rattle.std.specs.Prelude.{ℕ, zero, suc, ◌-◌, ◌==◌, ◌&&◌, nat_lt, nat_le, max, Bool, true, false, not, List, [], ◌∷◌, length, map, filter, Option}
+use Rattle.std.specs.Prelude.{Some, None, Result, Ok, Err, codes, unwrap_or, is_none, if◌then◌else◌}
 use Rattle.std.specs.List.{list_all}
 use Rattle.std.specs.Str.{bytes_eq}
 use Rattle.std.specs.Int.Digits.{number_from_digits}
@@ -20,7 +21,8 @@ use Rattle.mufom_words.specs.Options.{Text}
 
 -- what a word is among those that name files
 abbrev pub word_of : Text → FileWord
-word_of word = if bytes_eq word (codes "[") then Opening else (if bytes_eq word (codes "]") then Closing else (if bytes_eq word (codes "+") then Plus else Name))
+word_of word = if bytes_eq word (codes "[") then Opening else (if bytes_eq word (codes "]") then Closing
+    else (if bytes_eq word (codes "+") then Plus else Name))
 
 abbrev pub file_words : List Text → List FileWord
 file_words words = map word_of words

@@ -2,7 +2,8 @@
 
 ghost use Rattle.std.specs.Prelude.{◌≡◌, map, option_map};
 ghost use Rattle.std.specs.String.{string_bytes};
-ghost use Rattle.mufom_words.specs.Help.{help_text as help, own_answer as answered, own_command as command_of, own_text as text_of, own_verb as named, version_text as version};
+ghost use Rattle.mufom_words.specs.Help.{help_text as help, own_answer as answered, own_command as command_of, own_text as text_of};
+ghost use Rattle.mufom_words.specs.Help.{own_verb as named, version_text as version};
 
 use crate::command::{Command, HelpText, Verb};
 use crate::stop::{UsageFault, WordsStop};

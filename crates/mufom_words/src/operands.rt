@@ -1,7 +1,10 @@
 //! The words that are no option: names of files in groups, and of members, or a count.
 
 ghost use Rattle.std.specs.Prelude.{◌≡◌, ◌+◌, ◌-◌, ◌≤◌, ◌<◌, ◌^◌, false, IfOk, length, map};
-ghost use Rattle.mufom_words.specs.Operands.{count_fault as wrong_count, depth_from, depth_in, depth_of as depth_by, end_fault as wrong_end, file_words, files_of as files_by, first_count as first_number, grouped_fault as wrong_group, marks_from, marks_of as marks_by, names_in, number_fault as wrong_number, number_of as number_by, operands_fault as wrong_operand, plain_fault_from, step as next_walk, word_of};
+ghost use Rattle.mufom_words.specs.Operands.{count_fault as wrong_count, depth_from, depth_in, depth_of as depth_by, end_fault as wrong_end};
+ghost use Rattle.mufom_words.specs.Operands.{file_words, files_of as files_by, first_count as first_number, grouped_fault as wrong_group, marks_from};
+ghost use Rattle.mufom_words.specs.Operands.{marks_of as marks_by, names_in, number_fault as wrong_number, number_of as number_by};
+ghost use Rattle.mufom_words.specs.Operands.{operands_fault as wrong_operand, plain_fault_from, step as next_walk, word_of};
 
 use crate::command::Mark;
 use crate::count::count_of;

@@ -1,5 +1,6 @@
 -- A written form is cut into the records of its header and its parts.
-use Rattle.std.proofs.Common.{◌≡◌, ℕ, zero, suc, ◌+◌, ◌^◌, ◌<◌, ◌≤◌, true, false, List, [], ◌∷◌, ◌++◌, length, Some, None, refl, sym, subst, ap, ◌∙◌, inl, inr, arith, append_assoc, length-append}
+use Rattle.std.proofs.Common.{◌≡◌, ℕ, zero, suc, ◌+◌, ◌^◌, ◌<◌, ◌≤◌, true, false, List, [], ◌∷◌, ◌++◌, length, Some, None, refl, sym, subst, ap, ◌∙◌}
+use Rattle.std.proofs.Common.{inl, inr, arith, append_assoc, length-append}
 use Rattle.std.specs.List.{AllByRecursion}
 use Rattle.std.proofs.lemmas.List.{append-nil}
 use Rattle.mufom_numbers.specs.Spelling.{AreBytes}
@@ -11,7 +12,8 @@ use Rattle.mufom_debug.specs.Marks.{joined, marks_of}
 use Rattle.mufom_module.specs.declared.module.Parts.{Parts}
 use Rattle.mufom_module.specs.SpelledRecords.{SpelledRecord, bytes_of}
 use Rattle.mufom_module.specs.RecordParts.{section_part, external_part, debug_part, trailer_part}
-use Rattle.mufom_module.specs.Grammar.{FileParts, header_of, parts_of, module_end, from_trailer, from_loads, from_debug, from_externals, after_header, AreOfModes, offsets_in, StandAt, file_limit, IsCutInto}
+use Rattle.mufom_module.specs.Grammar.{FileParts, header_of, parts_of, module_end, from_trailer, from_loads, from_debug, from_externals, after_header}
+use Rattle.mufom_module.specs.Grammar.{AreOfModes, offsets_in, StandAt, file_limit, IsCutInto}
 use Rattle.mufom_module.specs.Written.{shortest, written, each_from}
 use Rattle.mufom_module.specs.Written as w
 use Rattle.mufom_module.specs.Defects.{is_long}
@@ -22,7 +24,8 @@ use Rattle.mufom_write.proofs.Laying.{spelled, records_from, is_part, part-code}
 use Rattle.mufom_write.proofs.SectionRecords.{section_records, IsFittingSection, sections-bytes, sections-records}
 use Rattle.mufom_write.proofs.NameRecords.{external_records, IsFittingPublic, IsFittingReference, externals-bytes, externals-records}
 use Rattle.mufom_write.proofs.DebugRecords.{mark_records, AreFittingMarks, marks-bytes, marks-records}
-use Rattle.mufom_write.proofs.LoadRecords.{loads_records, start_records, IsFittingLoad, IsFittingStart, loads-bytes, loads-part, loads-code, start-bytes, start-records}
+use Rattle.mufom_write.proofs.LoadRecords.{loads_records, start_records, IsFittingLoad, IsFittingStart, loads-bytes, loads-part, loads-code}
+use Rattle.mufom_write.proofs.LoadRecords.{start-bytes, start-records}
 
 -- ---- the file
 
@@ -33,8 +36,10 @@ offset_spellings k (offset ∷ offsets) = spelled (r.Offset k offset) (w.offset_
 -- the written form as records
 abbrev pub file_of : Parts → FileParts
 file_of m = record {
-  begin = spelled (r.ModuleBegin (text_at 1 m.processor) (module_name_at m.processor m.name)) (0xE0 ∷ (w.string shortest m.processor ++ w.string shortest m.name));
-  descriptor = spelled (r.Descriptor 8 m.maus (Some (w.order_letter m.order))) (0xEC ∷ (w.number shortest 8 ++ (w.number shortest m.maus ++ w.order_letter m.order ∷ [])));
+  begin = spelled (r.ModuleBegin (text_at 1 m.processor) (module_name_at m.processor m.name))
+      (0xE0 ∷ (w.string shortest m.processor ++ w.string shortest m.name));
+  descriptor = spelled (r.Descriptor 8 m.maus (Some (w.order_letter m.order)))
+      (0xEC ∷ (w.number shortest 8 ++ (w.number shortest m.maus ++ w.order_letter m.order ∷ [])));
   offsets = offset_spellings 0 (w.offsets shortest m);
   extension = m.ext;
   environment = m.env;
@@ -111,7 +116,8 @@ abbrev modes_from : ℕ → ℕ → List Mode
 modes_from k zero = []
 modes_from k (suc n) = mode.Offset k ∷ modes_from (k + 1) n
 
-offsets-modes : (k n : ℕ) (offsets : List ℕ) (after : List ℕ) → length offsets ≡ n → k + n < 2 ^ 64 → AllByRecursion (λ offset. offset < 2 ^ 32) offsets → AreOfModes (modes_from k n) (offset_spellings k offsets) after
+offsets-modes : (k n : ℕ) (offsets : List ℕ) (after : List ℕ) → length offsets ≡ n → k + n < 2 ^ 64
+    → AllByRecursion (λ offset. offset < 2 ^ 32) offsets → AreOfModes (modes_from k n) (offset_spellings k offsets) after
 offsets-modes k zero [] after count few fit = tt
 offsets-modes k zero (offset ∷ offsets) after count few fit = absurd (omega (arith, count))
 offsets-modes k (suc n) [] after count few fit = absurd (omega (arith, count))
@@ -145,7 +151,8 @@ module _ (m : Parts) (fits : IsFittingModule m) where
 
   offsets-stand : StandAt (offsets_in (file_of m).offsets) (length (bytes_of (header_of (file_of m)))) (parts_of (file_of m))
   offsets-stand =
-      subst (λ (offsets : List ℕ). StandAt offsets (length (bytes_of (header_of (file_of m)))) (parts_of (file_of m))) (sym (offsets_in-records 0 (w.offsets shortest m)))
+      subst (λ (offsets : List ℕ). StandAt offsets (length (bytes_of (header_of (file_of m)))) (parts_of (file_of m)))
+      (sym (offsets_in-records 0 (w.offsets shortest m)))
       (subst (λ (at : ℕ). StandAt (w.offsets shortest m) at (parts_of (file_of m))) header-length
       (subst (λ (parts : List (List ℕ)). StandAt (w.offsets shortest m) (w.header_length shortest m) parts) (parts-same m)
       (stand-at (w.header_length shortest m) (w.parts shortest m))))
@@ -175,14 +182,16 @@ module _ (m : Parts) (fits : IsFittingModule m) where
     all = all-same m;
     limit = few;
     header = (
-      begin-whole m.processor m.name (first_of (bytes_of ((file_of m).descriptor ∷ (file_of m).offsets) ++ after_header (file_of m)) None) fits.short_processor fits.processor fits.short_name fits.name,
+      begin-whole m.processor m.name (first_of (bytes_of ((file_of m).descriptor ∷ (file_of m).offsets) ++ after_header (file_of m)) None)
+          fits.short_processor fits.processor fits.short_name fits.name,
       (
         descriptor-whole m.maus m.order (first_of (bytes_of (file_of m).offsets ++ after_header (file_of m)) None) fits.maus,
         offsets-modes 0 8 (w.offsets shortest m) (after_header (file_of m)) fits.eight (omega arith) fits.offsets,
       ),
     );
     offsets = offsets-stand;
-    sections = is_part section_part (records_from 0 section_records m.sections) (from_externals (file_of m)) (sections-records 0 m.sections (omega (arith, fits.few_sections)) fits.sections) after_externals;
+    sections = is_part section_part (records_from 0 section_records m.sections) (from_externals (file_of m))
+        (sections-records 0 m.sections (omega (arith, fits.few_sections)) fits.sections) after_externals;
     externals = is_part external_part (external_records m.names.publics m.names.references) (from_debug (file_of m))
         (externals-records m.names.publics m.names.references fits.few_publics fits.few_references fits.publics fits.references) after_debug;
     debug = is_part debug_part (mark_records 0 (marks_of m.debug)) (from_loads (file_of m)) (marks-records 0 (marks_of m.debug) fits.debug) after_loads;

@@ -79,10 +79,25 @@ mark-the_record : (n : ℕ) (mark : DebugMark) → IsFittingMark n mark → IsRe
 mark-the_record n (block_begin head name) fits =
     record { whole = block_begin-whole n head name fits.0 fits.1 (head-spelled head fits.2); code = omega arith; plain = refl; own = refl }
 mark-the_record n (block_end value) fits = record { whole = block_end-whole value (end-spelled value fits); code = omega arith; plain = refl; own = refl }
-mark-the_record n (name_mark name) fits = record { whole = debug_name-whole (debug_name_index n) name fits.2 fits.0 fits.1; code = omega arith; plain = refl; own = refl }
-mark-the_record n (note_mark name its) fits = record { whole = debug_note-whole (debug_name_index name) its fits.0 fits.1 fits.2; code = omega arith; plain = refl; own = refl }
+mark-the_record n (name_mark name) fits = record {
+  whole = debug_name-whole (debug_name_index n) name fits.2 fits.0 fits.1;
+  code = omega arith;
+  plain = refl;
+  own = refl;
+}
+mark-the_record n (note_mark name its) fits = record {
+  whole = debug_note-whole (debug_name_index name) its fits.0 fits.1 fits.2;
+  code = omega arith;
+  plain = refl;
+  own = refl;
+}
 mark-the_record n (value_mark name value) fits =
-    record { whole = debug_value-whole (debug_name_index name) (indexed value) (w.expression shortest value) fits.0 (expression-spells value fits.1); code = omega arith; plain = refl; own = refl }
+    record {
+      whole = debug_value-whole (debug_name_index name) (indexed value) (w.expression shortest value) fits.0 (expression-spells value fits.1);
+      code = omega arith;
+      plain = refl;
+      own = refl;
+    }
 
 pub marks-records : (n : ℕ) (marks : List DebugMark) → AreFittingMarks n marks → AllByRecursion (IsRecord debug_part) (mark_records n marks)
 marks-records n [] fit = tt

@@ -48,8 +48,10 @@ IsSpelledHead (heads.Source numbers) = (length numbers.items ≤ 6) × AllByRecu
 IsSpelledHead (heads.Local stack type_index offset) = (stack < 2 ^ 64) × (type_index < 2 ^ 64) × IsSpelled offset
 IsSpelledHead (heads.Section section_type section offset) = (section_type < 2 ^ 64) × (section_index section < 2 ^ 32) × IsSpelled offset
 
-scope-spells : (kind : ℕ) (name : List ℕ) (stack type_index : ℕ) (offset : Tree) (next : Option ℕ) → stack < 2 ^ 64 → type_index < 2 ^ 64 → IsSpelled offset → IsCode next
-    → SpellsRecord (scope_begin kind 0 (text_at 3 name)) (r.BlockBegin kind 0 (text_at 3 name) (tail.Scope stack type_index (offset_at name stack type_index offset))) (tail_place name)
+scope-spells : (kind : ℕ) (name : List ℕ) (stack type_index : ℕ) (offset : Tree) (next : Option ℕ) → stack < 2 ^ 64 → type_index < 2 ^ 64
+    → IsSpelled offset → IsCode next
+    → SpellsRecord (scope_begin kind 0 (text_at 3 name)) (r.BlockBegin kind 0 (text_at 3 name)
+    (tail.Scope stack type_index (offset_at name stack type_index offset))) (tail_place name)
     (w.number shortest stack ++ (w.number shortest type_index ++ w.expression shortest offset)) next
 scope-spells kind name stack type_index offset next hs ht spelled code = (
   stack,
@@ -65,7 +67,8 @@ scope-spells kind name stack type_index offset next hs ht spelled code = (
       offset_at name stack type_index offset,
       w.expression shortest offset,
       [],
-      spells_expression spelled.0 (w.expression shortest offset) (tail_place name + length (w.number shortest stack) + length (w.number shortest type_index)) next spelled.1 (stops-token next code),
+      spells_expression spelled.0 (w.expression shortest offset)
+          (tail_place name + length (w.number shortest stack) + length (w.number shortest type_index)) next spelled.1 (stops-token next code),
       (refl, refl),
       sym (append-nil (w.expression shortest offset)),
     ),
@@ -75,11 +78,18 @@ scope-spells kind name stack type_index offset next hs ht spelled code = (
 )
 
 head-spells : (head : BlockHead) (name : List ℕ) (next : Option ℕ) → IsSpelledHead head → IsCode next
-    → SpellsRecord (block_by_kind (kind_number head) 0 (text_at 3 name)) (r.BlockBegin (kind_number head) 0 (text_at 3 name) (tail_for name head)) (tail_place name) (w.head_fields shortest head) next
+    → SpellsRecord (block_by_kind (kind_number head) 0 (text_at 3 name)) (r.BlockBegin (kind_number head) 0 (text_at 3 name) (tail_for name head))
+    (tail_place name) (w.head_fields shortest head) next
 head-spells heads.Module name next spelled code = (refl, refl)
 head-spells (heads.Global stack type_index offset) name next spelled code = scope-spells 4 name stack type_index offset next spelled.0 spelled.1 spelled.2 code
-head-spells (heads.Source numbers) name next spelled code =
-    (numbers, w.numbers shortest numbers.items, [], (spells_numbers 0 numbers.items spelled.1, spelled.0, λ _. stops-number next code), (refl, refl), sym (append-nil (w.numbers shortest numbers.items)))
+head-spells (heads.Source numbers) name next spelled code = (
+  numbers,
+  w.numbers shortest numbers.items,
+  [],
+  (spells_numbers 0 numbers.items spelled.1, spelled.0, λ _. stops-number next code),
+  (refl, refl),
+  sym (append-nil (w.numbers shortest numbers.items)),
+)
 head-spells (heads.Local stack type_index offset) name next spelled code = scope-spells 6 name stack type_index offset next spelled.0 spelled.1 spelled.2 code
 head-spells (heads.Section section_type section offset) name next spelled code = (
   section_type,
@@ -95,7 +105,9 @@ head-spells (heads.Section section_type section offset) name next spelled code =
       offset_at name section_type (section_index section) offset,
       w.expression shortest offset,
       [],
-      spells_expression spelled.2.0 (w.expression shortest offset) (tail_place name + length (w.number shortest section_type) + length (w.number shortest (section_index section))) next spelled.2.1 (stops-token next code),
+      spells_expression spelled.2.0 (w.expression shortest offset)
+          (tail_place name + length (w.number shortest section_type) + length (w.number shortest (section_index section))) next spelled.2.1
+          (stops-token next code),
       (refl, refl),
       sym (append-nil (w.expression shortest offset)),
     ),
@@ -105,7 +117,8 @@ head-spells (heads.Section section_type section offset) name next spelled code =
 )
 
 -- BB, of a kind whose number is one byte
-block-whole : (kind : ℕ) (head : BlockHead) (name : List ℕ) → kind < 128 → kind ≡ kind_number head → is_one_of block_kinds kind ≡ true → is_long name ≡ false → AreBytes name → IsSpelledHead head
+block-whole : (kind : ℕ) (head : BlockHead) (name : List ℕ) → kind < 128 → kind ≡ kind_number head → is_one_of block_kinds kind ≡ true → is_long name
+    ≡ false → AreBytes name → IsSpelledHead head
     → IsWhole (r.BlockBegin kind 0 (text_at 3 name) (tail_for name head)) (0xF8 ∷ kind ∷ 0 ∷ (w.string shortest name ++ w.head_fields shortest head))
 block-whole kind head name small is known short bytes spelled next code = (
   0xF8,
@@ -127,7 +140,8 @@ block-whole kind head name small is known short bytes spelled next code = (
         w.string shortest name,
         w.head_fields shortest head,
         spells_string name 3 (first_of (w.head_fields shortest head) next) short bytes,
-        subst (λ (k : ℕ). SpellsRecord (block_by_kind k 0 (text_at 3 name)) (r.BlockBegin k 0 (text_at 3 name) (tail_for name head)) (tail_place name) (w.head_fields shortest head) next) (sym is) (head-spells head name next spelled code),
+        subst (λ (k : ℕ). SpellsRecord (block_by_kind k 0 (text_at 3 name)) (r.BlockBegin k 0 (text_at 3 name) (tail_for name head)) (tail_place name)
+            (w.head_fields shortest head) next) (sym is) (head-spells head name next spelled code),
         refl,
       ),
       refl,
@@ -141,10 +155,13 @@ block-whole kind head name small is known short bytes spelled next code = (
 pub block_begin-whole : (n : ℕ) (head : BlockHead) (name : List ℕ) → is_long name ≡ false → AreBytes name → IsSpelledHead head
     → IsWhole (r.BlockBegin (kind_number head) 0 (text_at 3 name) (tail_for name head)) (w.debug_record shortest n (block_begin head name))
 block_begin-whole n heads.Module name short bytes spelled = block-whole 3 heads.Module name (omega arith) refl refl short bytes spelled
-block_begin-whole n (heads.Global stack type_index offset) name short bytes spelled = block-whole 4 (heads.Global stack type_index offset) name (omega arith) refl refl short bytes spelled
+block_begin-whole n (heads.Global stack type_index offset) name short bytes spelled =
+    block-whole 4 (heads.Global stack type_index offset) name (omega arith) refl refl short bytes spelled
 block_begin-whole n (heads.Source numbers) name short bytes spelled = block-whole 5 (heads.Source numbers) name (omega arith) refl refl short bytes spelled
-block_begin-whole n (heads.Local stack type_index offset) name short bytes spelled = block-whole 6 (heads.Local stack type_index offset) name (omega arith) refl refl short bytes spelled
-block_begin-whole n (heads.Section section_type section offset) name short bytes spelled = block-whole 11 (heads.Section section_type section offset) name (omega arith) refl refl short bytes spelled
+block_begin-whole n (heads.Local stack type_index offset) name short bytes spelled =
+    block-whole 6 (heads.Local stack type_index offset) name (omega arith) refl refl short bytes spelled
+block_begin-whole n (heads.Section section_type section offset) name short bytes spelled =
+    block-whole 11 (heads.Section section_type section offset) name (omega arith) refl refl short bytes spelled
 
 -- ---- BE
 

@@ -1,5 +1,6 @@
 -- The entries of a valid module are within the bounds of the written form.
-use Rattle.std.proofs.Common.{◌≡◌, ℕ, ◌+◌, ◌^◌, ◌<◌, ◌≤◌, Bool, true, false, ◌||◌, not, cond, nat_lt, List, [], ◌∷◌, length, sum_by, Option, Some, None, refl, arith}
+use Rattle.std.proofs.Common.{◌≡◌, ℕ, ◌+◌, ◌^◌, ◌<◌, ◌≤◌, Bool, true, false, ◌||◌, not, cond, nat_lt, List, [], ◌∷◌, length, sum_by, Option, Some}
+use Rattle.std.proofs.Common.{None, refl, arith}
 use Rattle.std.specs.Prelude.{All, IfSome, is_none, option_and_then}
 use Rattle.std.specs.List.{AllByRecursion, find, list_any}
 use Rattle.std.proofs.lemmas.Bool.{or_parts, leb-false, ltb-true}
@@ -26,8 +27,11 @@ use Rattle.mufom_module.specs.Contents.{any_of, any_item, item_any, placed_loads
 use Rattle.mufom_module.specs.Weights.{section_weight, public_weight, reference_weight, mark_weight}
 use Rattle.mufom_module.specs.Written.{weight, shortest}
 use Rattle.mufom_module.specs.Written as w
-use Rattle.mufom_module.specs.Made.{IsNumber, IsMadeTree, IsMadeSection, IsMadeNote, IsMadeWeak, IsMadePublic, IsMadeReference, IsMadeItem, IsMadeLoad, IsMadeHead, IsMadeMark, IsMade}
-use Rattle.mufom_module.specs.Defects.{is_long, has_long_name, counts_of, names_outside, has_bad_place, loads_nowhere, names_no_section, names_bad_section, has_bad_mark, declared_after, has_unknown_attribute, is_long_literal, has_bad_size, has_defect, defects, IsValid}
+use Rattle.mufom_module.specs.Made.{IsNumber, IsMadeTree, IsMadeSection, IsMadeNote, IsMadeWeak, IsMadePublic, IsMadeReference, IsMadeItem}
+use Rattle.mufom_module.specs.Made.{IsMadeLoad, IsMadeHead, IsMadeMark, IsMade}
+use Rattle.mufom_module.specs.Defects.{is_long, has_long_name, counts_of, names_outside, has_bad_place, loads_nowhere, names_no_section}
+use Rattle.mufom_module.specs.Defects.{names_bad_section, has_bad_mark, declared_after, has_unknown_attribute, is_long_literal, has_bad_size}
+use Rattle.mufom_module.specs.Defects.{has_defect, defects, IsValid}
 use Rattle.mufom_module.proofs.WeightLaws.{weight-sum}
 use Rattle.mufom_module.proofs.Valid.{weighs_less}
 use Rattle.mufom_write.proofs.Shorter.{eight-offsets}
@@ -119,13 +123,25 @@ section-fits : (s : Section) → IsMadeSection s → is_long s.name ≡ false �
 section-fits s made short = record { short = short; name = made.name; size = made.size; align = made.align; base = made.base }
 
 note-fits : (n : Note) → IsMadeNote n → IsSpelledNote n
-note-fits n made = record { type_index = made.type_index; attribute = made.attribute; few = made.few; numbers = by_recursion IsNumber n.numbers.items made.numbers }
+note-fits n made = record {
+  type_index = made.type_index;
+  attribute = made.attribute;
+  few = made.few;
+  numbers =
+      by_recursion IsNumber n.numbers.items made.numbers;
+}
 
 notes-fit : (notes : List Note) → All IsMadeNote notes → AllByRecursion IsSpelledNote notes
 notes-fit notes made = mapped IsMadeNote IsSpelledNote notes note-fits (by_recursion IsMadeNote notes made)
 
 public-fits : (m : Parts) (p : Public) → AreFew m → IsMadePublic p → is_long p.name ≡ false → names_outside (counts_of m) p.value ≡ false → IsFittingPublic p
-public-fits m p few made short inside = record { short = short; name = made.name; value = tree-fits m p.value few made.value inside; notes = notes-fit p.notes made.notes }
+public-fits m p few made short inside = record {
+  short = short;
+  name = made.name;
+  value = tree-fits m p.value few made.value inside;
+  notes =
+      notes-fit p.notes made.notes;
+}
 
 weak-fits : (weak : Option Weak) → IfSome weak IsMadeWeak → IfSome weak (λ weak. (weak.size < 2 ^ 64) × (weak.default < 2 ^ 64))
 weak-fits None made = tt
@@ -136,7 +152,8 @@ reference-fits r made short = record { short = short; name = made.name; weak = w
 
 -- ---- debug marks
 
-head-fits : (m : Parts) (head : BlockHead) → AreFew m → IsMadeHead head → names_bad_section (counts_of m) head ≡ false → any_of (names_outside (counts_of m)) (offset_of head) ≡ false → IsFittingHead head
+head-fits : (m : Parts) (head : BlockHead) → AreFew m → IsMadeHead head → names_bad_section (counts_of m) head ≡ false
+    → any_of (names_outside (counts_of m)) (offset_of head) ≡ false → IsFittingHead head
 head-fits m heads.Module few made known inside = tt
 head-fits m (heads.Global stack type_index offset) few made known inside = (made.0, made.1, tree-fits m offset few made.2 inside)
 head-fits m (heads.Source numbers) few made known inside = (made.0, by_recursion IsNumber numbers.items made.1)
@@ -156,7 +173,8 @@ known-attribute attribute h = unless (is_one_of debug_attributes attribute) h wh
   unless false h = cc
 
 -- how many names are declared after a mark that is sound, and after those after it
-pub first-declared : (b : Bool) (n : ℕ) (rest : ℕ → Option ℕ) → is_none (option_and_then rest (cond b (Some n) None)) ≡ false → (b ≡ true) × (is_none (rest n) ≡ false)
+pub first-declared : (b : Bool) (n : ℕ) (rest : ℕ → Option ℕ) → is_none (option_and_then rest (cond b (Some n) None)) ≡ false → (b ≡ true)
+    × (is_none (rest n) ≡ false)
 first-declared true n rest h = (refl, h)
 first-declared false n rest h = cc
 
@@ -167,7 +185,8 @@ record IsSound (m : Parts) (mark : DebugMark) : Type 0 where
   inside : has_bad_mark (counts_of m) mark ≡ false
   known : has_unknown_attribute mark ≡ false
 
-marks-fit : (m : Parts) (n : ℕ) (marks : List DebugMark) → AreFew m → n + length marks + 32 ≤ 2 ^ 32 → AllByRecursion (IsSound m) marks → is_none (declared_after n marks) ≡ false → AreFittingMarks n marks
+marks-fit : (m : Parts) (n : ℕ) (marks : List DebugMark) → AreFew m → n + length marks + 32 ≤ 2 ^ 32 → AllByRecursion (IsSound m) marks
+    → is_none (declared_after n marks) ≡ false → AreFittingMarks n marks
 marks-fit m n [] few count sound declared = tt
 marks-fit m n (block_begin head name ∷ marks) few count sound declared =
     let parts = or_parts (names_bad_section (counts_of m) head) (any_of (names_outside (counts_of m)) (offset_of head)) sound.0.inside in
@@ -178,8 +197,10 @@ marks-fit m n (name_mark name ∷ marks) few count sound declared =
     ((sound.0.short, sound.0.made, omega (arith, count)), marks-fit m (n + 1) marks few (omega (arith, count)) sound.1 declared)
 marks-fit m n (note_mark name its ∷ marks) few count sound declared =
     let step = first-declared (nat_lt name n) n (λ k. declared_after k marks) declared in
-    let within = ltb-true name n step.0 in
-    ((omega (arith, within, count), note-fits its sound.0.made.1, known-attribute its.attribute sound.0.known), marks-fit m n marks few (omega (arith, count)) sound.1 step.1)
+    let within = ltb-true name n step.0 in (
+      (omega (arith, within, count), note-fits its sound.0.made.1, known-attribute its.attribute sound.0.known),
+      marks-fit m n marks few (omega (arith, count)) sound.1 step.1,
+    )
 marks-fit m n (value_mark name value ∷ marks) few count sound declared =
     let step = first-declared (nat_lt name n) n (λ k. declared_after k marks) declared in
     let within = ltb-true name n step.0 in
@@ -206,7 +227,8 @@ items-sound m (item ∷ items) made short sized inside =
     let insides = or_parts (item_any (names_outside (counts_of m)) item) (list_any (item_any (names_outside (counts_of m))) items) inside in
     (record { made = made.0; short = shorts.0; sized = sizes.0; inside = insides.0 }, items-sound m items made.1 shorts.1 sizes.1 insides.1)
 
-load-fits : (m : Parts) (load : Load) → AreFew m → IsMadeLoad load → has_bad_place (counts_of m) load ≡ false → any_item is_long_literal load ≡ false → any_item has_bad_size load ≡ false → IsFittingLoad load
+load-fits : (m : Parts) (load : Load) → AreFew m → IsMadeLoad load → has_bad_place (counts_of m) load ≡ false → any_item is_long_literal load ≡ false
+    → any_item has_bad_size load ≡ false → IsFittingLoad load
 load-fits m (SetSection section) few made inside short sized =
     let within = leb-false (length m.sections) section (or_parts (names_no_section (counts_of m) (SetSection section)) false inside).0 in
     omega (arith, within, few.sections)
@@ -215,10 +237,14 @@ load-fits m (SetPc section value) few made inside short sized =
     let within = leb-false (length m.sections) section parts.0 in
     (omega (arith, within, few.sections), tree-fits m value few made.1 parts.1)
 load-fits m (One item) few made inside short sized = item-fits m item few (record { made = made; short = short; sized = sized; inside = inside })
-load-fits m (Repeat count items) few made inside short sized =
-    (made.0, mapped (IsSoundItem m) IsFittingItem items (λ item. item-fits m item few) (items-sound m items (by_recursion IsMadeItem items made.1) short sized inside))
+load-fits m (Repeat count items) few made inside short sized = (
+  made.0,
+  mapped (IsSoundItem m) IsFittingItem items (λ item. item-fits m item few)
+      (items-sound m items (by_recursion IsMadeItem items made.1) short sized inside),
+)
 
-loads-fit : (m : Parts) (loads : List Load) → AreFew m → AllByRecursion IsMadeLoad loads → list_any (has_bad_place (counts_of m)) loads ≡ false → list_any (any_item is_long_literal) loads ≡ false
+loads-fit : (m : Parts) (loads : List Load) → AreFew m → AllByRecursion IsMadeLoad loads → list_any (has_bad_place (counts_of m)) loads ≡ false
+    → list_any (any_item is_long_literal) loads ≡ false
     → list_any (any_item has_bad_size) loads ≡ false → AllByRecursion IsFittingLoad loads
 loads-fit m [] few made inside short sized = tt
 loads-fit m (load ∷ loads) few made inside short sized =
@@ -233,7 +259,8 @@ start-fits m (Some value) few made inside = tree-fits m value few made inside
 
 -- ---- a module
 
-sounds : (m : Parts) (marks : List DebugMark) → AllByRecursion IsMadeMark marks → list_any has_long_name marks ≡ false → list_any (has_bad_mark (counts_of m)) marks ≡ false
+sounds : (m : Parts) (marks : List DebugMark) → AllByRecursion IsMadeMark marks → list_any has_long_name marks ≡ false
+    → list_any (has_bad_mark (counts_of m)) marks ≡ false
     → list_any has_unknown_attribute marks ≡ false → AllByRecursion (IsSound m) marks
 sounds m [] made short inside known = tt
 sounds m (mark ∷ marks) made short inside known =
@@ -259,16 +286,36 @@ pub record IsInside (m : Parts) : Type 0 where
 inside : (m : Parts) → has_defect m d.LongId ≡ false → has_defect m d.Position ≡ false → IsInside m
 inside m long position =
     let n = counts_of m in
-    let a = or_parts (is_long m.processor) (is_long m.name || (list_any (λ s. is_long s.name) m.sections || (list_any (λ p. is_long p.name) m.names.publics || (list_any (λ r. is_long r.name) m.names.references || list_any has_long_name (marks_of m.debug))))) long in
-    let b = or_parts (is_long m.name) (list_any (λ s. is_long s.name) m.sections || (list_any (λ p. is_long p.name) m.names.publics || (list_any (λ r. is_long r.name) m.names.references || list_any has_long_name (marks_of m.debug)))) a.1 in
-    let c = or_parts (list_any (λ s. is_long s.name) m.sections) (list_any (λ p. is_long p.name) m.names.publics || (list_any (λ r. is_long r.name) m.names.references || list_any has_long_name (marks_of m.debug))) b.1 in
-    let e = or_parts (list_any (λ p. is_long p.name) m.names.publics) (list_any (λ r. is_long r.name) m.names.references || list_any has_long_name (marks_of m.debug)) c.1 in
+    let a = or_parts (is_long m.processor) (is_long m.name || (list_any (λ s. is_long s.name) m.sections
+    || (list_any (λ p. is_long p.name) m.names.publics || (list_any (λ r. is_long r.name) m.names.references
+    || list_any has_long_name (marks_of m.debug))))) long in
+    let b = or_parts (is_long m.name) (list_any (λ s. is_long s.name) m.sections
+    || (list_any (λ p. is_long p.name) m.names.publics || (list_any (λ r. is_long r.name) m.names.references
+    || list_any has_long_name (marks_of m.debug)))) a.1 in
+    let c = or_parts (list_any (λ s. is_long s.name) m.sections) (list_any (λ p. is_long p.name) m.names.publics
+    || (list_any (λ r. is_long r.name) m.names.references || list_any has_long_name (marks_of m.debug))) b.1 in
+    let e = or_parts (list_any (λ p. is_long p.name) m.names.publics) (list_any (λ r. is_long r.name) m.names.references
+    || list_any has_long_name (marks_of m.debug)) c.1 in
     let f = or_parts (list_any (λ r. is_long r.name) m.names.references) (list_any has_long_name (marks_of m.debug)) e.1 in
-    let g = or_parts (list_any (λ p. names_outside n p.value) m.names.publics) (list_any (has_bad_place n) m.loads || (list_any (has_bad_mark n) (marks_of m.debug) || (any_of (names_outside n) m.start || is_none (declared_after 0 (marks_of m.debug))))) position in
-    let h = or_parts (list_any (has_bad_place n) m.loads) (list_any (has_bad_mark n) (marks_of m.debug) || (any_of (names_outside n) m.start || is_none (declared_after 0 (marks_of m.debug)))) g.1 in
+    let g = or_parts (list_any (λ p. names_outside n p.value) m.names.publics) (list_any (has_bad_place n) m.loads
+    || (list_any (has_bad_mark n) (marks_of m.debug) || (any_of (names_outside n) m.start || is_none (declared_after 0 (marks_of m.debug))))) position in
+    let h = or_parts (list_any (has_bad_place n) m.loads) (list_any (has_bad_mark n) (marks_of m.debug)
+    || (any_of (names_outside n) m.start || is_none (declared_after 0 (marks_of m.debug)))) g.1 in
     let k = or_parts (list_any (has_bad_mark n) (marks_of m.debug)) (any_of (names_outside n) m.start || is_none (declared_after 0 (marks_of m.debug))) h.1 in
     let l = or_parts (any_of (names_outside n) m.start) (is_none (declared_after 0 (marks_of m.debug))) k.1 in
-    record { processor = a.0; name = b.0; sections = c.0; publics = e.0; references = f.0; debug = f.1; values = g.0; places = h.0; marks = k.0; start = l.0; declared = l.1 }
+    record {
+      processor = a.0;
+      name = b.0;
+      sections = c.0;
+      publics = e.0;
+      references = f.0;
+      debug = f.1;
+      values = g.0;
+      places = h.0;
+      marks = k.0;
+      start = l.0;
+      declared = l.1;
+    }
 
 pub inside_module : (m : Parts) → IsValid m → IsInside m
 inside_module m valid = let none = missed (has_defect m) defects valid in inside m none.1.0 none.1.1.1.1.1.0
@@ -301,14 +348,18 @@ module-fits m valid made =
       name = made.name;
       maus = omega (arith, one_byte);
       few_sections = omega (arith, few.sections);
-      sections = zipped IsMadeSection (λ s. is_long s.name ≡ false) IsFittingSection m.sections section-fits (by_recursion IsMadeSection m.sections made.sections) (none-of (λ s. is_long s.name) m.sections its.sections);
+      sections = zipped IsMadeSection (λ s. is_long s.name ≡ false) IsFittingSection m.sections section-fits
+          (by_recursion IsMadeSection m.sections made.sections) (none-of (λ s. is_long s.name) m.sections its.sections);
       few_publics = few.publics;
       few_references = few.references;
       publics = publics-fit m m.names.publics few (by_recursion IsMadePublic m.names.publics made.publics) its.publics its.values;
-      references = zipped IsMadeReference (λ r. is_long r.name ≡ false) IsFittingReference m.names.references reference-fits (by_recursion IsMadeReference m.names.references made.references) (none-of (λ r. is_long r.name) m.names.references its.references);
-      debug = marks-fit m 0 (marks_of m.debug) few (omega (arith, count)) (sounds m (marks_of m.debug) (by_recursion IsMadeMark (marks_of m.debug) made.debug) its.debug its.marks none.1.1.1.1.1.1.1.1.1.1.0) its.declared;
+      references = zipped IsMadeReference (λ r. is_long r.name ≡ false) IsFittingReference m.names.references reference-fits
+          (by_recursion IsMadeReference m.names.references made.references) (none-of (λ r. is_long r.name) m.names.references its.references);
+      debug = marks-fit m 0 (marks_of m.debug) few (omega (arith, count))
+          (sounds m (marks_of m.debug) (by_recursion IsMadeMark (marks_of m.debug) made.debug) its.debug its.marks none.1.1.1.1.1.1.1.1.1.1.0) its.declared;
       loads = loads-fit m m.loads few (by_recursion IsMadeLoad m.loads made.loads) its.places none.1.1.1.1.1.1.1.1.0 none.1.1.1.1.1.1.1.1.1.0;
       start = start-fits m m.start few made.start its.start;
-      offsets = by_recursion (λ offset. offset < 2 ^ 32) (w.offsets shortest m) (offsets-fit (w.header_length shortest m) (w.parts shortest m) (omega (arith, whole)));
+      offsets = by_recursion (λ offset. offset < 2 ^ 32) (w.offsets shortest m)
+          (offsets-fit (w.header_length shortest m) (w.parts shortest m) (omega (arith, whole)));
       eight = eight-offsets m;
     }

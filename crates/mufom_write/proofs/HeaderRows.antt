@@ -23,7 +23,8 @@ module_name_at processor name = text_at (1 + length (w.string shortest processor
 
 -- MB
 pub begin-whole : (processor name : List ℕ) (next : Option ℕ) → is_long processor ≡ false → AreBytes processor → is_long name ≡ false → AreBytes name
-    → IsWholeRecord mode.Begin (r.ModuleBegin (text_at 1 processor) (module_name_at processor name)) (0xE0 ∷ (w.string shortest processor ++ w.string shortest name)) next
+    → IsWholeRecord mode.Begin (r.ModuleBegin (text_at 1 processor) (module_name_at processor name))
+    (0xE0 ∷ (w.string shortest processor ++ w.string shortest name)) next
 begin-whole processor name next hp bp hn bn = (
   0xE0,
   0xE0 ∷ [],
@@ -34,7 +35,14 @@ begin-whole processor name next hp bp hn bn = (
     w.string shortest processor,
     w.string shortest name,
     spells_string processor 1 (first_of (w.string shortest name) next) hp bp,
-    (module_name_at processor name, w.string shortest name, [], spells_string name (1 + length (w.string shortest processor)) next hn bn, (refl, refl), sym (append-nil (w.string shortest name))),
+    (
+      module_name_at processor name,
+      w.string shortest name,
+      [],
+      spells_string name (1 + length (w.string shortest processor)) next hn bn,
+      (refl, refl),
+      sym (append-nil (w.string shortest name)),
+    ),
     refl,
   ),
   refl,
@@ -75,7 +83,8 @@ order-whole maus Most next hm = (
 
 -- AD
 pub descriptor-whole : (maus : ℕ) (order : Order) (next : Option ℕ) → maus < 2 ^ 64
-    → IsWholeRecord mode.Descriptor (r.Descriptor 8 maus (Some (w.order_letter order))) (0xEC ∷ (w.number shortest 8 ++ (w.number shortest maus ++ w.order_letter order ∷ []))) next
+    → IsWholeRecord mode.Descriptor (r.Descriptor 8 maus (Some (w.order_letter order)))
+    (0xEC ∷ (w.number shortest 8 ++ (w.number shortest maus ++ w.order_letter order ∷ []))) next
 descriptor-whole = order-whole
 
 four_bytes : (n : ℕ) → n < 2 ^ 32 → SpellsNumber n (0x84 ∷ to_be_bytes w32 n)

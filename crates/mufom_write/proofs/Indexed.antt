@@ -1,5 +1,6 @@
 -- Expressions in a written form: they spell the tree over the indexes of the file, whose positions give the tree back.
-use Rattle.std.proofs.Common.{◌≡◌, ℕ, zero, suc, ◌+◌, ◌-◌, ◌^◌, ◌<◌, ◌≤◌, ◌==◌, Bool, true, false, not, cond, nat_le, List, [], ◌∷◌, ◌++◌, length, position, Some, None, unwrap_or, refl, sym, subst, ap, ◌∙◌, inl, inr, arith}
+use Rattle.std.proofs.Common.{◌≡◌, ℕ, zero, suc, ◌+◌, ◌-◌, ◌^◌, ◌<◌, ◌≤◌, ◌==◌, Bool, true, false, not, cond, nat_le, List, [], ◌∷◌, ◌++◌, length}
+use Rattle.std.proofs.Common.{position, Some, None, unwrap_or, refl, sym, subst, ap, ◌∙◌, inl, inr, arith}
 use Rattle.std.specs.List.{AllByRecursion, list_any, position_or_len}
 use Rattle.std.proofs.lemmas.List.{length-map}
 use Rattle.std.proofs.lemmas.List.Folds.{list_any-append}
@@ -39,9 +40,16 @@ token-spells (Number n) fits = spells n fits
 token-spells (Var letter position) fits = (fits, w.number shortest (index_of letter position), spells (index_of letter position) (omega (arith, fits)), refl)
 token-spells (Fun f) fits = refl
 
-tokens-spell : (k : ℕ) (tokens : List Token) → AllByRecursion IsFitting tokens → SpellsTokens (renamed_tokens with_index tokens) (each_from k (λ _. w.token shortest) tokens)
+tokens-spell : (k : ℕ) (tokens : List Token) → AllByRecursion IsFitting tokens
+    → SpellsTokens (renamed_tokens with_index tokens) (each_from k (λ _. w.token shortest) tokens)
 tokens-spell k [] fit = refl
-tokens-spell k (token ∷ tokens) fit = (w.token shortest token, each_from (k + 1) (λ _. w.token shortest) tokens, token-spells token fit.0, tokens-spell (k + 1) tokens fit.1, refl)
+tokens-spell k (token ∷ tokens) fit = (
+  w.token shortest token,
+  each_from (k + 1) (λ _. w.token shortest) tokens,
+  token-spells token fit.0,
+  tokens-spell (k + 1) tokens fit.1,
+  refl,
+)
 
 -- what keeps an expression within the bounds of the form
 abbrev pub IsFittingTree : Tree → Type 0
@@ -50,8 +58,11 @@ IsFittingTree tree = (length (tokens_of tree) ≤ 255) × AllByRecursion IsFitti
 pub expression-spells : (tree : Tree) → IsFittingTree tree → SpellsTree (indexed tree) (w.expression shortest tree)
 expression-spells tree fits =
     let same = renamed_tokens-tokens_of with_index tree in
-    let count = ap length (sym same) ∙ length-map (tokens_of tree) (renamed_token with_index) in
-    (omega (arith, count, fits.0), subst (λ (tokens : List Token). SpellsTokens tokens (w.expression shortest tree)) same (tokens-spell 0 (tokens_of tree) fits.1))
+    let count = ap length (sym same) ∙ length-map (tokens_of tree) (renamed_token with_index) in (
+      omega (arith, count, fits.0),
+      subst (λ (tokens : List Token). SpellsTokens tokens (w.expression shortest tree)) same
+          (tokens-spell 0 (tokens_of tree) fits.1),
+    )
 
 -- ---- from validity
 
@@ -81,23 +92,27 @@ index-fits m R place few within = omega (arith, few.sections, within)
 index-fits m S place few within = omega (arith, few.sections, within)
 index-fits m X place few within = omega (arith, few.references, within)
 
-tree-fits : (m : Parts) (tree : Tree) → AreFew m → AllByRecursion IsInRange (tokens_of tree) → list_any (is_outside (counts_of m)) (variables_of tree) ≡ false → AllByRecursion IsFitting (tokens_of tree)
+tree-fits : (m : Parts) (tree : Tree) → AreFew m → AllByRecursion IsInRange (tokens_of tree) → list_any (is_outside (counts_of m)) (variables_of tree)
+    ≡ false → AllByRecursion IsFitting (tokens_of tree)
 tree-fits m (number value) few range inside = (range.0, tt)
 tree-fits m (variable letter place) few range inside =
     let within = leb-false (count_for (counts_of m) letter) place (or_parts (nat_le (count_for (counts_of m) letter) place) false inside).0 in
     (index-fits m letter place few within, tt)
 tree-fits m (one f a) few range inside =
-    all-append IsFitting (tokens_of a) (Fun (function_of_one f) ∷ []) (tree-fits m a few (all-prefix IsInRange (tokens_of a) (Fun (function_of_one f) ∷ []) range) inside) (tt, tt)
+    all-append IsFitting (tokens_of a) (Fun (function_of_one f) ∷ [])
+    (tree-fits m a few (all-prefix IsInRange (tokens_of a) (Fun (function_of_one f) ∷ []) range) inside) (tt, tt)
 tree-fits m (two f a b) few range inside =
     let both = all-prefix IsInRange (tokens_of a ++ tokens_of b) (Fun (function_of_two f) ∷ []) range in
-    let parts = or_parts (list_any (is_outside (counts_of m)) (variables_of a)) (list_any (is_outside (counts_of m)) (variables_of b)) (sym (list_any-append (is_outside (counts_of m)) (variables_of a) (variables_of b)) ∙ inside) in
+    let parts = or_parts (list_any (is_outside (counts_of m)) (variables_of a)) (list_any (is_outside (counts_of m)) (variables_of b))
+    (sym (list_any-append (is_outside (counts_of m)) (variables_of a) (variables_of b)) ∙ inside) in
     all-append IsFitting (tokens_of a ++ tokens_of b) (Fun (function_of_two f) ∷ [])
     (all-append IsFitting (tokens_of a) (tokens_of b)
     (tree-fits m a few (all-prefix IsInRange (tokens_of a) (tokens_of b) both) parts.0)
     (tree-fits m b few (all-back IsInRange (tokens_of a) (tokens_of b) both) parts.1))
     (tt, tt)
 
-pub fitting : (m : Parts) (tree : Tree) → AreFew m → length (tokens_of tree) ≤ 255 → AllByRecursion IsInRange (tokens_of tree) → names_outside (counts_of m) tree ≡ false → IsFittingTree tree
+pub fitting : (m : Parts) (tree : Tree) → AreFew m → length (tokens_of tree) ≤ 255 → AllByRecursion IsInRange (tokens_of tree)
+    → names_outside (counts_of m) tree ≡ false → IsFittingTree tree
 fitting m tree few short range inside = (short, tree-fits m tree few range inside)
 
 -- ---- positions
@@ -147,7 +162,8 @@ position_in-counting first n place within =
     let found = lt-ltb (position_or_len (λ j. j == place + first) (counting first n)) (length (counting first n)) (omega (arith, at, count, within)) in
     ap (λ (b : Bool). unwrap_or (cond b (Some (position_or_len (λ j. j == place + first) (counting first n))) None) 0) found ∙ omega (arith, at)
 
-place-back : (m : Parts) (k : ℕ) (letter : Letter) (place : ℕ) → place < count_for (counts_of m) letter → position_in (list_of (written_indexes m k) letter) (index_of letter place) ≡ place
+place-back : (m : Parts) (k : ℕ) (letter : Letter) (place : ℕ) → place < count_for (counts_of m) letter
+    → position_in (list_of (written_indexes m k) letter) (index_of letter place) ≡ place
 place-back m k I place within = position_in-counting 32 (length m.names.publics) place within
 place-back m k L place within = position_in-counting 1 (length m.sections) place within
 place-back m k P place within = position_in-counting 1 (length m.sections) place within
@@ -159,10 +175,12 @@ place-back m k X place within = position_in-counting 11 (length m.names.referenc
 pub positioned-indexed : (m : Parts) (k : ℕ) (tree : Tree) → names_outside (counts_of m) tree ≡ false → positioned (written_indexes m k) (indexed tree) ≡ tree
 positioned-indexed m k (number value) inside = refl
 positioned-indexed m k (variable letter place) inside =
-    ap (variable letter) (place-back m k letter place (leb-false (count_for (counts_of m) letter) place (or_parts (nat_le (count_for (counts_of m) letter) place) false inside).0))
+    ap (variable letter) (place-back m k letter place (leb-false (count_for (counts_of m) letter) place
+    (or_parts (nat_le (count_for (counts_of m) letter) place) false inside).0))
 positioned-indexed m k (one f a) inside = ap (one f) (positioned-indexed m k a inside)
 positioned-indexed m k (two f a b) inside =
-    let parts = or_parts (names_outside (counts_of m) a) (names_outside (counts_of m) b) (sym (list_any-append (is_outside (counts_of m)) (variables_of a) (variables_of b)) ∙ inside) in
+    let parts = or_parts (names_outside (counts_of m) a) (names_outside (counts_of m) b)
+    (sym (list_any-append (is_outside (counts_of m)) (variables_of a) (variables_of b)) ∙ inside) in
     let left = positioned-indexed m k a parts.0 in
     let right = positioned-indexed m k b parts.1 in
     λ i. two f (left i) (right i)

@@ -1,5 +1,6 @@
 -- The expressions of a written form name no index that is not declared before them.
-use Rattle.std.proofs.Common.{◌≡◌, ℕ, ◌+◌, ◌<◌, ◌==◌, Bool, true, false, ◌&&◌, not, nat_le, List, [], ◌∷◌, ◌++◌, length, map, Option, Some, None, refl, sym, ap, ◌∙◌, arith}
+use Rattle.std.proofs.Common.{◌≡◌, ℕ, ◌+◌, ◌<◌, ◌==◌, Bool, true, false, ◌&&◌, not, nat_le, List, [], ◌∷◌, ◌++◌, length, map, Option, Some, None}
+use Rattle.std.proofs.Common.{refl, sym, ap, ◌∙◌, arith}
 use Rattle.std.specs.Prelude.{filter_map, option_to_list, option_map}
 use Rattle.std.specs.List.{AllByRecursion, cons_option, list_any, list_all}
 use Rattle.std.proofs.lemmas.List.{append-nil, map-append}
@@ -15,7 +16,9 @@ use Rattle.mufom_expr.specs.TokenAt.{tokens_in}
 use Rattle.mufom_debug.specs.Marks.{joined}
 use Rattle.mufom_module.specs.declared.module.Parts.{Parts}
 use Rattle.mufom_module.specs.Contents.{any_of}
-use Rattle.mufom_module.specs.SpelledRecords.{SpelledRecord, Kind, FileIndex, section, public, reference, declared, declared_by, of_kind, is_declared, expression_of, tree_in, text_in, named_in_expression, named_at_once, index_of_variable, kind_of_letter, Once, is_same_statement, assigned_by, is_assigned}
+use Rattle.mufom_module.specs.SpelledRecords.{SpelledRecord, Kind, FileIndex, section, public, reference, declared, declared_by, of_kind, is_declared}
+use Rattle.mufom_module.specs.SpelledRecords.{expression_of, tree_in, text_in, named_in_expression, named_at_once, index_of_variable, kind_of_letter}
+use Rattle.mufom_module.specs.SpelledRecords.{Once, is_same_statement, assigned_by, is_assigned}
 use Rattle.mufom_module.specs.Grammar.{Follows, has_no_section}
 use Rattle.mufom_module.specs.Written.{shortest, index_of}
 use Rattle.mufom_module.specs.Written as w
@@ -31,7 +34,8 @@ pub record DeclareEntries (m : Parts) (before : List SpelledRecord) : Type 0 whe
   pub references : declared reference before ≡ counting 11 (length m.names.references)
 
 -- further records that declare none of them
-pub declare-more : (m : Parts) (before xs : List SpelledRecord) → DeclareEntries m before → declared section xs ≡ [] → declared public xs ≡ [] → declared reference xs ≡ [] → DeclareEntries m (before ++ xs)
+pub declare-more : (m : Parts) (before xs : List SpelledRecord) → DeclareEntries m before → declared section xs ≡ [] → declared public xs ≡ []
+    → declared reference xs ≡ [] → DeclareEntries m (before ++ xs)
 declare-more m before xs its s p r = record {
   sections = declared-append section before xs ∙ (λ i. its.sections i ++ s i) ∙ append-nil (counting 1 (length m.sections));
   publics = declared-append public before xs ∙ (λ i. its.publics i ++ p i) ∙ append-nil (counting 32 (length m.names.publics));
@@ -52,12 +56,15 @@ module _ (m : Parts) (before : List SpelledRecord) (its : DeclareEntries m befor
   section-known place within = ap (list_any (λ j. j == place + 1)) its.sections ∙ found (place + 1) 1 (length m.sections) (omega arith) (omega (arith, within))
 
   public-known : (place : ℕ) → place < length m.names.publics → is_declared before (public, place + 32) ≡ true
-  public-known place within = ap (list_any (λ j. j == place + 32)) its.publics ∙ found (place + 32) 32 (length m.names.publics) (omega arith) (omega (arith, within))
+  public-known place within = ap (list_any (λ j. j == place + 32)) its.publics
+      ∙ found (place + 32) 32 (length m.names.publics) (omega arith) (omega (arith, within))
 
   reference-known : (place : ℕ) → place < length m.names.references → is_declared before (reference, place + 11) ≡ true
-  reference-known place within = ap (list_any (λ j. j == place + 11)) its.references ∙ found (place + 11) 11 (length m.names.references) (omega arith) (omega (arith, within))
+  reference-known place within = ap (list_any (λ j. j == place + 11)) its.references
+      ∙ found (place + 11) 11 (length m.names.references) (omega arith) (omega (arith, within))
 
-  variable-known : (letter : Letter) (place : ℕ) → place < count_for (counts_of m) letter → is_declared before (kind_of_letter letter, index_of letter place) ≡ true
+  variable-known : (letter : Letter) (place : ℕ) → place < count_for (counts_of m) letter
+      → is_declared before (kind_of_letter letter, index_of letter place) ≡ true
   variable-known I place within = public-known place within
   variable-known L place within = section-known place within
   variable-known P place within = section-known place within
@@ -66,21 +73,25 @@ module _ (m : Parts) (before : List SpelledRecord) (its : DeclareEntries m befor
   variable-known X place within = reference-known place within
 
   -- the variables of a tree that names no entry outside the module
-  pub tree-known : (tree : Tree) → names_outside (counts_of m) tree ≡ false → list_all (is_declared before) (map index_of_variable (variables_of (indexed tree))) ≡ true
+  pub tree-known : (tree : Tree) → names_outside (counts_of m) tree ≡ false
+      → list_all (is_declared before) (map index_of_variable (variables_of (indexed tree))) ≡ true
   tree-known (number value) inside = refl
   tree-known (variable letter place) inside =
       let within = leb-false (count_for (counts_of m) letter) place (or_parts (nat_le (count_for (counts_of m) letter) place) false inside).0 in
       ap (λ (b : Bool). b && true) (variable-known letter place within)
   tree-known (one f a) inside = tree-known a inside
   tree-known (two f a b) inside =
-      let parts = or_parts (names_outside (counts_of m) a) (names_outside (counts_of m) b) (sym (list_any-append (is_outside (counts_of m)) (variables_of a) (variables_of b)) ∙ inside) in
+      let parts = or_parts (names_outside (counts_of m) a) (names_outside (counts_of m) b)
+      (sym (list_any-append (is_outside (counts_of m)) (variables_of a) (variables_of b)) ∙ inside) in
       let left = tree-known a parts.0 in
       let right = tree-known b parts.1 in
       ap (list_all (is_declared before)) (map-append index_of_variable (variables_of (indexed a)) (variables_of (indexed b)))
-      ∙ list_all-append (is_declared before) (map index_of_variable (variables_of (indexed a))) (map index_of_variable (variables_of (indexed b))) ∙ (λ i. left i && right i)
+      ∙ list_all-append (is_declared before) (map index_of_variable (variables_of (indexed a))) (map index_of_variable (variables_of (indexed b)))
+      ∙ (λ i. left i && right i)
 
   -- those of the expression of a record, of which its bytes hold the text
-  pub expression-known : (p : SpelledRecord) (span : Span) (tree : Tree) → expression_of p.row ≡ Some span → text_in p span ≡ w.expression shortest tree → IsFittingTree tree
+  pub expression-known : (p : SpelledRecord) (span : Span) (tree : Tree) → expression_of p.row ≡ Some span → text_in p span
+      ≡ w.expression shortest tree → IsFittingTree tree
       → names_outside (counts_of m) tree ≡ false → list_all (is_declared before) (named_in_expression p) ≡ true
   expression-known p span tree has text fits inside =
       ap (λ (l : List FileIndex). list_all (is_declared before) l) (named-in p span tree has text fits) ∙ tree-known tree inside
@@ -92,7 +103,8 @@ pub record IsPlain (p : SpelledRecord) : Type 0 where
   pub states : assigned_by p.row ≡ None
 
 -- such a record keeps to what stands before it, where the indexes that it names are declared
-pub plain-follows : (before : List SpelledRecord) (p : SpelledRecord) → IsPlain p → list_all (is_declared before) (named_at_once p) ≡ true → has_no_section before p.row ≡ false → Follows before p
+pub plain-follows : (before : List SpelledRecord) (p : SpelledRecord) → IsPlain p → list_all (is_declared before) (named_at_once p) ≡ true
+    → has_no_section before p.row ≡ false → Follows before p
 plain-follows before p its known placed = record {
   new = ap (any_of (is_declared before)) its.declares;
   known = ap not known;

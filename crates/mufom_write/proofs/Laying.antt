@@ -21,7 +21,8 @@ records_from n lay [] = []
 records_from n lay (x ∷ xs) = lay n x ++ records_from (n + 1) lay xs
 
 pub bytes_of-append : (xs ys : List SpelledRecord) → bytes_of (xs ++ ys) ≡ bytes_of xs ++ bytes_of ys
-bytes_of-append xs ys = ap (λ (l : List (List ℕ)). joined l) (map-append (λ (p : SpelledRecord). p.bytes) xs ys) ∙ joined-append (map (λ (p : SpelledRecord). p.bytes) xs) (map (λ (p : SpelledRecord). p.bytes) ys)
+bytes_of-append xs ys = ap (λ (l : List (List ℕ)). joined l) (map-append (λ (p : SpelledRecord). p.bytes) xs ys)
+    ∙ joined-append (map (λ (p : SpelledRecord). p.bytes) xs) (map (λ (p : SpelledRecord). p.bytes) ys)
 
 pub bytes_of-records_from : {X : Type 0} (lay : ℕ → X → List SpelledRecord) (write : ℕ → X → List ℕ) → ((n : ℕ) (x : X) → bytes_of (lay n x) ≡ write n x)
     → (n : ℕ) (xs : List X) → bytes_of (records_from n lay xs) ≡ each_from n write xs
@@ -43,12 +44,14 @@ code-first [] rest code = absurd code
 code-first (b ∷ bytes) rest code = code
 
 module _ (part : Part) where
-  next-code : (records : List SpelledRecord) (after : List ℕ) → AllByRecursion (IsRecord part) records → IsCode (first_of after None) → IsCode (first_of (bytes_of records ++ after) None)
+  next-code : (records : List SpelledRecord) (after : List ℕ) → AllByRecursion (IsRecord part) records → IsCode (first_of after None)
+      → IsCode (first_of (bytes_of records ++ after) None)
   next-code [] after all code = code
   next-code (p ∷ records) after all code =
       code-first (p.bytes ++ bytes_of records) after (code-first p.bytes (bytes_of records) all.0.code)
 
-  are_whole : (records : List SpelledRecord) (after : List ℕ) → AllByRecursion (IsRecord part) records → IsCode (first_of after None) → AreWhole false records after
+  are_whole : (records : List SpelledRecord) (after : List ℕ) → AllByRecursion (IsRecord part) records → IsCode (first_of after None)
+      → AreWhole false records after
   are_whole [] after all code = tt
   are_whole (p ∷ records) after all code = (
     all.0.whole (first_of (bytes_of records ++ after) None) (next-code records after all.1 code),
@@ -62,10 +65,12 @@ module _ (part : Part) where
       let rest = are_own records all.1 in
       λ i. first i && rest i
 
-  pub is_part : (records : List SpelledRecord) (after : List ℕ) → AllByRecursion (IsRecord part) records → IsCode (first_of after None) → IsPart part records after
+  pub is_part : (records : List SpelledRecord) (after : List ℕ) → AllByRecursion (IsRecord part) records → IsCode (first_of after None)
+      → IsPart part records after
   is_part records after all code = record { are_whole = are_whole records after all code; own = are_own records all }
 
-  pub part-code : (records : List SpelledRecord) (after : List ℕ) → AllByRecursion (IsRecord part) records → IsCode (first_of after None) → IsCode (first_of (bytes_of records ++ after) None)
+  pub part-code : (records : List SpelledRecord) (after : List ℕ) → AllByRecursion (IsRecord part) records → IsCode (first_of after None)
+      → IsCode (first_of (bytes_of records ++ after) None)
   part-code = next-code
 
 -- of entries each of which is laid as such records

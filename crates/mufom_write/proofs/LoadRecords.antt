@@ -1,5 +1,6 @@
 -- The data part and the trailer of a written form as records and items.
-use Rattle.std.proofs.Common.{◌≡◌, ℕ, ◌+◌, ◌^◌, ◌<◌, ◌≤◌, ◌==◌, Bool, true, false, ◌||◌, ◌&&◌, nat_lt, List, [], ◌∷◌, ◌++◌, length, Option, Some, None, refl, sym, subst, ap, ◌∙◌, arith, append_assoc}
+use Rattle.std.proofs.Common.{◌≡◌, ℕ, ◌+◌, ◌^◌, ◌<◌, ◌≤◌, ◌==◌, Bool, true, false, ◌||◌, ◌&&◌, nat_lt, List, [], ◌∷◌, ◌++◌, length, Option, Some}
+use Rattle.std.proofs.Common.{None, refl, sym, subst, ap, ◌∙◌, arith, append_assoc}
 use Rattle.std.specs.Prelude.{if◌then◌else◌}
 use Rattle.std.specs.List.{AllByRecursion, list_all}
 use Rattle.std.proofs.lemmas.List.{append-nil}
@@ -27,7 +28,8 @@ use Rattle.mufom_module.specs.Written.{shortest, section_index}
 use Rattle.mufom_module.specs.Written as w
 use Rattle.mufom_module.specs.Defects.{is_long}
 use Rattle.mufom_write.proofs.Rows.{IsCode, IsWhole, value_at, spells, set_pc-whole}
-use Rattle.mufom_write.proofs.LoadRows.{run_at, set_section-whole, constant-whole, relocate-whole, repeat_constant-whole, repeat_relocate-whole, constant_item-whole, field-whole, start-whole}
+use Rattle.mufom_write.proofs.LoadRows.{run_at, set_section-whole, constant-whole, relocate-whole, repeat_constant-whole, repeat_relocate-whole}
+use Rattle.mufom_write.proofs.LoadRows.{constant_item-whole, field-whole, start-whole}
 use Rattle.mufom_write.proofs.Indexed.{IsFittingTree, indexed, expression-spells}
 use Rattle.mufom_write.proofs.Laying.{spelled as the_record, IsRecord, bytes_of-append, code-first}
 
@@ -60,14 +62,16 @@ repeat_record count = the_record (r.RepeatRelocate count) (0xF7 ∷ (w.number sh
 abbrev pub repeat_records : ℕ → List Item → List SpelledRecord
 repeat_records count [] = repeat_record count ∷ []
 repeat_records count (Literal bytes ∷ []) =
-    the_record (r.RepeatConstant count (run_at (1 + length (w.number shortest count) + 1) bytes)) (0xF7 ∷ (w.number shortest count ++ 0xED ∷ w.counted shortest bytes)) ∷ []
+    the_record (r.RepeatConstant count (run_at (1 + length (w.number shortest count) + 1) bytes))
+    (0xF7 ∷ (w.number shortest count ++ 0xED ∷ w.counted shortest bytes)) ∷ []
 repeat_records count (Field kind value size ∷ []) = repeat_record count ∷ field_record kind value size ∷ []
 repeat_records count (first ∷ second ∷ more) = repeat_record count ∷ item_records (first ∷ second ∷ more)
 
 abbrev pub load_records : Load → List SpelledRecord
 load_records (SetSection section) = the_record (r.SetSection (section_index section)) (0xE5 ∷ w.number shortest (section_index section)) ∷ []
 load_records (SetPc section value) =
-    the_record (r.SetPc (section_index section) (value_at (section_index section) (w.expression shortest value))) (0xE2 ∷ 0xD0 ∷ (w.number shortest (section_index section) ++ w.expression shortest value)) ∷ []
+    the_record (r.SetPc (section_index section) (value_at (section_index section) (w.expression shortest value)))
+    (0xE2 ∷ 0xD0 ∷ (w.number shortest (section_index section) ++ w.expression shortest value)) ∷ []
 load_records (One item) = single_records item
 load_records (Repeat count items) = repeat_records count items
 
@@ -102,16 +106,20 @@ after-repeat count rest = ap (λ (l : List ℕ). 0xF7 ∷ l) (append_assoc (w.nu
 repeat-bytes : (count : ℕ) (items : List Item) → bytes_of (repeat_records count items) ≡ w.load shortest (Repeat count items)
 repeat-bytes count [] = one-the_record (repeat_record count)
 repeat-bytes count (Literal bytes ∷ []) =
-    one-the_record (the_record (r.RepeatConstant count (run_at (1 + length (w.number shortest count) + 1) bytes)) (0xF7 ∷ (w.number shortest count ++ 0xED ∷ w.counted shortest bytes)))
+    one-the_record (the_record (r.RepeatConstant count (run_at (1 + length (w.number shortest count) + 1) bytes))
+    (0xF7 ∷ (w.number shortest count ++ 0xED ∷ w.counted shortest bytes)))
 repeat-bytes count (Field kind value size ∷ []) =
-    after-repeat count (bytes_of (field_record kind value size ∷ [])) ∙ ap (λ (l : List ℕ). 0xF7 ∷ (w.number shortest count ++ 0xE4 ∷ l)) (one-the_record (field_record kind value size))
+    after-repeat count (bytes_of (field_record kind value size ∷ []))
+    ∙ ap (λ (l : List ℕ). 0xF7 ∷ (w.number shortest count ++ 0xE4 ∷ l)) (one-the_record (field_record kind value size))
 repeat-bytes count (first ∷ second ∷ more) =
-    after-repeat count (bytes_of (item_records (first ∷ second ∷ more))) ∙ ap (λ (l : List ℕ). 0xF7 ∷ (w.number shortest count ++ 0xE4 ∷ l)) (items-bytes 0 (first ∷ second ∷ more))
+    after-repeat count (bytes_of (item_records (first ∷ second ∷ more)))
+    ∙ ap (λ (l : List ℕ). 0xF7 ∷ (w.number shortest count ++ 0xE4 ∷ l)) (items-bytes 0 (first ∷ second ∷ more))
 
 load-bytes : (load : Load) → bytes_of (load_records load) ≡ w.load shortest load
 load-bytes (SetSection section) = one-the_record (the_record (r.SetSection (section_index section)) (0xE5 ∷ w.number shortest (section_index section)))
 load-bytes (SetPc section value) =
-    one-the_record (the_record (r.SetPc (section_index section) (value_at (section_index section) (w.expression shortest value))) (0xE2 ∷ 0xD0 ∷ (w.number shortest (section_index section) ++ w.expression shortest value)))
+    one-the_record (the_record (r.SetPc (section_index section) (value_at (section_index section) (w.expression shortest value)))
+    (0xE2 ∷ 0xD0 ∷ (w.number shortest (section_index section) ++ w.expression shortest value)))
 load-bytes (One item) = single-bytes item
 load-bytes (Repeat count items) = repeat-bytes count items
 
@@ -157,18 +165,28 @@ record AreLaid (records : List SpelledRecord) (after : List ℕ) : Type 0 where
   whole : (items : Bool) → AreWhole items records after
   code : IsCode (first_of (bytes_of records ++ after) None)
 
-plain-first : (p : SpelledRecord) (rest : List SpelledRecord) (after : List ℕ) → IsWhole p.row p.bytes → IsCode (first_of p.bytes None) → IsCode (first_of (bytes_of rest ++ after) None)
+plain-first : (p : SpelledRecord) (rest : List SpelledRecord) (after : List ℕ) → IsWhole p.row p.bytes → IsCode (first_of p.bytes None)
+    → IsCode (first_of (bytes_of rest ++ after) None)
     → AreWhole (opens_items p.row) rest after → AreLaid (p ∷ rest) after
 plain-first p rest after whole code next rest_whole = record {
-  whole = λ items. (subst (λ (m : Mode). IsWholeRecord m p.row p.bytes (first_of (bytes_of rest ++ after) None)) (sym (mode-plain items p.bytes code)) (whole (first_of (bytes_of rest ++ after) None) next), rest_whole);
+  whole = λ items. (
+    subst (λ (m : Mode). IsWholeRecord m p.row p.bytes (first_of (bytes_of rest ++ after) None)) (sym (mode-plain items p.bytes code))
+        (whole (first_of (bytes_of rest ++ after) None) next),
+    rest_whole,
+  );
   code = code-first (p.bytes ++ bytes_of rest) after (code-first p.bytes (bytes_of rest) code);
 }
 
 -- a record after which items may stand, which need no record after them
-open-first : (p : SpelledRecord) (rest : List SpelledRecord) (after : List ℕ) → ((next : Option ℕ) → IsWholeRecord mode.Body p.row p.bytes next) → IsCode (first_of p.bytes None)
+open-first : (p : SpelledRecord) (rest : List SpelledRecord) (after : List ℕ) → ((next : Option ℕ) → IsWholeRecord mode.Body p.row p.bytes next)
+    → IsCode (first_of p.bytes None)
     → AreWhole (opens_items p.row) rest after → AreLaid (p ∷ rest) after
 open-first p rest after whole code rest_whole = record {
-  whole = λ items. (subst (λ (m : Mode). IsWholeRecord m p.row p.bytes (first_of (bytes_of rest ++ after) None)) (sym (mode-plain items p.bytes code)) (whole (first_of (bytes_of rest ++ after) None)), rest_whole);
+  whole = λ items. (
+    subst (λ (m : Mode). IsWholeRecord m p.row p.bytes (first_of (bytes_of rest ++ after) None)) (sym (mode-plain items p.bytes code))
+        (whole (first_of (bytes_of rest ++ after) None)),
+    rest_whole,
+  );
   code = code-first (p.bytes ++ bytes_of rest) after (code-first p.bytes (bytes_of rest) code);
 }
 
@@ -184,18 +202,22 @@ mode-number n (b ∷ prefix) rest spelled =
 counts : (n : ℕ) → nat_lt 65535 n ≡ false → n < 2 ^ 64
 counts n h = let few = ltb-false 65535 n h in omega (arith, few)
 
-literal-whole : (bytes : List ℕ) (next : Option ℕ) → is_long bytes ≡ false → AreBytes bytes → IsWholeRecord (mode_of true (w.counted shortest bytes)) (r.ConstantItem (run_at 0 bytes)) (w.counted shortest bytes) next
+literal-whole : (bytes : List ℕ) (next : Option ℕ) → is_long bytes ≡ false → AreBytes bytes
+    → IsWholeRecord (mode_of true (w.counted shortest bytes)) (r.ConstantItem (run_at 0 bytes)) (w.counted shortest bytes) next
 literal-whole bytes next short are =
     let same = mode-number (length bytes) (w.number shortest (length bytes)) bytes (spells (length bytes) (counts (length bytes) short)) in
-    subst (λ (m : Mode). IsWholeRecord m (r.ConstantItem (run_at 0 bytes)) (w.counted shortest bytes) next) (sym same) (constant_item-whole bytes short are next)
+    subst (λ (m : Mode). IsWholeRecord m (r.ConstantItem (run_at 0 bytes)) (w.counted shortest bytes) next) (sym same)
+    (constant_item-whole bytes short are next)
 
 field-first : (kind : FieldKind) (value : Tree) (size : ℕ) (next : Option ℕ) → IsFittingItem (Field kind value size)
-    → IsWholeRecord (mode_of true (w.field shortest kind value size)) (r.FieldItem kind (span_at 1 (length (w.expression shortest value))) (Some size)) (w.field shortest kind value size) next
+    → IsWholeRecord (mode_of true (w.field shortest kind value size))
+    (r.FieldItem kind (span_at 1 (length (w.expression shortest value))) (Some size)) (w.field shortest kind value size) next
 field-first Signed value size next fits = field-whole Signed (indexed value) value size (expression-spells value fits.0) fits.1 fits.2 next
 field-first Unsigned value size next fits = field-whole Unsigned (indexed value) value size (expression-spells value fits.0) fits.1 fits.2 next
 field-first Either value size next fits = field-whole Either (indexed value) value size (expression-spells value fits.0) fits.1 fits.2 next
 
-items-laid : (items : List Item) (rest : List SpelledRecord) (after : List ℕ) → AllByRecursion IsFittingItem items → AreLaid rest after → AreWhole true (item_records items ++ rest) after
+items-laid : (items : List Item) (rest : List SpelledRecord) (after : List ℕ) → AllByRecursion IsFittingItem items → AreLaid rest after
+    → AreWhole true (item_records items ++ rest) after
 items-laid [] rest after fit laid = laid.whole true
 items-laid (Literal bytes ∷ items) rest after fit laid =
     (literal-whole bytes (first_of (bytes_of (item_records items ++ rest) ++ after) None) fit.0.0 fit.0.1, items-laid items rest after fit.1 laid)
@@ -206,23 +228,30 @@ items-laid (Field kind value size ∷ items) rest after fit laid =
 
 single-laid : (item : Item) (rest : List SpelledRecord) (after : List ℕ) → IsFittingItem item → AreLaid rest after → AreLaid (single_records item ++ rest) after
 single-laid (Literal bytes) rest after fits laid =
-    plain-first (the_record (r.Constant (run_at 1 bytes)) (0xED ∷ w.counted shortest bytes)) rest after (constant-whole bytes fits.0 fits.1) (omega arith) laid.code (laid.whole false)
+    plain-first (the_record (r.Constant (run_at 1 bytes)) (0xED ∷ w.counted shortest bytes)) rest after (constant-whole bytes fits.0 fits.1)
+    (omega arith) laid.code (laid.whole false)
 single-laid (Field kind value size) rest after fits laid =
-    open-first relocate_record (field_record kind value size ∷ rest) after relocate-whole (omega arith) (items-laid (Field kind value size ∷ []) rest after (fits, tt) laid)
+    open-first relocate_record (field_record kind value size ∷ rest) after relocate-whole (omega arith)
+    (items-laid (Field kind value size ∷ []) rest after (fits, tt) laid)
 
-repeat-laid : (count : ℕ) (items : List Item) (rest : List SpelledRecord) (after : List ℕ) → count < 2 ^ 64 → AllByRecursion IsFittingItem items → AreLaid rest after → AreLaid (repeat_records count items ++ rest) after
+repeat-laid : (count : ℕ) (items : List Item) (rest : List SpelledRecord) (after : List ℕ) → count < 2 ^ 64 → AllByRecursion IsFittingItem items
+    → AreLaid rest after → AreLaid (repeat_records count items ++ rest) after
 repeat-laid count [] rest after hc fit laid = open-first (repeat_record count) rest after (repeat_relocate-whole count hc) (omega arith) (laid.whole true)
 repeat-laid count (Literal bytes ∷ []) rest after hc fit laid =
-    plain-first (the_record (r.RepeatConstant count (run_at (1 + length (w.number shortest count) + 1) bytes)) (0xF7 ∷ (w.number shortest count ++ 0xED ∷ w.counted shortest bytes))) rest after
+    plain-first (the_record (r.RepeatConstant count (run_at (1 + length (w.number shortest count) + 1) bytes))
+    (0xF7 ∷ (w.number shortest count ++ 0xED ∷ w.counted shortest bytes))) rest after
     (repeat_constant-whole count bytes hc fit.0.0 fit.0.1) (omega arith) laid.code (laid.whole false)
 repeat-laid count (Field kind value size ∷ []) rest after hc fit laid =
-    open-first (repeat_record count) (field_record kind value size ∷ rest) after (repeat_relocate-whole count hc) (omega arith) (items-laid (Field kind value size ∷ []) rest after fit laid)
+    open-first (repeat_record count) (field_record kind value size ∷ rest) after (repeat_relocate-whole count hc) (omega arith)
+    (items-laid (Field kind value size ∷ []) rest after fit laid)
 repeat-laid count (first ∷ second ∷ more) rest after hc fit laid =
-    open-first (repeat_record count) (item_records (first ∷ second ∷ more) ++ rest) after (repeat_relocate-whole count hc) (omega arith) (items-laid (first ∷ second ∷ more) rest after fit laid)
+    open-first (repeat_record count) (item_records (first ∷ second ∷ more)
+    ++ rest) after (repeat_relocate-whole count hc) (omega arith) (items-laid (first ∷ second ∷ more) rest after fit laid)
 
 load-laid : (load : Load) (rest : List SpelledRecord) (after : List ℕ) → IsFittingLoad load → AreLaid rest after → AreLaid (load_records load ++ rest) after
 load-laid (SetSection section) rest after fits laid =
-    plain-first (the_record (r.SetSection (section_index section)) (0xE5 ∷ w.number shortest (section_index section))) rest after (set_section-whole (section_index section) fits) (omega arith) laid.code (laid.whole false)
+    plain-first (the_record (r.SetSection (section_index section)) (0xE5 ∷ w.number shortest (section_index section))) rest after
+    (set_section-whole (section_index section) fits) (omega arith) laid.code (laid.whole false)
 load-laid (SetPc section value) rest after fits laid =
     let i = section_index section in
     let text = w.expression shortest value in
@@ -265,10 +294,12 @@ loads-own (load ∷ loads) =
     let rest = loads-own loads in
     list_all-append (λ p. stands_in data_part p.row) (load_records load) (loads_records loads) ∙ (λ i. first i && rest i)
 
-pub loads-part : (loads : List Load) (after : List ℕ) → AllByRecursion IsFittingLoad loads → IsCode (first_of after None) → IsPart data_part (loads_records loads) after
+pub loads-part : (loads : List Load) (after : List ℕ) → AllByRecursion IsFittingLoad loads → IsCode (first_of after None)
+    → IsPart data_part (loads_records loads) after
 loads-part loads after fit code = record { are_whole = (loads-laid loads after fit code).whole false; own = loads-own loads }
 
-pub loads-code : (loads : List Load) (after : List ℕ) → AllByRecursion IsFittingLoad loads → IsCode (first_of after None) → IsCode (first_of (bytes_of (loads_records loads) ++ after) None)
+pub loads-code : (loads : List Load) (after : List ℕ) → AllByRecursion IsFittingLoad loads → IsCode (first_of after None)
+    → IsCode (first_of (bytes_of (loads_records loads) ++ after) None)
 loads-code loads after fit code = (loads-laid loads after fit code).code
 
 -- ---- the start
@@ -279,4 +310,13 @@ IsFittingStart (Some value) = IsFittingTree value
 
 pub start-records : (start : Option Tree) → IsFittingStart start → AllByRecursion (IsRecord trailer_part) (start_records start)
 start-records None fits = tt
-start-records (Some value) fits = (record { whole = start-whole (indexed value) value (expression-spells value fits); code = omega arith; plain = refl; own = refl }, tt)
+start-records (Some value) fits = (
+  record {
+    whole = start-whole (indexed value) value (expression-spells value fits);
+    code = omega arith;
+    plain =
+        refl;
+    own = refl;
+  },
+  tt,
+)

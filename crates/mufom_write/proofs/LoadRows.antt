@@ -1,5 +1,6 @@
 -- The records and items of loads, and of the start, in a written form.
-use Rattle.std.proofs.Common.{◌≡◌, ℕ, ◌+◌, ◌^◌, ◌<◌, true, false, nat_lt, nat_le, ◌&&◌, ◌||◌, ◌==◌, List, [], ◌∷◌, ◌++◌, length, Option, Some, None, refl, sym, ap, ◌∙◌, arith}
+use Rattle.std.proofs.Common.{◌≡◌, ℕ, ◌+◌, ◌^◌, ◌<◌, true, false, nat_lt, nat_le, ◌&&◌, ◌||◌, ◌==◌, List, [], ◌∷◌, ◌++◌, length, Option, Some, None}
+use Rattle.std.proofs.Common.{refl, sym, ap, ◌∙◌, arith}
 use Rattle.std.proofs.lemmas.List.{append-nil}
 use Rattle.std.proofs.lemmas.Bool.{lt-ltb, ltb-false}
 use Rattle.mufom_numbers.specs.Spelling.{AreBytes, SpellsNumber}
@@ -54,7 +55,8 @@ relocate-whole next = (0xE4, 0xE4 ∷ [], [], refl, (refl, refl), refl)
 
 -- RE with LD
 pub repeat_constant-whole : (count : ℕ) (bytes : List ℕ) → count < 2 ^ 64 → is_long bytes ≡ false → AreBytes bytes
-    → IsWhole (r.RepeatConstant count (run_at (1 + length (w.number shortest count) + 1) bytes)) (0xF7 ∷ (w.number shortest count ++ 0xED ∷ w.counted shortest bytes))
+    → IsWhole (r.RepeatConstant count (run_at (1 + length (w.number shortest count) + 1) bytes))
+    (0xF7 ∷ (w.number shortest count ++ 0xED ∷ w.counted shortest bytes))
 repeat_constant-whole count bytes hc short are next code = (
   0xF7,
   0xF7 ∷ [],
@@ -65,14 +67,23 @@ repeat_constant-whole count bytes hc short are next code = (
     w.number shortest count,
     0xED ∷ w.counted shortest bytes,
     (spells count hc, refl),
-    (0xED, 0xED ∷ [], w.counted shortest bytes, refl, constant-spells (r.RepeatConstant count) bytes (1 + length (w.number shortest count) + 1) next short are, refl),
+    (
+      0xED,
+      0xED ∷ [],
+      w.counted shortest bytes,
+      refl,
+      constant-spells (r.RepeatConstant count) bytes (1 + length (w.number shortest count) + 1) next
+          short are,
+      refl,
+    ),
     refl,
   ),
   refl,
 )
 
 -- RE with LR, whatever follows it
-pub repeat_relocate-whole : (count : ℕ) → count < 2 ^ 64 → (next : Option ℕ) → IsWholeRecord mode.Body (r.RepeatRelocate count) (0xF7 ∷ (w.number shortest count ++ 0xE4 ∷ [])) next
+pub repeat_relocate-whole : (count : ℕ) → count < 2 ^ 64 → (next : Option ℕ)
+    → IsWholeRecord mode.Body (r.RepeatRelocate count) (0xF7 ∷ (w.number shortest count ++ 0xE4 ∷ [])) next
 repeat_relocate-whole count hc next = (
   0xF7,
   0xF7 ∷ [],
@@ -114,9 +125,11 @@ size-fits : (size : ℕ) → ((size == 0) || nat_lt 8 size) ≡ false → (nat_l
 size-fits size h = grind arith
 
 -- a field in these brackets
-bracketed-whole : (bracket close : ℕ) → is_one_of opening_brackets bracket ≡ true → ((row : Record) (at : ℕ) (next : Option ℕ) → SpellsRecord (closed_by bracket (whole row)) row at (close ∷ []) next)
+bracketed-whole : (bracket close : ℕ) → is_one_of opening_brackets bracket ≡ true
+    → ((row : Record) (at : ℕ) (next : Option ℕ) → SpellsRecord (closed_by bracket (whole row)) row at (close ∷ []) next)
     → (tree value : Tree) (size : ℕ) → SpellsTree tree (w.expression shortest value) → size < 2 ^ 64 → ((size == 0) || nat_lt 8 size) ≡ false
-    → IsWholeItem (r.FieldItem (kind_of bracket) (span_at 1 (length (w.expression shortest value))) (Some size)) (bracket ∷ (w.expression shortest value ++ (comma ∷ (w.number shortest size ++ close ∷ []))))
+    → IsWholeItem (r.FieldItem (kind_of bracket) (span_at 1 (length (w.expression shortest value))) (Some size))
+    (bracket ∷ (w.expression shortest value ++ (comma ∷ (w.number shortest size ++ close ∷ []))))
 bracketed-whole bracket close opens closes tree value size spelled fits good next =
     let text = w.expression shortest value in
     let span = span_at 1 (length text) in (
@@ -134,7 +147,14 @@ bracketed-whole bracket close opens closes tree value size spelled fits good nex
           comma ∷ [],
           w.number shortest size ++ close ∷ [],
           (refl, refl),
-          (size, w.number shortest size, close ∷ [], (spells size fits, size-fits size good), closes (r.FieldItem (kind_of bracket) span (Some size)) (1 + length text + 1 + length (w.number shortest size)) next, refl),
+          (
+            size,
+            w.number shortest size,
+            close ∷ [],
+            (spells size fits, size-fits size good),
+            closes (r.FieldItem (kind_of bracket) span (Some size)) (1 + length text + 1 + length (w.number shortest size)) next,
+            refl,
+          ),
           refl,
         ),
         refl,
@@ -143,7 +163,8 @@ bracketed-whole bracket close opens closes tree value size spelled fits good nex
     )
 
 -- a field
-pub field-whole : (kind : FieldKind) (tree : Tree) (value : Tree) (size : ℕ) → SpellsTree tree (w.expression shortest value) → size < 2 ^ 64 → ((size == 0) || nat_lt 8 size) ≡ false
+pub field-whole : (kind : FieldKind) (tree : Tree) (value : Tree) (size : ℕ) → SpellsTree tree (w.expression shortest value) → size < 2 ^ 64
+    → ((size == 0) || nat_lt 8 size) ≡ false
     → IsWholeItem (r.FieldItem kind (span_at 1 (length (w.expression shortest value))) (Some size)) (w.field shortest kind value size)
 field-whole Signed = bracketed-whole 0xBA 0xBB refl (λ row at next. (0xBB, 0xBB ∷ [], [], refl, (refl, refl), refl))
 field-whole Unsigned = bracketed-whole 0xBC 0xBD refl (λ row at next. (0xBD, 0xBD ∷ [], [], refl, (refl, refl), refl))

@@ -32,9 +32,11 @@ module _ {S : Type 0} (takes : S → S → List ℕ → Result (Unit {0}) Failed
 
   pub leads-step : Joins → (start now next : S) (bytes after rest all : List ℕ) → rest ≡ bytes ++ after → LeadsTo takes start now rest all
       → takes now next bytes (Ok tt) → LeadsTo takes start next after all
-  leads-step joins start now next bytes after rest all split so_far one = record { leads = λ s r h. so_far.leads s r (joins now next s bytes after rest r one h split) }
+  leads-step joins start now next bytes after rest all split so_far one =
+      record { leads = λ s r h. so_far.leads s r (joins now next s bytes after rest r one h split) }
 
-  pub leads-stop : Stops → (start now next : S) (bytes after rest all : List ℕ) (e : Failed) (r : Result (Unit {0}) Failed) → rest ≡ bytes ++ after → LeadsTo takes start now rest all
+  pub leads-stop : Stops → (start now next : S) (bytes after rest all : List ℕ) (e : Failed) (r : Result (Unit {0}) Failed) → rest ≡ bytes ++ after
+      → LeadsTo takes start now rest all
       → takes now next bytes (Err e) → IsErr r → takes start next all r
   leads-stop stops start now next bytes after rest all e r split so_far one failed = so_far.leads next r (stops now next bytes after rest e r one failed split)
 

@@ -8,7 +8,8 @@ use Rattle.mufom_expr.specs.Tree.{Tree}
 use Rattle.mufom_module.specs.Written.{shortest, debug_record, debug_records}
 use Rattle.mufom_host.specs.declared.world.Failed.{Failed}
 
-pub records-append : (n : ℕ) (xs ys : List DebugMark) → debug_records shortest n (xs ++ ys) ≡ debug_records shortest n xs ++ debug_records shortest (names_after_all n xs) ys
+pub records-append : (n : ℕ) (xs ys : List DebugMark) → debug_records shortest n (xs ++ ys) ≡ debug_records shortest n xs
+    ++ debug_records shortest (names_after_all n xs) ys
 records-append n [] ys = refl
 records-append n (x ∷ xs) ys =
     let next = names_after n x in
@@ -31,7 +32,8 @@ pub however_ok : (r : Result (Unit {0}) Failed) (P : Type 0) → P → OnOk r P
 however_ok (Ok done) P p = p
 however_ok (Err e) P p = tt
 
-pub records-Value : (n name : ℕ) (value : Tree) → debug_records shortest n (marks_of_item (value_case name value)) ≡ debug_record shortest n (value_mark name value)
+pub records-Value : (n name : ℕ) (value : Tree) → debug_records shortest n (marks_of_item (value_case name value))
+    ≡ debug_record shortest n (value_mark name value)
 records-Value n name value =
     let marks : marks_of_item (value_case name value) ≡ value_mark name value ∷ [] = search (rules, the_lemmas) in
     ap (debug_records shortest n) marks ∙ append-nil (debug_record shortest n (value_mark name value))

@@ -30,13 +30,16 @@ has-names m fits its placed =
     let entries = prefix-declares m in
     let after_debug = declare-after_marks m (s ++ e) 0 (marks_of m.debug) entries in
     let after_loads = declare-after m ((s ++ e) ++ d) l after_debug (loads-plain m.loads) in
-    let unstated : is_assigned ((s ++ e) ++ d) start_address ≡ false = unstated-append (s ++ e) d start_address (prefix-no_start m) (marks-unstated 0 (marks_of m.debug) start_address) in
+    let unstated : is_assigned ((s ++ e) ++ d) start_address ≡ false =
+    unstated-append (s ++ e) d start_address (prefix-no_start m) (marks-unstated 0 (marks_of m.debug) start_address) in
     record {
       follow = follow-append [] s (e ++ (d ++ (l ++ t))) (section_part-follows m.sections)
           (follow-append s e (d ++ (l ++ t)) (external_part-follows m.sections m.names.publics m.names.references)
-          (follow-append (s ++ e) d (l ++ t) (debug_part-follows m (s ++ e) (marks_of m.debug) entries (prefix-no_debug_names m) fits.debug its.marks its.declared)
+          (follow-append (s ++ e) d (l ++ t) (debug_part-follows m (s
+          ++ e) (marks_of m.debug) entries (prefix-no_debug_names m) fits.debug its.marks its.declared)
           (follow-append ((s ++ e) ++ d) l t (data_part-follows m ((s ++ e) ++ d) after_debug fits.loads its.places placed)
-          (trailer-follows m (((s ++ e) ++ d) ++ l) m.start after_loads (unstated-append ((s ++ e) ++ d) l start_address unstated (plain-unstated l start_address (loads-plain m.loads))) fits.start its.start))));
+          (trailer-follows m (((s ++ e) ++ d) ++ l) m.start after_loads
+          (unstated-append ((s ++ e) ++ d) l start_address unstated (plain-unstated l start_address (loads-plain m.loads))) fits.start its.start))));
       values = values-known m fits.publics its.values;
       valued = values-stated m.names.publics m.names.references;
     }

@@ -1,5 +1,6 @@
 -- Where the parts of a file begin, and how long it is.
-use Rattle.std.proofs.Common.{◌≡◌, ℕ, zero, suc, Bool, ◌+◌, ◌^◌, ◌<◌, ◌≤◌, ◌==◌, cond, List, [], ◌∷◌, ◌++◌, length, take, drop, get_or, slice_set, refl, sym, ap, ◌∙◌, arith, append_assoc, length-append, length-set}
+use Rattle.std.proofs.Common.{◌≡◌, ℕ, zero, suc, Bool, ◌+◌, ◌^◌, ◌<◌, ◌≤◌, ◌==◌, cond, List, [], ◌∷◌, ◌++◌, length, take, drop, get_or, slice_set}
+use Rattle.std.proofs.Common.{refl, sym, ap, ◌∙◌, arith, append_assoc, length-append, length-set}
 use Rattle.std.specs.Prelude.{All}
 use Rattle.std.specs.Int.{w32, to_be_bytes}
 use Rattle.std.proofs.lemmas.List.{drop_more, drop_all, take_all, take_more_set}
@@ -31,7 +32,8 @@ length-offset_record k a b =
     let second = length-append (shortest.number k) (0x84 ∷ to_be_bytes w32 b) in
     omega (arith, first, second)
 
-pub length-offset_records : (n : ℕ) (xs ys : List ℕ) → length xs ≡ length ys → length (w.each_from n (w.offset_record shortest) xs) ≡ length (w.each_from n (w.offset_record shortest) ys)
+pub length-offset_records : (n : ℕ) (xs ys : List ℕ) → length xs ≡ length ys → length (w.each_from n (w.offset_record shortest) xs)
+    ≡ length (w.each_from n (w.offset_record shortest) ys)
 length-offset_records n [] [] h = refl
 length-offset_records n [] (y ∷ ys) h = absurd (omega (arith, h))
 length-offset_records n (x ∷ xs) [] h = absurd (omega (arith, h))
@@ -76,9 +78,11 @@ part-within xs i inside = let next = next-length xs i inside in let rest = joine
 offsets-next : (at : ℕ) (bytes : List ℕ) (rest : List (List ℕ))
     → w.offsets_from at (bytes ∷ rest) ≡ cond (length bytes == 0) 0 at ∷ w.offsets_from (at + length bytes) rest
 offsets-next at [] rest = ap (λ (n : ℕ). 0 ∷ w.offsets_from n rest) (omega arith)
-offsets-next at (b ∷ bytes) rest = ap (λ (none : Bool). cond none 0 at ∷ w.offsets_from (at + length (b ∷ bytes)) rest) (sym (ne_eqb (length (b ∷ bytes)) 0 (λ h. omega (arith, h))))
+offsets-next at (b ∷ bytes) rest = ap (λ (none : Bool). cond none 0 at ∷ w.offsets_from (at + length (b ∷ bytes)) rest)
+    (sym (ne_eqb (length (b ∷ bytes)) 0 (λ h. omega (arith, h))))
 
-pub place-step : (at i v len : ℕ) (parts : List (List ℕ)) (offsets all : List ℕ) → i < length parts → i < length offsets → len ≡ length (get_or parts i []) → v ≡ cond (len == 0) 0 at
+pub place-step : (at i v len : ℕ) (parts : List (List ℕ)) (offsets all : List ℕ) → i < length parts → i < length offsets → len
+    ≡ length (get_or parts i []) → v ≡ cond (len == 0) 0 at
     → take i offsets ++ w.offsets_from at (drop i parts) ≡ all
     → take (i + 1) (slice_set offsets i v) ++ w.offsets_from (at + len) (drop (i + 1) parts) ≡ all
 place-step at i v len parts offsets all inside within is place h =
@@ -98,7 +102,8 @@ pub place-last : (at i : ℕ) (parts : List (List ℕ)) (offsets all : List ℕ)
 place-last at i parts offsets all past count h =
     let ends : w.offsets_from at (drop i parts) ≡ at ∷ [] = ap (w.offsets_from at) (drop_all i parts past) in
     let size : length (slice_set offsets i at) ≤ i + 1 = length-kept offsets i at count in
-    sym (take_all (i + 1) (slice_set offsets i at) size) ∙ take_more_set offsets i at (omega (arith, count)) ∙ ap (λ (l : List ℕ). take i offsets ++ l) (sym ends) ∙ h
+    sym (take_all (i + 1) (slice_set offsets i at) size) ∙ take_more_set offsets i at (omega (arith, count))
+    ∙ ap (λ (l : List ℕ). take i offsets ++ l) (sym ends) ∙ h
   where
     length-kept : (xs : List ℕ) (k v : ℕ) → length xs ≡ k + 1 → length (slice_set xs k v) ≤ k + 1
     length-kept xs k v e = rw length-set (omega (arith, e))
@@ -115,4 +120,5 @@ offsets-fit at [] few = All-cons (λ offset. offset < 2 ^ 32) at [] (omega (arit
 offsets-fit at ([] ∷ rest) few = All-cons (λ offset. offset < 2 ^ 32) 0 (w.offsets_from at rest) (omega arith) (offsets-fit at rest few)
 offsets-fit at ((b ∷ bytes) ∷ rest) few =
     let whole = length-append (b ∷ bytes) (joined rest) in
-    All-cons (λ offset. offset < 2 ^ 32) at (w.offsets_from (at + length (b ∷ bytes)) rest) (omega (arith, few)) (offsets-fit (at + length (b ∷ bytes)) rest (omega (arith, few, whole)))
+    All-cons (λ offset. offset < 2 ^ 32) at (w.offsets_from (at + length (b ∷ bytes)) rest) (omega (arith, few))
+    (offsets-fit (at + length (b ∷ bytes)) rest (omega (arith, few, whole)))

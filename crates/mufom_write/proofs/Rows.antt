@@ -1,5 +1,6 @@
 -- The records of a written form: each is a whole one where the first byte of a record stands after it.
-use Rattle.std.proofs.Common.{◌≡◌, ℕ, ◌+◌, ◌^◌, ◌<◌, ◌≤◌, ◌==◌, Bool, true, false, nat_lt, List, [], ◌∷◌, ◌++◌, length, Option, Some, None, refl, sym, inl, inr, cond, arith}
+use Rattle.std.proofs.Common.{◌≡◌, ℕ, ◌+◌, ◌^◌, ◌<◌, ◌≤◌, ◌==◌, Bool, true, false, nat_lt, List, [], ◌∷◌, ◌++◌, length, Option, Some, None, refl, sym}
+use Rattle.std.proofs.Common.{inl, inr, cond, arith}
 use Rattle.std.specs.Prelude.{if◌then◌else◌}
 use Rattle.std.specs.List.{AllByRecursion}
 use Rattle.std.specs.Int.{w16, to_be_bytes}
@@ -19,7 +20,8 @@ use Rattle.mufom_records.specs.declared.record.Record.{Record}
 use Rattle.mufom_records.specs.declared.record.Record.TheVariants as r
 use Rattle.mufom_records.specs.Fields.{number, numbers, string, expression, Stops, is_one_of, span_at, SpellsField, SpellsNumbers, first_of}
 use Rattle.mufom_records.specs.Fields.{optional_number}
-use Rattle.mufom_records.specs.Layouts.{◌▹◌, whole, SpellsRecord, purposes, named_section, section_type, index_and_number, index_and_string, index_and_expression, debug_attributes, IsWholeRecord, any_number, assignment, here, index, noted}
+use Rattle.mufom_records.specs.Layouts.{◌▹◌, whole, SpellsRecord, purposes, named_section, section_type, index_and_number, index_and_string}
+use Rattle.mufom_records.specs.Layouts.{index_and_expression, debug_attributes, IsWholeRecord, any_number, assignment, here, index, noted}
 use Rattle.mufom_sections.specs.declared.section.Purpose.{Purpose}
 use Rattle.mufom_sections.specs.declared.section.Purpose.TheVariants as purpose
 use Rattle.mufom_sections.specs.declared.section.Section.{Section}
@@ -84,13 +86,15 @@ lead-is len few = elim (cases_lt len 128) [
 abbrev pub text_at : ℕ → List ℕ → Span
 text_at at text = span_at (at + length (shortest_lead (length text))) (length text)
 
-pub spells_string : (text : List ℕ) (at : ℕ) (next : Option ℕ) → is_long text ≡ false → AreBytes text → SpellsField string (text_at at text) at (w.string shortest text) next
+pub spells_string : (text : List ℕ) (at : ℕ) (next : Option ℕ) → is_long text ≡ false → AreBytes text
+    → SpellsField string (text_at at text) at (w.string shortest text) next
 spells_string text at next short bytes = (shortest_lead (length text), text, lead-is (length text) (ltb-false 65535 (length text) short), bytes, refl, refl)
 
 -- ---- expressions
 
 -- an expression that ends before a byte that begins no token
-pub spells_expression : (tree : Tree) (text : List ℕ) (at : ℕ) (next : Option ℕ) → SpellsTree tree text → Stops begins_token next → SpellsField expression (span_at at (length text)) at text next
+pub spells_expression : (tree : Tree) (text : List ℕ) (at : ℕ) (next : Option ℕ) → SpellsTree tree text → Stops begins_token next
+    → SpellsField expression (span_at at (length text)) at text next
 spells_expression tree text at next spelled stops = ((tree, spelled), refl, stops)
 
 -- ---- records
@@ -99,11 +103,13 @@ abbrev pub IsWhole : Record → List ℕ → Type 0
 IsWhole row bytes = (next : Option ℕ) → IsCode next → IsWholeRecord mode.Body row bytes next
 
 -- a record after E2 and a letter
-assigned-whole : (letter : ℕ) (row : Record) (rest : List ℕ) → ((next : Option ℕ) → IsCode next → SpellsRecord (assignment letter) row 2 rest next) → IsWhole row (0xE2 ∷ letter ∷ rest)
+assigned-whole : (letter : ℕ) (row : Record) (rest : List ℕ) → ((next : Option ℕ) → IsCode next → SpellsRecord (assignment letter) row 2 rest next)
+    → IsWhole row (0xE2 ∷ letter ∷ rest)
 assigned-whole letter row rest spelled next code = (0xE2, 0xE2 ∷ [], letter ∷ rest, refl, (letter, letter ∷ [], rest, refl, spelled next code, refl), refl)
 
 -- a record after F1 and a letter
-noted-whole : (letter : ℕ) (row : Record) (rest : List ℕ) → ((next : Option ℕ) → IsCode next → SpellsRecord (noted letter) row 2 rest next) → IsWhole row (0xF1 ∷ letter ∷ rest)
+noted-whole : (letter : ℕ) (row : Record) (rest : List ℕ) → ((next : Option ℕ) → IsCode next → SpellsRecord (noted letter) row 2 rest next)
+    → IsWhole row (0xF1 ∷ letter ∷ rest)
 noted-whole letter row rest spelled next code = (0xF1, 0xF1 ∷ [], letter ∷ rest, refl, (letter, letter ∷ [], rest, refl, spelled next code, refl), refl)
 
 -- SA
@@ -118,15 +124,29 @@ alignment-whole i n hi hn next code = (
     w.number shortest i,
     w.number shortest n,
     spells_index i hi,
-    (n, w.number shortest n, [], (spells n hn, refl), (None, [], [], (refl, stops-number next code), (refl, refl), refl), sym (append-nil (w.number shortest n))),
+    (
+      n,
+      w.number shortest n,
+      [],
+      (spells n hn, refl),
+      (None, [], [], (refl, stops-number next code), (refl, refl), refl),
+      sym (append-nil (w.number shortest n)),
+    ),
     refl,
   ),
   refl,
 )
 
-index_and_number-spells : (row : ℕ → ℕ → Record) (i n at : ℕ) (next : Option ℕ) → i < 2 ^ 32 → n < 2 ^ 64 → SpellsRecord (index_and_number row) (row i n) at (w.number shortest i ++ w.number shortest n) next
-index_and_number-spells row i n at next hi hn =
-    (i, w.number shortest i, w.number shortest n, spells_index i hi, (n, w.number shortest n, [], (spells n hn, refl), (refl, refl), sym (append-nil (w.number shortest n))), refl)
+index_and_number-spells : (row : ℕ → ℕ → Record) (i n at : ℕ) (next : Option ℕ) → i < 2 ^ 32 → n < 2 ^ 64
+    → SpellsRecord (index_and_number row) (row i n) at (w.number shortest i ++ w.number shortest n) next
+index_and_number-spells row i n at next hi hn = (
+  i,
+  w.number shortest i,
+  w.number shortest n,
+  spells_index i hi,
+  (n, w.number shortest n, [], (spells n hn, refl), (refl, refl), sym (append-nil (w.number shortest n))),
+  refl,
+)
 
 -- ASS
 pub size-whole : (i n : ℕ) → i < 2 ^ 32 → n < 2 ^ 64 → IsWhole (r.SectionSize i n) (0xE2 ∷ 0xD3 ∷ (w.number shortest i ++ w.number shortest n))
@@ -163,7 +183,8 @@ letter_for (Some purpose.Code) = Some 0xD0
 letter_for (Some purpose.Data) = Some 0xC4
 letter_for (Some purpose.Rom) = Some 0xD2
 
-section_name-spells : (i : ℕ) (absolute : Bool) (letter : Option ℕ) (name : List ℕ) (at : ℕ) (next : Option ℕ) → IsCode next → is_long name ≡ false → AreBytes name
+section_name-spells : (i : ℕ) (absolute : Bool) (letter : Option ℕ) (name : List ℕ) (at : ℕ) (next : Option ℕ) → IsCode next → is_long name ≡ false
+    → AreBytes name
     → SpellsRecord (string ▹ λ name. optional_number ▹ λ a. optional_number ▹ λ b. optional_number ▹ λ c. whole (r.SectionType i absolute letter name a b c))
     (r.SectionType i absolute letter (text_at at name) None None None) at (w.string shortest name) next
 section_name-spells i absolute letter name at next code short bytes =
@@ -176,11 +197,18 @@ section_name-spells i absolute letter name at next code short bytes =
       sym (append-nil (w.string shortest name)),
     )
 
-named_section-spells : (i : ℕ) (absolute : Bool) (p : Option Purpose) (name : List ℕ) (at : ℕ) (next : Option ℕ) → IsCode next → is_long name ≡ false → AreBytes name
+named_section-spells : (i : ℕ) (absolute : Bool) (p : Option Purpose) (name : List ℕ) (at : ℕ) (next : Option ℕ) → IsCode next → is_long name ≡ false
+    → AreBytes name
     → SpellsRecord (named_section i absolute) (r.SectionType i absolute (letter_for p) (text_at (at + length (w.purpose_letter p)) name) None None None) at
     (w.purpose_letter p ++ w.string shortest name) next
-named_section-spells i absolute None name at next code short bytes =
-    (None, [], w.string shortest name, (refl, lead-stops (length name) name next), section_name-spells i absolute None name (at + 0) next code short bytes, refl)
+named_section-spells i absolute None name at next code short bytes = (
+  None,
+  [],
+  w.string shortest name,
+  (refl, lead-stops (length name) name next),
+  section_name-spells i absolute None name (at + 0) next code short bytes,
+  refl,
+)
 named_section-spells i absolute (Some purpose.Code) name at next code short bytes =
     (Some 0xD0, 0xD0 ∷ [], w.string shortest name, (refl, refl), section_name-spells i absolute (Some 0xD0) name (at + 1) next code short bytes, refl)
 named_section-spells i absolute (Some purpose.Data) name at next code short bytes =
@@ -200,8 +228,10 @@ section_name_at i s = text_at (purpose_place i s.absolute + length (w.purpose_le
 abbrev pub section_row : ℕ → Section → Record
 section_row i s = r.SectionType i s.absolute (letter_for s.purpose) (section_name_at i s) None None None
 
-section_type-spells : (i : ℕ) (absolute : Bool) (p : Option Purpose) (name : List ℕ) (next : Option ℕ) → IsCode next → i < 2 ^ 32 → is_long name ≡ false → AreBytes name
-    → SpellsRecord section_type (r.SectionType i absolute (letter_for p) (text_at (purpose_place i absolute + length (w.purpose_letter p)) name) None None None) 1
+section_type-spells : (i : ℕ) (absolute : Bool) (p : Option Purpose) (name : List ℕ) (next : Option ℕ) → IsCode next → i < 2 ^ 32 → is_long name
+    ≡ false → AreBytes name
+    → SpellsRecord section_type (r.SectionType i absolute (letter_for p) (text_at (purpose_place i absolute + length (w.purpose_letter p)) name) None
+    None None) 1
     (w.number shortest i ++ (w.section_letters absolute ++ (w.purpose_letter p ++ w.string shortest name))) next
 section_type-spells i true p name next code hi short bytes = (
   i,
@@ -260,7 +290,14 @@ index_and_string-spells row i name next hi short bytes = (
   w.number shortest i,
   w.string shortest name,
   spells_index i hi,
-  (text_at (1 + length (w.number shortest i)) name, w.string shortest name, [], spells_string name (1 + length (w.number shortest i)) next short bytes, (refl, refl), sym (append-nil (w.string shortest name))),
+  (
+    text_at (1 + length (w.number shortest i)) name,
+    w.string shortest name,
+    [],
+    spells_string name (1 + length (w.number shortest i)) next short bytes,
+    (refl, refl),
+    sym (append-nil (w.string shortest name)),
+  ),
   refl,
 )
 
@@ -269,28 +306,39 @@ abbrev pub name_at : ℕ → List ℕ → Span
 name_at i name = text_at (1 + length (w.number shortest i)) name
 
 -- NI
-pub public_name-whole : (i : ℕ) (name : List ℕ) → i < 2 ^ 32 → is_long name ≡ false → AreBytes name → IsWhole (r.PublicName i (name_at i name)) (0xE8 ∷ (w.number shortest i ++ w.string shortest name))
+pub public_name-whole : (i : ℕ) (name : List ℕ) → i < 2 ^ 32 → is_long name ≡ false → AreBytes name
+    → IsWhole (r.PublicName i (name_at i name)) (0xE8 ∷ (w.number shortest i ++ w.string shortest name))
 public_name-whole i name hi short bytes next code =
     (0xE8, 0xE8 ∷ [], w.number shortest i ++ w.string shortest name, refl, index_and_string-spells r.PublicName i name next hi short bytes, refl)
 
 -- NX
-pub reference_name-whole : (i : ℕ) (name : List ℕ) → i < 2 ^ 32 → is_long name ≡ false → AreBytes name → IsWhole (r.ReferenceName i (name_at i name)) (0xE9 ∷ (w.number shortest i ++ w.string shortest name))
+pub reference_name-whole : (i : ℕ) (name : List ℕ) → i < 2 ^ 32 → is_long name ≡ false → AreBytes name
+    → IsWhole (r.ReferenceName i (name_at i name)) (0xE9 ∷ (w.number shortest i ++ w.string shortest name))
 reference_name-whole i name hi short bytes next code =
     (0xE9, 0xE9 ∷ [], w.number shortest i ++ w.string shortest name, refl, index_and_string-spells r.ReferenceName i name next hi short bytes, refl)
 
 -- NN
-pub debug_name-whole : (i : ℕ) (name : List ℕ) → i < 2 ^ 32 → is_long name ≡ false → AreBytes name → IsWhole (r.DebugName i (name_at i name)) (0xF0 ∷ (w.number shortest i ++ w.string shortest name))
+pub debug_name-whole : (i : ℕ) (name : List ℕ) → i < 2 ^ 32 → is_long name ≡ false → AreBytes name
+    → IsWhole (r.DebugName i (name_at i name)) (0xF0 ∷ (w.number shortest i ++ w.string shortest name))
 debug_name-whole i name hi short bytes next code =
     (0xF0, 0xF0 ∷ [], w.number shortest i ++ w.string shortest name, refl, index_and_string-spells r.DebugName i name next hi short bytes, refl)
 
-index_and_expression-spells : (row : ℕ → Span → Record) (i : ℕ) (tree : Tree) (text : List ℕ) (next : Option ℕ) → i < 2 ^ 32 → SpellsTree tree text → IsCode next
+index_and_expression-spells : (row : ℕ → Span → Record) (i : ℕ) (tree : Tree) (text : List ℕ) (next : Option ℕ) → i < 2 ^ 32 → SpellsTree tree text
+    → IsCode next
     → SpellsRecord (index_and_expression row) (row i (span_at (2 + length (w.number shortest i)) (length text))) 2 (w.number shortest i ++ text) next
 index_and_expression-spells row i tree text next hi spelled code = (
   i,
   w.number shortest i,
   text,
   spells_index i hi,
-  (span_at (2 + length (w.number shortest i)) (length text), text, [], spells_expression tree text (2 + length (w.number shortest i)) next spelled (stops-token next code), (refl, refl), sym (append-nil text)),
+  (
+    span_at (2 + length (w.number shortest i)) (length text),
+    text,
+    [],
+    spells_expression tree text (2 + length (w.number shortest i)) next spelled (stops-token next code),
+    (refl, refl),
+    sym (append-nil text),
+  ),
   refl,
 )
 
@@ -299,19 +347,25 @@ abbrev pub value_at : ℕ → List ℕ → Span
 value_at i text = span_at (2 + length (w.number shortest i)) (length text)
 
 -- ASI
-pub public_value-whole : (i : ℕ) (tree : Tree) (text : List ℕ) → i < 2 ^ 32 → SpellsTree tree text → IsWhole (r.PublicValue i (value_at i text)) (0xE2 ∷ 0xC9 ∷ (w.number shortest i ++ text))
+pub public_value-whole : (i : ℕ) (tree : Tree) (text : List ℕ) → i < 2 ^ 32 → SpellsTree tree text
+    → IsWhole (r.PublicValue i (value_at i text)) (0xE2 ∷ 0xC9 ∷ (w.number shortest i ++ text))
 public_value-whole i tree text hi spelled =
-    assigned-whole 0xC9 (r.PublicValue i (value_at i text)) (w.number shortest i ++ text) (λ next code. index_and_expression-spells r.PublicValue i tree text next hi spelled code)
+    assigned-whole 0xC9 (r.PublicValue i (value_at i text)) (w.number shortest i
+    ++ text) (λ next code. index_and_expression-spells r.PublicValue i tree text next hi spelled code)
 
 -- ASN
-pub debug_value-whole : (i : ℕ) (tree : Tree) (text : List ℕ) → i < 2 ^ 32 → SpellsTree tree text → IsWhole (r.DebugValue i (value_at i text)) (0xE2 ∷ 0xCE ∷ (w.number shortest i ++ text))
+pub debug_value-whole : (i : ℕ) (tree : Tree) (text : List ℕ) → i < 2 ^ 32 → SpellsTree tree text
+    → IsWhole (r.DebugValue i (value_at i text)) (0xE2 ∷ 0xCE ∷ (w.number shortest i ++ text))
 debug_value-whole i tree text hi spelled =
-    assigned-whole 0xCE (r.DebugValue i (value_at i text)) (w.number shortest i ++ text) (λ next code. index_and_expression-spells r.DebugValue i tree text next hi spelled code)
+    assigned-whole 0xCE (r.DebugValue i (value_at i text)) (w.number shortest i
+    ++ text) (λ next code. index_and_expression-spells r.DebugValue i tree text next hi spelled code)
 
 -- ASP
-pub set_pc-whole : (i : ℕ) (tree : Tree) (text : List ℕ) → i < 2 ^ 32 → SpellsTree tree text → IsWhole (r.SetPc i (value_at i text)) (0xE2 ∷ 0xD0 ∷ (w.number shortest i ++ text))
+pub set_pc-whole : (i : ℕ) (tree : Tree) (text : List ℕ) → i < 2 ^ 32 → SpellsTree tree text
+    → IsWhole (r.SetPc i (value_at i text)) (0xE2 ∷ 0xD0 ∷ (w.number shortest i ++ text))
 set_pc-whole i tree text hi spelled =
-    assigned-whole 0xD0 (r.SetPc i (value_at i text)) (w.number shortest i ++ text) (λ next code. index_and_expression-spells r.SetPc i tree text next hi spelled code)
+    assigned-whole 0xD0 (r.SetPc i (value_at i text)) (w.number shortest i
+    ++ text) (λ next code. index_and_expression-spells r.SetPc i tree text next hi spelled code)
 
 -- what the numbers of a note keep to
 pub record IsSpelledNote (note : Note) : Type 0 where
@@ -325,7 +379,8 @@ abbrev note_text : ℕ → Note → List ℕ
 note_text i n = w.number shortest i ++ (w.number shortest n.type_index ++ (w.number shortest n.attribute ++ w.numbers shortest n.numbers.items))
 
 -- a note whose attribute passes the test of its layout
-note-spells : (fits : ℕ → Bool) (fault : Reason) (row : ℕ → ℕ → ℕ → ArrayVec ℕ → Record) (i : ℕ) (n : Note) (next : Option ℕ) → i < 2 ^ 32 → IsSpelledNote n → fits n.attribute ≡ true → IsCode next
+note-spells : (fits : ℕ → Bool) (fault : Reason) (row : ℕ → ℕ → ℕ → ArrayVec ℕ → Record) (i : ℕ) (n : Note) (next : Option ℕ) → i < 2 ^ 32
+    → IsSpelledNote n → fits n.attribute ≡ true → IsCode next
     → SpellsRecord (index ▹ λ i. any_number ▹ λ type_index. number fits here fault ▹ λ attribute. numbers 4 ▹ λ ns. whole (row i type_index attribute ns))
     (row i n.type_index n.attribute n.numbers) 2 (note_text i n) next
 note-spells fits fault row i n next hi spelled known code = (
@@ -343,7 +398,18 @@ note-spells fits fault row i n next hi spelled known code = (
       w.number shortest n.attribute,
       w.numbers shortest n.numbers.items,
       (spells n.attribute spelled.attribute, known),
-      (n.numbers, w.numbers shortest n.numbers.items, [], (spells_numbers 0 n.numbers.items spelled.numbers, spelled.few, λ _. stops-number next code), (refl, refl), sym (append-nil (w.numbers shortest n.numbers.items))),
+      (
+        n.numbers,
+        w.numbers shortest n.numbers.items,
+        [],
+        (
+          spells_numbers 0 n.numbers.items spelled.numbers,
+          spelled.few,
+          λ _. stops-number next code,
+        ),
+        (refl, refl),
+        sym (append-nil (w.numbers shortest n.numbers.items)),
+      ),
       refl,
     ),
     refl,
@@ -352,28 +418,42 @@ note-spells fits fault row i n next hi spelled known code = (
 )
 
 -- ATI
-pub public_note-whole : (i : ℕ) (n : Note) → i < 2 ^ 32 → IsSpelledNote n → IsWhole (r.PublicNote i n.type_index n.attribute n.numbers) (w.note shortest 0xC9 i n)
+pub public_note-whole : (i : ℕ) (n : Note) → i < 2 ^ 32 → IsSpelledNote n
+    → IsWhole (r.PublicNote i n.type_index n.attribute n.numbers) (w.note shortest 0xC9 i n)
 public_note-whole i n hi spelled =
-    noted-whole 0xC9 (r.PublicNote i n.type_index n.attribute n.numbers) (note_text i n) (λ next code. note-spells (λ _. true) BadNumber r.PublicNote i n next hi spelled refl code)
+    noted-whole 0xC9 (r.PublicNote i n.type_index n.attribute n.numbers) (note_text i n)
+    (λ next code. note-spells (λ _. true) BadNumber r.PublicNote i n next hi spelled refl code)
 
 -- ATX
-pub reference_note-whole : (i : ℕ) (n : Note) → i < 2 ^ 32 → IsSpelledNote n → IsWhole (r.ReferenceNote i n.type_index n.attribute n.numbers) (w.note shortest 0xD8 i n)
+pub reference_note-whole : (i : ℕ) (n : Note) → i < 2 ^ 32 → IsSpelledNote n
+    → IsWhole (r.ReferenceNote i n.type_index n.attribute n.numbers) (w.note shortest 0xD8 i n)
 reference_note-whole i n hi spelled =
-    noted-whole 0xD8 (r.ReferenceNote i n.type_index n.attribute n.numbers) (note_text i n) (λ next code. note-spells (λ _. true) BadNumber r.ReferenceNote i n next hi spelled refl code)
+    noted-whole 0xD8 (r.ReferenceNote i n.type_index n.attribute n.numbers) (note_text i n)
+    (λ next code. note-spells (λ _. true) BadNumber r.ReferenceNote i n next hi spelled refl code)
 
 -- ATN
-pub debug_note-whole : (i : ℕ) (n : Note) → i < 2 ^ 32 → IsSpelledNote n → is_one_of debug_attributes n.attribute ≡ true → IsWhole (r.DebugNote i n.type_index n.attribute n.numbers) (w.note shortest 0xCE i n)
+pub debug_note-whole : (i : ℕ) (n : Note) → i < 2 ^ 32 → IsSpelledNote n → is_one_of debug_attributes n.attribute ≡ true
+    → IsWhole (r.DebugNote i n.type_index n.attribute n.numbers) (w.note shortest 0xCE i n)
 debug_note-whole i n hi spelled known =
-    noted-whole 0xCE (r.DebugNote i n.type_index n.attribute n.numbers) (note_text i n) (λ next code. note-spells (is_one_of debug_attributes) UnsupportedAttribute r.DebugNote i n next hi spelled known code)
+    noted-whole 0xCE (r.DebugNote i n.type_index n.attribute n.numbers) (note_text i n)
+    (λ next code. note-spells (is_one_of debug_attributes) UnsupportedAttribute r.DebugNote i n next hi spelled known code)
 
 -- the default of a weak reference, as a record has it
 abbrev pub default_for : ℕ → Option ℕ
 default_for default = if default == 0 then None else Some default
 
 default-spells : (zero_ : Bool) (i n default at : ℕ) (next : Option ℕ) → default < 2 ^ 64 → IsCode next
-    → SpellsRecord (optional_number ▹ λ default. whole (r.WeakReference i n default)) (r.WeakReference i n (cond zero_ None (Some default))) at (cond zero_ [] (w.number shortest default)) next
+    → SpellsRecord (optional_number ▹ λ default. whole (r.WeakReference i n default)) (r.WeakReference i n (cond zero_ None (Some default))) at
+    (cond zero_ [] (w.number shortest default)) next
 default-spells true i n default at next fits code = (None, [], [], (refl, stops-number next code), (refl, refl), refl)
-default-spells false i n default at next fits code = (Some default, w.number shortest default, [], spells default fits, (refl, refl), sym (append-nil (w.number shortest default)))
+default-spells false i n default at next fits code = (
+  Some default,
+  w.number shortest default,
+  [],
+  spells default fits,
+  (refl, refl),
+  sym (append-nil (w.number shortest default)),
+)
 
 -- WX
 pub weak-whole : (i n default : ℕ) → i < 2 ^ 32 → n < 2 ^ 64 → default < 2 ^ 64

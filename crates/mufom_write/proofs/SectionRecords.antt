@@ -89,18 +89,26 @@ base-records : (i : ℕ) (base : Option ℕ) → i < 2 ^ 32 → IfSome base (λ 
 base-records i None hi fits = tt
 base-records i (Some base) hi fits = (record { whole = base-whole i base hi fits; code = omega arith; plain = refl; own = refl }, tt)
 
-section-records : (position : ℕ) (s : Section) → section_index position < 2 ^ 32 → IsFittingSection s → AllByRecursion (IsRecord section_part) (section_records position s)
+section-records : (position : ℕ) (s : Section) → section_index position < 2 ^ 32 → IsFittingSection s
+    → AllByRecursion (IsRecord section_part) (section_records position s)
 section-records position s hi fits =
     let i = section_index position in (
       record { whole = section-whole i s hi fits.short fits.name; code = omega arith; plain = refl; own = refl },
       all-append (IsRecord section_part) (alignment_spellings i s.align) (size_spellings i s.size ++ base_spellings i s.base)
-          (unless-records (s.align == 1) (alignment_spelling i s.align) (record { whole = alignment-whole i s.align hi fits.align; code = omega arith; plain = refl; own = refl }))
+          (unless-records (s.align == 1) (alignment_spelling i s.align)
+          (record { whole = alignment-whole i s.align hi fits.align; code = omega arith; plain = refl; own = refl }))
           (all-append (IsRecord section_part) (size_spellings i s.size) (base_spellings i s.base)
-          (unless-records (s.size == 0) (size_spelling i s.size) (record { whole = size-whole i s.size hi fits.size; code = omega arith; plain = refl; own = refl }))
+          (unless-records (s.size == 0) (size_spelling i s.size) (record {
+            whole = size-whole i s.size hi fits.size;
+            code = omega arith;
+            plain = refl;
+            own = refl;
+          }))
           (base-records i s.base hi fits.base)),
     )
 
-pub sections-records : (n : ℕ) (sections : List Section) → n + length sections < 2 ^ 32 → AllByRecursion IsFittingSection sections → AllByRecursion (IsRecord section_part) (records_from n section_records sections)
+pub sections-records : (n : ℕ) (sections : List Section) → n + length sections < 2 ^ 32 → AllByRecursion IsFittingSection sections
+    → AllByRecursion (IsRecord section_part) (records_from n section_records sections)
 sections-records n [] few fit = tt
 sections-records n (s ∷ sections) few fit =
     all-append (IsRecord section_part) (section_records n s) (records_from (n + 1) section_records sections)

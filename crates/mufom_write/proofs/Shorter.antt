@@ -1,5 +1,6 @@
 -- The written form is no longer than the module weighs.
-use Rattle.std.proofs.Common.{◌≡◌, ℕ, zero, suc, ◌+◌, ◌*◌, ◌^◌, ◌<◌, ◌≤◌, ◌==◌, Bool, true, false, cond, nat_lt, List, [], ◌∷◌, ◌++◌, length, sum_by, Option, Some, None, arith, length-append}
+use Rattle.std.proofs.Common.{◌≡◌, ℕ, zero, suc, ◌+◌, ◌*◌, ◌^◌, ◌<◌, ◌≤◌, ◌==◌, Bool, true, false, cond, nat_lt, List, [], ◌∷◌, ◌++◌, length, sum_by}
+use Rattle.std.proofs.Common.{Option, Some, None, arith, length-append}
 use Rattle.std.proofs.lemmas.List.Sums.{sum_by-cons}
 use Rattle.std.specs.Int.{w16, w32, w64, to_be_bytes}
 use Rattle.mufom_numbers.specs.Spelling.{counted, without_leading_zeros, shortest_number, shortest_lead}
@@ -25,7 +26,10 @@ use Rattle.mufom_debug.specs.Marks.{DebugMark, block_begin, block_end, name_mark
 use Rattle.mufom_module.specs.declared.module.Parts.{Parts}
 use Rattle.mufom_module.specs.Written as w
 use Rattle.mufom_module.specs.Written.{Style, shortest, weight}
-use Rattle.mufom_module.specs.Weights.{token_weight, expression_weight, optional_expression_weight, section_letters_weight, purpose_weight, alignment_weight, size_weight, base_weight, section_weight, note_weight, notes_weight, public_weight, default_weight, weak_weight, reference_weight, head_weight, mark_weight, marks_weight, item_weight, items_weight, load_weight, start_weight, parts_weight}
+use Rattle.mufom_module.specs.Weights.{token_weight, expression_weight, optional_expression_weight, section_letters_weight, purpose_weight}
+use Rattle.mufom_module.specs.Weights.{alignment_weight, size_weight, base_weight, section_weight, note_weight, notes_weight, public_weight}
+use Rattle.mufom_module.specs.Weights.{default_weight, weak_weight, reference_weight, head_weight, mark_weight, marks_weight, item_weight}
+use Rattle.mufom_module.specs.Weights.{items_weight, load_weight, start_weight, parts_weight}
 use Rattle.mufom_module.specs.Defects.{IsValid}
 use Rattle.mufom_module.proofs.Valid.{weighs_less}
 use Rattle.mufom_module.proofs.WeightLaws.{length-offsets_from, weight-sum}
@@ -45,7 +49,8 @@ within-unless : (b : Bool) (bytes : List ℕ) (n : ℕ) → length bytes ≤ n �
 within-unless true bytes n h = omega arith
 within-unless false bytes n h = h
 
-length-joined : (a b c d e f g : List ℕ) → length (joined (a ∷ b ∷ c ∷ d ∷ e ∷ f ∷ g ∷ [])) ≡ length a + length b + length c + length d + length e + length f + length g
+length-joined : (a b c d e f g : List ℕ) → length (joined (a ∷ b ∷ c ∷ d ∷ e ∷ f ∷ g ∷ []))
+    ≡ length a + length b + length c + length d + length e + length f + length g
 length-joined a b c d e f g =
     let la = length-append a (b ++ (c ++ (d ++ (e ++ (f ++ (g ++ [])))))) in
     let lb = length-append b (c ++ (d ++ (e ++ (f ++ (g ++ []))))) in
@@ -126,7 +131,8 @@ module _ (style : Style) (number-within : (n : ℕ) → length (style.number n) 
   purpose-within (Some purpose.Rom) = omega arith
 
   alignment-within : (i align : ℕ) → length (w.alignment_record style i align) ≤ alignment_weight align
-  alignment-within i align = let both = two-within i align in within-unless (align == 1) (0xE7 ∷ (style.number i ++ style.number align)) 19 (omega (arith, both))
+  alignment-within i align = let both = two-within i align in
+      within-unless (align == 1) (0xE7 ∷ (style.number i ++ style.number align)) 19 (omega (arith, both))
 
   size-within : (i size : ℕ) → length (w.size_record style i size) ≤ size_weight size
   size-within i size = let both = two-within i size in within-unless (size == 0) (0xE2 ∷ 0xD3 ∷ (style.number i ++ style.number size)) 20 (omega (arith, both))
@@ -135,7 +141,8 @@ module _ (style : Style) (number-within : (n : ℕ) → length (style.number n) 
   base-within i None = omega arith
   base-within i (Some base) = let both = two-within i base in omega (arith, both)
 
-  section_record-within : (i : ℕ) (s : Section) → length (w.section_record style i s) ≤ 13 + section_letters_weight s.absolute + purpose_weight s.purpose + length s.name
+  section_record-within : (i : ℕ) (s : Section) → length (w.section_record style i s) ≤ 13 + section_letters_weight s.absolute + purpose_weight
+      s.purpose + length s.name
   section_record-within i s =
       let name = w.string style s.name in
       let letters = w.section_letters s.absolute in
@@ -217,7 +224,8 @@ module _ (style : Style) (number-within : (n : ℕ) → length (style.number n) 
       let name = named-within i r.name in
       omega (arith, all, last, en, ew, name)
 
-  scope-within : (first second : ℕ) (offset : Tree) → length (style.number first ++ (style.number second ++ w.expression style offset)) ≤ 18 + expression_weight offset
+  scope-within : (first second : ℕ) (offset : Tree) → length (style.number first
+      ++ (style.number second ++ w.expression style offset)) ≤ 18 + expression_weight offset
   scope-within first second offset =
       let both = length-append (style.number first) (style.number second ++ w.expression style offset) in
       let one_number = number-within first in
@@ -337,14 +345,16 @@ module _ (style : Style) (number-within : (n : ℕ) → length (style.number n) 
       omega (arith, publics, references, both)
 
   parts-within : (m : Parts) → length (joined (w.parts style m)) ≤ length m.ext + length m.env + sum_by section_weight m.sections
-      + (sum_by public_weight m.names.publics + sum_by reference_weight m.names.references) + marks_weight (marks_of m.debug) + sum_by load_weight m.loads + start_weight m.start
+      + (sum_by public_weight m.names.publics + sum_by reference_weight m.names.references) + marks_weight (marks_of m.debug) + sum_by load_weight
+      m.loads + start_weight m.start
   parts-within m =
       let sections = each-within (w.section style) section_weight section-within 0 m.sections in
       let external = external-within m in
       let debug = marks-within 0 (marks_of m.debug) in
       let loads = each-within (λ _. w.load style) load_weight load-within 0 m.loads in
       let start = start-within m.start in
-      let whole = length-joined m.ext m.env (w.each (w.section style) m.sections) (w.external style m) (w.debug_records style 0 (marks_of m.debug)) (w.each (λ _. w.load style) m.loads) (w.start style m.start) in
+      let whole = length-joined m.ext m.env (w.each (w.section style) m.sections) (w.external style m) (w.debug_records style 0 (marks_of m.debug))
+      (w.each (λ _. w.load style) m.loads) (w.start style m.start) in
       omega (arith, sections, external, debug, loads, start, whole)
 
   form-within : (m : Parts) → length (w.form style m) ≤ parts_weight m

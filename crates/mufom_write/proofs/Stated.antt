@@ -27,12 +27,16 @@ letter-of : (order : Order) → IsLetterOf order (Some (w.order_letter order))
 letter-of Least = refl
 letter-of Most = inl refl
 
-processor-back : (processor name : List ℕ) → slice_range (0xE0 ∷ (w.string shortest processor ++ w.string shortest name)) (text_at 1 processor).start ((text_at 1 processor).start + length processor) ≡ processor
-processor-back processor name = string-between (0xE0 ∷ (w.string shortest processor ++ w.string shortest name)) (0xE0 ∷ []) processor (w.string shortest name) 1 refl refl
+processor-back : (processor name : List ℕ) → slice_range (0xE0 ∷ (w.string shortest processor ++ w.string shortest name)) (text_at 1 processor).start
+    ((text_at 1 processor).start + length processor) ≡ processor
+processor-back processor name = string-between (0xE0 ∷ (w.string shortest processor ++ w.string shortest name)) (0xE0 ∷ []) processor
+    (w.string shortest name) 1 refl refl
 
-name-back : (processor name : List ℕ) → slice_range (0xE0 ∷ (w.string shortest processor ++ w.string shortest name)) (module_name_at processor name).start ((module_name_at processor name).start + length name) ≡ name
+name-back : (processor name : List ℕ) → slice_range (0xE0 ∷ (w.string shortest processor ++ w.string shortest name))
+    (module_name_at processor name).start ((module_name_at processor name).start + length name) ≡ name
 name-back processor name =
-    string-last (0xE0 ∷ (w.string shortest processor ++ w.string shortest name)) (0xE0 ∷ w.string shortest processor) name (1 + length (w.string shortest processor)) refl (omega arith)
+    string-last (0xE0 ∷ (w.string shortest processor ++ w.string shortest name)) (0xE0 ∷ w.string shortest processor) name
+    (1 + length (w.string shortest processor)) refl (omega arith)
 
 module _ (m : Parts) where
   indexes-are : indexes_of (file_of m) ≡ written_indexes m (names_in (marks_of m.debug))

@@ -1,5 +1,6 @@
 -- What the records of the debug part of a written form state is what the module has.
-use Rattle.std.proofs.Common.{◌≡◌, ℕ, suc, ◌+◌, ◌<◌, ◌≤◌, false, nat_lt, List, [], ◌∷◌, ◌++◌, length, Option, Some, None, refl, sym, ap, ◌∙◌, arith, append_assoc, length-append}
+use Rattle.std.proofs.Common.{◌≡◌, ℕ, suc, ◌+◌, ◌<◌, ◌≤◌, false, nat_lt, List, [], ◌∷◌, ◌++◌, length, Option, Some, None, refl, sym, ap, ◌∙◌, arith}
+use Rattle.std.proofs.Common.{append_assoc, length-append}
 use Rattle.std.specs.Prelude.{slice_range, is_none}
 use Rattle.std.specs.List.{list_any, cons_option}
 use Rattle.std.proofs.lemmas.Bool.{or_parts, leb-false, ltb-true}
@@ -48,7 +49,8 @@ declared-names n (value_mark name value ∷ marks) = declared-names n marks
 
 module _ (m : Parts) (k : ℕ) where
   offset-back : (kind : ℕ) (name : List ℕ) (x y : ℕ) (offset : Tree) → IsFittingTree offset → names_outside (counts_of m) offset ≡ false
-      → let p = spelled (mark_row 0 (block_end None)) (0xF8 ∷ kind ∷ 0 ∷ (w.string shortest name ++ (w.number shortest x ++ (w.number shortest y ++ w.expression shortest offset)))) in
+      → let p = spelled (mark_row 0 (block_end None)) (0xF8 ∷ kind ∷ 0 ∷ (w.string shortest name
+      ++ (w.number shortest x ++ (w.number shortest y ++ w.expression shortest offset)))) in
       positioned (written_indexes m k) (tree_in p (offset_at name x y offset)) ≡ offset
   offset-back kind name x y offset fits inside =
       let s = w.string shortest name in
@@ -61,17 +63,20 @@ module _ (m : Parts) (k : ℕ) where
       (text-last (0xF8 ∷ kind ∷ 0 ∷ (s ++ (a ++ (b ++ e)))) (0xF8 ∷ kind ∷ 0 ∷ (s ++ (a ++ b))) e (3 + length s + length a + length b)
       (ap (λ (l : List ℕ). 0xF8 ∷ kind ∷ 0 ∷ l) (after-two s a b e)) (omega (arith, one, two)))
 
-  name-back : (kind : ℕ) (name fields : List ℕ) → slice_range (0xF8 ∷ kind ∷ 0 ∷ (w.string shortest name ++ fields)) (text_at 3 name).start ((text_at 3 name).start + length name) ≡ name
+  name-back : (kind : ℕ) (name fields : List ℕ) → slice_range (0xF8 ∷ kind ∷ 0 ∷ (w.string shortest name ++ fields)) (text_at 3 name).start
+      ((text_at 3 name).start + length name) ≡ name
   name-back kind name fields = string-between (0xF8 ∷ kind ∷ 0 ∷ (w.string shortest name ++ fields)) (0xF8 ∷ kind ∷ 0 ∷ []) name fields 3 refl refl
 
-  begin-back : (n : ℕ) (head : BlockHead) (name : List ℕ) → IsFittingHead head → names_bad_section (counts_of m) head ≡ false → any_of (names_outside (counts_of m)) (offset_of head) ≡ false
+  begin-back : (n : ℕ) (head : BlockHead) (name : List ℕ) → IsFittingHead head → names_bad_section (counts_of m) head ≡ false
+      → any_of (names_outside (counts_of m)) (offset_of head) ≡ false
       → mark_by (written_indexes m k) (mark_record n (block_begin head name)) (mark_row n (block_begin head name)) ≡ Some (block_begin head name)
   begin-back n heads.Module name fits known inside = ap (λ (l : List ℕ). Some (block_begin heads.Module l)) (name-back 3 name [])
   begin-back n (heads.Global stack type_index offset) name fits known inside =
       let text = name-back 4 name (w.head_fields shortest (heads.Global stack type_index offset)) in
       let value = offset-back 4 name stack type_index offset fits.2 inside in
       λ i. Some (block_begin (heads.Global stack type_index (value i)) (text i))
-  begin-back n (heads.Source numbers) name fits known inside = ap (λ (l : List ℕ). Some (block_begin (heads.Source numbers) l)) (name-back 5 name (w.numbers shortest numbers.items))
+  begin-back n (heads.Source numbers) name fits known inside =
+      ap (λ (l : List ℕ). Some (block_begin (heads.Source numbers) l)) (name-back 5 name (w.numbers shortest numbers.items))
   begin-back n (heads.Local stack type_index offset) name fits known inside =
       let text = name-back 6 name (w.head_fields shortest (heads.Local stack type_index offset)) in
       let value = offset-back 6 name stack type_index offset fits.2 inside in
@@ -98,19 +103,23 @@ module _ (m : Parts) (k : ℕ) where
       let tree = tree-back m k value _ fits inside (text-last (0xE2 ∷ 0xCE ∷ (i ++ e)) (0xE2 ∷ 0xCE ∷ i) e (2 + length i) refl (omega arith)) in
       λ j. Some (value_mark (place j) (tree j))
 
-  name_mark-back : (n : ℕ) (name : List ℕ) → mark_by (written_indexes m k) (mark_record n (name_mark name)) (mark_row n (name_mark name)) ≡ Some (name_mark name)
+  name_mark-back : (n : ℕ) (name : List ℕ) → mark_by (written_indexes m k) (mark_record n (name_mark name)) (mark_row n (name_mark name))
+      ≡ Some (name_mark name)
   name_mark-back n name =
       let i = w.number shortest (debug_name_index n) in
       ap (λ (l : List ℕ). Some (name_mark l)) (string-last (0xF0 ∷ (i ++ w.string shortest name)) (0xF0 ∷ i) name (1 + length i) refl (omega arith))
 
-  note-back : (n name : ℕ) (its : Note) → name < k → mark_by (written_indexes m k) (mark_record n (note_mark name its)) (mark_row n (note_mark name its)) ≡ Some (note_mark name its)
+  note-back : (n name : ℕ) (its : Note) → name < k → mark_by (written_indexes m k) (mark_record n (note_mark name its))
+      (mark_row n (note_mark name its)) ≡ Some (note_mark name its)
   note-back n name its within = ap (λ (place : ℕ). Some (note_mark place its)) (position_in-counting 32 k name within)
 
   next-mark : (n : ℕ) (mark : DebugMark) (rest : List DebugMark) → mark_by (written_indexes m k) (mark_record n mark) (mark_row n mark) ≡ Some mark
       → marks (written_indexes m k) (mark_records (names_after n mark) rest) ≡ rest → marks (written_indexes m k) (mark_records n (mark ∷ rest)) ≡ mark ∷ rest
-  next-mark n mark rest first later = (λ i. cons_option (first i) (marks (written_indexes m k) (mark_records (names_after n mark) rest))) ∙ ap (λ (l : List DebugMark). mark ∷ l) later
+  next-mark n mark rest first later = (λ i. cons_option (first i) (marks (written_indexes m k) (mark_records (names_after n mark) rest)))
+      ∙ ap (λ (l : List DebugMark). mark ∷ l) later
 
-  pub marks-back : (n : ℕ) (ms : List DebugMark) → AreFittingMarks n ms → list_any (has_bad_mark (counts_of m)) ms ≡ false → is_none (declared_after n ms) ≡ false → n + names_in ms ≤ k
+  pub marks-back : (n : ℕ) (ms : List DebugMark) → AreFittingMarks n ms → list_any (has_bad_mark (counts_of m)) ms ≡ false
+      → is_none (declared_after n ms) ≡ false → n + names_in ms ≤ k
       → marks (written_indexes m k) (mark_records n ms) ≡ ms
   marks-back n [] fit inside sound most = refl
   marks-back n (block_begin head name ∷ ms) fit inside sound most =
@@ -130,4 +139,5 @@ module _ (m : Parts) (k : ℕ) where
       let insides = or_parts (has_bad_mark (counts_of m) (value_mark name value)) (list_any (has_bad_mark (counts_of m)) ms) inside in
       let step = first-declared (nat_lt name n) n (λ j. declared_after j ms) sound in
       let within = ltb-true name n step.0 in
-      next-mark n (value_mark name value) ms (value-back n name value fit.0.1 (omega (arith, within, most)) insides.0) (marks-back n ms fit.1 insides.1 step.1 most)
+      next-mark n (value_mark name value) ms (value-back n name value fit.0.1 (omega (arith, within, most)) insides.0)
+      (marks-back n ms fit.1 insides.1 step.1 most)

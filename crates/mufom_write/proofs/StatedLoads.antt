@@ -1,5 +1,6 @@
 -- What the records of the data part and the trailer of a written form state is what the module has.
-use Rattle.std.proofs.Common.{◌≡◌, ℕ, ◌+◌, Bool, true, false, ◌||◌, List, [], ◌∷◌, ◌++◌, length, map, Option, Some, None, refl, sym, ap, ◌∙◌, arith, append_assoc, length-append}
+use Rattle.std.proofs.Common.{◌≡◌, ℕ, ◌+◌, Bool, true, false, ◌||◌, List, [], ◌∷◌, ◌++◌, length, map, Option, Some, None, refl, sym, ap, ◌∙◌, arith}
+use Rattle.std.proofs.Common.{append_assoc, length-append}
 use Rattle.std.specs.Prelude.{option_to_list}
 use Rattle.std.specs.List.{AllByRecursion, list_any}
 use Rattle.std.proofs.lemmas.List.{append-nil}
@@ -21,7 +22,8 @@ use Rattle.mufom_module.specs.Written as w
 use Rattle.mufom_module.specs.Defects.{counts_of, names_outside, names_no_section, has_bad_place}
 use Rattle.mufom_write.proofs.LoadRows.{run_at}
 use Rattle.mufom_write.proofs.Indexed.{IsFittingTree, written_indexes, position_in-counting}
-use Rattle.mufom_write.proofs.LoadRecords.{literal_record, field_record, item_records, single_records, repeat_records, load_records, loads_records, start_records, IsFittingItem, IsFittingLoad, IsFittingStart}
+use Rattle.mufom_write.proofs.LoadRecords.{literal_record, field_record, item_records, single_records, repeat_records, load_records, loads_records}
+use Rattle.mufom_write.proofs.LoadRecords.{start_records, IsFittingItem, IsFittingLoad, IsFittingStart}
 use Rattle.mufom_write.proofs.Texts.{text-between, text-last, tree-back}
 
 module _ (m : Parts) (k : ℕ) where
@@ -38,7 +40,8 @@ module _ (m : Parts) (k : ℕ) where
       tree-back m k value _ fits inside (text-between (opening kind ∷ (e ++ back)) (opening kind ∷ []) e back 1 refl refl)
 
   -- items, with what stands after them
-  items-prefix : (items : List Item) (rest : List SpelledRecord) → AllByRecursion IsFittingItem items → list_any (item_any (names_outside (counts_of m))) items ≡ false
+  items-prefix : (items : List Item) (rest : List SpelledRecord) → AllByRecursion IsFittingItem items
+      → list_any (item_any (names_outside (counts_of m))) items ≡ false
       → items_at_prefix (written_indexes m k) m.maus (item_records items ++ rest) ≡ items ++ items_at_prefix (written_indexes m k) m.maus rest
   items-prefix [] rest fit inside = refl
   items-prefix (Literal bytes ∷ items) rest fit inside =
@@ -51,7 +54,8 @@ module _ (m : Parts) (k : ℕ) where
       let later = items-prefix items rest fit.1 parts.1 in
       λ i. Field kind (first i) size ∷ later i
 
-  items-silent : (items : List Item) (rest : List SpelledRecord) → loads_of (written_indexes m k) m.maus (item_records items ++ rest) ≡ loads_of (written_indexes m k) m.maus rest
+  items-silent : (items : List Item) (rest : List SpelledRecord) → loads_of (written_indexes m k) m.maus (item_records items ++ rest)
+      ≡ loads_of (written_indexes m k) m.maus rest
   items-silent [] rest = refl
   items-silent (Literal bytes ∷ items) rest = items-silent items rest
   items-silent (Field kind value size ∷ items) rest = items-silent items rest
@@ -61,7 +65,8 @@ module _ (m : Parts) (k : ℕ) where
   none-single (Literal bytes) rest = refl
   none-single (Field kind value size) rest = refl
 
-  none-repeat : (count : ℕ) (items : List Item) (rest : List SpelledRecord) → items_at_prefix (written_indexes m k) m.maus (repeat_records count items ++ rest) ≡ []
+  none-repeat : (count : ℕ) (items : List Item) (rest : List SpelledRecord)
+      → items_at_prefix (written_indexes m k) m.maus (repeat_records count items ++ rest) ≡ []
   none-repeat count [] rest = refl
   none-repeat count (Literal bytes ∷ []) rest = refl
   none-repeat count (Field kind value size ∷ []) rest = refl
@@ -75,15 +80,18 @@ module _ (m : Parts) (k : ℕ) where
   none-first (Repeat count items ∷ loads) = none-repeat count items (loads_records loads)
 
   -- the items alone
-  items-alone : (items : List Item) (rest : List SpelledRecord) → AllByRecursion IsFittingItem items → list_any (item_any (names_outside (counts_of m))) items ≡ false
+  items-alone : (items : List Item) (rest : List SpelledRecord) → AllByRecursion IsFittingItem items
+      → list_any (item_any (names_outside (counts_of m))) items ≡ false
       → items_at_prefix (written_indexes m k) m.maus rest ≡ [] → items_at_prefix (written_indexes m k) m.maus (item_records items ++ rest) ≡ items
   items-alone items rest fit inside none = items-prefix items rest fit inside ∙ ap (λ (l : List Item). items ++ l) none ∙ append-nil items
 
-  single-back : (item : Item) (rest : List SpelledRecord) → IsFittingItem item → item_any (names_outside (counts_of m)) item ≡ false → items_at_prefix (written_indexes m k) m.maus rest ≡ []
+  single-back : (item : Item) (rest : List SpelledRecord) → IsFittingItem item → item_any (names_outside (counts_of m)) item ≡ false
+      → items_at_prefix (written_indexes m k) m.maus rest ≡ []
       → loads_of (written_indexes m k) m.maus (single_records item ++ rest) ≡ One item ∷ loads_of (written_indexes m k) m.maus rest
   single-back (Literal bytes) rest fits inside none =
       let n = w.number shortest (length bytes) in
-      ap (λ (l : List ℕ). One (Literal l) ∷ loads_of (written_indexes m k) m.maus rest) (text-last (0xED ∷ (n ++ bytes)) (0xED ∷ n) bytes (1 + length n) refl (omega arith))
+      ap (λ (l : List ℕ). One (Literal l) ∷ loads_of (written_indexes m k) m.maus rest)
+      (text-last (0xED ∷ (n ++ bytes)) (0xED ∷ n) bytes (1 + length n) refl (omega arith))
   single-back (Field kind value size) rest fits inside none =
       let items = items-alone (Field kind value size ∷ []) rest (fits, tt) (or_none (names_outside (counts_of m) value) inside) none in
       ap (λ (l : List Item). map One l ++ loads_of (written_indexes m k) m.maus rest) items
@@ -92,15 +100,18 @@ module _ (m : Parts) (k : ℕ) where
       or_none true h = h
       or_none false h = refl
 
-  repeat-back : (count : ℕ) (items : List Item) (rest : List SpelledRecord) → AllByRecursion IsFittingItem items → list_any (item_any (names_outside (counts_of m))) items ≡ false
-      → items_at_prefix (written_indexes m k) m.maus rest ≡ [] → loads_of (written_indexes m k) m.maus (repeat_records count items ++ rest) ≡ Repeat count items ∷ loads_of (written_indexes m k) m.maus rest
+  repeat-back : (count : ℕ) (items : List Item) (rest : List SpelledRecord) → AllByRecursion IsFittingItem items
+      → list_any (item_any (names_outside (counts_of m))) items ≡ false
+      → items_at_prefix (written_indexes m k) m.maus rest ≡ [] → loads_of (written_indexes m k) m.maus (repeat_records count items ++ rest)
+      ≡ Repeat count items ∷ loads_of (written_indexes m k) m.maus rest
   repeat-back count [] rest fit inside none = ap (λ (l : List Item). Repeat count l ∷ loads_of (written_indexes m k) m.maus rest) none
   repeat-back count (Literal bytes ∷ []) rest fit inside none =
       let c = w.number shortest count in
       let n = w.number shortest (length bytes) in
       let one = length-append c (0xED ∷ n) in
       ap (λ (l : List ℕ). Repeat count (Literal l ∷ []) ∷ loads_of (written_indexes m k) m.maus rest)
-      (text-last (0xF7 ∷ (c ++ 0xED ∷ (n ++ bytes))) (0xF7 ∷ (c ++ 0xED ∷ n)) bytes (1 + length c + 1 + length n) (ap (λ (l : List ℕ). 0xF7 ∷ l) (sym (append_assoc c (0xED ∷ n) bytes))) (omega (arith, one)))
+      (text-last (0xF7 ∷ (c ++ 0xED ∷ (n ++ bytes))) (0xF7 ∷ (c ++ 0xED ∷ n)) bytes (1 + length c + 1 + length n)
+      (ap (λ (l : List ℕ). 0xF7 ∷ l) (sym (append_assoc c (0xED ∷ n) bytes))) (omega (arith, one)))
   repeat-back count (Field kind value size ∷ []) rest fit inside none =
       let items = items-alone (Field kind value size ∷ []) rest fit inside none in
       ap (λ (l : List Item). Repeat count l ∷ loads_of (written_indexes m k) m.maus rest) items
@@ -109,7 +120,8 @@ module _ (m : Parts) (k : ℕ) where
       let silent = items-silent (first ∷ second ∷ more) rest in
       λ i. Repeat count (items i) ∷ silent i
 
-  load-back : (load : Load) (rest : List SpelledRecord) → IsFittingLoad load → has_bad_place (counts_of m) load ≡ false → items_at_prefix (written_indexes m k) m.maus rest ≡ []
+  load-back : (load : Load) (rest : List SpelledRecord) → IsFittingLoad load → has_bad_place (counts_of m) load ≡ false
+      → items_at_prefix (written_indexes m k) m.maus rest ≡ []
       → loads_of (written_indexes m k) m.maus (load_records load ++ rest) ≡ load ∷ loads_of (written_indexes m k) m.maus rest
   load-back (SetSection section) rest fits inside none =
       let parts = or_parts (names_no_section (counts_of m) (SetSection section)) false inside in
@@ -125,14 +137,17 @@ module _ (m : Parts) (k : ℕ) where
   load-back (One item) rest fits inside none = single-back item rest fits inside none
   load-back (Repeat count items) rest fits inside none = repeat-back count items rest fits.1 inside none
 
-  pub loads-back : (loads : List Load) → AllByRecursion IsFittingLoad loads → list_any (has_bad_place (counts_of m)) loads ≡ false → loads_of (written_indexes m k) m.maus (loads_records loads) ≡ loads
+  pub loads-back : (loads : List Load) → AllByRecursion IsFittingLoad loads → list_any (has_bad_place (counts_of m)) loads ≡ false
+      → loads_of (written_indexes m k) m.maus (loads_records loads) ≡ loads
   loads-back [] fit inside = refl
   loads-back (load ∷ loads) fit inside =
       let parts = or_parts (has_bad_place (counts_of m) load) (list_any (has_bad_place (counts_of m)) loads) inside in
       load-back load (loads_records loads) fit.0 parts.0 (none-first loads) ∙ ap (λ (l : List Load). load ∷ l) (loads-back loads fit.1 parts.1)
 
-  pub start-back : (start : Option Tree) → IsFittingStart start → any_of (names_outside (counts_of m)) start ≡ false → starts_of (written_indexes m k) (start_records start) ≡ option_to_list start
+  pub start-back : (start : Option Tree) → IsFittingStart start → any_of (names_outside (counts_of m)) start ≡ false
+      → starts_of (written_indexes m k) (start_records start) ≡ option_to_list start
   start-back None fits inside = refl
   start-back (Some value) fits inside =
       let e = w.expression shortest value in
-      ap (λ (t : Tree). t ∷ []) (tree-back m k value _ fits inside (text-between (0xE2 ∷ 0xC7 ∷ 0xBE ∷ (e ++ 0xBF ∷ [])) (0xE2 ∷ 0xC7 ∷ 0xBE ∷ []) e (0xBF ∷ []) 3 refl refl))
+      ap (λ (t : Tree). t ∷ []) (tree-back m k value _ fits inside
+      (text-between (0xE2 ∷ 0xC7 ∷ 0xBE ∷ (e ++ 0xBF ∷ [])) (0xE2 ∷ 0xC7 ∷ 0xBE ∷ []) e (0xBF ∷ []) 3 refl refl))

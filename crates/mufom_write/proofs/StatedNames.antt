@@ -1,5 +1,6 @@
 -- What the records of the external part of a written form state is what the module has.
-use Rattle.std.proofs.Common.{◌≡◌, ℕ, ◌+◌, ◌<◌, ◌≤◌, ◌==◌, Bool, true, false, List, [], ◌∷◌, ◌++◌, length, Option, Some, None, unwrap_or, slice_get, refl, sym, ap, ◌∙◌, arith, append_assoc}
+use Rattle.std.proofs.Common.{◌≡◌, ℕ, ◌+◌, ◌<◌, ◌≤◌, ◌==◌, Bool, true, false, List, [], ◌∷◌, ◌++◌, length, Option, Some, None, unwrap_or, slice_get}
+use Rattle.std.proofs.Common.{refl, sym, ap, ◌∙◌, arith, append_assoc}
 use Rattle.std.specs.Prelude.{if◌then◌else◌, filter_map}
 use Rattle.std.specs.List.{AllByRecursion, cons_option, list_any}
 use Rattle.std.proofs.lemmas.List.{append-nil}
@@ -20,14 +21,17 @@ use Rattle.mufom_module.specs.Defects.{counts_of, names_outside}
 use Rattle.mufom_write.proofs.Rows.{name_at, value_at, default_for}
 use Rattle.mufom_write.proofs.Indexed.{counting, written_indexes}
 use Rattle.mufom_write.proofs.Laying.{records_from}
-use Rattle.mufom_write.proofs.NameRecords.{public_name_record, public_note_record, public_value_record, public_note_records, public_records, reference_name_record, reference_note_record, weak_record, reference_note_records, weak_records, reference_records, external_records, IsFittingPublic}
+use Rattle.mufom_write.proofs.NameRecords.{public_name_record, public_note_record, public_value_record, public_note_records, public_records}
+use Rattle.mufom_write.proofs.NameRecords.{reference_name_record, reference_note_record, weak_record, reference_note_records, weak_records}
+use Rattle.mufom_write.proofs.NameRecords.{reference_records, external_records, IsFittingPublic}
 use Rattle.mufom_write.proofs.StatedSections.{other-index, same-index}
 use Rattle.mufom_write.proofs.Texts.{string-last, text-last, tree-back}
 
 -- ---- what is asked of records
 
 -- entries that an asking passes over
-passed : {X Y : Type 0} (ask : SpelledRecord → Option Y) (records_of : ℕ → X → List SpelledRecord) → ((n : ℕ) (x : X) → filter_map ask (records_of n x) ≡ []) → (n : ℕ) (xs : List X)
+passed : {X Y : Type 0} (ask : SpelledRecord → Option Y) (records_of : ℕ → X → List SpelledRecord)
+    → ((n : ℕ) (x : X) → filter_map ask (records_of n x) ≡ []) → (n : ℕ) (xs : List X)
     → filter_map ask (records_from n records_of xs) ≡ []
 passed ask records_of none n [] = refl
 passed ask records_of none n (x ∷ xs) =
@@ -36,7 +40,8 @@ passed ask records_of none n (x ∷ xs) =
     filter_map-append ask (records_of n x) (records_from (n + 1) records_of xs) ∙ (λ k. own k ++ rest k)
 
 -- entries that answer an asking for an index below theirs with nothing
-none-below : {X Y : Type 0} (ask : SpelledRecord → Option Y) (records_of : ℕ → X → List SpelledRecord) (first i : ℕ) → ((n : ℕ) (x : X) → (i ≡ n + first → ⊥) → filter_map ask (records_of n x) ≡ [])
+none-below : {X Y : Type 0} (ask : SpelledRecord → Option Y) (records_of : ℕ → X → List SpelledRecord) (first i : ℕ)
+    → ((n : ℕ) (x : X) → (i ≡ n + first → ⊥) → filter_map ask (records_of n x) ≡ [])
     → (n : ℕ) (xs : List X) → i < n + first → filter_map ask (records_from n records_of xs) ≡ []
 none-below ask records_of first i silent n [] low = refl
 none-below ask records_of first i silent n (x ∷ xs) low =
@@ -53,25 +58,30 @@ kept ask record_of some k (note ∷ notes) =
     λ j. cons_option (some note j) (rest j)
 
 -- notes that an asking passes over
-pub public_notes-nothing : {Y : Type 0} (ask : SpelledRecord → Option Y) (k i : ℕ) (notes : List Note) → ((note : Note) → ask (public_note_record i note) ≡ None)
+pub public_notes-nothing : {Y : Type 0} (ask : SpelledRecord → Option Y) (k i : ℕ) (notes : List Note)
+    → ((note : Note) → ask (public_note_record i note) ≡ None)
     → filter_map ask (records_from k (λ _ note. public_note_record i note ∷ []) notes) ≡ []
 public_notes-nothing ask k i notes none = passed ask (λ _ note. public_note_record i note ∷ []) (λ _ note. λ j. cons_option (none note j) []) k notes
 
-pub reference_notes-nothing : {Y : Type 0} (ask : SpelledRecord → Option Y) (k i : ℕ) (notes : List Note) → ((note : Note) → ask (reference_note_record i note) ≡ None)
+pub reference_notes-nothing : {Y : Type 0} (ask : SpelledRecord → Option Y) (k i : ℕ) (notes : List Note)
+    → ((note : Note) → ask (reference_note_record i note) ≡ None)
     → filter_map ask (records_from k (λ _ note. reference_note_record i note ∷ []) notes) ≡ []
 reference_notes-nothing ask k i notes none = passed ask (λ _ note. reference_note_record i note ∷ []) (λ _ note. λ j. cons_option (none note j) []) k notes
 
-pub public-nothing : {Y : Type 0} (ask : SpelledRecord → Option Y) (i : ℕ) (p : Public) → ((note : Note) → ask (public_note_record i note) ≡ None) → ask (public_value_record i p) ≡ None
+pub public-nothing : {Y : Type 0} (ask : SpelledRecord → Option Y) (i : ℕ) (p : Public) → ((note : Note) → ask (public_note_record i note) ≡ None)
+    → ask (public_value_record i p) ≡ None
     → filter_map ask (public_note_records i p.notes ++ public_value_record i p ∷ []) ≡ []
 public-nothing {Y = Y} ask i p notes value =
     let first = public_notes-nothing ask 0 i p.notes notes in
     filter_map-append ask (public_note_records i p.notes) (public_value_record i p ∷ []) ∙ (λ j. first j ++ cons_option (value j) [])
 
-pub weak-nothing : {Y : Type 0} (ask : SpelledRecord → Option Y) (i : ℕ) (weak : Option Weak) → ((x : Weak) → ask (weak_record i x) ≡ None) → filter_map ask (weak_records i weak) ≡ []
+pub weak-nothing : {Y : Type 0} (ask : SpelledRecord → Option Y) (i : ℕ) (weak : Option Weak) → ((x : Weak) → ask (weak_record i x) ≡ None)
+    → filter_map ask (weak_records i weak) ≡ []
 weak-nothing ask i None none = refl
 weak-nothing {Y = Y} ask i (Some weak) none = λ j. cons_option (none weak j) []
 
-pub reference-nothing : {Y : Type 0} (ask : SpelledRecord → Option Y) (i : ℕ) (r : Reference) → ((note : Note) → ask (reference_note_record i note) ≡ None) → ((x : Weak) → ask (weak_record i x) ≡ None)
+pub reference-nothing : {Y : Type 0} (ask : SpelledRecord → Option Y) (i : ℕ) (r : Reference)
+    → ((note : Note) → ask (reference_note_record i note) ≡ None) → ((x : Weak) → ask (weak_record i x) ≡ None)
     → filter_map ask (reference_note_records i r.notes ++ weak_records i r.weak) ≡ []
 reference-nothing ask i r notes weak =
     let first = reference_notes-nothing ask 0 i r.notes notes in
@@ -94,7 +104,8 @@ publics-no_references n publics =
     let ask = λ (q : SpelledRecord). of_kind reference (declared_by q.row) in
     passed ask public_records (λ n p. public-nothing ask (n + 32) p (λ note. refl) refl) n publics
 
-references-declare : (n : ℕ) (references : List Reference) → declared reference (records_from n reference_records references) ≡ counting (n + 11) (length references)
+references-declare : (n : ℕ) (references : List Reference) → declared reference (records_from n reference_records references)
+    ≡ counting (n + 11) (length references)
 references-declare n [] = refl
 references-declare n (r ∷ references) =
     let none = reference-nothing (λ q. of_kind reference (declared_by q.row)) (n + 11) r (λ note. refl) (λ x. refl) in
@@ -108,18 +119,21 @@ references-no_publics n references =
     let ask = λ (q : SpelledRecord). of_kind public (declared_by q.row) in
     passed ask reference_records (λ n r. reference-nothing ask (n + 11) r (λ note. refl) (λ x. refl)) n references
 
-pub declared-publics : (publics : List Public) (references : List Reference) → declared public (external_records publics references) ≡ counting 32 (length publics)
+pub declared-publics : (publics : List Public) (references : List Reference) → declared public (external_records publics references)
+    ≡ counting 32 (length publics)
 declared-publics publics references =
     filter_map-append (λ q. of_kind public (declared_by q.row)) (records_from 0 public_records publics) (records_from 0 reference_records references)
     ∙ (λ k. publics-declare 0 publics k ++ references-no_publics 0 references k) ∙ append-nil (counting 32 (length publics))
 
-pub declared-references : (publics : List Public) (references : List Reference) → declared reference (external_records publics references) ≡ counting 11 (length references)
+pub declared-references : (publics : List Public) (references : List Reference) → declared reference (external_records publics references)
+    ≡ counting 11 (length references)
 declared-references publics references =
     filter_map-append (λ q. of_kind reference (declared_by q.row)) (records_from 0 public_records publics) (records_from 0 reference_records references)
     ∙ (λ k. publics-no_references 0 publics k ++ references-declare 0 references k)
 
 -- the answers of records among others that are silent
-middle : {Y : Type 0} (ask : SpelledRecord → Option Y) (before own rest : List SpelledRecord) (ys : List Y) → filter_map ask before ≡ [] → filter_map ask own ≡ ys → filter_map ask rest ≡ [] → filter_map ask (before ++ (own ++ rest)) ≡ ys
+middle : {Y : Type 0} (ask : SpelledRecord → Option Y) (before own rest : List SpelledRecord) (ys : List Y) → filter_map ask before ≡ []
+    → filter_map ask own ≡ ys → filter_map ask rest ≡ [] → filter_map ask (before ++ (own ++ rest)) ≡ ys
 middle ask before own rest ys a b c =
     filter_map-append ask before (own ++ rest) ∙ (λ k. a k ++ (filter_map-append ask own rest ∙ (λ j. b j ++ c j)) k) ∙ append-nil ys
 
@@ -138,7 +152,8 @@ public_note_asked i q = public_note_for i q.row
 
 value-of_public : (i : ℕ) → IsOfPublic (value_asked i) i
 value-of_public i = record {
-  silent = λ n p differ. public-nothing (value_asked i) (n + 32) p (λ note. refl) (other-index i (n + 32) (tree_in (public_value_record (n + 32) p) (value_at (n + 32) (w.expression shortest p.value))) differ);
+  silent = λ n p differ. public-nothing (value_asked i) (n + 32) p (λ note. refl)
+      (other-index i (n + 32) (tree_in (public_value_record (n + 32) p) (value_at (n + 32) (w.expression shortest p.value))) differ);
   passes = λ n r. reference-nothing (value_asked i) (n + 11) r (λ note. refl) (λ x. refl);
 }
 
@@ -148,10 +163,12 @@ note-of_public i = record {
   passes = λ n r. reference-nothing (public_note_asked i) (n + 11) r (λ note. refl) (λ x. refl);
 }
 
-later-publics : {Y : Type 0} (ask : SpelledRecord → Option Y) (i : ℕ) → IsOfPublic ask i → (n : ℕ) (publics : List Public) → i < n + 32 → filter_map ask (records_from n public_records publics) ≡ []
+later-publics : {Y : Type 0} (ask : SpelledRecord → Option Y) (i : ℕ) → IsOfPublic ask i → (n : ℕ) (publics : List Public) → i < n + 32
+    → filter_map ask (records_from n public_records publics) ≡ []
 later-publics ask i of = none-below ask public_records 32 i of.silent
 
-passed-references : {Y : Type 0} (ask : SpelledRecord → Option Y) (i : ℕ) → IsOfPublic ask i → (n : ℕ) (references : List Reference) → filter_map ask (records_from n reference_records references) ≡ []
+passed-references : {Y : Type 0} (ask : SpelledRecord → Option Y) (i : ℕ) → IsOfPublic ask i → (n : ℕ) (references : List Reference)
+    → filter_map ask (records_from n reference_records references) ≡ []
 passed-references ask i of = passed ask reference_records of.passes
 
 public-notes : (n : ℕ) (p : Public) → filter_map (public_note_asked (n + 32)) (public_records n p) ≡ p.notes
@@ -159,18 +176,21 @@ public-notes n p =
     filter_map-append (public_note_asked (n + 32)) (public_note_records (n + 32) p.notes) (public_value_record (n + 32) p ∷ [])
     ∙ (λ j. kept (public_note_asked (n + 32)) (public_note_record (n + 32)) (same-index (n + 32)) 0 p.notes j ++ []) ∙ append-nil p.notes
 
-public-value : (n : ℕ) (p : Public) → filter_map (value_asked (n + 32)) (public_records n p) ≡ tree_in (public_value_record (n + 32) p) (value_at (n + 32) (w.expression shortest p.value)) ∷ []
+public-value : (n : ℕ) (p : Public) → filter_map (value_asked (n + 32)) (public_records n p)
+    ≡ tree_in (public_value_record (n + 32) p) (value_at (n + 32) (w.expression shortest p.value)) ∷ []
 public-value n p =
     let none = public_notes-nothing (value_asked (n + 32)) 0 (n + 32) p.notes (λ note. refl) in
     let one = same-index (n + 32) (tree_in (public_value_record (n + 32) p) (value_at (n + 32) (w.expression shortest p.value))) in
-    filter_map-append (value_asked (n + 32)) (public_note_records (n + 32) p.notes) (public_value_record (n + 32) p ∷ []) ∙ (λ j. none j ++ cons_option (one j) [])
+    filter_map-append (value_asked (n + 32)) (public_note_records (n + 32) p.notes) (public_value_record (n + 32) p ∷ [])
+    ∙ (λ j. none j ++ cons_option (one j) [])
 
 -- records that state nothing of publics with indexes from that of position n on
 record AreQuietPublics (before : List SpelledRecord) (n : ℕ) : Type 0 where
   value : (i : ℕ) → n + 32 ≤ i → filter_map (value_asked i) before ≡ []
   note : (i : ℕ) → n + 32 ≤ i → filter_map (public_note_asked i) before ≡ []
 
-quiet-more : {Y : Type 0} (ask : SpelledRecord → Option Y) (i : ℕ) → IsOfPublic ask i → (before : List SpelledRecord) (n : ℕ) (p : Public) → n + 1 + 32 ≤ i → filter_map ask before ≡ [] → filter_map ask (before ++ public_records n p) ≡ []
+quiet-more : {Y : Type 0} (ask : SpelledRecord → Option Y) (i : ℕ) → IsOfPublic ask i → (before : List SpelledRecord) (n : ℕ) (p : Public)
+    → n + 1 + 32 ≤ i → filter_map ask before ≡ [] → filter_map ask (before ++ public_records n p) ≡ []
 quiet-more ask i of before n p high none =
     let own = of.silent n p (λ same. omega (arith, same, high)) in
     filter_map-append ask before (public_records n p) ∙ (λ k. none k ++ own k)
@@ -179,7 +199,8 @@ public_name-back : (i : ℕ) (name : List ℕ) → text_in (public_name_record i
 public_name-back i name = let a = w.number shortest i in string-last (0xE8 ∷ (a ++ w.string shortest name)) (0xE8 ∷ a) name (1 + length a) refl (omega arith)
 
 -- what stands after publics: further ones, and references
-after-publics : {Y : Type 0} (ask : SpelledRecord → Option Y) (i : ℕ) → IsOfPublic ask i → (n : ℕ) (publics : List Public) (references : List Reference) → i < n + 32
+after-publics : {Y : Type 0} (ask : SpelledRecord → Option Y) (i : ℕ) → IsOfPublic ask i
+    → (n : ℕ) (publics : List Public) (references : List Reference) → i < n + 32
     → filter_map ask (records_from n public_records publics ++ records_from 0 reference_records references) ≡ []
 after-publics ask i of n publics references low =
     let first = later-publics ask i of n publics low in
@@ -188,14 +209,17 @@ after-publics ask i of n publics references low =
 
 module _ (m : Parts) (k : ℕ) where
   public-back : (part before rest : List SpelledRecord) (n : ℕ) (p : Public) → part ≡ before ++ (public_records n p ++ rest) → AreQuietPublics before n
-      → filter_map (value_asked (n + 32)) rest ≡ [] → filter_map (public_note_asked (n + 32)) rest ≡ [] → IsFittingPublic p → names_outside (counts_of m) p.value ≡ false
+      → filter_map (value_asked (n + 32)) rest ≡ [] → filter_map (public_note_asked (n + 32)) rest ≡ [] → IsFittingPublic p
+      → names_outside (counts_of m) p.value ≡ false
       → public_by (written_indexes m k) part (public_name_record (n + 32) p.name) (public_name_record (n + 32) p.name).row ≡ Some p
   public-back part before rest n p is quiet values notes fits inside =
       let i = n + 32 in
       let a = w.number shortest i in
       let e = w.expression shortest p.value in
-      let value = ap (filter_map (value_asked i)) is ∙ middle (value_asked i) before (public_records n p) rest (tree_in (public_value_record i p) (value_at i e) ∷ []) (quiet.value i (omega arith)) (public-value n p) values in
-      let note = ap (filter_map (public_note_asked i)) is ∙ middle (public_note_asked i) before (public_records n p) rest p.notes (quiet.note i (omega arith)) (public-notes n p) notes in
+      let value = ap (filter_map (value_asked i)) is ∙ middle (value_asked i) before (public_records n p) rest
+      (tree_in (public_value_record i p) (value_at i e) ∷ []) (quiet.value i (omega arith)) (public-value n p) values in
+      let note = ap (filter_map (public_note_asked i)) is ∙ middle (public_note_asked i) before (public_records n p) rest p.notes
+      (quiet.note i (omega arith)) (public-notes n p) notes in
       let name_is = public_name-back i p.name in
       let value_is = ap (λ (l : List Tree). positioned (written_indexes m k) (unwrap_or (slice_get l 0) (number 0))) value
       ∙ tree-back m k p.value _ fits.value inside (text-last (0xE2 ∷ 0xC9 ∷ (a ++ e)) (0xE2 ∷ 0xC9 ∷ a) e (2 + length a) refl (omega arith)) in
@@ -213,28 +237,33 @@ module _ (m : Parts) (k : ℕ) where
       let ask : SpelledRecord → Option Public = λ q. public_by (written_indexes m k) part q q.row in
       let insides = or_parts (names_outside (counts_of m) p.value) (list_any (λ p. names_outside (counts_of m) p.value) publics) inside in
       let split = is ∙ ap (λ (l : List SpelledRecord). before ++ l) (append_assoc (public_records n p) more last) in
-      let own = public-back part before (more ++ last) n p split quiet (after-publics (value_asked i) i (value-of_public i) (n + 1) publics references (omega arith))
+      let own = public-back part before (more ++ last) n p split quiet
+      (after-publics (value_asked i) i (value-of_public i) (n + 1) publics references (omega arith))
       (after-publics (public_note_asked i) i (note-of_public i) (n + 1) publics references (omega arith)) fit.0 insides.0 in
       let none = public-nothing ask i p (λ note. refl) refl in
-      let later = publics-from part (before ++ public_records n p) (n + 1) publics references (split ∙ sym (append_assoc before (public_records n p) (more ++ last))) (record {
+      let later = publics-from part (before ++ public_records n p) (n + 1) publics references (split
+      ∙ sym (append_assoc before (public_records n p) (more ++ last))) (record {
         value = λ j high. quiet-more (value_asked j) j (value-of_public j) before n p high (quiet.value j (omega (arith, high)));
         note = λ j high. quiet-more (public_note_asked j) j (note-of_public j) before n p high (quiet.note j (omega (arith, high)));
       }) fit.1 insides.1 in
       filter_map-append ask (public_records n p) more ∙ (λ j. cons_option (own j) (none j) ++ later j)
 
-  no-public : (part : List SpelledRecord) (n : ℕ) (references : List Reference) → filter_map (λ q. public_by (written_indexes m k) part q q.row) (records_from n reference_records references) ≡ []
+  no-public : (part : List SpelledRecord) (n : ℕ) (references : List Reference)
+      → filter_map (λ q. public_by (written_indexes m k) part q q.row) (records_from n reference_records references) ≡ []
   no-public part n references =
       let ask : SpelledRecord → Option Public = λ q. public_by (written_indexes m k) part q q.row in
       passed ask reference_records (λ n r. reference-nothing ask (n + 11) r (λ note. refl) (λ x. refl)) n references
 
-  pub publics-back : (publics : List Public) (references : List Reference) → AllByRecursion IsFittingPublic publics → list_any (λ p. names_outside (counts_of m) p.value) publics ≡ false
+  pub publics-back : (publics : List Public) (references : List Reference) → AllByRecursion IsFittingPublic publics
+      → list_any (λ p. names_outside (counts_of m) p.value) publics ≡ false
       → publics_of (written_indexes m k) (external_records publics references) ≡ publics
   publics-back publics references fit inside =
       let part = external_records publics references in
       let ask : SpelledRecord → Option Public = λ q. public_by (written_indexes m k) part q q.row in
       let first = publics-from part [] 0 publics references refl (record { value = λ i h. refl; note = λ i h. refl }) fit inside in
       let second = no-public part 0 references in
-      filter_map-append ask (records_from 0 public_records publics) (records_from 0 reference_records references) ∙ (λ j. first j ++ second j) ∙ append-nil publics
+      filter_map-append ask (records_from 0 public_records publics) (records_from 0 reference_records references) ∙ (λ j. first j ++ second j)
+      ∙ append-nil publics
 
 -- ---- references
 
@@ -251,7 +280,8 @@ reference_note_asked i q = reference_note_for i q.row
 
 weak-of_reference : (i : ℕ) → IsOfReference (weak_asked i) i
 weak-of_reference i = record {
-  silent = λ n r differ. reference-nothing (weak_asked i) (n + 11) r (λ note. refl) (λ x. other-index i (n + 11) (record { size = x.size; default = unwrap_or (default_for x.default) 0 }) differ);
+  silent = λ n r differ. reference-nothing (weak_asked i) (n + 11) r (λ note. refl)
+      (λ x. other-index i (n + 11) (record { size = x.size; default = unwrap_or (default_for x.default) 0 }) differ);
   passes = λ n p. public-nothing (weak_asked i) (n + 32) p (λ note. refl) refl;
 }
 
@@ -261,10 +291,12 @@ note-of_reference i = record {
   passes = λ n p. public-nothing (reference_note_asked i) (n + 32) p (λ note. refl) refl;
 }
 
-later-references : {Y : Type 0} (ask : SpelledRecord → Option Y) (i : ℕ) → IsOfReference ask i → (n : ℕ) (references : List Reference) → i < n + 11 → filter_map ask (records_from n reference_records references) ≡ []
+later-references : {Y : Type 0} (ask : SpelledRecord → Option Y) (i : ℕ) → IsOfReference ask i → (n : ℕ) (references : List Reference) → i < n + 11
+    → filter_map ask (records_from n reference_records references) ≡ []
 later-references ask i of = none-below ask reference_records 11 i of.silent
 
-passed-publics : {Y : Type 0} (ask : SpelledRecord → Option Y) (i : ℕ) → IsOfReference ask i → (n : ℕ) (publics : List Public) → filter_map ask (records_from n public_records publics) ≡ []
+passed-publics : {Y : Type 0} (ask : SpelledRecord → Option Y) (i : ℕ) → IsOfReference ask i → (n : ℕ) (publics : List Public)
+    → filter_map ask (records_from n public_records publics) ≡ []
 passed-publics ask i of = passed ask public_records of.passes
 
 reference-notes : (n : ℕ) (r : Reference) → filter_map (reference_note_asked (n + 11)) (reference_records n r) ≡ r.notes
@@ -286,7 +318,8 @@ weak-alone i (Some weak) =
     let stated = same-index i (record { size = weak.size; default = unwrap_or (default_for weak.default) 0 }) in
     (λ j. slice_get (cons_option (stated j) []) 0) ∙ (λ j. Some (record { size = weak.size; default = default-back weak.default j }))
 
-reference-weak : (n : ℕ) (r : Reference) → filter_map (weak_asked (n + 11)) (reference_records n r) ≡ filter_map (weak_asked (n + 11)) (weak_records (n + 11) r.weak)
+reference-weak : (n : ℕ) (r : Reference) → filter_map (weak_asked (n + 11)) (reference_records n r)
+    ≡ filter_map (weak_asked (n + 11)) (weak_records (n + 11) r.weak)
 reference-weak n r =
     let none = reference_notes-nothing (weak_asked (n + 11)) 0 (n + 11) r.notes (λ note. refl) in
     filter_map-append (weak_asked (n + 11)) (reference_note_records (n + 11) r.notes) (weak_records (n + 11) r.weak)
@@ -296,7 +329,8 @@ record AreQuietReferences (before : List SpelledRecord) (n : ℕ) : Type 0 where
   weak : (i : ℕ) → n + 11 ≤ i → filter_map (weak_asked i) before ≡ []
   note : (i : ℕ) → n + 11 ≤ i → filter_map (reference_note_asked i) before ≡ []
 
-quiet-reference : {Y : Type 0} (ask : SpelledRecord → Option Y) (i : ℕ) → IsOfReference ask i → (before : List SpelledRecord) (n : ℕ) (r : Reference) → n + 1 + 11 ≤ i → filter_map ask before ≡ [] → filter_map ask (before ++ reference_records n r) ≡ []
+quiet-reference : {Y : Type 0} (ask : SpelledRecord → Option Y) (i : ℕ) → IsOfReference ask i → (before : List SpelledRecord) (n : ℕ) (r : Reference)
+    → n + 1 + 11 ≤ i → filter_map ask before ≡ [] → filter_map ask (before ++ reference_records n r) ≡ []
 quiet-reference ask i of before n r high none =
     let own = of.silent n r (λ same. omega (arith, same, high)) in
     filter_map-append ask before (reference_records n r) ∙ (λ k. none k ++ own k)
@@ -304,18 +338,22 @@ quiet-reference ask i of before n r high none =
 reference_name-back : (i : ℕ) (name : List ℕ) → text_in (reference_name_record i name) (name_at i name) ≡ name
 reference_name-back i name = let a = w.number shortest i in string-last (0xE9 ∷ (a ++ w.string shortest name)) (0xE9 ∷ a) name (1 + length a) refl (omega arith)
 
-reference-back : (part before rest : List SpelledRecord) (n : ℕ) (r : Reference) → part ≡ before ++ (reference_records n r ++ rest) → AreQuietReferences before n
+reference-back : (part before rest : List SpelledRecord) (n : ℕ) (r : Reference) → part ≡ before ++ (reference_records n r ++ rest)
+    → AreQuietReferences before n
     → filter_map (weak_asked (n + 11)) rest ≡ [] → filter_map (reference_note_asked (n + 11)) rest ≡ []
     → reference_by part (reference_name_record (n + 11) r.name) (reference_name_record (n + 11) r.name).row ≡ Some r
 reference-back part before rest n r is quiet weaks notes =
     let i = n + 11 in
-    let weak = ap (filter_map (weak_asked i)) is ∙ middle (weak_asked i) before (reference_records n r) rest (filter_map (weak_asked i) (weak_records i r.weak)) (quiet.weak i (omega arith)) (reference-weak n r) weaks in
-    let note = ap (filter_map (reference_note_asked i)) is ∙ middle (reference_note_asked i) before (reference_records n r) rest r.notes (quiet.note i (omega arith)) (reference-notes n r) notes in
+    let weak = ap (filter_map (weak_asked i)) is ∙ middle (weak_asked i) before (reference_records n r) rest
+    (filter_map (weak_asked i) (weak_records i r.weak)) (quiet.weak i (omega arith)) (reference-weak n r) weaks in
+    let note = ap (filter_map (reference_note_asked i)) is ∙ middle (reference_note_asked i) before (reference_records n r) rest r.notes
+    (quiet.note i (omega arith)) (reference-notes n r) notes in
     let name_is = reference_name-back i r.name in
     let weak_is = ap (λ (l : List Weak). slice_get l 0) weak ∙ weak-alone i r.weak in
     λ j. Some (record { name = name_is j; weak = weak_is j; notes = note j })
 
-references-from : (part before : List SpelledRecord) (n : ℕ) (references : List Reference) → part ≡ before ++ records_from n reference_records references → AreQuietReferences before n
+references-from : (part before : List SpelledRecord) (n : ℕ) (references : List Reference) → part ≡ before
+    ++ records_from n reference_records references → AreQuietReferences before n
     → filter_map (λ q. reference_by part q q.row) (records_from n reference_records references) ≡ references
 references-from part before n [] is quiet = refl
 references-from part before n (r ∷ references) is quiet =
@@ -325,13 +363,15 @@ references-from part before n (r ∷ references) is quiet =
     let own = reference-back part before more n r is quiet (later-references (weak_asked i) i (weak-of_reference i) (n + 1) references (omega arith))
     (later-references (reference_note_asked i) i (note-of_reference i) (n + 1) references (omega arith)) in
     let none = reference-nothing ask i r (λ note. refl) (λ x. refl) in
-    let later = references-from part (before ++ reference_records n r) (n + 1) references (is ∙ sym (append_assoc before (reference_records n r) more)) (record {
+    let later = references-from part (before ++ reference_records n r) (n + 1) references (is
+    ∙ sym (append_assoc before (reference_records n r) more)) (record {
       weak = λ j high. quiet-reference (weak_asked j) j (weak-of_reference j) before n r high (quiet.weak j (omega (arith, high)));
       note = λ j high. quiet-reference (reference_note_asked j) j (note-of_reference j) before n r high (quiet.note j (omega (arith, high)));
     }) in
     filter_map-append ask (reference_records n r) more ∙ (λ j. cons_option (own j) (none j) ++ later j)
 
-no-reference : (part : List SpelledRecord) (n : ℕ) (publics : List Public) → filter_map (λ q. reference_by part q q.row) (records_from n public_records publics) ≡ []
+no-reference : (part : List SpelledRecord) (n : ℕ) (publics : List Public)
+    → filter_map (λ q. reference_by part q q.row) (records_from n public_records publics) ≡ []
 no-reference part n publics =
     let ask : SpelledRecord → Option Reference = λ q. reference_by part q q.row in
     passed ask public_records (λ n p. public-nothing ask (n + 32) p (λ note. refl) refl) n publics

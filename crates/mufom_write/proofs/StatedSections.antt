@@ -1,5 +1,6 @@
 -- What the records of the section part of a written form state is what the module has.
-use Rattle.std.proofs.Common.{◌≡◌, ℕ, ◌+◌, ◌<◌, ◌≤◌, ◌==◌, Bool, true, false, cond, List, [], ◌∷◌, ◌++◌, length, Option, Some, None, unwrap_or, slice_get, refl, sym, ap, ◌∙◌, arith, append_assoc, length-append}
+use Rattle.std.proofs.Common.{◌≡◌, ℕ, ◌+◌, ◌<◌, ◌≤◌, ◌==◌, Bool, true, false, cond, List, [], ◌∷◌, ◌++◌, length, Option, Some, None, unwrap_or}
+use Rattle.std.proofs.Common.{slice_get, refl, sym, ap, ◌∙◌, arith, append_assoc, length-append}
 use Rattle.std.specs.Prelude.{if◌then◌else◌, filter_map, option_map}
 use Rattle.std.specs.List.{cons_option}
 use Rattle.std.proofs.lemmas.List.{append-nil}
@@ -17,7 +18,8 @@ use Rattle.mufom_module.specs.Written as w
 use Rattle.mufom_write.proofs.Rows.{letter_for, purpose_place, section_name_at, section_row}
 use Rattle.mufom_write.proofs.Indexed.{counting}
 use Rattle.mufom_write.proofs.Laying.{records_from}
-use Rattle.mufom_write.proofs.SectionRecords.{declaration, alignment_spelling, size_spelling, base_spelling, alignment_spellings, size_spellings, base_spellings, settings, section_records}
+use Rattle.mufom_write.proofs.SectionRecords.{declaration, alignment_spelling, size_spelling, base_spelling, alignment_spellings, size_spellings}
+use Rattle.mufom_write.proofs.SectionRecords.{base_spellings, settings, section_records}
 use Rattle.mufom_write.proofs.StatedDebug.{after-two}
 use Rattle.mufom_write.proofs.Texts.{string-last}
 
@@ -27,12 +29,14 @@ unless-nothing : {Y : Type 0} (ask : SpelledRecord → Option Y) (b : Bool) (p :
 unless-nothing ask true p h = refl
 unless-nothing {Y = Y} ask false p h = ap (λ (o : Option Y). cons_option o []) h
 
-base-nothing : {Y : Type 0} (ask : SpelledRecord → Option Y) (i : ℕ) (base : Option ℕ) → ((b : ℕ) → ask (base_spelling i b) ≡ None) → filter_map ask (base_spellings i base) ≡ []
+base-nothing : {Y : Type 0} (ask : SpelledRecord → Option Y) (i : ℕ) (base : Option ℕ) → ((b : ℕ) → ask (base_spelling i b) ≡ None)
+    → filter_map ask (base_spellings i base) ≡ []
 base-nothing ask i None h = refl
 base-nothing {Y = Y} ask i (Some base) h = ap (λ (o : Option Y). cons_option o []) (h base)
 
 -- an asking that no setting answers
-pub settings-nothing : {Y : Type 0} (ask : SpelledRecord → Option Y) (i : ℕ) (s : Section) → ask (alignment_spelling i s.align) ≡ None → ask (size_spelling i s.size) ≡ None → ((b : ℕ) → ask (base_spelling i b) ≡ None)
+pub settings-nothing : {Y : Type 0} (ask : SpelledRecord → Option Y) (i : ℕ) (s : Section) → ask (alignment_spelling i s.align) ≡ None
+    → ask (size_spelling i s.size) ≡ None → ((b : ℕ) → ask (base_spelling i b) ≡ None)
     → filter_map ask (settings i s) ≡ []
 settings-nothing ask i s a b c =
     let first = unless-nothing ask (s.align == 1) (alignment_spelling i s.align) a in
@@ -66,12 +70,16 @@ size-of : (i : ℕ) → IsOf (size_for i) i
 size-of i = record { silent = λ n s differ. settings-nothing (λ p. size_for i p.row) (n + 1) s refl (other-index i (n + 1) s.size differ) (λ b. refl) }
 
 alignment-of : (i : ℕ) → IsOf (alignment_for i) i
-alignment-of i = record { silent = λ n s differ. settings-nothing (λ p. alignment_for i p.row) (n + 1) s (other-index i (n + 1) s.align differ) refl (λ b. refl) }
+alignment-of i = record {
+  silent = λ n s differ. settings-nothing (λ p. alignment_for i p.row) (n + 1) s (other-index i (n + 1) s.align differ) refl
+      (λ b. refl);
+}
 
 base-of : (i : ℕ) → IsOf (base_for i) i
 base-of i = record { silent = λ n s differ. settings-nothing (λ p. base_for i p.row) (n + 1) s refl refl (λ b. other-index i (n + 1) b differ) }
 
-later-silent : {Y : Type 0} (ask : Record → Option Y) (i : ℕ) → IsOf ask i → (n : ℕ) (sections : List Section) → i ≤ n → answers ask (records_from n section_records sections) ≡ []
+later-silent : {Y : Type 0} (ask : Record → Option Y) (i : ℕ) → IsOf ask i → (n : ℕ) (sections : List Section) → i ≤ n
+    → answers ask (records_from n section_records sections) ≡ []
 later-silent ask i of n [] low = refl
 later-silent ask i of n (s ∷ sections) low =
     let own = of.silent n s (λ same. omega (arith, same, low)) in
@@ -79,14 +87,16 @@ later-silent ask i of n (s ∷ sections) low =
     filter_map-append (λ p. ask p.row) (section_records n s) (records_from (n + 1) section_records sections) ∙ (λ k. own k ++ rest k)
 
 -- the answers of records among others that are silent
-pub among : {Y : Type 0} (ask : Record → Option Y) (before own rest : List SpelledRecord) (ys : List Y) → answers ask before ≡ [] → answers ask own ≡ ys → answers ask rest ≡ [] → answers ask (before ++ (own ++ rest)) ≡ ys
+pub among : {Y : Type 0} (ask : Record → Option Y) (before own rest : List SpelledRecord) (ys : List Y) → answers ask before ≡ [] → answers ask own
+    ≡ ys → answers ask rest ≡ [] → answers ask (before ++ (own ++ rest)) ≡ ys
 among ask before own rest ys a b c =
     filter_map-append (λ p. ask p.row) before (own ++ rest)
     ∙ (λ k. a k ++ (filter_map-append (λ p. ask p.row) own rest ∙ (λ j. b j ++ c j)) k) ∙ append-nil ys
 
 -- ---- what a section states of itself
 
-unless-one : {Y : Type 0} (ask : SpelledRecord → Option Y) (b : Bool) (p : SpelledRecord) (y : Y) → ask p ≡ Some y → filter_map ask (cond b [] (p ∷ [])) ≡ cond b [] (y ∷ [])
+unless-one : {Y : Type 0} (ask : SpelledRecord → Option Y) (b : Bool) (p : SpelledRecord) (y : Y) → ask p ≡ Some y
+    → filter_map ask (cond b [] (p ∷ [])) ≡ cond b [] (y ∷ [])
 unless-one ask true p y h = refl
 unless-one {Y = Y} ask false p y h = ap (λ (o : Option Y). cons_option o []) h
 
@@ -123,7 +133,8 @@ own-base n s =
     let first = unless-nothing ask (s.align == 1) (alignment_spelling i s.align) refl in
     let second = unless-nothing ask (s.size == 0) (size_spelling i s.size) refl in
     filter_map-append ask (alignment_spellings i s.align) (size_spellings i s.size ++ base_spellings i s.base)
-    ∙ (λ k. first k ++ (filter_map-append ask (size_spellings i s.size) (base_spellings i s.base) ∙ (λ j. second j ++ filter_map ask (base_spellings i s.base))) k)
+    ∙ (λ k. first k ++ (filter_map-append ask (size_spellings i s.size) (base_spellings i s.base)
+    ∙ (λ j. second j ++ filter_map ask (base_spellings i s.base))) k)
 
 -- what is not stated where it is the usual value, is that value
 stated-or-usual : (x usual : ℕ) → unwrap_or (slice_get (cond (x == usual) [] (x ∷ [])) 0) usual ≡ x
@@ -161,7 +172,8 @@ record AreQuiet (before : List SpelledRecord) (n : ℕ) : Type 0 where
   alignment : (i : ℕ) → n < i → answers (alignment_for i) before ≡ []
   base : (i : ℕ) → n < i → answers (base_for i) before ≡ []
 
-quiet-more : {Y : Type 0} (ask : Record → Option Y) (i : ℕ) → IsOf ask i → (before : List SpelledRecord) (n : ℕ) (s : Section) → n + 1 < i → answers ask before ≡ [] → answers ask (before ++ section_records n s) ≡ []
+quiet-more : {Y : Type 0} (ask : Record → Option Y) (i : ℕ) → IsOf ask i → (before : List SpelledRecord) (n : ℕ) (s : Section) → n + 1 < i
+    → answers ask before ≡ [] → answers ask (before ++ section_records n s) ≡ []
 quiet-more ask i of before n s high none =
     let own = of.silent n s (λ same. omega (arith, same, high)) in
     filter_map-append (λ p. ask p.row) before (section_records n s) ∙ (λ k. none k ++ own k)
@@ -171,9 +183,12 @@ section-back : (part before rest : List SpelledRecord) (n : ℕ) (s : Section) �
     → section_by part (declaration (n + 1) s) (section_row (n + 1) s) ≡ Some s
 section-back part before rest n s is quiet sizes aligns bases =
     let i = n + 1 in
-    let size = ap (answers (size_for i)) is ∙ among (size_for i) before (section_records n s) rest (cond (s.size == 0) [] (s.size ∷ [])) (quiet.size i (omega arith)) (own-size n s) sizes in
-    let align = ap (answers (alignment_for i)) is ∙ among (alignment_for i) before (section_records n s) rest (cond (s.align == 1) [] (s.align ∷ [])) (quiet.alignment i (omega arith)) (own-alignment n s) aligns in
-    let base = ap (answers (base_for i)) is ∙ among (base_for i) before (section_records n s) rest (answers (base_for i) (base_spellings i s.base)) (quiet.base i (omega arith)) (own-base n s) bases in
+    let size = ap (answers (size_for i)) is ∙ among (size_for i) before (section_records n s) rest (cond (s.size == 0) [] (s.size ∷ []))
+    (quiet.size i (omega arith)) (own-size n s) sizes in
+    let align = ap (answers (alignment_for i)) is ∙ among (alignment_for i) before (section_records n s) rest (cond (s.align == 1) [] (s.align ∷ []))
+    (quiet.alignment i (omega arith)) (own-alignment n s) aligns in
+    let base = ap (answers (base_for i)) is ∙ among (base_for i) before (section_records n s) rest (answers (base_for i) (base_spellings i s.base))
+    (quiet.base i (omega arith)) (own-base n s) bases in
     let name_is = name-back i s in
     let purpose_is = purpose-back s.purpose in
     let size_is = ap (λ (l : List ℕ). unwrap_or (slice_get l 0) 0) size ∙ stated-or-usual s.size 0 in
@@ -181,14 +196,16 @@ section-back part before rest n s is quiet sizes aligns bases =
     let base_is = ap (λ (l : List ℕ). slice_get l 0) base ∙ base-alone i s.base in
     λ j. Some (record { name = name_is j; absolute = s.absolute; purpose = purpose_is j; size = size_is j; align = align_is j; base = base_is j })
 
-sections-from : (part before : List SpelledRecord) (n : ℕ) (sections : List Section) → part ≡ before ++ records_from n section_records sections → AreQuiet before n
+sections-from : (part before : List SpelledRecord) (n : ℕ) (sections : List Section) → part ≡ before ++ records_from n section_records sections
+    → AreQuiet before n
     → filter_map (λ p. section_by part p p.row) (records_from n section_records sections) ≡ sections
 sections-from part before n [] is quiet = refl
 sections-from part before n (s ∷ sections) is quiet =
     let i = n + 1 in
     let rest = records_from (n + 1) section_records sections in
     let ask : SpelledRecord → Option Section = λ p. section_by part p p.row in
-    let own = section-back part before rest n s is quiet (later-silent (size_for i) i (size-of i) (n + 1) sections (omega arith)) (later-silent (alignment_for i) i (alignment-of i) (n + 1) sections (omega arith))
+    let own = section-back part before rest n s is quiet (later-silent (size_for i) i (size-of i) (n + 1) sections (omega arith))
+    (later-silent (alignment_for i) i (alignment-of i) (n + 1) sections (omega arith))
     (later-silent (base_for i) i (base-of i) (n + 1) sections (omega arith)) in
     let none = settings-nothing ask i s refl refl (λ b. refl) in
     let later = sections-from part (before ++ section_records n s) (n + 1) sections (is ∙ sym (append_assoc before (section_records n s) rest)) (record {
@@ -199,4 +216,5 @@ sections-from part before n (s ∷ sections) is quiet =
     filter_map-append ask (section_records n s) rest ∙ (λ k. cons_option (own k) (none k) ++ later k)
 
 pub sections-back : (sections : List Section) → sections_of (records_from 0 section_records sections) ≡ sections
-sections-back sections = sections-from (records_from 0 section_records sections) [] 0 sections refl (record { size = λ i h. refl; alignment = λ i h. refl; base = λ i h. refl })
+sections-back sections = sections-from (records_from 0 section_records sections) [] 0 sections refl
+    (record { size = λ i h. refl; alignment = λ i h. refl; base = λ i h. refl })

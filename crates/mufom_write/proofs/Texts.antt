@@ -18,7 +18,8 @@ use Rattle.mufom_write.proofs.Indexed.{IsFittingTree, indexed, expression-spells
 length-left : (at n : ℕ) → at + n - at ≡ n
 length-left at n = omega arith
 
-pub text-between : (bytes prefix text back : List ℕ) (at : ℕ) → bytes ≡ prefix ++ (text ++ back) → at ≡ length prefix → slice_range bytes at (at + length text) ≡ text
+pub text-between : (bytes prefix text back : List ℕ) (at : ℕ) → bytes ≡ prefix ++ (text ++ back) → at ≡ length prefix
+    → slice_range bytes at (at + length text) ≡ text
 text-between bytes prefix text back at same place =
     let rest = ap (drop at) same ∙ drop_at prefix (text ++ back) at (sym place) in
     ap (take (at + length text - at)) rest ∙ ap (λ (n : ℕ). take n (text ++ back)) (length-left at (length text)) ∙ take-append_seam text back
@@ -36,10 +37,12 @@ string-between bytes prefix text back at same place =
 
 pub string-last : (bytes prefix text : List ℕ) (at : ℕ) → bytes ≡ prefix ++ w.string shortest text → at ≡ length prefix
     → slice_range bytes (at + length (shortest_lead (length text))) (at + length (shortest_lead (length text)) + length text) ≡ text
-string-last bytes prefix text at same place = string-between bytes prefix text [] at (same ∙ ap (λ (l : List ℕ). prefix ++ l) (sym (append-nil (w.string shortest text)))) place
+string-last bytes prefix text at same place = string-between bytes prefix text [] at (same
+    ∙ ap (λ (l : List ℕ). prefix ++ l) (sym (append-nil (w.string shortest text)))) place
 
 -- the text of an expression gives its tree back
-pub tree-back : (m : Parts) (k : ℕ) (tree : Tree) (text : List ℕ) → IsFittingTree tree → names_outside (counts_of m) tree ≡ false → text ≡ w.expression shortest tree
+pub tree-back : (m : Parts) (k : ℕ) (tree : Tree) (text : List ℕ) → IsFittingTree tree → names_outside (counts_of m) tree ≡ false → text
+    ≡ w.expression shortest tree
     → positioned (written_indexes m k) (the_term (tokens_in text)) ≡ tree
 tree-back m k tree text fits inside same =
     ap (λ (l : List ℕ). positioned (written_indexes m k) (the_term (tokens_in l))) same

@@ -11,5 +11,6 @@ Counts-then a b c xs ys all r p q same =
     let whole : length all ≡ length xs + length ys = ap length same ∙ length-append xs ys in
     record { done = q.done; length = omega (arith, p.length, q.length, whole) }
 
-pub Counts-stopped : (a b : ℕ) (xs ys all : List ℕ) (e : Failed) (r : Result (Unit {0}) Failed) → Counts a b xs (Err e) → IsErr r → all ≡ xs ++ ys → Counts a b all r
+pub Counts-stopped : (a b : ℕ) (xs ys all : List ℕ) (e : Failed) (r : Result (Unit {0}) Failed) → Counts a b xs (Err e) → IsErr r → all ≡ xs ++ ys
+    → Counts a b all r
 Counts-stopped a b xs ys all e r p failed same = let no : Err e ≡ Ok tt = p.done in absurd cc

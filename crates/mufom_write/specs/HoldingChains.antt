@@ -3,7 +3,8 @@ use Rattle.std.proofs.Common.{◌≡◌, ℕ, List, [], ◌++◌, Result, Ok, Er
 use Rattle.std.proofs.lemmas.List.{append-nil}
 use Rattle.mufom_host.specs.declared.world.Failed.{Failed}
 use Rattle.mufom_host.specs.World.{Meaning, Faults, MakingGrowsBy, MakingGrowsByPrefix}
-use Rattle.mufom_host.proofs.Composing.{MakingGrowsBy-refl, MakingGrowsBy-trans, MakingGrowsByPrefix-trans, MakingGrowsByPrefix-more, KeepsAllButMaking-trans, KeepsAllButWrites-trans, later-Rose}
+use Rattle.mufom_host.proofs.Composing.{MakingGrowsBy-refl, MakingGrowsBy-trans, MakingGrowsByPrefix-trans, MakingGrowsByPrefix-more}
+use Rattle.mufom_host.proofs.Composing.{KeepsAllButMaking-trans, KeepsAllButWrites-trans, later-Rose}
 use Rattle.mufom_write.specs.Writing.{Writes}
 use Rattle.mufom_write.specs.Holding.{Passes, Holds}
 
@@ -20,7 +21,8 @@ both : (passed held holds xs ys : List ℕ) → passed ++ holds ≡ held ++ xs �
 both passed held holds xs ys e = sym (append_assoc passed holds ys) ∙ ap (λ l. l ++ ys) e ∙ append_assoc held xs ys
 
 module _ (a b c : Meaning) (f g h : Faults) (held holds keeps xs ys : List ℕ) where
-  passes : (r : Result (Unit {0}) Failed) → Passes a.making b.making held holds xs (Ok tt) → Passes b.making c.making holds keeps ys r → Passes a.making c.making held keeps (xs ++ ys) r
+  passes : (r : Result (Unit {0}) Failed) → Passes a.making b.making held holds xs (Ok tt) → Passes b.making c.making holds keeps ys r
+      → Passes a.making c.making held keeps (xs ++ ys) r
   passes (Ok tt) (first, grows, e) (second, grows_on, e_on) = (
     first ++ second,
     MakingGrowsBy-trans a.making b.making c.making first second grows grows_on,
@@ -44,14 +46,17 @@ module _ (a b c : Meaning) (f g h : Faults) (held holds keeps xs ys : List ℕ) 
     counts = KeepsAllButWrites-trans f g h p.counts q.counts;
   }
 
-  pub Holds-then : (all : List ℕ) (r : Result (Unit {0}) Failed) → Holds a b f g held holds xs (Ok tt) → Holds b c g h holds keeps ys r → all ≡ xs ++ ys → Holds a c f h held keeps all r
+  pub Holds-then : (all : List ℕ) (r : Result (Unit {0}) Failed) → Holds a b f g held holds xs (Ok tt) → Holds b c g h holds keeps ys r → all ≡ xs
+      ++ ys → Holds a c f h held keeps all r
   Holds-then all r p q same = subst (λ (bytes : List ℕ). Holds a c f h held keeps bytes r) (sym same) (rose r p q)
 
 module _ (a b : Meaning) (f g : Faults) (held holds xs ys : List ℕ) where
-  pub Holds-stopped : (all : List ℕ) (e : Failed) (r : Result (Unit {0}) Failed) → Holds a b f g held holds xs (Err e) → IsErr r → all ≡ xs ++ ys → Holds a b f g held holds all r
+  pub Holds-stopped : (all : List ℕ) (e : Failed) (r : Result (Unit {0}) Failed) → Holds a b f g held holds xs (Err e) → IsErr r → all ≡ xs ++ ys
+      → Holds a b f g held holds all r
   Holds-stopped all e (Ok done) p failed same = absurd cc
   Holds-stopped all e (Err e2) p failed same = subst (λ (bytes : List ℕ). Holds a b f g held holds bytes (Err e2)) (sym same) (record {
-    added = subst (λ (l : List ℕ). MakingGrowsByPrefix a.making b.making l) (append_assoc held xs ys) (MakingGrowsByPrefix-more a.making b.making (held ++ xs) ys p.added);
+    added = subst (λ (l : List ℕ). MakingGrowsByPrefix a.making b.making l) (append_assoc held xs ys)
+        (MakingGrowsByPrefix-more a.making b.making (held ++ xs) ys p.added);
     stays = p.stays;
     cause = record { later = p.cause.later; failed = p.cause.failed };
     counts = p.counts;
@@ -67,7 +72,8 @@ module _ (a b : Meaning) (f g : Faults) (keeps bytes : List ℕ) where
 
 -- bytes are put where nothing was held, and what is held is written then
 module _ (a b c : Meaning) (f g h : Faults) (held holds keeps bytes : List ℕ) where
-  pub Holds-through : (r : Result (Unit {0}) Failed) → held ≡ [] → Holds a b f g held holds bytes (Ok tt) → Holds b c g h holds keeps [] r → (r ≡ Ok tt → keeps ≡ []) → Writes a c f h bytes r
+  pub Holds-through : (r : Result (Unit {0}) Failed) → held ≡ [] → Holds a b f g held holds bytes (Ok tt) → Holds b c g h holds keeps [] r
+      → (r ≡ Ok tt → keeps ≡ []) → Writes a c f h bytes r
   Holds-through r nothing p q empty =
       let whole = Holds-then a b c f g h held holds keeps bytes [] bytes r p q (sym (append-nil bytes)) in
       Holds-all a c f h keeps bytes r empty (subst (λ (l : List ℕ). Holds a c f h l keeps bytes r) nothing whole)

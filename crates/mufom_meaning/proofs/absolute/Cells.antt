@@ -1,5 +1,6 @@
 -- The cells that the module of a location loads: those of the runs, section by section.
-use Rattle.std.proofs.Common.{◌≡◌, ◌≢◌, ℕ, zero, suc, ◌+◌, ◌-◌, ◌<◌, ◌≤◌, inl, inr, max, List, [], ◌∷◌, ◌++◌, take, drop, Option, Some, None, refl, sym, ◌∙◌, ap, subst, arith}
+use Rattle.std.proofs.Common.{◌≡◌, ◌≢◌, ℕ, zero, suc, ◌+◌, ◌-◌, ◌<◌, ◌≤◌, inl, inr, max, List, [], ◌∷◌, ◌++◌, take, drop, Option, Some, None, refl}
+use Rattle.std.proofs.Common.{sym, ◌∙◌, ap, subst, arith}
 use Rattle.std.specs.Prelude.{slice_get, flat_map}
 use Rattle.std.specs.List.{enumerate_from}
 use Rattle.mufom_sections.specs.declared.section.Section.{Section}
@@ -16,7 +17,8 @@ cell_at : (a : ℕ) (bytes : List ℕ) (cell : Cell) → In cell (cells_from a b
 cell_at a [] cell h = absurd h
 cell_at a (byte ∷ bytes) cell (inl e) =
     let same : a ≡ cell.0 = ap (λ (x : Cell). x.0) e in let at : cell.0 ≡ a + 0 = omega (arith, same) in (0, ap (λ (x : Cell). Some x.1) e, at)
-cell_at a (byte ∷ bytes) cell (inr h) = let later = cell_at (suc a) bytes cell h in let at : cell.0 ≡ a + suc later.0 = omega (arith, later.2) in (suc later.0, later.1, at)
+cell_at a (byte ∷ bytes) cell (inr h) = let later = cell_at (suc a) bytes cell h in let at : cell.0 ≡ a + suc later.0 = omega (arith, later.2) in
+    (suc later.0, later.1, at)
 
 pub at_cell : (a : ℕ) (bytes : List ℕ) (q byte x : ℕ) → slice_get bytes q ≡ Some byte → x ≡ a + q → In (x, byte) (cells_from a bytes)
 at_cell a [] q byte x e f = absurd cc
@@ -99,7 +101,11 @@ own_after (x ∷ xs) ys h = own_after xs ys h.1
 
 rising_own : (from : ℕ) (cells : List Cell) → AreRising from cells → HaveOwnAddresses cells
 rising_own from [] h = tt
-rising_own from (cell ∷ cells) h = (λ other m e. let late = rising-In (suc cell.0) cells h.1 other m in omega (arith, late, e), rising_own (suc cell.0) cells h.1)
+rising_own from (cell ∷ cells) h = (
+  λ other m e. let late = rising-In (suc cell.0) cells h.1 other m in
+      omega (arith, late, e),
+  rising_own (suc cell.0) cells h.1,
+)
 
 -- rows that are apart have no address twice
 pub apart_own : (runs : List Run) → AreApart 0 runs → HaveOwnAddresses (run_cells runs)
@@ -143,14 +149,16 @@ section_cell runs s cell h = by_base s.1.base refl h where
   by_base (Some base) e h = let there = within_runs base (base + s.1.size) runs cell h in (there.0, (base, e, there.1, there.2))
 
 pub cell_section : (runs : List Run) (s : ℕ × Section) (cell : Cell) → In cell (run_cells runs) → LiesIn s cell.0 → In cell (section_cells runs s)
-cell_section runs s cell h lies = subst (λ o. In cell (cells_at runs s.1.size o)) (sym lies.1) (runs_within lies.0 (lies.0 + s.1.size) runs cell h lies.2 lies.3)
+cell_section runs s cell h lies = subst (λ o. In cell (cells_at runs s.1.size o)) (sym lies.1)
+    (runs_within lies.0 (lies.0 + s.1.size) runs cell h lies.2 lies.3)
 
 -- no address lies in two of the sections
 abbrev pub AreSeparate : List (ℕ × Section) → Type 0
 AreSeparate [] = Unit {0}
 AreSeparate (s ∷ sections) = ((t : ℕ × Section) → In t sections → (x : ℕ) → LiesIn s x → LiesIn t x → ⊥) × AreSeparate sections
 
-pub absolute_own : (runs : List Run) → HaveOwnAddresses (run_cells runs) → (sections : List (ℕ × Section)) → AreSeparate sections → HaveOwnAddresses (absolute_cells runs sections)
+pub absolute_own : (runs : List Run) → HaveOwnAddresses (run_cells runs) → (sections : List (ℕ × Section)) → AreSeparate sections
+    → HaveOwnAddresses (absolute_cells runs sections)
 absolute_own runs h [] apart = tt
 absolute_own runs h (s ∷ sections) apart =
     own_append (section_cells runs s) (absolute_cells runs sections) (section_own runs h s) (absolute_own runs h sections apart.1) (λ x y m n e.

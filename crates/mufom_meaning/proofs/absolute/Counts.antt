@@ -1,5 +1,6 @@
 -- The module of a location loads as many bytes as there are cells in it, and no more than the list loads.
-use Rattle.std.proofs.Common.{◌≡◌, ◌≢◌, ℕ, suc, ◌+◌, ◌≤◌, inl, inr, List, [], ◌∷◌, map, length, Option, Some, None, refl, sym, ◌∙◌, ap, arith, length-append, zero-add}
+use Rattle.std.proofs.Common.{◌≡◌, ◌≢◌, ℕ, suc, ◌+◌, ◌≤◌, inl, inr, List, [], ◌∷◌, map, length, Option, Some, None, refl, sym, ◌∙◌, ap, arith}
+use Rattle.std.proofs.Common.{length-append, zero-add}
 use Rattle.std.specs.Prelude.{flat_map}
 use Rattle.std.proofs.lemmas.List.Sums.{sum_by-append, sum_by-cons}
 use Rattle.mufom_expr.specs.Tree.{number}
@@ -17,7 +18,8 @@ use Rattle.mufom_meaning.specs.Counts.{step_length, lengths_of_steps}
 use Rattle.mufom_meaning.specs.Fields.{number_bytes, field_number, field_bytes}
 use Rattle.mufom_meaning.specs.Steps.{Step, counter_step, item_step, counter, item_reading, readings_after}
 use Rattle.mufom_meaning.specs.AddressMap.{Cell, cells_from, field_cells, step_cells, address_map}
-use Rattle.mufom_meaning.specs.Absolute.{literal_limit, chunks, run_within, row_loads, loads_of_bytes, loads_between, with_section, section_loads_at, section_loads}
+use Rattle.mufom_meaning.specs.Absolute.{literal_limit, chunks, run_within, row_loads, loads_of_bytes, loads_between, with_section, section_loads_at}
+use Rattle.mufom_meaning.specs.Absolute.{section_loads}
 use Rattle.mufom_meaning.proofs.Members.{In}
 use Rattle.mufom_meaning.proofs.locations.CellRows.{HaveOwnAddresses}
 use Rattle.mufom_meaning.proofs.locations.OwnAddresses.{length-number_bytes, length-in_byte_order}
@@ -33,12 +35,14 @@ length-cells_from a (byte ∷ bytes) = ap suc (length-cells_from (suc a) bytes)
 literals_length : (ps : List (List ℕ)) → lengths_loaded (map (λ p. One (Literal p)) ps) ≡ length (together ps)
 literals_length [] = refl
 literals_length (p ∷ ps) =
-    sum_by-cons length_loaded (One (Literal p)) (map (λ p. One (Literal p)) ps) ∙ ap (λ n. length p + n) (literals_length ps) ∙ sym (length-append p (together ps))
+    sum_by-cons length_loaded (One (Literal p)) (map (λ p. One (Literal p)) ps) ∙ ap (λ n. length p + n) (literals_length ps)
+    ∙ sym (length-append p (together ps))
 
 row_length : (n : ℕ) (row : Run) → lengths_loaded (row_loads n row) ≡ length row.bytes
 row_length n row =
     sum_by-cons length_loaded (SetPc n (number row.address)) (map (λ p. One (Literal p)) (chunks literal_limit row.bytes))
-    ∙ (let none = literals_length (chunks literal_limit row.bytes) in let all = ap length (chunks_together 65534 (length row.bytes) row.bytes (omega arith)) in omega (arith, none, all))
+    ∙ (let none = literals_length (chunks literal_limit row.bytes) in let all =
+    ap length (chunks_together 65534 (length row.bytes) row.bytes (omega arith)) in omega (arith, none, all))
 
 run_length : (n : ℕ) (row : Run) → lengths_loaded (loads_of_bytes n row row.bytes) ≡ length row.bytes
 run_length n row = by_bytes row.bytes refl where
@@ -66,16 +70,19 @@ section_length runs t = by_base t.1.base where
   by_base (Some base) = with_length t.0 (loads_between t.0 runs base (base + t.1.size)) ∙ runs_length t.0 base (base + t.1.size) runs
 
 -- as many bytes as cells
-pub absolute_length : (runs : List Run) (sections : List (ℕ × Section)) → lengths_loaded (flat_map (section_loads runs) sections) ≡ length (absolute_cells runs sections)
+pub absolute_length : (runs : List Run) (sections : List (ℕ × Section)) → lengths_loaded (flat_map (section_loads runs) sections)
+    ≡ length (absolute_cells runs sections)
 absolute_length runs [] = refl
 absolute_length runs (t ∷ sections) =
     let own = section_length runs t in let later = absolute_length runs sections in
-    sum_by-append length_loaded (section_loads runs t) (flat_map (section_loads runs) sections) ∙ (λ i. own i + later i) ∙ sym (length-append (section_cells runs t) (absolute_cells runs sections))
+    sum_by-append length_loaded (section_loads runs t) (flat_map (section_loads runs) sections) ∙ (λ i. own i + later i)
+    ∙ sym (length-append (section_cells runs t) (absolute_cells runs sections))
 
 -- ---- of any list
 
 module _ (order : Order) (s : Setting) where
-  item_cells_count : (site : Sited) (section : ℕ) (o : Option ℕ) (item : Item) → length (step_cells order s.modulus (item_reading s site section o item)) ≤ byte_count item
+  item_cells_count : (site : Sited) (section : ℕ) (o : Option ℕ) (item : Item)
+      → length (step_cells order s.modulus (item_reading s site section o item)) ≤ byte_count item
   item_cells_count site section None (Literal bytes) = omega arith
   item_cells_count site section (Some at) (Literal bytes) = let long = length-cells_from at bytes in omega (arith, long)
   item_cells_count site section None (Field kind t size) = omega arith
@@ -91,12 +98,14 @@ module _ (order : Order) (s : Setting) where
   pub cells_count : (earlier more : List Step) → length (address_map order s.modulus (readings_after s earlier more)) ≤ lengths_of_steps more
   cells_count earlier [] = omega arith
   cells_count earlier (counter_step site section t ∷ more) =
-      let later = cells_count (counter_step site section t ∷ earlier) more in let whole = sum_by-cons step_length (counter_step site section t) more in omega (arith, later, whole)
+      let later = cells_count (counter_step site section t ∷ earlier) more in let whole =
+      sum_by-cons step_length (counter_step site section t) more in omega (arith, later, whole)
   cells_count earlier (item_step site section item ∷ more) =
       let later = cells_count (item_step site section item ∷ earlier) more in
       let whole = sum_by-cons step_length (item_step site section item) more in
       let own = item_cells_count site section (counter s earlier section) item in
-      let joined = length-append (step_cells order s.modulus (item_reading s site section (counter s earlier section) item)) (address_map order s.modulus (readings_after s (item_step site section item ∷ earlier) more)) in
+      let joined = length-append (step_cells order s.modulus (item_reading s site section (counter s earlier section) item))
+      (address_map order s.modulus (readings_after s (item_step site section item ∷ earlier) more)) in
       omega (arith, later, whole, own, joined)
 
 -- ---- fewer cells

@@ -1,5 +1,6 @@
 -- What the entries of the module of a location weigh, against those that they come from.
-use Rattle.std.proofs.Common.{◌≡◌, ℕ, zero, suc, ◌+◌, ◌*◌, ◌-◌, ◌≤◌, ◌⊎◌, inl, inr, List, [], ◌∷◌, ◌++◌, map, take, drop, filter, flat_map, length, Option, Some, None, Bool, true, false, not, cond, refl, sym, ◌∙◌, ap, arith, sum_by, length-append}
+use Rattle.std.proofs.Common.{◌≡◌, ℕ, zero, suc, ◌+◌, ◌*◌, ◌-◌, ◌≤◌, ◌⊎◌, inl, inr, List, [], ◌∷◌, ◌++◌, map, take, drop, filter, flat_map, length}
+use Rattle.std.proofs.Common.{Option, Some, None, Bool, true, false, not, cond, refl, sym, ◌∙◌, ap, arith, sum_by, length-append}
 use Rattle.std.specs.Prelude.{option_map, slice_get, nat_lt, ◌==◌, if◌then◌else◌}
 use Rattle.std.specs.List.{enumerate_from}
 use Rattle.std.proofs.lemmas.List.{take-append-drop}
@@ -16,14 +17,16 @@ use Rattle.mufom_debug.specs.declared.item.BlockHead.{BlockHead}
 use Rattle.mufom_debug.specs.declared.item.BlockHead.TheVariants as heads
 use Rattle.mufom_debug.specs.Marks.{DebugMark, block_begin, block_end, name_mark, note_mark, value_mark, marks_of}
 use Rattle.mufom_module.specs.declared.module.Parts.{Parts}
-use Rattle.mufom_module.specs.Weights.{token_weight, expression_weight, section_letters_weight, base_weight, section_weight, notes_weight, public_weight, weak_weight, reference_weight, head_weight, mark_weight, load_weight}
+use Rattle.mufom_module.specs.Weights.{token_weight, expression_weight, section_letters_weight, base_weight, section_weight, notes_weight}
+use Rattle.mufom_module.specs.Weights.{public_weight, weak_weight, reference_weight, head_weight, mark_weight, load_weight}
 use Rattle.mufom_meaning.specs.declared.located.Run.{Run}
 use Rattle.mufom_meaning.specs.declared.located.PublicValue.{PublicValue}
 use Rattle.mufom_meaning.specs.Flat.{Sited, SitedPublic, sited_from, name_count, is_common, common_size}
 use Rattle.mufom_meaning.specs.Values.{Setting, value}
 use Rattle.mufom_meaning.specs.Readings.{PublicReading, public_reading, head_reading, mark_reading}
 use Rattle.mufom_meaning.specs.Location.{placed_section, located_public, located_mark, located_head}
-use Rattle.mufom_meaning.specs.Absolute.{absolute_public, chunks_within, literal_limit, chunks, run_within, row_loads, loads_of_bytes, loads_between, with_section, section_loads_at, section_loads}
+use Rattle.mufom_meaning.specs.Absolute.{absolute_public, chunks_within, literal_limit, chunks, run_within, row_loads, loads_of_bytes, loads_between}
+use Rattle.mufom_meaning.specs.Absolute.{with_section, section_loads_at, section_loads}
 use Rattle.mufom_meaning.specs.AddressMap.{cells_from}
 use Rattle.mufom_meaning.proofs.Choices.{of_lt}
 use Rattle.mufom_meaning.proofs.Members.{In}
@@ -34,7 +37,8 @@ use Rattle.mufom_meaning.proofs.absolute.Counts.{length-cells_from}
 pub at_least_number : (t : Tree) → 9 ≤ expression_weight t
 at_least_number (number n) = omega arith
 at_least_number (variable l n) = omega arith
-at_least_number (one f a) = let own = at_least_number a in let all = sum_by-append token_weight (tokens_of a) (Fun (function_of_one f) ∷ []) in omega (arith, own, all)
+at_least_number (one f a) = let own = at_least_number a in let all = sum_by-append token_weight (tokens_of a) (Fun (function_of_one f) ∷ []) in
+    omega (arith, own, all)
 at_least_number (two f a b) =
     let own = at_least_number a in
     let all = sum_by-append token_weight (tokens_of a ++ tokens_of b) (Fun (function_of_two f) ∷ []) in
@@ -61,7 +65,8 @@ pub lighter-sited : {X Y : Type 0} (w : Y → ℕ) (v : X → ℕ) (own : Parts 
 lighter-sited w v own into lighter s p d [] = omega arith
 lighter-sited {X} {Y} w v own into lighter s p d (m ∷ ms) =
     let site : Sited = record { parts = m; first_section = s; first_public = p; first_name = d } in
-    let rest = flat_map (λ site. map (into site) (own site.parts)) (sited_from (s + length m.sections) (p + length m.names.publics) (d + name_count (marks_of m.debug)) ms) in
+    let rest = flat_map (λ site. map (into site) (own site.parts))
+    (sited_from (s + length m.sections) (p + length m.names.publics) (d + name_count (marks_of m.debug)) ms) in
     let first = lighter-map w v (into site) (lighter site) (own m) in
     let later = lighter-sited w v own into lighter (s + length m.sections) (p + length m.names.publics) (d + name_count (marks_of m.debug)) ms in
     let a = sum_by-append w (map (into site) (own m)) rest in
@@ -128,11 +133,13 @@ module _ (s : Setting) (site : Sited) where
   head-lighter heads.Module = omega arith
   head-lighter (heads.Source numbers) = omega arith
   head-lighter (heads.Global stack type_index offset) = by_value (value s site None offset) (at_least_number offset) where
-    by_value : (o : Option ℕ) → 9 ≤ expression_weight offset → located_head_weight (option_map (λ n. heads.Global stack type_index (number n)) o) ≤ 18 + expression_weight offset
+    by_value : (o : Option ℕ) → 9 ≤ expression_weight offset → located_head_weight
+        (option_map (λ n. heads.Global stack type_index (number n)) o) ≤ 18 + expression_weight offset
     by_value None own = omega arith
     by_value (Some n) own = omega (arith, own)
   head-lighter (heads.Local stack type_index offset) = by_value (value s site None offset) (at_least_number offset) where
-    by_value : (o : Option ℕ) → 9 ≤ expression_weight offset → located_head_weight (option_map (λ n. heads.Local stack type_index (number n)) o) ≤ 18 + expression_weight offset
+    by_value : (o : Option ℕ) → 9 ≤ expression_weight offset → located_head_weight
+        (option_map (λ n. heads.Local stack type_index (number n)) o) ≤ 18 + expression_weight offset
     by_value None own = omega arith
     by_value (Some n) own = omega (arith, own)
   head-lighter (heads.Section section_type section offset) = by_value (value s site None offset) (at_least_number offset) where
@@ -152,7 +159,8 @@ module _ (s : Setting) (site : Sited) where
   mark-lighter (name_mark name) = omega arith
   mark-lighter (note_mark name note) = omega arith
   mark-lighter (value_mark name t) = by_value (value s site None t) (at_least_number t) where
-    by_value : (o : Option ℕ) → 9 ≤ expression_weight t → located_weight (option_map (λ n. value_mark (site.first_name + name) (number n)) o) ≤ 11 + expression_weight t
+    by_value : (o : Option ℕ) → 9 ≤ expression_weight t → located_weight
+        (option_map (λ n. value_mark (site.first_name + name) (number n)) o) ≤ 11 + expression_weight t
     by_value None own = omega arith
     by_value (Some n) own = omega (arith, own)
 
@@ -174,12 +182,14 @@ asked-lighter (r ∷ rs) = by_case (is_common r) refl (asked-lighter rs) where
   by_case : (b : Bool) → is_common r ≡ b → sum_by asked_weight (filter is_common rs) ≤ sum_by reference_weight rs
       → sum_by asked_weight (cond b (r ∷ filter is_common rs) (filter is_common rs)) ≤ sum_by reference_weight (r ∷ rs)
   by_case true e rest =
-      let a = sum_by-cons asked_weight r (filter is_common rs) in let b = sum_by-cons reference_weight r rs in let own = common-heavy r e in omega (arith, a, b, own, rest)
+      let a = sum_by-cons asked_weight r (filter is_common rs) in let b = sum_by-cons reference_weight r rs in let own = common-heavy r e in
+      omega (arith, a, b, own, rest)
   by_case false e rest = let b = sum_by-cons reference_weight r rs in omega (arith, b, rest)
 
 -- ---- loads
 
-literals-lighter : (size n : ℕ) (bytes : List ℕ) → sum_by load_weight (map (λ chunk. One (Literal chunk)) (chunks_within n (suc size) bytes)) ≤ 11 * length bytes
+literals-lighter : (size n : ℕ) (bytes : List ℕ) → sum_by load_weight
+    (map (λ chunk. One (Literal chunk)) (chunks_within n (suc size) bytes)) ≤ 11 * length bytes
 literals-lighter size zero bytes = omega arith
 literals-lighter size (suc n) [] = omega arith
 literals-lighter size (suc n) (byte ∷ bytes) =
@@ -222,7 +232,8 @@ weightless (One item ∷ loads) e = let a = sum_by-cons load_weight (One item) l
 weightless (Repeat count items ∷ loads) e = let a = sum_by-cons load_weight (Repeat count items) loads in absurd (omega (arith, a, e))
 
 -- the loads of a section, which is made the current one where it has cells
-with-lighter : (n room cells : ℕ) (loads : List Load) → sum_by load_weight loads ≤ 31 * cells → (cells ≡ 0) ⊎ (10 ≤ room) → sum_by load_weight (with_section n loads) ≤ room + 31 * cells
+with-lighter : (n room cells : ℕ) (loads : List Load) → sum_by load_weight loads ≤ 31 * cells → (cells ≡ 0) ⊎ (10 ≤ room)
+    → sum_by load_weight (with_section n loads) ≤ room + 31 * cells
 with-lighter n room cells [] light some = omega arith
 with-lighter n room cells (load ∷ loads) light (inr some) = let a = sum_by-cons load_weight (SetSection n) (load ∷ loads) in omega (arith, a, light, some)
 with-lighter n room cells (load ∷ loads) light (inl none) =
@@ -231,10 +242,12 @@ with-lighter n room cells (load ∷ loads) light (inl none) =
 pub section-lighter : (runs : List Run) (t : ℕ × Section) (room : ℕ) → (length (section_cells runs t) ≡ 0) ⊎ (10 ≤ room)
     → sum_by load_weight (section_loads runs t) ≤ room + 31 * length (section_cells runs t)
 section-lighter runs t room = by_base t.1.base where
-  by_base : (o : Option ℕ) → (length (cells_at runs t.1.size o) ≡ 0) ⊎ (10 ≤ room) → sum_by load_weight (section_loads_at t.0 runs t.1 o) ≤ room + 31 * length (cells_at runs t.1.size o)
+  by_base : (o : Option ℕ) → (length (cells_at runs t.1.size o) ≡ 0) ⊎ (10 ≤ room)
+      → sum_by load_weight (section_loads_at t.0 runs t.1 o) ≤ room + 31 * length (cells_at runs t.1.size o)
   by_base None some = omega arith
   by_base (Some base) some =
-      with-lighter t.0 room (length (cells_within base (base + t.1.size) runs)) (loads_between t.0 runs base (base + t.1.size)) (between-lighter t.0 base (base + t.1.size) runs) some
+      with-lighter t.0 room (length (cells_within base (base + t.1.size) runs)) (loads_between t.0 runs base (base + t.1.size))
+      (between-lighter t.0 base (base + t.1.size) runs) some
 
 -- room for the first n of a list
 abbrev pub room_at : ℕ → ℕ → ℕ
@@ -247,7 +260,8 @@ room-sum n k (x ∷ sections) =
     let rest = room-sum n (k + 1) sections in
     by_case (nat_lt k n) refl a rest where
       by_case : (b : Bool) → nat_lt k n ≡ b
-          → sum_by (λ (t : ℕ × Section). room_at n t.0) ((k, x) ∷ enumerate_from (k + 1) sections) ≡ (if b then 10 else 0) + sum_by (λ (t : ℕ × Section). room_at n t.0) (enumerate_from (k + 1) sections)
+          → sum_by (λ (t : ℕ × Section). room_at n t.0) ((k, x) ∷ enumerate_from (k + 1) sections)
+          ≡ (if b then 10 else 0) + sum_by (λ (t : ℕ × Section). room_at n t.0) (enumerate_from (k + 1) sections)
           → sum_by (λ (t : ℕ × Section). room_at n t.0) (enumerate_from (k + 1) sections) ≤ 10 * (n - (k + 1))
           → sum_by (λ (t : ℕ × Section). room_at n t.0) ((k, x) ∷ enumerate_from (k + 1) sections) ≤ 10 * (n - k)
       by_case true e a rest = let less = of_lt k n e in omega (arith, a, rest, less)
@@ -255,7 +269,8 @@ room-sum n k (x ∷ sections) =
 
 pub loads-lighter : (runs : List Run) (n : ℕ) (sections : List (ℕ × Section))
     → ((t : ℕ × Section) → In t sections → (length (section_cells runs t) ≡ 0) ⊎ (10 ≤ room_at n t.0))
-    → sum_by load_weight (flat_map (section_loads runs) sections) ≤ sum_by (λ (t : ℕ × Section). room_at n t.0) sections + 31 * length (absolute_cells runs sections)
+    → sum_by load_weight (flat_map (section_loads runs) sections) ≤ sum_by (λ (t : ℕ × Section). room_at n t.0) sections + 31 * length
+    (absolute_cells runs sections)
 loads-lighter runs n [] some = omega arith
 loads-lighter runs n (t ∷ sections) some =
     let own = section-lighter runs t (room_at n t.0) (some t (inl refl)) in

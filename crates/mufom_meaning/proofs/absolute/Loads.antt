@@ -9,10 +9,12 @@ use Rattle.mufom_loads.specs.declared.load.Item.TheVariants.{Literal, Field}
 use Rattle.mufom_loads.specs.declared.load.Load.{Load}
 use Rattle.mufom_loads.specs.declared.load.Load.TheVariants.{SetSection, SetPc, One, Repeat}
 use Rattle.mufom_module.specs.Contents.{load_any, any_item, placed_from}
-use Rattle.mufom_module.specs.Defects.{counts_of, names_outside, has_bad_place, misplaces_counter, loads_nowhere, is_long_literal, has_bad_size, has_other_counter, counter_of}
+use Rattle.mufom_module.specs.Defects.{counts_of, names_outside, has_bad_place, misplaces_counter, loads_nowhere, is_long_literal, has_bad_size}
+use Rattle.mufom_module.specs.Defects.{has_other_counter, counter_of}
 use Rattle.mufom_module.specs.declared.module.Parts.{Parts}
 use Rattle.mufom_meaning.specs.declared.located.Run.{Run}
-use Rattle.mufom_meaning.specs.Absolute.{literal_limit, chunks_within, chunks, run_within, row_loads, loads_of_bytes, loads_between, with_section, section_loads_at, section_loads}
+use Rattle.mufom_meaning.specs.Absolute.{literal_limit, chunks_within, chunks, run_within, row_loads, loads_of_bytes, loads_between, with_section}
+use Rattle.mufom_meaning.specs.Absolute.{section_loads_at, section_loads}
 use Rattle.mufom_meaning.proofs.Choices.{two_false, not_lt, not_le}
 use Rattle.mufom_meaning.proofs.Members.{In, map-In, flat_map-In}
 
@@ -61,7 +63,8 @@ numbered_below k (s ∷ sections) t (inl e) = let same : k ≡ t.0 = ap (λ (x :
 numbered_below k (s ∷ sections) t (inr h) = let later = numbered_below (k + 1) sections t h in omega (arith, later)
 
 -- each load is plain
-pub loads_plain : (runs : List Run) (sections : List Section) (load : Load) → In load (flat_map (section_loads runs) (enumerate_from 0 sections)) → IsPlainLoad (length sections) load
+pub loads_plain : (runs : List Run) (sections : List Section) (load : Load) → In load (flat_map (section_loads runs) (enumerate_from 0 sections))
+    → IsPlainLoad (length sections) load
 loads_plain runs sections load h =
     let there = flat_map-In (section_loads runs) load (enumerate_from 0 sections) h in
     let below = numbered_below 0 sections there.0 there.1 in
@@ -71,7 +74,8 @@ loads_plain runs sections load h =
 
 pub plain_place : (m : Parts) (load : Load) → IsPlainLoad (length m.sections) load → has_bad_place (counts_of m) load ≡ false
 plain_place m (SetSection n) h = two_false (nat_le (length m.sections) n) false (not_le (length m.sections) n h) refl
-plain_place m (SetPc n t) h = two_false (nat_le (length m.sections) n) (names_outside (counts_of m) t) (not_le (length m.sections) n h.0) (ap (names_outside (counts_of m)) h.1.1)
+plain_place m (SetPc n t) h = two_false (nat_le (length m.sections) n) (names_outside (counts_of m) t) (not_le (length m.sections) n h.0)
+    (ap (names_outside (counts_of m)) h.1.1)
 plain_place m (One (Literal bytes)) h = refl
 plain_place m (One (Field kind t size)) h = absurd h
 plain_place m (Repeat count items) h = absurd h
@@ -113,7 +117,8 @@ somewhere n (SetPc m t ∷ loads) = somewhere n loads
 somewhere n (One item ∷ loads) = somewhere n loads
 somewhere n (Repeat count items ∷ loads) = somewhere n loads
 
-with_somewhere : (n : ℕ) (own rest : List Load) → list_any loads_nowhere (placed_from None rest) ≡ false → list_any loads_nowhere (placed_from None (with_section n own ++ rest)) ≡ false
+with_somewhere : (n : ℕ) (own rest : List Load) → list_any loads_nowhere (placed_from None rest) ≡ false
+    → list_any loads_nowhere (placed_from None (with_section n own ++ rest)) ≡ false
 with_somewhere n [] rest h = h
 with_somewhere n (load ∷ own) rest h = somewhere n (load ∷ (own ++ rest))
 
@@ -122,6 +127,7 @@ at_somewhere : (n : ℕ) (runs : List Run) (section : Section) (o : Option ℕ) 
 at_somewhere n runs section None rest h = h
 at_somewhere n runs section (Some base) rest h = with_somewhere n (loads_between n runs base (base + section.size)) rest h
 
-pub all_somewhere : (runs : List Run) (sections : List (ℕ × Section)) → list_any loads_nowhere (placed_from None (flat_map (section_loads runs) sections)) ≡ false
+pub all_somewhere : (runs : List Run) (sections : List (ℕ × Section))
+    → list_any loads_nowhere (placed_from None (flat_map (section_loads runs) sections)) ≡ false
 all_somewhere runs [] = refl
 all_somewhere runs (t ∷ sections) = at_somewhere t.0 runs t.1 t.1.base (flat_map (section_loads runs) sections) (all_somewhere runs sections)

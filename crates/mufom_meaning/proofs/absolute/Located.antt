@@ -1,5 +1,6 @@
 -- The module of a location, located alone, is located as itself.
-use Rattle.std.proofs.Common.{◌≡◌, ℕ, zero, suc, ◌+◌, ◌<◌, ◌≤◌, inl, inr, List, [], ◌∷◌, ◌++◌, map, length, Option, Some, None, true, false, refl, sym, ◌∙◌, ap, subst, arith, append-nil, zero-add}
+use Rattle.std.proofs.Common.{◌≡◌, ℕ, zero, suc, ◌+◌, ◌<◌, ◌≤◌, inl, inr, List, [], ◌∷◌, ◌++◌, map, length, Option, Some, None, true, false, refl}
+use Rattle.std.proofs.Common.{sym, ◌∙◌, ap, subst, arith, append-nil, zero-add}
 use Rattle.std.specs.Prelude.{slice_get, option_map, option_to_list, IsTrue}
 use Rattle.std.specs.List.{enumerate_from}
 use Rattle.mufom_expr.specs.Tree.{Tree, number}
@@ -109,7 +110,8 @@ module _ (m : Parts) (more : List Parts) (plan : Plan) (r : LocatedParts) (v : A
   public_below : (p : PublicValue) → In p r.publics → p.value < again.modulus
   unfolding readings
   public_below p k =
-      let there = map-In (public_reading s) (located_public p) (flat_publics ms) (subst (In (located_public p)) h.publics (In-map located_public p r.publics k)) in
+      let there = map-In (public_reading s) (located_public p) (flat_publics ms)
+      (subst (In (located_public p)) h.publics (In-map located_public p r.publics k)) in
       below there.0.site there.0.entry.value p.value (ap (λ (x : PublicReading). x.value) there.2)
 
   publics_again : (ps : List PublicValue) → ((p : PublicValue) → In p ps → p.value < again.modulus)
@@ -129,14 +131,16 @@ module _ (m : Parts) (more : List Parts) (plan : Plan) (r : LocatedParts) (v : A
   start_below : (n : ℕ) → r.start ≡ Some n → n < again.modulus
   unfolding readings
   start_below n e =
-      let among : In (Some n) (map (λ v. Some v) (option_to_list r.start)) = subst (λ o. In (Some n) (map (λ v. Some v) (option_to_list o))) (sym e) (inl refl) in
+      let among : In (Some n) (map (λ v. Some v) (option_to_list r.start)) =
+      subst (λ o. In (Some n) (map (λ v. Some v) (option_to_list o))) (sym e) (inl refl) in
       let there = flat_map-In (λ site. map (value s site None) (option_to_list site.parts.start)) (Some n) (sited ms) (subst (In (Some n)) h.start among) in
       let own = map-In (value s there.0 None) (Some n) (option_to_list there.0.parts.start) there.2 in below there.0 own.0 n own.2
 
   start_there : map (λ v. Some v) (option_to_list r.start) ≡ (readings alone (planned_bases alone no_regions)).starts
   unfolding readings
   start_there = by_start r.start refl where
-    by_start : (o : Option ℕ) → r.start ≡ o → map (λ v. Some v) (option_to_list o) ≡ map (value again home None) (option_to_list (option_map (λ n. number n) o)) ++ []
+    by_start : (o : Option ℕ) → r.start ≡ o → map (λ v. Some v) (option_to_list o)
+        ≡ map (value again home None) (option_to_list (option_map (λ n. number n) o)) ++ []
     by_start None e = refl
     by_start (Some n) e = ap (λ o. o ∷ []) (sym (number_value again home None n (start_below n e)))
 
@@ -150,7 +154,8 @@ module _ (m : Parts) (more : List Parts) (plan : Plan) (r : LocatedParts) (v : A
       let own = map-In (mark_reading s site.0) there.0 (marks_of site.0.parts.debug) site.2 in
       mark_numbered s again home refl refl below site.0 own.0 mark (ap located_mark own.2 ∙ there.2)
 
-  marks_again : (marks : List DebugMark) → ((mark : DebugMark) → In mark marks → In mark (marks_of r.debug)) → map (λ mark. Some mark) marks ≡ map located_mark (map (mark_reading again home) marks)
+  marks_again : (marks : List DebugMark) → ((mark : DebugMark) → In mark marks → In mark (marks_of r.debug)) → map (λ mark. Some mark) marks
+      ≡ map located_mark (map (mark_reading again home) marks)
   marks_again [] among = refl
   marks_again (mark ∷ marks) among =
       let own = (numbered_mark mark (among mark (inl refl))).read in let later = marks_again marks (λ other k. among other (inr k)) in λ i. sym own i ∷ later i
@@ -164,7 +169,8 @@ module _ (m : Parts) (more : List Parts) (plan : Plan) (r : LocatedParts) (v : A
   -- a public of the module is a number
   number_public : (q : SitedPublic) → In q (flat_publics alone) → (n : ℕ) × (q.entry.value ≡ number n)
   number_public q k =
-      let there = map-In (λ entry. record { site = home; entry = entry }) q (map absolute_public r.publics) (In-nil q (map (λ entry. record { site = home; entry = entry }) (map absolute_public r.publics)) k) in
+      let there = map-In (λ entry. record { site = home; entry = entry }) q (map absolute_public r.publics)
+      (In-nil q (map (λ entry. record { site = home; entry = entry }) (map absolute_public r.publics)) k) in
       let own = map-In absolute_public there.0 r.publics there.1 in
       (own.0.value, ap (λ (q : SitedPublic). q.entry.value) (sym there.2) ∙ ap (λ (p : Public). p.value) (sym own.2))
 
@@ -215,7 +221,8 @@ module _ (m : Parts) (more : List Parts) (plan : Plan) (r : LocatedParts) (v : A
   leads_nowhere zero name site t there = refl
   leads_nowhere (suc k) name site t there = ap (leads_within (setting alone no_bases) (suc k) name site) there.1
 
-  no_circle : (k : ℕ) (name : List ℕ) (o : Option SitedPublic) → first_named (flat_publics alone) name ≡ o → ¬ IsTrue (leads_from (setting alone no_bases) k name o)
+  no_circle : (k : ℕ) (name : List ℕ) (o : Option SitedPublic) → first_named (flat_publics alone) name ≡ o
+      → ¬ IsTrue (leads_from (setting alone no_bases) k name o)
   no_circle k name None e f = cc
   no_circle k name (Some q) e f =
       let there = (find_at _ (flat_publics alone) q e).0 in
@@ -245,7 +252,8 @@ module _ (m : Parts) (more : List Parts) (plan : Plan) (r : LocatedParts) (v : A
   all_alone : extended_sections alone no_regions ≡ located_sections ms plan
   all_alone = append-nil (flat_sections alone) ∙ placed_alone m more plan r v h
 
-  stays : (i : ℕ) (x : Section) → slice_get (extended_sections alone no_regions) i ≡ Some x → record x { absolute = true; base = slice_get (base_list alone no_regions) (0 + i) } ≡ x
+  stays : (i : ℕ) (x : Section) → slice_get (extended_sections alone no_regions) i ≡ Some x
+      → record x { absolute = true; base = slice_get (base_list alone no_regions) (0 + i) } ≡ x
   stays i x e =
       let p = placing_there plan (flat_sections ms) (placed_commons ms plan) i x (ap (λ sections. slice_get sections i) (sym all_alone) ∙ e) in
       let own : x.base ≡ Some (site_of plan (flat_sections ms) (placed_commons ms plan) (i, p.first)).base = ap (λ (y : Section). y.base) p.same in

@@ -1,5 +1,6 @@
 -- A value of a location, as the one number of an expression, has that value again.
-use Rattle.std.proofs.Common.{◌≡◌, ℕ, zero, suc, ◌+◌, ◌*◌, ◌^◌, ◌<◌, ◌≤◌, inl, inr, List, [], ◌∷◌, length, Option, Some, None, true, false, not, refl, sym, ◌∙◌, ap, subst, arith, zero-add}
+use Rattle.std.proofs.Common.{◌≡◌, ℕ, zero, suc, ◌+◌, ◌*◌, ◌^◌, ◌<◌, ◌≤◌, inl, inr, List, [], ◌∷◌, length, Option, Some, None, true, false, not, refl}
+use Rattle.std.proofs.Common.{sym, ◌∙◌, ap, subst, arith, zero-add}
 use Rattle.std.specs.Prelude.{option_map, IfSome}
 use Rattle.std.proofs.Math.Nat.{mod-eq_of_lt}
 use Rattle.mufom_expr.specs.Tree.{Tree, number}
@@ -30,11 +31,13 @@ width_positive m more v = by_units m.maus refl (no_defect m v.0 d.BadMaus) where
   by_units (suc n) e h = omega (arith, e)
 
 -- a value is below the address space
-pub value_below : (ms : List Parts) (bs : Bases) → 1 ≤ width ms → (site : Sited) (pc : Option ℕ) (t : Tree) (v : ℕ) → value (setting ms bs) site pc t ≡ Some v → v < 2 ^ width ms
+pub value_below : (ms : List Parts) (bs : Bases) → 1 ≤ width ms → (site : Sited) (pc : Option ℕ) (t : Tree) (v : ℕ) → value (setting ms bs) site pc t
+    ≡ Some v → v < 2 ^ width ms
 value_below ms bs low site pc t v e =
     let s = setting ms bs in
     let small = value_small (width ms) low (environment s (worth_below s (length s.publics)) site pc) t in
-    let there : value_at (2 ^ width ms) (environment s (worth_below s (length s.publics)) site pc) t ≡ Some v = sym (within_is s (length s.publics) site pc t) ∙ e in
+    let there : value_at (2 ^ width ms) (environment s (worth_below s (length s.publics)) site pc) t ≡ Some v =
+    sym (within_is s (length s.publics) site pc t) ∙ e in
     subst (λ o. IfSome o (λ v. v < 2 ^ width ms)) there small
 
 -- a number has itself as its value
@@ -67,19 +70,22 @@ module _ (s again : Setting) (home : Sited) (first : home.first_section ≡ 0) (
   renamed k = ap (λ n. n + k) name ∙ zero-add k
 
   -- a block's head that is located from another
-  head_numbered : (site : Sited) (head : BlockHead) (title : List ℕ) (located : BlockHead) → located_head (head_reading s site head) ≡ Some located → IsNumbered (block_begin located title)
+  head_numbered : (site : Sited) (head : BlockHead) (title : List ℕ) (located : BlockHead) → located_head (head_reading s site head) ≡ Some located
+      → IsNumbered (block_begin located title)
   head_numbered site heads.Module title located e =
       subst (λ h. IsNumbered (block_begin h title)) (some_same heads.Module located e) (record { read = refl; numbers = λ t h. absurd h })
   head_numbered site (heads.Global stack type_index offset) title located e =
       let there = carried (λ n. heads.Global stack type_index (number n)) (value s site None offset) located e in
       subst (λ h. IsNumbered (block_begin h title)) (sym there.2) (record {
-        read = ap (λ o. option_map (λ h. block_begin h title) (option_map (λ n. heads.Global stack type_index (number n)) o)) (value_again site offset there.0 there.1);
+        read = ap (λ o. option_map (λ h. block_begin h title) (option_map (λ n. heads.Global stack type_index (number n)) o))
+            (value_again site offset there.0 there.1);
         numbers = one_number there.0;
       })
   head_numbered site (heads.Local stack type_index offset) title located e =
       let there = carried (λ n. heads.Local stack type_index (number n)) (value s site None offset) located e in
       subst (λ h. IsNumbered (block_begin h title)) (sym there.2) (record {
-        read = ap (λ o. option_map (λ h. block_begin h title) (option_map (λ n. heads.Local stack type_index (number n)) o)) (value_again site offset there.0 there.1);
+        read = ap (λ o. option_map (λ h. block_begin h title) (option_map (λ n. heads.Local stack type_index (number n)) o))
+            (value_again site offset there.0 there.1);
         numbers = one_number there.0;
       })
   head_numbered site (heads.Source numbers) title located e =
@@ -88,13 +94,16 @@ module _ (s again : Setting) (home : Sited) (first : home.first_section ≡ 0) (
       let there = carried (λ n. heads.Section section_type (site.first_section + section) (number n)) (value s site None offset) located e in
       let place = moved (site.first_section + section) in
       subst (λ h. IsNumbered (block_begin h title)) (sym there.2) (record {
-        read = (λ i. option_map (λ h. block_begin h title) (option_map (λ n. heads.Section section_type (place i) (number n)) (value_again site offset there.0 there.1 i)));
+        read = (λ i. option_map (λ h. block_begin h title) (option_map (λ n. heads.Section section_type (place i) (number n))
+            (value_again site offset there.0 there.1 i)));
         numbers = one_number there.0;
       })
 
-  through_head : (site : Sited) (head : BlockHead) (title : List ℕ) (o : Option BlockHead) → located_head (head_reading s site head) ≡ o → (mark : DebugMark) → option_map (λ h. block_begin h title) o ≡ Some mark → IsNumbered mark
+  through_head : (site : Sited) (head : BlockHead) (title : List ℕ) (o : Option BlockHead) → located_head (head_reading s site head) ≡ o
+      → (mark : DebugMark) → option_map (λ h. block_begin h title) o ≡ Some mark → IsNumbered mark
   through_head site head title None e mark f = absurd cc
-  through_head site head title (Some located) e mark f = subst IsNumbered (some_same (block_begin located title) mark f) (head_numbered site head title located e)
+  through_head site head title (Some located) e mark f = subst IsNumbered (some_same (block_begin located title) mark f)
+      (head_numbered site head title located e)
 
   -- a mark that is located from another is read as itself
   pub mark_numbered : (site : Sited) (from mark : DebugMark) → located_mark (mark_reading s site from) ≡ Some mark → IsNumbered mark
@@ -102,7 +111,10 @@ module _ (s again : Setting) (home : Sited) (first : home.first_section ≡ 0) (
   mark_numbered site (block_end None) mark e = subst IsNumbered (some_same (block_end None) mark e) (record { read = refl; numbers = λ t h. absurd h })
   mark_numbered site (block_end (Some t)) mark e =
       let there = carried (λ n. block_end (Some (number n))) (value s site None t) mark e in
-      subst IsNumbered (sym there.2) (record { read = ap (option_map (λ n. block_end (Some (number n)))) (value_again site t there.0 there.1); numbers = one_number there.0 })
+      subst IsNumbered (sym there.2) (record {
+        read = ap (option_map (λ n. block_end (Some (number n)))) (value_again site t there.0 there.1);
+        numbers = one_number there.0;
+      })
   mark_numbered site (name_mark title) mark e = subst IsNumbered (some_same (name_mark title) mark e) (record { read = refl; numbers = λ t h. absurd h })
   mark_numbered site (note_mark place note) mark e =
       subst IsNumbered (some_same (note_mark (site.first_name + place) note) mark e)
@@ -110,4 +122,7 @@ module _ (s again : Setting) (home : Sited) (first : home.first_section ≡ 0) (
   mark_numbered site (value_mark place t) mark e =
       let there = carried (λ n. value_mark (site.first_name + place) (number n)) (value s site None t) mark e in
       let same = renamed (site.first_name + place) in
-      subst IsNumbered (sym there.2) (record { read = λ i. option_map (λ n. value_mark (same i) (number n)) (value_again site t there.0 there.1 i); numbers = one_number there.0 })
+      subst IsNumbered (sym there.2) (record {
+        read = λ i. option_map (λ n. value_mark (same i) (number n)) (value_again site t there.0 there.1 i);
+        numbers = one_number there.0;
+      })

@@ -1,5 +1,6 @@
 -- The module of a location loads the cells of the location, and the walk over its loads meets no fact.
-use Rattle.std.proofs.Common.{◌≡◌, ◌≢◌, ◌++◌, Bool, false, ℕ, ◌+◌, ◌*◌, ◌^◌, ◌<◌, ◌≤◌, ◌↔◌, inr, List, [], ◌∷◌, length, Some, None, true, refl, sym, ◌∙◌, ap, subst, arith, append-nil, zero-add}
+use Rattle.std.proofs.Common.{◌≡◌, ◌≢◌, ◌++◌, Bool, false, ℕ, ◌+◌, ◌*◌, ◌^◌, ◌<◌, ◌≤◌, ◌↔◌, inr, List, [], ◌∷◌, length, Some, None, true, refl, sym}
+use Rattle.std.proofs.Common.{◌∙◌, ap, subst, arith, append-nil, zero-add}
 use Rattle.std.specs.Prelude.{slice_get, option_map, unwrap_or, nat_lt, Contains}
 use Rattle.std.specs.List.{enumerate_from}
 use Rattle.mufom_numbers.specs.declared.limits.TheConstants.{MOST_IMAGE_BYTES}
@@ -34,7 +35,8 @@ use Rattle.mufom_meaning.proofs.facts.StepCounts.{counts_agree}
 use Rattle.mufom_meaning.proofs.locations.CellRows.{HaveOwnAddresses}
 use Rattle.mufom_meaning.proofs.locations.CellHome.{HasHome, cell_home}
 use Rattle.mufom_meaning.proofs.values.ValueLaws.{no_link_fact, no_fact_before}
-use Rattle.mufom_meaning.proofs.absolute.Cells.{LiesIn, absolute_cells, section_cells, section_cell, cell_section, apart_own, absolute_own, separate, AreSeparate}
+use Rattle.mufom_meaning.proofs.absolute.Cells.{LiesIn, absolute_cells, section_cells, section_cell, cell_section, apart_own, absolute_own, separate}
+use Rattle.mufom_meaning.proofs.absolute.Cells.{AreSeparate}
 use Rattle.mufom_meaning.proofs.absolute.Places.{IsPlacing, placing_there, there_placing, base_there, all_apart, ends_inside}
 use Rattle.mufom_meaning.proofs.absolute.Walk.{GoodWalk, IsSettled, sections_good}
 use Rattle.mufom_meaning.proofs.absolute.Facts.{IsClear}
@@ -74,7 +76,8 @@ module _ (m : Parts) (more : List Parts) (plan : Plan) (r : LocatedParts) (v : A
   placed_alone = sections_alone ∙ h.sections
 
   pub width_alone : width alone ≡ width ms
-  width_alone = let first : ◌≡◌ {A = Header} (m.processor, m.name, m.maus, m.order) (r.processor, r.name, r.maus, r.order) = some_same _ _ h.first in ap (λ (x : Header). 8 * x.2) (sym first)
+  width_alone = let first : ◌≡◌ {A = Header} (m.processor, m.name, m.maus, m.order) (r.processor, r.name, r.maus, r.order) = some_same _ _ h.first in
+      ap (λ (x : Header). 8 * x.2) (sym first)
 
   pub modulus_alone : again.modulus ≡ s.modulus
   modulus_alone = ap (λ w. 2 ^ w) width_alone
@@ -102,14 +105,16 @@ module _ (m : Parts) (more : List Parts) (plan : Plan) (r : LocatedParts) (v : A
       let alone_found : slice_get (flat_sections alone) t.0 ≡ Some t.1 = ap (λ sections. slice_get sections t.0) sections_alone ∙ found in
       let prefix = get-prefix (flat_sections alone) [] t.0 t.1 alone_found in
       let alone_base : slice_get again.bases t.0 ≡ Some base
-      = planned_get alone no_regions t.0 prefix.1 ∙ base_there no_regions (flat_sections alone) [] t.0 t.1 prefix.0 ∙ ap (λ o. Some (site_with o (placing_of (placings no_regions (flat_sections alone) []) t.0)).base) own in
+      = planned_get alone no_regions t.0 prefix.1 ∙ base_there no_regions (flat_sections alone) [] t.0 t.1 prefix.0
+      ∙ ap (λ o. Some (site_with o (placing_of (placings no_regions (flat_sections alone) []) t.0)).base) own in
       let inside = ends_inside plan first_sections asked (width ms) placement_none t.0 p.first p.found in
       let ends : base + p.first.size ≤ 2 ^ width ms = not_past (base + p.first.size) (2 ^ width ms) (λ past. inside (inr past)) in (
         base,
         own,
         record {
           based = ap (λ n. unwrap_or (slice_get again.bases n) 0) (zero-add t.0) ∙ ap (λ o. unwrap_or o 0) alone_base;
-          sized = ap (λ n. unwrap_or (option_map (λ found. found.size) (slice_get (flat_sections alone) n)) 0) (zero-add t.0) ∙ ap (λ o. unwrap_or (option_map (λ found. found.size) o) 0) alone_found;
+          sized = ap (λ n. unwrap_or (option_map (λ found. found.size) (slice_get (flat_sections alone) n)) 0) (zero-add t.0)
+              ∙ ap (λ o. unwrap_or (option_map (λ found. found.size) o) 0) alone_found;
           ends = omega (arith, ends, size, modulus_alone);
         },
       )
@@ -132,7 +137,8 @@ module _ (m : Parts) (more : List Parts) (plan : Plan) (r : LocatedParts) (v : A
 
   apart : AreSeparate numbered_sections
   apart = separate 0 r.sections (λ t u k l differ x a b.
-      all_apart plan first_sections asked (width ms) placement_none t.0 u.0 (record { differ = differ; address = x; first = covered t k x a; second = covered u l x b }))
+      all_apart plan first_sections asked (width ms) placement_none t.0 u.0
+      (record { differ = differ; address = x; first = covered t k x a; second = covered u l x b }))
 
   abbrev cells : List Cell
   cells = absolute_cells r.runs numbered_sections
@@ -165,19 +171,24 @@ module _ (m : Parts) (more : List Parts) (plan : Plan) (r : LocatedParts) (v : A
   -- ---- the cells of the location
 
   once : (address : ℕ) → ¬ StandsInWalk ms s (loaded_twice address)
-  once address f = (answers_are_facts ms plan).locate_complete h.locates (loaded_twice address) (inr (no_link_fact ms h.links, no_fact_before ms plan h.locates, f))
+  once address f = (answers_are_facts ms plan).locate_complete h.locates (loaded_twice address)
+      (inr (no_link_fact ms h.links, no_fact_before ms plan h.locates, f))
 
   never_outside : (section address : ℕ) → ¬ StandsInWalk ms s (load_outside section address)
-  never_outside section address f = (answers_are_facts ms plan).locate_complete h.locates (load_outside section address) (inr (no_link_fact ms h.links, no_fact_before ms plan h.locates, f))
+  never_outside section address f = (answers_are_facts ms plan).locate_complete h.locates (load_outside section address)
+      (inr (no_link_fact ms h.links, no_fact_before ms plan h.locates, f))
 
   at_home : (cell : Cell) → HasHome s cell → In cell (run_cells r.runs) → In cell cells
   at_home cell lies k =
       let base = (site_of plan first_sections asked (lies.place, lies.section)).base in
       let prefix = get-prefix first_sections asked lies.place lies.section lies.found in
       let section : Section = record lies.section { absolute = true; base = Some base } in
-      let found : slice_get r.sections lies.place ≡ Some section = ap (λ sections. slice_get sections lies.place) h.sections ∙ there_placing plan first_sections asked lies.place lies.section prefix.0 in
-      let number : base_number s lies.place ≡ base = ap (λ o. unwrap_or o 0) (planned_get ms plan lies.place prefix.1 ∙ base_there plan first_sections asked lies.place lies.section prefix.0) in
-      let numbered_there : slice_get numbered_sections lies.place ≡ Some (lies.place, section) = get_enumerate 0 r.sections lies.place section found ∙ (λ i. Some (zero-add lies.place i, section)) in
+      let found : slice_get r.sections lies.place ≡ Some section = ap (λ sections. slice_get sections lies.place) h.sections
+      ∙ there_placing plan first_sections asked lies.place lies.section prefix.0 in
+      let number : base_number s lies.place ≡ base = ap (λ o. unwrap_or o 0) (planned_get ms plan lies.place prefix.1
+      ∙ base_there plan first_sections asked lies.place lies.section prefix.0) in
+      let numbered_there : slice_get numbered_sections lies.place ≡ Some (lies.place, section) = get_enumerate 0 r.sections lies.place section found
+      ∙ (λ i. Some (zero-add lies.place i, section)) in
       let low : base ≤ cell.0 = omega (arith, number, lies.low) in
       let high : cell.0 < base + section.size = omega (arith, number, lies.high) in
       In-flat_map (section_cells r.runs) (lies.place, section) cell numbered_sections (In-at (lies.place, section) numbered_sections lies.place numbered_there)
@@ -188,7 +199,8 @@ module _ (m : Parts) (more : List Parts) (plan : Plan) (r : LocatedParts) (v : A
 
   in_cells : (cell : Cell) → In cell (run_cells r.runs) → In cell cells
   unfolding readings
-  in_cells cell k = at_home cell (cell_home r.order ms s once never_outside cell (Contains-In cell map_there ((h.rows.same cell).1 (In-Contains cell (run_cells r.runs) k)))) k
+  in_cells cell k = at_home cell (cell_home r.order ms s once never_outside cell
+      (Contains-In cell map_there ((h.rows.same cell).1 (In-Contains cell (run_cells r.runs) k)))) k
 
   in_runs : (cell : Cell) → In cell cells → In cell (run_cells r.runs)
   in_runs cell k = let there = flat_map-In (section_cells r.runs) cell numbered_sections k in (section_cell r.runs there.0 cell there.2).0
@@ -203,7 +215,8 @@ module _ (m : Parts) (more : List Parts) (plan : Plan) (r : LocatedParts) (v : A
   pub fewer_cells : length cells ≤ loaded_total ms
   unfolding readings
   fewer_cells =
-      let few = fewer cells map_there own (λ cell k. Contains-In cell map_there ((h.rows.same cell).1 (In-Contains cell (run_cells r.runs) (in_runs cell k)))) in
+      let few = fewer cells map_there own (λ cell k. Contains-In cell map_there
+      ((h.rows.same cell).1 (In-Contains cell (run_cells r.runs) (in_runs cell k)))) in
       let count = cells_count r.order s [] (steps ms) in
       let all = counts_agree ms v in
       omega (arith, few, count, all)
@@ -223,13 +236,15 @@ module _ (m : Parts) (more : List Parts) (plan : Plan) (r : LocatedParts) (v : A
     there = section_cell r.runs t cell c
 
     home_there : HasHome s cell
-    home_there = cell_home r.order ms s once never_outside cell (Contains-In cell map_there ((h.rows.same cell).1 (In-Contains cell (run_cells r.runs) there.0)))
+    home_there = cell_home r.order ms s once never_outside cell
+        (Contains-In cell map_there ((h.rows.same cell).1 (In-Contains cell (run_cells r.runs) there.0)))
 
     prefix : (slice_get (first_sections ++ asked) home_there.place ≡ Some home_there.section) × (home_there.place < length first_sections)
     prefix = get-prefix first_sections asked home_there.place home_there.section home_there.found
 
     number : base_number s home_there.place ≡ (site_of plan first_sections asked (home_there.place, home_there.section)).base
-    number = ap (λ o. unwrap_or o 0) (planned_get ms plan home_there.place prefix.1 ∙ base_there plan first_sections asked home_there.place home_there.section prefix.0)
+    number = ap (λ o. unwrap_or o 0) (planned_get ms plan home_there.place prefix.1
+        ∙ base_there plan first_sections asked home_there.place home_there.section prefix.0)
 
     at_home_there : Covers plan first_sections asked home_there.place cell.0
     at_home_there = record {

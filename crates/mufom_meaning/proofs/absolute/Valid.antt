@@ -1,5 +1,6 @@
 -- The module of a location has no defect, where it is not too heavy.
-use Rattle.std.proofs.Common.{◌≡◌, ◌≢◌, ◌⊎◌, inl, inr, ℕ, ◌^◌, ◌<◌, List, [], ◌∷◌, map, length, Option, Some, None, Bool, true, false, not, ◌||◌, ◌&&◌, refl, sym, ◌∙◌, ap, subst, cond}
+use Rattle.std.proofs.Common.{◌≡◌, ◌≢◌, ◌⊎◌, inl, inr, ℕ, ◌^◌, ◌<◌, List, [], ◌∷◌, map, length, Option, Some, None, Bool, true, false, not, ◌||◌}
+use Rattle.std.proofs.Common.{◌&&◌, refl, sym, ◌∙◌, ap, subst, cond}
 use Rattle.std.specs.Prelude.{slice_get, nat_lt, ◌==◌, option_map, is_none}
 use Rattle.std.specs.List.{list_any, find, enumerate_from}
 use Rattle.mufom_numbers.specs.declared.limits.TheConstants.{MOST_ALIGNMENT}
@@ -13,7 +14,9 @@ use Rattle.mufom_module.specs.declared.module.Defect.{Defect}
 use Rattle.mufom_module.specs.declared.module.Defect.TheVariants as d
 use Rattle.mufom_module.specs.Contents.{any_of, any_expression, any_item, placed_loads, debug_marks}
 use Rattle.mufom_module.specs.Written.{weight}
-use Rattle.mufom_module.specs.Defects.{IsValid, has_defect, defects, counts_of, names_outside, has_bad_place, has_bad_mark, declared_after, has_other_counter, misplaces_counter, is_long, has_long_name, has_bad_alignment, lacks_base, is_unit_count, is_long_literal, has_bad_size}
+use Rattle.mufom_module.specs.Defects.{IsValid, has_defect, defects, counts_of, names_outside, has_bad_place, has_bad_mark, declared_after}
+use Rattle.mufom_module.specs.Defects.{has_other_counter, misplaces_counter, is_long, has_long_name, has_bad_alignment, lacks_base, is_unit_count}
+use Rattle.mufom_module.specs.Defects.{is_long_literal, has_bad_size}
 use Rattle.mufom_plan.specs.declared.plan.Plan.{Plan}
 use Rattle.mufom_place.specs.Bases.{site_of}
 use Rattle.mufom_meaning.specs.declared.located.PublicValue.{PublicValue}
@@ -61,10 +64,12 @@ module _ (m : Parts) (more : List Parts) (plan : Plan) (r : LocatedParts) (v : A
   abbrev IsSource : Section → Type 0
   IsSource first = ((parts : Parts) × In parts ms × In first parts.sections) ⊎ In first (placed_commons ms plan)
 
-  of_section : (section : Section) → In section r.sections → (first : Section) × (base : Option ℕ) × (section ≡ record first { absolute = true; base = base }) × (base ≢ None) × IsSource first
+  of_section : (section : Section) → In section r.sections → (first : Section) × (base : Option ℕ)
+      × (section ≡ record first { absolute = true; base = base }) × (base ≢ None) × IsSource first
   of_section section k =
       let there = at-In section r.sections k in
-      let p = placing_there plan (flat_sections ms) (placed_commons ms plan) there.0 section (ap (λ sections. slice_get sections there.0) (sym h.sections) ∙ there.1) in (
+      let p = placing_there plan (flat_sections ms) (placed_commons ms plan) there.0 section
+      (ap (λ sections. slice_get sections there.0) (sym h.sections) ∙ there.1) in (
         p.first,
         Some (site_of plan (flat_sections ms) (placed_commons ms plan) (there.0, p.first)).base,
         p.same,
@@ -87,7 +92,8 @@ module _ (m : Parts) (more : List Parts) (plan : Plan) (r : LocatedParts) (v : A
       || list_any has_long_name (debug_marks parts)))
 
   short_processor : is_long r.processor ≡ false
-  short_processor = ap (λ (x : Header). is_long x.0) (sym header) ∙ (either_false (is_long m.processor) (is_long m.name || strings_after_name m) (no_defect m v.0 d.LongId)).0
+  short_processor = ap (λ (x : Header). is_long x.0) (sym header)
+      ∙ (either_false (is_long m.processor) (is_long m.name || strings_after_name m) (no_defect m v.0 d.LongId)).0
 
   after_processor : (parts : Parts) → IsValid parts → (is_long parts.name || strings_after_name parts) ≡ false
   after_processor parts valid = (either_false (is_long parts.processor) (is_long parts.name || strings_after_name parts) (no_defect parts valid d.LongId)).1
@@ -102,15 +108,20 @@ module _ (m : Parts) (more : List Parts) (plan : Plan) (r : LocatedParts) (v : A
   short_reference ref k =
       let there = flat_map-In (λ m. m.names.references) ref ms k in
       let parts = there.0 in
-      let after_sections = (either_false (list_any (λ s. is_long s.name) parts.sections) (list_any (λ p. is_long p.name) parts.names.publics || (list_any (λ r. is_long r.name) parts.names.references || list_any has_long_name (debug_marks parts))) (after_name parts (valid_parts parts there.1))).1 in
-      let after_publics = (either_false (list_any (λ p. is_long p.name) parts.names.publics) (list_any (λ r. is_long r.name) parts.names.references || list_any has_long_name (debug_marks parts)) after_sections).1 in
-      fails-In (λ r. is_long r.name) parts.names.references (either_false (list_any (λ r. is_long r.name) parts.names.references) (list_any has_long_name (debug_marks parts)) after_publics).0 ref there.2
+      let after_sections = (either_false (list_any (λ s. is_long s.name) parts.sections) (list_any (λ p. is_long p.name) parts.names.publics
+      || (list_any (λ r. is_long r.name) parts.names.references || list_any has_long_name (debug_marks parts)))
+      (after_name parts (valid_parts parts there.1))).1 in
+      let after_publics = (either_false (list_any (λ p. is_long p.name) parts.names.publics) (list_any (λ r. is_long r.name) parts.names.references
+      || list_any has_long_name (debug_marks parts)) after_sections).1 in
+      fails-In (λ r. is_long r.name) parts.names.references (either_false (list_any (λ r. is_long r.name) parts.names.references)
+      (list_any has_long_name (debug_marks parts)) after_publics).0 ref there.2
 
   short_source : (first : Section) → IsSource first → is_long first.name ≡ false
   short_source first (inl there) =
       let own = (either_false (list_any (λ s. is_long s.name) there.0.sections) _ (after_name there.0 (valid_parts there.0 there.1))).0 in
       fails-In (λ s. is_long s.name) there.0.sections own first there.2
-  short_source first (inr k) = let common = common_reference ms plan first k in ap (λ (x : Section). is_long x.name) common.2 ∙ short_reference common.0 common.1
+  short_source first (inr k) = let common = common_reference ms plan first k in ap (λ (x : Section). is_long x.name) common.2
+      ∙ short_reference common.0 common.1
 
   short_sections : list_any (λ s. is_long s.name) r.sections ≡ false
   short_sections = none-In (λ s. is_long s.name) r.sections (λ section k.
@@ -119,14 +130,17 @@ module _ (m : Parts) (more : List Parts) (plan : Plan) (r : LocatedParts) (v : A
   short_public : (p : PublicValue) → In p r.publics → is_long p.name ≡ false
   unfolding readings
   short_public p k =
-      let there = map-In (public_reading s) (located_public p) (flat_publics ms) (subst (In (located_public p)) h.publics (In-map located_public p r.publics k)) in
+      let there = map-In (public_reading s) (located_public p) (flat_publics ms)
+      (subst (In (located_public p)) h.publics (In-map located_public p r.publics k)) in
       let site = flat_map-In (λ site. map (λ entry. record { site = site; entry = entry }) site.parts.names.publics) there.0 (sited ms) there.1 in
       let own = map-In (λ entry. record { site = site.0; entry = entry }) there.0 site.0.parts.names.publics site.2 in
       let parts = site.0.parts in
       let valid = valid_parts parts (site_module 0 0 0 ms site.0 site.1) in
-      let rest = (either_false (list_any (λ s. is_long s.name) parts.sections) (list_any (λ p. is_long p.name) parts.names.publics || (list_any (λ r. is_long r.name) parts.names.references || list_any has_long_name (debug_marks parts))) (after_name parts valid)).1 in
+      let rest = (either_false (list_any (λ s. is_long s.name) parts.sections) (list_any (λ p. is_long p.name) parts.names.publics
+      || (list_any (λ r. is_long r.name) parts.names.references || list_any has_long_name (debug_marks parts))) (after_name parts valid)).1 in
       let publics = (either_false (list_any (λ p. is_long p.name) parts.names.publics) _ rest).0 in
-      ap (λ (x : PublicReading). is_long x.name) (sym there.2) ∙ ap (λ (q : SitedPublic). is_long q.entry.name) (sym own.2) ∙ fails-In (λ p. is_long p.name) parts.names.publics publics own.0 own.1
+      ap (λ (x : PublicReading). is_long x.name) (sym there.2) ∙ ap (λ (q : SitedPublic). is_long q.entry.name) (sym own.2)
+      ∙ fails-In (λ p. is_long p.name) parts.names.publics publics own.0 own.1
 
   short_publics : list_any (λ p. is_long p.name) (map absolute_public r.publics) ≡ false
   short_publics = none-In (λ p. is_long p.name) (map absolute_public r.publics) (λ entry k.
@@ -153,10 +167,11 @@ module _ (m : Parts) (more : List Parts) (plan : Plan) (r : LocatedParts) (v : A
       let there = of_section section k in ap (λ (x : Section). (x.align == 0) || nat_lt MOST_ALIGNMENT x.align) there.2 ∙ aligned_source there.0 there.4)
 
   based : has_defect alone d.MissingBase ≡ false
-  based = none-In lacks_base r.sections (λ section k. let there = of_section section k in ap (λ (x : Section). x.absolute && is_none x.base) there.2 ∙ some there.1 there.3) where
-    some : (o : Option ℕ) → o ≢ None → is_none o ≡ false
-    some None h = absurd (h refl)
-    some (Some n) h = refl
+  based = none-In lacks_base r.sections (λ section k. let there = of_section section k in ap (λ (x : Section). x.absolute && is_none x.base) there.2
+      ∙ some there.1 there.3) where
+        some : (o : Option ℕ) → o ≢ None → is_none o ≡ false
+        some None h = absurd (h refl)
+        some (Some n) h = refl
 
   -- ---- positions and counters
 
@@ -169,19 +184,23 @@ module _ (m : Parts) (more : List Parts) (plan : Plan) (r : LocatedParts) (v : A
 
   positions : has_defect alone d.Position ≡ false
   positions =
-      two_false (list_any (λ p. names_outside (counts_of alone) p.value) (map absolute_public r.publics)) _ (publics_fail (names_outside (counts_of alone)) (λ n. refl))
+      two_false (list_any (λ p. names_outside (counts_of alone) p.value) (map absolute_public r.publics)) _
+      (publics_fail (names_outside (counts_of alone)) (λ n. refl))
       (two_false (list_any (has_bad_place (counts_of alone)) alone.loads) _ loads_placed
       (two_false (list_any (has_bad_mark (counts_of alone)) (marks_of r.debug)) _ (marks_inside m more plan r v h)
-      (two_false (any_of (names_outside (counts_of alone)) alone.start) (is_none (declared_after 0 (marks_of r.debug))) (number_start (names_outside (counts_of alone)) (λ n. refl) r.start) (declared m more plan r v h))))
+      (two_false (any_of (names_outside (counts_of alone)) alone.start) (is_none (declared_after 0 (marks_of r.debug)))
+      (number_start (names_outside (counts_of alone)) (λ n. refl) r.start) (declared m more plan r v h))))
 
   loads_counted : list_any misplaces_counter (placed_loads alone) ≡ false
-  loads_counted = none-In misplaces_counter (placed_loads alone) (λ p k. plain_counter (length r.sections) p (loads_plain r.runs r.sections p.1 (placed-In None alone.loads p k)))
+  loads_counted = none-In misplaces_counter (placed_loads alone)
+      (λ p k. plain_counter (length r.sections) p (loads_plain r.runs r.sections p.1 (placed-In None alone.loads p k)))
 
   counted : has_defect alone d.MisplacedP ≡ false
   counted =
       two_false (list_any (λ p. has_other_counter None p.value) (map absolute_public r.publics)) _ (publics_fail (has_other_counter None) (λ n. refl))
       (two_false (any_of (has_other_counter None) alone.start) _ (number_start (has_other_counter None) (λ n. refl) r.start)
-      (two_false (list_any (any_expression (has_other_counter None)) (marks_of r.debug)) (list_any misplaces_counter (placed_loads alone)) (no_counters m more plan r v h) loads_counted))
+      (two_false (list_any (any_expression (has_other_counter None)) (marks_of r.debug)) (list_any misplaces_counter (placed_loads alone))
+      (no_counters m more plan r v h) loads_counted))
 
   -- ---- all of them
 
@@ -195,8 +214,10 @@ module _ (m : Parts) (more : List Parts) (plan : Plan) (r : LocatedParts) (v : A
     no_defect_alone d.Position = positions
     no_defect_alone d.MisplacedP = counted
     no_defect_alone d.NoSection = all_somewhere r.runs (enumerate_from 0 r.sections)
-    no_defect_alone d.LongRun = none-In (any_item is_long_literal) alone.loads (λ load k. plain_short (length r.sections) load (loads_plain r.runs r.sections load k))
-    no_defect_alone d.FieldSize = none-In (any_item has_bad_size) alone.loads (λ load k. plain_size (length r.sections) load (loads_plain r.runs r.sections load k))
+    no_defect_alone d.LongRun = none-In (any_item is_long_literal) alone.loads
+        (λ load k. plain_short (length r.sections) load (loads_plain r.runs r.sections load k))
+    no_defect_alone d.FieldSize = none-In (any_item has_bad_size) alone.loads
+        (λ load k. plain_size (length r.sections) load (loads_plain r.runs r.sections load k))
     no_defect_alone d.Attribute = known m more plan r v h
     no_defect_alone d.Nesting = plain_ends m more plan r v h
     no_defect_alone d.Weight = not_le (2 ^ 32) (weight alone) light

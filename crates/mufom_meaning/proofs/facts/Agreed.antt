@@ -1,5 +1,6 @@
 -- The facts about a list with a link are those about the flat list.
-use Rattle.std.proofs.Common.{sum_by, ◌≡◌, ℕ, ◌+◌, ◌*◌, List, [], ◌∷◌, ◌++◌, map, length, Option, Some, None, true, not, ◌&&◌, refl, sym, ◌∙◌, ap, subst, cond, flat_map, length-append, arith, rules}
+use Rattle.std.proofs.Common.{sum_by, ◌≡◌, ℕ, ◌+◌, ◌*◌, List, [], ◌∷◌, ◌++◌, map, length, Option, Some, None, true, not, ◌&&◌, refl, sym, ◌∙◌, ap}
+use Rattle.std.proofs.Common.{subst, cond, flat_map, length-append, arith, rules}
 use Rattle.std.specs.Prelude.{slice_get, unwrap_or, option_map, option_to_list, find, ◌%◌, ◌==◌, if◌then◌else◌}
 use Rattle.std.specs.List.{enumerate_from}
 use Rattle.std.proofs.lemmas.Grind.{flat_map-append}
@@ -36,7 +37,9 @@ use Rattle.mufom_meaning.specs.Staging.{AreValid, HaveDescriptor}
 use Rattle.mufom_meaning.specs.LinkAnswer.{first_mismatch, first_duplicate, same_order, same_descriptor, two_starts, link_answer}
 use Rattle.mufom_meaning.specs.LocateAnswer.{cycle_at, image_limit_at, locate_answer}
 use Rattle.mufom_meaning.specs.Counts.{loaded_total}
-use Rattle.mufom_meaning.specs.Walk.{zero_divisor_at, public_fact, counted_from, outside_at, first_twice, addresses_at, step_addresses, loaded_addresses, overflow_at, item_fact, step_fact, steps_fact, SitedTree, start_trees, debug_trees, start_fact, debug_fact, walk_answer}
+use Rattle.mufom_meaning.specs.Walk.{zero_divisor_at, public_fact, counted_from, outside_at, first_twice, addresses_at, step_addresses}
+use Rattle.mufom_meaning.specs.Walk.{loaded_addresses, overflow_at, item_fact, step_fact, steps_fact, SitedTree, start_trees, debug_trees, start_fact}
+use Rattle.mufom_meaning.specs.Walk.{debug_fact, walk_answer}
 use Rattle.mufom_meaning.proofs.Paired.{Paired, Paired-same}
 use Rattle.mufom_meaning.proofs.staging.Moved.{shifted, IsOfGroup, MovedTree, stays, joins, MovedPublic, AreSettings, same_value, same_has_zero_divisor}
 use Rattle.mufom_meaning.proofs.staging.MovedSteps.{MovedStep, counters, literals, fields, same_counter}
@@ -54,7 +57,8 @@ module _ {A B C : Type 0} (R : A → B → Type 0) (f : A → Option C) (g : B �
   first_some-agrees [] (y ∷ ys) p = absurd p
   first_some-agrees (x ∷ xs) [] p = absurd p
 
-module _ {A B C : Type 0} (R : A → B → Type 0) (f : ℕ × A → Option C) (g : ℕ × B → Option C) (same : (n : ℕ) (x : A) (y : B) → R x y → f (n, x) ≡ g (n, y)) where
+module _ {A B C : Type 0} (R : A → B → Type 0) (f : ℕ × A → Option C) (g : ℕ × B → Option C) (same : (n : ℕ) (x : A) (y : B) → R x y → f (n, x)
+    ≡ g (n, y)) where
   first_numbered-agrees : (n : ℕ) (xs : List A) (ys : List B) → Paired R xs ys → first_some f (enumerate_from n xs) ≡ first_some g (enumerate_from n ys)
   first_numbered-agrees n [] [] p = refl
   first_numbered-agrees n (x ∷ xs) (y ∷ ys) p = let a = same n x y p.0 in let b = first_numbered-agrees (n + 1) xs ys p.1 in λ i. a i or_else b i
@@ -62,7 +66,8 @@ module _ {A B C : Type 0} (R : A → B → Type 0) (f : ℕ × A → Option C) (
   first_numbered-agrees n (x ∷ xs) [] p = absurd p
 
 module _ (ms : List Parts) (home : Sited) (s other : Setting) (h : AreSettings ms home s other) where
-  zero_divisor_agrees : (pc pc' : Option ℕ) → pc ≡ pc' → (site : Sited) (t : Tree) (site' : Sited) (t' : Tree) → MovedTree ms home site t site' t' → (place place' : Site) → place ≡ place'
+  zero_divisor_agrees : (pc pc' : Option ℕ) → pc ≡ pc' → (site : Sited) (t : Tree) (site' : Sited) (t' : Tree) → MovedTree ms home site t site' t'
+      → (place place' : Site) → place ≡ place'
       → zero_divisor_at s site pc t place ≡ zero_divisor_at other site' pc' t' place'
   zero_divisor_agrees pc pc' e site t site' t' m place place' f =
       let zero_there : has_zero_divisor s site pc t ≡ has_zero_divisor other site' pc' t'
@@ -70,18 +75,22 @@ module _ (ms : List Parts) (home : Sited) (s other : Setting) (h : AreSettings m
       λ i. if zero_there i then Some (zero_divisor (f i)) else None
 
   public_agrees : (p q : SitedPublic) → MovedPublic ms home p q → public_fact s p ≡ public_fact other q
-  public_agrees p q m = let a = m.name in zero_divisor_agrees None None refl p.site p.entry.value q.site q.entry.value m.tree (sites.Public p.entry.name) (sites.Public q.entry.name) (ap sites.Public a)
+  public_agrees p q m = let a = m.name in zero_divisor_agrees None None refl p.site p.entry.value q.site q.entry.value m.tree
+      (sites.Public p.entry.name) (sites.Public q.entry.name) (ap sites.Public a)
 
   abbrev R : Step → Step → Type 0
   R = MovedStep ms home
 
-  addresses_agree : (step step' : Step) → R step step' → (earlier earlier' : List Step) → Paired R earlier earlier' → step_addresses s earlier step ≡ step_addresses other earlier' step'
+  addresses_agree : (step step' : Step) → R step step' → (earlier earlier' : List Step) → Paired R earlier earlier' → step_addresses s earlier step
+      ≡ step_addresses other earlier' step'
   addresses_agree _ _ (counters site site' section section' t t' e m) earlier earlier' p = refl
   addresses_agree _ _ (literals site site' section section' bytes e) earlier earlier' p =
-      let at : counter s earlier section ≡ counter other earlier' section' = same_counter ms home s other h earlier earlier' p section ∙ ap (counter other earlier') e in
+      let at : counter s earlier section ≡ counter other earlier' section' = same_counter ms home s other h earlier earlier' p section
+      ∙ ap (counter other earlier') e in
       let m = h.modulus in λ i. addresses_at (m i) (at i) (Literal bytes)
   addresses_agree _ _ (fields site site' section section' kind size t t' e n) earlier earlier' p =
-      let at : counter s earlier section ≡ counter other earlier' section' = same_counter ms home s other h earlier earlier' p section ∙ ap (counter other earlier') e in
+      let at : counter s earlier section ≡ counter other earlier' section' = same_counter ms home s other h earlier earlier' p section
+      ∙ ap (counter other earlier') e in
       let m = h.modulus in (λ i. addresses_at (m i) (at i) (Field kind t size)) ∙ same_size (counter other earlier' section') where
         same_size : (at : Option ℕ) → addresses_at other.modulus at (Field kind t size) ≡ addresses_at other.modulus at (Field kind t' size)
         same_size None = refl
@@ -99,7 +108,8 @@ module _ (ms : List Parts) (home : Sited) (s other : Setting) (h : AreSettings m
   literal_agrees site site' section bytes earlier earlier' p None = refl
   literal_agrees site site' section bytes earlier earlier' p (Some a) =
       let m = h.modulus in let b = h.bases in let sections = h.sections in let l = loaded_agree earlier earlier' p in
-      λ i. first_some (outside_at (m i) section (unwrap_or (slice_get (b i) section) 0) (unwrap_or (option_map (λ found. found.size) (slice_get (sections i) section)) 0)) (counted_from (length bytes) a)
+      λ i. first_some (outside_at (m i) section (unwrap_or (slice_get (b i) section) 0)
+      (unwrap_or (option_map (λ found. found.size) (slice_get (sections i) section)) 0)) (counted_from (length bytes) a)
       or_else (first_twice (l i) (map (λ x. x % m i) (counted_from (length bytes) a)) or_else None)
 
   field_agrees : (site site' : Sited) (section : ℕ) (kind : FieldKind) (size : ℕ) (t t' : Tree) → MovedTree ms home site t site' t'
@@ -110,24 +120,33 @@ module _ (ms : List Parts) (home : Sited) (s other : Setting) (h : AreSettings m
       let m = h.modulus in let b = h.bases in let sections = h.sections in let l = loaded_agree earlier earlier' p in
       let z = zero_divisor_agrees (Some a) (Some a) refl site t site' t' n (sites.Field section a) (sites.Field section a) refl in
       let v = same_value ms home s other h (Some a) site t site' t' n in
-      λ i. first_some (outside_at (m i) section (unwrap_or (slice_get (b i) section) 0) (unwrap_or (option_map (λ found. found.size) (slice_get (sections i) section)) 0)) (counted_from size a)
+      λ i. first_some (outside_at (m i) section (unwrap_or (slice_get (b i) section) 0)
+      (unwrap_or (option_map (λ found. found.size) (slice_get (sections i) section)) 0)) (counted_from size a)
       or_else (first_twice (l i) (map (λ x. x % m i) (counted_from size a)) or_else (z i or_else overflow_at (m i) section a kind size (v i)))
 
-  step_agrees : (step step' : Step) → R step step' → (earlier earlier' : List Step) → Paired R earlier earlier' → step_fact s earlier step ≡ step_fact other earlier' step'
+  step_agrees : (step step' : Step) → R step step' → (earlier earlier' : List Step) → Paired R earlier earlier' → step_fact s earlier step
+      ≡ step_fact other earlier' step'
   step_agrees _ _ (counters site site' section section' t t' e m) earlier earlier' p =
-      let at : counter s earlier section ≡ counter other earlier' section' = same_counter ms home s other h earlier earlier' p section ∙ ap (counter other earlier') e in
+      let at : counter s earlier section ≡ counter other earlier' section' = same_counter ms home s other h earlier earlier' p section
+      ∙ ap (counter other earlier') e in
       zero_divisor_agrees _ _ at site t site' t' m (sites.Counter section) (sites.Counter section') (ap sites.Counter e)
   step_agrees _ _ (literals site site' section section' bytes e) earlier earlier' p =
-      let at : counter s earlier section ≡ counter other earlier' section' = same_counter ms home s other h earlier earlier' p section ∙ ap (counter other earlier') e in
-      literal_agrees site site' section bytes earlier earlier' p (counter s earlier section) ∙ (λ i. item_fact other earlier' site' (e i) (at i) (Literal bytes))
+      let at : counter s earlier section ≡ counter other earlier' section' = same_counter ms home s other h earlier earlier' p section
+      ∙ ap (counter other earlier') e in
+      literal_agrees site site' section bytes earlier earlier' p (counter s earlier section)
+      ∙ (λ i. item_fact other earlier' site' (e i) (at i) (Literal bytes))
   step_agrees _ _ (fields site site' section section' kind size t t' e m) earlier earlier' p =
-      let at : counter s earlier section ≡ counter other earlier' section' = same_counter ms home s other h earlier earlier' p section ∙ ap (counter other earlier') e in
-      field_agrees site site' section kind size t t' m earlier earlier' p (counter s earlier section) ∙ (λ i. item_fact other earlier' site' (e i) (at i) (Field kind t' size))
+      let at : counter s earlier section ≡ counter other earlier' section' = same_counter ms home s other h earlier earlier' p section
+      ∙ ap (counter other earlier') e in
+      field_agrees site site' section kind size t t' m earlier earlier' p (counter s earlier section)
+      ∙ (λ i. item_fact other earlier' site' (e i) (at i) (Field kind t' size))
 
-  steps_agree : (earlier earlier' : List Step) → Paired R earlier earlier' → (all all' : List Step) → Paired R all all' → steps_fact s earlier all ≡ steps_fact other earlier' all'
+  steps_agree : (earlier earlier' : List Step) → Paired R earlier earlier' → (all all' : List Step) → Paired R all all' → steps_fact s earlier all
+      ≡ steps_fact other earlier' all'
   steps_agree earlier earlier' p [] [] q = refl
   steps_agree earlier earlier' p (step ∷ more) (step' ∷ more') q =
-      let a = step_agrees step step' q.0 earlier earlier' p in let b = steps_agree (step ∷ earlier) (step' ∷ earlier') (q.0, p) more more' q.1 in λ i. a i or_else b i
+      let a = step_agrees step step' q.0 earlier earlier' p in let b = steps_agree (step ∷ earlier) (step' ∷ earlier') (q.0, p) more more' q.1 in
+      λ i. a i or_else b i
   steps_agree earlier earlier' p [] (step' ∷ more') q = absurd q
   steps_agree earlier earlier' p (step ∷ more) [] q = absurd q
 
@@ -149,18 +168,21 @@ joined_head_expressions ms site (heads.Local stack type_index offset) = refl
 joined_head_expressions ms site (heads.Source numbers) = refl
 joined_head_expressions ms site (heads.Section section_type section offset) = refl
 
-joined_end_expressions : (ms : List Parts) (site : Sited) (end : Option Tree) → option_to_list (option_map (joined_tree ms site) end) ≡ map (joined_tree ms site) (option_to_list end)
+joined_end_expressions : (ms : List Parts) (site : Sited) (end : Option Tree) → option_to_list (option_map (joined_tree ms site) end)
+    ≡ map (joined_tree ms site) (option_to_list end)
 joined_end_expressions ms site None = refl
 joined_end_expressions ms site (Some t) = refl
 
-joined_mark_expressions : (ms : List Parts) (site : Sited) (mark : DebugMark) → mark_expressions (joined_mark ms site mark) ≡ map (joined_tree ms site) (mark_expressions mark)
+joined_mark_expressions : (ms : List Parts) (site : Sited) (mark : DebugMark) → mark_expressions (joined_mark ms site mark)
+    ≡ map (joined_tree ms site) (mark_expressions mark)
 joined_mark_expressions ms site (block_begin head name) = joined_head_expressions ms site head
 joined_mark_expressions ms site (block_end end) = joined_end_expressions ms site end
 joined_mark_expressions ms site (name_mark name) = refl
 joined_mark_expressions ms site (note_mark name note) = refl
 joined_mark_expressions ms site (value_mark name t) = refl
 
-joined_expressions : (ms : List Parts) (site : Sited) (marks : List DebugMark) → expressions_of (map (joined_mark ms site) marks) ≡ map (joined_tree ms site) (expressions_of marks)
+joined_expressions : (ms : List Parts) (site : Sited) (marks : List DebugMark) → expressions_of (map (joined_mark ms site) marks)
+    ≡ map (joined_tree ms site) (expressions_of marks)
 joined_expressions ms site [] = refl
 joined_expressions ms site (mark ∷ marks) =
     let a = joined_mark_expressions ms site mark in let b = joined_expressions ms site marks in
@@ -190,7 +212,8 @@ load-joined ms site (SetPc n t) = refl
 load-joined ms site (One item) = item-joined ms site item
 load-joined ms site (Repeat count items) = ap (λ n. count * n) (sum_by-made byte_count byte_count (joined_item ms site) (item-joined ms site) items)
 
-loaded_group : (ms : List Parts) (s p d : ℕ) (xs : List Parts) → lengths_loaded (flat_map (λ site. map (joined_load ms site) site.parts.loads) (sited_from s p d xs)) ≡ loaded_total xs
+loaded_group : (ms : List Parts) (s p d : ℕ) (xs : List Parts)
+    → lengths_loaded (flat_map (λ site. map (joined_load ms site) site.parts.loads) (sited_from s p d xs)) ≡ loaded_total xs
 loaded_group ms s p d [] = refl
 loaded_group ms s p d (x ∷ xs) =
     let site : Sited = record { parts = x; first_section = s; first_public = p; first_name = d } in
@@ -199,12 +222,14 @@ loaded_group ms s p d (x ∷ xs) =
     let b = loaded_group ms (s + length x.sections) (p + length x.names.publics) (d + name_count (marks_of x.debug)) xs in λ i. a i + b i)
     ∙ sym (sum_by-cons (λ m. lengths_loaded m.loads) x xs)
 
-loaded_total-around : (before : List Parts) (M : Parts) (after : List Parts) → loaded_total (before ++ (M ∷ after)) ≡ loaded_total before + (lengths_loaded M.loads + loaded_total after)
+loaded_total-around : (before : List Parts) (M : Parts) (after : List Parts) → loaded_total (before ++ (M ∷ after))
+    ≡ loaded_total before + (lengths_loaded M.loads + loaded_total after)
 loaded_total-around before M after =
     sum_by-append (λ m. lengths_loaded m.loads) before (M ∷ after) ∙ ap (λ n. loaded_total before + n) (sum_by-cons (λ m. lengths_loaded m.loads) M after)
 
 -- Starts are as many.
-pub starts_group : (ms : List Parts) (s p d : ℕ) (xs : List Parts) → length (flat_map (λ site. map (joined_tree ms site) (option_to_list site.parts.start)) (sited_from s p d xs)) ≡ length (flat_starts xs)
+pub starts_group : (ms : List Parts) (s p d : ℕ) (xs : List Parts)
+    → length (flat_map (λ site. map (joined_tree ms site) (option_to_list site.parts.start)) (sited_from s p d xs)) ≡ length (flat_starts xs)
 starts_group ms s p d [] = refl
 starts_group ms s p d (x ∷ xs) =
     let site : Sited = record { parts = x; first_section = s; first_public = p; first_name = d } in
@@ -234,7 +259,8 @@ pub same_descriptor-of : (d m n : Parts) → (m.maus ≡ d.maus) × (m.order ≡
 same_descriptor-of d m n a b =
     ap (λ t. t && same_order m.order n.order) (equal_tested m.maus n.maus (a.0 ∙ sym b.0)) ∙ ap (same_order m.order) (b.1 ∙ sym a.1) ∙ same_order-itself m.order
 
-none_differs : (d m : Parts) → (m.maus ≡ d.maus) × (m.order ≡ d.order) → (ms : List Parts) → HaveDescriptor d ms → find (λ other. not (same_descriptor m other)) ms ≡ None
+none_differs : (d m : Parts) → (m.maus ≡ d.maus) × (m.order ≡ d.order) → (ms : List Parts) → HaveDescriptor d ms
+    → find (λ other. not (same_descriptor m other)) ms ≡ None
 none_differs d m a [] h = refl
 none_differs d m a (n ∷ ms) h =
     ap (λ b. cond (not b) (Some n) (find (λ other. not (same_descriptor m other)) ms)) (same_descriptor-of d m n a h.0) ∙ none_differs d m a ms h.1
@@ -270,12 +296,14 @@ module _ (M : Parts) (ms before after : List Parts) (name : List ℕ) (j : IsJoi
   pub same_total : loaded_total linked ≡ loaded_total flat
   same_total =
       loaded_total-around before M after ∙ ap (λ n. loaded_total before + (n + loaded_total after)) own_loaded
-      ∙ ap (λ n. loaded_total before + n) (sym (sum_by-append (λ m. lengths_loaded m.loads) ms after)) ∙ sym (sum_by-append (λ m. lengths_loaded m.loads) before (ms ++ after))
+      ∙ ap (λ n. loaded_total before + n) (sym (sum_by-append (λ m. lengths_loaded m.loads) ms after))
+      ∙ sym (sum_by-append (λ m. lengths_loaded m.loads) before (ms ++ after))
 
   same_start_count : length (flat_starts linked) ≡ length (flat_starts flat)
   same_start_count =
       let own : length (option_to_list M.start) ≡ length (flat_starts ms) = ap length j.start ∙ starts_group ms 0 0 0 ms in
-      ap length (flat_map-append _ before (M ∷ after)) ∙ length-append (flat_starts before) _ ∙ ap (λ n. length (flat_starts before) + n) (length-append (option_to_list M.start) (flat_starts after))
+      ap length (flat_map-append _ before (M ∷ after)) ∙ length-append (flat_starts before) _
+      ∙ ap (λ n. length (flat_starts before) + n) (length-append (option_to_list M.start) (flat_starts after))
       ∙ ap (λ n. length (flat_starts before) + (n + length (flat_starts after))) own
       ∙ ap (λ n. length (flat_starts before) + n) (sym (length-append (flat_starts ms) (flat_starts after)) ∙ ap length (sym (flat_map-append _ ms after)))
       ∙ sym (length-append (flat_starts before) _) ∙ ap length (sym (flat_map-append _ before (ms ++ after)))
@@ -302,21 +330,27 @@ module _ (M : Parts) (ms before after : List Parts) (name : List ℕ) (j : IsJoi
     settings = are_settings M ms name j before after names placed
 
     paired_trees : (entries : Parts → List Tree) → entries M ≡ flat_map (λ site. map (joined_tree ms site) (entries site.parts)) (sited ms)
-        → Paired (MovedEntry ms home s other settings) (flat_map (λ site. map (λ t. (site, t)) (entries site.parts)) (sited linked)) (flat_map (λ site. map (λ t. (site, t)) (entries site.parts)) (sited flat))
+        → Paired (MovedEntry ms home s other settings) (flat_map (λ site. map (λ t. (site, t)) (entries site.parts)) (sited linked))
+        (flat_map (λ site. map (λ t. (site, t)) (entries site.parts)) (sited flat))
     paired_trees entries own =
         let E = MovedEntry ms home s other settings in
         paired_sites M ms name j before after E (λ site. map (λ t. (site, t)) (entries site.parts)) (λ site. map (λ t. (site, t)) (entries site.parts))
         (λ site. Paired-same E (λ x. stays x.0 x.1) (map (λ t. (site, t)) (entries site.parts)))
         (subst (λ ts. Paired E (map (λ t. (home, t)) ts) (flat_map (λ site. map (λ t. (shifted home site, t)) (entries site.parts)) (sited ms))) (sym own)
-        (paired_joined E (λ site. entries site.parts) (joined_tree ms) (λ t. (home, t)) (λ site t. (shifted home site, t)) (IsOfGroup ms) (λ site within t. joins site t within) (sited ms) (are_of_group 0 0 0 ms)))
+        (paired_joined E (λ site. entries site.parts) (joined_tree ms) (λ t. (home, t)) (λ site t. (shifted home site, t)) (IsOfGroup ms)
+        (λ site within t. joins site t within) (sited ms) (are_of_group 0 0 0 ms)))
 
     same_walk : walk_answer linked s ≡ walk_answer flat other
     same_walk =
-        let a = first_some-agrees (MovedPublic ms home) (public_fact s) (public_fact other) (public_agrees ms home s other settings) s.publics other.publics settings.publics in
-        let b = steps_agree ms home s other settings [] [] tt (steps linked) (steps flat) (paired_steps M ms name j (valid_middle before ms after valid) before after) in
-        let c = first_some-agrees (MovedEntry ms home s other settings) (start_fact s) (start_fact other) (start_agrees ms home s other settings) (start_trees linked) (start_trees flat)
+        let a = first_some-agrees (MovedPublic ms home) (public_fact s) (public_fact other) (public_agrees ms home s other settings) s.publics
+        other.publics settings.publics in
+        let b = steps_agree ms home s other settings [] [] tt (steps linked) (steps flat)
+        (paired_steps M ms name j (valid_middle before ms after valid) before after) in
+        let c = first_some-agrees (MovedEntry ms home s other settings) (start_fact s) (start_fact other) (start_agrees ms home s other settings)
+        (start_trees linked) (start_trees flat)
         (paired_trees (λ m. option_to_list m.start) j.start) in
-        let d = first_numbered-agrees (MovedEntry ms home s other settings) (debug_fact s) (debug_fact other) (debug_agrees ms home s other settings) 0 (debug_trees linked) (debug_trees flat)
+        let d = first_numbered-agrees (MovedEntry ms home s other settings) (debug_fact s) (debug_fact other) (debug_agrees ms home s other settings)
+        0 (debug_trees linked) (debug_trees flat)
         (paired_trees (λ m. expressions_of (marks_of m.debug)) (ap expressions_of j.debug ∙ group_expressions ms (sited ms))) in
         λ i. a i or_else (b i or_else (c i or_else d i))
 

@@ -11,7 +11,8 @@ use Rattle.mufom_meaning.specs.Values.{setting}
 use Rattle.mufom_meaning.specs.Placed.{placed_commons, planned_bases}
 use Rattle.mufom_meaning.specs.Cycles.{leads_from}
 use Rattle.mufom_meaning.specs.Counts.{loaded_total}
-use Rattle.mufom_meaning.specs.Facts.{Descriptor, LinkFact, mismatch, duplicate, duplicate_start, LocateFact, placement, undefined, common_unplaced, cycle, image_limit, zero_divisor, load_outside, loaded_twice, overflow}
+use Rattle.mufom_meaning.specs.Facts.{Descriptor, LinkFact, mismatch, duplicate, duplicate_start, LocateFact, placement, undefined, common_unplaced}
+use Rattle.mufom_meaning.specs.Facts.{cycle, image_limit, zero_divisor, load_outside, loaded_twice, overflow}
 use Rattle.mufom_meaning.specs.Stands.{StandsIn, LinkFactStands, StandsBeforeWalk, StandsInWalk, LocateFactStands}
 use Rattle.mufom_meaning.proofs.facts.LinkFacts.{IsRepeated}
 use Rattle.mufom_meaning.proofs.Placed.{same_placed_commons, same_planned}
@@ -74,9 +75,11 @@ before_walk_like ms ns h plan b (overflow section at kind size v) f = absurd f
 abbrev StandsAt : List Parts → Plan → Bases → LocateFact → Type 0
 StandsAt ms plan b fact =
     StandsBeforeWalk ms plan (setting ms b) fact
-    ⊎ (((other : LinkFact) → ¬ LinkFactStands ms other) × ((other : LocateFact) → ¬ StandsBeforeWalk ms plan (setting ms b) other) × StandsInWalk ms (setting ms b) fact)
+    ⊎ (((other : LinkFact) → ¬ LinkFactStands ms other) × ((other : LocateFact) → ¬ StandsBeforeWalk ms plan (setting ms b) other)
+    × StandsInWalk ms (setting ms b) fact)
 
-stands_at_like : (ms ns : List Parts) → Alike ms ns → (plan : Plan) (b : Bases) → Follows ms ns (setting ms b) (setting ns b) → (fact : LocateFact) → StandsAt ms plan b fact → StandsAt ns plan b fact
+stands_at_like : (ms ns : List Parts) → Alike ms ns → (plan : Plan) (b : Bases) → Follows ms ns (setting ms b) (setting ns b) → (fact : LocateFact)
+    → StandsAt ms plan b fact → StandsAt ns plan b fact
 stands_at_like ms ns h plan b walk fact (inl f) = inl (before_walk_like ms ns h plan b fact f)
 stands_at_like ms ns h plan b walk fact (inr f) = inr (
   λ other g. f.0 other (link_fact_like ns ms (alike_back ms ns h) other g),

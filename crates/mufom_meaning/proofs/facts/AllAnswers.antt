@@ -1,5 +1,6 @@
 -- The answers are about the facts.
-use Rattle.std.proofs.Common.{◌≡◌, ℕ, zero, suc, ◌<◌, ◌⊎◌, inl, inr, List, [], ◌∷◌, map, length, Option, Some, None, Bool, true, false, not, refl, sym, ◌∙◌, ap, subst, arith}
+use Rattle.std.proofs.Common.{◌≡◌, ℕ, zero, suc, ◌<◌, ◌⊎◌, inl, inr, List, [], ◌∷◌, map, length, Option, Some, None, Bool, true, false, not, refl}
+use Rattle.std.proofs.Common.{sym, ◌∙◌, ap, subst, arith}
 use Rattle.std.specs.Prelude.{slice_get, option_map, nat_lt, if◌then◌else◌, IsTrue}
 use Rattle.std.specs.Str.{bytes_eq}
 use Rattle.std.proofs.lemmas.Slice.Eq.{bytes_eq-Decides}
@@ -14,7 +15,8 @@ use Rattle.mufom_meaning.specs.Bases.{no_bases}
 use Rattle.mufom_meaning.specs.Flat.{width, SitedPublic, flat_sections, flat_publics, public_names, first_named, needs, commons, common_names}
 use Rattle.mufom_meaning.specs.Values.{Setting, setting}
 use Rattle.mufom_meaning.specs.Placed.{placed_commons, planned_bases}
-use Rattle.mufom_meaning.specs.Facts.{LinkFact, LocateFact, placement, undefined, common_unplaced, cycle, image_limit, zero_divisor, load_outside, loaded_twice, overflow}
+use Rattle.mufom_meaning.specs.Facts.{LinkFact, LocateFact, placement, undefined, common_unplaced, cycle, image_limit, zero_divisor, load_outside}
+use Rattle.mufom_meaning.specs.Facts.{loaded_twice, overflow}
 use Rattle.mufom_meaning.specs.Stands.{LinkFactStands, StandsIn, StandsBeforeWalk, StandsInWalk, LocateFactStands}
 use Rattle.mufom_meaning.specs.Cycles.{leads_from, is_on_cycle}
 use Rattle.mufom_meaning.specs.LocateAnswer.{first_undefined, first_unplaced_common, cycle_at, image_limit_at, locate_answer}
@@ -23,7 +25,8 @@ use Rattle.mufom_meaning.specs.Walk.{walk_answer}
 use Rattle.mufom_meaning.specs.FactLaws.{AnswersAreFacts}
 use Rattle.mufom_meaning.proofs.Names.{names_of, names_of-sited_publics}
 use Rattle.mufom_meaning.proofs.facts.Chains.{cycles_are_short}
-use Rattle.mufom_meaning.proofs.facts.Answers.{or_else_some, or_else_none, first_some_at, first_some_none, find_at, find_none, untrue, not_false, link_sound, link_complete}
+use Rattle.mufom_meaning.proofs.facts.Answers.{or_else_some, or_else_none, first_some_at, first_some_none, find_at, find_none, untrue, not_false}
+use Rattle.mufom_meaning.proofs.facts.Answers.{link_sound, link_complete}
 use Rattle.mufom_place.proofs.FactLemmas.{refusal_sound, refusal_complete}
 use Rattle.mufom_meaning.proofs.Choices.{mapped_none, of_lt, is_lt}
 use Rattle.mufom_meaning.proofs.Tests.{chosen_some, chosen_none}
@@ -54,14 +57,16 @@ module _ (ms : List Parts) (plan : Plan) where
       let unknown : has_name (common_names ms) name ≡ false = h.1 in cc
   before_complete a d e f g (common_unplaced name) h =
       empty (commons ms) (ap (λ b. option_map common_unplaced (if b then None else slice_get (common_names ms) 0)) (sym h.0) ∙ e) h.1.1.0 h.1.1.1 where
-        empty : (cs : List (List ℕ × ℕ)) → option_map common_unplaced (slice_get (map (λ c. c.0) cs) 0) ≡ None → (i : ℕ) → slice_get cs i ≡ Some (name, h.1.0) → ⊥
+        empty : (cs : List (List ℕ × ℕ)) → option_map common_unplaced (slice_get (map (λ c. c.0) cs) 0) ≡ None → (i : ℕ) → slice_get cs i
+            ≡ Some (name, h.1.0) → ⊥
         empty [] d i h = cc
         empty (c ∷ cs) d i h = cc
   before_complete a d e f g (cycle name) h = by_first (first_named (flat_publics ms) name) refl ((cycles_are_short ms name).0 h) where
     by_first : (o : Option SitedPublic) → first_named (flat_publics ms) name ≡ o → IsTrue (is_on_cycle ms name) → ⊥
     by_first None same on =
         let so : leads_from (setting ms no_bases) (length (flat_publics ms)) name (first_named (flat_publics ms) name) ≡ true = on in
-        let none : leads_from (setting ms no_bases) (length (flat_publics ms)) name (first_named (flat_publics ms) name) ≡ false = ap (leads_from (setting ms no_bases) (length (flat_publics ms)) name) same in cc
+        let none : leads_from (setting ms no_bases) (length (flat_publics ms)) name (first_named (flat_publics ms) name) ≡ false =
+        ap (leads_from (setting ms no_bases) (length (flat_publics ms)) name) same in cc
     by_first (Some q) same on =
         let found = find_at (λ p. bytes_eq p.entry.name name) (flat_publics ms) q same in
         let named : q.entry.name ≡ name = (bytes_eq-Decides q.entry.name name).0 found.1 in
@@ -82,10 +87,12 @@ module _ (ms : List Parts) (plan : Plan) where
   Stands fact = ((other : LinkFact) → ¬ LinkFactStands ms other) → LocateFactStands ms plan fact
 
   in_walk : no_refusal → option_map undefined (first_undefined ms) ≡ None → option_map common_unplaced (first_unplaced_common ms plan) ≡ None
-      → first_some (cycle_at ms) (public_names ms) ≡ None → image_limit_at (loaded_total ms) ≡ None → (fact : LocateFact) → walk_answer ms s ≡ Some fact → Stands fact
+      → first_some (cycle_at ms) (public_names ms) ≡ None → image_limit_at (loaded_total ms) ≡ None → (fact : LocateFact) → walk_answer ms s
+      ≡ Some fact → Stands fact
   in_walk a d e f g fact h = λ links. inr (links, before_complete a d e f g, walk_sound ms s fact h)
 
-  named_sound : (make : List ℕ → LocateFact) (o : Option (List ℕ)) (fact : LocateFact) → option_map make o ≡ Some fact → (name : List ℕ) × (o ≡ Some name) × (make name ≡ fact)
+  named_sound : (make : List ℕ → LocateFact) (o : Option (List ℕ)) (fact : LocateFact) → option_map make o ≡ Some fact → (name : List ℕ)
+      × (o ≡ Some name) × (make name ≡ fact)
   named_sound make None fact e = absurd cc
   named_sound make (Some name) fact e = (name, refl, cc)
 
@@ -120,18 +127,22 @@ module _ (ms : List Parts) (plan : Plan) where
         from false e name h = (e, common_at (commons ms) name h)
 
   seventh : no_refusal → option_map undefined (first_undefined ms) ≡ None → option_map common_unplaced (first_unplaced_common ms plan) ≡ None
-      → first_some (cycle_at ms) (public_names ms) ≡ None → (fact : LocateFact) → image_limit_at (loaded_total ms) or_else walk_answer ms s ≡ Some fact → Stands fact
+      → first_some (cycle_at ms) (public_names ms) ≡ None → (fact : LocateFact) → image_limit_at (loaded_total ms) or_else walk_answer ms s
+      ≡ Some fact → Stands fact
   seventh a d e f fact h = by_case (or_else_some (image_limit_at (loaded_total ms)) (walk_answer ms s) fact h) where
     by_case : (image_limit_at (loaded_total ms) ≡ Some fact) ⊎ ((image_limit_at (loaded_total ms) ≡ None) × (walk_answer ms s ≡ Some fact)) → Stands fact
     by_case (inl h) = limit_sound fact h
     by_case (inr h) = in_walk a d e f h.0 fact h.1
 
   sixth : no_refusal → option_map undefined (first_undefined ms) ≡ None → option_map common_unplaced (first_unplaced_common ms plan) ≡ None
-      → (fact : LocateFact) → first_some (cycle_at ms) (public_names ms) or_else (image_limit_at (loaded_total ms) or_else walk_answer ms s) ≡ Some fact → Stands fact
-  sixth a d e fact h = by_case (or_else_some (first_some (cycle_at ms) (public_names ms)) (image_limit_at (loaded_total ms) or_else walk_answer ms s) fact h) where
-    by_case : (first_some (cycle_at ms) (public_names ms) ≡ Some fact) ⊎ ((first_some (cycle_at ms) (public_names ms) ≡ None) × ((image_limit_at (loaded_total ms) or_else walk_answer ms s) ≡ Some fact)) → Stands fact
-    by_case (inl h) = cycle_sound fact h
-    by_case (inr h) = seventh a d e h.0 fact h.1
+      → (fact : LocateFact) → first_some (cycle_at ms) (public_names ms) or_else (image_limit_at (loaded_total ms) or_else walk_answer ms s)
+      ≡ Some fact → Stands fact
+  sixth a d e fact h = by_case (or_else_some (first_some (cycle_at ms) (public_names ms)) (image_limit_at (loaded_total ms)
+      or_else walk_answer ms s) fact h) where
+        by_case : (first_some (cycle_at ms) (public_names ms) ≡ Some fact)
+            ⊎ ((first_some (cycle_at ms) (public_names ms) ≡ None) × ((image_limit_at (loaded_total ms) or_else walk_answer ms s) ≡ Some fact)) → Stands fact
+        by_case (inl h) = cycle_sound fact h
+        by_case (inr h) = seventh a d e h.0 fact h.1
 
   abbrev after_commons : Option LocateFact
   after_commons = first_some (cycle_at ms) (public_names ms) or_else (image_limit_at (loaded_total ms) or_else walk_answer ms s)
@@ -139,7 +150,8 @@ module _ (ms : List Parts) (plan : Plan) where
   fifth : no_refusal → option_map undefined (first_undefined ms) ≡ None
       → (fact : LocateFact) → option_map common_unplaced (first_unplaced_common ms plan) or_else after_commons ≡ Some fact → Stands fact
   fifth a d fact h = by_case (or_else_some (option_map common_unplaced (first_unplaced_common ms plan)) after_commons fact h) where
-    by_case : (option_map common_unplaced (first_unplaced_common ms plan) ≡ Some fact) ⊎ ((option_map common_unplaced (first_unplaced_common ms plan) ≡ None) × (after_commons ≡ Some fact)) → Stands fact
+    by_case : (option_map common_unplaced (first_unplaced_common ms plan) ≡ Some fact)
+        ⊎ ((option_map common_unplaced (first_unplaced_common ms plan) ≡ None) × (after_commons ≡ Some fact)) → Stands fact
     by_case (inl h) = common_sound fact h
     by_case (inr h) = sixth a d h.0 fact h.1
 
@@ -148,7 +160,8 @@ module _ (ms : List Parts) (plan : Plan) where
 
   fourth : no_refusal → (fact : LocateFact) → option_map undefined (first_undefined ms) or_else after_needs ≡ Some fact → Stands fact
   fourth a fact h = by_case (or_else_some (option_map undefined (first_undefined ms)) after_needs fact h) where
-    by_case : (option_map undefined (first_undefined ms) ≡ Some fact) ⊎ ((option_map undefined (first_undefined ms) ≡ None) × (after_needs ≡ Some fact)) → Stands fact
+    by_case : (option_map undefined (first_undefined ms) ≡ Some fact)
+        ⊎ ((option_map undefined (first_undefined ms) ≡ None) × (after_needs ≡ Some fact)) → Stands fact
     by_case (inl h) = undefined_sound fact h
     by_case (inr h) = fifth a h.0 fact h.1
 
@@ -156,7 +169,8 @@ module _ (ms : List Parts) (plan : Plan) where
   place_sound fact h = from refusal refl h where
     from : (o : Option PlaceRefusal) → refusal ≡ o → option_map placement o ≡ Some fact → Stands fact
     from None e h = absurd cc
-    from (Some found) e h = let same : placement found ≡ fact = cc in subst Stands same (λ links. inl (refusal_sound (width ms) plan (flat_sections ms) (placed_commons ms plan) found e))
+    from (Some found) e h = let same : placement found ≡ fact = cc in
+        subst Stands same (λ links. inl (refusal_sound (width ms) plan (flat_sections ms) (placed_commons ms plan) found e))
 
   no_placement : option_map placement refusal ≡ None → no_refusal
   no_placement h = from refusal h where
@@ -167,7 +181,8 @@ module _ (ms : List Parts) (plan : Plan) where
   locate_sound : (fact : LocateFact) → locate_answer ms plan ≡ Some fact → Stands fact
   unfolding locate_answer
   locate_sound fact e = first (or_else_some (option_map placement refusal) (option_map undefined (first_undefined ms) or_else after_needs) fact e) where
-    first : (option_map placement refusal ≡ Some fact) ⊎ ((option_map placement refusal ≡ None) × ((option_map undefined (first_undefined ms) or_else after_needs) ≡ Some fact)) → Stands fact
+    first : (option_map placement refusal ≡ Some fact) ⊎ ((option_map placement refusal ≡ None)
+        × ((option_map undefined (first_undefined ms) or_else after_needs) ≡ Some fact)) → Stands fact
     first (inl h) = place_sound fact h
     first (inr h) = fourth (no_placement h.0) fact h.1
 
@@ -180,7 +195,8 @@ module _ (ms : List Parts) (plan : Plan) where
       let g = or_else_none (first_some (cycle_at ms) (public_names ms)) (image_limit_at (loaded_total ms) or_else walk_answer ms s) f.1 in
       let w = or_else_none (image_limit_at (loaded_total ms)) (walk_answer ms s) g.1 in
       by_case (before_complete (no_placement p.0) d.0 f.0 g.0 w.0) (walk_complete ms s w.1) h where
-        by_case : ((other : LocateFact) → ¬ StandsBeforeWalk ms plan s other) → ((other : LocateFact) → ¬ StandsInWalk ms s other) → LocateFactStands ms plan fact → ⊥
+        by_case : ((other : LocateFact) → ¬ StandsBeforeWalk ms plan s other) → ((other : LocateFact) → ¬ StandsInWalk ms s other)
+            → LocateFactStands ms plan fact → ⊥
         by_case before walk (inl h) = before fact h
         by_case before walk (inr h) = walk fact h.2
 

@@ -1,5 +1,6 @@
 -- What is answered in place of a link or a location is a fact, and facts are answered.
-use Rattle.std.proofs.Common.{◌||◌, ◌≡◌, ℕ, zero, suc, ◌<◌, ◌⊎◌, inl, inr, List, [], ◌∷◌, length, Option, Some, None, Bool, true, false, not, ◌&&◌, refl, sym, ◌∙◌, ap, cond, arith, rules}
+use Rattle.std.proofs.Common.{◌||◌, ◌≡◌, ℕ, zero, suc, ◌<◌, ◌⊎◌, inl, inr, List, [], ◌∷◌, length, Option, Some, None, Bool, true, false, not, ◌&&◌}
+use Rattle.std.proofs.Common.{refl, sym, ◌∙◌, ap, cond, arith, rules}
 use Rattle.std.specs.Prelude.{slice_get, find, option_map, ◌==◌, if◌then◌else◌}
 use Rattle.std.specs.Str.{bytes_eq}
 use Rattle.std.proofs.lemmas.Slice.Eq.{bytes_eq-Decides}
@@ -27,7 +28,8 @@ or_else_none (Some y) u e = absurd cc
 pub first_some_at : {A B : Type 0} (f : A → Option B) (xs : List A) (b : B) → first_some f xs ≡ Some b → (x : A) × StandsIn x xs × (f x ≡ Some b)
 first_some_at f [] b e = absurd cc
 first_some_at {A} {B} f (x ∷ xs) b e = by_case (or_else_some (f x) (first_some f xs) b e) (λ h. first_some_at f xs b h) where
-  by_case : (f x ≡ Some b) ⊎ ((f x ≡ None) × (first_some f xs ≡ Some b)) → (first_some f xs ≡ Some b → (y : A) × StandsIn y xs × (f y ≡ Some b)) → (y : A) × StandsIn y (x ∷ xs) × (f y ≡ Some b)
+  by_case : (f x ≡ Some b) ⊎ ((f x ≡ None) × (first_some f xs ≡ Some b)) → (first_some f xs ≡ Some b → (y : A) × StandsIn y xs × (f y ≡ Some b))
+      → (y : A) × StandsIn y (x ∷ xs) × (f y ≡ Some b)
   by_case (inl h) later = (x, (0, refl), h)
   by_case (inr h) later = let found = later h.1 in (found.0, (suc found.1.0, found.1.1), found.2)
 
@@ -58,12 +60,14 @@ same_descriptor-there m n e =
 
 same_descriptor-back : (m n : Parts) → descriptor m ≡ descriptor n → same_descriptor m n ≡ true
 same_descriptor-back m n e =
-    ap (λ b. b && same_order m.order n.order) ((numbers m.maus n.maus).1 (ap (λ (d : Descriptor). d.0) e)) ∙ (same_order-decides m.order n.order).1 (ap (λ (d : Descriptor). d.1) e)
+    ap (λ b. b && same_order m.order n.order) ((numbers m.maus n.maus).1 (ap (λ (d : Descriptor). d.0) e))
+    ∙ (same_order-decides m.order n.order).1 (ap (λ (d : Descriptor). d.1) e)
 
 pub find_at : {A : Type 0} (p : A → Bool) (xs : List A) (x : A) → find p xs ≡ Some x → StandsIn x xs × (p x ≡ true)
 find_at p [] x e = absurd cc
 find_at p (y ∷ ys) x e = by_case (p y) refl e (find_at p ys x) where
-  by_case : (b : Bool) → p y ≡ b → cond b (Some y) (find p ys) ≡ Some x → (find p ys ≡ Some x → StandsIn x ys × (p x ≡ true)) → StandsIn x (y ∷ ys) × (p x ≡ true)
+  by_case : (b : Bool) → p y ≡ b → cond b (Some y) (find p ys) ≡ Some x → (find p ys ≡ Some x → StandsIn x ys × (p x ≡ true)) → StandsIn x (y ∷ ys)
+      × (p x ≡ true)
   by_case true h e later = let same : y ≡ x = cc in ((0, e), ap p (sym same) ∙ h)
   by_case false h e later = let found = later e in ((suc found.0.0, found.0.1), found.1)
 
@@ -86,22 +90,24 @@ not_false false e = absurd cc
 
 mismatch_sound : (ms : List Parts) (fact : LinkFact) → first_mismatch ms ≡ Some fact → LinkFactStands ms fact
 mismatch_sound [] fact e = absurd cc
-mismatch_sound (m ∷ ms) fact e = stands fact (mapped_some (λ other. mismatch (descriptor m) (descriptor other)) (find (λ other. not (same_descriptor m other)) ms) fact e) where
-  stands : (fact : LinkFact) → (n : Parts) × (find (λ other. not (same_descriptor m other)) ms ≡ Some n) × (mismatch (descriptor m) (descriptor n) ≡ fact) → LinkFactStands (m ∷ ms) fact
-  stands (mismatch d f) found =
-      let there = find_at (λ other. not (same_descriptor m other)) ms found.0 found.1 in
-      let differ : same_descriptor m found.0 ≡ false = untrue (same_descriptor m found.0) there.1 in
-      let own : descriptor m ≡ d = cc in let others : descriptor found.0 ≡ f = cc in (
-        m,
-        found.0,
-        (0, refl),
-        (suc there.0.0, there.0.1),
-        own,
-        others,
-        λ same. let equal : same_descriptor m found.0 ≡ true = same_descriptor-back m found.0 (own ∙ same ∙ sym others) in cc,
-      )
-  stands (duplicate s) found = absurd cc
-  stands duplicate_start found = absurd cc
+mismatch_sound (m ∷ ms) fact e = stands fact (mapped_some (λ other. mismatch (descriptor m) (descriptor other))
+    (find (λ other. not (same_descriptor m other)) ms) fact e) where
+      stands : (fact : LinkFact) → (n : Parts) × (find (λ other. not (same_descriptor m other)) ms ≡ Some n)
+          × (mismatch (descriptor m) (descriptor n) ≡ fact) → LinkFactStands (m ∷ ms) fact
+      stands (mismatch d f) found =
+          let there = find_at (λ other. not (same_descriptor m other)) ms found.0 found.1 in
+          let differ : same_descriptor m found.0 ≡ false = untrue (same_descriptor m found.0) there.1 in
+          let own : descriptor m ≡ d = cc in let others : descriptor found.0 ≡ f = cc in (
+            m,
+            found.0,
+            (0, refl),
+            (suc there.0.0, there.0.1),
+            own,
+            others,
+            λ same. let equal : same_descriptor m found.0 ≡ true = same_descriptor-back m found.0 (own ∙ same ∙ sym others) in cc,
+          )
+      stands (duplicate s) found = absurd cc
+      stands duplicate_start found = absurd cc
 
 mismatch_complete : (ms : List Parts) → first_mismatch ms ≡ None → (d e : Descriptor) → ¬ LinkFactStands ms (mismatch d e)
 mismatch_complete [] h d e f = absurd (let at = f.2.1 in cc)
@@ -109,9 +115,11 @@ mismatch_complete (m ∷ ms) h d e f =
     let none : find (λ other. not (same_descriptor m other)) ms ≡ None = mapped_none (λ other. mismatch (descriptor m) (descriptor other)) _ h in
     let like_first : (n : Parts) (i : ℕ) → slice_get (m ∷ ms) i ≡ Some n → descriptor m ≡ descriptor n = λ n i at. first_is m ms none n i at in
     f.6 (sym f.4 ∙ sym (like_first f.0 f.2.0 f.2.1) ∙ like_first f.1 f.3.0 f.3.1 ∙ f.5) where
-      first_is : (m : Parts) (ms : List Parts) → find (λ other. not (same_descriptor m other)) ms ≡ None → (n : Parts) (i : ℕ) → slice_get (m ∷ ms) i ≡ Some n → descriptor m ≡ descriptor n
+      first_is : (m : Parts) (ms : List Parts) → find (λ other. not (same_descriptor m other)) ms ≡ None → (n : Parts) (i : ℕ) → slice_get (m ∷ ms) i
+          ≡ Some n → descriptor m ≡ descriptor n
       first_is m ms none n zero at = let same : m ≡ n = cc in ap descriptor same
-      first_is m ms none n (suc i) at = same_descriptor-there m n (not_false (same_descriptor m n) (find_none (λ other. not (same_descriptor m other)) ms none n i at))
+      first_is m ms none n (suc i) at = same_descriptor-there m n
+          (not_false (same_descriptor m n) (find_none (λ other. not (same_descriptor m other)) ms none n i at))
 
 -- a name that stands in the names before, or earlier among these
 abbrev StandsEarlier : List (List ℕ) → List (List ℕ) → List ℕ → ℕ → Type 0
@@ -123,7 +131,8 @@ has_name-cons x xs s h = by_case (bytes_eq s x) refl h where
   by_case true e h = inl (sym ((bytes_eq-Decides s x).0 e))
   by_case false e h = inr h
 
-duplicate_at : (before names : List (List ℕ)) (s : List ℕ) → first_duplicate before names ≡ Some s → (j : ℕ) × (slice_get names j ≡ Some s) × StandsEarlier before names s j
+duplicate_at : (before names : List (List ℕ)) (s : List ℕ) → first_duplicate before names ≡ Some s → (j : ℕ) × (slice_get names j ≡ Some s)
+    × StandsEarlier before names s j
 duplicate_at before [] s e = absurd cc
 duplicate_at before (name ∷ names) s e = by_case (has_name before name) refl e (duplicate_at (name ∷ before) names s) where
   by_case : (b : Bool) → has_name before name ≡ b → (if b then Some name else first_duplicate (name ∷ before) names) ≡ Some s
@@ -147,16 +156,20 @@ has_name-tail x xs s h = by_case (bytes_eq s x) h where
   by_case true e = absurd cc
   by_case false e = e
 
-no_duplicate : (before names : List (List ℕ)) → first_duplicate before names ≡ None → (s : List ℕ) (j : ℕ) → slice_get names j ≡ Some s → has_name before s ≡ false
+no_duplicate : (before names : List (List ℕ)) → first_duplicate before names ≡ None → (s : List ℕ) (j : ℕ) → slice_get names j ≡ Some s
+    → has_name before s ≡ false
 no_duplicate before [] e s j h = absurd cc
 no_duplicate before (name ∷ names) e s j h = by_case (has_name before name) refl e j h (no_duplicate (name ∷ before) names) where
-  by_case : (b : Bool) → has_name before name ≡ b → (if b then Some name else first_duplicate (name ∷ before) names) ≡ None → (j : ℕ) → slice_get (name ∷ names) j ≡ Some s
-      → (first_duplicate (name ∷ before) names ≡ None → (t : List ℕ) (k : ℕ) → slice_get names k ≡ Some t → has_name (name ∷ before) t ≡ false) → has_name before s ≡ false
+  by_case : (b : Bool) → has_name before name ≡ b → (if b then Some name else first_duplicate (name ∷ before) names) ≡ None → (j : ℕ)
+      → slice_get (name ∷ names) j ≡ Some s
+      → (first_duplicate (name ∷ before) names ≡ None → (t : List ℕ) (k : ℕ) → slice_get names k ≡ Some t → has_name (name ∷ before) t ≡ false)
+      → has_name before s ≡ false
   by_case true f e j h later = absurd cc
   by_case false f e zero h later = let same : name ≡ s = cc in ap (has_name before) (sym same) ∙ f
   by_case false f e (suc j) h later = has_name-tail name before s (later e s j h)
 
-pub distinct_places : (before names : List (List ℕ)) → first_duplicate before names ≡ None → (s : List ℕ) (i j : ℕ) → i < j → slice_get names i ≡ Some s → slice_get names j ≡ Some s → ⊥
+pub distinct_places : (before names : List (List ℕ)) → first_duplicate before names ≡ None → (s : List ℕ) (i j : ℕ) → i < j → slice_get names i
+    ≡ Some s → slice_get names j ≡ Some s → ⊥
 distinct_places before [] e s i j less a b = cc
 distinct_places before (name ∷ names) e s i zero less a b = omega arith
 distinct_places before (name ∷ names) e s zero (suc j) less a b = by_case (has_name before name) e (no_duplicate (name ∷ before) names) where
@@ -164,7 +177,8 @@ distinct_places before (name ∷ names) e s zero (suc j) less a b = by_case (has
       → (first_duplicate (name ∷ before) names ≡ None → (t : List ℕ) (k : ℕ) → slice_get names k ≡ Some t → has_name (name ∷ before) t ≡ false) → ⊥
   by_case true e later = cc
   by_case false e later =
-      let same : name ≡ s = cc in let none = later e s j b in let there : has_name (name ∷ before) s ≡ true = ap (has_name (name ∷ before)) (sym same) ∙ has_name-head name before in cc
+      let same : name ≡ s = cc in let none = later e s j b in let there : has_name (name ∷ before) s ≡ true = ap (has_name (name ∷ before)) (sym same)
+      ∙ has_name-head name before in cc
 distinct_places before (name ∷ names) e s (suc i) (suc j) less a b = by_case (has_name before name) e (distinct_places (name ∷ before) names) where
   by_case : (b : Bool) → (if b then Some name else first_duplicate (name ∷ before) names) ≡ None
       → (first_duplicate (name ∷ before) names ≡ None → (t : List ℕ) (k l : ℕ) → k < l → slice_get names k ≡ Some t → slice_get names l ≡ Some t → ⊥) → ⊥
@@ -200,11 +214,13 @@ link_sound ms fact e = first (or_else_some (first_mismatch ms) _ fact e) where
         earlier j at (inl none) = absurd cc
         earlier j at (inr h) = (j, at, (h.0, s, h.1, h.2, at))
 
-  second : (option_map duplicate (first_duplicate [] (public_names ms)) ≡ Some fact) ⊎ ((option_map duplicate (first_duplicate [] (public_names ms)) ≡ None) × (two_starts (flat_starts ms) ≡ Some fact)) → LinkFactStands ms fact
+  second : (option_map duplicate (first_duplicate [] (public_names ms)) ≡ Some fact)
+      ⊎ ((option_map duplicate (first_duplicate [] (public_names ms)) ≡ None) × (two_starts (flat_starts ms) ≡ Some fact)) → LinkFactStands ms fact
   second (inl h) = names fact (mapped_some duplicate (first_duplicate [] (public_names ms)) fact h)
   second (inr h) = starts fact h.1
 
-  first : (first_mismatch ms ≡ Some fact) ⊎ ((first_mismatch ms ≡ None) × ((option_map duplicate (first_duplicate [] (public_names ms)) or_else two_starts (flat_starts ms)) ≡ Some fact)) → LinkFactStands ms fact
+  first : (first_mismatch ms ≡ Some fact) ⊎ ((first_mismatch ms ≡ None)
+      × ((option_map duplicate (first_duplicate [] (public_names ms)) or_else two_starts (flat_starts ms)) ≡ Some fact)) → LinkFactStands ms fact
   first (inl h) = mismatch_sound ms fact h
   first (inr h) = second (or_else_some _ _ fact h.1)
 

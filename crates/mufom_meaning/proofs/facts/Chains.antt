@@ -1,5 +1,6 @@
 -- A chain of mentions that comes back has one that is no longer than the list of publics.
-use Rattle.std.proofs.Common.{◌≡◌, ℕ, zero, suc, ◌+◌, ◌-◌, ◌<◌, ◌≤◌, ◌⊎◌, inl, inr, List, [], ◌∷◌, length, Option, Some, None, Bool, true, false, ◌||◌, refl, sym, ◌∙◌, ap, subst, cond, arith}
+use Rattle.std.proofs.Common.{◌≡◌, ℕ, zero, suc, ◌+◌, ◌-◌, ◌<◌, ◌≤◌, ◌⊎◌, inl, inr, List, [], ◌∷◌, length, Option, Some, None, Bool, true, false}
+use Rattle.std.proofs.Common.{◌||◌, refl, sym, ◌∙◌, ap, subst, cond, arith}
 use Rattle.std.specs.Prelude.{slice_get, find, if◌then◌else◌}
 use Rattle.std.specs.List.{list_any}
 use Rattle.std.specs.Str.{bytes_eq}
@@ -47,7 +48,8 @@ module _ {A : Type 0} (p q : A → Bool) (keeps : (x : A) → p x ≡ true → q
         let here : p y ≡ q y = h y 0 refl in
         let rest : passing p ys ≤ passing q ys = not_less ys (inl (λ z i e. h z (suc i) e)) in
         same_step (p y) (q y) here rest where
-          same_step : (b c : Bool) → b ≡ c → passing p ys ≤ passing q ys → (if b then suc (passing p ys) else passing p ys) ≤ (if c then suc (passing q ys) else passing q ys)
+          same_step : (b c : Bool) → b ≡ c → passing p ys ≤ passing q ys
+              → (if b then suc (passing p ys) else passing p ys) ≤ (if c then suc (passing q ys) else passing q ys)
           same_step true true e h = omega arith
           same_step false false e h = h
           same_step true false e h = absurd cc
@@ -84,7 +86,8 @@ module _ (s : Setting) (name : List ℕ) where
   abbrev leads : ℕ → SitedPublic → Bool
   leads k q = leads_within s k name q.site q.entry.value
 
-  or_leads-keeps : (f g : Sited → Tree → Bool) → ((site : Sited) (t : Tree) → f site t ≡ true → g site t ≡ true) → (q : Option SitedPublic) → is_or_leads f name q ≡ true → is_or_leads g name q ≡ true
+  or_leads-keeps : (f g : Sited → Tree → Bool) → ((site : Sited) (t : Tree) → f site t ≡ true → g site t ≡ true) → (q : Option SitedPublic)
+      → is_or_leads f name q ≡ true → is_or_leads g name q ≡ true
   or_leads-keeps f g keeps None h = absurd cc
   or_leads-keeps f g keeps (Some q) h = by_case (bytes_eq q.entry.name name) h where
     by_case : (b : Bool) → (b || f q.site q.entry.value) ≡ true → (b || g q.site q.entry.value) ≡ true
@@ -95,8 +98,10 @@ module _ (s : Setting) (name : List ℕ) where
   leads_within-more : (k : ℕ) (site : Sited) (t : Tree) → leads_within s k name site t ≡ true → leads_within s (suc k) name site t ≡ true
   leads_within-more zero site t h = absurd cc
   leads_within-more (suc k) site t h =
-      list_any-keeps (λ v. is_or_leads (λ x y. leads_within s k name x y) name (mentioned s site v.0 v.1)) (λ v. is_or_leads (λ x y. leads_within s (suc k) name x y) name (mentioned s site v.0 v.1))
-      (λ v e. or_leads-keeps (λ x y. leads_within s k name x y) (λ x y. leads_within s (suc k) name x y) (leads_within-more k) (mentioned s site v.0 v.1) e) (variables_of t) h
+      list_any-keeps (λ v. is_or_leads (λ x y. leads_within s k name x y) name (mentioned s site v.0 v.1))
+      (λ v. is_or_leads (λ x y. leads_within s (suc k) name x y) name (mentioned s site v.0 v.1))
+      (λ v e. or_leads-keeps (λ x y. leads_within s k name x y) (λ x y. leads_within s (suc k) name x y) (leads_within-more k)
+      (mentioned s site v.0 v.1) e) (variables_of t) h
 
   leads_within-add : (d k : ℕ) (site : Sited) (t : Tree) → leads_within s k name site t ≡ true → leads_within s (d + k) name site t ≡ true
   leads_within-add zero k site t h = let same : k ≡ 0 + k = omega arith in ap (λ n. leads_within s n name site t) (sym same) ∙ h
@@ -140,10 +145,12 @@ module _ (s : Setting) (name : List ℕ) where
   stable_or_many : (k : ℕ) → ((j : ℕ) × (j < k) × IsStable j) ⊎ (k ≤ passing (leads k) s.publics)
   stable_or_many zero = inr (omega arith)
   stable_or_many (suc k) = by_case (stable_or_many k) where
-    by_case : ((j : ℕ) × (j < k) × IsStable j) ⊎ (k ≤ passing (leads k) s.publics) → ((j : ℕ) × (j < suc k) × IsStable j) ⊎ (suc k ≤ passing (leads (suc k)) s.publics)
+    by_case : ((j : ℕ) × (j < k) × IsStable j) ⊎ (k ≤ passing (leads k) s.publics) → ((j : ℕ) × (j < suc k) × IsStable j)
+        ⊎ (suc k ≤ passing (leads (suc k)) s.publics)
     by_case (inl h) = let less : h.0 < suc k = omega (arith, h.1) in inl (h.0, less, h.2)
     by_case (inr h) = grown h (agree_or_more (leads k) (leads (suc k)) (λ q e. leads_within-more k q.site q.entry.value e) s.publics) where
-      grown : k ≤ passing (leads k) s.publics → AgreeOn (leads k) (leads (suc k)) (λ q e. leads_within-more k q.site q.entry.value e) s.publics ⊎ (passing (leads k) s.publics < passing (leads (suc k)) s.publics)
+      grown : k ≤ passing (leads k) s.publics → AgreeOn (leads k) (leads (suc k)) (λ q e. leads_within-more k q.site q.entry.value e) s.publics
+          ⊎ (passing (leads k) s.publics < passing (leads (suc k)) s.publics)
           → ((j : ℕ) × (j < suc k) × IsStable j) ⊎ (suc k ≤ passing (leads (suc k)) s.publics)
       grown h (inl stable) = let less : k < suc k = omega arith in inl (k, less, stable)
       grown h (inr more) = inr (omega arith)
@@ -173,7 +180,8 @@ module _ (s : Setting) (name : List ℕ) where
         commute : (a b : ℕ) → a + b ≡ b + a
         commute a b = omega arith
 
-short_cycle : (s : Setting) (name : List ℕ) (m : ℕ) (o : Option SitedPublic) → first_named s.publics name ≡ o → leads_from s m name o ≡ true → leads_from s (length s.publics) name o ≡ true
+short_cycle : (s : Setting) (name : List ℕ) (m : ℕ) (o : Option SitedPublic) → first_named s.publics name ≡ o → leads_from s m name o ≡ true
+    → leads_from s (length s.publics) name o ≡ true
 short_cycle s name m None e h = absurd cc
 short_cycle s name m (Some q) e h = let there = found_among _ s.publics q e in short_chain s name m q there.0 there.1 h
 

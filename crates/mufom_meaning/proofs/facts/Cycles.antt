@@ -1,5 +1,6 @@
 -- Names lead in circles in the list with a link where they do in the list with the group.
-use Rattle.std.proofs.Common.{◌≡◌, ℕ, zero, suc, ◌+◌, List, [], ◌∷◌, map, length, Option, Some, None, Bool, true, false, ◌||◌, refl, sym, ◌∙◌, ap, subst, add_assoc}
+use Rattle.std.proofs.Common.{◌≡◌, ℕ, zero, suc, ◌+◌, List, [], ◌∷◌, map, length, Option, Some, None, Bool, true, false, ◌||◌, refl, sym, ◌∙◌, ap}
+use Rattle.std.proofs.Common.{subst, add_assoc}
 use Rattle.std.specs.Prelude.{slice_get, if◌then◌else◌}
 use Rattle.std.specs.List.{list_any}
 use Rattle.std.specs.Str.{bytes_eq}
@@ -55,8 +56,10 @@ module _ (ms : List Parts) (home : Sited) (s other : Setting) (h : AreSettings m
   along : (p p' q q' : Option SitedPublic) → p ≡ p' → q' ≡ q → Both p' q' → Both p q
   along p p' q q' e f both = subst (λ x. Both x q) (sym e) (subst (λ y. Both p' y) f both)
 
-  named_there : (site : Sited) → IsOfGroup ms site → (n : ℕ) (r : Reference) → slice_get site.parts.names.references n ≡ Some r → (b : Bool) → has_name (public_names ms) r.name ≡ b
-      → Both (linked (if b then (letters.I, position_of (λ public. bytes_eq public r.name) (public_names ms)) else (letters.X, position_of (same_reference r) (kept_references ms)))) (mentioned_reference other (Some r))
+  named_there : (site : Sited) → IsOfGroup ms site → (n : ℕ) (r : Reference) → slice_get site.parts.names.references n ≡ Some r → (b : Bool)
+      → has_name (public_names ms) r.name ≡ b
+      → Both (linked (if b then (letters.I, position_of (λ public. bytes_eq public r.name) (public_names ms))
+      else (letters.X, position_of (same_reference r) (kept_references ms)))) (mentioned_reference other (Some r))
   named_there site within n r e true met =
       let q = h.first r.name met in
       along _ _ _ _ refl (q.1 ∙ sym q.2) (public_both (home.first_public + position_of (λ public. bytes_eq public r.name) (public_names ms)))
@@ -64,21 +67,26 @@ module _ (ms : List Parts) (home : Sited) (s other : Setting) (h : AreSettings m
       let found = kept_reference ms home s other h (λ x y. None) (λ x y. None) (λ x y x' y' m. refl) site within n r e fails in
       along _ _ _ _ (ap (mentioned_reference s) (found.1 ∙ ap Some (sym found.2))) refl (reference_both (Some r))
 
-  reference_there : (site : Sited) → IsOfGroup ms site → (n : ℕ) (r : Option Reference) → slice_get site.parts.names.references n ≡ r → Both (linked (joined_reference ms r)) (mentioned_reference other r)
+  reference_there : (site : Sited) → IsOfGroup ms site → (n : ℕ) (r : Option Reference) → slice_get site.parts.names.references n ≡ r
+      → Both (linked (joined_reference ms r)) (mentioned_reference other r)
   reference_there site within n None e =
-      along _ _ _ _ (ap (λ rs. mentioned_reference s (slice_get rs (length (kept_references ms)))) h.references ∙ ap (mentioned_reference s) (get-length (kept_references ms))) refl tt
+      along _ _ _ _ (ap (λ rs. mentioned_reference s (slice_get rs (length (kept_references ms)))) h.references
+      ∙ ap (mentioned_reference s) (get-length (kept_references ms))) refl tt
   reference_there site within n (Some r) e = named_there site within n r e (has_name (public_names ms) r.name) refl
 
-  mentioned_there : (site : Sited) → IsOfGroup ms site → (l : Letter) (n : ℕ) → Both (linked (joined_variable ms site l n)) (mentioned other (shifted home site) l n)
+  mentioned_there : (site : Sited) → IsOfGroup ms site → (l : Letter) (n : ℕ)
+      → Both (linked (joined_variable ms site l n)) (mentioned other (shifted home site) l n)
   mentioned_there site within letters.R n = tt
   mentioned_there site within letters.L n = tt
   mentioned_there site within letters.S n = tt
   mentioned_there site within letters.P n = tt
   mentioned_there site within letters.I n =
-      along _ _ _ _ (ap (slice_get s.publics) (sym (add_assoc home.first_public site.first_public n))) refl (public_both ((home.first_public + site.first_public) + n))
+      along _ _ _ _ (ap (slice_get s.publics) (sym (add_assoc home.first_public site.first_public n))) refl
+      (public_both ((home.first_public + site.first_public) + n))
   mentioned_there site within letters.X n = reference_there site within n (slice_get site.parts.names.references n) refl
 
-  agree_leads : (leads leads' : Sited → Tree → Bool) → ((site : Sited) (t : Tree) (site' : Sited) (t' : Tree) → MovedTree ms home site t site' t' → leads site t ≡ leads' site' t')
+  agree_leads : (leads leads' : Sited → Tree → Bool) → ((site : Sited) (t : Tree) (site' : Sited) (t' : Tree) → MovedTree ms home site t site' t'
+      → leads site t ≡ leads' site' t')
       → (name : List ℕ) (p q : Option SitedPublic) → Both p q → is_or_leads leads name p ≡ is_or_leads leads' name q
   agree_leads leads leads' same name None None m = refl
   agree_leads leads leads' same name (Some p) (Some q) m =
@@ -90,11 +98,15 @@ module _ (ms : List Parts) (home : Sited) (s other : Setting) (h : AreSettings m
       → leads_within s k name site t ≡ leads_within other k name site' t'
   same_leads zero name site t site' t' m = refl
   same_leads (suc k) name _ _ _ _ (stays site t) =
-      list_any-agrees _ _ (λ v. agree_leads (λ x y. leads_within s k name x y) (λ x y. leads_within other k name x y) (same_leads k name) name _ _ (mentioned_here site v.0 v.1)) (variables_of t)
+      list_any-agrees _ _ (λ v. agree_leads (λ x y. leads_within s k name x y) (λ x y. leads_within other k name x y) (same_leads k name) name _ _
+      (mentioned_here site v.0 v.1)) (variables_of t)
   same_leads (suc k) name _ _ _ _ (joins site t within) =
-      ap (list_any (λ v. is_or_leads (λ x y. leads_within s k name x y) name (mentioned s home v.0 v.1))) (variables_of-with_variables (joined_variable ms site) t)
-      ∙ list_any-map (λ v. is_or_leads (λ x y. leads_within s k name x y) name (mentioned s home v.0 v.1)) (λ v. joined_variable ms site v.0 v.1) (variables_of t)
-      ∙ list_any-agrees _ _ (λ v. agree_leads (λ x y. leads_within s k name x y) (λ x y. leads_within other k name x y) (same_leads k name) name _ _ (mentioned_there site within v.0 v.1)) (variables_of t)
+      ap (list_any (λ v. is_or_leads (λ x y. leads_within s k name x y) name (mentioned s home v.0 v.1)))
+      (variables_of-with_variables (joined_variable ms site) t)
+      ∙ list_any-map (λ v. is_or_leads (λ x y. leads_within s k name x y) name (mentioned s home v.0 v.1)) (λ v. joined_variable ms site v.0 v.1)
+      (variables_of t)
+      ∙ list_any-agrees _ _ (λ v. agree_leads (λ x y. leads_within s k name x y) (λ x y. leads_within other k name x y) (same_leads k name) name _ _
+      (mentioned_there site within v.0 v.1)) (variables_of t)
 
   pub from_both : (k : ℕ) (name : List ℕ) (p q : Option SitedPublic) → Both p q → leads_from s k name p ≡ leads_from other k name q
   from_both k name None None m = refl
@@ -102,7 +114,8 @@ module _ (ms : List Parts) (home : Sited) (s other : Setting) (h : AreSettings m
   from_both k name None (Some q) m = absurd m
   from_both k name (Some p) None m = absurd m
 
-  pub same_cycle : (name : List ℕ) → leads_from s (length s.publics) name (first_named s.publics name) ≡ leads_from other (length other.publics) name (first_named other.publics name)
+  pub same_cycle : (name : List ℕ) → leads_from s (length s.publics) name (first_named s.publics name)
+      ≡ leads_from other (length other.publics) name (first_named other.publics name)
   same_cycle name =
       ap (λ k. leads_from s k name (first_named s.publics name)) (Paired-length (MovedPublic ms home) s.publics other.publics h.publics)
       ∙ from_both (length other.publics) name _ _ (first_both name)

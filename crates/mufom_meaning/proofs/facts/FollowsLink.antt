@@ -54,10 +54,19 @@ module _ (R : Step → Step → Type 0) where
 
   put_back-paired : (earlier more ys : List Step) → Paired R (put_back earlier more) ys → PutBack earlier more ys
   put_back-paired [] more ys p = record { earlier' = []; more' = ys; split = refl; before = tt; after = p }
-  put_back-paired (step ∷ earlier) more ys p = let found = put_back-paired earlier (step ∷ more) ys p in by_more found.earlier' found.more' found.split found.before found.after where
-    by_more : (earlier' more' : List Step) → ys ≡ put_back earlier' more' → Paired R earlier earlier' → Paired R (step ∷ more) more' → PutBack (step ∷ earlier) more ys
-    by_more earlier' [] split before after = absurd after
-    by_more earlier' (step' ∷ more') split before after = record { earlier' = step' ∷ earlier'; more' = more'; split = split; before = (after.0, before); after = after.1 }
+  put_back-paired (step ∷ earlier) more ys p = let found = put_back-paired earlier (step ∷ more) ys p in
+      by_more found.earlier' found.more' found.split found.before found.after where
+        by_more : (earlier' more' : List Step) → ys ≡ put_back earlier' more' → Paired R earlier earlier' → Paired R (step ∷ more) more'
+            → PutBack (step ∷ earlier) more ys
+        by_more earlier' [] split before after = absurd after
+        by_more earlier' (step' ∷ more') split before after = record {
+          earlier' = step' ∷ earlier';
+          more' = more';
+          split = split;
+          before =
+              (after.0, before);
+          after = after.1;
+        }
 
   record StepLike (ns : List Parts) (earlier : List Step) (step : Step) : Type 0 where
     earlier' : List Step
@@ -66,12 +75,20 @@ module _ (R : Step → Step → Type 0) where
     before : Paired R earlier earlier'
     own : R step step'
 
-  step_like : (ms ns : List Parts) → Paired R (steps ms) (steps ns) → (earlier : List Step) (step : Step) → IsStepAfter ms earlier step → StepLike ns earlier step
+  step_like : (ms ns : List Parts) → Paired R (steps ms) (steps ns) → (earlier : List Step) (step : Step) → IsStepAfter ms earlier step
+      → StepLike ns earlier step
   step_like ms ns p earlier step h = let found = put_back-paired earlier (step ∷ h.0) (steps ns) (subst (λ xs. Paired R xs (steps ns)) h.1 p) in
       by_more found.earlier' found.more' found.split found.before found.after where
-        by_more : (earlier' more' : List Step) → steps ns ≡ put_back earlier' more' → Paired R earlier earlier' → Paired R (step ∷ h.0) more' → StepLike ns earlier step
+        by_more : (earlier' more' : List Step) → steps ns ≡ put_back earlier' more' → Paired R earlier earlier' → Paired R (step ∷ h.0) more'
+            → StepLike ns earlier step
         by_more earlier' [] split before after = absurd after
-        by_more earlier' (step' ∷ more') split before after = record { earlier' = earlier'; step' = step'; there = (more', split); before = before; own = after.0 }
+        by_more earlier' (step' ∷ more') split before after = record {
+          earlier' = earlier';
+          step' = step';
+          there = (more', split);
+          before = before;
+          own = after.0;
+        }
 
 -- What agrees one way agrees the other way.
 module _ (s u : Setting) where
@@ -84,9 +101,11 @@ module _ (s u : Setting) where
   items_back site (Literal bytes) site' (Field kind t size) h = absurd h
   items_back site (Field kind t size) site' (Literal bytes) h = absurd h
 
-  steps_back : (earlier : List Step) (step : Step) (earlier' : List Step) (step' : Step) → StepsAgree s u earlier step earlier' step' → StepsAgree u s earlier' step' earlier step
+  steps_back : (earlier : List Step) (step : Step) (earlier' : List Step) (step' : Step) → StepsAgree s u earlier step earlier' step'
+      → StepsAgree u s earlier' step' earlier step
   steps_back earlier (counter_step site section t) earlier' (counter_step site' section' t') h = (sym h.0, sym h.1, trees_back site t site' t' h.2)
-  steps_back earlier (item_step site section item) earlier' (item_step site' section' item') h = (sym h.0, sym h.1, sym h.2, items_back site item site' item' h.3)
+  steps_back earlier (item_step site section item) earlier' (item_step site' section' item') h =
+      (sym h.0, sym h.1, sym h.2, items_back site item site' item' h.3)
   steps_back earlier (counter_step site section t) earlier' (item_step site' section' item') h = absurd h
   steps_back earlier (item_step site section item) earlier' (counter_step site' section' t') h = absurd h
 
@@ -97,13 +116,19 @@ module _ (ms : List Parts) (home : Sited) (s other : Setting) (h : AreSettings m
     same_divisor = λ pc. same_has_zero_divisor ms home s other h pc site t site' t' m;
   }
 
-  steps_agree : (step step' : Step) → MovedStep ms home step step' → (earlier earlier' : List Step) → Paired (MovedStep ms home) earlier earlier' → StepsAgree s other earlier step earlier' step'
+  steps_agree : (step step' : Step) → MovedStep ms home step step' → (earlier earlier' : List Step) → Paired (MovedStep ms home) earlier earlier'
+      → StepsAgree s other earlier step earlier' step'
   steps_agree _ _ (counters site site' section section' t t' e m) earlier earlier' p =
       (e, same_counter ms home s other h earlier earlier' p section ∙ ap (counter other earlier') e, trees_agree site t site' t' m)
   steps_agree _ _ (literals site site' section section' bytes e) earlier earlier' p =
       (e, same_counter ms home s other h earlier earlier' p section ∙ ap (counter other earlier') e, loaded_agree ms home s other h earlier earlier' p, refl)
-  steps_agree _ _ (fields site site' section section' kind size t t' e m) earlier earlier' p =
-      (e, same_counter ms home s other h earlier earlier' p section ∙ ap (counter other earlier') e, loaded_agree ms home s other h earlier earlier' p, (refl, refl, trees_agree site t site' t' m))
+  steps_agree _ _ (fields site site' section section' kind size t t' e m) earlier earlier' p = (
+    e,
+    same_counter ms home s other h earlier earlier' p section
+        ∙ ap (counter other earlier') e,
+    loaded_agree ms home s other h earlier earlier' p,
+    (refl, refl, trees_agree site t site' t' m),
+  )
 
 module _ (M : Parts) (ms before after : List Parts) (name : List ℕ) (j : IsJoined M ms name) (valid : AreValid (before ++ (ms ++ after)))
     (names : AreDistinct (public_names (before ++ (ms ++ after)))) (placed : Bases) where
@@ -135,12 +160,14 @@ module _ (M : Parts) (ms before after : List Parts) (name : List ℕ) (j : IsJoi
   E x y = MovedTree ms home x.0 x.1 y.0 y.1
 
   paired_trees : (entries : Parts → List Tree) → entries M ≡ flat_map (λ site. map (joined_tree ms site) (entries site.parts)) (sited ms)
-      → Paired E (flat_map (λ site. map (λ t. (site, t)) (entries site.parts)) (sited linked)) (flat_map (λ site. map (λ t. (site, t)) (entries site.parts)) (sited flat))
+      → Paired E (flat_map (λ site. map (λ t. (site, t)) (entries site.parts)) (sited linked))
+      (flat_map (λ site. map (λ t. (site, t)) (entries site.parts)) (sited flat))
   paired_trees entries own =
       paired_sites M ms name j before after E (λ site. map (λ t. (site, t)) (entries site.parts)) (λ site. map (λ t. (site, t)) (entries site.parts))
       (λ site. Paired-same E (λ x. stays x.0 x.1) (map (λ t. (site, t)) (entries site.parts)))
       (subst (λ ts. Paired E (map (λ t. (home, t)) ts) (flat_map (λ site. map (λ t. (shifted home site, t)) (entries site.parts)) (sited ms))) (sym own)
-      (paired_joined E (λ site. entries site.parts) (joined_tree ms) (λ t. (home, t)) (λ site t. (shifted home site, t)) (IsOfGroup ms) (λ site within t. joins site t within) (sited ms) (are_of_group 0 0 0 ms)))
+      (paired_joined E (λ site. entries site.parts) (joined_tree ms) (λ t. (home, t)) (λ site t. (shifted home site, t)) (IsOfGroup ms)
+      (λ site within t. joins site t within) (sited ms) (are_of_group 0 0 0 ms)))
 
   all_starts : Paired E (start_trees linked) (start_trees flat)
   all_starts = paired_trees (λ m. option_to_list m.start) j.start
@@ -174,7 +201,8 @@ module _ (M : Parts) (ms before after : List Parts) (name : List ℕ) (j : IsJoi
     sections = sym settings.sections;
     bases = sym settings.bases;
     publics = λ q at.
-        let found = partner (Back (MovedPublic ms home)) other.publics s.publics (Paired-back (MovedPublic ms home) s.publics other.publics settings.publics) at.0 q at.1 in
+        let found = partner (Back (MovedPublic ms home)) other.publics s.publics
+        (Paired-back (MovedPublic ms home) s.publics other.publics settings.publics) at.0 q at.1 in
         let moved = trees_agree ms home s other settings found.0.site found.0.entry.value q.site q.entry.value found.2.tree in
         (found.0, (at.0, found.1), sym found.2.name, sym (moved.same_divisor None));
     steps = λ earlier step h.

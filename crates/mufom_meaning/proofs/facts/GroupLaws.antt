@@ -14,17 +14,20 @@ use Rattle.mufom_meaning.proofs.facts.Linkable.{no_link_answer_is_linkable}
 abbrev all_of : List (List Parts) → List Parts
 all_of groups = flat_map (λ own. own) groups
 
-facts_stand : (groups : List (List Parts)) (group : List Parts) → In group groups → (fact : LinkFact) → LinkFactStands group fact → LinkFactStands (all_of groups) fact
+facts_stand : (groups : List (List Parts)) (group : List Parts) → In group groups → (fact : LinkFact) → LinkFactStands group fact
+    → LinkFactStands (all_of groups) fact
 facts_stand [] group k fact h = absurd k
 facts_stand (own ∷ groups) group (inl same) fact h = link_facts_grow [] own (all_of groups) fact (subst (λ ms. LinkFactStands ms fact) (sym same) h)
 facts_stand (own ∷ groups) group (inr k) fact h =
     subst (λ ms. LinkFactStands (own ++ ms) fact) (append-nil (all_of groups)) (link_facts_grow own (all_of groups) [] fact (facts_stand groups group k fact h))
 
 -- the same after some modules
-same_after : (before Ms : List Parts) (groups : List (List Parts)) → StandForGroups Ms groups → link_answer (before ++ Ms) ≡ link_answer (before ++ all_of groups)
+same_after : (before Ms : List Parts) (groups : List (List Parts)) → StandForGroups Ms groups → link_answer (before ++ Ms)
+    ≡ link_answer (before ++ all_of groups)
 same_after before [] [] h = refl
 same_after before (M ∷ Ms) (group ∷ groups) h = by_group M group h.0 (λ (prefix : List Parts). same_after prefix Ms groups h.1) where
-  by_group : (M : Parts) (group : List Parts) → IsLinkOrItself M group → ((prefix : List Parts) → link_answer (prefix ++ Ms) ≡ link_answer (prefix ++ all_of groups))
+  by_group : (M : Parts) (group : List Parts) → IsLinkOrItself M group
+      → ((prefix : List Parts) → link_answer (prefix ++ Ms) ≡ link_answer (prefix ++ all_of groups))
       → link_answer (before ++ (M ∷ Ms)) ≡ link_answer (before ++ (group ++ all_of groups))
   by_group _ _ (itself m) rest =
       ap link_answer (sym (append_assoc before (m ∷ []) Ms)) ∙ rest (before ++ (m ∷ [])) ∙ ap link_answer (append_assoc before (m ∷ []) (all_of groups))

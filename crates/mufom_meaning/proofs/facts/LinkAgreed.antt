@@ -22,7 +22,8 @@ skipped : (m n : Parts) (rest after : List Parts) → HaveDescriptor n rest → 
 skipped m n [] after h e = refl
 skipped m n (x ∷ rest) after h e =
     let same : same_descriptor m x ≡ true = (λ i. (m.maus == h.0.0 i) && same_order m.order (h.0.1 i)) ∙ e in
-    ap (λ b. option_map (λ other. mismatch (descriptor m) (descriptor other)) (cond (not b) (Some x) (find (λ other. not (same_descriptor m other)) (rest ++ after)))) same
+    ap (λ b. option_map (λ other. mismatch (descriptor m) (descriptor other))
+    (cond (not b) (Some x) (find (λ other. not (same_descriptor m other)) (rest ++ after)))) same
     ∙ skipped m n rest after h.1 e
 
 -- a group with one descriptor is reported as its first module
@@ -44,21 +45,25 @@ module _ (M n : Parts) (header : HasHeaderOf M n) where
       tested : same_descriptor m M ≡ same_descriptor m n
       tested = λ i. (m.maus == header.maus i) && same_order m.order (header.order i)
 
-      both : (b : Bool) → option_map (λ other. mismatch (descriptor m) (descriptor other)) (cond (not b) (Some M) (find (λ other. not (same_descriptor m other)) after))
+      both : (b : Bool) → option_map (λ other. mismatch (descriptor m) (descriptor other))
+          (cond (not b) (Some M) (find (λ other. not (same_descriptor m other)) after))
           ≡ option_map (λ other. mismatch (descriptor m) (descriptor other)) (cond (not b) (Some n) (find (λ other. not (same_descriptor m other)) after))
       both true = refl
       both false = λ i. Some (mismatch (descriptor m) (header.maus i, header.order i))
 
   by_first : (after : List Parts) → report M after ≡ report n after
-  by_first after = λ i. option_map (λ other. mismatch (header.maus i, header.order i) (descriptor other)) (find (λ other. not ((header.maus i == other.maus) && same_order (header.order i) other.order)) after)
+  by_first after = λ i. option_map (λ other. mismatch (header.maus i, header.order i) (descriptor other))
+      (find (λ other. not ((header.maus i == other.maus) && same_order (header.order i) other.order)) after)
 
 within : (M n : Parts) (rest : List Parts) → HasHeaderOf M n → HaveDescriptor n rest → (m : Parts) (before after : List Parts)
     → report m (before ++ (M ∷ after)) ≡ report m (before ++ (n ∷ (rest ++ after)))
 within M n rest header h m [] after = as_first M n header m after ∙ sym (grouped m n rest after h)
 within M n rest header h m (b ∷ before) after = by_case (same_descriptor m b) (within M n rest header h m before after) where
   by_case : (t : Bool) → report m (before ++ (M ∷ after)) ≡ report m (before ++ (n ∷ (rest ++ after)))
-      → option_map (λ other. mismatch (descriptor m) (descriptor other)) (cond (not t) (Some b) (find (λ other. not (same_descriptor m other)) (before ++ (M ∷ after))))
-      ≡ option_map (λ other. mismatch (descriptor m) (descriptor other)) (cond (not t) (Some b) (find (λ other. not (same_descriptor m other)) (before ++ (n ∷ (rest ++ after)))))
+      → option_map (λ other. mismatch (descriptor m) (descriptor other))
+      (cond (not t) (Some b) (find (λ other. not (same_descriptor m other)) (before ++ (M ∷ after))))
+      ≡ option_map (λ other. mismatch (descriptor m) (descriptor other))
+      (cond (not t) (Some b) (find (λ other. not (same_descriptor m other)) (before ++ (n ∷ (rest ++ after)))))
   by_case true e = e
   by_case false e = refl
 
@@ -73,7 +78,8 @@ pub same_start_count : (M : Parts) (ms before after : List Parts) (name : List �
     → length (flat_starts (before ++ (M ∷ after))) ≡ length (flat_starts (before ++ (ms ++ after)))
 same_start_count M ms before after name j =
     let own : length (option_to_list M.start) ≡ length (flat_starts ms) = ap length j.start ∙ starts_group ms 0 0 0 ms in
-    ap length (flat_map-append _ before (M ∷ after)) ∙ length-append (flat_starts before) _ ∙ ap (λ n. length (flat_starts before) + n) (length-append (option_to_list M.start) (flat_starts after))
+    ap length (flat_map-append _ before (M ∷ after)) ∙ length-append (flat_starts before) _
+    ∙ ap (λ n. length (flat_starts before) + n) (length-append (option_to_list M.start) (flat_starts after))
     ∙ ap (λ n. length (flat_starts before) + (n + length (flat_starts after))) own
     ∙ ap (λ n. length (flat_starts before) + n) (sym (length-append (flat_starts ms) (flat_starts after)) ∙ ap length (sym (flat_map-append _ ms after)))
     ∙ sym (length-append (flat_starts before) _) ∙ ap length (sym (flat_map-append _ before (ms ++ after)))

@@ -28,7 +28,8 @@ pub get_after : {A : Type 0} (xs ys : List A) (i : ℕ) → slice_get (xs ++ ys)
 get_after [] ys i = refl
 get_after (x ∷ xs) ys i = get_after xs ys i
 
-get_within : {A : Type 0} (before xs after : List A) (i : ℕ) (x : A) → slice_get xs i ≡ Some x → slice_get (before ++ (xs ++ after)) (position_after before i) ≡ Some x
+get_within : {A : Type 0} (before xs after : List A) (i : ℕ) (x : A) → slice_get xs i ≡ Some x
+    → slice_get (before ++ (xs ++ after)) (position_after before i) ≡ Some x
 get_within before xs after i x e = get_after before (xs ++ after) i ∙ get_prefix xs after i x e
 
 -- the name stands at a place where it repeats
@@ -48,7 +49,8 @@ repeated_within before names after name h = (
   ),
 )
 
-flat_within : {A B : Type 0} (f : A → List B) (before xs after : List A) → flat_map f (before ++ (xs ++ after)) ≡ flat_map f before ++ (flat_map f xs ++ flat_map f after)
+flat_within : {A B : Type 0} (f : A → List B) (before xs after : List A) → flat_map f (before ++ (xs ++ after)) ≡ flat_map f before
+    ++ (flat_map f xs ++ flat_map f after)
 flat_within f before xs after = flat_map-append f before (xs ++ after) ∙ ap (λ rest. flat_map f before ++ rest) (flat_map-append f xs after)
 
 pub link_facts_grow : LinkFactsGrow

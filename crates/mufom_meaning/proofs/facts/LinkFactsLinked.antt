@@ -26,15 +26,18 @@ get_either (y ∷ xs) ys (suc i) x e = by_case (get_either xs ys i x e) where
   by_case (inl at) = inl (suc at.0, at.1)
   by_case (inr at) = inr at
 
-descriptor_there : (M : Parts) (ms : List Parts) → HasFirstHeader M ms → (before after : List Parts) (m : Parts) (i : ℕ) → slice_get (before ++ (M ∷ after)) i ≡ Some m
+descriptor_there : (M : Parts) (ms : List Parts) → HasFirstHeader M ms → (before after : List Parts) (m : Parts) (i : ℕ)
+    → slice_get (before ++ (M ∷ after)) i ≡ Some m
     → HasDescriptorIn (before ++ (ms ++ after)) (descriptor m)
 descriptor_there M [] header [] after m i e = absurd header
-descriptor_there M (n ∷ rest) header [] after m zero e = let same : M ≡ m = cc in (n, (0, refl), sym (λ i. (header.maus i, header.order i)) ∙ ap descriptor same)
+descriptor_there M (n ∷ rest) header [] after m zero e = let same : M ≡ m = cc in
+    (n, (0, refl), sym (λ i. (header.maus i, header.order i)) ∙ ap descriptor same)
 descriptor_there M (n ∷ rest) header [] after m (suc i) e = (m, (position_after (n ∷ rest) i, get_after (n ∷ rest) after i ∙ e), refl)
 descriptor_there M ms header (b ∷ before) after m zero e = (m, (0, e), refl)
 descriptor_there M ms header (b ∷ before) after m (suc i) e = later b (before ++ (ms ++ after)) (descriptor m) (descriptor_there M ms header before after m i e)
 
-descriptor_back : (M : Parts) (ms : List Parts) → HasFirstHeader M ms → HaveDescriptorOf ms ms → (before after : List Parts) (m : Parts) (i : ℕ) → slice_get (before ++ (ms ++ after)) i ≡ Some m
+descriptor_back : (M : Parts) (ms : List Parts) → HasFirstHeader M ms → HaveDescriptorOf ms ms → (before after : List Parts) (m : Parts) (i : ℕ)
+    → slice_get (before ++ (ms ++ after)) i ≡ Some m
     → HasDescriptorIn (before ++ (M ∷ after)) (descriptor m)
 descriptor_back M [] header h [] after m i e = absurd header
 descriptor_back M (n ∷ rest) header h [] after m i e = by_case (get_either (n ∷ rest) after i m e) where

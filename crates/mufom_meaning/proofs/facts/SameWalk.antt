@@ -36,7 +36,8 @@ module _ (s u : Setting) where
   StepsAgree earlier (counter_step site section t) earlier' (counter_step site' section' t') =
       (section ≡ section') × (counter s earlier section ≡ counter u earlier' section') × TreesAgree site t site' t'
   StepsAgree earlier (item_step site section item) earlier' (item_step site' section' item') =
-      (section ≡ section') × (counter s earlier section ≡ counter u earlier' section') × (loaded_addresses s earlier ≡ loaded_addresses u earlier') × ItemsAgree site item site' item'
+      (section ≡ section') × (counter s earlier section ≡ counter u earlier' section') × (loaded_addresses s earlier ≡ loaded_addresses u earlier')
+      × ItemsAgree site item site' item'
   StepsAgree earlier (counter_step site section t) earlier' (item_step site' section' item) = ⊥
   StepsAgree earlier (item_step site section item) earlier' (counter_step site' section' t) = ⊥
 
@@ -49,12 +50,16 @@ pub record Follows (ms ns : List Parts) (s u : Setting) : Type 0 where
   pub modulus : s.modulus ≡ u.modulus
   pub sections : s.sections ≡ u.sections
   pub bases : s.bases ≡ u.bases
-  pub publics : (q : SitedPublic) → StandsIn q s.publics → (r : SitedPublic) × StandsIn r u.publics × (q.entry.name ≡ r.entry.name) × EntriesAgree s u q.site q.entry.value r.site r.entry.value
-  pub steps : (earlier : List Step) (step : Step) → IsStepAfter ms earlier step → (earlier' : List Step) × (step' : Step) × IsStepAfter ns earlier' step' × StepsAgree s u earlier step earlier' step'
+  pub publics : (q : SitedPublic) → StandsIn q s.publics → (r : SitedPublic) × StandsIn r u.publics × (q.entry.name ≡ r.entry.name)
+      × EntriesAgree s u q.site q.entry.value r.site r.entry.value
+  pub steps : (earlier : List Step) (step : Step) → IsStepAfter ms earlier step → (earlier' : List Step) × (step' : Step)
+      × IsStepAfter ns earlier' step' × StepsAgree s u earlier step earlier' step'
   pub starts : (e : SitedTree) → StandsIn e (start_trees ms) → (f : SitedTree) × StandsIn f (start_trees ns) × EntriesAgree s u e.0 e.1 f.0 f.1
-  pub debug : (n : ℕ) (e : SitedTree) → slice_get (debug_trees ms) n ≡ Some e → (f : SitedTree) × (slice_get (debug_trees ns) n ≡ Some f) × EntriesAgree s u e.0 e.1 f.0 f.1
+  pub debug : (n : ℕ) (e : SitedTree) → slice_get (debug_trees ms) n ≡ Some e → (f : SitedTree) × (slice_get (debug_trees ns) n ≡ Some f)
+      × EntriesAgree s u e.0 e.1 f.0 f.1
 
-item_lengths : (s u : Setting) (site : Sited) (item : Item) (site' : Sited) (item' : Item) → ItemsAgree s u site item site' item' → byte_count item ≡ byte_count item'
+item_lengths : (s u : Setting) (site : Sited) (item : Item) (site' : Sited) (item' : Item) → ItemsAgree s u site item site' item' → byte_count item
+    ≡ byte_count item'
 item_lengths s u site (Literal bytes) site' (Literal bytes') same = same
 item_lengths s u site (Field kind t size) site' (Field kind' t' size') same = same.1
 item_lengths s u site (Literal bytes) site' (Field kind t size) same = absurd same
@@ -70,9 +75,11 @@ module _ (ms ns : List Parts) (s u : Setting) (all : Follows ms ns s u) where
     loaded : loaded_addresses s earlier ≡ loaded_addresses u earlier'
     items : ItemsAgree s u site item site' item'
 
-  loaded_like : (earlier : List Step) (site : Sited) (section at : ℕ) (item : Item) → IsLoadedAt ms s earlier site section at item → LoadedLike earlier site section at item
+  loaded_like : (earlier : List Step) (site : Sited) (section at : ℕ) (item : Item) → IsLoadedAt ms s earlier site section at item
+      → LoadedLike earlier site section at item
   loaded_like earlier site section at item h = let found = all.steps earlier (item_step site section item) h.0 in by_step found.0 found.1 found.2 found.3 where
-    by_step : (earlier' : List Step) (step' : Step) → IsStepAfter ns earlier' step' → StepsAgree s u earlier (item_step site section item) earlier' step' → LoadedLike earlier site section at item
+    by_step : (earlier' : List Step) (step' : Step) → IsStepAfter ns earlier' step'
+        → StepsAgree s u earlier (item_step site section item) earlier' step' → LoadedLike earlier site section at item
     by_step earlier' (counter_step site' section' t) after agree = absurd agree
     by_step earlier' (item_step site' section' item') after agree =
         let there : IsLoadedAt ns u earlier' site' section' at item' = (after, sym agree.1 ∙ h.1) in
@@ -93,25 +100,31 @@ module _ (ms ns : List Parts) (s u : Setting) (all : Follows ms ns s u) where
     there : IsLoadedAt ns u earlier' site' section at (Field kind t' size)
     trees : TreesAgree s u site t site' t'
 
-  field_like : (earlier : List Step) (site : Sited) (section at : ℕ) (kind : FieldKind) (t : Tree) (size : ℕ) → IsLoadedAt ms s earlier site section at (Field kind t size) → FieldLike site section at kind t size
-  field_like earlier site section at kind t size h = let like = loaded_like earlier site section at (Field kind t size) h in by_item like.earlier' like.site' like.item' like.there like.items where
-    by_item : (earlier' : List Step) (site' : Sited) (item' : Item) → IsLoadedAt ns u earlier' site' section at item' → ItemsAgree s u site (Field kind t size) site' item' → FieldLike site section at kind t size
-    by_item earlier' site' (Literal bytes) there same = absurd same
-    by_item earlier' site' (Field kind' t' size') there same =
-        let back : IsLoadedAt ns u earlier' site' section at (Field kind t' size) = subst (λ k. IsLoadedAt ns u earlier' site' section at (Field k t' size)) (sym same.0)
-        (subst (λ n. IsLoadedAt ns u earlier' site' section at (Field kind' t' n)) (sym same.1) there) in
-        record { earlier' = earlier'; site' = site'; t' = t'; there = back; trees = same.2 }
+  field_like : (earlier : List Step) (site : Sited) (section at : ℕ) (kind : FieldKind) (t : Tree) (size : ℕ)
+      → IsLoadedAt ms s earlier site section at (Field kind t size) → FieldLike site section at kind t size
+  field_like earlier site section at kind t size h = let like = loaded_like earlier site section at (Field kind t size) h in
+      by_item like.earlier' like.site' like.item' like.there like.items where
+        by_item : (earlier' : List Step) (site' : Sited) (item' : Item) → IsLoadedAt ns u earlier' site' section at item'
+            → ItemsAgree s u site (Field kind t size) site' item' → FieldLike site section at kind t size
+        by_item earlier' site' (Literal bytes) there same = absurd same
+        by_item earlier' site' (Field kind' t' size') there same =
+            let back : IsLoadedAt ns u earlier' site' section at (Field kind t' size) =
+            subst (λ k. IsLoadedAt ns u earlier' site' section at (Field k t' size)) (sym same.0)
+            (subst (λ n. IsLoadedAt ns u earlier' site' section at (Field kind' t' n)) (sym same.1) there) in
+            record { earlier' = earlier'; site' = site'; t' = t'; there = back; trees = same.2 }
 
   zero_divisor_like : (place : Site) → HasZeroDivisor ms s place → HasZeroDivisor ns u place
   zero_divisor_like (sites.Public name) h = let found = all.publics h.0 h.1 in (found.0, found.1, sym found.2 ∙ h.2, sym found.3 ∙ h.3)
   zero_divisor_like (sites.Counter section) h = let found = all.steps h.0 (counter_step h.1 section h.2) h.3 in by_step found.0 found.1 found.2 found.3 where
-    by_step : (earlier' : List Step) (step' : Step) → IsStepAfter ns earlier' step' → StepsAgree s u h.0 (counter_step h.1 section h.2) earlier' step' → HasZeroDivisor ns u (sites.Counter section)
+    by_step : (earlier' : List Step) (step' : Step) → IsStepAfter ns earlier' step' → StepsAgree s u h.0 (counter_step h.1 section h.2) earlier' step'
+        → HasZeroDivisor ns u (sites.Counter section)
     by_step earlier' (item_step site' section' item) after agree = absurd agree
     by_step earlier' (counter_step site' section' t') after agree =
         let there : IsTrue (has_zero_divisor u site' (counter u earlier' section') t')
         = ap (λ pc. has_zero_divisor u site' pc t') (sym agree.1) ∙ sym (agree.2.same_divisor (counter s h.0 section)) ∙ h.4 in
         let pair : IsStepAfter ns earlier' (counter_step site' section t') × IsTrue (has_zero_divisor u site' (counter u earlier' section) t')
-        = subst (λ n. IsStepAfter ns earlier' (counter_step site' n t') × IsTrue (has_zero_divisor u site' (counter u earlier' n) t')) (sym agree.0) (after, there) in
+        = subst (λ n. IsStepAfter ns earlier' (counter_step site' n t')
+        × IsTrue (has_zero_divisor u site' (counter u earlier' n) t')) (sym agree.0) (after, there) in
         (earlier', site', t', pair.0, pair.1)
   zero_divisor_like (sites.Field section at) h =
       let like = field_like h.0 h.1 section at h.2 h.3 h.4 h.5 in
@@ -135,8 +148,19 @@ module _ (ms ns : List Parts) (s u : Setting) (all : Follows ms ns s u) where
       (subst (λ n. (h.2 + h.3 < base_number s section) ⊎ (base_number s section + n ≤ h.2 + h.3)) (same_size section) h.7) in
       (like.earlier', like.site', h.2, h.3, like.item', like.there, inside, out, h.8 ∙ ap (λ m. (h.2 + h.3) % m) all.modulus)
   walk_fact_like (loaded_twice address) h = let like = loaded_like h.0 h.1 h.2 h.3 h.5 h.6 in
-      let inside : h.4 < byte_count like.item' = subst (λ n. h.4 < n) (item_lengths s u h.1 h.5 like.site' like.item' like.items) h.7 in
-      (like.earlier', like.site', h.2, h.3, h.4, like.item', like.there, inside, h.8 ∙ ap (λ m. (h.3 + h.4) % m) all.modulus, before like.earlier' like.loaded h.9) where
+      let inside : h.4 < byte_count like.item' = subst (λ n. h.4 < n) (item_lengths s u h.1 h.5 like.site' like.item' like.items) h.7 in (
+        like.earlier',
+        like.site',
+        h.2,
+        h.3,
+        h.4,
+        like.item',
+        like.there,
+        inside,
+        h.8
+            ∙ ap (λ m. (h.3 + h.4) % m) all.modulus,
+        before like.earlier' like.loaded h.9,
+      ) where
         before : (earlier' : List Step) → loaded_addresses s h.0 ≡ loaded_addresses u earlier'
             → StandsIn address (loaded_addresses s h.0) ⊎ ((p : ℕ) × (p < h.4) × (address ≡ (h.3 + p) % s.modulus))
             → StandsIn address (loaded_addresses u earlier') ⊎ ((p : ℕ) × (p < h.4) × (address ≡ (h.3 + p) % u.modulus))

@@ -1,5 +1,6 @@
 -- The bytes that are counted load by load are those that the steps load.
-use Rattle.std.proofs.Common.{◌≡◌, ℕ, zero, suc, ◌+◌, ◌*◌, List, [], ◌∷◌, ◌++◌, length, flat_map, Some, None, Bool, true, false, cond, refl, sym, ◌∙◌, ap, arith}
+use Rattle.std.proofs.Common.{◌≡◌, ℕ, zero, suc, ◌+◌, ◌*◌, List, [], ◌∷◌, ◌++◌, length, flat_map, Some, None, Bool, true, false, cond, refl, sym, ◌∙◌}
+use Rattle.std.proofs.Common.{ap, arith}
 use Rattle.std.specs.List.{find, list_any}
 use Rattle.std.proofs.lemmas.List.Sums.{sum_by-append, sum_by-cons}
 use Rattle.mufom_debug.specs.Marks.{marks_of}
@@ -70,11 +71,13 @@ length-steps_of site section (One item ∷ loads) =
 length-steps_of site section (Repeat count items ∷ loads) =
     let rest = length-steps_of site section loads in
     sum_by-append step_length (repeated count (item_steps site (Some section) items)) (steps_of site (Some section) loads)
-    ∙ (let own = length-repeated count (item_steps site (Some section) items) ∙ ap (λ n. count * n) (length-item_steps site section items) in λ i. own i + rest i)
+    ∙ (let own = length-repeated count (item_steps site (Some section) items) ∙ ap (λ n. count * n) (length-item_steps site section items) in
+    λ i. own i + rest i)
     ∙ sym (sum_by-cons length_loaded (Repeat count items) loads)
 
 -- where none is current yet
-length-from_none : (site : Sited) (loads : List Load) → list_any loads_nowhere (placed_from None loads) ≡ false → lengths_of_steps (steps_of site None loads) ≡ lengths_loaded loads
+length-from_none : (site : Sited) (loads : List Load) → list_any loads_nowhere (placed_from None loads) ≡ false
+    → lengths_of_steps (steps_of site None loads) ≡ lengths_loaded loads
 length-from_none site [] h = refl
 length-from_none site (SetSection n ∷ loads) h =
     let rest = length-steps_of site n loads in
@@ -90,7 +93,8 @@ length-from_none site (SetPc n t ∷ loads) h =
 length-from_none site (One item ∷ loads) h = absurd cc
 length-from_none site (Repeat count items ∷ loads) h = absurd cc
 
-total_from : (s p n : ℕ) (ms : List Parts) → AreValid ms → loaded_total ms ≡ lengths_of_steps (flat_map (λ site. steps_of site None site.parts.loads) (sited_from s p n ms))
+total_from : (s p n : ℕ) (ms : List Parts) → AreValid ms → loaded_total ms
+    ≡ lengths_of_steps (flat_map (λ site. steps_of site None site.parts.loads) (sited_from s p n ms))
 total_from s p n [] v = refl
 total_from s p n (m ∷ ms) v =
     let site : Sited = record { parts = m; first_section = s; first_public = p; first_name = n } in

@@ -26,9 +26,11 @@ pub record HasHome (s : Setting) (cell : Cell) : Type 0 where
 
 module _ (order : Order) (ms : List Parts) (s : Setting) (once : (address : ℕ) → ¬ StandsInWalk ms s (loaded_twice address))
     (inside : (section address : ℕ) → ¬ StandsInWalk ms s (load_outside section address)) where
-  home_at : (section : ℕ) (cell : Cell) → base_number s section ≤ cell.0 → cell.0 < base_number s section + size_at s section → (o : Option Section) → slice_get s.sections section ≡ o → HasHome s cell
+  home_at : (section : ℕ) (cell : Cell) → base_number s section ≤ cell.0 → cell.0 < base_number s section + size_at s section → (o : Option Section)
+      → slice_get s.sections section ≡ o → HasHome s cell
   home_at section cell low high None e =
-      absurd (let none : size_at s section ≡ 0 = ap (λ (o : Option Section). unwrap_or (option_map (λ found. found.size) o) 0) e in omega (arith, low, high, none))
+      absurd (let none : size_at s section ≡ 0 = ap (λ (o : Option Section). unwrap_or (option_map (λ found. found.size) o) 0) e in
+      omega (arith, low, high, none))
   home_at section cell low high (Some found) e =
       let size : size_at s section ≡ found.size = ap (λ (o : Option Section). unwrap_or (option_map (λ found. found.size) o) 0) e in
       record { place = section; section = found; found = e; low = low; high = omega (arith, high, size) }
@@ -37,11 +39,14 @@ module _ (order : Order) (ms : List Parts) (s : Setting) (once : (address : ℕ)
       → In cell (step_cells order s.modulus (item_reading s site section (counter s before section) item)) → HasHome s cell
   item_home before site section item at cell h =
       let there = item_cell order ms s once site section (counter s before section) item cell h in
-      let not_low : ¬ (there.0 + there.1 < base_number s section) = λ low. inside section ((there.0 + there.1) % s.modulus) (before, site, there.0, there.1, item, (at, there.2), there.3, inl low, refl) in
-      let not_high : ¬ (base_number s section + size_at s section ≤ there.0 + there.1) = λ high. inside section ((there.0 + there.1) % s.modulus) (before, site, there.0, there.1, item, (at, there.2), there.3, inr high, refl) in
+      let not_low : ¬ (there.0 + there.1 < base_number s section) =
+      λ low. inside section ((there.0 + there.1) % s.modulus) (before, site, there.0, there.1, item, (at, there.2), there.3, inl low, refl) in
+      let not_high : ¬ (base_number s section + size_at s section ≤ there.0 + there.1) =
+      λ high. inside section ((there.0 + there.1) % s.modulus) (before, site, there.0, there.1, item, (at, there.2), there.3, inr high, refl) in
       home_at section cell (omega (arith, not_low, there.4)) (omega (arith, not_high, there.4)) (slice_get s.sections section) refl
 
-  step_home : (before : List Step) (step : Step) → IsStepAfter ms before step → (cell : Cell) → In cell (step_cells order s.modulus (step_reading s before step)) → HasHome s cell
+  step_home : (before : List Step) (step : Step) → IsStepAfter ms before step → (cell : Cell)
+      → In cell (step_cells order s.modulus (step_reading s before step)) → HasHome s cell
   step_home before (counter_step site section t) at cell h = absurd h
   step_home before (item_step site section item) at cell h = item_home before site section item at cell h
 

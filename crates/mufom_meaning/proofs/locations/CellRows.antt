@@ -1,5 +1,6 @@
 -- The maximal rows of an address map: there are such rows where no address stands twice, and only one list of them.
-use Rattle.std.proofs.Common.{◌≡◌, ℕ, suc, ◌+◌, ◌<◌, ◌≤◌, ◌↔◌, inl, inr, List, [], ◌∷◌, ◌++◌, length, Bool, true, false, refl, sym, ◌∙◌, ap, subst, arith, rules}
+use Rattle.std.proofs.Common.{◌≡◌, ℕ, suc, ◌+◌, ◌<◌, ◌≤◌, ◌↔◌, inl, inr, List, [], ◌∷◌, ◌++◌, length, Bool, true, false, refl, sym, ◌∙◌, ap, subst}
+use Rattle.std.proofs.Common.{arith, rules}
 use Rattle.std.specs.Prelude.{◌==◌, nat_lt, if◌then◌else◌}
 use Rattle.mufom_meaning.specs.declared.located.Run.{Run}
 use Rattle.mufom_meaning.proofs.Choices.{equal_numbers, of_lt, of_not_lt}
@@ -26,19 +27,22 @@ rising-equal from [] [] h k same = refl
 rising-equal from [] (y ∷ ys) h k same = absurd ((same y).1 (inl refl))
 rising-equal from (x ∷ xs) [] h k same = absurd ((same x).0 (inl refl))
 rising-equal from (x ∷ xs) (y ∷ ys) h k same = first ((same x).0 (inl refl)) ((same y).1 (inl refl)) (λ e m. rising-equal (suc x.0) xs ys h.1 e m) where
-  rest : (y : Cell) (ys : List Cell) → AreRising (suc y.0) ys → x ≡ y → ((cell : Cell) → In cell (x ∷ xs) ↔ In cell (y ∷ ys)) → (cell : Cell) → In cell xs ↔ In cell ys
+  rest : (y : Cell) (ys : List Cell) → AreRising (suc y.0) ys → x ≡ y → ((cell : Cell) → In cell (x ∷ xs) ↔ In cell (y ∷ ys)) → (cell : Cell)
+      → In cell xs ↔ In cell ys
   rest y ys k e same cell = (there, back) where
     there : In cell xs → In cell ys
     there m = by_case ((same cell).0 (inr m)) where
       by_case : In cell (y ∷ ys) → In cell ys
       by_case (inr m) = m
-      by_case (inl f) = absurd (let late = rising-In (suc x.0) xs h.1 cell m in let at : x.0 ≡ cell.0 = ap (λ (x : Cell). x.0) (e ∙ f) in omega (arith, late, at))
+      by_case (inl f) = absurd (let late = rising-In (suc x.0) xs h.1 cell m in let at : x.0 ≡ cell.0 = ap (λ (x : Cell). x.0) (e ∙ f) in
+          omega (arith, late, at))
 
     back : In cell ys → In cell xs
     back m = by_case ((same cell).1 (inr m)) where
       by_case : In cell (x ∷ xs) → In cell xs
       by_case (inr m) = m
-      by_case (inl f) = absurd (let late = rising-In (suc y.0) ys k cell m in let at : y.0 ≡ cell.0 = ap (λ (x : Cell). x.0) (sym e ∙ f) in omega (arith, late, at))
+      by_case (inl f) = absurd (let late = rising-In (suc y.0) ys k cell m in let at : y.0 ≡ cell.0 = ap (λ (x : Cell). x.0) (sym e ∙ f) in
+          omega (arith, late, at))
 
   heads : x ≡ y → (AreRising (suc x.0) ys → ((cell : Cell) → In cell xs ↔ In cell ys) → xs ≡ ys) → ◌≡◌ {A = List Cell} (x ∷ xs) (y ∷ ys)
   heads e later =
@@ -67,8 +71,10 @@ in_prefix-cells : (a byte : ℕ) (runs : List Run) → run_cells (in_prefix a by
 in_prefix-cells a byte [] = refl
 in_prefix-cells a byte (run ∷ runs) = by_case (run.address == suc a) refl where
   by_case : (b : Bool) → (run.address == suc a) ≡ b
-      → run_cells (if b then record { address = a; bytes = byte ∷ run.bytes } ∷ runs else record { address = a; bytes = byte ∷ [] } ∷ run ∷ runs) ≡ (a, byte) ∷ run_cells (run ∷ runs)
-  by_case true e = let same : run.address ≡ suc a = equal_numbers run.address (suc a) e in ap (λ n. (a, byte) ∷ (cells_from n run.bytes ++ run_cells runs)) (sym same)
+      → run_cells (if b then record { address = a; bytes = byte ∷ run.bytes } ∷ runs else record { address = a; bytes = byte ∷ [] } ∷ run ∷ runs)
+      ≡ (a, byte) ∷ run_cells (run ∷ runs)
+  by_case true e = let same : run.address ≡ suc a = equal_numbers run.address (suc a) e in
+      ap (λ n. (a, byte) ∷ (cells_from n run.bytes ++ run_cells runs)) (sym same)
   by_case false e = refl
 
 rows_of-cells : (cells : List Cell) → run_cells (rows_of cells) ≡ cells
@@ -106,14 +112,17 @@ in_prefix-far : (a byte : ℕ) (runs : List Run) → AreApart (a + 1 + 1) runs �
 in_prefix-far a byte [] h = refl
 in_prefix-far a byte (run ∷ runs) h = by_case (run.address == suc a) refl where
   by_case : (b : Bool) → (run.address == suc a) ≡ b
-      → (if b then record { address = a; bytes = byte ∷ run.bytes } ∷ runs else record { address = a; bytes = byte ∷ [] } ∷ run ∷ runs) ≡ record { address = a; bytes = byte ∷ [] } ∷ run ∷ runs
+      → (if b then record { address = a; bytes = byte ∷ run.bytes } ∷ runs else record { address = a; bytes = byte ∷ [] } ∷ run ∷ runs)
+      ≡ record { address = a; bytes = byte ∷ [] } ∷ run ∷ runs
   by_case true e = absurd (let same : run.address ≡ suc a = equal_numbers run.address (suc a) e in omega (arith, same, h.0))
   by_case false e = refl
 
-in_prefix-near : (a byte : ℕ) (bytes : List ℕ) (runs : List Run) → in_prefix a byte (record { address = suc a; bytes = bytes } ∷ runs) ≡ record { address = a; bytes = byte ∷ bytes } ∷ runs
+in_prefix-near : (a byte : ℕ) (bytes : List ℕ) (runs : List Run) → in_prefix a byte (record { address = suc a; bytes = bytes } ∷ runs)
+    ≡ record { address = a; bytes = byte ∷ bytes } ∷ runs
 in_prefix-near a byte bytes runs =
     let same : (suc a == suc a) ≡ true = search rules in
-    ap (λ (b : Bool). if b then record { address = a; bytes = byte ∷ bytes } ∷ runs else record { address = a; bytes = byte ∷ [] } ∷ record { address = suc a; bytes = bytes } ∷ runs) same
+    ap (λ (b : Bool). if b then record { address = a; bytes = byte ∷ bytes } ∷ runs
+    else record { address = a; bytes = byte ∷ [] } ∷ record { address = suc a; bytes = bytes } ∷ runs) same
 
 rows-run : (a byte : ℕ) (bytes : List ℕ) (runs : List Run) (rest : List Cell) → rows_of rest ≡ runs → AreApart (a + suc (length bytes) + 1) runs
     → rows_of (cells_from a (byte ∷ bytes) ++ rest) ≡ record { address = a; bytes = byte ∷ bytes } ∷ runs
@@ -147,12 +156,14 @@ run_cells-rise from (run ∷ runs) h =
     let later = run_cells-rise (run.address + length run.bytes + 1) runs h.2 in
     let less : run.address + length run.bytes ≤ run.address + length run.bytes + 1 = omega arith in
     rising-lower run.address from (cells_from run.address run.bytes ++ run_cells runs) h.0
-    (rising-append run.address run.bytes (run_cells runs) (rising-lower (run.address + length run.bytes + 1) (run.address + length run.bytes) (run_cells runs) less later))
+    (rising-append run.address run.bytes (run_cells runs) (rising-lower (run.address + length run.bytes + 1) (run.address + length run.bytes)
+    (run_cells runs) less later))
 
 -- the maximal rows of an address map are one list
 pub rows_are_single : (cells : List Cell) (runs other : List Run) → AreRowsOf cells runs → AreRowsOf cells other → runs ≡ other
 rows_are_single cells runs other h k =
-    sym (rows_of-run_cells 0 runs h.apart) ∙ ap rows_of (rising-equal 0 (run_cells runs) (run_cells other) (run_cells-rise 0 runs h.apart) (run_cells-rise 0 other k.apart) same)
+    sym (rows_of-run_cells 0 runs h.apart) ∙ ap rows_of (rising-equal 0 (run_cells runs) (run_cells other) (run_cells-rise 0 runs h.apart)
+    (run_cells-rise 0 other k.apart) same)
     ∙ rows_of-run_cells 0 other k.apart where
       same : (cell : Cell) → In cell (run_cells runs) ↔ In cell (run_cells other)
       same cell = (
@@ -172,7 +183,8 @@ in_place (cell ∷ cells) = placed_cell cell (in_place cells)
 placed_cell-In : (cell other : Cell) (cells : List Cell) → In other (placed_cell cell cells) → In other (cell ∷ cells)
 placed_cell-In cell other [] m = m
 placed_cell-In cell other (c ∷ cells) m = by_case (nat_lt cell.0 c.0) m (placed_cell-In cell other cells) where
-  by_case : (b : Bool) → In other (if b then cell ∷ c ∷ cells else c ∷ placed_cell cell cells) → (In other (placed_cell cell cells) → In other (cell ∷ cells)) → In other (cell ∷ c ∷ cells)
+  by_case : (b : Bool) → In other (if b then cell ∷ c ∷ cells else c ∷ placed_cell cell cells)
+      → (In other (placed_cell cell cells) → In other (cell ∷ cells)) → In other (cell ∷ c ∷ cells)
   by_case true m later = m
   by_case false (inl e) later = inr (inl e)
   by_case false (inr m) later = after (later m) where
@@ -183,21 +195,25 @@ placed_cell-In cell other (c ∷ cells) m = by_case (nat_lt cell.0 c.0) m (place
 In-placed_cell : (cell other : Cell) (cells : List Cell) → In other (cell ∷ cells) → In other (placed_cell cell cells)
 In-placed_cell cell other [] m = m
 In-placed_cell cell other (c ∷ cells) m = by_case (nat_lt cell.0 c.0) m (In-placed_cell cell other cells) where
-  by_case : (b : Bool) → In other (cell ∷ c ∷ cells) → (In other (cell ∷ cells) → In other (placed_cell cell cells)) → In other (if b then cell ∷ c ∷ cells else c ∷ placed_cell cell cells)
+  by_case : (b : Bool) → In other (cell ∷ c ∷ cells) → (In other (cell ∷ cells) → In other (placed_cell cell cells))
+      → In other (if b then cell ∷ c ∷ cells else c ∷ placed_cell cell cells)
   by_case true m later = m
   by_case false (inl e) later = inr (later (inl e))
   by_case false (inr (inl e)) later = inl e
   by_case false (inr (inr m)) later = inr (later (inr m))
 
-placed_cell-rises : (cell : Cell) (from : ℕ) (cells : List Cell) → from ≤ cell.0 → AreRising from cells → ((other : Cell) → In other cells → cell.0 ≡ other.0 → ⊥) → AreRising from (placed_cell cell cells)
+placed_cell-rises : (cell : Cell) (from : ℕ) (cells : List Cell) → from ≤ cell.0 → AreRising from cells
+    → ((other : Cell) → In other cells → cell.0 ≡ other.0 → ⊥) → AreRising from (placed_cell cell cells)
 placed_cell-rises cell from [] low h apart = (low, tt)
-placed_cell-rises cell from (c ∷ cells) low h apart = by_case (nat_lt cell.0 c.0) refl (λ less. placed_cell-rises cell (suc c.0) cells less h.1 (λ other m. apart other (inr m))) where
-  by_case : (b : Bool) → nat_lt cell.0 c.0 ≡ b → (suc c.0 ≤ cell.0 → AreRising (suc c.0) (placed_cell cell cells)) → AreRising from (if b then cell ∷ c ∷ cells else c ∷ placed_cell cell cells)
-  by_case true e later = let less : suc cell.0 ≤ c.0 = of_lt cell.0 c.0 e in (low, (less, h.1))
-  by_case false e later =
-      let under : c.0 ≤ cell.0 = of_not_lt cell.0 c.0 e in
-      let differ : cell.0 ≡ c.0 → ⊥ = apart c (inl refl) in
-      (h.0, later (omega (arith, under, differ)))
+placed_cell-rises cell from (c ∷ cells) low h apart = by_case (nat_lt cell.0 c.0) refl
+    (λ less. placed_cell-rises cell (suc c.0) cells less h.1 (λ other m. apart other (inr m))) where
+      by_case : (b : Bool) → nat_lt cell.0 c.0 ≡ b → (suc c.0 ≤ cell.0 → AreRising (suc c.0) (placed_cell cell cells))
+          → AreRising from (if b then cell ∷ c ∷ cells else c ∷ placed_cell cell cells)
+      by_case true e later = let less : suc cell.0 ≤ c.0 = of_lt cell.0 c.0 e in (low, (less, h.1))
+      by_case false e later =
+          let under : c.0 ≤ cell.0 = of_not_lt cell.0 c.0 e in
+          let differ : cell.0 ≡ c.0 → ⊥ = apart c (inl refl) in
+          (h.0, later (omega (arith, under, differ)))
 
 -- no two cells have one address
 abbrev pub HaveOwnAddresses : List Cell → Type 0

@@ -23,7 +23,8 @@ blocks_of_block b = folds.fold-Block (List HeadAndEnd) (List HeadAndEnd) blocks_
 
 pub blocks_of-append : (xs ys : List DebugItem) → blocks_of (xs ++ ys) ≡ blocks_of xs ++ blocks_of ys
 blocks_of-append [] ys = refl
-blocks_of-append (x ∷ xs) ys = ap (λ rest. blocks_of_item x ++ rest) (blocks_of-append xs ys) ∙ sym (append_assoc (blocks_of_item x) (blocks_of xs) (blocks_of ys))
+blocks_of-append (x ∷ xs) ys = ap (λ rest. blocks_of_item x ++ rest) (blocks_of-append xs ys)
+    ∙ sym (append_assoc (blocks_of_item x) (blocks_of xs) (blocks_of ys))
 
 module _ (head : BlockHead → BlockHead) (end : Option Tree → Option Tree) (place : ℕ → ℕ) (tree : Tree → Tree) where
   -- a mark with another head, end, place or expression
@@ -70,7 +71,8 @@ module _ (head : BlockHead → BlockHead) (end : Option Tree → Option Tree) (p
         (roll-DebugItem (DebugItem-F.Note (place name) note), there ∙ ap (map changed) (sym same), none ∙ ap (map changed_block) (sym blocks))
     item_level (DebugItem-F.Value name t) =
         let same : marks_of_item (roll-DebugItem (DebugItem-F.Value name t)) ≡ value_mark name t ∷ [] = search (rules, the_lemmas) in
-        let there : marks_of_item (roll-DebugItem (DebugItem-F.Value (place name) (tree t))) ≡ value_mark (place name) (tree t) ∷ [] = search (rules, the_lemmas) in
+        let there : marks_of_item (roll-DebugItem (DebugItem-F.Value (place name) (tree t))) ≡ value_mark (place name) (tree t) ∷ [] =
+        search (rules, the_lemmas) in
         let blocks : blocks_of_item (roll-DebugItem (DebugItem-F.Value name t)) ≡ [] = search (rules, the_lemmas) in
         let none : blocks_of_item (roll-DebugItem (DebugItem-F.Value (place name) (tree t))) ≡ [] = search (rules, the_lemmas) in
         (roll-DebugItem (DebugItem-F.Value (place name) (tree t)), there ∙ ap (map changed) (sym same), none ∙ ap (map changed_block) (sym blocks))
@@ -97,7 +99,8 @@ module _ (head : BlockHead → BlockHead) (end : Option Tree → Option Tree) (p
           new,
           there
               ∙ ap (λ marks. block_begin (head y.head) y.name ∷ (marks ++ block_end (end y.end) ∷ [])) inner.1
-              ∙ ap (λ marks. block_begin (head y.head) y.name ∷ marks) (sym (map-append changed (joined (map marks_of_item (map item_of y.items))) (block_end y.end ∷ [])))
+              ∙ ap (λ marks. block_begin (head y.head) y.name ∷ marks)
+              (sym (map-append changed (joined (map marks_of_item (map item_of y.items))) (block_end y.end ∷ [])))
               ∙ ap (map changed) (sym same),
           its_blocks ∙ ap (λ blocks. (head y.head, end y.end) ∷ blocks) inner.2 ∙ ap (map changed_block) (sym blocks),
         )

@@ -1,5 +1,6 @@
 -- Where no fact stands there is a location.
-use Rattle.std.proofs.Common.{◌≡◌, ℕ, suc, ◌+◌, ◌<◌, inl, inr, List, [], ◌∷◌, ◌++◌, map, length, Option, Some, None, refl, sym, ◌∙◌, ap, subst, arith, length-append}
+use Rattle.std.proofs.Common.{◌≡◌, ℕ, suc, ◌+◌, ◌<◌, inl, inr, List, [], ◌∷◌, ◌++◌, map, length, Option, Some, None, refl, sym, ◌∙◌, ap, subst, arith}
+use Rattle.std.proofs.Common.{length-append}
 use Rattle.std.specs.Prelude.{option_map, option_to_list, unwrap_or, flat_map}
 use Rattle.std.proofs.lemmas.List.{map-append}
 use Rattle.mufom_expr.specs.Tree.{Tree, number}
@@ -49,7 +50,8 @@ only_number (n ∷ m ∷ ns) h = absurd (h (omega arith))
 
 module _ (ms : List Parts) (s : Setting) (h : HaveValues ms s) where
   -- the publics with their values
-  publics_located : (qs : List SitedPublic) → ((q : SitedPublic) → In q qs → HasValue (value s q.site None q.entry.value)) → (ps : List PublicValue) × (map located_public ps ≡ map (public_reading s) qs)
+  publics_located : (qs : List SitedPublic) → ((q : SitedPublic) → In q qs → HasValue (value s q.site None q.entry.value)) → (ps : List PublicValue)
+      × (map located_public ps ≡ map (public_reading s) qs)
   publics_located [] k = ([], refl)
   publics_located (q ∷ qs) k =
       let here = k q (inl refl) in let later = publics_located qs (λ p m. k p (inr m)) in (
@@ -74,18 +76,21 @@ module _ (ms : List Parts) (s : Setting) (h : HaveValues ms s) where
   mapped_twice f g None = refl
   mapped_twice f g (Some a) = refl
 
-  mark_is : (site : Sited) (mark : DebugMark) → ((t : Tree) → In t (mark_expressions mark) → HasValue (value s site None t)) → Some (mark_there site mark) ≡ located_mark (mark_reading s site mark)
+  mark_is : (site : Sited) (mark : DebugMark) → ((t : Tree) → In t (mark_expressions mark) → HasValue (value s site None t))
+      → Some (mark_there site mark) ≡ located_mark (mark_reading s site mark)
   mark_is site (block_begin head name) k =
       let there = head_located ms s h site head k in
       let same : head_there site head ≡ there.0 = ap (λ o. unwrap_or o head) there.1 in
       ap (λ x. Some (block_begin x name)) same ∙ sym (ap (option_map (λ x. block_begin x name)) there.1)
   mark_is site (block_end None) k = refl
   mark_is site (block_end (Some t)) k =
-      ap (option_map (λ n. block_end (Some n))) (sym (value_there site t (k t (inl refl)))) ∙ mapped_twice (λ n. number n) (λ n. block_end (Some n)) (value s site None t)
+      ap (option_map (λ n. block_end (Some n))) (sym (value_there site t (k t (inl refl))))
+      ∙ mapped_twice (λ n. number n) (λ n. block_end (Some n)) (value s site None t)
   mark_is site (name_mark name) k = refl
   mark_is site (note_mark name note) k = refl
   mark_is site (value_mark name t) k =
-      ap (option_map (λ n. value_mark (site.first_name + name) n)) (sym (value_there site t (k t (inl refl)))) ∙ mapped_twice (λ n. number n) (λ n. value_mark (site.first_name + name) n) (value s site None t)
+      ap (option_map (λ n. value_mark (site.first_name + name) n)) (sym (value_there site t (k t (inl refl))))
+      ∙ mapped_twice (λ n. number n) (λ n. value_mark (site.first_name + name) n) (value s site None t)
 
   marks_are : (site : Sited) → In site (sited ms) → (marks : List DebugMark) → ((mark : DebugMark) → In mark marks → In mark (marks_of site.parts.debug))
       → map (λ mark. Some mark) (map (mark_there site) marks) ≡ map located_mark (map (mark_reading s site) marks)
@@ -115,22 +120,27 @@ module _ (ms : List Parts) (s : Setting) (h : HaveValues ms s) where
       }
 
   pub debug_located : (sites : List Sited) → ((site : Sited) → In site sites → In site (sited ms))
-      → map (λ mark. Some mark) (flat_map (λ site. map (mark_there site) (marks_of site.parts.debug)) sites) ≡ map located_mark (flat_map (λ site. map (mark_reading s site) (marks_of site.parts.debug)) sites)
+      → map (λ mark. Some mark) (flat_map (λ site. map (mark_there site) (marks_of site.parts.debug)) sites)
+      ≡ map located_mark (flat_map (λ site. map (mark_reading s site) (marks_of site.parts.debug)) sites)
   debug_located [] among = refl
   debug_located (site ∷ sites) among =
       let later = debug_located sites (λ other k. among other (inr k)) in
       let own = marks_are site (among site (inl refl)) (marks_of site.parts.debug) (λ mark k. k) in
-      map-append (λ mark. Some mark) (map (mark_there site) (marks_of site.parts.debug)) (flat_map (λ site. map (mark_there site) (marks_of site.parts.debug)) sites)
+      map-append (λ mark. Some mark) (map (mark_there site) (marks_of site.parts.debug))
+      (flat_map (λ site. map (mark_there site) (marks_of site.parts.debug)) sites)
       ∙ (λ i. own i ++ later i)
-      ∙ sym (map-append located_mark (map (mark_reading s site) (marks_of site.parts.debug)) (flat_map (λ site. map (mark_reading s site) (marks_of site.parts.debug)) sites))
+      ∙ sym (map-append located_mark (map (mark_reading s site) (marks_of site.parts.debug))
+      (flat_map (λ site. map (mark_reading s site) (marks_of site.parts.debug)) sites))
 
 -- the starts' values are as many as the starts
-starts_count : (s : Setting) (a b d : ℕ) (ms : List Parts) → length (flat_map (λ site. map (value s site None) (option_to_list site.parts.start)) (sited_from a b d ms)) ≡ length (flat_starts ms)
+starts_count : (s : Setting) (a b d : ℕ) (ms : List Parts) → length
+    (flat_map (λ site. map (value s site None) (option_to_list site.parts.start)) (sited_from a b d ms)) ≡ length (flat_starts ms)
 starts_count s a b d [] = refl
 starts_count s a b d (m ∷ ms) =
     let site : Sited = record { parts = m; first_section = a; first_public = b; first_name = d } in
     let later = starts_count s (a + length m.sections) (b + length m.names.publics) (d + name_count (marks_of m.debug)) ms in
-    length-append (map (value s site None) (option_to_list m.start)) _ ∙ (λ i. own site m.start i + later i) ∙ sym (length-append (option_to_list m.start) (flat_starts ms)) where
+    length-append (map (value s site None) (option_to_list m.start)) _ ∙ (λ i. own site m.start i + later i)
+    ∙ sym (length-append (option_to_list m.start) (flat_starts ms)) where
       own : (site : Sited) (o : Option Tree) → length (map (value s site None) (option_to_list o)) ≡ length (option_to_list o)
       own site None = refl
       own site (Some t) = refl
@@ -142,7 +152,8 @@ numbers_count : (ns : List ℕ) → length (all_some ns) ≡ length ns
 numbers_count [] = refl
 numbers_count (n ∷ ns) = ap suc (numbers_count ns)
 
-module _ (m : Parts) (more : List Parts) (plan : Plan) (v : AreValid (m ∷ more)) (l : link_answer (m ∷ more) ≡ None) (e : locate_answer (m ∷ more) plan ≡ None) where
+module _ (m : Parts) (more : List Parts) (plan : Plan) (v : AreValid (m ∷ more)) (l : link_answer (m ∷ more)
+    ≡ None) (e : locate_answer (m ∷ more) plan ≡ None) where
   abbrev ms : List Parts
   ms = m ∷ more
 
@@ -160,7 +171,8 @@ module _ (m : Parts) (more : List Parts) (plan : Plan) (v : AreValid (m ∷ more
 
   starts : (ns : List ℕ) × (all_some ns ≡ start_values)
   starts = numbers_of start_values (λ o k. let there = flat_map-In (λ site. map (value s site None) (option_to_list site.parts.start)) o (sited ms) k in
-      let own = map-In (value s there.0 None) o (option_to_list there.0.parts.start) there.2 in subst HasValue own.2 (start_valued ms s valued there.0 there.1 own.0 own.1))
+      let own = map-In (value s there.0 None) o (option_to_list there.0.parts.start) there.2 in
+      subst HasValue own.2 (start_valued ms s valued there.0 there.1 own.0 own.1))
 
   one_start : option_to_list (first_number starts.0) ≡ starts.0
   one_start = only_number starts.0 (λ less.

@@ -31,10 +31,12 @@ length-in_byte_order Most bytes = length-reverse bytes
 cell_there : (a : ℕ) (bytes : List ℕ) (cell : Cell) → In cell (cells_from a bytes) → (q : ℕ) × (q < length bytes) × (cell.0 ≡ a + q)
 cell_there a [] cell h = absurd h
 cell_there a (byte ∷ bytes) cell (inl e) =
-    let less : 0 < suc (length bytes) = omega arith in let same : a ≡ cell.0 = ap (λ (x : Cell). x.0) e in let at : cell.0 ≡ a + 0 = omega (arith, same) in (0, less, at)
+    let less : 0 < suc (length bytes) = omega arith in let same : a ≡ cell.0 = ap (λ (x : Cell). x.0) e in let at : cell.0 ≡ a + 0 =
+    omega (arith, same) in (0, less, at)
 cell_there a (byte ∷ bytes) cell (inr h) =
     let later = cell_there (suc a) bytes cell h in
-    let less : suc later.0 < suc (length bytes) = omega (arith, later.1) in let at : cell.0 ≡ a + suc later.0 = omega (arith, later.2) in (suc later.0, less, at)
+    let less : suc later.0 < suc (length bytes) = omega (arith, later.1) in let at : cell.0 ≡ a + suc later.0 = omega (arith, later.2) in
+    (suc later.0, less, at)
 
 pub row_own : (a : ℕ) (bytes : List ℕ) → HaveOwnAddresses (cells_from a bytes)
 row_own a [] = tt
@@ -42,7 +44,8 @@ row_own a (byte ∷ bytes) = (λ other h. apart other (cell_there (suc a) bytes 
   apart : (other : Cell) → (q : ℕ) × (q < length bytes) × (other.0 ≡ suc a + q) → a ≡ other.0 → ⊥
   apart other later e = omega (arith, later.2, e)
 
-pub own_append : (xs ys : List Cell) → HaveOwnAddresses xs → HaveOwnAddresses ys → ((x y : Cell) → In x xs → In y ys → x.0 ≡ y.0 → ⊥) → HaveOwnAddresses (xs ++ ys)
+pub own_append : (xs ys : List Cell) → HaveOwnAddresses xs → HaveOwnAddresses ys → ((x y : Cell) → In x xs → In y ys → x.0 ≡ y.0 → ⊥)
+    → HaveOwnAddresses (xs ++ ys)
 own_append [] ys h k apart = k
 own_append (x ∷ xs) ys h k apart = (λ other m. by_case other (In-append other xs ys m), own_append xs ys h.1 k (λ a b m n. apart a b (inr m) n)) where
   by_case : (other : Cell) → In other xs ⊎ In other ys → x.0 ≡ other.0 → ⊥
@@ -52,7 +55,8 @@ own_append (x ∷ xs) ys h k apart = (λ other m. by_case other (In-append other
 counted_In : (n a q : ℕ) → q < n → In (a + q) (counted_from n a)
 counted_In zero a q less = absurd (omega (arith, less))
 counted_In (suc n) a zero less = let same : a ≡ a + 0 = omega arith in inl same
-counted_In (suc n) a (suc q) less = let same : suc a + q ≡ a + suc q = omega arith in inr (subst (λ k. In k (counted_from n (suc a))) same (counted_In n (suc a) q (omega (arith, less))))
+counted_In (suc n) a (suc q) less = let same : suc a + q ≡ a + suc q = omega arith in
+    inr (subst (λ k. In k (counted_from n (suc a))) same (counted_In n (suc a) q (omega (arith, less))))
 
 module _ (order : Order) (ms : List Parts) (s : Setting) (clear : (address : ℕ) → ¬ StandsInWalk ms s (loaded_twice address)) where
   abbrev cells_after : List Step → List Step → List Cell
@@ -62,7 +66,8 @@ module _ (order : Order) (ms : List Parts) (s : Setting) (clear : (address : ℕ
   abbrev IsOf : Option ℕ → Item → Cell → Type 0
   IsOf counter item cell = (at : ℕ) × (q : ℕ) × (counter ≡ Some at) × (q < byte_count item) × (cell.0 ≡ at + q)
 
-  pub item_cell : (site : Sited) (section : ℕ) (o : Option ℕ) (item : Item) (cell : Cell) → In cell (step_cells order s.modulus (item_reading s site section o item)) → IsOf o item cell
+  pub item_cell : (site : Sited) (section : ℕ) (o : Option ℕ) (item : Item) (cell : Cell)
+      → In cell (step_cells order s.modulus (item_reading s site section o item)) → IsOf o item cell
   item_cell site section None (Literal bytes) cell h = absurd h
   item_cell site section (Some at) (Literal bytes) cell h = let there = cell_there at bytes cell h in (at, there.0, refl, there.1, there.2)
   item_cell site section None (Field kind t size) cell h = absurd h
@@ -103,7 +108,18 @@ module _ (order : Order) (ms : List Parts) (s : Setting) (clear : (address : ℕ
   item_free earlier site section item at cell h k =
       let there = item_cell site section (counter s earlier section) item cell h in
       let place : cell.0 % s.modulus ≡ (there.0 + there.1) % s.modulus = ap (λ a. a % s.modulus) there.4 in
-      clear (cell.0 % s.modulus) (earlier, site, section, there.0, there.1, item, (at, there.2), there.3, place, inl (at-In (cell.0 % s.modulus) (loaded_addresses s earlier) k))
+      clear (cell.0 % s.modulus) (
+        earlier,
+        site,
+        section,
+        there.0,
+        there.1,
+        item,
+        (at, there.2),
+        there.3,
+        place,
+        inl (at-In (cell.0 % s.modulus) (loaded_addresses s earlier) k),
+      )
 
   abbrev Own : List Step → List Step → Type 0
   Own earlier more = HaveOwnAddresses (cells_after earlier more) × AreFree (cells_after earlier more) (loaded_addresses s earlier)
@@ -114,21 +130,26 @@ module _ (order : Order) (ms : List Parts) (s : Setting) (clear : (address : ℕ
   own_after (item_step site section item ∷ more) earlier at = joined (own_after more (item_step site section item ∷ earlier) at) where
     joined : Own (item_step site section item ∷ earlier) more → Own earlier (item_step site section item ∷ more)
     joined later = (
-      own_append (step_cells order s.modulus (item_reading s site section (counter s earlier section) item)) (cells_after (item_step site section item ∷ earlier) more)
+      own_append (step_cells order s.modulus (item_reading s site section (counter s earlier section) item))
+          (cells_after (item_step site section item ∷ earlier) more)
           (item_own site section (counter s earlier section) item) later.0 apart,
-      λ cell h k. by_case cell k (In-append cell (step_cells order s.modulus (item_reading s site section (counter s earlier section) item)) (cells_after (item_step site section item ∷ earlier) more) h),
+      λ cell h k. by_case cell k (In-append cell (step_cells order s.modulus (item_reading s site section (counter s earlier section) item))
+          (cells_after (item_step site section item ∷ earlier) more) h),
     )
       where
-        apart : (x y : Cell) → In x (step_cells order s.modulus (item_reading s site section (counter s earlier section) item)) → In y (cells_after (item_step site section item ∷ earlier) more) → x.0 ≡ y.0 → ⊥
+        apart : (x y : Cell) → In x (step_cells order s.modulus (item_reading s site section (counter s earlier section) item))
+            → In y (cells_after (item_step site section item ∷ earlier) more) → x.0 ≡ y.0 → ⊥
         apart x y h k e =
             let there = item_address (counter s earlier section) item x (item_cell site section (counter s earlier section) item x h) in
             later.1 y k (In-left (y.0 % s.modulus) (addresses_at s.modulus (counter s earlier section) item) (loaded_addresses s earlier)
             (subst (λ a. In (a % s.modulus) (addresses_at s.modulus (counter s earlier section) item)) e there))
 
         by_case : (cell : Cell) → In (cell.0 % s.modulus) (loaded_addresses s earlier)
-            → In cell (step_cells order s.modulus (item_reading s site section (counter s earlier section) item)) ⊎ In cell (cells_after (item_step site section item ∷ earlier) more) → ⊥
+            → In cell (step_cells order s.modulus (item_reading s site section (counter s earlier section) item))
+            ⊎ In cell (cells_after (item_step site section item ∷ earlier) more) → ⊥
         by_case cell k (inl h) = item_free earlier site section item (more, at) cell h k
-        by_case cell k (inr h) = later.1 cell h (In-right (cell.0 % s.modulus) (addresses_at s.modulus (counter s earlier section) item) (loaded_addresses s earlier) k)
+        by_case cell k (inr h) = later.1 cell h (In-right (cell.0 % s.modulus) (addresses_at s.modulus (counter s earlier section) item)
+            (loaded_addresses s earlier) k)
 
   -- no two cells of the address map have one address
   pub own_addresses : HaveOwnAddresses (address_map order s.modulus (readings_after s [] (steps ms)))

@@ -31,7 +31,8 @@ later_too : (x : ℕ) (xs : List ℕ) (n : ℕ) → Contains xs n → Contains (
 later_too x xs n h = let inside : suc h.0 < length (x ∷ xs) = omega (arith, h.1) in (suc h.0, inside, h.2)
 
 -- where one is first and the other list has all its numbers, the rest has all the numbers of the rest
-rest_within : (x y : ℕ) (xs ys : List ℕ) → x ≡ y → Rise (x ∷ xs) → ((n : ℕ) → Contains (x ∷ xs) n → Contains (y ∷ ys) n) → (n : ℕ) → Contains xs n → Contains ys n
+rest_within : (x y : ℕ) (xs ys : List ℕ) → x ≡ y → Rise (x ∷ xs) → ((n : ℕ) → Contains (x ∷ xs) n → Contains (y ∷ ys) n) → (n : ℕ) → Contains xs n
+    → Contains ys n
 rest_within x y xs ys same rise within n h = by_case (first_or_later y ys n (within n (later_too x xs n h))) where
   by_case : (y ≡ n) ⊎ Contains ys n → Contains ys n
   by_case (inl e) = absurd (let less = first_below x xs rise n h in omega (arith, less, same, e))
@@ -40,7 +41,8 @@ rest_within x y xs ys same rise within n h = by_case (first_or_later y ys n (wit
 first_same : (x y : ℕ) (xs ys : List ℕ) → Rise (x ∷ xs) → Rise (y ∷ ys) → (y ≡ x) ⊎ Contains ys x → (x ≡ y) ⊎ Contains xs y → x ≡ y
 first_same x y xs ys p q (inl e) b = sym e
 first_same x y xs ys p q (inr there) (inl e) = e
-first_same x y xs ys p q (inr there) (inr back) = let less = first_below y ys q x there in let more = first_below x xs p y back in absurd (omega (arith, less, more))
+first_same x y xs ys p q (inr there) (inr back) = let less = first_below y ys q x there in let more = first_below x xs p y back in
+    absurd (omega (arith, less, more))
 
 -- rising lists with the same numbers are the same
 same_numbers : (xs ys : List ℕ) → Rise xs → Rise ys → ((n : ℕ) → Contains xs n → Contains ys n) → ((n : ℕ) → Contains ys n → Contains xs n) → xs ≡ ys
@@ -54,4 +56,5 @@ same_numbers (x ∷ xs) (y ∷ ys) p q there back =
 
 pub selection_is_single : SelectionIsSingle
 selection_is_single ms members chosen other p q =
-    same_numbers chosen other (AllPairs-from_increasing chosen p.increasing) (AllPairs-from_increasing other q.increasing) (p.least other q.closed) (q.least chosen p.closed)
+    same_numbers chosen other (AllPairs-from_increasing chosen p.increasing) (AllPairs-from_increasing other q.increasing) (p.least other q.closed)
+    (q.least chosen p.closed)

@@ -116,12 +116,14 @@ strong_loaded : image_of also_strong (with_commons 64) ≡ common_image
 unfolding readings counter value_within
 strong_loaded = refl
 
-other_is_undefined : locate_answer (asking 4 ∷ a_module [] [] (strong (codes "c") ∷ strong (codes "d") ∷ []) [] ∷ []) (with_commons 64) ≡ Some (undefined (codes "d"))
+other_is_undefined : locate_answer (asking 4 ∷ a_module [] [] (strong (codes "c") ∷ strong (codes "d") ∷ []) [] ∷ []) (with_commons 64)
+    ≡ Some (undefined (codes "d"))
 unfolding locate_answer
 other_is_undefined = refl
 
 abbrev default_beside : List Parts
-default_beside = asking 4 ∷ a_module (relocatable (codes "t") 4 ∷ []) [] (weak (codes "c") 0 9 ∷ []) (SetSection 0 ∷ One (Field Either (variable X 0) 4) ∷ []) ∷ []
+default_beside = asking 4 ∷ a_module (relocatable (codes "t") 4 ∷ []) [] (weak (codes "c") 0 9 ∷ [])
+    (SetSection 0 ∷ One (Field Either (variable X 0) 4) ∷ []) ∷ []
 
 default_not_used : image_of default_beside (with_commons 64) ≡ common_image
 unfolding readings counter value_within

@@ -18,7 +18,8 @@ use Rattle.mufom_meaning.specs.Bases.{Bases, no_bases}
 use Rattle.mufom_meaning.specs.Flat.{Sited, flat_sections, public_names, name_count}
 use Rattle.mufom_meaning.specs.LinkAnswer.{first_duplicate}
 use Rattle.mufom_meaning.specs.Steps.{counter, StepReading, counter_reading, literal_reading, field_reading}
-use Rattle.mufom_meaning.specs.Readings.{readings, Readings, HeadReading, MarkReading, mark_reading, module_head, global_head, local_head, source_head, section_head, begin_reading, end_reading, name_reading, note_reading, value_reading}
+use Rattle.mufom_meaning.specs.Readings.{readings, Readings, HeadReading, MarkReading, mark_reading, module_head, global_head, local_head}
+use Rattle.mufom_meaning.specs.Readings.{source_head, section_head, begin_reading, end_reading, name_reading, note_reading, value_reading}
 use Rattle.mufom_meaning.specs.Joined.{joined_mark, IsJoined, joined_mark}
 use Rattle.mufom_meaning.specs.Staging.{IsContext, StandsFor}
 use Rattle.mufom_meaning.specs.Values.{setting, value_within}
@@ -80,7 +81,8 @@ unmoved_is_not_joined j = let e : 0 ≡ 1 = ap (first_place 1) j.publics in omeg
 unmoved_does_not_stand : ¬ StandsFor unmoved (crossed_a ∷ crossed_b ∷ [])
 unfolding readings counter value_within
 unmoved_does_not_stand stands =
-    let e : 257 ≡ 261 = ap (public_value 1) (stands [] [] (sections_at (256 ∷ 260 ∷ [])) (alone crossed_a (crossed_b ∷ []) (sections_at (256 ∷ 260 ∷ [])) refl refl)) in omega (arith, e)
+    let e : 257 ≡ 261 = ap (public_value 1) (stands [] [] (sections_at (256 ∷ 260 ∷ []))
+    (alone crossed_a (crossed_b ∷ []) (sections_at (256 ∷ 260 ∷ [])) refl refl)) in omega (arith, e)
 
 -- References to the list's own publics are left.
 abbrev unmet : Parts
@@ -98,13 +100,15 @@ merged = a_module (relocatable (codes "t") 1 ∷ relocatable (codes "t") 1 ∷ [
     (SetSection 0 ∷ One (Field Unsigned (variable X 0) 1) ∷ SetSection 1 ∷ One (Field Unsigned (variable X 0) 1) ∷ [])
 
 merged_is_not_joined : ¬ IsJoined merged defaults (codes "a")
-merged_is_not_joined j = absurd (let e : length (weak (codes "x") 0 1 ∷ []) ≡ length (weak (codes "x") 0 1 ∷ weak (codes "x") 0 2 ∷ []) = ap length j.references in cc)
+merged_is_not_joined j = absurd (let e : length (weak (codes "x") 0 1 ∷ []) ≡ length (weak (codes "x") 0 1 ∷ weak (codes "x") 0 2 ∷ []) =
+    ap length j.references in cc)
 
 merged_does_not_stand : ¬ StandsFor merged defaults
 unfolding readings counter value_within
 merged_does_not_stand stands =
     let e : 1 ≡ 2
-    = ap (λ r. field_value (slice_get r.steps 1)) (stands [] [] (sections_at (0 ∷ 1 ∷ [])) (alone (with_default 1) (with_default 2 ∷ []) (sections_at (0 ∷ 1 ∷ [])) refl refl)) in omega (arith, e)
+    = ap (λ r. field_value (slice_get r.steps 1)) (stands [] [] (sections_at (0 ∷ 1 ∷ []))
+    (alone (with_default 1) (with_default 2 ∷ []) (sections_at (0 ∷ 1 ∷ [])) refl refl)) in omega (arith, e)
 
 -- An address has another width.
 abbrev wide : Parts
@@ -163,7 +167,8 @@ own_site = record { parts = unmoved_block; first_section = 0; first_public = 0; 
 
 unmoved_block_is_not_joined : ¬ IsJoined unmoved_block both_blocks (codes "a")
 unmoved_block_is_not_joined j =
-    let joined = λ (marks : List DebugMark). map (joined_mark both_blocks (block_site 0 0)) marks ++ (map (joined_mark both_blocks (block_site 1 (0 + name_count marks))) marks ++ []) in
+    let joined = λ (marks : List DebugMark). map (joined_mark both_blocks (block_site 0 0)) marks
+    ++ (map (joined_mark both_blocks (block_site 1 (0 + name_count marks))) marks ++ []) in
     let e : 0 ≡ 1 = ap (mark_section 2) (sym two_blocks ∙ j.debug ∙ ap joined one_block) in omega (arith, e)
 
 -- the section that a reading of a block's begin has
@@ -187,8 +192,10 @@ unfolding readings
 unmoved_block_does_not_stand stands =
     let own = λ (marks : List DebugMark). map (mark_reading (setting (unmoved_block ∷ []) (sections_at (0 ∷ 0 ∷ []))) own_site) marks ++ [] in
     let s = setting both_blocks (sections_at (0 ∷ 0 ∷ [])) in
-    let read = λ (marks : List DebugMark). map (mark_reading s (block_site 0 0)) marks ++ (map (mark_reading s (block_site 1 (0 + name_count marks))) marks ++ []) in
+    let read = λ (marks : List DebugMark). map (mark_reading s (block_site 0 0)) marks
+    ++ (map (mark_reading s (block_site 1 (0 + name_count marks))) marks ++ []) in
     let e : 0 ≡ 1
     = ap (λ marks. read_section (slice_get marks 2))
-    (sym (ap own two_blocks) ∙ ap (λ r. r.debug) (stands [] [] (sections_at (0 ∷ 0 ∷ [])) (alone with_block (with_block ∷ []) (sections_at (0 ∷ 0 ∷ [])) refl refl)) ∙ ap read one_block) in
+    (sym (ap own two_blocks) ∙ ap (λ r. r.debug) (stands [] [] (sections_at (0 ∷ 0 ∷ []))
+    (alone with_block (with_block ∷ []) (sections_at (0 ∷ 0 ∷ [])) refl refl)) ∙ ap read one_block) in
     omega (arith, e)

@@ -10,7 +10,8 @@ use Rattle.mufom_debug.specs.Marks.{DebugMark, block_begin, block_end, name_mark
 use Rattle.mufom_module.specs.declared.module.Parts.{Parts}
 use Rattle.mufom_meaning.specs.Flat.{Sited}
 use Rattle.mufom_meaning.specs.Values.{setting, value_within}
-use Rattle.mufom_meaning.specs.Readings.{readings, MarkReading, mark_reading, module_head, global_head, begin_reading, end_reading, name_reading, note_reading, value_reading}
+use Rattle.mufom_meaning.specs.Readings.{readings, MarkReading, mark_reading, module_head, global_head, begin_reading, end_reading, name_reading}
+use Rattle.mufom_meaning.specs.Readings.{note_reading, value_reading}
 use Rattle.mufom_meaning.specs.Location.{located_mark}
 use Rattle.mufom_meaning.proofs.rows.Built.{a_module, relocatable, sections_at}
 
@@ -33,7 +34,8 @@ debugged = record (a_module (relocatable (codes "code") 16 ∷ []) [] [] []) { d
 
 -- the marks, where the expressions are made from those of the section's base
 abbrev its_marks : List DebugMark
-its_marks = block_begin heads.Module (codes "prog") ∷ name_mark (codes "x") ∷ block_begin (heads.Global 0 0 (variable R 0)) (codes "main") ∷ name_mark (codes "l")
+its_marks = block_begin heads.Module (codes "prog") ∷ name_mark (codes "x") ∷ block_begin (heads.Global 0 0 (variable R 0)) (codes "main") ∷ name_mark
+    (codes "l")
     ∷ note_mark 1 note ∷ value_mark 1 (two plus (variable R 0) (number 2)) ∷ block_end (Some (two plus (variable R 0) (number 15))) ∷ block_end None ∷ []
 
 has_marks : marks_of (outer ∷ []) ≡ its_marks
@@ -43,7 +45,8 @@ abbrev the_site : Sited
 the_site = record { parts = debugged; first_section = 0; first_public = 0; first_name = 0 }
 
 abbrev its_readings : List MarkReading
-its_readings = begin_reading module_head (codes "prog") ∷ name_reading (codes "x") ∷ begin_reading (global_head 0 0 (Some 256)) (codes "main") ∷ name_reading (codes "l")
+its_readings = begin_reading module_head (codes "prog") ∷ name_reading (codes "x") ∷ begin_reading (global_head 0 0 (Some 256))
+    (codes "main") ∷ name_reading (codes "l")
     ∷ note_reading 1 note ∷ value_reading 1 (Some 258) ∷ end_reading (Some (Some 271)) ∷ end_reading None ∷ []
 
 reads : (readings (debugged ∷ []) (sections_at (256 ∷ []))).debug ≡ its_readings
@@ -51,6 +54,7 @@ unfolding readings value_within
 reads = ap (λ marks. map (mark_reading (setting (debugged ∷ []) (sections_at (256 ∷ []))) the_site) marks ++ []) has_marks
 
 locates : map located_mark its_readings
-    ≡ map (λ mark. Some mark) (block_begin heads.Module (codes "prog") ∷ name_mark (codes "x") ∷ block_begin (heads.Global 0 0 (number 256)) (codes "main") ∷ name_mark (codes "l")
+    ≡ map (λ mark. Some mark) (block_begin heads.Module (codes "prog") ∷ name_mark (codes "x") ∷ block_begin (heads.Global 0 0 (number 256))
+    (codes "main") ∷ name_mark (codes "l")
     ∷ note_mark 1 note ∷ value_mark 1 (number 258) ∷ block_end (Some (number 271)) ∷ block_end None ∷ [])
 locates = refl

@@ -145,19 +145,23 @@ outside : locate_answer (small_section (SetSection 0 ∷ One (Literal (1 ∷ 2 �
 unfolding locate_answer counter
 outside = refl
 
-twice : locate_answer (small_section (SetSection 0 ∷ One (Literal (1 ∷ [])) ∷ SetPc 0 (number 16) ∷ One (Literal (1 ∷ [])) ∷ [])) (plan_of []) ≡ Some (loaded_twice 16)
+twice : locate_answer (small_section (SetSection 0 ∷ One (Literal (1 ∷ [])) ∷ SetPc 0 (number 16) ∷ One (Literal (1 ∷ [])) ∷ [])) (plan_of [])
+    ≡ Some (loaded_twice 16)
 unfolding locate_answer counter value_within
 twice = refl
 
-no_quotient : locate_answer (a_module [] (public_of (codes "d") (two divided (number 1) (number 0)) ∷ []) [] [] ∷ []) (plan_of []) ≡ Some (zero_divisor (sites.Public (codes "d")))
+no_quotient : locate_answer (a_module [] (public_of (codes "d") (two divided (number 1) (number 0)) ∷ []) [] [] ∷ []) (plan_of [])
+    ≡ Some (zero_divisor (sites.Public (codes "d")))
 unfolding locate_answer value_within
 no_quotient = refl
 
-same_name_twice : link_answer (a_module [] (public_of (codes "main") (number 0) ∷ []) [] [] ∷ a_module [] (public_of (codes "main") (number 0) ∷ []) [] [] ∷ []) ≡ Some (duplicate (codes "main"))
+same_name_twice : link_answer (a_module [] (public_of (codes "main") (number 0) ∷ []) [] [] ∷ a_module [] (public_of (codes "main") (number 0) ∷ [])
+    [] [] ∷ []) ≡ Some (duplicate (codes "main"))
 same_name_twice = refl
 
 -- A repeat that loads more than an image may have.
-too_many : locate_answer (a_module (absolute_at 0 1 ∷ []) [] [] (SetSection 0 ∷ Repeat 4294967295 (Literal (170 ∷ []) ∷ []) ∷ []) ∷ []) (plan_of []) ≡ Some (image_limit 4294967295)
+too_many : locate_answer (a_module (absolute_at 0 1 ∷ []) [] [] (SetSection 0 ∷ Repeat 4294967295 (Literal (170 ∷ []) ∷ []) ∷ []) ∷ []) (plan_of [])
+    ≡ Some (image_limit 4294967295)
 unfolding locate_answer
 too_many = refl
 

@@ -123,7 +123,8 @@ both_are_located = record {
 }
 
 -- Sums wrap at the end of the address space.
-wrapped : image_of (a_module (absolute_at 4 4 ∷ []) [] [] (SetSection 0 ∷ One (Field Either (two plus (number 4294967292) (variable R 0)) 4) ∷ []) ∷ []) no_regions
+wrapped : image_of (a_module (absolute_at 4 4 ∷ []) [] [] (SetSection 0 ∷ One
+    (Field Either (two plus (number 4294967292) (variable R 0)) 4) ∷ []) ∷ []) no_regions
     ≡ (4, 0) ∷ (5, 0) ∷ (6, 0) ∷ (7, 0) ∷ []
 unfolding readings counter value_within
 wrapped = refl

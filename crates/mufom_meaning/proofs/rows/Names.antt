@@ -70,7 +70,8 @@ circle_found = refl
 
 -- The circle is found in the link of the two as well.
 abbrev circle_linked : Parts
-circle_linked = a_module [] (public_of (codes "a") (two plus (variable I 1) (number 1)) ∷ public_of (codes "b") (two minus (variable I 0) (number 1)) ∷ []) [] []
+circle_linked = a_module [] (public_of (codes "a") (two plus (variable I 1) (number 1)) ∷ public_of (codes "b")
+    (two minus (variable I 0) (number 1)) ∷ []) [] []
 
 circle_is_joined : IsJoined circle_linked circle (codes "a")
 circle_is_joined = record {
@@ -89,7 +90,8 @@ unfolding locate_answer
 circle_found_linked = refl
 
 -- A public that leads into a circle and lies on none.
-led_in : locate_answer (a_module [] (public_of (codes "c") (variable I 1) ∷ public_of (codes "a") (two plus (variable I 2) (number 1)) ∷ public_of (codes "b") (two minus (variable I 1) (number 1)) ∷ []) [] [] ∷ []) (plan_of [])
+led_in : locate_answer (a_module [] (public_of (codes "c") (variable I 1) ∷ public_of (codes "a") (two plus (variable I 2) (number 1)) ∷ public_of
+    (codes "b") (two minus (variable I 1) (number 1)) ∷ []) [] [] ∷ []) (plan_of [])
     ≡ Some (cycle (codes "a"))
 unfolding locate_answer
 led_in = refl

@@ -1,5 +1,6 @@
 -- Lists that go over the modules of a list, where a group of the list is linked.
-use Rattle.std.proofs.Common.{◌≡◌, ℕ, zero, suc, ◌+◌, List, [], ◌∷◌, ◌++◌, map, length, Some, refl, sym, ◌∙◌, ap, subst, add_assoc, add-zero, flat_map, length-append}
+use Rattle.std.proofs.Common.{◌≡◌, ℕ, zero, suc, ◌+◌, List, [], ◌∷◌, ◌++◌, map, length, Some, refl, sym, ◌∙◌, ap, subst, add_assoc, add-zero}
+use Rattle.std.proofs.Common.{flat_map, length-append}
 use Rattle.std.specs.Prelude.{slice_get}
 use Rattle.std.proofs.lemmas.Grind.{flat_map-append}
 use Rattle.std.proofs.lemmas.List.{map-append, length-map}
@@ -9,7 +10,8 @@ use Rattle.mufom_meaning.specs.Flat.{Sited, name_count, sited_from, sited, sited
 use Rattle.mufom_meaning.specs.Joined.{IsJoined, joined_public, joined_mark}
 use Rattle.mufom_meaning.proofs.staging.Moved.{shifted, IsOfGroup}
 use Rattle.mufom_meaning.proofs.Paired.{Paired, Paired-append}
-use Rattle.mufom_meaning.proofs.Sites.{next_section, next_public, next_name, sited_from-append, sited_from-shifted, next_section-length, next_public-length, name_count-append}
+use Rattle.mufom_meaning.proofs.Sites.{next_section, next_public, next_name, sited_from-append, sited_from-shifted, next_section-length}
+use Rattle.mufom_meaning.proofs.Sites.{next_public-length, name_count-append}
 use Rattle.mufom_meaning.proofs.Names.{get-skip}
 
 -- what holds of each site
@@ -51,7 +53,11 @@ are_of_group s p d [] = tt
 are_of_group s p d (x ∷ xs) = (
   λ n r e. (n, Among-left r x.names.references (flat_references xs) n e),
   AllSites-weaker (IsOfGroup xs) (IsOfGroup (x ∷ xs))
-      (λ site within n r e. let found = within n r e in (length x.names.references + found.0, get-skip x.names.references (flat_references xs) found.0 ∙ found.1)) _
+      (λ site within n r e. let found = within n r e in (
+        length x.names.references + found.0,
+        get-skip x.names.references (flat_references xs) found.0
+            ∙ found.1,
+      )) _
       (are_of_group (s + length x.sections) (p + length x.names.publics) (d + name_count (marks_of x.debug)) xs),
 )
 
@@ -72,11 +78,13 @@ name_count-joined_mark ms site (name_mark name ∷ marks) = ap (λ n. 1 + n) (na
 name_count-joined_mark ms site (note_mark name note ∷ marks) = name_count-joined_mark ms site marks
 name_count-joined_mark ms site (value_mark name t ∷ marks) = name_count-joined_mark ms site marks
 
-name_count-joined : (ms : List Parts) (sites : List Sited) → name_count (flat_map (λ site. map (joined_mark ms site) (marks_of site.parts.debug)) sites) ≡ names_at sites
+name_count-joined : (ms : List Parts) (sites : List Sited) → name_count
+    (flat_map (λ site. map (joined_mark ms site) (marks_of site.parts.debug)) sites) ≡ names_at sites
 name_count-joined ms [] = refl
 name_count-joined ms (site ∷ sites) =
     name_count-append (map (joined_mark ms site) (marks_of site.parts.debug)) _
-    ∙ ap (λ n. n + name_count (flat_map (λ site. map (joined_mark ms site) (marks_of site.parts.debug)) sites)) (name_count-joined_mark ms site (marks_of site.parts.debug))
+    ∙ ap (λ n. n + name_count (flat_map (λ site. map (joined_mark ms site) (marks_of site.parts.debug)) sites))
+    (name_count-joined_mark ms site (marks_of site.parts.debug))
     ∙ ap (λ n. name_count (marks_of site.parts.debug) + n) (name_count-joined ms sites)
 
 next_name-names_at : (s p d : ℕ) (xs : List Parts) → next_name d xs ≡ d + names_at (sited_from s p d xs)
@@ -106,7 +114,8 @@ module _ (M : Parts) (ms : List Parts) (name : List ℕ) (j : IsJoined M ms name
 
   -- the modules after the group
   abbrev pub rest_of : List Sited
-  rest_of = sited_from (next_section 0 before + length M.sections) (next_public 0 before + length M.names.publics) (next_name 0 before + name_count (marks_of M.debug)) after
+  rest_of = sited_from (next_section 0 before + length M.sections) (next_public 0 before + length M.names.publics)
+      (next_name 0 before + name_count (marks_of M.debug)) after
 
   pub sites_of_link : sited (before ++ (M ∷ after)) ≡ sited before ++ (home_of M before ∷ rest_of)
   sites_of_link = sited_from-append 0 0 0 before (M ∷ after)
@@ -125,7 +134,8 @@ module _ (M : Parts) (ms : List Parts) (name : List ℕ) (j : IsJoined M ms name
   next_publics =
       next_public-length home.first_section home.first_public home.first_name ms
       ∙ ap (λ sites. home.first_public + length (sited_publics sites)) group_sites
-      ∙ ap (λ n. home.first_public + n) (sym (length-joined (joined_public ms) (λ site entry. record { site = site; entry = entry }) (λ site. site.parts.names.publics) home (λ site. refl) (sited ms)))
+      ∙ ap (λ n. home.first_public + n) (sym (length-joined (joined_public ms) (λ site entry. record { site = site; entry = entry })
+      (λ site. site.parts.names.publics) home (λ site. refl) (sited ms)))
       ∙ ap (λ publics. home.first_public + length publics) (sym j.publics)
 
   next_names : next_name home.first_name ms ≡ home.first_name + name_count (marks_of M.debug)
@@ -140,10 +150,12 @@ module _ (M : Parts) (ms : List Parts) (name : List ℕ) (j : IsJoined M ms name
       sited_from-append 0 0 0 before (ms ++ after)
       ∙ ap (λ more. sited before ++ more)
       (sited_from-append home.first_section home.first_public home.first_name ms after
-      ∙ ap (λ sites. sites ++ sited_from (next_section home.first_section ms) (next_public home.first_public ms) (next_name home.first_name ms) after) group_sites
+      ∙ ap (λ sites. sites ++ sited_from (next_section home.first_section ms) (next_public home.first_public ms) (next_name home.first_name ms) after)
+      group_sites
       ∙ ap (λ s. map (shifted home) (sited ms) ++ sited_from s (next_public home.first_public ms) (next_name home.first_name ms) after) next_sections
       ∙ ap (λ p. map (shifted home) (sited ms) ++ sited_from (home.first_section + length M.sections) p (next_name home.first_name ms) after) next_publics
-      ∙ ap (λ d. map (shifted home) (sited ms) ++ sited_from (home.first_section + length M.sections) (home.first_public + length M.names.publics) d after) next_names)
+      ∙ ap (λ d. map (shifted home) (sited ms) ++ sited_from (home.first_section + length M.sections) (home.first_public + length M.names.publics) d
+      after) next_names)
 
   -- lists over all modules correspond where those of the modules outside the group do, and that of the link and that of the group
   pub paired_sites : {U V : Type 0} (R : U → V → Type 0) (f : Sited → List U) (g : Sited → List V) → ((site : Sited) → Paired R (f site) (g site))
@@ -155,7 +167,8 @@ module _ (M : Parts) (ms : List Parts) (name : List ℕ) (j : IsJoined M ms name
       let all = Paired-append R (flat_map f (sited before)) _ (flat_map g (sited before)) _ (context (sited before)) group in
       let left : flat_map f (sited (before ++ (M ∷ after))) ≡ flat_map f (sited before) ++ (f home ++ flat_map f rest_of)
       = ap (flat_map f) sites_of_link ∙ flat_map-append f (sited before) (home ∷ rest_of) in
-      let right : flat_map g (sited (before ++ (ms ++ after))) ≡ flat_map g (sited before) ++ (flat_map (λ site. g (shifted home site)) (sited ms) ++ flat_map g rest_of)
+      let right : flat_map g (sited (before ++ (ms ++ after))) ≡ flat_map g (sited before)
+      ++ (flat_map (λ site. g (shifted home site)) (sited ms) ++ flat_map g rest_of)
       = ap (flat_map g) sites_of_group ∙ flat_map-append g (sited before) (map (shifted home) (sited ms) ++ rest_of)
       ∙ ap (λ more. flat_map g (sited before) ++ more) (flat_map-append g (map (shifted home) (sited ms)) rest_of
       ∙ ap (λ prefix. prefix ++ flat_map g rest_of) (flat_map-map g (shifted home) (sited ms))) in

@@ -68,11 +68,13 @@ module _ (ms : List Parts) (site : Sited) where
   size-item (Literal bytes) = refl
   size-item (Field kind t size) = refl
 
-  pub items-load : (test : Item → Bool) → ((item : Item) → test (joined_item ms site item) ≡ test item) → (load : Load) → any_item test (joined_load ms site load) ≡ any_item test load
+  pub items-load : (test : Item → Bool) → ((item : Item) → test (joined_item ms site item) ≡ test item) → (load : Load)
+      → any_item test (joined_load ms site load) ≡ any_item test load
   items-load test same (SetSection section) = refl
   items-load test same (SetPc section t) = refl
   items-load test same (One item) = same item
-  items-load test same (Repeat count items) = list_any-mapped test (joined_item ms site) items ∙ list_any-agrees (λ item. test (joined_item ms site item)) test same items
+  items-load test same (Repeat count items) = list_any-mapped test (joined_item ms site) items
+      ∙ list_any-agrees (λ item. test (joined_item ms site item)) test same items
 
   open-mark : (n : ℕ) (mark : DebugMark) → open_after n (joined_mark ms site mark) ≡ open_after n mark
   open-mark n (block_begin head name) = refl
@@ -95,7 +97,8 @@ pub depth-joined : (ms xs : List Parts) → AreValid xs → (s p d : ℕ)
 depth-joined ms [] v s p d = omega arith
 depth-joined ms (m ∷ xs) v s p d =
     let site : Sited = record { parts = m; first_section = s; first_public = p; first_name = d } in
-    let rest = flat_map (λ (site : Sited). map (joined_mark ms site) (marks_of site.parts.debug)) (sited_from (s + length m.sections) (p + length m.names.publics) (d + name_count (marks_of m.debug)) xs) in
+    let rest = flat_map (λ (site : Sited). map (joined_mark ms site) (marks_of site.parts.debug))
+    (sited_from (s + length m.sections) (p + length m.names.publics) (d + name_count (marks_of m.debug)) xs) in
     let later : depth_from 0 rest ≤ 32 = depth-joined ms xs v.1 (s + length m.sections) (p + length m.names.publics) (d + name_count (marks_of m.debug)) in
     let same = depth-marks ms site (marks_of m.debug) rest 0 in
     let split = (items_balanced m.debug).deep 0 rest in

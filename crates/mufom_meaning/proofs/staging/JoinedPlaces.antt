@@ -1,5 +1,6 @@
 -- The positions and program counters of a partial link are those of its own lists.
-use Rattle.std.proofs.Common.{◌≡◌, ℕ, zero, suc, ◌+◌, ◌<◌, ◌≤◌, List, [], ◌∷◌, ◌++◌, map, length, Option, Some, None, Bool, true, false, not, ◌||◌, ◌&&◌, refl, sym, ◌∙◌, ap, cond, arith, rules}
+use Rattle.std.proofs.Common.{◌≡◌, ℕ, zero, suc, ◌+◌, ◌<◌, ◌≤◌, List, [], ◌∷◌, ◌++◌, map, length, Option, Some, None, Bool, true, false, not, ◌||◌}
+use Rattle.std.proofs.Common.{◌&&◌, refl, sym, ◌∙◌, ap, cond, arith, rules}
 use Rattle.std.specs.Prelude.{nat_le, nat_lt, slice_get, is_none, option_map, option_and_then, ◌==◌, if◌then◌else◌}
 use Rattle.std.specs.List.{list_any}
 use Rattle.std.specs.Str.{bytes_eq}
@@ -18,10 +19,12 @@ use Rattle.mufom_debug.specs.declared.item.BlockHead.TheVariants as heads
 use Rattle.mufom_debug.specs.Marks.{DebugMark, block_begin, block_end, name_mark, note_mark, value_mark, offset_of}
 use Rattle.mufom_module.specs.declared.module.Parts.{Parts}
 use Rattle.mufom_module.specs.Contents.{any_of, any_expression, load_any, item_any, placed_from}
-use Rattle.mufom_module.specs.Defects.{counts_of, is_outside, names_outside, names_no_section, has_bad_place, names_bad_section, begins_badly, has_bad_mark, declared_after, is_this, is_other_counter, has_other_counter, misplaces_counter, loads_nowhere}
+use Rattle.mufom_module.specs.Defects.{counts_of, is_outside, names_outside, names_no_section, has_bad_place, names_bad_section, begins_badly}
+use Rattle.mufom_module.specs.Defects.{has_bad_mark, declared_after, is_this, is_other_counter, has_other_counter, misplaces_counter, loads_nowhere}
 use Rattle.mufom_plan.specs.Names.{has_name}
 use Rattle.mufom_meaning.specs.Flat.{Sited, sited, flat_references, public_names, unmet_references, name_count}
-use Rattle.mufom_meaning.specs.Joined.{position_of, same_reference, kept_references, joined_reference, joined_variable, joined_tree, joined_item, joined_load, joined_head, joined_mark}
+use Rattle.mufom_meaning.specs.Joined.{position_of, same_reference, kept_references, joined_reference, joined_variable, joined_tree, joined_item}
+use Rattle.mufom_meaning.specs.Joined.{joined_load, joined_head, joined_mark}
 use Rattle.mufom_meaning.proofs.Members.{In, In-at, at-In, In-filter, In-flat_map, none-In, fails-In, get_some}
 use Rattle.mufom_meaning.proofs.Tests.{either_false}
 use Rattle.mufom_meaning.proofs.values.Named.{site_module}
@@ -59,10 +62,12 @@ name-within (first ∷ names) name e = by_case (bytes_eq name first) refl e (nam
   by_case true f e later =
       let same : name ≡ first = (bytes_eq-Decides name first).0 f in
       let turned : bytes_eq first name ≡ true = (bytes_eq-Decides first name).1 (sym same) in
-      let at : position_of (λ other. bytes_eq other name) (first ∷ names) ≡ 0 = ap (λ b. cond b 0 (suc (position_of (λ other. bytes_eq other name) names))) turned in
+      let at : position_of (λ other. bytes_eq other name) (first ∷ names) ≡ 0 =
+      ap (λ b. cond b 0 (suc (position_of (λ other. bytes_eq other name) names))) turned in
       omega (arith, at)
   by_case false f e later = by_head (bytes_eq first name) (later e) where
-    by_head : (b : Bool) → position_of (λ other. bytes_eq other name) names < length names → cond b 0 (suc (position_of (λ other. bytes_eq other name) names)) < suc (length names)
+    by_head : (b : Bool) → position_of (λ other. bytes_eq other name) names < length names
+        → cond b 0 (suc (position_of (λ other. bytes_eq other name) names)) < suc (length names)
     by_head true less = omega arith
     by_head false less = omega (arith, less)
 
@@ -76,8 +81,12 @@ module _ (M : Parts) (ms : List Parts) (site : Sited) (fits : Fits M ms site) wh
   reference-inside : (r : Reference) → In r (flat_references ms) → is_outside (counts_of M) (joined_reference ms (Some r)) ≡ false
   reference-inside r h = by_case (has_name (public_names ms) r.name) refl where
     by_case : (b : Bool) → has_name (public_names ms) r.name ≡ b
-        → is_outside (counts_of M) (cond b (letters.I, position_of (λ name. bytes_eq name r.name) (public_names ms)) (letters.X, position_of (same_reference r) (kept_references ms))) ≡ false
-    by_case true e = let less = name-within (public_names ms) r.name e in not_outside (length M.names.publics) (position_of (λ name. bytes_eq name r.name) (public_names ms)) (omega (arith, less, fits.names))
+        → is_outside (counts_of M) (cond b (letters.I, position_of (λ name. bytes_eq name r.name) (public_names ms)) (
+          letters.X,
+          position_of (same_reference r) (kept_references ms),
+        )) ≡ false
+    by_case true e = let less = name-within (public_names ms) r.name e in
+        not_outside (length M.names.publics) (position_of (λ name. bytes_eq name r.name) (public_names ms)) (omega (arith, less, fits.names))
     by_case false e =
         let unmet : In r (unmet_references ms) = In-filter (λ reference. not (has_name (public_names ms) reference.name)) r (ap not e) (flat_references ms) h in
         let there = at-In r (unmet_references ms) unmet in
@@ -94,15 +103,22 @@ module _ (M : Parts) (ms : List Parts) (site : Sited) (fits : Fits M ms site) wh
       reference-inside r (In-flat_map (λ (m : Parts). m.names.references) site.parts r ms (site_module 0 0 0 ms site fits.there) own)
 
   variable-inside : (v : Letter × ℕ) → is_outside (counts_of site.parts) v ≡ false → is_outside (counts_of M) (joined_variable ms site v.0 v.1) ≡ false
-  variable-inside (letters.I, n) e = let less : n < length site.parts.names.publics = search rules in not_outside (length M.names.publics) (site.first_public + n) (omega (arith, less, fits.publics))
-  variable-inside (letters.L, n) e = let less : n < length site.parts.sections = search rules in not_outside (length M.sections) (site.first_section + n) (omega (arith, less, fits.sections))
-  variable-inside (letters.P, n) e = let less : n < length site.parts.sections = search rules in not_outside (length M.sections) (site.first_section + n) (omega (arith, less, fits.sections))
-  variable-inside (letters.R, n) e = let less : n < length site.parts.sections = search rules in not_outside (length M.sections) (site.first_section + n) (omega (arith, less, fits.sections))
-  variable-inside (letters.S, n) e = let less : n < length site.parts.sections = search rules in not_outside (length M.sections) (site.first_section + n) (omega (arith, less, fits.sections))
-  variable-inside (letters.X, n) e = let less : n < length site.parts.names.references = search rules in found-inside n less (slice_get site.parts.names.references n) refl
+  variable-inside (letters.I, n) e = let less : n < length site.parts.names.publics = search rules in
+      not_outside (length M.names.publics) (site.first_public + n) (omega (arith, less, fits.publics))
+  variable-inside (letters.L, n) e = let less : n < length site.parts.sections = search rules in
+      not_outside (length M.sections) (site.first_section + n) (omega (arith, less, fits.sections))
+  variable-inside (letters.P, n) e = let less : n < length site.parts.sections = search rules in
+      not_outside (length M.sections) (site.first_section + n) (omega (arith, less, fits.sections))
+  variable-inside (letters.R, n) e = let less : n < length site.parts.sections = search rules in
+      not_outside (length M.sections) (site.first_section + n) (omega (arith, less, fits.sections))
+  variable-inside (letters.S, n) e = let less : n < length site.parts.sections = search rules in
+      not_outside (length M.sections) (site.first_section + n) (omega (arith, less, fits.sections))
+  variable-inside (letters.X, n) e = let less : n < length site.parts.names.references = search rules in
+      found-inside n less (slice_get site.parts.names.references n) refl
 
   section-inside : (n : ℕ) → nat_le (length site.parts.sections) n ≡ false → nat_le (length M.sections) (site.first_section + n) ≡ false
-  section-inside n e = let less : n < length site.parts.sections = search rules in not_outside (length M.sections) (site.first_section + n) (omega (arith, less, fits.sections))
+  section-inside n e = let less : n < length site.parts.sections = search rules in
+      not_outside (length M.sections) (site.first_section + n) (omega (arith, less, fits.sections))
 
   -- the section whose program counter may be named, by its flat number
   abbrev moved : Option ℕ → Option ℕ
@@ -111,7 +127,10 @@ module _ (M : Parts) (ms : List Parts) (site : Sited) (fits : Fits M ms site) wh
   reference-counter : (allowed : Option ℕ) (o : Option Reference) → is_other_counter allowed (joined_reference ms o) ≡ false
   reference-counter allowed None = refl
   reference-counter allowed (Some r) = by_case (has_name (public_names ms) r.name) where
-    by_case : (b : Bool) → is_other_counter allowed (cond b (letters.I, position_of (λ name. bytes_eq name r.name) (public_names ms)) (letters.X, position_of (same_reference r) (kept_references ms))) ≡ false
+    by_case : (b : Bool) → is_other_counter allowed (cond b (letters.I, position_of (λ name. bytes_eq name r.name) (public_names ms)) (
+      letters.X,
+      position_of (same_reference r) (kept_references ms),
+    )) ≡ false
     by_case true = refl
     by_case false = refl
 
@@ -122,7 +141,8 @@ module _ (M : Parts) (ms : List Parts) (site : Sited) (fits : Fits M ms site) wh
       let also : ((site.first_section + k) == (site.first_section + n)) ≡ true = search rules in
       ap not also
 
-  counter-variable : (allowed : Option ℕ) (v : Letter × ℕ) → is_other_counter allowed v ≡ false → is_other_counter (moved allowed) (joined_variable ms site v.0 v.1) ≡ false
+  counter-variable : (allowed : Option ℕ) (v : Letter × ℕ) → is_other_counter allowed v ≡ false
+      → is_other_counter (moved allowed) (joined_variable ms site v.0 v.1) ≡ false
   counter-variable allowed (letters.I, n) e = refl
   counter-variable allowed (letters.L, n) e = refl
   counter-variable allowed (letters.P, n) e = counter-here allowed n e
@@ -239,8 +259,11 @@ module _ (M : Parts) (ms : List Parts) (site : Sited) (fits : Fits M ms site) wh
       × (list_any loads_nowhere (placed_from now (map (joined_load ms site) loads ++ more)) ≡ false)
   loads-keep [] more current now runs e f keep = keep now
   loads-keep (SetSection section ∷ loads) more current now runs e f keep =
-      let rest = loads-keep loads more (Some section) (Some (site.first_section + section)) refl e (either_false (is_none current && false) _ f).1 keep in
-      (rest.0, ap (λ b. b || list_any loads_nowhere (placed_from (Some (site.first_section + section)) (map (joined_load ms site) loads ++ more))) (and_false (is_none now)) ∙ rest.1)
+      let rest = loads-keep loads more (Some section) (Some (site.first_section + section)) refl e (either_false (is_none current && false) _ f).1 keep in (
+        rest.0,
+        ap (λ b. b || list_any loads_nowhere (placed_from (Some (site.first_section + section)) (map (joined_load ms site) loads ++ more)))
+            (and_false (is_none now)) ∙ rest.1,
+      )
   loads-keep (SetPc section t ∷ loads) more current now runs e f keep =
       let own = either_false (has_other_counter (Some section) t) (list_any misplaces_counter (placed_from current loads)) e in
       let rest = loads-keep loads more current now runs own.1 (either_false (is_none current && false) _ f).1 keep in
@@ -259,7 +282,8 @@ module _ (M : Parts) (ms : List Parts) (site : Sited) (fits : Fits M ms site) wh
   loads-keep (Repeat count items ∷ loads) more (Some k) now runs e f keep =
       let own = either_false (load_any (has_other_counter (Some k)) (Repeat count items)) (list_any misplaces_counter (placed_from (Some k) loads)) e in
       let rest = loads-keep loads more (Some k) now runs own.1 f keep in (
-        ap (λ b. b || list_any misplaces_counter (placed_from now (map (joined_load ms site) loads ++ more))) (item-load (Repeat count items) k now runs own.0) ∙ rest.0,
+        ap (λ b. b || list_any misplaces_counter (placed_from now (map (joined_load ms site) loads ++ more)))
+            (item-load (Repeat count items) k now runs own.0) ∙ rest.0,
         ap (λ b. b || list_any loads_nowhere (placed_from now (map (joined_load ms site) loads ++ more))) (placed now k runs) ∙ rest.1,
       )
 
@@ -280,15 +304,21 @@ module _ (M : Parts) (ms : List Parts) (site : Sited) (fits : Fits M ms site) wh
       ap (λ k. declared_after k (map (joined_mark ms site) marks ++ more)) next ∙ names-declared marks more (n + 1) e ∙ ap (λ k. declared_after k more) last
   names-declared (note_mark name note ∷ marks) more n e = by_case (nat_lt name n) refl e (names-declared marks more n) where
     by_case : (b : Bool) → nat_lt name n ≡ b → is_none (option_and_then (λ k. declared_after k marks) (if b then Some n else None)) ≡ false
-        → (is_none (declared_after n marks) ≡ false → declared_after (site.first_name + n) (map (joined_mark ms site) marks ++ more) ≡ declared_after (site.first_name + (n + name_count marks)) more)
-        → declared_after (site.first_name + n) (map (joined_mark ms site) (note_mark name note ∷ marks) ++ more) ≡ declared_after (site.first_name + (n + name_count marks)) more
+        → (is_none (declared_after n marks) ≡ false → declared_after (site.first_name + n) (map (joined_mark ms site) marks ++ more)
+        ≡ declared_after (site.first_name + (n + name_count marks)) more)
+        → declared_after (site.first_name + n) (map (joined_mark ms site) (note_mark name note ∷ marks) ++ more)
+        ≡ declared_after (site.first_name + (n + name_count marks)) more
     by_case true f e later =
-        ap (λ b. option_and_then (λ k. declared_after k (map (joined_mark ms site) marks ++ more)) (if b then Some (site.first_name + n) else None)) (name-declared n name f) ∙ later e
+        ap (λ b. option_and_then (λ k. declared_after k (map (joined_mark ms site) marks ++ more)) (if b then Some (site.first_name + n) else None))
+        (name-declared n name f) ∙ later e
     by_case false f e later = absurd cc
   names-declared (value_mark name t ∷ marks) more n e = by_case (nat_lt name n) refl e (names-declared marks more n) where
     by_case : (b : Bool) → nat_lt name n ≡ b → is_none (option_and_then (λ k. declared_after k marks) (if b then Some n else None)) ≡ false
-        → (is_none (declared_after n marks) ≡ false → declared_after (site.first_name + n) (map (joined_mark ms site) marks ++ more) ≡ declared_after (site.first_name + (n + name_count marks)) more)
-        → declared_after (site.first_name + n) (map (joined_mark ms site) (value_mark name t ∷ marks) ++ more) ≡ declared_after (site.first_name + (n + name_count marks)) more
+        → (is_none (declared_after n marks) ≡ false → declared_after (site.first_name + n) (map (joined_mark ms site) marks ++ more)
+        ≡ declared_after (site.first_name + (n + name_count marks)) more)
+        → declared_after (site.first_name + n) (map (joined_mark ms site) (value_mark name t ∷ marks) ++ more)
+        ≡ declared_after (site.first_name + (n + name_count marks)) more
     by_case true f e later =
-        ap (λ b. option_and_then (λ k. declared_after k (map (joined_mark ms site) marks ++ more)) (if b then Some (site.first_name + n) else None)) (name-declared n name f) ∙ later e
+        ap (λ b. option_and_then (λ k. declared_after k (map (joined_mark ms site) marks ++ more)) (if b then Some (site.first_name + n) else None))
+        (name-declared n name f) ∙ later e
     by_case false f e later = absurd cc

@@ -1,5 +1,6 @@
 -- What a partial link weighs.
-use Rattle.std.proofs.Common.{◌≡◌, ℕ, ◌+◌, ◌≤◌, List, [], ◌∷◌, map, filter, flat_map, length, Option, Some, None, Bool, true, false, not, cond, refl, sym, ◌∙◌, ap, arith, sum_by}
+use Rattle.std.proofs.Common.{◌≡◌, ℕ, ◌+◌, ◌≤◌, List, [], ◌∷◌, map, filter, flat_map, length, Option, Some, None, Bool, true, false, not, cond, refl}
+use Rattle.std.proofs.Common.{sym, ◌∙◌, ap, arith, sum_by}
 use Rattle.std.specs.Prelude.{option_to_list}
 use Rattle.std.proofs.lemmas.List.Sums.{sum_by-append, sum_by-cons}
 use Rattle.mufom_expr.specs.declared.token.Letter.{Letter}
@@ -19,10 +20,12 @@ use Rattle.mufom_debug.specs.declared.item.BlockHead.TheVariants as heads
 use Rattle.mufom_debug.specs.Marks.{DebugMark, block_begin, block_end, name_mark, note_mark, value_mark, marks_of}
 use Rattle.mufom_module.specs.declared.module.Parts.{Parts}
 use Rattle.mufom_module.specs.Written.{weight}
-use Rattle.mufom_module.specs.Weights.{token_weight, expression_weight, section_weight, public_weight, notes_weight, reference_weight, head_weight, mark_weight, item_weight, load_weight, start_weight, frame_weight}
+use Rattle.mufom_module.specs.Weights.{token_weight, expression_weight, section_weight, public_weight, notes_weight, reference_weight, head_weight}
+use Rattle.mufom_module.specs.Weights.{mark_weight, item_weight, load_weight, start_weight, frame_weight}
 use Rattle.mufom_module.proofs.WeightLaws.{weight-sum}
 use Rattle.mufom_meaning.specs.Flat.{Sited, sited_from, name_count, flat_references, unmet_references, public_names, distinct}
-use Rattle.mufom_meaning.specs.Joined.{joined_variable, joined_tree, joined_public, joined_item, joined_load, joined_head, joined_mark, kept_references, same_reference, HasHeaderOf, HasFirstHeader, IsJoined}
+use Rattle.mufom_meaning.specs.Joined.{joined_variable, joined_tree, joined_public, joined_item, joined_load, joined_head, joined_mark}
+use Rattle.mufom_meaning.specs.Joined.{kept_references, same_reference, HasHeaderOf, HasFirstHeader, IsJoined}
 use Rattle.mufom_meaning.specs.StagingLaws.{total_weight, first_name_length}
 use Rattle.mufom_plan.specs.Names.{has_name}
 
@@ -133,7 +136,8 @@ first_frame M m name named h =
     let d : length M.name ≡ length name = ap length named in
     omega (arith, a, b, c, d)
 
-frames : (M : Parts) (ms : List Parts) (name : List ℕ) → M.name ≡ name → HasFirstHeader M ms → frame_weight M + first_name_length ms ≤ sum_by frame_weight ms + length name
+frames : (M : Parts) (ms : List Parts) (name : List ℕ) → M.name ≡ name → HasFirstHeader M ms
+    → frame_weight M + first_name_length ms ≤ sum_by frame_weight ms + length name
 frames M [] name named h = absurd h
 frames M (m ∷ ms) name named h = let a = first_frame M m name named h in let b = sum_by-cons frame_weight m ms in omega (arith, a, b)
 
@@ -163,7 +167,8 @@ joined_weighs M ms name j =
     let all = split_weights ms in
     let own = weight-sum M in
     let frame = frames M ms name j.named j.header in
-    let a : sum_by section_weight M.sections ≡ sum_by (λ m. sum_by section_weight m.sections) ms = ap (sum_by section_weight) j.sections ∙ sum-flat section_weight (λ m. m.sections) ms in
+    let a : sum_by section_weight M.sections ≡ sum_by (λ m. sum_by section_weight m.sections) ms = ap (sum_by section_weight) j.sections
+    ∙ sum-flat section_weight (λ m. m.sections) ms in
     let b : sum_by public_weight M.names.publics ≡ sum_by (λ m. sum_by public_weight m.names.publics) ms =
     ap (sum_by public_weight) j.publics ∙ sum-sited public_weight (λ m. m.names.publics) (joined_public ms) (public-joined ms) 0 0 0 ms in
     let c0 : sum_by reference_weight M.names.references ≡ sum_by reference_weight (kept_references ms) = ap (sum_by reference_weight) j.references in
@@ -175,5 +180,6 @@ joined_weighs M ms name j =
     let start = start-sum M.start in
     let f : start_sum M.start ≡ sum_by (λ m. sum_by (λ t. 4 + expression_weight t) (option_to_list m.start)) ms =
     ap (sum_by (λ (t : Tree). 4 + expression_weight t)) j.start
-    ∙ sum-sited (λ (t : Tree). 4 + expression_weight t) (λ m. option_to_list m.start) (joined_tree ms) (λ site t. ap (λ n. 4 + n) (expression-renamed (joined_variable ms site) t)) 0 0 0 ms in
+    ∙ sum-sited (λ (t : Tree). 4 + expression_weight t) (λ m. option_to_list m.start) (joined_tree ms)
+    (λ site t. ap (λ n. 4 + n) (expression-renamed (joined_variable ms site) t)) 0 0 0 ms in
     omega (arith, all, own, frame, a, b, c0, c, d, e, start, f)

@@ -10,7 +10,8 @@ use Rattle.mufom_names.specs.declared.name.Reference.{Reference}
 use Rattle.mufom_module.specs.declared.module.Parts.{Parts}
 use Rattle.mufom_plan.specs.Names.{has_name}
 use Rattle.mufom_meaning.specs.Flat.{Sited, SitedPublic, public_names, first_named, flat_references, unmet_references}
-use Rattle.mufom_meaning.specs.Values.{Setting, Worth, worth_of, default_of, unmet_value, reference_value, worth_of_reference, environment, value_within, value, has_zero_divisor}
+use Rattle.mufom_meaning.specs.Values.{Setting, Worth, worth_of, default_of, unmet_value, reference_value, worth_of_reference, environment}
+use Rattle.mufom_meaning.specs.Values.{value_within, value, has_zero_divisor}
 use Rattle.mufom_meaning.specs.Joined.{joined_tree, joined_variable, joined_reference, kept_references, position_of, same_reference}
 use Rattle.mufom_meaning.proofs.Paired.{Paired, PairedOption, Paired-get, Paired-find, Paired-length}
 use Rattle.mufom_expr.proofs.ValueLaws.{value_at-renamed}
@@ -70,7 +71,8 @@ module _ (ms : List Parts) (home : Sited) (s other : Setting) (h : AreSettings m
   same_unmet_value : (r : Reference) → unmet_value s r ≡ unmet_value other r
   same_unmet_value r = let names = h.commons in let bases = h.common_base in λ i. if has_name (names i) r.name then bases i r.name else default_of r.weak
 
-  agree_reference : (a b : Option ℕ) → a ≡ b → (p q : Option SitedPublic) → PairedOption (MovedPublic ms home) p q → reference_value w p a ≡ reference_value v q b
+  agree_reference : (a b : Option ℕ) → a ≡ b → (p q : Option SitedPublic) → PairedOption (MovedPublic ms home) p q → reference_value w p a
+      ≡ reference_value v q b
   agree_reference a b e None None m = e
   agree_reference a b e (Some p) (Some q) m = agree p.site p.entry.value q.site q.entry.value m.tree
   agree_reference a b e None (Some q) m = absurd m
@@ -102,8 +104,12 @@ module _ (ms : List Parts) (home : Sited) (s other : Setting) (h : AreSettings m
       let left : Among r (unmet_references ms) =
       Among-filter (λ reference. not (has_name (public_names ms) reference.name)) r (ap not unmet) (flat_references ms) there.0 there.1 in
       let kept : Among r (kept_references ms) = Among-distinct same_reference same_reference-decides r (unmet_references ms) left.0 left.1 in
-      let found = get-position_of (same_reference r) r ((same_reference-decides r r).1 refl) (kept_references ms) kept.0 kept.1 in
-      (found.0, ap (λ rs. slice_get rs (position_of (same_reference r) (kept_references ms))) h.references ∙ found.1, (same_reference-decides r found.0).0 found.2)
+      let found = get-position_of (same_reference r) r ((same_reference-decides r r).1 refl) (kept_references ms) kept.0 kept.1 in (
+        found.0,
+        ap (λ rs. slice_get rs (position_of (same_reference r) (kept_references ms))) h.references
+            ∙ found.1,
+        (same_reference-decides r found.0).0 found.2,
+      )
 
   -- a reference to a public of the group has the value of the public that the link names
   same_met : (r : Reference) → has_name (public_names ms) r.name ≡ true
@@ -114,7 +120,8 @@ module _ (ms : List Parts) (home : Sited) (s other : Setting) (h : AreSettings m
       same_public _ ∙ ap (worth_of v) q.1 ∙ sym (ap (λ o. reference_value v o (unmet_value other r)) q.2)
 
   -- any other reference of the group has the value of the same reference among those kept
-  same_unmet : (r : Reference) (q : Option Reference) → (k : Reference) × (q ≡ Some k) × (r ≡ k) → worth_of_reference s w q ≡ worth_of_reference other v (Some r)
+  same_unmet : (r : Reference) (q : Option Reference) → (k : Reference) × (q ≡ Some k) × (r ≡ k) → worth_of_reference s w q
+      ≡ worth_of_reference other v (Some r)
   same_unmet r q found =
       ap (worth_of_reference s w) (found.1 ∙ ap Some (sym found.2)) ∙ same_reference_value (Some r)
 
@@ -124,7 +131,8 @@ module _ (ms : List Parts) (home : Sited) (s other : Setting) (h : AreSettings m
 
   same_named : (site : Sited) → IsOfGroup ms site → (pc : Option ℕ) (n : ℕ) (r : Reference) → slice_get site.parts.names.references n ≡ Some r
       → (b : Bool) → has_name (public_names ms) r.name ≡ b
-      → linked pc (if b then (letters.I, position_of (λ public. bytes_eq public r.name) (public_names ms)) else (letters.X, position_of (same_reference r) (kept_references ms)))
+      → linked pc (if b then (letters.I, position_of (λ public. bytes_eq public r.name) (public_names ms))
+      else (letters.X, position_of (same_reference r) (kept_references ms)))
       ≡ worth_of_reference other v (Some r)
   same_named site within pc n r e true met = same_met r met
   same_named site within pc n r e false unmet = same_unmet r _ (kept_reference site within n r e unmet)
@@ -132,16 +140,19 @@ module _ (ms : List Parts) (home : Sited) (s other : Setting) (h : AreSettings m
   same_reference_variable : (site : Sited) → IsOfGroup ms site → (pc : Option ℕ) (n : ℕ) (r : Option Reference) → slice_get site.parts.names.references n ≡ r
       → linked pc (joined_reference ms r) ≡ worth_of_reference other v r
   same_reference_variable site within pc n None e =
-      ap (λ rs. worth_of_reference s w (slice_get rs (length (kept_references ms)))) h.references ∙ ap (worth_of_reference s w) (get-length (kept_references ms))
+      ap (λ rs. worth_of_reference s w (slice_get rs (length (kept_references ms)))) h.references
+      ∙ ap (worth_of_reference s w) (get-length (kept_references ms))
   same_reference_variable site within pc n (Some r) e = same_named site within pc n r e (has_name (public_names ms) r.name) refl
 
   -- in the group each variable, as the link has it, has the value that it had
   same_inside : (site : Sited) → IsOfGroup ms site → (pc : Option ℕ) (letter : Letter) (n : ℕ)
       → linked pc (joined_variable ms site letter n) ≡ environment other v (shifted home site) pc letter n
   same_inside site within pc letters.R n =
-      ap (slice_get s.bases) (sym (add_assoc home.first_section site.first_section n)) ∙ ap (λ bases. slice_get bases ((home.first_section + site.first_section) + n)) h.bases
+      ap (slice_get s.bases) (sym (add_assoc home.first_section site.first_section n))
+      ∙ ap (λ bases. slice_get bases ((home.first_section + site.first_section) + n)) h.bases
   same_inside site within pc letters.L n =
-      ap (slice_get s.bases) (sym (add_assoc home.first_section site.first_section n)) ∙ ap (λ bases. slice_get bases ((home.first_section + site.first_section) + n)) h.bases
+      ap (slice_get s.bases) (sym (add_assoc home.first_section site.first_section n))
+      ∙ ap (λ bases. slice_get bases ((home.first_section + site.first_section) + n)) h.bases
   same_inside site within pc letters.S n =
       ap (λ place. option_map (λ section. section.size) (slice_get s.sections place)) (sym (add_assoc home.first_section site.first_section n))
       ∙ ap (λ sections. option_map (λ section. section.size) (slice_get sections ((home.first_section + site.first_section) + n))) h.sections
@@ -191,7 +202,8 @@ module _ (ms : List Parts) (home : Sited) (s other : Setting) (h : AreSettings m
       let divisor = same_value ms home s other h pc site b site b (stays site b) in
       λ i. left i || right i || (if is_division f then is_zero (divisor i) else false)
 
-  zero_divisor_inside : (site : Sited) → IsOfGroup ms site → (t : Tree) → has_zero_divisor s home pc (joined_tree ms site t) ≡ has_zero_divisor other (shifted home site) pc t
+  zero_divisor_inside : (site : Sited) → IsOfGroup ms site → (t : Tree) → has_zero_divisor s home pc (joined_tree ms site t)
+      ≡ has_zero_divisor other (shifted home site) pc t
   zero_divisor_inside site within (number n) = refl
   zero_divisor_inside site within (variable letter n) = refl
   zero_divisor_inside site within (one f a) = zero_divisor_inside site within a

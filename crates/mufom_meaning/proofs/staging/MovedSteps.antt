@@ -42,23 +42,28 @@ module _ (ms : List Parts) (home : Sited) (s other : Setting) (h : AreSettings m
       = same_value ms home s other h (counter s earlier wanted) site t site' t' m ∙ ap (λ pc. value other site' pc t') before in
       chosen section section' wanted e _ _ _ _ set before
   counter_after _ _ (literals site site' section section' bytes e) earlier earlier' wanted before =
-      let moved : option_map (λ pc. (pc + length bytes) % s.modulus) (counter s earlier wanted) ≡ option_map (λ pc. (pc + length bytes) % other.modulus) (counter other earlier' wanted)
-      = ap (option_map (λ pc. (pc + length bytes) % s.modulus)) before ∙ ap (λ m. option_map (λ pc. (pc + length bytes) % m) (counter other earlier' wanted)) h.modulus in
+      let moved : option_map (λ pc. (pc + length bytes) % s.modulus) (counter s earlier wanted)
+      ≡ option_map (λ pc. (pc + length bytes) % other.modulus) (counter other earlier' wanted)
+      = ap (option_map (λ pc. (pc + length bytes) % s.modulus)) before
+      ∙ ap (λ m. option_map (λ pc. (pc + length bytes) % m) (counter other earlier' wanted)) h.modulus in
       chosen section section' wanted e _ _ _ _ moved before
   counter_after _ _ (fields site site' section section' kind size t t' e m) earlier earlier' wanted before =
-      let moved : option_map (λ pc. (pc + size) % s.modulus) (counter s earlier wanted) ≡ option_map (λ pc. (pc + size) % other.modulus) (counter other earlier' wanted)
+      let moved : option_map (λ pc. (pc + size) % s.modulus) (counter s earlier wanted)
+      ≡ option_map (λ pc. (pc + size) % other.modulus) (counter other earlier' wanted)
       = ap (option_map (λ pc. (pc + size) % s.modulus)) before ∙ ap (λ m. option_map (λ pc. (pc + size) % m) (counter other earlier' wanted)) h.modulus in
       chosen section section' wanted e _ _ _ _ moved before
 
   pub same_counter : (earlier earlier' : List Step) → Paired R earlier earlier' → (wanted : ℕ) → counter s earlier wanted ≡ counter other earlier' wanted
   unfolding counter
   same_counter [] [] p wanted =
-      ap (λ bases. option_map (λ base. base % s.modulus) (slice_get bases wanted)) h.bases ∙ ap (λ m. option_map (λ base. base % m) (slice_get other.bases wanted)) h.modulus
+      ap (λ bases. option_map (λ base. base % s.modulus) (slice_get bases wanted)) h.bases
+      ∙ ap (λ m. option_map (λ base. base % m) (slice_get other.bases wanted)) h.modulus
   same_counter (step ∷ earlier) (step' ∷ earlier') p wanted = counter_after step step' p.0 earlier earlier' wanted (same_counter earlier earlier' p.1 wanted)
   same_counter [] (step' ∷ earlier') p wanted = absurd p
   same_counter (step ∷ earlier) [] p wanted = absurd p
 
-  same_reading : (step step' : Step) → R step step' → (earlier earlier' : List Step) → Paired R earlier earlier' → step_reading s earlier step ≡ step_reading other earlier' step'
+  same_reading : (step step' : Step) → R step step' → (earlier earlier' : List Step) → Paired R earlier earlier' → step_reading s earlier step
+      ≡ step_reading other earlier' step'
   same_reading _ _ (counters site site' section section' t t' e m) earlier earlier' p =
       let at : counter s earlier section ≡ counter other earlier' section' = same_counter earlier earlier' p section ∙ ap (counter other earlier') e in
       let v : value s site (counter s earlier section) t ≡ value other site' (counter other earlier' section') t'
@@ -73,11 +78,13 @@ module _ (ms : List Parts) (home : Sited) (s other : Setting) (h : AreSettings m
       = same_value ms home s other h (counter s earlier section) site t site' t' m ∙ ap (λ pc. value other site' pc t') at in
       cc
 
-  pub same_readings : (earlier earlier' : List Step) → Paired R earlier earlier' → (all all' : List Step) → Paired R all all' → readings_after s earlier all ≡ readings_after other earlier' all'
+  pub same_readings : (earlier earlier' : List Step) → Paired R earlier earlier' → (all all' : List Step) → Paired R all all'
+      → readings_after s earlier all ≡ readings_after other earlier' all'
   same_readings earlier earlier' p [] [] q = refl
   same_readings earlier earlier' p (step ∷ more) (step' ∷ more') q =
       let here : step_reading s earlier step ≡ step_reading other earlier' step' = same_reading step step' q.0 earlier earlier' p in
-      let rest : readings_after s (step ∷ earlier) more ≡ readings_after other (step' ∷ earlier') more' = same_readings (step ∷ earlier) (step' ∷ earlier') (q.0, p) more more' q.1 in
+      let rest : readings_after s (step ∷ earlier) more ≡ readings_after other (step' ∷ earlier') more' =
+      same_readings (step ∷ earlier) (step' ∷ earlier') (q.0, p) more more' q.1 in
       cc
   same_readings earlier earlier' p [] (step' ∷ more') q = absurd q
   same_readings earlier earlier' p (step ∷ more) [] q = absurd q

@@ -1,5 +1,6 @@
 -- A link needs the names that its group needs, and asks room for the same commons.
-use Rattle.std.proofs.Common.{subst, ◌≡◌, ℕ, ◌+◌, length, List, [], ◌∷◌, ◌++◌, map, Bool, true, false, not, ◌&&◌, refl, sym, subst, ◌∙◌, ap, flat_map, rules, append-nil}
+use Rattle.std.proofs.Common.{subst, ◌≡◌, ℕ, ◌+◌, length, List, [], ◌∷◌, ◌++◌, map, Bool, true, false, not, ◌&&◌, refl, sym, subst, ◌∙◌, ap, flat_map}
+use Rattle.std.proofs.Common.{rules, append-nil}
 use Rattle.std.specs.Prelude.{filter, ◌==◌}
 use Rattle.std.specs.List.{list_all}
 use Rattle.std.specs.Bool.{Decides}
@@ -12,7 +13,8 @@ use Rattle.mufom_names.specs.declared.name.Reference.{Reference}
 use Rattle.mufom_debug.specs.Marks.{marks_of}
 use Rattle.mufom_module.specs.declared.module.Parts.{Parts}
 use Rattle.mufom_plan.specs.Names.{has_name}
-use Rattle.mufom_meaning.specs.Flat.{Sited, sited_from, name_count, public_names, flat_references, unmet_references, distinct, needs, commons, is_strong, is_common, common_size, same_common}
+use Rattle.mufom_meaning.specs.Flat.{Sited, sited_from, name_count, public_names, flat_references, unmet_references, distinct, needs, commons}
+use Rattle.mufom_meaning.specs.Flat.{is_strong, is_common, common_size, same_common}
 use Rattle.mufom_meaning.specs.Joined.{IsJoined, joined_public, kept_references, same_reference}
 use Rattle.std.specs.List.{IsDistinct}
 use Rattle.mufom_meaning.proofs.References.{same_reference-decides}
@@ -26,7 +28,8 @@ joined_names ms s p d (x ∷ xs) =
     let site : Sited = record { parts = x; first_section = s; first_public = p; first_name = d } in
     let rest = joined_names ms (s + length x.sections) (p + length x.names.publics) (d + name_count (marks_of x.debug)) xs in
     map-append (λ entry. entry.name) (map (joined_public ms site) x.names.publics) _
-    ∙ ap (λ prefix. prefix ++ map (λ entry. entry.name) (flat_map (λ y. map (joined_public ms y) y.parts.names.publics) (sited_from (s + length x.sections) (p + length x.names.publics) (d + name_count (marks_of x.debug)) xs))) (here site x.names.publics)
+    ∙ ap (λ prefix. prefix ++ map (λ entry. entry.name) (flat_map (λ y. map (joined_public ms y) y.parts.names.publics)
+    (sited_from (s + length x.sections) (p + length x.names.publics) (d + name_count (marks_of x.debug)) xs))) (here site x.names.publics)
     ∙ ap (λ back. map (λ entry. entry.name) x.names.publics ++ back) rest where
       here : (site : Sited) (publics : List Public) → map (λ entry. entry.name) (map (joined_public ms site) publics) ≡ map (λ entry. entry.name) publics
       here site [] = refl
@@ -37,7 +40,8 @@ abbrev pub unmet_by : List (List ℕ) → Reference → Bool
 unmet_by names reference = not (has_name names reference.name)
 
 -- a name that many lack, some lack
-lacks : (few many : List (List ℕ)) → ((name : List ℕ) → has_name few name ≡ true → has_name many name ≡ true) → (r : Reference) → unmet_by many r ≡ true → unmet_by few r ≡ true
+lacks : (few many : List (List ℕ)) → ((name : List ℕ) → has_name few name ≡ true → has_name many name ≡ true) → (r : Reference) → unmet_by many r
+    ≡ true → unmet_by few r ≡ true
 lacks few many within r h = by_case (has_name few r.name) refl where
   by_case : (b : Bool) → has_name few r.name ≡ b → not b ≡ true
   by_case true e = absurd (let there : has_name many r.name ≡ true = within r.name e in let clash : not (has_name many r.name) ≡ false = ap not there in cc)
@@ -62,7 +66,8 @@ same_common-decides c d = (there, back) where
   back : c ≡ d → same_common c d ≡ true
   back e = ap (λ b. b && (c.1 == d.1)) ((bytes_eq-Decides c.0 d.0).1 (ap (λ x. x.0) e)) ∙ (numbers c.1 d.1).1 (ap (λ x. x.1) e)
 
-module _ (ms : List Parts) (names : List (List ℕ)) (within : (name : List ℕ) → has_name (public_names ms) name ≡ true → has_name names name ≡ true) (prefix back : List Reference) where
+module _ (ms : List Parts) (names : List (List ℕ)) (within : (name : List ℕ) → has_name (public_names ms) name ≡ true → has_name names name
+    ≡ true) (prefix back : List Reference) where
   pub kept_unmet : filter (unmet_by names) (kept_references ms) ≡ distinct same_reference (filter (unmet_by names) (flat_references ms))
   kept_unmet =
       filter-distinct same_reference same_reference-decides (unmet_by names) (unmet_references ms)
@@ -106,7 +111,8 @@ module _ (M : Parts) (ms : List Parts) (name : List ℕ) (j : IsJoined M ms name
     pub among_all : (s : List ℕ) → has_name (public_names ms) s ≡ true → has_name all_names s ≡ true
     among_all s h =
         ap (λ names. has_name names s) (flat_map-append _ before (ms ++ after) ∙ ap (λ more. public_names before ++ more) (flat_map-append _ ms after))
-        ∙ has_name-append_right (public_names before) (public_names ms ++ public_names after) s (has_name-append_left (public_names ms) (public_names after) s h)
+        ∙ has_name-append_right (public_names before) (public_names ms
+        ++ public_names after) s (has_name-append_left (public_names ms) (public_names after) s h)
 
     pub link_references : flat_references (before ++ (M ∷ after)) ≡ flat_references before ++ (kept_references ms ++ flat_references after)
     link_references = flat_map-append _ before (M ∷ after) ∙ ap (λ rs. flat_references before ++ (rs ++ flat_references after)) j.references
@@ -114,7 +120,8 @@ module _ (M : Parts) (ms : List Parts) (name : List ℕ) (j : IsJoined M ms name
     pub group_references : flat_references (before ++ (ms ++ after)) ≡ flat_references before ++ (flat_references ms ++ flat_references after)
     group_references = flat_map-append _ before (ms ++ after) ∙ ap (λ more. flat_references before ++ more) (flat_map-append _ ms after)
 
-    pub link_unmet : unmet_references (before ++ (M ∷ after)) ≡ filter (unmet_by all_names) (flat_references before ++ (kept_references ms ++ flat_references after))
+    pub link_unmet : unmet_references (before ++ (M ∷ after)) ≡ filter (unmet_by all_names) (flat_references before
+        ++ (kept_references ms ++ flat_references after))
     link_unmet =
         ap (λ names. filter (unmet_by names) (flat_references (before ++ (M ∷ after)))) (same_names before after)
         ∙ ap (filter (unmet_by all_names)) link_references
@@ -128,7 +135,8 @@ module _ (M : Parts) (ms : List Parts) (name : List ℕ) (j : IsJoined M ms name
     pub same_commons : commons (before ++ (M ∷ after)) ≡ commons (before ++ (ms ++ after))
     same_commons =
         ap (λ rs. distinct same_common (map (λ r. (r.name, common_size r.weak)) (filter is_common rs))) link_unmet
-        ∙ same_made ms all_names among_all (flat_references before) (flat_references after) same_common same_common-decides is_common (λ r. (r.name, common_size r.weak))
+        ∙ same_made ms all_names among_all (flat_references before) (flat_references after) same_common same_common-decides is_common
+        (λ r. (r.name, common_size r.weak))
         ∙ ap (λ rs. distinct same_common (map (λ r. (r.name, common_size r.weak)) (filter is_common (filter (unmet_by all_names) rs)))) (sym group_references)
 
   -- what is left of the references is settled

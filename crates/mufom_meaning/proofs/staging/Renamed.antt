@@ -17,7 +17,8 @@ value_at-agrees m env other same (two f a b) =
     ∙ ap (both (two_value m f) (value_at m other a)) (value_at-agrees m env other same b)
 
 -- the variables of an expression whose variables are renamed
-pub variables_of-with_variables : (rename : Letter → ℕ → Letter × ℕ) (t : Tree) → variables_of (with_variables rename t) ≡ map (λ v. rename v.0 v.1) (variables_of t)
+pub variables_of-with_variables : (rename : Letter → ℕ → Letter × ℕ) (t : Tree) → variables_of (with_variables rename t)
+    ≡ map (λ v. rename v.0 v.1) (variables_of t)
 variables_of-with_variables rename (number n) = refl
 variables_of-with_variables rename (variable letter n) = refl
 variables_of-with_variables rename (one f a) = variables_of-with_variables rename a

@@ -28,7 +28,8 @@ module _ {A B : Type 0} (p : B → Bool) (f : A → B) (keep : A → Bool) where
   tested xs = list_all p (map f (filter keep xs))
 
   tested-append : (xs ys : List A) → tested (xs ++ ys) ≡ (tested xs && tested ys)
-  tested-append xs ys = ap (λ zs. list_all p (map f zs)) (filter-append keep xs ys) ∙ ap (list_all p) (map-append f (filter keep xs) (filter keep ys)) ∙ list_all-append p _ _
+  tested-append xs ys = ap (λ zs. list_all p (map f zs)) (filter-append keep xs ys) ∙ ap (list_all p) (map-append f (filter keep xs) (filter keep ys))
+      ∙ list_all-append p _ _
 
   -- elements that pass can be left out
   tested-filter : (q : A → Bool) → ((y : A) → q y ≡ false → p (f y) ≡ true) → (xs : List A) → tested (filter q xs) ≡ tested xs
@@ -48,7 +49,8 @@ module _ {A B : Type 0} (p : B → Bool) (f : A → B) (keep : A → Bool) where
   module _ (same : A → A → Bool) (decides : (x y : A) → Decides (same x y) (x ≡ y)) where
     tested-once : (x : A) (xs : List A) → (p (f x) && tested (filter (λ y. not (same x y)) xs)) ≡ (p (f x) && tested xs)
     tested-once x xs = by_case (p (f x)) refl where
-      by_case : (b : Bool) → p (f x) ≡ b → (b && list_all p (map f (filter keep (filter (λ y. not (same x y)) xs)))) ≡ (b && list_all p (map f (filter keep xs)))
+      by_case : (b : Bool) → p (f x) ≡ b → (b && list_all p (map f (filter keep (filter (λ y. not (same x y)) xs))))
+          ≡ (b && list_all p (map f (filter keep xs)))
       by_case true e = tested-filter (λ y. not (same x y)) (λ y h. equal y h) xs where
         equal : (y : A) → not (same x y) ≡ false → p (f y) ≡ true
         equal y h = from (same x y) refl h where
@@ -61,10 +63,12 @@ module _ {A B : Type 0} (p : B → Bool) (f : A → B) (keep : A → Bool) where
     tested-distinct [] = refl
     tested-distinct (x ∷ xs) = by_case (keep x) refl (tested-distinct xs) where
       by_case : (b : Bool) → keep x ≡ b → tested (distinct same xs) ≡ tested xs
-          → list_all p (map f (cond b (x ∷ filter keep (filter (λ y. not (same x y)) (distinct same xs))) (filter keep (filter (λ y. not (same x y)) (distinct same xs)))))
+          → list_all p (map f (cond b (x ∷ filter keep (filter (λ y. not (same x y)) (distinct same xs)))
+          (filter keep (filter (λ y. not (same x y)) (distinct same xs)))))
           ≡ list_all p (map f (cond b (x ∷ filter keep xs) (filter keep xs)))
       by_case true k rest = tested-once x (distinct same xs) ∙ ap (λ b. p (f x) && b) rest
-      by_case false k rest = ap (λ ys. list_all p (map f ys)) (filter-weaker keep (λ y. not (same x y)) (differs same decides keep x k) (distinct same xs)) ∙ rest
+      by_case false k rest = ap (λ ys. list_all p (map f ys)) (filter-weaker keep (λ y. not (same x y)) (differs same decides keep x k)
+          (distinct same xs)) ∙ rest
 
 module _ (M : Parts) (ms before after : List Parts) (name : List ℕ) (j : IsJoined M ms name) (members : List Parts) where
   abbrev linked : List Parts
@@ -83,8 +87,10 @@ module _ (M : Parts) (ms before after : List Parts) (name : List ℕ) (j : IsJoi
     held-append : (xs ys : List Reference) → held (xs ++ ys) ≡ (held xs && held ys)
     held-append xs ys = tested-append P (λ r. r.name) is_strong xs ys
 
-    held_around : (xs : List Reference) → held (flat_references before ++ (xs ++ flat_references after)) ≡ (held (flat_references before) && (held xs && held (flat_references after)))
-    held_around xs = held-append (flat_references before) (xs ++ flat_references after) ∙ ap (λ b. held (flat_references before) && b) (held-append xs (flat_references after))
+    held_around : (xs : List Reference) → held (flat_references before ++ (xs ++ flat_references after))
+        ≡ (held (flat_references before) && (held xs && held (flat_references after)))
+    held_around xs = held-append (flat_references before) (xs ++ flat_references after)
+        ∙ ap (λ b. held (flat_references before) && b) (held-append xs (flat_references after))
 
     passes_met : (y : Reference) → not (has_name (public_names ms) y.name) ≡ false → P y.name ≡ true
     passes_met y h = from (has_name (public_names ms) y.name) refl h where
@@ -106,7 +112,8 @@ module _ (M : Parts) (ms before after : List Parts) (name : List ℕ) (j : IsJoi
     same_closed : is_closed linked members chosen ≡ is_closed flat members chosen
     same_closed =
         ap (λ names. list_all (λ s. has_name names s || is_among (provider members s) chosen) (strong_names linked)
-        && list_all (λ s. has_name names s || is_among (provider members s) chosen) (strong_names (members_at members chosen))) (same_names M ms name j before after)
+        && list_all (λ s. has_name names s || is_among (provider members s) chosen) (strong_names (members_at members chosen)))
+        (same_names M ms name j before after)
         ∙ ap (λ b. b && list_all P (strong_names (members_at members chosen))) same_held
 
 -- selection sees a link as it sees the group

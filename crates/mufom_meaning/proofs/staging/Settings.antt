@@ -18,7 +18,8 @@ use Rattle.mufom_meaning.proofs.Sites.{next_section, next_public, next_name, sit
 use Rattle.mufom_meaning.proofs.Names.{names_of, names_of-sited_publics, absent_before, has_name-append_left, first_named-skip, get-skip, first_at_place}
 use Rattle.mufom_meaning.proofs.staging.Groups.{paired_joined, are_of_group, home_of, paired_sites}
 
-pub same_width : (M : Parts) (ms : List Parts) → HasFirstHeader M ms → (before after : List Parts) → width (before ++ (M ∷ after)) ≡ width (before ++ (ms ++ after))
+pub same_width : (M : Parts) (ms : List Parts) → HasFirstHeader M ms → (before after : List Parts) → width (before ++ (M ∷ after))
+    ≡ width (before ++ (ms ++ after))
 same_width M [] header [] after = absurd header
 same_width M (m ∷ ms) header [] after = ap (λ maus. 8 * maus) header.maus
 same_width M ms header (b ∷ before) after = refl
@@ -44,18 +45,21 @@ module _ (M : Parts) (ms : List Parts) (name : List ℕ) (j : IsJoined M ms name
   pub paired_publics : Paired (MovedPublic ms (home_of M before)) (flat_publics (before ++ (M ∷ after))) (flat_publics (before ++ (ms ++ after)))
   paired_publics =
       let R = MovedPublic ms (home_of M before) in
-      let group = paired_joined R (λ site. site.parts.names.publics) (joined_public ms) (entry_at (home_of M before)) (λ site. entry_at (shifted (home_of M before) site))
+      let group = paired_joined R (λ site. site.parts.names.publics) (joined_public ms) (entry_at (home_of M before))
+      (λ site. entry_at (shifted (home_of M before) site))
       (IsOfGroup ms) moved_public (sited ms) (are_of_group 0 0 0 ms) in
       paired_sites M ms name j before after R (λ site. map (entry_at site) site.parts.names.publics) (λ site. map (entry_at site) site.parts.names.publics)
       (λ site. Paired-same R stays_public (map (entry_at site) site.parts.names.publics))
-      (subst (λ publics. Paired R (map (entry_at (home_of M before)) publics) (flat_map (λ site. map (entry_at (shifted (home_of M before) site)) site.parts.names.publics) (sited ms)))
+      (subst (λ publics. Paired R (map (entry_at (home_of M before)) publics)
+      (flat_map (λ site. map (entry_at (shifted (home_of M before) site)) site.parts.names.publics) (sited ms)))
       (sym j.publics) group)
 
   abbrev group_publics : List SitedPublic
   group_publics = sited_publics (sited_from (next_section 0 before) (next_public 0 before) (next_name 0 before) ms)
 
   abbrev publics_after : List SitedPublic
-  publics_after = sited_publics (sited_from (next_section (next_section 0 before) ms) (next_public (next_public 0 before) ms) (next_name (next_name 0 before) ms) after)
+  publics_after = sited_publics (sited_from (next_section (next_section 0 before) ms) (next_public (next_public 0 before) ms)
+      (next_name (next_name 0 before) ms) after)
 
   all_publics : flat_publics (before ++ (ms ++ after)) ≡ flat_publics before ++ (group_publics ++ publics_after)
   all_publics =
@@ -80,7 +84,8 @@ module _ (M : Parts) (ms : List Parts) (name : List ℕ) (j : IsJoined M ms name
       let count : next_public 0 before ≡ length (flat_publics before) = next_public-length 0 0 0 before ∙ zero-add _ in (
         q.0,
         ap (λ publics. slice_get publics (next_public 0 before + position_of (λ public. bytes_eq public s) (public_names ms))) all_publics
-            ∙ ap (λ n. slice_get (flat_publics before ++ (group_publics ++ publics_after)) (n + position_of (λ public. bytes_eq public s) (public_names ms))) count
+            ∙ ap (λ n. slice_get (flat_publics before ++ (group_publics ++ publics_after))
+            (n + position_of (λ public. bytes_eq public s) (public_names ms))) count
             ∙ get-skip (flat_publics before) (group_publics ++ publics_after) (position_of (λ public. bytes_eq public s) (public_names ms))
             ∙ ap (λ found. slice_get (group_publics ++ publics_after) (position_of (λ public. bytes_eq public s) found)) (sym names) ∙ q.1,
         ap (λ publics. first_named publics s) all_publics ∙ first_named-skip (flat_publics before) (group_publics ++ publics_after) s missing ∙ q.2,

@@ -11,7 +11,8 @@ use Rattle.mufom_meaning.specs.Bases.{Bases}
 use Rattle.mufom_meaning.specs.Flat.{Sited, SitedPublic, sited, public_names}
 use Rattle.mufom_meaning.specs.Values.{Setting, setting, value}
 use Rattle.mufom_meaning.specs.Steps.{steps, step_readings}
-use Rattle.mufom_meaning.specs.Readings.{readings, public_reading, global_head, local_head, section_head, begin_reading, end_reading, note_reading, value_reading, head_reading, end_value, mark_reading}
+use Rattle.mufom_meaning.specs.Readings.{readings, public_reading, global_head, local_head, section_head, begin_reading, end_reading, note_reading}
+use Rattle.mufom_meaning.specs.Readings.{value_reading, head_reading, end_value, mark_reading}
 use Rattle.mufom_meaning.specs.Joined.{IsJoined, joined_tree, joined_head, joined_mark}
 use Rattle.mufom_meaning.specs.Staging.{AreValid}
 use Rattle.mufom_meaning.specs.StagingLaws.{JoinedStandsFor}
@@ -37,7 +38,8 @@ equal_maps f g same (x ∷ xs) = (same x, equal_maps f g same xs)
 module _ (ms : List Parts) (home : Sited) (s other : Setting) (h : AreSettings ms home s other) where
   same_public : (p q : SitedPublic) → MovedPublic ms home p q → public_reading s p ≡ public_reading other q
   same_public p q m =
-      let v : value s p.site None p.entry.value ≡ value other q.site None q.entry.value = same_value ms home s other h None p.site p.entry.value q.site q.entry.value m.tree in
+      let v : value s p.site None p.entry.value ≡ value other q.site None q.entry.value =
+      same_value ms home s other h None p.site p.entry.value q.site q.entry.value m.tree in
       λ i. record { name = m.name i; notes = m.notes i; value = v i }
 
   same_here : (site : Sited) (t : Tree) → value s site None t ≡ value other site None t
@@ -64,7 +66,8 @@ module _ (ms : List Parts) (home : Sited) (s other : Setting) (h : AreSettings m
   mark_here site (note_mark name note) = refl
   mark_here site (value_mark name t) = ap (value_reading (site.first_name + name)) (same_here site t)
 
-  head_there : (site : Sited) → IsOfGroup ms site → (head : BlockHead) → head_reading s home (joined_head ms site head) ≡ head_reading other (shifted home site) head
+  head_there : (site : Sited) → IsOfGroup ms site → (head : BlockHead) → head_reading s home (joined_head ms site head)
+      ≡ head_reading other (shifted home site) head
   head_there site within heads.Module = refl
   head_there site within (heads.Global stack type_index offset) = ap (global_head stack type_index) (same_there site within offset)
   head_there site within (heads.Local stack type_index offset) = ap (local_head stack type_index) (same_there site within offset)
@@ -73,11 +76,13 @@ module _ (ms : List Parts) (home : Sited) (s other : Setting) (h : AreSettings m
       ap (λ n. section_head section_type n (value s home None (joined_tree ms site offset))) (sym (add_assoc home.first_section site.first_section section))
       ∙ ap (section_head section_type ((home.first_section + site.first_section) + section)) (same_there site within offset)
 
-  end_there : (site : Sited) → IsOfGroup ms site → (end : Option Tree) → end_value s home (option_map (joined_tree ms site) end) ≡ end_value other (shifted home site) end
+  end_there : (site : Sited) → IsOfGroup ms site → (end : Option Tree) → end_value s home (option_map (joined_tree ms site) end)
+      ≡ end_value other (shifted home site) end
   end_there site within None = refl
   end_there site within (Some t) = ap Some (same_there site within t)
 
-  mark_there : (site : Sited) → IsOfGroup ms site → (mark : DebugMark) → mark_reading s home (joined_mark ms site mark) ≡ mark_reading other (shifted home site) mark
+  mark_there : (site : Sited) → IsOfGroup ms site → (mark : DebugMark) → mark_reading s home (joined_mark ms site mark)
+      ≡ mark_reading other (shifted home site) mark
   mark_there site within (block_begin head name) = ap (λ reading. begin_reading reading name) (head_there site within head)
   mark_there site within (block_end end) = ap end_reading (end_there site within end)
   mark_there site within (name_mark name) = refl
@@ -101,7 +106,8 @@ module _ (M : Parts) (ms : List Parts) (name : List ℕ) (j : IsJoined M ms name
   settings = are_settings M ms name j before after names bases
 
   same_publics : map (public_reading s) s.publics ≡ map (public_reading other) other.publics
-  same_publics = Paired-map (MovedPublic ms home) (public_reading s) (public_reading other) (same_public ms home s other settings) s.publics other.publics settings.publics
+  same_publics = Paired-map (MovedPublic ms home) (public_reading s) (public_reading other) (same_public ms home s other settings) s.publics
+      other.publics settings.publics
 
   same_steps : step_readings s (steps (before ++ (M ∷ after))) ≡ step_readings other (steps (before ++ (ms ++ after)))
   same_steps = same_readings ms home s other settings [] [] tt _ _ (paired_steps M ms name j v before after)
@@ -112,9 +118,11 @@ module _ (M : Parts) (ms : List Parts) (name : List ℕ) (j : IsJoined M ms name
       equal_lists _ _ (paired_sites M ms name j before after (λ x y. x ≡ y) (λ site. map (value s site None) (option_to_list site.parts.start))
       (λ site. map (value other site None) (option_to_list site.parts.start))
       (λ site. equal_maps (value s site None) (value other site None) (same_here ms home s other settings site) (option_to_list site.parts.start))
-      (subst (λ ts. Paired (λ x y. x ≡ y) (map (value s home None) ts) (flat_map (λ site. map (value other (shifted home site) None) (option_to_list site.parts.start)) (sited ms)))
+      (subst (λ ts. Paired (λ x y. x ≡ y) (map (value s home None) ts)
+      (flat_map (λ site. map (value other (shifted home site) None) (option_to_list site.parts.start)) (sited ms)))
       (sym j.start)
-      (paired_joined (λ x y. x ≡ y) (λ site. option_to_list site.parts.start) (joined_tree ms) (value s home None) (λ site. value other (shifted home site) None)
+      (paired_joined (λ x y. x ≡ y) (λ site. option_to_list site.parts.start) (joined_tree ms) (value s home None)
+      (λ site. value other (shifted home site) None)
       (IsOfGroup ms) (same_there ms home s other settings) (sited ms) (are_of_group 0 0 0 ms))))
 
   same_debug : flat_map (λ site. map (mark_reading s site) (marks_of site.parts.debug)) (sited (before ++ (M ∷ after)))
@@ -123,7 +131,8 @@ module _ (M : Parts) (ms : List Parts) (name : List ℕ) (j : IsJoined M ms name
       equal_lists _ _ (paired_sites M ms name j before after (λ x y. x ≡ y) (λ site. map (mark_reading s site) (marks_of site.parts.debug))
       (λ site. map (mark_reading other site) (marks_of site.parts.debug))
       (λ site. equal_maps (mark_reading s site) (mark_reading other site) (mark_here ms home s other settings site) (marks_of site.parts.debug))
-      (subst (λ marks. Paired (λ x y. x ≡ y) (map (mark_reading s home) marks) (flat_map (λ site. map (mark_reading other (shifted home site)) (marks_of site.parts.debug)) (sited ms)))
+      (subst (λ marks. Paired (λ x y. x ≡ y) (map (mark_reading s home) marks)
+      (flat_map (λ site. map (mark_reading other (shifted home site)) (marks_of site.parts.debug)) (sited ms)))
       (sym j.debug)
       (paired_joined (λ x y. x ≡ y) (λ site. marks_of site.parts.debug) (joined_mark ms) (mark_reading s home) (λ site. mark_reading other (shifted home site))
       (IsOfGroup ms) (mark_there ms home s other settings) (sited ms) (are_of_group 0 0 0 ms))))

@@ -8,7 +8,8 @@ use Rattle.mufom_expr.specs.Value.{Environment, value_at, variables_of, divides_
 use Rattle.mufom_expr.proofs.ValueLaws.{none-lost, lost-none}
 use Rattle.mufom_names.specs.declared.name.Reference.{Reference}
 use Rattle.mufom_meaning.specs.Flat.{Sited, SitedPublic, first_named}
-use Rattle.mufom_meaning.specs.Values.{Setting, Worth, worth_of, unmet_value, reference_value, worth_of_reference, environment, value_within, value, has_zero_divisor}
+use Rattle.mufom_meaning.specs.Values.{Setting, Worth, worth_of, unmet_value, reference_value, worth_of_reference, environment, value_within, value}
+use Rattle.mufom_meaning.specs.Values.{has_zero_divisor}
 use Rattle.mufom_meaning.specs.Valued.{IsMentionedIn}
 use Rattle.mufom_meaning.proofs.Members.{In, In-left, In-right, In-append, In-Contains, Contains-In}
 use Rattle.mufom_meaning.proofs.values.Monotone.{value_within-more}
@@ -19,18 +20,22 @@ abbrev pub worth_below : Setting → ℕ → Worth
 worth_below s zero = λ site t. None
 worth_below s (suc k) = λ site t. value_within s k site None t
 
-pub within_is : (s : Setting) (k : ℕ) (site : Sited) (pc : Option ℕ) (t : Tree) → value_within s k site pc t ≡ value_at s.modulus (environment s (worth_below s k) site pc) t
+pub within_is : (s : Setting) (k : ℕ) (site : Sited) (pc : Option ℕ) (t : Tree) → value_within s k site pc t
+    ≡ value_at s.modulus (environment s (worth_below s k) site pc) t
 unfolding value_within
 within_is s zero site pc t = refl
 within_is s (suc k) site pc t = refl
 
 -- more steps keep a value
-pub value_within-add : (s : Setting) (d k : ℕ) (site : Sited) (pc : Option ℕ) (t : Tree) (v : ℕ) → value_within s k site pc t ≡ Some v → value_within s (d + k) site pc t ≡ Some v
+pub value_within-add : (s : Setting) (d k : ℕ) (site : Sited) (pc : Option ℕ) (t : Tree) (v : ℕ) → value_within s k site pc t ≡ Some v
+    → value_within s (d + k) site pc t ≡ Some v
 value_within-add s zero k site pc t v e = let same : 0 + k ≡ k = omega arith in ap (λ n. value_within s n site pc t) same ∙ e
 value_within-add s (suc d) k site pc t v e =
-    let same : suc d + k ≡ suc (d + k) = omega arith in ap (λ n. value_within s n site pc t) same ∙ value_within-more s (d + k) site pc t v (value_within-add s d k site pc t v e)
+    let same : suc d + k ≡ suc (d + k) = omega arith in ap (λ n. value_within s n site pc t) same
+    ∙ value_within-more s (d + k) site pc t v (value_within-add s d k site pc t v e)
 
-pub value_within-le : (s : Setting) (k n : ℕ) → k ≤ n → (site : Sited) (pc : Option ℕ) (t : Tree) (v : ℕ) → value_within s k site pc t ≡ Some v → value_within s n site pc t ≡ Some v
+pub value_within-le : (s : Setting) (k n : ℕ) → k ≤ n → (site : Sited) (pc : Option ℕ) (t : Tree) (v : ℕ) → value_within s k site pc t ≡ Some v
+    → value_within s n site pc t ≡ Some v
 value_within-le s k n le site pc t v e =
     let same : n ≡ (n - k) + k = omega (arith, le) in ap (λ n. value_within s n site pc t) same ∙ value_within-add s (n - k) k site pc t v e
 
@@ -59,8 +64,10 @@ module _ (f g : Tree → Option ℕ) (keeps : (t : Tree) (v : ℕ) → f t ≡ S
   divides_by_zero-keeps (variable l n) e = e
   divides_by_zero-keeps (one h a) e = divides_by_zero-keeps a e
   divides_by_zero-keeps (two h a b) e =
-      or_keeps (divides_by_zero f a || divides_by_zero f b) (divides_by_zero g a || divides_by_zero g b) (if is_division h then is_zero (f b) else false) (if is_division h then is_zero (g b) else false)
-      (or_keeps (divides_by_zero f a) (divides_by_zero g a) (divides_by_zero f b) (divides_by_zero g b) (divides_by_zero-keeps a) (divides_by_zero-keeps b)) (division-keeps (is_division h) b) e
+      or_keeps (divides_by_zero f a || divides_by_zero f b) (divides_by_zero g a || divides_by_zero g b) (if is_division h then is_zero (f b)
+      else false) (if is_division h then is_zero (g b) else false)
+      (or_keeps (divides_by_zero f a) (divides_by_zero g a) (divides_by_zero f b) (divides_by_zero g b) (divides_by_zero-keeps a)
+      (divides_by_zero-keeps b)) (division-keeps (is_division h) b) e
 
 divides_by_zero-same : (f g : Tree → Option ℕ) → ((t : Tree) → f t ≡ g t) → (t : Tree) → divides_by_zero f t ≡ true → divides_by_zero g t ≡ true
 divides_by_zero-same f g same = divides_by_zero-keeps f g (λ t v e. sym (same t) ∙ e)
@@ -79,7 +86,8 @@ lacks env (variable l n) v (inl same) e = ap (λ (v : Letter × ℕ). env v.0 v.
 lacks env (variable l n) v (inr m) e = absurd m
 lacks env (one f a) v m e = lacks env a v m e
 lacks env (two f a b) v m e = by_case (In-append v (variables_of a) (variables_of b) m) (lacks env a v) (lacks env b v) where
-  by_case : In v (variables_of a) ⊎ In v (variables_of b) → (In v (variables_of a) → env v.0 v.1 ≡ None → LacksAValue env a) → (In v (variables_of b) → env v.0 v.1 ≡ None → LacksAValue env b)
+  by_case : In v (variables_of a) ⊎ In v (variables_of b) → (In v (variables_of a) → env v.0 v.1 ≡ None → LacksAValue env a)
+      → (In v (variables_of b) → env v.0 v.1 ≡ None → LacksAValue env b)
       → LacksAValue env a ⊎ LacksAValue env b
   by_case (inl m) left right = inl (left m e)
   by_case (inr m) left right = inr (right m e)
@@ -103,7 +111,8 @@ module _ (s : Setting) (worth : Worth) (site : Sited) (pc : Option ℕ) (t : Tre
   mapped f None e = refl
   mapped f (Some x) e = absurd cc
 
-  by_public : (n : ℕ) → In (letters.I, n) (variables_of t) → (o : Option SitedPublic) → slice_get s.publics (site.first_public + n) ≡ o → worth_of worth o ≡ None → IsNoneBy s worth site pc t
+  by_public : (n : ℕ) → In (letters.I, n) (variables_of t) → (o : Option SitedPublic) → slice_get s.publics (site.first_public + n) ≡ o
+      → worth_of worth o ≡ None → IsNoneBy s worth site pc t
   by_public n m None h e = absurd (w.named n m h)
   by_public n m (Some q) h e = inr (q, ((letters.I, n), In-Contains (letters.I, n) (variables_of t) m, h), e)
 
@@ -112,7 +121,8 @@ module _ (s : Setting) (worth : Worth) (site : Sited) (pc : Option ℕ) (t : Tre
   by_name n m r h None f e = absurd (w.met n r h f e)
   by_name n m r h (Some q) f e = inr (q, ((letters.X, n), In-Contains (letters.X, n) (variables_of t) m, ap (mentioned_reference s) h ∙ f), e)
 
-  by_reference : (n : ℕ) → In (letters.X, n) (variables_of t) → (o : Option Reference) → slice_get site.parts.names.references n ≡ o → worth_of_reference s worth o ≡ None → IsNoneBy s worth site pc t
+  by_reference : (n : ℕ) → In (letters.X, n) (variables_of t) → (o : Option Reference) → slice_get site.parts.names.references n ≡ o
+      → worth_of_reference s worth o ≡ None → IsNoneBy s worth site pc t
   by_reference n m None h e = absurd (w.referred n m h)
   by_reference n m (Some r) h e = by_name n m r h (first_named s.publics r.name) refl e
 
@@ -130,13 +140,16 @@ pub none_cause : (s : Setting) (k : ℕ) (site : Sited) (pc : Option ℕ) (t : T
 none_cause s k site pc t w e = by_case (none-lost s.modulus (environment s (worth_below s k) site pc) t (sym (within_is s k site pc t) ∙ e)) where
   by_case : LacksAValue (environment s (worth_below s k) site pc) t ⊎ (divides_by_zero (value_at s.modulus (environment s (worth_below s k) site pc)) t ≡ true)
       → IsNoneBy s (worth_below s k) site pc t ⊎ (divides_by_zero (value_within s k site pc) t ≡ true)
-  by_case (inl h) = let there = lacking (environment s (worth_below s k) site pc) t h in inl (by_variable s (worth_below s k) site pc t w there.0.0 there.0.1 there.1 there.2)
-  by_case (inr h) = inr (divides_by_zero-same (value_at s.modulus (environment s (worth_below s k) site pc)) (value_within s k site pc) (λ part. sym (within_is s k site pc part)) t h)
+  by_case (inl h) = let there = lacking (environment s (worth_below s k) site pc) t h in
+      inl (by_variable s (worth_below s k) site pc t w there.0.0 there.0.1 there.1 there.2)
+  by_case (inr h) = inr (divides_by_zero-same (value_at s.modulus (environment s (worth_below s k) site pc)) (value_within s k site pc)
+      (λ part. sym (within_is s k site pc part)) t h)
 
 -- a zero divisor at fewer steps is one at all
 pub zero_divisor-le : (s : Setting) (k : ℕ) → k ≤ length s.publics → (site : Sited) (pc : Option ℕ) (t : Tree)
     → divides_by_zero (value_within s k site pc) t ≡ true → has_zero_divisor s site pc t ≡ true
-zero_divisor-le s k le site pc = divides_by_zero-keeps (value_within s k site pc) (value_within s (length s.publics) site pc) (value_within-le s k (length s.publics) le site pc)
+zero_divisor-le s k le site pc = divides_by_zero-keeps (value_within s k site pc) (value_within s (length s.publics) site pc)
+    (value_within-le s k (length s.publics) le site pc)
 
 -- The way back.
 
@@ -145,7 +158,8 @@ pub zero_divisor-none : (s : Setting) (site : Sited) (pc : Option ℕ) (t : Tree
 zero_divisor-none s site pc t h =
     within_is s (length s.publics) site pc t
     ∙ lost-none s.modulus (environment s (worth_below s (length s.publics)) site pc) t
-    (inr (divides_by_zero-same (value_within s (length s.publics) site pc) (value_at s.modulus (environment s (worth_below s (length s.publics)) site pc)) (within_is s (length s.publics) site pc) t h))
+    (inr (divides_by_zero-same (value_within s (length s.publics) site pc)
+    (value_at s.modulus (environment s (worth_below s (length s.publics)) site pc)) (within_is s (length s.publics) site pc) t h))
 
 -- a value of a public that there is with fewer steps is there with all
 below_none : (s : Setting) (k : ℕ) → k ≤ length s.publics → (site : Sited) (t : Tree) → value s site None t ≡ None → worth_below s k site t ≡ None
@@ -158,7 +172,8 @@ below_none s (suc k) le site t e = by_case (value_within s k site None t) refl w
 variable-none : (s : Setting) (site : Sited) (pc : Option ℕ) (t : Tree) (v : Letter × ℕ) → In v (variables_of t)
     → environment s (worth_below s (length s.publics)) site pc v.0 v.1 ≡ None → value s site pc t ≡ None
 variable-none s site pc t v m e =
-    within_is s (length s.publics) site pc t ∙ lost-none s.modulus (environment s (worth_below s (length s.publics)) site pc) t (inl (lacks (environment s (worth_below s (length s.publics)) site pc) t v m e))
+    within_is s (length s.publics) site pc t ∙ lost-none s.modulus (environment s (worth_below s (length s.publics)) site pc) t
+    (inl (lacks (environment s (worth_below s (length s.publics)) site pc) t v m e))
 
 module _ (s : Setting) (worth : Worth) (site : Sited) (pc : Option ℕ) (q : SitedPublic) (e : worth q.site q.entry.value ≡ None) where
   reference-none : (r : Option Reference) → mentioned_reference s r ≡ Some q → worth_of_reference s worth r ≡ None
@@ -174,12 +189,14 @@ module _ (s : Setting) (worth : Worth) (site : Sited) (pc : Option ℕ) (q : Sit
   mention-none letters.X n h = reference-none (slice_get site.parts.names.references n) h
 
 -- an expression that mentions a public without a value has none
-pub mentioned-none : (s : Setting) (site : Sited) (pc : Option ℕ) (t : Tree) (q : SitedPublic) → IsMentionedIn s site t q → value s q.site None q.entry.value ≡ None → value s site pc t ≡ None
+pub mentioned-none : (s : Setting) (site : Sited) (pc : Option ℕ) (t : Tree) (q : SitedPublic) → IsMentionedIn s site t q
+    → value s q.site None q.entry.value ≡ None → value s site pc t ≡ None
 mentioned-none s site pc t q m e =
     let least : length s.publics ≤ length s.publics = omega arith in
     variable-none s site pc t m.0 (Contains-In m.0 (variables_of t) m.1)
     (mention-none s (worth_below s (length s.publics)) site pc q (below_none s (length s.publics) least q.site q.entry.value e) m.0.0 m.0.1 m.2)
 
 -- an expression that names a counter without a value has none
-pub counter-none : (s : Setting) (site : Sited) (pc : Option ℕ) (t : Tree) (n : ℕ) → Contains (variables_of t) (letters.P, n) → pc ≡ None → value s site pc t ≡ None
+pub counter-none : (s : Setting) (site : Sited) (pc : Option ℕ) (t : Tree) (n : ℕ) → Contains (variables_of t) (letters.P, n) → pc ≡ None
+    → value s site pc t ≡ None
 counter-none s site pc t n m e = variable-none s site pc t (letters.P, n) (Contains-In (letters.P, n) (variables_of t) m) e

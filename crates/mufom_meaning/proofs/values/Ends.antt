@@ -1,5 +1,6 @@
 -- Where names lead in no circle, each chain of mentions ends within as many mentions as there are publics.
-use Rattle.std.proofs.Common.{◌≡◌, ℕ, zero, suc, ◌+◌, ◌<◌, ◌⊎◌, inl, inr, List, [], ◌∷◌, length, Option, Some, None, Bool, true, false, ◌||◌, refl, sym, ◌∙◌, ap, subst, arith, rules, eqb}
+use Rattle.std.proofs.Common.{◌≡◌, ℕ, zero, suc, ◌+◌, ◌<◌, ◌⊎◌, inl, inr, List, [], ◌∷◌, length, Option, Some, None, Bool, true, false, ◌||◌, refl}
+use Rattle.std.proofs.Common.{sym, ◌∙◌, ap, subst, arith, rules, eqb}
 use Rattle.std.specs.Prelude.{slice_get, IsTrue}
 use Rattle.std.specs.List.{list_any, IsDistinct, AllByRecursion}
 use Rattle.std.proofs.lemmas.Map.Steps.{length-le_from_distinct_below}
@@ -30,7 +31,8 @@ EndsWithin s zero site t = (q : SitedPublic) → IsMentionedIn s site t q → �
 EndsWithin s (suc k) site t = (q : SitedPublic) → IsMentionedIn s site t q → EndsWithin s k q.site q.entry.value
 
 -- one mention more at the end
-leads_on : (s : Setting) (k : ℕ) (site : Sited) (t : Tree) (p q : SitedPublic) → Leads s k site t p → IsMentionedIn s p.site p.entry.value q → Leads s (suc k) site t q
+leads_on : (s : Setting) (k : ℕ) (site : Sited) (t : Tree) (p q : SitedPublic) → Leads s k site t p → IsMentionedIn s p.site p.entry.value q
+    → Leads s (suc k) site t q
 leads_on s zero site t p q h m = (p, h, m)
 leads_on s (suc k) site t p q h m = (h.0, h.1, leads_on s k h.0.site h.0.entry.value p q h.2 m)
 
@@ -45,12 +47,14 @@ or_true false b e = e
 pub leads-within : (s : Setting) (k : ℕ) (site : Sited) (t : Tree) (q : SitedPublic) → Leads s k site t q → leads_within s (suc k) q.entry.name site t ≡ true
 leads-within s zero site t q h =
     passes-In (λ v. is_or_leads (λ x y. leads_within s zero q.entry.name x y) q.entry.name (mentioned s site v.0 v.1)) (variables_of t) h.0
-    (Contains-In h.0 (variables_of t) h.1) (ap (is_or_leads (λ x y. leads_within s zero q.entry.name x y) q.entry.name) h.2 ∙ is_it (λ x y. leads_within s zero q.entry.name x y) q)
+    (Contains-In h.0 (variables_of t) h.1) (ap (is_or_leads (λ x y. leads_within s zero q.entry.name x y) q.entry.name) h.2
+    ∙ is_it (λ x y. leads_within s zero q.entry.name x y) q)
 leads-within s (suc k) site t q h =
     let later = leads-within s k h.0.site h.0.entry.value q h.2 in
     let m = h.1 in
     passes-In (λ v. is_or_leads (λ x y. leads_within s (suc k) q.entry.name x y) q.entry.name (mentioned s site v.0 v.1)) (variables_of t) m.0
-    (Contains-In m.0 (variables_of t) m.1) (ap (is_or_leads (λ x y. leads_within s (suc k) q.entry.name x y) q.entry.name) m.2 ∙ or_true (bytes_eq h.0.entry.name q.entry.name) _ later)
+    (Contains-In m.0 (variables_of t) m.1) (ap (is_or_leads (λ x y. leads_within s (suc k) q.entry.name x y) q.entry.name) m.2
+    ∙ or_true (bytes_eq h.0.entry.name q.entry.name) _ later)
 
 -- what is mentioned is a public of the list
 mentioned_public : (s : Setting) (site : Sited) (l : Letter) (n : ℕ) (q : SitedPublic) → mentioned s site l n ≡ Some q → StandsIn q s.publics
@@ -115,7 +119,8 @@ module _ (s : Setting) (single : (q : SitedPublic) → StandsIn q s.publics → 
     by_case (inl same) = omega (arith, same, low)
     by_case (inr f) = h j f
 
-  lead_more : (passed : List ℕ) (site : Sited) (t : Tree) → LeadTo passed site t → (p : SitedPublic) → IsMentionedIn s site t p → (i : ℕ) → slice_get s.publics i ≡ Some p
+  lead_more : (passed : List ℕ) (site : Sited) (t : Tree) → LeadTo passed site t → (p : SitedPublic) → IsMentionedIn s site t p → (i : ℕ)
+      → slice_get s.publics i ≡ Some p
       → LeadTo (i ∷ passed) p.site p.entry.value
   lead_more passed site t lead p m i e j f q n = by_case (passed_more i j passed f) where
     by_case : (j ≡ i) ⊎ (list_any (eqb j) passed ≡ true) → (r : SitedPublic) × (k : ℕ) × (slice_get s.publics j ≡ Some r) × Leads s k r.site r.entry.value q
@@ -129,13 +134,15 @@ module _ (s : Setting) (single : (q : SitedPublic) → StandsIn q s.publics → 
       let there = mentioned-among s site t q m in
       let new : list_any (eqb there.0) passed ≡ false = fresh passed site t lead q m there.0 there.1 in
       let low : there.0 < length s.publics = below_length s.publics there.0 q there.1 in
-      let few = length-le_from_distinct_below (there.0 ∷ passed) (length s.publics) (apart_from there.0 passed new, apart) (below_more there.0 passed low below) in
+      let few = length-le_from_distinct_below (there.0 ∷ passed) (length s.publics) (apart_from there.0 passed new, apart)
+      (below_more there.0 passed low below) in
       omega (arith, few, count)
   ends (suc left) passed count apart below site t lead = λ q m.
       let there = mentioned-among s site t q m in
       let new : list_any (eqb there.0) passed ≡ false = fresh passed site t lead q m there.0 there.1 in
       let low : there.0 < length s.publics = below_length s.publics there.0 q there.1 in
-      ends left (there.0 ∷ passed) (omega (arith, count)) (apart_from there.0 passed new, apart) (below_more there.0 passed low below) q.site q.entry.value (lead_more passed site t lead q m there.0 there.1)
+      ends left (there.0 ∷ passed) (omega (arith, count)) (apart_from there.0 passed new, apart) (below_more there.0 passed low below) q.site
+      q.entry.value (lead_more passed site t lead q m there.0 there.1)
 
   -- so each chain ends
   pub all_end : (site : Sited) (t : Tree) → EndsWithin s (length s.publics) site t

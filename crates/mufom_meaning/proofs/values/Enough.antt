@@ -20,7 +20,8 @@ use Rattle.mufom_meaning.proofs.values.Causes.{worth_below, within_is}
 use Rattle.mufom_meaning.proofs.values.Named.{single_name, leads_from-bases}
 
 -- a value looks at the variables of its tree alone
-pub value_at-agrees_on_variables : (m : ℕ) (env other : Environment) (t : Tree) → ((v : Letter × ℕ) → In v (variables_of t) → env v.0 v.1 ≡ other v.0 v.1) → value_at m env t ≡ value_at m other t
+pub value_at-agrees_on_variables : (m : ℕ) (env other : Environment) (t : Tree)
+    → ((v : Letter × ℕ) → In v (variables_of t) → env v.0 v.1 ≡ other v.0 v.1) → value_at m env t ≡ value_at m other t
 value_at-agrees_on_variables m env other (number n) same = refl
 value_at-agrees_on_variables m env other (variable l n) same = ap (option_map (λ v. v % m)) (same (l, n) (inl refl))
 value_at-agrees_on_variables m env other (one f a) same = ap (option_map (one_value m f)) (value_at-agrees_on_variables m env other a same)
@@ -32,15 +33,18 @@ value_at-agrees_on_variables m env other (two f a b) same =
 -- publics that the expression mentions are worth the same
 module _ (s : Setting) (worth other : Worth) (site : Sited) (pc : Option ℕ) (t : Tree)
     (same : (q : SitedPublic) → IsMentionedIn s site t q → worth q.site q.entry.value ≡ other q.site q.entry.value) where
-  same_public : (n : ℕ) → In (letters.I, n) (variables_of t) → (o : Option SitedPublic) → slice_get s.publics (site.first_public + n) ≡ o → worth_of worth o ≡ worth_of other o
+  same_public : (n : ℕ) → In (letters.I, n) (variables_of t) → (o : Option SitedPublic) → slice_get s.publics (site.first_public + n) ≡ o
+      → worth_of worth o ≡ worth_of other o
   same_public n h None e = refl
   same_public n h (Some q) e = same q ((letters.I, n), In-Contains (letters.I, n) (variables_of t) h, e)
 
-  same_name : (n : ℕ) → In (letters.X, n) (variables_of t) → (unmet : Option ℕ) → (o : Option SitedPublic) → mentioned s site letters.X n ≡ o → reference_value worth o unmet ≡ reference_value other o unmet
+  same_name : (n : ℕ) → In (letters.X, n) (variables_of t) → (unmet : Option ℕ) → (o : Option SitedPublic) → mentioned s site letters.X n ≡ o
+      → reference_value worth o unmet ≡ reference_value other o unmet
   same_name n h unmet None e = refl
   same_name n h unmet (Some q) e = same q ((letters.X, n), In-Contains (letters.X, n) (variables_of t) h, e)
 
-  same_reference : (n : ℕ) → In (letters.X, n) (variables_of t) → (o : Option Reference) → slice_get site.parts.names.references n ≡ o → worth_of_reference s worth o ≡ worth_of_reference s other o
+  same_reference : (n : ℕ) → In (letters.X, n) (variables_of t) → (o : Option Reference) → slice_get site.parts.names.references n ≡ o
+      → worth_of_reference s worth o ≡ worth_of_reference s other o
   same_reference n h None e = refl
   same_reference n h (Some r) e = same_name n h (unmet_value s r) (first_named s.publics r.name) (ap (mentioned_reference s) e)
 
@@ -56,7 +60,8 @@ module _ (s : Setting) (worth other : Worth) (site : Sited) (pc : Option ℕ) (t
   same_value = value_at-agrees_on_variables s.modulus (environment s worth site pc) (environment s other site pc) t (λ v h. same_variable v.0 v.1 h)
 
 -- from the length of the longest chain of mentions on, more steps give the same
-pub value_within-ends : (s : Setting) (k d : ℕ) (site : Sited) (pc : Option ℕ) (t : Tree) → EndsWithin s k site t → value_within s (d + k) site pc t ≡ value_within s k site pc t
+pub value_within-ends : (s : Setting) (k d : ℕ) (site : Sited) (pc : Option ℕ) (t : Tree) → EndsWithin s k site t → value_within s (d + k) site pc t
+    ≡ value_within s k site pc t
 unfolding value_within
 value_within-ends s zero d site pc t ends =
     within_is s (d + 0) site pc t ∙ same_value s (worth_below s (d + 0)) (worth_below s 0) site pc t (λ q m. absurd (ends q m)) ∙ sym (within_is s 0 site pc t)
@@ -67,7 +72,11 @@ value_within-ends s (suc k) d site pc t ends =
 
 -- where no name stands twice and none leads back to itself, as many steps as there are publics are enough
 pub value_is_settled : (ms : List Parts) (bs : Bases) → ((name : List ℕ) → ¬ LinkFactStands ms (duplicate name)) → ((name : List ℕ) → ¬ IsOnCycle ms name)
-    → (d : ℕ) (site : Sited) (pc : Option ℕ) (t : Tree) → value_within (setting ms bs) (d + length (flat_publics ms)) site pc t ≡ value (setting ms bs) site pc t
+    → (d : ℕ) (site : Sited) (pc : Option ℕ) (t : Tree) → value_within (setting ms bs) (d + length (flat_publics ms)) site pc t
+    ≡ value (setting ms bs) site pc t
 value_is_settled ms bs once acyclic d site pc t =
     value_within-ends (setting ms bs) (length (flat_publics ms)) d site pc t
-    (all_end (setting ms bs) (single_name ms once) (λ name k h. acyclic name (k, sym (leads_from-bases ms bs name k (first_named (flat_publics ms) name)) ∙ h)) site t)
+    (all_end (setting ms bs) (single_name ms once) (λ name k h. acyclic name (
+      k,
+      sym (leads_from-bases ms bs name k (first_named (flat_publics ms) name)) ∙ h,
+    )) site t)

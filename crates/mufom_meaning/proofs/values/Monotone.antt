@@ -22,12 +22,14 @@ keeps_both f None u p q k l v e = absurd cc
 keeps_both f (Some x) u None q k l v e = absurd cc
 keeps_both f (Some x) u (Some y) q k l v e = let a = k x refl in let b = l y refl in (λ i. both f (a i) (b i)) ∙ e
 
-value_at-keeps : (m : ℕ) (env other : Environment) → ((l : Letter) (n : ℕ) → Keeps (env l n) (other l n)) → (t : Tree) → Keeps (value_at m env t) (value_at m other t)
+value_at-keeps : (m : ℕ) (env other : Environment) → ((l : Letter) (n : ℕ) → Keeps (env l n) (other l n)) → (t : Tree)
+    → Keeps (value_at m env t) (value_at m other t)
 value_at-keeps m env other k (number n) = λ v e. e
 value_at-keeps m env other k (variable l n) = keeps_map (λ v. v % m) (env l n) (other l n) (k l n)
 value_at-keeps m env other k (one f a) = keeps_map (one_value m f) (value_at m env a) (value_at m other a) (value_at-keeps m env other k a)
 value_at-keeps m env other k (two f a b) =
-    keeps_both (two_value m f) (value_at m env a) (value_at m other a) (value_at m env b) (value_at m other b) (value_at-keeps m env other k a) (value_at-keeps m env other k b)
+    keeps_both (two_value m f) (value_at m env a) (value_at m other a) (value_at m env b) (value_at m other b) (value_at-keeps m env other k a)
+    (value_at-keeps m env other k b)
 
 module _ (s : Setting) (w v : Worth) (k : (site : Sited) (t : Tree) → Keeps (w site t) (v site t)) where
   keeps_public : (q : Option SitedPublic) → Keeps (worth_of w q) (worth_of v q)
@@ -51,7 +53,8 @@ module _ (s : Setting) (w v : Worth) (k : (site : Sited) (t : Tree) → Keeps (w
   environment-keeps site pc letters.X n = keeps_reference (slice_get site.parts.names.references n)
 
 -- one more step of names keeps a value
-pub value_within-more : (s : Setting) (k : ℕ) (site : Sited) (pc : Option ℕ) (t : Tree) (v : ℕ) → value_within s k site pc t ≡ Some v → value_within s (suc k) site pc t ≡ Some v
+pub value_within-more : (s : Setting) (k : ℕ) (site : Sited) (pc : Option ℕ) (t : Tree) (v : ℕ) → value_within s k site pc t ≡ Some v
+    → value_within s (suc k) site pc t ≡ Some v
 unfolding value_within
 value_within-more s zero site pc t =
     value_at-keeps s.modulus _ _ (environment-keeps s (λ x y. None) (λ x y. value_within s zero x None y) (λ x y v e. absurd cc) site pc) t

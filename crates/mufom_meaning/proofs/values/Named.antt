@@ -1,5 +1,6 @@
 -- A list of modules without a defect has all that its expressions name, where the facts of names do not stand.
-use Rattle.std.proofs.Common.{◌≡◌, ℕ, zero, suc, ◌+◌, ◌<◌, ◌≤◌, ◌⊎◌, inl, inr, List, [], ◌∷◌, ◌++◌, map, length, Option, Some, None, Bool, true, false, not, ◌||◌, refl, sym, ◌∙◌, ap, subst, arith, rules, length-append}
+use Rattle.std.proofs.Common.{◌≡◌, ℕ, zero, suc, ◌+◌, ◌<◌, ◌≤◌, ◌⊎◌, inl, inr, List, [], ◌∷◌, ◌++◌, map, length, Option, Some, None, Bool, true}
+use Rattle.std.proofs.Common.{false, not, ◌||◌, refl, sym, ◌∙◌, ap, subst, arith, rules, length-append}
 use Rattle.std.specs.Prelude.{slice_get, filter, option_to_list, is_none, nat_lt, nat_le, ◌==◌, if◌then◌else◌}
 use Rattle.std.specs.List.{list_any}
 use Rattle.std.specs.Str.{bytes_eq}
@@ -23,7 +24,9 @@ use Rattle.mufom_module.specs.Contents.{item_any}
 use Rattle.mufom_module.specs.Defects.{IsValid, counts_of, names_outside, has_bad_place}
 use Rattle.mufom_plan.specs.Names.{has_name}
 use Rattle.mufom_meaning.specs.Bases.{Bases, no_bases}
-use Rattle.mufom_meaning.specs.Flat.{Sited, sited_from, sited, SitedPublic, sited_publics, flat_sections, flat_publics, flat_references, public_names, first_named, name_count, is_strong, is_common, common_size, same_common, unmet_references, needs, commons, common_names}
+use Rattle.mufom_meaning.specs.Flat.{Sited, sited_from, sited, SitedPublic, sited_publics, flat_sections, flat_publics, flat_references, public_names}
+use Rattle.mufom_meaning.specs.Flat.{first_named, name_count, is_strong, is_common, common_size, same_common, unmet_references, needs, commons}
+use Rattle.mufom_meaning.specs.Flat.{common_names}
 use Rattle.mufom_meaning.specs.Values.{Setting, setting, default_of, unmet_value}
 use Rattle.mufom_meaning.specs.Cycles.{mentioned, mentioned_reference, is_or_leads, leads_within, leads_from, IsOnCycle}
 use Rattle.mufom_meaning.specs.Steps.{Step, counter_step, item_step, item_steps, steps_of, steps}
@@ -36,8 +39,10 @@ use Rattle.mufom_meaning.proofs.Names.{names_of-sited_publics}
 use Rattle.mufom_meaning.proofs.facts.Cycles.{list_any-agrees}
 use Rattle.mufom_meaning.proofs.Tests.{either_false}
 use Rattle.mufom_meaning.proofs.Choices.{of_lt, of_not_lt}
-use Rattle.mufom_meaning.proofs.Members.{In, In-at, at-In, In-map, map-In, In-flat_map, flat_map-In, In-append, In-filter, In-distinct, passes-In, none-In, get_some}
-use Rattle.mufom_meaning.proofs.WithoutDefect.{IsInside, inside, finds-none, public_inside, public_free, start_inside, start_free, mark_inside, mark_free, load_inside}
+use Rattle.mufom_meaning.proofs.Members.{In, In-at, at-In, In-map, map-In, In-flat_map, flat_map-In, In-append, In-filter, In-distinct, passes-In}
+use Rattle.mufom_meaning.proofs.Members.{none-In, get_some}
+use Rattle.mufom_meaning.proofs.WithoutDefect.{IsInside, inside, finds-none, public_inside, public_free, start_inside, start_free, mark_inside}
+use Rattle.mufom_meaning.proofs.WithoutDefect.{mark_free, load_inside}
 use Rattle.mufom_meaning.proofs.values.Causes.{IsWellNamed}
 use Rattle.mufom_meaning.proofs.values.Lacks.{IsPlain, HasBase, IsWellStep, HasAllNamed}
 
@@ -53,7 +58,8 @@ valid_module [] v m h = absurd h
 valid_module (x ∷ ms) v m (inl e) = subst IsValid e v.0
 valid_module (x ∷ ms) v m (inr h) = valid_module ms v.1 m h
 
-pub sections_end : (a b d : ℕ) (ms : List Parts) (site : Sited) → In site (sited_from a b d ms) → site.first_section + length site.parts.sections ≤ a + length (flat_sections ms)
+pub sections_end : (a b d : ℕ) (ms : List Parts) (site : Sited) → In site (sited_from a b d ms)
+    → site.first_section + length site.parts.sections ≤ a + length (flat_sections ms)
 sections_end a b d [] site h = absurd h
 sections_end a b d (m ∷ ms) site (inl e) =
     let first : a ≡ site.first_section = ap (λ (x : Sited). x.first_section) e in
@@ -76,9 +82,11 @@ abbrev sites_after : ℕ → ℕ → ℕ → Parts → List Parts → List Sited
 sites_after a b d m ms = sited_from (a + length m.sections) (b + length m.names.publics) (d + name_count (marks_of m.debug)) ms
 
 publics_count : (site : Sited) (publics : List Public) (rest : List SitedPublic) → length (publics_at site publics ++ rest) ≡ length publics + length rest
-publics_count site publics rest = length-append (publics_at site publics) rest ∙ ap (λ n. n + length rest) (length-map publics (λ entry. record { site = site; entry = entry }))
+publics_count site publics rest = length-append (publics_at site publics) rest
+    ∙ ap (λ n. n + length rest) (length-map publics (λ entry. record { site = site; entry = entry }))
 
-pub publics_end : (a b d : ℕ) (ms : List Parts) (site : Sited) → In site (sited_from a b d ms) → site.first_public + length site.parts.names.publics ≤ b + length (sited_publics (sited_from a b d ms))
+pub publics_end : (a b d : ℕ) (ms : List Parts) (site : Sited) → In site (sited_from a b d ms)
+    → site.first_public + length site.parts.names.publics ≤ b + length (sited_publics (sited_from a b d ms))
 publics_end a b d [] site h = absurd h
 publics_end a b d (m ∷ ms) site (inl e) =
     let first : b ≡ site.first_public = ap (λ (x : Sited). x.first_public) e in
@@ -101,7 +109,8 @@ name_there : (ms : List Parts) (i : ℕ) (q : SitedPublic) → slice_get (flat_p
 name_there ms i q e = ap (λ names. slice_get names i) (sym (names_of-sited_publics 0 0 0 ms)) ∙ named_at (flat_publics ms) i q e
 
 -- where no name stands twice, a public is the first of its name
-pub single_name : (ms : List Parts) → ((name : List ℕ) → ¬ LinkFactStands ms (duplicate name)) → (q : SitedPublic) → StandsIn q (flat_publics ms) → first_named (flat_publics ms) q.entry.name ≡ Some q
+pub single_name : (ms : List Parts) → ((name : List ℕ) → ¬ LinkFactStands ms (duplicate name)) → (q : SitedPublic) → StandsIn q (flat_publics ms)
+    → first_named (flat_publics ms) q.entry.name ≡ Some q
 single_name ms once q a = by_first (first_named (flat_publics ms) q.entry.name) refl where
   twice : (i j : ℕ) (p : SitedPublic) → i < j → slice_get (public_names ms) i ≡ Some p.entry.name → slice_get (public_names ms) j ≡ Some p.entry.name → ⊥
   twice i j p less e f = once p.entry.name (j, f, (i, p.entry.name, less, e, f))
@@ -123,7 +132,8 @@ single_name ms once q a = by_first (first_named (flat_publics ms) q.entry.name) 
 
   by_first : (o : Option SitedPublic) → first_named (flat_publics ms) q.entry.name ≡ o → o ≡ Some q
   by_first None e =
-      let fails : bytes_eq q.entry.name q.entry.name ≡ false = finds-none (λ p. bytes_eq p.entry.name q.entry.name) (flat_publics ms) e q (In-at q (flat_publics ms) a.0 a.1) in
+      let fails : bytes_eq q.entry.name q.entry.name ≡ false = finds-none (λ p. bytes_eq p.entry.name q.entry.name) (flat_publics ms) e q
+      (In-at q (flat_publics ms) a.0 a.1) in
       absurd (let holds : bytes_eq q.entry.name q.entry.name ≡ true = (bytes_eq-Decides q.entry.name q.entry.name).1 refl in cc)
   by_first (Some p) e =
       let found = find_at (λ p. bytes_eq p.entry.name q.entry.name) (flat_publics ms) p e in
@@ -159,14 +169,18 @@ met_or_default ms bs defined placed r h e = by_common (has_name (common_names ms
   unmet : In r (unmet_references ms)
   unmet = In-filter (λ reference. not (has_name (public_names ms) reference.name)) r (ap not (unnamed ms r.name e)) (flat_references ms) h
 
-  by_size : has_name (common_names ms) r.name ≡ false → (weak : Weak) → r.weak ≡ Some weak → (b : Bool) → (weak.size == 0) ≡ b → (if b then Some weak.default else None) ≡ None → ⊥
+  by_size : has_name (common_names ms) r.name ≡ false → (weak : Weak) → r.weak ≡ Some weak → (b : Bool) → (weak.size == 0) ≡ b
+      → (if b then Some weak.default else None) ≡ None → ⊥
   by_size none weak f true g n = cc
   by_size none weak f false g n =
       let common : is_common r ≡ true = ap (λ w. not (common_size w == 0)) f ∙ ap not g in
-      let there = In-distinct same_common same_common-decides (r.name, common_size r.weak) (map (λ reference. (reference.name, common_size reference.weak)) (filter is_common (unmet_references ms)))
-      (In-map (λ reference. (reference.name, common_size reference.weak)) r (filter is_common (unmet_references ms)) (In-filter is_common r common (unmet_references ms) unmet)) in
+      let there = In-distinct same_common same_common-decides (r.name, common_size r.weak)
+      (map (λ reference. (reference.name, common_size reference.weak)) (filter is_common (unmet_references ms)))
+      (In-map (λ reference. (reference.name, common_size reference.weak)) r (filter is_common (unmet_references ms))
+      (In-filter is_common r common (unmet_references ms) unmet)) in
       let named : has_name (common_names ms) r.name ≡ true
-      = passes-In (bytes_eq r.name) (common_names ms) r.name (In-map (λ common. common.0) (r.name, common_size r.weak) (commons ms) there) ((bytes_eq-Decides r.name r.name).1 refl) in cc
+      = passes-In (bytes_eq r.name) (common_names ms) r.name (In-map (λ common. common.0) (r.name, common_size r.weak) (commons ms) there)
+      ((bytes_eq-Decides r.name r.name).1 refl) in cc
 
   by_weak : has_name (common_names ms) r.name ≡ false → (o : Option Weak) → r.weak ≡ o → default_of o ≡ None → ⊥
   by_weak none None f n =
@@ -194,7 +208,8 @@ module _ (ms : List Parts) (bs : Bases) (name : List ℕ) where
     by_reference None = refl
     by_reference (Some r) = refl
 
-  or_leads-bases : (f g : Sited → Tree → Bool) → ((site : Sited) (t : Tree) → f site t ≡ g site t) → (o u : Option SitedPublic) → o ≡ u → is_or_leads f name o ≡ is_or_leads g name u
+  or_leads-bases : (f g : Sited → Tree → Bool) → ((site : Sited) (t : Tree) → f site t ≡ g site t) → (o u : Option SitedPublic) → o ≡ u
+      → is_or_leads f name o ≡ is_or_leads g name u
   or_leads-bases f g same o u e = by_case o ∙ ap (is_or_leads g name) e where
     by_case : (o : Option SitedPublic) → is_or_leads f name o ≡ is_or_leads g name o
     by_case None = refl
@@ -203,7 +218,8 @@ module _ (ms : List Parts) (bs : Bases) (name : List ℕ) where
   leads-bases : (k : ℕ) (site : Sited) (t : Tree) → leads_within (setting ms bs) k name site t ≡ leads_within (setting ms no_bases) k name site t
   leads-bases zero site t = refl
   leads-bases (suc k) site t =
-      list_any-agrees _ _ (λ v. or_leads-bases (λ x y. leads_within (setting ms bs) k name x y) (λ x y. leads_within (setting ms no_bases) k name x y) (leads-bases k) _ _ (mentioned-bases site v.0 v.1)) (variables_of t)
+      list_any-agrees _ _ (λ v. or_leads-bases (λ x y. leads_within (setting ms bs) k name x y) (λ x y. leads_within (setting ms no_bases) k name x y)
+      (leads-bases k) _ _ (mentioned-bases site v.0 v.1)) (variables_of t)
 
   pub leads_from-bases : (k : ℕ) (o : Option SitedPublic) → leads_from (setting ms bs) k name o ≡ leads_from (setting ms no_bases) k name o
   leads_from-bases k None = refl
@@ -224,7 +240,8 @@ module _ (s : Setting) (site : Sited) (named : (t : Tree) → IsInside site.part
   abbrev IsCurrent : Option ℕ → Type 0
   IsCurrent current = (section : ℕ) → current ≡ Some section → section < length site.parts.sections
 
-  item_well : (section : ℕ) → section < length site.parts.sections → (item : Item) → item_any (names_outside (counts_of site.parts)) item ≡ false → IsWellStep s (item_step site (site.first_section + section) item)
+  item_well : (section : ℕ) → section < length site.parts.sections → (item : Item) → item_any (names_outside (counts_of site.parts)) item ≡ false
+      → IsWellStep s (item_step site (site.first_section + section) item)
   item_well section less (Literal bytes) e = based section less
   item_well section less (Field kind t size) e = (based section less, named t (inside site.parts t e))
 
@@ -244,13 +261,15 @@ module _ (s : Setting) (site : Sited) (named : (t : Tree) → IsInside site.part
   below section e = search rules
 
   -- a step is of a load's own, or of the loads after it
-  either_well : (step : Step) (own rest : List Step) → In step (own ++ rest) → (In step own → IsWellStep s step) → (In step rest → IsWellStep s step) → IsWellStep s step
+  either_well : (step : Step) (own rest : List Step) → In step (own ++ rest) → (In step own → IsWellStep s step) → (In step rest → IsWellStep s step)
+      → IsWellStep s step
   either_well step own rest h here later = by_case (In-append step own rest h) where
     by_case : In step own ⊎ In step rest → IsWellStep s step
     by_case (inl k) = here k
     by_case (inr k) = later k
 
-  loads_well : (current : Option ℕ) → IsCurrent current → (loads : List Load) → ((load : Load) → In load loads → has_bad_place (counts_of site.parts) load ≡ false)
+  loads_well : (current : Option ℕ) → IsCurrent current → (loads : List Load)
+      → ((load : Load) → In load loads → has_bad_place (counts_of site.parts) load ≡ false)
       → (step : Step) → In step (steps_of site current loads) → IsWellStep s step
   loads_well current now [] good step h = absurd h
   loads_well current now (SetSection section ∷ loads) good step h =
@@ -264,11 +283,13 @@ module _ (s : Setting) (site : Sited) (named : (t : Tree) → IsInside site.part
       either_well step (counter_step site (site.first_section + section) t ∷ []) (steps_of site current loads) h
       (λ k. one_only k (based section less, named t (inside site.parts t two.1)))
       (loads_well current now loads (λ load k. good load (inr k)) step) where
-        one_only : In step (counter_step site (site.first_section + section) t ∷ []) → HasBase s (site.first_section + section) × IsWellNamed s site t → IsWellStep s step
+        one_only : In step (counter_step site (site.first_section + section) t ∷ []) → HasBase s (site.first_section + section) × IsWellNamed s site t
+            → IsWellStep s step
         one_only (inl same) w = subst (IsWellStep s) same w
         one_only (inr k) w = absurd k
   loads_well current now (One item ∷ loads) good step h =
-      let fine : (item_any (names_outside (counts_of site.parts)) item || false) ≡ false = or_none (item_any (names_outside (counts_of site.parts)) item) (good (One item) (inl refl)) in
+      let fine : (item_any (names_outside (counts_of site.parts)) item || false) ≡ false =
+      or_none (item_any (names_outside (counts_of site.parts)) item) (good (One item) (inl refl)) in
       either_well step (item_steps site current (item ∷ [])) (steps_of site current loads) h
       (items_well current now (item ∷ []) fine step) (loads_well current now loads (λ load k. good load (inr k)) step) where
         or_none : (b : Bool) → b ≡ false → (b || false) ≡ false
@@ -281,7 +302,8 @@ module _ (s : Setting) (site : Sited) (named : (t : Tree) → IsInside site.part
 -- ---- all of it
 
 module _ (ms : List Parts) (bs : Bases) (v : AreValid ms) (count : length bs.sections ≡ length (flat_sections ms))
-    (once : (name : List ℕ) → ¬ LinkFactStands ms (duplicate name)) (defined : (name : List ℕ) → ¬ (StandsIn name (needs ms) × (has_name (common_names ms) name ≡ false)))
+    (once : (name : List ℕ) → ¬ LinkFactStands ms (duplicate name)) (defined : (name : List ℕ)
+    → ¬ (StandsIn name (needs ms) × (has_name (common_names ms) name ≡ false)))
     (placed : (name : List ℕ) → has_name (common_names ms) name ≡ true → bs.commons name ≡ None → ⊥) (acyclic : (name : List ℕ) → ¬ IsOnCycle ms name) where
   abbrev s : Setting
   s = setting ms bs
@@ -292,8 +314,10 @@ module _ (ms : List Parts) (bs : Bases) (v : AreValid ms) (count : length bs.sec
   named_at_site : (site : Sited) → In site (sited ms) → (t : Tree) → IsInside site.parts t → IsWellNamed s site t
   named_at_site site h t within = record {
     based = λ n k. base_there n (either n k);
-    sectioned = λ n k. let end = sections_end 0 0 0 ms site h in let less = within (letters.S, n) k in get_some (flat_sections ms) (site.first_section + n) (omega (arith, less, end));
-    named = λ n k. let end = publics_end 0 0 0 ms site h in let less = within (letters.I, n) k in get_some (flat_publics ms) (site.first_public + n) (omega (arith, less, end));
+    sectioned = λ n k. let end = sections_end 0 0 0 ms site h in let less = within (letters.S, n) k in
+        get_some (flat_sections ms) (site.first_section + n) (omega (arith, less, end));
+    named = λ n k. let end = publics_end 0 0 0 ms site h in let less = within (letters.I, n) k in
+        get_some (flat_publics ms) (site.first_public + n) (omega (arith, less, end));
     referred = λ n k. let less = within (letters.X, n) k in get_some site.parts.names.references n less;
     met = λ n r e. met_or_default ms bs defined placed r
         (In-flat_map (λ m. m.names.references) site.parts r ms (site_module 0 0 0 ms site h) (In-at r site.parts.names.references n e));
@@ -318,7 +342,8 @@ module _ (ms : List Parts) (bs : Bases) (v : AreValid ms) (count : length bs.sec
       let site = there.0 in
       let own = map-In (λ entry. record { site = site; entry = entry }) q site.parts.names.publics there.2 in
       subst (λ (q : SitedPublic). IsPlain s q.site q.entry.value) own.2
-      (plain site there.1 own.0.value (public_inside site.parts (valid_at site there.1) own.0 own.1) (public_free site.parts (valid_at site there.1) own.0 own.1))
+      (plain site there.1 own.0.value (public_inside site.parts (valid_at site there.1) own.0 own.1)
+      (public_free site.parts (valid_at site there.1) own.0 own.1))
 
   start_plain : (e : SitedTree) → In e (start_trees ms) → IsPlain s e.0 e.1
   start_plain e h =
@@ -335,13 +360,15 @@ module _ (ms : List Parts) (bs : Bases) (v : AreValid ms) (count : length bs.sec
       let own = map-In (λ t. (site, t)) e (expressions_of (marks_of site.parts.debug)) there.2 in
       let mark = flat_map-In mark_expressions own.0 (marks_of site.parts.debug) own.1 in
       subst (λ (e : SitedTree). IsPlain s e.0 e.1) own.2
-      (plain site there.1 own.0 (mark_inside site.parts (valid_at site there.1) mark.0 mark.1 own.0 mark.2) (mark_free site.parts (valid_at site there.1) mark.0 mark.1 own.0 mark.2))
+      (plain site there.1 own.0 (mark_inside site.parts (valid_at site there.1) mark.0 mark.1 own.0 mark.2)
+      (mark_free site.parts (valid_at site there.1) mark.0 mark.1 own.0 mark.2))
 
   step_well : (step : Step) → In step (steps ms) → IsWellStep s step
   step_well step h =
       let there = flat_map-In (λ site. steps_of site None site.parts.loads) step (sited ms) h in
       let site = there.0 in
-      loads_well s site (named_at_site site there.1) (based_at site there.1) None (λ section e. absurd cc) site.parts.loads (load_inside site.parts (valid_at site there.1)) step there.2
+      loads_well s site (named_at_site site there.1) (based_at site there.1) None (λ section e. absurd cc) site.parts.loads
+      (load_inside site.parts (valid_at site there.1)) step there.2
 
   pub has_all_named : HasAllNamed ms s
   has_all_named = record {

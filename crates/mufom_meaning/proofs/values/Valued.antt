@@ -11,7 +11,8 @@ use Rattle.mufom_meaning.specs.Flat.{Sited, SitedPublic, flat_publics}
 use Rattle.mufom_meaning.specs.Values.{Setting, value, has_zero_divisor}
 use Rattle.mufom_meaning.specs.Steps.{Step, counter_step, item_step, steps, counter}
 use Rattle.mufom_meaning.specs.Stands.{StandsIn, IsStepAfter, put_back, HasZeroDivisor}
-use Rattle.mufom_meaning.specs.Valued.{CounterPlace, counter_there, IsExpressionAt, IsMentionedIn, MeetsZeroDivisor, itself, through_name, through_counter, section_of, HaveValues}
+use Rattle.mufom_meaning.specs.Valued.{CounterPlace, counter_there, IsExpressionAt, IsMentionedIn, MeetsZeroDivisor, itself, through_name}
+use Rattle.mufom_meaning.specs.Valued.{through_counter, section_of, HaveValues}
 use Rattle.mufom_meaning.proofs.Choices.{mapped_none, equal_numbers}
 use Rattle.mufom_meaning.proofs.values.Ends.{mentioned-among}
 use Rattle.mufom_meaning.proofs.values.Lacks.{IsPlain, HasBase, IsWellStep, HasAllNamed, step-In, Why, why, plain_meets, step_meets}
@@ -33,21 +34,26 @@ module _ (ms : List Parts) (s : Setting) (h : HasAllNamed ms s) (flat : s.public
   plain_there site t (inr (inl p)) = h.starts (site, t) p
   plain_there site t (inr (inr p)) = h.marks (site, t) p
 
-  pub none_meets : (c : CounterPlace) (site : Sited) (t : Tree) → IsExpressionAt ms c site t → value s site (counter_there s c) t ≡ None → MeetsZeroDivisor s c site t
+  pub none_meets : (c : CounterPlace) (site : Sited) (t : Tree) → IsExpressionAt ms c site t → value s site (counter_there s c) t ≡ None
+      → MeetsZeroDivisor s c site t
   none_meets None site t at e = plain_meets ms s h site t (plain_there site t at) e
   none_meets (Some c) site t (inl p) e =
-      let w = h.loads (counter_step site c.1 t) (step-In ms c.0 (counter_step site c.1 t) p.0 p.1) in step_meets ms s h c.0 c.1 site t w.1 w.0 (counter_step site c.1 t ∷ p.0) p.1 e
+      let w = h.loads (counter_step site c.1 t) (step-In ms c.0 (counter_step site c.1 t) p.0 p.1) in
+      step_meets ms s h c.0 c.1 site t w.1 w.0 (counter_step site c.1 t ∷ p.0) p.1 e
   none_meets (Some c) site t (inr p) e =
       let item = Field p.0 t p.1 in
-      let w = h.loads (item_step site c.1 item) (step-In ms c.0 (item_step site c.1 item) p.2.0 p.2.1) in step_meets ms s h c.0 c.1 site t w.1 w.0 (item_step site c.1 item ∷ p.2.0) p.2.1 e
+      let w = h.loads (item_step site c.1 item) (step-In ms c.0 (item_step site c.1 item) p.2.0 p.2.1) in
+      step_meets ms s h c.0 c.1 site t w.1 w.0 (item_step site c.1 item ∷ p.2.0) p.2.1 e
 
   module _ (clear : (place : Site) → ¬ HasZeroDivisor ms s place) where
     -- from a public no zero divisor is met
-    public_clear : (c : CounterPlace) (site : Sited) (t : Tree) → MeetsZeroDivisor s c site t → c ≡ None → (q : SitedPublic) → StandsIn q s.publics → q.site ≡ site → q.entry.value ≡ t → ⊥
+    public_clear : (c : CounterPlace) (site : Sited) (t : Tree) → MeetsZeroDivisor s c site t → c ≡ None → (q : SitedPublic) → StandsIn q s.publics
+        → q.site ≡ site → q.entry.value ≡ t → ⊥
     public_clear _ _ _ (itself c site t d) none q a e f =
         let there : has_zero_divisor s q.site None q.entry.value ≡ true = (λ i. has_zero_divisor s (e i) (counter_there s (sym none i)) (f i)) ∙ d in
         clear (sites.Public q.entry.name) (q, a, refl, there)
-    public_clear _ _ _ (through_name c site t p m later) none q a e f = public_clear None p.site p.entry.value later refl p (mentioned-among s site t p m) refl refl
+    public_clear _ _ _ (through_name c site t p m later) none q a e f =
+        public_clear None p.site p.entry.value later refl p (mentioned-among s site t p m) refl refl
     public_clear _ _ _ (through_counter earlier before section n site setter t set m last later) none q a e f = cc
 
     mentioned_clear : (site : Sited) (t : Tree) → (q : SitedPublic) × IsMentionedIn s site t q × MeetsZeroDivisor s None q.site q.entry.value → ⊥
@@ -59,9 +65,11 @@ module _ (ms : List Parts) (s : Setting) (h : HasAllNamed ms s) (flat : s.public
     counter_there_is [] more at section based e = based (mapped_none (λ base. base % s.modulus) (slice_get s.bases section) e)
     counter_there_is (counter_step site other t ∷ earlier) more at section based e =
         by_case (other == section) refl e (counter_there_is earlier (counter_step site other t ∷ more) at section based) where
-          by_case : (b : Bool) → (other == section) ≡ b → (if b then value s site (counter s earlier section) t else counter s earlier section) ≡ None → counter s earlier section ≢ None → ⊥
+          by_case : (b : Bool) → (other == section) ≡ b → (if b then value s site (counter s earlier section) t else counter s earlier section) ≡ None
+              → counter s earlier section ≢ None → ⊥
           by_case true same e later =
-              by_why (why ms s h site (counter s earlier section) t (h.loads (counter_step site other t) (step-In ms earlier (counter_step site other t) more at)).1 e) where
+              by_why (why ms s h site (counter s earlier section) t (h.loads (counter_step site other t)
+              (step-In ms earlier (counter_step site other t) more at)).1 e) where
                 by_why : Why ms s h site (counter s earlier section) t → ⊥
                 by_why (inl p) = later p.2
                 by_why (inr (inl m)) = mentioned_clear site t m
@@ -71,7 +79,8 @@ module _ (ms : List Parts) (s : Setting) (h : HasAllNamed ms s) (flat : s.public
           by_case false same e later = later e
     counter_there_is (item_step site other item ∷ earlier) more at section based e =
         by_case (other == section) e (counter_there_is earlier (item_step site other item ∷ more) at section based) where
-          by_case : (b : Bool) → (if b then option_map (λ pc. (pc + byte_count item) % s.modulus) (counter s earlier section) else counter s earlier section) ≡ None
+          by_case : (b : Bool) → (if b then option_map (λ pc. (pc + byte_count item) % s.modulus) (counter s earlier section)
+              else counter s earlier section) ≡ None
               → counter s earlier section ≢ None → ⊥
           by_case true e later = later (mapped_none (λ pc. (pc + byte_count item) % s.modulus) (counter s earlier section) e)
           by_case false e later = later e
@@ -83,7 +92,8 @@ module _ (ms : List Parts) (s : Setting) (h : HasAllNamed ms s) (flat : s.public
     plain_clear site t (inr (inl p)) d = clear sites.Start ((site, t), p, d)
     plain_clear site t (inr (inr p)) d = clear (sites.Debug p.0) ((site, t), p.1, d)
 
-    field_clear : (earlier : List Step) (section : ℕ) (site : Sited) (kind : FieldKind) (t : Tree) (size : ℕ) → IsStepAfter ms earlier (item_step site section (Field kind t size))
+    field_clear : (earlier : List Step) (section : ℕ) (site : Sited) (kind : FieldKind) (t : Tree) (size : ℕ)
+        → IsStepAfter ms earlier (item_step site section (Field kind t size))
         → has_zero_divisor s site (counter s earlier section) t ≡ true → ⊥
     field_clear earlier section site kind t size at d = by_counter (counter s earlier section) refl d where
       by_counter : (o : Option ℕ) → counter s earlier section ≡ o → has_zero_divisor s site o t ≡ true → ⊥
@@ -99,14 +109,16 @@ module _ (ms : List Parts) (s : Setting) (h : HasAllNamed ms s) (flat : s.public
       by_why (inr (inl m)) = mentioned_clear site t m
       by_why (inr (inr d)) = plain_clear site t at d
     expression_valued (Some c) site t (inl p) e =
-        let w = h.loads (counter_step site c.1 t) (step-In ms c.0 (counter_step site c.1 t) p.0 p.1) in by_why w.0 (why ms s h site (counter s c.0 c.1) t w.1 e) where
+        let w = h.loads (counter_step site c.1 t) (step-In ms c.0 (counter_step site c.1 t) p.0 p.1) in
+        by_why w.0 (why ms s h site (counter s c.0 c.1) t w.1 e) where
           by_why : HasBase s c.1 → Why ms s h site (counter s c.0 c.1) t → ⊥
           by_why based (inl n) = counter_there_is c.0 (counter_step site c.1 t ∷ p.0) p.1 c.1 based n.2
           by_why based (inr (inl m)) = mentioned_clear site t m
           by_why based (inr (inr d)) = clear (sites.Counter c.1) (c.0, site, t, p, d)
     expression_valued (Some c) site t (inr p) e =
         let item = Field p.0 t p.1 in
-        let w = h.loads (item_step site c.1 item) (step-In ms c.0 (item_step site c.1 item) p.2.0 p.2.1) in by_why w.0 (why ms s h site (counter s c.0 c.1) t w.1 e) where
+        let w = h.loads (item_step site c.1 item) (step-In ms c.0 (item_step site c.1 item) p.2.0 p.2.1) in
+        by_why w.0 (why ms s h site (counter s c.0 c.1) t w.1 e) where
           by_why : HasBase s c.1 → Why ms s h site (counter s c.0 c.1) t → ⊥
           by_why based (inl n) = counter_there_is c.0 (item_step site c.1 (Field p.0 t p.1) ∷ p.2.0) p.2.1 c.1 based n.2
           by_why based (inr (inl m)) = mentioned_clear site t m
@@ -115,5 +127,6 @@ module _ (ms : List Parts) (s : Setting) (h : HasAllNamed ms s) (flat : s.public
     pub have_values : HaveValues ms s
     have_values = record {
       expressions = expression_valued;
-      counters = λ earlier step at. counter_there_is earlier (step ∷ at.0) at.1 (section_of step) (step_based s step (h.loads step (step-In ms earlier step at.0 at.1)));
+      counters = λ earlier step at. counter_there_is earlier (step ∷ at.0) at.1 (section_of step)
+          (step_based s step (h.loads step (step-In ms earlier step at.0 at.1)));
     }

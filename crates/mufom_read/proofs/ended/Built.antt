@@ -1,5 +1,6 @@
 -- What a whole prefix states, as the code keeps it.
-use Rattle.std.proofs.Common.{◌≡◌, ℕ, ◌≤◌, nat_le, Bool, true, false, min, List, [], ◌∷◌, ◌++◌, map, filter_map, refl, sym, ap, subst, ◌∙◌, arith, slice_get, Option, Some, None, option_map, option_to_list, ◌+◌, length}
+use Rattle.std.proofs.Common.{◌≡◌, ℕ, ◌≤◌, nat_le, Bool, true, false, min, List, [], ◌∷◌, ◌++◌, map, filter_map, refl, sym, ap, subst, ◌∙◌, arith}
+use Rattle.std.proofs.Common.{slice_get, Option, Some, None, option_map, option_to_list, ◌+◌, length}
 use Rattle.std.specs.Prelude.{unwrap_or}
 use Rattle.std.proofs.lemmas.Bool.{and_parts, leb-true}
 use Rattle.std.specs.List.{cons_option}
@@ -47,7 +48,8 @@ least_units : (n : ℕ) → n ≤ 8 → min n 8 ≡ n
 least_units n h = omega arith
 
 -- the names that the first record gives
-names-first : (begin : SpelledRecord) (ps : List SpelledRecord) (b : IsBegin begin.row) → names_in (begin ∷ ps) ≡ Some (record { processor = text_in begin b.0; name = text_in begin b.1 })
+names-first : (begin : SpelledRecord) (ps : List SpelledRecord) (b : IsBegin begin.row) → names_in (begin ∷ ps)
+    ≡ Some (record { processor = text_in begin b.0; name = text_in begin b.1 })
 names-first begin ps b = (λ k. slice_get (cons_option (names_by begin (b.2 k)) (filter_map (λ p. names_by p p.row) ps)) 0)
 
 -- the layout that the first two records give
@@ -70,10 +72,12 @@ stand_count (w ∷ offsets) at (x ∷ parts) h = let rest = stand_count offsets 
 
 has_header : (reads_debug : Bool) (f : Prefix) (prefix : List Step) → IsPrefixOf f prefix → (s : Sliced reads_debug prefix) → 10 ≤ length prefix
 has_header reads_debug f prefix is s =
-    let eight : length (offsets_of prefix) ≡ 8 = ap length s.offsets ∙ stand_count (offsets_in s.f.offsets) (length (bytes_of (header_of s.f))) (parts_of s.f) s.stand in
+    let eight : length (offsets_of prefix) ≡ 8 = ap length s.offsets
+    ∙ stand_count (offsets_in s.f.offsets) (length (bytes_of (header_of s.f))) (parts_of s.f) s.stand in
     omega (arith, eight, is.count)
 
-stated_of : (reads_debug : Bool) (f : Prefix) (prefix : List Step) (bytes : List ℕ) → IsWhole reads_debug f prefix bytes → (s : Sliced reads_debug prefix) → IsStatedByKept f (stated_by reads_debug prefix s)
+stated_of : (reads_debug : Bool) (f : Prefix) (prefix : List Step) (bytes : List ℕ) → IsWhole reads_debug f prefix bytes
+    → (s : Sliced reads_debug prefix) → IsStatedByKept f (stated_by reads_debug prefix s)
 stated_of reads_debug f prefix bytes is s =
     let kept = is.kept.contents in
     let stated = is_stated reads_debug prefix s in
@@ -81,7 +85,8 @@ stated_of reads_debug f prefix bytes is s =
     let maus = s.describes.1 in
     let ordered = sorted reads_debug prefix s in
     let same = records-placed prefix in
-    let records : records_in (offset_records_of prefix) ≡ all_records (header_of s.f) s.f.sections s.f.externals s.f.debug s.f.loads s.f.trailer s.end = sym same ∙ s.records in
+    let records : records_in (offset_records_of prefix) ≡ all_records (header_of s.f) s.f.sections s.f.externals s.f.debug s.f.loads s.f.trailer
+    s.end = sym same ∙ s.records in
     let quiet = silent-other (header_of s.f) s.silent in
     let sections = others-other section_part refl s.f.sections ordered.sections in
     let externals = others-other external_part refl s.f.externals ordered.externals in
@@ -93,7 +98,8 @@ stated_of reads_debug f prefix bytes is s =
     let counted = units_of s.describes.0 s.describes.1 s.describes.2 (subst (λ (row : Record). is_bad_descriptor row ≡ false) s.describes.3 s.no_bad) in
     let before = ((header_of s.f ++ s.f.sections) ++ s.f.externals) ++ s.f.debug in
     let after = (((s.f.offsets ++ s.f.sections) ++ s.f.externals) ++ s.f.debug) in
-    let given : units_in before ≡ Some maus = ap (option_map (λ (l : Layout). l.maus)) (layout-first s.f.begin s.f.descriptor after s.begins s.describes counted.1) in
+    let given : units_in before ≡ Some maus = ap (option_map (λ (l : Layout). l.maus))
+    (layout-first s.f.begin s.f.descriptor after s.begins s.describes counted.1) in
     let loads : closed (loads_so_far (records_of prefix)) ≡ loads_of (indexes_of s.f) maus s.f.loads =
     ap (λ (ps : List SpelledRecord). closed (loads_so_far ps)) s.records
     ∙ loads-whole maus (indexes_of s.f) before s.f.loads s.f.trailer s.end (other-append ((header_of s.f ++ s.f.sections) ++ s.f.externals) s.f.debug
@@ -106,7 +112,8 @@ stated_of reads_debug f prefix bytes is s =
       extension = stated.extension ∙ sym (is.kept.extension ∙ so-far extension_part prefix many);
       environment = stated.environment ∙ sym (is.kept.environment ∙ so-far environment_part prefix many);
       sections = stated.sections ∙ ap sections_of same ∙ sym kept.sections.list;
-      publics = stated.publics ∙ (λ k. publics_of (all_ix k) (same k)) ∙ publics-placed (indexes_by f.tables) (records_in (offset_records_of prefix)) ∙ ap (map (placed_public (indexes_by f.tables))) (sym kept.publics.list);
+      publics = stated.publics ∙ (λ k. publics_of (all_ix k) (same k)) ∙ publics-placed (indexes_by f.tables) (records_in (offset_records_of prefix))
+          ∙ ap (map (placed_public (indexes_by f.tables))) (sym kept.publics.list);
       references = stated.references ∙ ap references_of same ∙ sym kept.references;
       debug = debug-kept reads_debug f prefix is.kept s;
       loads = its.loads ∙ sym (ap closed (kept.loads ∙ ap loads_so_far (sym same)) ∙ loads);
@@ -114,12 +121,14 @@ stated_of reads_debug f prefix bytes is s =
           ∙ sym (kept.start ∙ ap start_so_far (sym same) ∙ start-whole (records_of prefix) is.kept.follow);
     }
 
-sliced-stated : (reads_debug : Bool) (f : Prefix) (prefix : List Step) (bytes : List ℕ) → IsWhole reads_debug f prefix bytes → (s : Sliced reads_debug prefix) → SpellsModule (stated_by reads_debug prefix s) bytes reads_debug
+sliced-stated : (reads_debug : Bool) (f : Prefix) (prefix : List Step) (bytes : List ℕ) → IsWhole reads_debug f prefix bytes
+    → (s : Sliced reads_debug prefix) → SpellsModule (stated_by reads_debug prefix s) bytes reads_debug
     → (m : Parts) × SpellsModule m bytes reads_debug × IsStatedByKept f m
 sliced-stated reads_debug f prefix bytes is s spells = (stated_by reads_debug prefix s, spells, stated_of reads_debug f prefix bytes is s)
 
 -- a whole prefix is the file of a module, which the records and the bytes state
-pub whole-stated : (reads_debug : Bool) (f : Prefix) (prefix : List Step) (bytes : List ℕ) → IsWhole reads_debug f prefix bytes → (m : Parts) × SpellsModule m bytes reads_debug × IsStatedByKept f m
+pub whole-stated : (reads_debug : Bool) (f : Prefix) (prefix : List Step) (bytes : List ℕ) → IsWhole reads_debug f prefix bytes → (m : Parts)
+    × SpellsModule m bytes reads_debug × IsStatedByKept f m
 whole-stated reads_debug f prefix bytes is =
     let both = ended_sliced files_weigh reads_debug prefix bytes is.fits is.limit is.sound is.ends is.all in
     sliced-stated reads_debug f prefix bytes is both.0 both.1
@@ -127,9 +136,12 @@ whole-stated reads_debug f prefix bytes is =
 -- ---- all parts
 
 -- parts that are as the code keeps them are those of the module
-pub the-parts : (f : Prefix) (m p : Parts) (names : Names) (layout : Layout) → IsStatedByKept f m → f.contents.header ≡ record { names = Some names; layout = Some layout }
-    → p.processor ≡ names.processor → p.name ≡ names.name → p.maus ≡ layout.maus → p.order ≡ layout.order → p.ext ≡ f.extension.items → p.env ≡ f.environment.items
-    → p.sections ≡ f.contents.sections.list.items → p.names.publics ≡ map (placed_public (indexes_by f.tables)) f.contents.publics.list.items → p.names.references ≡ f.contents.references.items
+pub the-parts : (f : Prefix) (m p : Parts) (names : Names) (layout : Layout) → IsStatedByKept f m → f.contents.header
+    ≡ record { names = Some names; layout = Some layout }
+    → p.processor ≡ names.processor → p.name ≡ names.name → p.maus ≡ layout.maus → p.order ≡ layout.order → p.ext ≡ f.extension.items → p.env
+    ≡ f.environment.items
+    → p.sections ≡ f.contents.sections.list.items → p.names.publics ≡ map (placed_public (indexes_by f.tables)) f.contents.publics.list.items
+    → p.names.references ≡ f.contents.references.items
     → p.debug ≡ f.contents.debug.items → p.loads ≡ closed f.contents.loads → p.start ≡ f.contents.start → p ≡ m
 the-parts f m p names layout stated header processor name maus order ext env sections publics references debug loads start =
     let its_names : Some names ≡ Some (record { processor = m.processor; name = m.name }) = sym (ap (λ (h : Header). h.names) header) ∙ stated.names in
@@ -163,5 +175,6 @@ the-parts f m p names layout stated header processor name maus order ext env sec
     })
 
 -- the header of a whole prefix has its names and its layout
-pub header-whole : (f : Prefix) (m : Parts) → IsStatedByKept f m → f.contents.header ≡ record { names = Some (record { processor = m.processor; name = m.name }); layout = Some (record { maus = m.maus; order = m.order }) }
+pub header-whole : (f : Prefix) (m : Parts) → IsStatedByKept f m → f.contents.header
+    ≡ record { names = Some (record { processor = m.processor; name = m.name }); layout = Some (record { maus = m.maus; order = m.order }) }
 header-whole f m stated = (λ k. record { names = stated.names k; layout = stated.layout k })

@@ -1,5 +1,7 @@
 -- All parts of a walk, one after another, and the record that ends the module after them.
-use Rattle.std.proofs.Common.{◌≡◌, ◌⊎◌, ℕ, zero, suc, ◌+◌, ◌-◌, ◌<◌, ◌≤◌, Bool, true, false, cond, not, ◌==◌, ◌&&◌, nat_lt, nat_le, List, [], ◌∷◌, ◌++◌, length, Option, Some, None, refl, sym, ap, subst, ◌∙◌, inl, inr, arith, append-nil, ltb-false, length-append, eq-eqb, ne_eqb, lt-ltb, le-ltb, le-leb}
+use Rattle.std.proofs.Common.{◌≡◌, ◌⊎◌, ℕ, zero, suc, ◌+◌, ◌-◌, ◌<◌, ◌≤◌, Bool, true, false, cond, not, ◌==◌, ◌&&◌, nat_lt, nat_le, List, [], ◌∷◌}
+use Rattle.std.proofs.Common.{◌++◌, length, Option, Some, None, refl, sym, ap, subst, ◌∙◌, inl, inr, arith, append-nil, ltb-false, length-append}
+use Rattle.std.proofs.Common.{eq-eqb, ne_eqb, lt-ltb, le-ltb, le-leb}
 use Rattle.std.specs.List.{list_all, list_any, AllByRecursion}
 use Rattle.std.proofs.lemmas.Bool.{and_parts, or_parts, not-false, not-true, both_ways, cases_eq, cases_lt, not_from_false, true≢false}
 use Rattle.mufom_records.specs.declared.record.Mode.TheVariants as mode
@@ -9,7 +11,8 @@ use Rattle.mufom_records.specs.Fields.{first_of}
 use Rattle.mufom_records.specs.Layouts.{IsWholeRecord}
 use Rattle.mufom_module.specs.SpelledRecords.{SpelledRecord}
 use Rattle.mufom_module.specs.RecordParts.{Part, end_part, number_of, stands_in}
-use Rattle.mufom_read.specs.Prefixes.{Step, read, step_bytes, prefix_bytes, size_of, records_of, offsets_of, Extent, Location, at_end, part_among, parts_in_order, first_present, part_at, location_by, location_after, is_module_end, is_ended}
+use Rattle.mufom_read.specs.Prefixes.{Step, read, step_bytes, prefix_bytes, size_of, records_of, offsets_of, Extent, Location, at_end, part_among}
+use Rattle.mufom_read.specs.Prefixes.{parts_in_order, first_present, part_at, location_by, location_after, is_module_end, is_ended}
 use Rattle.mufom_read.specs.Faults.{is_out_of_order, record_fault, step_fault, whole_fault, ended_fault, ended_part_fault}
 use Rattle.mufom_read.proofs.ended.Walk.{size-append, IsNextAt, IsWalk, taken}
 use Rattle.mufom_read.proofs.ended.Header.{ended-read, offsets-append, no_fault_if, read_here, after_header, InOrder}
@@ -47,7 +50,8 @@ last_present earlier count h =
     let parts = or_parts (not (0 == 0) && list_any (λ e. nat_lt 0 e) earlier) ((length earlier == 7) && (0 == 0)) h in
     both-false (length earlier == 7) (0 == 0) (eq-eqb (length earlier) 7 count) refl parts.1
 
-bounded : (earlier offsets : List ℕ) → InOrder earlier offsets → length earlier + length offsets ≡ 8 → 1 ≤ length offsets → AllByRecursion (λ e. e ≤ first_present offsets) earlier
+bounded : (earlier offsets : List ℕ) → InOrder earlier offsets → length earlier + length offsets ≡ 8 → 1 ≤ length offsets
+    → AllByRecursion (λ e. e ≤ first_present offsets) earlier
 bounded earlier [] order count some = absurd (omega arith)
 bounded earlier (zero ∷ []) order count some = absurd (last_present earlier (omega arith) order.0)
 bounded earlier (zero ∷ w ∷ offsets) order count some =
@@ -77,7 +81,8 @@ pub record EndsThere (before : List Step) (offsets : List ℕ) (steps : List Ste
 abbrev pub Chunks : Bool → List Part → List ℕ → List Step → List Step → Type 0
 Chunks reads_debug [] offsets before steps = EndsThere before offsets steps
 Chunks reads_debug (part ∷ parts) [] before steps = ⊥
-Chunks reads_debug (part ∷ parts) (w ∷ offsets) before steps = (c : Chunk reads_debug part w (first_present offsets) before steps) × Chunks reads_debug parts offsets (before ++ c.cut.own) c.cut.later
+Chunks reads_debug (part ∷ parts) (w ∷ offsets) before steps = (c : Chunk reads_debug part w (first_present offsets) before steps)
+    × Chunks reads_debug parts offsets (before ++ c.cut.own) c.cut.later
 
 -- what holds where a part begins
 record Begun (reads_debug : Bool) (all : List ℕ) (parts : List Part) (earlier offsets : List ℕ) (before steps : List Step) : Type 0 where
@@ -99,7 +104,8 @@ pub is_end : (row : Record) → stands_in end_part row ≡ true → is_module_en
 is_end r.ModuleEnd h = refl
 is_end row h = cc
 
-end_offset : (earlier offsets : List ℕ) (n : ℕ) → length offsets ≡ 1 → length earlier + length offsets ≡ 8 → InOrder earlier offsets → n ≡ first_present offsets → offsets ≡ n ∷ []
+end_offset : (earlier offsets : List ℕ) (n : ℕ) → length offsets ≡ 1 → length earlier + length offsets ≡ 8 → InOrder earlier offsets → n
+    ≡ first_present offsets → offsets ≡ n ∷ []
 end_offset earlier [] n count eight order here = absurd (omega arith)
 end_offset earlier (zero ∷ []) n count eight order here = absurd (last_present earlier (omega arith) order.0)
 end_offset earlier (suc w ∷ []) n count eight order here = ap (λ (k : ℕ). k ∷ []) (sym here)
@@ -109,19 +115,25 @@ nothing_after : (reads_debug : Bool) (prefix steps : List Step) → is_ended pre
 nothing_after reads_debug prefix [] ends walk = refl
 nothing_after reads_debug prefix (s ∷ steps) ends walk = absurd (both_ways (is_ended prefix) walk.0 ends)
 
-the_end : (reads_debug : Bool) (all earlier offsets : List ℕ) (before steps : List Step) → Begun reads_debug all [] earlier offsets before steps → EndsThere before offsets steps
-the_end reads_debug all earlier offsets before [] begun = absurd (both_ways (is_ended before) begun.unended (ap (λ l. is_ended l) (sym (append-nil before)) ∙ begun.ends))
+the_end : (reads_debug : Bool) (all earlier offsets : List ℕ) (before steps : List Step) → Begun reads_debug all [] earlier offsets before steps
+    → EndsThere before offsets steps
+the_end reads_debug all earlier offsets before [] begun = absurd
+    (both_ways (is_ended before) begun.unended (ap (λ l. is_ended l) (sym (append-nil before)) ∙ begun.ends))
 the_end reads_debug all earlier offsets before (step ∷ steps) begun =
     let start = size_of before in
     let none : part_among [] offsets start ≡ None = refl in
-    let fault_offset : location_after before ≡ at_end = after_header before begun.many ∙ ap (λ ws. location_by (part_among parts_in_order ws start)) begun.offsets_are ∙ ap location_by (begun.offsets_named start (omega arith)) in
-    let here = read_here mode.Body before step steps (subst (λ (p : Location). IsNextAt reads_debug before p (prefix_bytes (step ∷ steps)) step (length (step_bytes step))) fault_offset begun.walk.3) in
+    let fault_offset : location_after before ≡ at_end = after_header before begun.many
+    ∙ ap (λ ws. location_by (part_among parts_in_order ws start)) begun.offsets_are ∙ ap location_by (begun.offsets_named start (omega arith)) in
+    let here = read_here mode.Body before step steps (subst (λ (p : Location). IsNextAt reads_debug before p (prefix_bytes (step ∷ steps)) step
+    (length (step_bytes step))) fault_offset begun.walk.3) in
     let p = here.spelled in
-    let fault : step_fault before (taken (read start p) (length p.bytes)) ≡ None = subst (λ (s : Step). step_fault before (taken s (length (step_bytes s))) ≡ None) here.is_this begun.walk.2 in
+    let fault : step_fault before (taken (read start p) (length p.bytes)) ≡ None =
+    subst (λ (s : Step). step_fault before (taken s (length (step_bytes s))) ≡ None) here.is_this begun.walk.2 in
     let at_it : record_fault before at_end start p ≡ None = subst (λ (q : Location). record_fault before q start p ≡ None) fault_offset fault in
     let own = not-false (stands_in end_part p.row) (no_fault_if (not (stands_in end_part p.row)) start _ at_it) in
     let ended : is_ended (before ++ read start p ∷ []) ≡ true = ended-read before start p ∙ is_end p.row own in
-    let last = nothing_after reads_debug (before ++ read start p ∷ []) steps ended (subst (λ (s : Step). IsWalk reads_debug (before ++ s ∷ []) steps) here.is_this begun.walk.4) in
+    let last = nothing_after reads_debug (before ++ read start p ∷ []) steps ended
+    (subst (λ (s : Step). IsWalk reads_debug (before ++ s ∷ []) steps) here.is_this begun.walk.4) in
     record {
       offset = end_offset earlier offsets start begun.count begun.eight begun.order begun.here;
       spelled = p;
@@ -154,7 +166,8 @@ is_after w at to high = last_false (not (w == 0)) (nat_le w at) (nat_lt at to) (
   last_false false y z h = refl
 
 -- the fault of a part that ends where a prefix does, and is not empty
-pub whole_of : (part : Part) (from to : ℕ) (all : List ℕ) (prefix : List Step) → AllInside part from to all → offsets_of prefix ≡ all → size_of prefix ≡ to → from < to → ended_part_fault prefix ≡ None → whole_fault part prefix ≡ None
+pub whole_of : (part : Part) (from to : ℕ) (all : List ℕ) (prefix : List Step) → AllInside part from to all → offsets_of prefix ≡ all → size_of prefix
+    ≡ to → from < to → ended_part_fault prefix ≡ None → whole_fault part prefix ≡ None
 whole_of part from to all prefix within offsets size some h =
     let fault_offset : part_at prefix (size_of prefix - 1) ≡ Some (record { part = part; from = from; to = to }) =
     ap (λ ws. part_among parts_in_order ws (size_of prefix - 1)) offsets ∙ within (size_of prefix - 1) (omega arith) (omega arith) in
@@ -162,11 +175,13 @@ whole_of part from to all prefix within offsets size some h =
     subst (λ (b : Bool). cond b (whole_fault part prefix) None ≡ None) (eq-eqb to (size_of prefix) (sym size)) fault
 
 -- the steps after a prefix that has not ended
-pub no_whole_fault : (reads_debug : Bool) (prefix later : List Step) → is_ended prefix ≡ false → is_ended (prefix ++ later) ≡ true → IsWalk reads_debug prefix later → ended_part_fault prefix ≡ None
+pub no_whole_fault : (reads_debug : Bool) (prefix later : List Step) → is_ended prefix ≡ false → is_ended (prefix ++ later) ≡ true
+    → IsWalk reads_debug prefix later → ended_part_fault prefix ≡ None
 no_whole_fault reads_debug prefix [] open_ ends walk = absurd (both_ways (is_ended prefix) open_ (ap (λ l. is_ended l) (sym (append-nil prefix)) ∙ ends))
 no_whole_fault reads_debug prefix (s ∷ later) open_ ends walk = walk.1
 
-empty_chunk : (reads_debug : Bool) (part : Part) (w to : ℕ) (before steps : List Step) → size_of before ≡ to → ((w ≡ size_of before) × (w ≡ 0 → ⊥)) ⊎ (w ≡ 0) → is_ended before ≡ false → is_ended (before ++ steps) ≡ true → IsWalk reads_debug before steps
+empty_chunk : (reads_debug : Bool) (part : Part) (w to : ℕ) (before steps : List Step) → size_of before ≡ to → ((w ≡ size_of before) × (w ≡ 0 → ⊥))
+    ⊎ (w ≡ 0) → is_ended before ≡ false → is_ended (before ++ steps) ≡ true → IsWalk reads_debug before steps
     → Chunk reads_debug part w to before steps
 empty_chunk reads_debug part w to before steps size stands open_ ends walk =
     let same = append-nil before in
@@ -186,8 +201,10 @@ empty_chunk reads_debug part w to before steps size stands open_ ends walk =
       faultless = inl refl;
     }
 
-full_chunk : (reads_debug : Bool) (part : Part) (w to : ℕ) (all : List ℕ) (before steps : List Step) → AllInside part w to all → (number_of part == 7) ≡ false → w ≡ size_of before → (w ≡ 0 → ⊥) → w < to
-    → 10 ≤ length before → offsets_of before ≡ all → is_ended before ≡ false → is_ended (before ++ steps) ≡ true → IsWalk reads_debug before steps → Chunk reads_debug part w to before steps
+full_chunk : (reads_debug : Bool) (part : Part) (w to : ℕ) (all : List ℕ) (before steps : List Step) → AllInside part w to all → (number_of part == 7)
+    ≡ false → w ≡ size_of before → (w ≡ 0 → ⊥) → w < to
+    → 10 ≤ length before → offsets_of before ≡ all → is_ended before ≡ false → is_ended (before ++ steps) ≡ true → IsWalk reads_debug before steps
+    → Chunk reads_debug part w to before steps
 full_chunk reads_debug part w to all before steps within other here present some many offsets open_ ends walk =
     let test : (size_of before == w) ≡ true = eq-eqb (size_of before) w (sym here) in
     let ready : Ready reads_debug w to all false before steps = record {
@@ -205,23 +222,29 @@ full_chunk reads_debug part w to all before steps within other here present some
     record {
       cut = cut;
       stands = inl (here, present);
-      faultless = inr (whole_of part w to all (before ++ cut.own) within grown cut.size some (no_whole_fault reads_debug (before ++ cut.own) cut.later cut.unended cut.ends cut.walk));
+      faultless = inr (whole_of part w to all (before ++ cut.own) within grown cut.size some
+          (no_whole_fault reads_debug (before ++ cut.own) cut.later cut.unended cut.ends cut.walk));
     }
 
 -- ---- all parts
 
-chunk_of : (reads_debug : Bool) (all : List ℕ) (part : Part) (parts : List Part) (earlier : List ℕ) (w : ℕ) (offsets : List ℕ) (before steps : List Step) → Begun reads_debug all (part ∷ parts) earlier (w ∷ offsets) before steps
+chunk_of : (reads_debug : Bool) (all : List ℕ) (part : Part) (parts : List Part) (earlier : List ℕ) (w : ℕ) (offsets : List ℕ)
+    (before steps : List Step) → Begun reads_debug all (part ∷ parts) earlier (w ∷ offsets) before steps
     → Chunk reads_debug part w (first_present offsets) before steps
-chunk_of reads_debug all part parts earlier zero offsets before steps begun = empty_chunk reads_debug part 0 (first_present offsets) before steps begun.here (inr refl) begun.unended begun.ends begun.walk
+chunk_of reads_debug all part parts earlier zero offsets before steps begun =
+    empty_chunk reads_debug part 0 (first_present offsets) before steps begun.here (inr refl) begun.unended begun.ends begun.walk
 chunk_of reads_debug all part parts earlier (suc v) offsets before steps begun =
     let to = first_present offsets in
     let long = length-append earlier (suc v ∷ []) in
-    let low : suc v ≤ to = all_last (λ e. e ≤ to) earlier (suc v) (bounded (earlier ++ suc v ∷ []) offsets begun.order.1 (omega (arith, begun.eight)) (omega (arith, begun.count))) in
+    let low : suc v ≤ to = all_last (λ e. e ≤ to) earlier (suc v)
+    (bounded (earlier ++ suc v ∷ []) offsets begun.order.1 (omega (arith, begun.eight)) (omega (arith, begun.count))) in
     let within : AllInside part (suc v) to all = λ at x y. begun.offsets_named at (omega (arith, begun.here))
     ∙ ap (λ b. cond b (Some (record { part = part; from = suc v; to = to })) (part_among parts offsets at)) (is_within (suc v) at to (λ h. omega arith) x y) in
     elim (cases_eq (suc v) to) [
-      | inl same ↦ empty_chunk reads_debug part (suc v) to before steps (begun.here ∙ same) (inl (sym begun.here, λ h. omega arith)) begun.unended begun.ends begun.walk
-      | inr not_same ↦ full_chunk reads_debug part (suc v) to all before steps within (not-true (number_of part == 7) (and_parts _ _ begun.own).0) (sym begun.here) (λ h. omega arith) (below_from (suc v) to not_same low)
+      | inl same ↦ empty_chunk reads_debug part (suc v) to before steps (begun.here
+          ∙ same) (inl (sym begun.here, λ h. omega arith)) begun.unended begun.ends begun.walk
+      | inr not_same ↦ full_chunk reads_debug part (suc v) to all before steps within (not-true (number_of part == 7) (and_parts _ _ begun.own).0)
+          (sym begun.here) (λ h. omega arith) (below_from (suc v) to not_same low)
           begun.many begun.offsets_are begun.unended begun.ends begun.walk
     ]
   where
@@ -232,10 +255,13 @@ later_places : (all : List ℕ) (part : Part) (parts : List Part) (w : ℕ) (off
     → ((at : ℕ) → low ≤ at → part_among parts_in_order all at ≡ part_among (part ∷ parts) (w ∷ offsets) at)
     → (at : ℕ) → size ≤ at → part_among parts_in_order all at ≡ part_among parts offsets at
 later_places all part parts w offsets low size more here offsets_named at high =
-    offsets_named at (omega arith) ∙ ap (λ b. cond b (Some (record { part = part; from = w; to = first_present offsets })) (part_among parts offsets at)) (is_after w at (first_present offsets) (omega arith))
+    offsets_named at (omega arith) ∙ ap (λ b. cond b (Some (record { part = part; from = w; to = first_present offsets }))
+    (part_among parts offsets at)) (is_after w at (first_present offsets) (omega arith))
 
-next_begun : (reads_debug : Bool) (all : List ℕ) (part : Part) (parts : List Part) (earlier : List ℕ) (w : ℕ) (offsets : List ℕ) (before steps : List Step) → Begun reads_debug all (part ∷ parts) earlier (w ∷ offsets) before steps
-    → (c : Chunk reads_debug part w (first_present offsets) before steps) → Begun reads_debug all parts (earlier ++ w ∷ []) offsets (before ++ c.cut.own) c.cut.later
+next_begun : (reads_debug : Bool) (all : List ℕ) (part : Part) (parts : List Part) (earlier : List ℕ) (w : ℕ) (offsets : List ℕ)
+    (before steps : List Step) → Begun reads_debug all (part ∷ parts) earlier (w ∷ offsets) before steps
+    → (c : Chunk reads_debug part w (first_present offsets) before steps)
+    → Begun reads_debug all parts (earlier ++ w ∷ []) offsets (before ++ c.cut.own) c.cut.later
 next_begun reads_debug all part parts earlier w offsets before steps begun c =
     let longer : size_of (before ++ c.cut.own) ≡ size_of before + size_of c.cut.own = size-append before c.cut.own in
     record {
@@ -252,26 +278,32 @@ next_begun reads_debug all part parts earlier w offsets before steps begun c =
       walk = c.cut.walk;
     }
 
-walk_parts : (reads_debug : Bool) (all : List ℕ) (parts : List Part) (earlier offsets : List ℕ) (before steps : List Step) → Begun reads_debug all parts earlier offsets before steps → Chunks reads_debug parts offsets before steps
+walk_parts : (reads_debug : Bool) (all : List ℕ) (parts : List Part) (earlier offsets : List ℕ) (before steps : List Step)
+    → Begun reads_debug all parts earlier offsets before steps → Chunks reads_debug parts offsets before steps
 walk_parts reads_debug all [] earlier offsets before steps begun = the_end reads_debug all earlier offsets before steps begun
 walk_parts reads_debug all (part ∷ parts) earlier [] before steps begun = absurd (omega (arith, begun.count))
 walk_parts reads_debug all (part ∷ parts) earlier (w ∷ offsets) before steps begun =
-    let c = chunk_of reads_debug all part parts earlier w offsets before steps begun in
-    (c, walk_parts reads_debug all parts (earlier ++ w ∷ []) offsets (before ++ c.cut.own) c.cut.later (next_begun reads_debug all part parts earlier w offsets before steps begun c))
+    let c = chunk_of reads_debug all part parts earlier w offsets before steps begun in (
+      c,
+      walk_parts reads_debug all parts (earlier ++ w ∷ []) offsets (before
+          ++ c.cut.own) c.cut.later (next_begun reads_debug all part parts earlier w offsets before steps begun c),
+    )
 
 -- after the header
-pub chunks_of : (reads_debug : Bool) (offsets : List ℕ) (before steps : List Step) → length offsets ≡ 8 → InOrder [] offsets → size_of before ≡ first_present offsets → 10 ≤ length before → offsets_of before ≡ offsets
+pub chunks_of : (reads_debug : Bool) (offsets : List ℕ) (before steps : List Step) → length offsets ≡ 8 → InOrder [] offsets → size_of before
+    ≡ first_present offsets → 10 ≤ length before → offsets_of before ≡ offsets
     → is_ended before ≡ false → is_ended (before ++ steps) ≡ true → IsWalk reads_debug before steps → Chunks reads_debug parts_in_order offsets before steps
-chunks_of reads_debug offsets before steps count order here many are open_ ends walk = walk_parts reads_debug offsets parts_in_order [] offsets before steps (record {
-  count = count;
-  own = refl;
-  order = order;
-  eight = omega arith;
-  offsets_named = λ at _. refl;
-  here = here;
-  many = many;
-  offsets_are = are;
-  unended = open_;
-  ends = ends;
-  walk = walk;
-})
+chunks_of reads_debug offsets before steps count order here many are open_ ends walk =
+    walk_parts reads_debug offsets parts_in_order [] offsets before steps (record {
+      count = count;
+      own = refl;
+      order = order;
+      eight = omega arith;
+      offsets_named = λ at _. refl;
+      here = here;
+      many = many;
+      offsets_are = are;
+      unended = open_;
+      ends = ends;
+      walk = walk;
+    })

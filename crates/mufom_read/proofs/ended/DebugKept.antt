@@ -39,10 +39,12 @@ same_marks : (a b : List DebugItem) (all : List DebugMark) → marks_of a ≡ al
 same_marks a b all first second = same_items a b (first ∙ sym second)
 
 -- the debug items that are kept are those of the module
-pub debug-kept : (reads_debug : Bool) (f : Prefix) (prefix : List Step) → IsPrefixOf f prefix → (s : Sliced reads_debug prefix) → (stated_by reads_debug prefix s).debug ≡ f.contents.debug.items
+pub debug-kept : (reads_debug : Bool) (f : Prefix) (prefix : List Step) → IsPrefixOf f prefix → (s : Sliced reads_debug prefix)
+    → (stated_by reads_debug prefix s).debug ≡ f.contents.debug.items
 debug-kept reads_debug f prefix is s =
     let all = records_of prefix in
-    let opened_none : kinds_of (opened f.contents.debug) ≡ [] = ap (λ (l : List OpenBlock). kinds_of l) is.contents.debug.blocks ∙ kinds-open prefix ∙ all-closed reads_debug prefix s in
+    let opened_none : kinds_of (opened f.contents.debug) ≡ [] = ap (λ (l : List OpenBlock). kinds_of l) is.contents.debug.blocks ∙ kinds-open prefix
+    ∙ all-closed reads_debug prefix s in
     let none : f.contents.debug.blocks ≡ [] = stacked-none f.contents.debug.blocks (no_kinds (opened f.contents.debug) opened_none) in
     let kept : marks_of f.contents.debug.items ≡ marks (indexes_in all) all =
     ap (λ (l : List code.OpenBlock). joined (map marks_to_block l) ++ marks_of f.contents.debug.items) (sym none)

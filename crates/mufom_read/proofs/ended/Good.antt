@@ -1,5 +1,6 @@
 -- What a record of an ended prefix brings to a module without a defect.
-use Rattle.std.proofs.Common.{◌≡◌, ℕ, ◌+◌, ◌-◌, ◌<◌, Bool, true, false, cond, ◌==◌, ◌&&◌, nat_lt, List, [], ◌∷◌, ◌++◌, length, drop, slice_get, Option, Some, None, IfSome, unwrap_or, refl, sym, ap, subst, ◌∙◌, arith, append_assoc, length-take, filter_map}
+use Rattle.std.proofs.Common.{◌≡◌, ℕ, ◌+◌, ◌-◌, ◌<◌, Bool, true, false, cond, ◌==◌, ◌&&◌, nat_lt, List, [], ◌∷◌, ◌++◌, length, drop, slice_get}
+use Rattle.std.proofs.Common.{Option, Some, None, IfSome, unwrap_or, refl, sym, ap, subst, ◌∙◌, arith, append_assoc, length-take, filter_map}
 use Rattle.std.specs.List.{list_all, list_any, cons_option, AllByRecursion}
 use Rattle.std.proofs.lemmas.Bool.{and_parts, or_from}
 use Rattle.mufom_numbers.specs.declared.taken.Span.{Span}
@@ -11,7 +12,8 @@ use Rattle.mufom_records.specs.Layouts.{IsWholeRecord}
 use Rattle.mufom_module.specs.declared.module.Parts.{Parts}
 use Rattle.mufom_module.specs.Contents.{any_of}
 use Rattle.mufom_module.specs.Defects.{is_long, counts_of, names_outside, has_other_counter}
-use Rattle.mufom_module.specs.SpelledRecords.{SpelledRecord, bytes_of, text_in, section, named_by, expression_of, tree_in, is_public_value, position_in, positioned}
+use Rattle.mufom_module.specs.SpelledRecords.{SpelledRecord, bytes_of, text_in, section, named_by, expression_of, tree_in, is_public_value}
+use Rattle.mufom_module.specs.SpelledRecords.{position_in, positioned}
 use Rattle.mufom_module.specs.RecordParts.{Part, number_of, stands_in, opens_items, begins_item}
 use Rattle.mufom_module.specs.Gathered.{for_index}
 use Rattle.mufom_module.specs.Grammar.{AreWhole, has_no_section, names_unknown}
@@ -20,7 +22,8 @@ use Rattle.mufom_read.specs.Faults.{counter_allowed}
 use Rattle.mufom_read.specs.Stated.{indexes_in}
 use Rattle.mufom_read.proofs.ended.Rows.{IsShort, body_short, items_short}
 use Rattle.mufom_read.proofs.ended.Parts.{IsKept, KeptFrom, own_of, not_end}
-use Rattle.mufom_read.proofs.ended.Trees.{IsKnown, AreCounts, inside, placed_section, own_counter, known-append, named_known, tree_known, tree_counter, declared_below}
+use Rattle.mufom_read.proofs.ended.Trees.{IsKnown, AreCounts, inside, placed_section, own_counter, known-append, named_known, tree_known}
+use Rattle.mufom_read.proofs.ended.Trees.{tree_counter, declared_below}
 
 -- ---- trees
 
@@ -29,8 +32,10 @@ pub record IsGoodTree (m : Parts) (ix : Indexes) (allowed : Option ℕ) (tree : 
   pub inside : names_outside (counts_of m) (positioned ix tree) ≡ false
   pub counter : has_other_counter (placed_section ix allowed) (positioned ix tree) ≡ false
 
-pub good_tree : (m : Parts) (all : List SpelledRecord) (ix : Indexes) → indexes_in all ≡ ix → AreCounts m (indexes_in all) → (allowed : Option ℕ) (tree : Tree) → IsKnown all tree → has_other_counter allowed tree ≡ false → IsGoodTree m ix allowed tree
-good_tree m all ix same are allowed tree known counter = subst (λ (it : Indexes). IsGoodTree m it allowed tree) same (record { inside = inside all m tree are known; counter = own_counter (indexes_in all) allowed tree counter })
+pub good_tree : (m : Parts) (all : List SpelledRecord) (ix : Indexes) → indexes_in all ≡ ix → AreCounts m (indexes_in all)
+    → (allowed : Option ℕ) (tree : Tree) → IsKnown all tree → has_other_counter allowed tree ≡ false → IsGoodTree m ix allowed tree
+good_tree m all ix same are allowed tree known counter = subst (λ (it : Indexes). IsGoodTree m it allowed tree) same
+    (record { inside = inside all m tree are known; counter = own_counter (indexes_in all) allowed tree counter })
 
 -- ---- records
 
@@ -45,33 +50,42 @@ abbrev pub GoodFrom : Parts → Indexes → List SpelledRecord → List SpelledR
 GoodFrom m ix before [] = Unit {0}
 GoodFrom m ix before (p ∷ records) = IsGood m ix before p × GoodFrom m ix (before ++ p ∷ []) records
 
-short_here : (test : Bool) (p : SpelledRecord) (after : List ℕ) → is_module_end p.row ≡ false → IsWholeRecord (cond test mode.Items mode.Body) p.row p.bytes (first_of after None) → IsShort p.row
+short_here : (test : Bool) (p : SpelledRecord) (after : List ℕ) → is_module_end p.row ≡ false
+    → IsWholeRecord (cond test mode.Items mode.Body) p.row p.bytes (first_of after None) → IsShort p.row
 short_here false p after other is = body_short p.row p.bytes (first_of after None) other is
 short_here true p after other is = items_short p.row p.bytes (first_of after None) is
 
 -- whole records of a part are short
-pub part_short : (part : Part) (items : Bool) (records : List SpelledRecord) (after : List ℕ) → (number_of part == 7) ≡ false → list_all (λ p. stands_in part p.row) records ≡ true → AreWhole items records after → AllByRecursion (λ p. IsShort p.row) records
+pub part_short : (part : Part) (items : Bool) (records : List SpelledRecord) (after : List ℕ) → (number_of part == 7) ≡ false
+    → list_all (λ p. stands_in part p.row) records ≡ true → AreWhole items records after → AllByRecursion (λ p. IsShort p.row) records
 part_short part items [] after other own are = tt
 part_short part items (p ∷ records) after other own are =
-    let both = and_parts (stands_in part p.row) _ own in
-    (short_here (items && begins_item p.bytes) p (bytes_of records ++ after) (not_end part p.row other both.0) are.0, part_short part (opens_items p.row) records after other both.1 are.1)
+    let both = and_parts (stands_in part p.row) _ own in (
+      short_here (items && begins_item p.bytes) p (bytes_of records ++ after) (not_end part p.row other both.0) are.0,
+      part_short part (opens_items p.row) records after other both.1 are.1,
+    )
 
 -- the records of a part are short
-pub all_short : (part : Part) (before : List SpelledRecord) (items : Bool) (records : List SpelledRecord) (after : List ℕ) → (number_of part == 7) ≡ false → KeptFrom part before records → AreWhole items records after → AllByRecursion (λ p. IsShort p.row) records
+pub all_short : (part : Part) (before : List SpelledRecord) (items : Bool) (records : List SpelledRecord) (after : List ℕ) → (number_of part == 7)
+    ≡ false → KeptFrom part before records → AreWhole items records after → AllByRecursion (λ p. IsShort p.row) records
 all_short part before items records after other own are = part_short part items records after other (own_of part before records own) are
 
-good : (m : Parts) (all : List SpelledRecord) (ix : Indexes) → indexes_in all ≡ ix → AreCounts m (indexes_in all) → (before after : List SpelledRecord) (p : SpelledRecord) → before ++ p ∷ after ≡ all → IsShort p.row → IsKept before p → IsGood m ix before p
+good : (m : Parts) (all : List SpelledRecord) (ix : Indexes) → indexes_in all ≡ ix → AreCounts m (indexes_in all)
+    → (before after : List SpelledRecord) (p : SpelledRecord) → before ++ p ∷ after ≡ all → IsShort p.row → IsKept before p → IsGood m ix before p
 good m all ix same are before after p whole short keeps =
-    let known : names_unknown all p ≡ false = subst (λ (l : List SpelledRecord). names_unknown l p ≡ false) whole (known-append before (p ∷ after) p keeps.known) in
+    let known : names_unknown all p ≡ false = subst (λ (l : List SpelledRecord). names_unknown l p
+    ≡ false) whole (known-append before (p ∷ after) p keeps.known) in
     record {
       short = short;
       named = λ i e. subst (λ (it : Indexes). position_in it.sections i < length m.sections) same
           (let below = declared_below all section i (named_known all p (section, i) e known) in omega (arith, are.sections));
-      tree = λ span e other. good_tree m all ix same are (counter_allowed before p.row) (tree_in p span) (tree_known all p span e other known) (tree_counter before p span e keeps.counter);
+      tree = λ span e other. good_tree m all ix same are (counter_allowed before p.row) (tree_in p span) (tree_known all p span e other known)
+          (tree_counter before p span e keeps.counter);
       placed = keeps.placed;
     }
 
-pub good_from : (m : Parts) (all : List SpelledRecord) (ix : Indexes) → indexes_in all ≡ ix → AreCounts m (indexes_in all) → (part : Part) (before records after : List SpelledRecord) → (before ++ records) ++ after ≡ all
+pub good_from : (m : Parts) (all : List SpelledRecord) (ix : Indexes) → indexes_in all ≡ ix → AreCounts m (indexes_in all)
+    → (part : Part) (before records after : List SpelledRecord) → (before ++ records) ++ after ≡ all
     → AllByRecursion (λ p. IsShort p.row) records → KeptFrom part before records → GoodFrom m ix before records
 good_from m all ix same are part before [] after whole short own = tt
 good_from m all ix same are part before (p ∷ records) after whole short own = (
@@ -88,21 +102,25 @@ text_short p span h = small (length (text_in p span)) (omega (arith, length-take
 
 -- ---- what is gathered
 
-passes_next : {X : Type 0} (test : X → Bool) (o : Option X) (rest : List X) → any_of test o ≡ false → list_any test rest ≡ false → list_any test (cons_option o rest) ≡ false
+passes_next : {X : Type 0} (test : X → Bool) (o : Option X) (rest : List X) → any_of test o ≡ false → list_any test rest ≡ false
+    → list_any test (cons_option o rest) ≡ false
 passes_next test None rest e h = h
 passes_next test (Some x) rest e h = or_from (test x) _ e h
 
 -- none of the gathered entries passes the test, where that of no record does
-pub none_passes : {X : Type 0} (test : X → Bool) (ask : SpelledRecord → Option X) (records : List SpelledRecord) → AllByRecursion (λ p. any_of test (ask p) ≡ false) records → list_any test (filter_map ask records) ≡ false
+pub none_passes : {X : Type 0} (test : X → Bool) (ask : SpelledRecord → Option X) (records : List SpelledRecord)
+    → AllByRecursion (λ p. any_of test (ask p) ≡ false) records → list_any test (filter_map ask records) ≡ false
 none_passes test ask [] h = refl
 none_passes test ask (p ∷ records) h = passes_next test (ask p) (filter_map ask records) h.0 (none_passes test ask records h.1)
 
-first_next : {X : Type 0} (Q : X → Type 0) (o : Option X) (rest : List X) (other : X) → IfSome o Q → Q (unwrap_or (slice_get rest 0) other) → Q (unwrap_or (slice_get (cons_option o rest) 0) other)
+first_next : {X : Type 0} (Q : X → Type 0) (o : Option X) (rest : List X) (other : X) → IfSome o Q → Q (unwrap_or (slice_get rest 0) other)
+    → Q (unwrap_or (slice_get (cons_option o rest) 0) other)
 first_next Q None rest other e h = h
 first_next Q (Some x) rest other e h = e
 
 -- the first answer has what each answer has
-pub first_has : {X : Type 0} (Q : X → Type 0) (ask : SpelledRecord → Option X) (other : X) → Q other → (records : List SpelledRecord) → AllByRecursion (λ p. IfSome (ask p) Q) records → Q (unwrap_or (slice_get (filter_map ask records) 0) other)
+pub first_has : {X : Type 0} (Q : X → Type 0) (ask : SpelledRecord → Option X) (other : X) → Q other → (records : List SpelledRecord)
+    → AllByRecursion (λ p. IfSome (ask p) Q) records → Q (unwrap_or (slice_get (filter_map ask records) 0) other)
 first_has Q ask other h [] all = h
 first_has Q ask other h (p ∷ records) all = first_next Q (ask p) (filter_map ask records) other all.0 (first_has Q ask other h records all.1)
 
@@ -112,10 +130,12 @@ for_index_has {X} Q i j x h = by_test (i == j) where
   by_test true = h
   by_test false = tt
 
-pub map_all : (P Q : SpelledRecord → Type 0) → ((p : SpelledRecord) → P p → Q p) → (records : List SpelledRecord) → AllByRecursion P records → AllByRecursion Q records
+pub map_all : (P Q : SpelledRecord → Type 0) → ((p : SpelledRecord) → P p → Q p) → (records : List SpelledRecord) → AllByRecursion P records
+    → AllByRecursion Q records
 map_all P Q f [] h = tt
 map_all P Q f (p ∷ records) h = (f p h.0, map_all P Q f records h.1)
 
-pub both_all : (P Q : SpelledRecord → Type 0) (records : List SpelledRecord) → AllByRecursion P records → AllByRecursion Q records → AllByRecursion (λ p. P p × Q p) records
+pub both_all : (P Q : SpelledRecord → Type 0) (records : List SpelledRecord) → AllByRecursion P records → AllByRecursion Q records
+    → AllByRecursion (λ p. P p × Q p) records
 both_all P Q [] x y = tt
 both_all P Q (p ∷ records) x y = ((x.0, y.0), both_all P Q records x.1 y.1)

@@ -1,5 +1,7 @@
 -- The header at the start of a walk: ten records, and what holds of the offsets in them.
-use Rattle.std.proofs.Common.{◌≡◌, ℕ, zero, suc, ◌+◌, ◌<◌, ◌≤◌, Bool, true, false, cond, not, ◌==◌, ◌&&◌, nat_lt, List, [], ◌∷◌, ◌++◌, length, take, drop, Option, Some, None, is_none, refl, sym, ap, subst, ◌∙◌, arith, append_assoc, append-nil, lt-ltb, eqb-true, eq-eqb, length-append}
+use Rattle.std.proofs.Common.{◌≡◌, ℕ, zero, suc, ◌+◌, ◌<◌, ◌≤◌, Bool, true, false, cond, not, ◌==◌, ◌&&◌, nat_lt, List, [], ◌∷◌, ◌++◌, length, take}
+use Rattle.std.proofs.Common.{drop, Option, Some, None, is_none, refl, sym, ap, subst, ◌∙◌, arith, append_assoc, append-nil, lt-ltb, eqb-true, eq-eqb}
+use Rattle.std.proofs.Common.{length-append}
 use Rattle.std.specs.List.{list_all, last_or}
 use Rattle.std.proofs.lemmas.Bool.{not-false, both_ways}
 use Rattle.std.proofs.lemmas.List.{drop_at}
@@ -14,7 +16,8 @@ use Rattle.mufom_records.specs.Layouts.{IsWholeRecord}
 use Rattle.mufom_module.specs.SpelledRecords.{SpelledRecord, bytes_of}
 use Rattle.mufom_module.specs.RecordParts.{part_of}
 use Rattle.mufom_module.specs.Grammar.{AreOfModes, offset_in, offsets_in}
-use Rattle.mufom_read.specs.Prefixes.{Step, raw, read, step_bytes, prefix_bytes, size_of, records_of, offsets_of, Location, in_header, first_present, location_by, part_at, location_after, header_mode, is_module_end, ends_with, is_ended}
+use Rattle.mufom_read.specs.Prefixes.{Step, raw, read, step_bytes, prefix_bytes, size_of, records_of, offsets_of, Location, in_header, first_present}
+use Rattle.mufom_read.specs.Prefixes.{location_by, part_at, location_after, header_mode, is_module_end, ends_with, is_ended}
 use Rattle.mufom_read.specs.Faults.{fault_if, is_bad_descriptor, is_out_of_order, leaves_gap, offset_fault, header_fault, record_fault, step_fault}
 use Rattle.mufom_read.proofs.ended.Walk.{bytes-append, size-append, records-append, IsRead, IsNextAt, IsWalk, taken, no_fault}
 use Rattle.mufom_read.proofs.ended.Rows.{IsDescriptor, begin_row, descriptor_row, offset_row}
@@ -27,7 +30,8 @@ last-append o (y ∷ xs) x = last-append (Some y) xs x
 
 -- a prefix that goes on with a record ends where the record ends the module
 pub ended-read : (before : List Step) (start : ℕ) (p : SpelledRecord) → is_ended (before ++ read start p ∷ []) ≡ is_module_end p.row
-ended-read before start p = ap (λ ps. ends_with (last_or None ps)) (records-append before (read start p ∷ [])) ∙ ap (λ o. ends_with o) (last-append None (records_of before) p)
+ended-read before start p = ap (λ ps. ends_with (last_or None ps)) (records-append before (read start p ∷ []))
+    ∙ ap (λ o. ends_with o) (last-append None (records_of before) p)
 
 pub ended-raw : (before : List Step) (b : ℕ) → is_ended (before ++ raw b ∷ []) ≡ is_ended before
 ended-raw before b = ap (λ ps. ends_with (last_or None ps)) (records-append before (raw b ∷ []) ∙ append-nil (records_of before))
@@ -45,7 +49,8 @@ pub record IsHere (m : Mode) (before : List Step) (step : Step) (steps : List St
   pub is_this : step ≡ read (size_of before) spelled
   pub is_whole : IsWholeRecord m spelled.row spelled.bytes (first_of (prefix_bytes steps) None)
 
-pub read_here : (m : Mode) (before : List Step) (step : Step) (steps : List Step) → IsRead m before (prefix_bytes (step ∷ steps)) step (length (step_bytes step)) → IsHere m before step steps
+pub read_here : (m : Mode) (before : List Step) (step : Step) (steps : List Step)
+    → IsRead m before (prefix_bytes (step ∷ steps)) step (length (step_bytes step)) → IsHere m before step steps
 read_here m before step steps is =
     let n = length (step_bytes step) in
     let back : drop n (prefix_bytes (step ∷ steps)) ≡ prefix_bytes steps = drop_at (step_bytes step) (prefix_bytes steps) n refl in
@@ -79,12 +84,15 @@ pub record HeaderStep (reads_debug : Bool) (k : ℕ) (before steps : List Step) 
   pub walk : IsWalk reads_debug (before ++ read (size_of before) spelled ∷ []) later
   pub ends : is_ended ((before ++ read (size_of before) spelled ∷ []) ++ later) ≡ true
 
-pub header_step : (reads_debug : Bool) (k : ℕ) (before steps : List Step) → length before ≡ k → k < 10 → is_ended before ≡ false → is_ended (before ++ steps) ≡ true → IsWalk reads_debug before steps
+pub header_step : (reads_debug : Bool) (k : ℕ) (before steps : List Step) → length before ≡ k → k < 10 → is_ended before ≡ false
+    → is_ended (before ++ steps) ≡ true → IsWalk reads_debug before steps
     → HeaderStep reads_debug k before steps
-header_step reads_debug k before [] count few open_ ends walk = absurd (both_ways (is_ended before) open_ (ap (λ l. is_ended l) (sym (append-nil before)) ∙ ends))
+header_step reads_debug k before [] count few open_ ends walk =
+    absurd (both_ways (is_ended before) open_ (ap (λ l. is_ended l) (sym (append-nil before)) ∙ ends))
 header_step reads_debug k before (step ∷ later) count few open_ ends walk =
     let offset = header_location before k count few in
-    let here = read_here (header_mode k) before step later (subst (λ (p : Location). IsNextAt reads_debug before p (prefix_bytes (step ∷ later)) step (length (step_bytes step))) offset walk.3) in
+    let here = read_here (header_mode k) before step later (subst
+    (λ (p : Location). IsNextAt reads_debug before p (prefix_bytes (step ∷ later)) step (length (step_bytes step))) offset walk.3) in
     let n = length here.spelled.bytes in
     let it = read (size_of before) here.spelled in
     let fault : step_fault before (taken it n) ≡ None = subst (λ (s : Step). step_fault before (taken s (length (step_bytes s))) ≡ None) here.is_this walk.2 in
@@ -133,7 +141,8 @@ no_gap offsets end h count =
     let same : not (first_present offsets == end) ≡ false = subst (λ (b : Bool). (b && not (first_present offsets == end)) ≡ false) test h in
     eqb-true (first_present offsets) end (not-false (first_present offsets == end) same)
 
-offset_run_none : (reads_debug : Bool) (k : ℕ) (earlier : List ℕ) (before steps : List Step) → is_ended before ≡ false → is_ended (before ++ steps) ≡ true → IsWalk reads_debug before steps → OffsetRun reads_debug 0 k earlier before steps
+offset_run_none : (reads_debug : Bool) (k : ℕ) (earlier : List ℕ) (before steps : List Step) → is_ended before ≡ false → is_ended (before ++ steps)
+    ≡ true → IsWalk reads_debug before steps → OffsetRun reads_debug 0 k earlier before steps
 offset_run_none reads_debug k earlier before steps open_ ends walk =
     let same = sym (append-nil before) in
     record {
@@ -168,7 +177,8 @@ offset_facts earlier w start end h =
     }
 
 -- the gap is judged after the last offset
-gap_of : (n : ℕ) (earlier : List ℕ) (w : ℕ) (offsets : List ℕ) (end : ℕ) (before : List Step) (it : Step) (own : List Step) → length offsets ≡ n → length own ≡ n
+gap_of : (n : ℕ) (earlier : List ℕ) (w : ℕ) (offsets : List ℕ) (end : ℕ) (before : List Step) (it : Step) (own : List Step) → length offsets ≡ n
+    → length own ≡ n
     → leaves_gap (earlier ++ w ∷ []) end ≡ false → size_of (before ++ it ∷ []) ≡ end
     → (0 < n → length ((earlier ++ w ∷ []) ++ offsets) ≡ 8 → first_present ((earlier ++ w ∷ []) ++ offsets) ≡ size_of ((before ++ it ∷ []) ++ own))
     → 0 < suc n → length (earlier ++ w ∷ offsets) ≡ 8 → first_present (earlier ++ w ∷ offsets) ≡ size_of (before ++ it ∷ own)
@@ -179,7 +189,8 @@ gap_of (suc n) earlier w offsets end before it own many count leaves size later 
     let values = append_assoc earlier (w ∷ []) offsets in
     ap first_present (sym values) ∙ later (omega arith) (ap length values ∙ eight) ∙ ap size_of (append_assoc before (it ∷ []) own)
 
-pub offset_run : (n k : ℕ) (reads_debug : Bool) (earlier : List ℕ) (before steps : List Step) → length before ≡ suc (suc k) → k + n ≡ 8 → offsets_of before ≡ earlier
+pub offset_run : (n k : ℕ) (reads_debug : Bool) (earlier : List ℕ) (before steps : List Step) → length before ≡ suc (suc k) → k + n ≡ 8
+    → offsets_of before ≡ earlier
     → is_ended before ≡ false → is_ended (before ++ steps) ≡ true → IsWalk reads_debug before steps → OffsetRun reads_debug n k earlier before steps
 offset_run zero k reads_debug earlier before steps at all are open_ ends walk = offset_run_none reads_debug k earlier before steps open_ ends walk
 offset_run (suc n) k reads_debug earlier before steps at all are open_ ends walk =
@@ -198,14 +209,18 @@ offset_run (suc n) k reads_debug earlier before steps at all are open_ ends walk
     let open_now : is_ended prefix ≡ false = ended-read before (size_of before) next.spelled ∙ ap is_module_end row.1 in
     let rec = offset_run n (suc k) reads_debug (earlier ++ w ∷ []) prefix next.later long (omega arith) grown open_now next.ends next.walk in
     let size : size_of prefix ≡ end = size-append before (it ∷ []) ∙ ap (λ (l : List ℕ). size_of before + length l) (append-nil next.spelled.bytes) in
-    let after : bytes_of (records_of rec.own) ++ prefix_bytes rec.later ≡ prefix_bytes next.later = ap (λ l. l ++ prefix_bytes rec.later) rec.bytes ∙ sym (bytes-append rec.own rec.later) ∙ ap prefix_bytes (sym rec.split) in
+    let after : bytes_of (records_of rec.own) ++ prefix_bytes rec.later ≡ prefix_bytes next.later = ap (λ l. l ++ prefix_bytes rec.later) rec.bytes
+    ∙ sym (bytes-append rec.own rec.later) ∙ ap prefix_bytes (sym rec.split) in
     record {
       own = it ∷ rec.own;
       later = rec.later;
       offsets = w ∷ rec.offsets;
       split = next.split ∙ ap (λ l. it ∷ l) rec.split;
       count = ap suc rec.count;
-      modes = (subst (λ (l : List ℕ). IsWholeRecord (mode.Offset k) next.spelled.row next.spelled.bytes (first_of l None)) (sym after) next.is_whole, rec.modes);
+      modes = (
+        subst (λ (l : List ℕ). IsWholeRecord (mode.Offset k) next.spelled.row next.spelled.bytes (first_of l None)) (sym after) next.is_whole,
+        rec.modes,
+      );
       bytes = ap (λ l. next.spelled.bytes ++ l) rec.bytes;
       values = filter_map-append (λ p. offset_in p.row) (next.spelled ∷ []) (records_of rec.own) ∙ (λ i. value i ++ rec.values i);
       many = ap suc rec.many;
@@ -250,7 +265,8 @@ header_run reads_debug steps ends walk =
     let split : steps ≡ a ∷ b ∷ two.later = one.split ∙ ap (λ l. a ∷ l) two.split ∙ ap (λ s. a ∷ s ∷ two.later) same in
     let left : drop 2 steps ≡ two.later = ap (drop 2) split in
     let none : offsets_of (a ∷ []) ≡ [] = ap (λ (s : Record). offsets_in (record { row = s; bytes = one.spelled.bytes } ∷ [])) first.2 in
-    let none_two : offsets_of (a ∷ b ∷ []) ≡ [] = offsets-append (a ∷ []) (b ∷ []) ∙ (λ i. none i ++ offsets_in (record { row = second.3 i; bytes = two.spelled.bytes } ∷ [])) in
+    let none_two : offsets_of (a ∷ b ∷ []) ≡ [] = offsets-append (a ∷ []) (b ∷ [])
+    ∙ (λ i. none i ++ offsets_in (record { row = second.3 i; bytes = two.spelled.bytes } ∷ [])) in
     let later = offset_run 8 0 reads_debug [] (a ∷ b ∷ []) two.later refl refl none_two open_two
     (subst (λ (s : Step). is_ended (a ∷ s ∷ two.later) ≡ true) same two.ends) (subst (λ (s : Step). IsWalk reads_debug (a ∷ s ∷ []) two.later) same two.walk) in
     record {
@@ -258,7 +274,10 @@ header_run reads_debug steps ends walk =
       descriptor = two.spelled;
       rest = subst (λ (l : List Step). OffsetRun reads_debug 8 0 [] (a ∷ b ∷ []) l) (sym left) later;
       split = split ∙ ap (λ l. a ∷ b ∷ l) (sym left);
-      begins = subst (λ (l : List ℕ). IsWholeRecord mode.Begin one.spelled.row one.spelled.bytes (first_of l None)) (ap prefix_bytes (two.split ∙ (λ i. same i ∷ sym left i))) one.is_whole;
-      describes = subst (λ (l : List Step). IsWholeRecord mode.Descriptor two.spelled.row two.spelled.bytes (first_of (prefix_bytes l) None)) (sym left) two.is_whole;
-      no_bad = descriptor_kept reads_debug (size_of (a ∷ [])) (size_of (a ∷ []) + length two.spelled.bytes) two.spelled.row second (subst (λ (l : List ℕ). header_fault l (size_of (a ∷ [])) (size_of (a ∷ []) + length two.spelled.bytes) two.spelled.row ≡ None) none two.faultless);
+      begins = subst (λ (l : List ℕ). IsWholeRecord mode.Begin one.spelled.row one.spelled.bytes (first_of l None))
+          (ap prefix_bytes (two.split ∙ (λ i. same i ∷ sym left i))) one.is_whole;
+      describes = subst (λ (l : List Step). IsWholeRecord mode.Descriptor two.spelled.row two.spelled.bytes (first_of (prefix_bytes l) None))
+          (sym left) two.is_whole;
+      no_bad = descriptor_kept reads_debug (size_of (a ∷ [])) (size_of (a ∷ []) + length two.spelled.bytes) two.spelled.row second
+          (subst (λ (l : List ℕ). header_fault l (size_of (a ∷ [])) (size_of (a ∷ []) + length two.spelled.bytes) two.spelled.row ≡ None) none two.faultless);
     }

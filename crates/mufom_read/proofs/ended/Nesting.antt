@@ -38,7 +38,8 @@ blocks_of-one items item =
     ap joined (map-append blocks_of_item items (item ∷ [])) ∙ joined-append (map blocks_of_item items) (blocks_of_item item ∷ [])
     ∙ ap (λ blocks. blocks_of items ++ blocks) (append-nil (blocks_of_item item))
 
-blocks_of-block : (head : BlockHead) (name : List ℕ) (items : List DebugItem) (end : Option Tree) → blocks_of_item (block_item head name items end) ≡ (head, end) ∷ blocks_of items
+blocks_of-block : (head : BlockHead) (name : List ℕ) (items : List DebugItem) (end : Option Tree) → blocks_of_item (block_item head name items end)
+    ≡ (head, end) ∷ blocks_of items
 blocks_of-block head name items end = search (rules, the_lemmas)
 
 no_name : (name : List ℕ) → blocks_of_item (roll-DebugItem (DebugItem-F.Name name)) ≡ []
@@ -50,22 +51,29 @@ no_note name note = search (rules, the_lemmas)
 no_value : (name : ℕ) (value : Tree) → blocks_of_item (roll-DebugItem (DebugItem-F.Value name value)) ≡ []
 no_value name value = search (rules, the_lemmas)
 
-one_more : (items : List DebugItem) (item : DebugItem) → some_ends_badly items ≡ false → list_any has_bad_end (blocks_of_item item) ≡ false → some_ends_badly (items ++ item ∷ []) ≡ false
+one_more : (items : List DebugItem) (item : DebugItem) → some_ends_badly items ≡ false → list_any has_bad_end (blocks_of_item item) ≡ false
+    → some_ends_badly (items ++ item ∷ []) ≡ false
 one_more items item h k = ap (list_any has_bad_end) (blocks_of-one items item) ∙ any_append has_bad_end (blocks_of items) (blocks_of_item item) h k
 
 -- Where no end is bad by the stack, no block of the items that the marks give ends badly.
-pub rebuilt-ends : (marks : List DebugMark) (items : List DebugItem) (outer : List Begun) → some_ends_badly items ≡ false → AllByRecursion (λ (b : Begun). some_ends_badly b.before ≡ false) outer
+pub rebuilt-ends : (marks : List DebugMark) (items : List DebugItem) (outer : List Begun) → some_ends_badly items ≡ false
+    → AllByRecursion (λ (b : Begun). some_ends_badly b.before ≡ false) outer
     → ends_badly_from (map (λ (b : Begun). b.head) outer) marks ≡ false → some_ends_badly (rebuilt marks items outer) ≡ false
 rebuilt-ends [] items outer good all h = good
-rebuilt-ends (block_begin head name ∷ marks) items outer good all h = rebuilt-ends marks [] (record { before = items; head = head; name = name } ∷ outer) refl (good, all) h
+rebuilt-ends (block_begin head name ∷ marks) items outer good all h =
+    rebuilt-ends marks [] (record { before = items; head = head; name = name } ∷ outer) refl (good, all) h
 rebuilt-ends (block_end end ∷ marks) items [] good all h = rebuilt-ends marks items [] good all h
 rebuilt-ends (block_end end ∷ marks) items (b ∷ outer) good all h =
     let both = or_parts (has_bad_end (b.head, end)) (ends_badly_from (map (λ (b : Begun). b.head) outer) marks) h in
     rebuilt-ends marks (b.before ++ block_item b.head b.name items end ∷ []) outer
-    (one_more b.before (block_item b.head b.name items end) all.0 (ap (list_any has_bad_end) (blocks_of-block b.head b.name items end) ∙ (λ z. both.0 z || good z))) all.1 both.1
+    (one_more b.before (block_item b.head b.name items end) all.0 (ap (list_any has_bad_end) (blocks_of-block b.head b.name items end)
+    ∙ (λ z. both.0 z || good z))) all.1 both.1
 rebuilt-ends (name_mark name ∷ marks) items outer good all h =
-    rebuilt-ends marks (items ++ roll-DebugItem (DebugItem-F.Name name) ∷ []) outer (one_more items (roll-DebugItem (DebugItem-F.Name name)) good (ap (list_any has_bad_end) (no_name name))) all h
+    rebuilt-ends marks (items ++ roll-DebugItem (DebugItem-F.Name name) ∷ []) outer
+    (one_more items (roll-DebugItem (DebugItem-F.Name name)) good (ap (list_any has_bad_end) (no_name name))) all h
 rebuilt-ends (note_mark name note ∷ marks) items outer good all h =
-    rebuilt-ends marks (items ++ roll-DebugItem (DebugItem-F.Note name note) ∷ []) outer (one_more items (roll-DebugItem (DebugItem-F.Note name note)) good (ap (list_any has_bad_end) (no_note name note))) all h
+    rebuilt-ends marks (items ++ roll-DebugItem (DebugItem-F.Note name note) ∷ []) outer
+    (one_more items (roll-DebugItem (DebugItem-F.Note name note)) good (ap (list_any has_bad_end) (no_note name note))) all h
 rebuilt-ends (value_mark name value ∷ marks) items outer good all h =
-    rebuilt-ends marks (items ++ roll-DebugItem (DebugItem-F.Value name value) ∷ []) outer (one_more items (roll-DebugItem (DebugItem-F.Value name value)) good (ap (list_any has_bad_end) (no_value name value))) all h
+    rebuilt-ends marks (items ++ roll-DebugItem (DebugItem-F.Value name value) ∷ []) outer
+    (one_more items (roll-DebugItem (DebugItem-F.Value name value)) good (ap (list_any has_bad_end) (no_value name value))) all h

@@ -1,5 +1,6 @@
 -- One part of a walk: the steps up to the part's end all lie in it.
-use Rattle.std.proofs.Common.{◌≡◌, ◌⊎◌, ℕ, ◌+◌, ◌<◌, ◌≤◌, Bool, true, false, cond, not, ◌==◌, ◌&&◌, nat_lt, List, [], ◌∷◌, ◌++◌, length, Option, Some, None, refl, sym, ap, subst, ◌∙◌, inl, inr, arith, append_assoc, append-nil, ltb-false, filter_map, length-append}
+use Rattle.std.proofs.Common.{◌≡◌, ◌⊎◌, ℕ, ◌+◌, ◌<◌, ◌≤◌, Bool, true, false, cond, not, ◌==◌, ◌&&◌, nat_lt, List, [], ◌∷◌, ◌++◌, length, Option, Some}
+use Rattle.std.proofs.Common.{None, refl, sym, ap, subst, ◌∙◌, inl, inr, arith, append_assoc, append-nil, ltb-false, filter_map, length-append}
 use Rattle.std.specs.List.{last_or, list_all}
 use Rattle.std.proofs.lemmas.Bool.{and_parts, and_from, not-false, both_ways, cases_eq, cases_lt}
 use Rattle.mufom_numbers.specs.declared.reason.Reason.{Reason}
@@ -12,7 +13,9 @@ use Rattle.mufom_records.specs.Layouts.{IsWholeRecord}
 use Rattle.mufom_module.specs.SpelledRecords.{SpelledRecord, bytes_of}
 use Rattle.mufom_module.specs.RecordParts.{Part, number_of, stands_in, opens_items, begins_item, mode_of}
 use Rattle.mufom_module.specs.Grammar.{offset_in, AreWhole, declares_again, states_again, names_unknown, has_no_section}
-use Rattle.mufom_read.specs.Prefixes.{Step, raw, read, step_bytes, prefix_bytes, size_of, records_of, offset_records_of, offsets_of, Extent, Location, in_part, part_among, parts_in_order, location_by, location_after, is_raw, awaits_items, body_mode, is_module_end, is_ended}
+use Rattle.mufom_read.specs.Prefixes.{Step, raw, read, step_bytes, prefix_bytes, size_of, records_of, offset_records_of, offsets_of, Extent, Location}
+use Rattle.mufom_read.specs.Prefixes.{in_part, part_among, parts_in_order, location_by, location_after, is_raw, awaits_items, body_mode}
+use Rattle.mufom_read.specs.Prefixes.{is_module_end, is_ended}
 use Rattle.mufom_read.specs.Faults.{fault_if, fault_for, has_bad_alignment, misplaces_counter, breaks, rule_broken, part_record_fault, record_fault, step_fault}
 use Rattle.mufom_read.proofs.so_far.BlockKinds.{open_kinds, ends_badly_in, is_too_deep_in, ends-kinds, deep-kinds}
 use Rattle.mufom_read.proofs.ended.Walk.{bytes-append, size-append, records-append, IsRaw, IsNextAt, IsWalk, taken, no_fault}
@@ -114,7 +117,8 @@ pub record Ready (reads_debug : Bool) (from to : ℕ) (all : List ℕ) (items : 
 -- the steps of a part that is not read, or those of one that is
 abbrev pub IsOwn : Bool → Part → Bool → List SpelledRecord → List Step → List ℕ → Type 0
 IsOwn reads_debug part items before own after = ((is_raw reads_debug part ≡ true) × (records_of own ≡ []))
-    ⊎ ((is_raw reads_debug part ≡ false) × (bytes_of (records_of own) ≡ prefix_bytes own) × AreWhole items (records_of own) after × KeptFrom part before (records_of own))
+    ⊎ ((is_raw reads_debug part ≡ false) × (bytes_of (records_of own) ≡ prefix_bytes own) × AreWhole items (records_of own) after
+    × KeptFrom part before (records_of own))
 
 -- the steps up to the part's end, and those after them
 pub record Split (reads_debug : Bool) (part : Part) (to : ℕ) (items : Bool) (before steps : List Step) : Type 0 where
@@ -132,14 +136,16 @@ raw_or_read : (test : Bool) → (test ≡ true) ⊎ (test ≡ false)
 raw_or_read true = inl refl
 raw_or_read false = inr refl
 
-pub nothing_own : (reads_debug : Bool) (part : Part) (items : Bool) (before : List SpelledRecord) (after : List ℕ) → IsOwn reads_debug part items before [] after
+pub nothing_own : (reads_debug : Bool) (part : Part) (items : Bool) (before : List SpelledRecord) (after : List ℕ)
+    → IsOwn reads_debug part items before [] after
 nothing_own reads_debug part items before after = elim (raw_or_read (is_raw reads_debug part)) [
   | inl yes_ ↦ inl (yes_, refl)
   | inr no_ ↦ inr (no_, refl, tt, tt)
 ]
 
 -- at the part's end
-pub at_its_end : (reads_debug : Bool) (part : Part) (from to : ℕ) (all : List ℕ) (items : Bool) (before steps : List Step) → Ready reads_debug from to all items before steps → size_of before ≡ to
+pub at_its_end : (reads_debug : Bool) (part : Part) (from to : ℕ) (all : List ℕ) (items : Bool) (before steps : List Step)
+    → Ready reads_debug from to all items before steps → size_of before ≡ to
     → Split reads_debug part to items before steps
 at_its_end reads_debug part from to all items before steps ready here =
     let same = append-nil before in
@@ -159,13 +165,16 @@ at_its_end reads_debug part from to all items before steps ready here =
 abbrev pub AllInside : Part → ℕ → ℕ → List ℕ → Type 0
 AllInside part from to all = (at : ℕ) → from ≤ at → at < to → part_among parts_in_order all at ≡ Some (record { part = part; from = from; to = to })
 
-pub location_inside : (part : Part) (from to : ℕ) (all : List ℕ) (before : List Step) → AllInside part from to all → 10 ≤ length before → offsets_of before ≡ all → from ≤ size_of before → size_of before < to
+pub location_inside : (part : Part) (from to : ℕ) (all : List ℕ) (before : List Step) → AllInside part from to all → 10 ≤ length before
+    → offsets_of before ≡ all → from ≤ size_of before → size_of before < to
     → location_after before ≡ in_part (record { part = part; from = from; to = to })
 location_inside part from to all before inside many offsets begun below =
-    after_header before many ∙ ap (λ ws. location_by (part_among parts_in_order ws (size_of before))) offsets ∙ ap location_by (inside (size_of before) begun below)
+    after_header before many ∙ ap (λ ws. location_by (part_among parts_in_order ws (size_of before))) offsets
+    ∙ ap location_by (inside (size_of before) begun below)
 
 -- a record is whole where it stands
-whole_by : (items test : Bool) (p : SpelledRecord) (after : List ℕ) → (test ≡ true → items ≡ true) → IsWholeRecord (cond test mode.Items mode.Body) p.row p.bytes (first_of after None)
+whole_by : (items test : Bool) (p : SpelledRecord) (after : List ℕ) → (test ≡ true → items ≡ true)
+    → IsWholeRecord (cond test mode.Items mode.Body) p.row p.bytes (first_of after None)
     → IsWholeRecord (mode_of items p.bytes) p.row p.bytes (first_of after None)
 whole_by items true p after may is =
     let so : (items && begins_item p.bytes) ≡ true = and_from items (begins_item p.bytes) (may refl) (items_begin p.row p.bytes (first_of after None) is) in
@@ -187,7 +196,8 @@ abbrev pub extent : Part → ℕ → ℕ → Extent
 extent part from to = record { part = part; from = from; to = to }
 
 -- a byte that is not read
-raw_ready : (reads_debug : Bool) (from to : ℕ) (all : List ℕ) (items : Bool) (before : List Step) (b : ℕ) (steps : List Step) → Ready reads_debug from to all items before (raw b ∷ steps) → size_of before < to
+raw_ready : (reads_debug : Bool) (from to : ℕ) (all : List ℕ) (items : Bool) (before : List Step) (b : ℕ) (steps : List Step)
+    → Ready reads_debug from to all items before (raw b ∷ steps) → size_of before < to
     → Ready reads_debug from to all true (before ++ raw b ∷ []) steps
 raw_ready reads_debug from to all items before b steps ready below =
     let size : size_of (before ++ raw b ∷ []) ≡ size_of before + 1 = size-append before (raw b ∷ []) in
@@ -222,14 +232,17 @@ raw_split reads_debug part to items before b steps is rest =
     }
 
 -- a record of the part
-read_ready : (reads_debug : Bool) (part : Part) (from to : ℕ) (all : List ℕ) (items : Bool) (before : List Step) (start : ℕ) (p : SpelledRecord) (steps : List Step) → (number_of part == 7) ≡ false
+read_ready : (reads_debug : Bool) (part : Part) (from to : ℕ) (all : List ℕ) (items : Bool) (before : List Step) (start : ℕ) (p : SpelledRecord)
+    (steps : List Step) → (number_of part == 7) ≡ false
     → Ready reads_debug from to all items before (read start p ∷ steps) → stands_in part p.row ≡ true → size_of before + length p.bytes ≤ to
     → Ready reads_debug from to all (opens_items p.row) (before ++ read start p ∷ []) steps
 read_ready reads_debug part from to all items before start p steps other ready own below =
     let it = read start p in
-    let size : size_of (before ++ it ∷ []) ≡ size_of before + length p.bytes = size-append before (it ∷ []) ∙ ap (λ (l : List ℕ). size_of before + length l) (append-nil p.bytes) in
+    let size : size_of (before ++ it ∷ []) ≡ size_of before + length p.bytes = size-append before (it ∷ [])
+    ∙ ap (λ (l : List ℕ). size_of before + length l) (append-nil p.bytes) in
     let none : offsets_of (it ∷ []) ≡ [] = none_of (offset_in p.row) (no_offset part p.row own) in
-    let awaits : awaits_items (last_or None (records_of (before ++ it ∷ []))) ≡ opens_items p.row = ap (λ ps. awaits_items (last_or None ps)) (records-append before (it ∷ [])) ∙ ap (λ o. awaits_items o) (last-append None (records_of before) p) in
+    let awaits : awaits_items (last_or None (records_of (before ++ it ∷ []))) ≡ opens_items p.row =
+    ap (λ ps. awaits_items (last_or None ps)) (records-append before (it ∷ [])) ∙ ap (λ o. awaits_items o) (last-append None (records_of before) p) in
     record {
       many = omega (arith, ready.many, length-append before (it ∷ []));
       offsets = offsets-append before (it ∷ []) ∙ (λ i. ready.offsets i ++ none i) ∙ append-nil all;
@@ -244,7 +257,8 @@ read_ready reads_debug part from to all items before start p steps other ready o
     none_of : (o : Option ℕ) → o ≡ None → filter_map (λ (x : Option ℕ). x) (o ∷ []) ≡ []
     none_of o h = ap (λ (x : Option ℕ). filter_map (λ (y : Option ℕ). y) (x ∷ [])) h
 
-read_split : (reads_debug : Bool) (part : Part) (to : ℕ) (items : Bool) (before : List Step) (start : ℕ) (p : SpelledRecord) (steps : List Step) → is_raw reads_debug part ≡ false
+read_split : (reads_debug : Bool) (part : Part) (to : ℕ) (items : Bool) (before : List Step) (start : ℕ) (p : SpelledRecord) (steps : List Step)
+    → is_raw reads_debug part ≡ false
     → IsWholeRecord (mode_of items p.bytes) p.row p.bytes (first_of (prefix_bytes steps) None) → stands_in part p.row ≡ true → IsKept (records_of before) p
     → Split reads_debug part to (opens_items p.row) (before ++ read start p ∷ []) steps → Split reads_debug part to items before (read start p ∷ steps)
 read_split reads_debug part to items before start p steps is its own keeps rest =
@@ -265,7 +279,11 @@ read_split reads_debug part to items before start p steps is its own keeps rest 
         | inr no_ ↦ inr (
           is,
           ap (λ l. p.bytes ++ l) no_.1,
-          (subst (λ (l : List ℕ). IsWholeRecord (mode_of items p.bytes) p.row p.bytes (first_of l None)) (ap prefix_bytes rest.split ∙ bytes-append rest.own rest.later ∙ ap (λ l. l ++ prefix_bytes rest.later) (sym no_.1)) its, no_.2),
+          (
+            subst (λ (l : List ℕ). IsWholeRecord (mode_of items p.bytes) p.row p.bytes (first_of l None)) (ap prefix_bytes rest.split
+                ∙ bytes-append rest.own rest.later ∙ ap (λ l. l ++ prefix_bytes rest.later) (sym no_.1)) its,
+            no_.2,
+          ),
           (own, keeps, subst (λ (l : List SpelledRecord). KeptFrom part l (records_of rest.own)) (records-append before (it ∷ [])) no_.3),
         )
       ];
@@ -273,50 +291,61 @@ read_split reads_debug part to items before start p steps is its own keeps rest 
 
 -- what is left to do after a step
 abbrev Rest : Bool → Part → ℕ → ℕ → List ℕ → List Step → Step → List Step → Type 0
-Rest reads_debug part from to all before step steps = (later : Bool) → Ready reads_debug from to all later (before ++ step ∷ []) steps → Split reads_debug part to later (before ++ step ∷ []) steps
+Rest reads_debug part from to all before step steps = (later : Bool) → Ready reads_debug from to all later (before ++ step ∷ []) steps
+    → Split reads_debug part to later (before ++ step ∷ []) steps
 
-as_raw : (reads_debug : Bool) (part : Part) (from to : ℕ) (all : List ℕ) (items : Bool) (before : List Step) (step : Step) (steps : List Step) → is_raw reads_debug part ≡ true
+as_raw : (reads_debug : Bool) (part : Part) (from to : ℕ) (all : List ℕ) (items : Bool) (before : List Step) (step : Step) (steps : List Step)
+    → is_raw reads_debug part ≡ true
     → IsRaw (prefix_bytes (step ∷ steps)) step (length (step_bytes step)) → Ready reads_debug from to all items before (step ∷ steps) → size_of before < to
     → Rest reads_debug part from to all before step steps → Split reads_debug part to items before (step ∷ steps)
 as_raw reads_debug part from to all items before step steps is its ready below rest =
-    subst (λ (s : Step). Ready reads_debug from to all items before (s ∷ steps) → Rest reads_debug part from to all before s steps → Split reads_debug part to items before (s ∷ steps)) (sym its.is_this)
-    (λ ready rest. raw_split reads_debug part to items before its.byte steps is (rest true (raw_ready reads_debug from to all items before its.byte steps ready below))) ready rest
+    subst (λ (s : Step). Ready reads_debug from to all items before (s ∷ steps) → Rest reads_debug part from to all before s steps
+    → Split reads_debug part to items before (s ∷ steps)) (sym its.is_this)
+    (λ ready rest. raw_split reads_debug part to items before its.byte steps is
+    (rest true (raw_ready reads_debug from to all items before its.byte steps ready below))) ready rest
 
-as_read : (reads_debug : Bool) (part : Part) (from to : ℕ) (all : List ℕ) (items : Bool) (before : List Step) (step : Step) (steps : List Step) → is_raw reads_debug part ≡ false → (number_of part == 7) ≡ false
+as_read : (reads_debug : Bool) (part : Part) (from to : ℕ) (all : List ℕ) (items : Bool) (before : List Step) (step : Step) (steps : List Step)
+    → is_raw reads_debug part ≡ false → (number_of part == 7) ≡ false
     → location_after before ≡ in_part (extent part from to) → Ready reads_debug from to all items before (step ∷ steps)
     → IsHere (body_mode before (extent part from to) (prefix_bytes (step ∷ steps))) before step steps
     → Rest reads_debug part from to all before step steps → Split reads_debug part to items before (step ∷ steps)
 as_read reads_debug part from to all items before step steps is other offset ready here rest =
     let start = size_of before in
     let p = here.spelled in
-    let fault : step_fault before (taken (read start p) (length p.bytes)) ≡ None = subst (λ (s : Step). step_fault before (taken s (length (step_bytes s))) ≡ None) here.is_this ready.walk.2 in
+    let fault : step_fault before (taken (read start p) (length p.bytes)) ≡ None =
+    subst (λ (s : Step). step_fault before (taken s (length (step_bytes s))) ≡ None) here.is_this ready.walk.2 in
     let facts = record_facts before (extent part from to) start p (subst (λ (q : Location). record_fault before q start p ≡ None) offset fault) in
     let a = not (size_of before == from) in
     let b = awaits_items (last_or None (records_of before)) in
     let c = begins_item (prefix_bytes (step ∷ steps)) in
     let whole_p = whole_by items (a && (b && c)) p (prefix_bytes steps) (may_by a b c items ready.flag) here.is_whole in
-    subst (λ (s : Step). Ready reads_debug from to all items before (s ∷ steps) → Rest reads_debug part from to all before s steps → Split reads_debug part to items before (s ∷ steps)) (sym here.is_this)
+    subst (λ (s : Step). Ready reads_debug from to all items before (s ∷ steps) → Rest reads_debug part from to all before s steps
+    → Split reads_debug part to items before (s ∷ steps)) (sym here.is_this)
     (λ ready rest. read_split reads_debug part to items before start p steps is whole_p facts.own facts.keeps
     (rest (opens_items p.row) (read_ready reads_debug part from to all items before start p steps other ready facts.own facts.inside))) ready rest
 
 -- a step of the part
-split_step : (reads_debug : Bool) (part : Part) (from to : ℕ) (all : List ℕ) (items : Bool) (before : List Step) (step : Step) (steps : List Step) → AllInside part from to all → (number_of part == 7) ≡ false
+split_step : (reads_debug : Bool) (part : Part) (from to : ℕ) (all : List ℕ) (items : Bool) (before : List Step) (step : Step) (steps : List Step)
+    → AllInside part from to all → (number_of part == 7) ≡ false
     → Ready reads_debug from to all items before (step ∷ steps) → size_of before < to
     → ((later : Bool) → Ready reads_debug from to all later (before ++ step ∷ []) steps → Split reads_debug part to later (before ++ step ∷ []) steps)
     → Split reads_debug part to items before (step ∷ steps)
 split_step reads_debug part from to all items before step steps within other ready below rest =
     let offset = location_inside part from to all before within ready.many ready.offsets ready.begun below in
     let bytes = prefix_bytes (step ∷ steps) in
-    let next : IsNextAt reads_debug before (in_part (extent part from to)) bytes step (length (step_bytes step)) = subst (λ (p : Location). IsNextAt reads_debug before p bytes step (length (step_bytes step))) offset ready.walk.3 in
+    let next : IsNextAt reads_debug before (in_part (extent part from to)) bytes step (length (step_bytes step)) =
+    subst (λ (p : Location). IsNextAt reads_debug before p bytes step (length (step_bytes step))) offset ready.walk.3 in
     elim next [
       | inl its ↦ as_raw reads_debug part from to all items before step steps its.0 its.1 ready below rest
       | inr its ↦ as_read reads_debug part from to all items before step steps its.0 other offset ready
           (read_here (body_mode before (extent part from to) bytes) before step steps its.1) rest
     ]
 
-pub split_part : (reads_debug : Bool) (part : Part) (from to : ℕ) (all : List ℕ) (items : Bool) (before steps : List Step) → AllInside part from to all → (number_of part == 7) ≡ false
+pub split_part : (reads_debug : Bool) (part : Part) (from to : ℕ) (all : List ℕ) (items : Bool) (before steps : List Step)
+    → AllInside part from to all → (number_of part == 7) ≡ false
     → Ready reads_debug from to all items before steps → Split reads_debug part to items before steps
-split_part reads_debug part from to all items before [] within other ready = absurd (both_ways (is_ended before) ready.unended (ap (λ l. is_ended l) (sym (append-nil before)) ∙ ready.ends))
+split_part reads_debug part from to all items before [] within other ready =
+    absurd (both_ways (is_ended before) ready.unended (ap (λ l. is_ended l) (sym (append-nil before)) ∙ ready.ends))
 split_part reads_debug part from to all items before (step ∷ steps) within other ready = elim (cases_eq (size_of before) to) [
   | inl here ↦ at_its_end reads_debug part from to all items before (step ∷ steps) ready here
   | inr not_here ↦ split_step reads_debug part from to all items before step steps within other ready (below_from (size_of before) to not_here ready.inside)

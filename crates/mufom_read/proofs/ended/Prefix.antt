@@ -1,5 +1,6 @@
 -- A sound prefix that ends, and that is the whole stream, is a module's file.
-use Rattle.std.proofs.Common.{◌≡◌, ℕ, ◌*◌, ◌^◌, ◌<◌, ◌≤◌, Bool, true, false, cond, nat_lt, nat_le, List, [], ◌∷◌, ◌++◌, length, Option, Some, None, is_none, refl, sym, ap, subst, ◌∙◌, arith, append_assoc, le-ltb, filter_map}
+use Rattle.std.proofs.Common.{◌≡◌, ℕ, ◌*◌, ◌^◌, ◌<◌, ◌≤◌, Bool, true, false, cond, nat_lt, nat_le, List, [], ◌∷◌, ◌++◌, length, Option, Some, None}
+use Rattle.std.proofs.Common.{is_none, refl, sym, ap, subst, ◌∙◌, arith, append_assoc, le-ltb, filter_map}
 use Rattle.std.specs.List.{last_or, list_any, AllByRecursion}
 use Rattle.std.proofs.lemmas.Bool.{or_from, not_from_true}
 use Rattle.std.proofs.lemmas.List.Elements.{filter_map-append}
@@ -17,7 +18,8 @@ use Rattle.mufom_module.specs.Written.{weight}
 use Rattle.mufom_module.specs.SpelledRecords.{SpelledRecord, debug_name, of_kind, declared_by, declared}
 use Rattle.mufom_module.specs.RecordParts.{Part, section_part, external_part, debug_part, data_part, trailer_part, stands_in}
 use Rattle.mufom_module.specs.Gathered.{marks}
-use Rattle.mufom_module.specs.Grammar.{header_of, from_externals, from_debug, from_loads, from_trailer, module_end, file_limit, IsCutInto, indexes_of, SpellsModule}
+use Rattle.mufom_module.specs.Grammar.{header_of, from_externals, from_debug, from_loads, from_trailer, module_end, file_limit, IsCutInto, indexes_of}
+use Rattle.mufom_module.specs.Grammar.{SpellsModule}
 use Rattle.mufom_read.specs.Prefixes.{Step, prefix_bytes, records_of, size_of, is_ended}
 use Rattle.mufom_read.specs.Faults.{has_bad_alignment, is_bad_descriptor, set_by, current_section}
 use Rattle.mufom_read.specs.Judging.{IsSoundFrom, IsSoundPrefix}
@@ -34,7 +36,8 @@ use Rattle.mufom_read.proofs.ended.Gathered.{IsAskedOf, not_asked, not_silent, d
 use Rattle.mufom_read.proofs.ended.Stated.{stated_by, its_marks, units_of, states, sorted, same_ix, is_stated}
 use Rattle.mufom_read.proofs.ended.Trees.{AreCounts, placed_section}
 use Rattle.mufom_read.proofs.ended.Good.{all_short, good_from, text_short}
-use Rattle.mufom_read.proofs.ended.Entries.{sections_counted, publics_counted, references_counted, sections_short, sections_aligned, sections_based, publics_short, references_short, HasGoodValue, good_values, publics_inside, publics_counter}
+use Rattle.mufom_read.proofs.ended.Entries.{sections_counted, publics_counted, references_counted, sections_short, sections_aligned, sections_based}
+use Rattle.mufom_read.proofs.ended.Entries.{publics_short, references_short, HasGoodValue, good_values, publics_inside, publics_counter}
 use Rattle.mufom_read.proofs.ended.Blocks.{debug_ends, debug_depth}
 use Rattle.mufom_read.proofs.ended.Debug.{AreGoodMarks, good_marks, marks_short, marks_inside, marks_counter, marks_attribute, names_declared}
 use Rattle.mufom_read.proofs.ended.Loads.{AreGoodLoads, no_place, no_counter, none_nowhere, none_long, none_sized, good_loads, start_good}
@@ -44,17 +47,21 @@ use Rattle.mufom_read.proofs.ended.Loads.{AreGoodLoads, no_place, no_counter, no
 -- the records of an ended prefix with the part's after those before it
 loads_within : (reads_debug : Bool) (prefix : List Step) (s : Sliced reads_debug prefix)
     → (((((header_of s.f ++ s.f.sections) ++ s.f.externals) ++ s.f.debug) ++ s.f.loads) ++ (s.f.trailer ++ s.end ∷ [])) ≡ records_of prefix
-loads_within reads_debug prefix s = sym (append_assoc ((((header_of s.f ++ s.f.sections) ++ s.f.externals) ++ s.f.debug) ++ s.f.loads) s.f.trailer (s.end ∷ [])) ∙ sym s.records
+loads_within reads_debug prefix s = sym (append_assoc ((((header_of s.f ++ s.f.sections) ++ s.f.externals) ++ s.f.debug)
+    ++ s.f.loads) s.f.trailer (s.end ∷ [])) ∙ sym s.records
 
 debug_within : (reads_debug : Bool) (prefix : List Step) (s : Sliced reads_debug prefix)
     → ((((header_of s.f ++ s.f.sections) ++ s.f.externals) ++ s.f.debug) ++ (s.f.loads ++ (s.f.trailer ++ s.end ∷ []))) ≡ records_of prefix
-debug_within reads_debug prefix s = sym (append_assoc (((header_of s.f ++ s.f.sections) ++ s.f.externals) ++ s.f.debug) s.f.loads (s.f.trailer ++ s.end ∷ [])) ∙ loads_within reads_debug prefix s
+debug_within reads_debug prefix s = sym (append_assoc (((header_of s.f ++ s.f.sections) ++ s.f.externals) ++ s.f.debug) s.f.loads (s.f.trailer
+    ++ s.end ∷ [])) ∙ loads_within reads_debug prefix s
 
 externals_within : (reads_debug : Bool) (prefix : List Step) (s : Sliced reads_debug prefix)
     → (((header_of s.f ++ s.f.sections) ++ s.f.externals) ++ (s.f.debug ++ (s.f.loads ++ (s.f.trailer ++ s.end ∷ [])))) ≡ records_of prefix
-externals_within reads_debug prefix s = sym (append_assoc ((header_of s.f ++ s.f.sections) ++ s.f.externals) s.f.debug (s.f.loads ++ (s.f.trailer ++ s.end ∷ []))) ∙ debug_within reads_debug prefix s
+externals_within reads_debug prefix s = sym (append_assoc ((header_of s.f ++ s.f.sections) ++ s.f.externals) s.f.debug (s.f.loads
+    ++ (s.f.trailer ++ s.end ∷ []))) ∙ debug_within reads_debug prefix s
 
-counted : (reads_debug : Bool) (prefix : List Step) (s : Sliced reads_debug prefix) → AreCounts (stated_by reads_debug prefix s) (indexes_in (records_of prefix))
+counted : (reads_debug : Bool) (prefix : List Step) (s : Sliced reads_debug prefix)
+    → AreCounts (stated_by reads_debug prefix s) (indexes_in (records_of prefix))
 counted reads_debug prefix s = subst (λ (ix : Indexes). AreCounts (stated_by reads_debug prefix s) ix) (sym (same_ix reads_debug prefix s)) (record {
   sections = sections_counted s.f.sections;
   publics = publics_counted (indexes_of s.f) s.f.externals;
@@ -66,7 +73,8 @@ set_asked : (row : Record) → stands_in data_part row ≡ false → set_by row 
 set_asked (r.SetSection i) h = cc
 set_asked row h = refl
 
-none_set : (reads_debug : Bool) (prefix : List Step) (s : Sliced reads_debug prefix) → current_section (((header_of s.f ++ s.f.sections) ++ s.f.externals) ++ s.f.debug) ≡ None
+none_set : (reads_debug : Bool) (prefix : List Step) (s : Sliced reads_debug prefix)
+    → current_section (((header_of s.f ++ s.f.sections) ++ s.f.externals) ++ s.f.debug) ≡ None
 none_set reads_debug prefix s =
     let h = header_of s.f in
     let are = sorted reads_debug prefix s in
@@ -76,7 +84,8 @@ none_set reads_debug prefix s =
     let none_s = not_asked data_part section_part ask only refl s.f.sections are.sections in
     let none_e = not_asked data_part external_part ask only refl s.f.externals are.externals in
     let none_d = not_asked data_part debug_part ask only refl s.f.debug are.debug in
-    let named = filter_map-append ask (h ++ s.f.sections) s.f.externals ∙ ap (λ l. l ++ filter_map ask s.f.externals) (filter_map-append ask h s.f.sections) ∙ (λ i. (none_h i ++ none_s i) ++ none_e i) in
+    let named = filter_map-append ask (h ++ s.f.sections) s.f.externals
+    ∙ ap (λ l. l ++ filter_map ask s.f.externals) (filter_map-append ask h s.f.sections) ∙ (λ i. (none_h i ++ none_s i) ++ none_e i) in
     ap (last_or None) (filter_map-append ask ((h ++ s.f.sections) ++ s.f.externals) s.f.debug ∙ (λ i. named i ++ none_d i))
 
 -- ---- what each part has
@@ -86,7 +95,8 @@ all_aligned part before [] own = tt
 all_aligned part before (p ∷ records) own = (own.1.aligned, all_aligned part (before ++ p ∷ []) records own.2)
 
 maus_of : (reads_debug : Bool) (prefix : List Step) (s : Sliced reads_debug prefix) → d.is_unit_count s.describes.1 ≡ true
-maus_of reads_debug prefix s = (units_of s.describes.0 s.describes.1 s.describes.2 (subst (λ (row : Record). is_bad_descriptor row ≡ false) s.describes.3 s.no_bad)).1
+maus_of reads_debug prefix s = (units_of s.describes.0 s.describes.1 s.describes.2
+    (subst (λ (row : Record). is_bad_descriptor row ≡ false) s.describes.3 s.no_bad)).1
 
 short_sections : (reads_debug : Bool) (prefix : List Step) (s : Sliced reads_debug prefix) → AllByRecursion (λ p. IsShort p.row) s.f.sections
 short_sections reads_debug prefix s = all_short section_part _ false s.f.sections (from_externals s.f) refl s.keep_sections s.sections
@@ -94,43 +104,53 @@ short_sections reads_debug prefix s = all_short section_part _ false s.f.section
 short_externals : (reads_debug : Bool) (prefix : List Step) (s : Sliced reads_debug prefix) → AllByRecursion (λ p. IsShort p.row) s.f.externals
 short_externals reads_debug prefix s = all_short external_part _ false s.f.externals (from_debug s.f) refl s.keep_externals s.externals
 
-values_good : (reads_debug : Bool) (prefix : List Step) (s : Sliced reads_debug prefix) → AllByRecursion (HasGoodValue (stated_by reads_debug prefix s) (indexes_of s.f)) s.f.externals
+values_good : (reads_debug : Bool) (prefix : List Step) (s : Sliced reads_debug prefix)
+    → AllByRecursion (HasGoodValue (stated_by reads_debug prefix s) (indexes_of s.f)) s.f.externals
 values_good reads_debug prefix s =
     let m = stated_by reads_debug prefix s in
     let within = externals_within reads_debug prefix s in
     good_values m ((header_of s.f ++ s.f.sections) ++ s.f.externals) (s.f.debug ++ (s.f.loads ++ (s.f.trailer ++ s.end ∷ []))) (indexes_of s.f)
-    (ap (λ l. indexes_in l) within ∙ same_ix reads_debug prefix s) (subst (λ (l : List SpelledRecord). AreCounts m (indexes_in l)) (sym within) (counted reads_debug prefix s))
+    (ap (λ l. indexes_in l) within ∙ same_ix reads_debug prefix s)
+    (subst (λ (l : List SpelledRecord). AreCounts m (indexes_in l)) (sym within) (counted reads_debug prefix s))
     external_part (header_of s.f ++ s.f.sections) s.f.externals s.keep_externals s.given
 
-loads_good : (reads_debug : Bool) (prefix : List Step) (s : Sliced reads_debug prefix) → AreGoodLoads (stated_by reads_debug prefix s) None (stated_by reads_debug prefix s).loads
+loads_good : (reads_debug : Bool) (prefix : List Step) (s : Sliced reads_debug prefix)
+    → AreGoodLoads (stated_by reads_debug prefix s) None (stated_by reads_debug prefix s).loads
 loads_good reads_debug prefix s =
     let m = stated_by reads_debug prefix s in
     let ix = indexes_of s.f in
     let before = ((header_of s.f ++ s.f.sections) ++ s.f.externals) ++ s.f.debug in
     let short = all_short data_part before false s.f.loads (from_trailer s.f) refl s.keep_loads s.loads in
-    let are = good_from m (records_of prefix) ix (same_ix reads_debug prefix s) (counted reads_debug prefix s) data_part before s.f.loads (s.f.trailer ++ s.end ∷ []) (loads_within reads_debug prefix s) short s.keep_loads in
-    subst (λ (o : Option ℕ). AreGoodLoads m (placed_section ix o) m.loads) (none_set reads_debug prefix s) (good_loads m ix s.describes.1 (maus_of reads_debug prefix s) before s.f.loads are)
+    let are = good_from m (records_of prefix) ix (same_ix reads_debug prefix s) (counted reads_debug prefix s) data_part before s.f.loads (s.f.trailer
+    ++ s.end ∷ []) (loads_within reads_debug prefix s) short s.keep_loads in
+    subst (λ (o : Option ℕ). AreGoodLoads m (placed_section ix o) m.loads) (none_set reads_debug prefix s)
+    (good_loads m ix s.describes.1 (maus_of reads_debug prefix s) before s.f.loads are)
 
 -- debug items
 
 short_debug : (reads_debug : Bool) (prefix : List Step) (s : Sliced reads_debug prefix) → AllByRecursion (λ p. IsShort p.row) s.f.debug
 short_debug reads_debug prefix s = all_short debug_part _ false s.f.debug (from_loads s.f) refl s.keep_debug s.debug
 
-debug_good : (reads_debug : Bool) (prefix : List Step) (s : Sliced reads_debug prefix) → AreGoodMarks (stated_by reads_debug prefix s) (indexes_of s.f) s.f.debug
+debug_good : (reads_debug : Bool) (prefix : List Step) (s : Sliced reads_debug prefix)
+    → AreGoodMarks (stated_by reads_debug prefix s) (indexes_of s.f) s.f.debug
 debug_good reads_debug prefix s =
     let m = stated_by reads_debug prefix s in
     let before = (header_of s.f ++ s.f.sections) ++ s.f.externals in
-    good_marks m (indexes_of s.f) before s.f.debug (good_from m (records_of prefix) (indexes_of s.f) (same_ix reads_debug prefix s) (counted reads_debug prefix s) debug_part before s.f.debug
+    good_marks m (indexes_of s.f) before s.f.debug (good_from m (records_of prefix) (indexes_of s.f) (same_ix reads_debug prefix s)
+    (counted reads_debug prefix s) debug_part before s.f.debug
     (s.f.loads ++ (s.f.trailer ++ s.end ∷ [])) (debug_within reads_debug prefix s) (short_debug reads_debug prefix s) s.keep_debug)
 
 none_open : (reads_debug : Bool) (prefix : List Step) (s : Sliced reads_debug prefix) → open_kinds ((header_of s.f ++ s.f.sections) ++ s.f.externals) ≡ []
-none_open reads_debug prefix s = let are = sorted reads_debug prefix s in none_before (header_of s.f) s.f.sections s.f.externals are.header are.sections are.externals
+none_open reads_debug prefix s = let are = sorted reads_debug prefix s in
+    none_before (header_of s.f) s.f.sections s.f.externals are.header are.sections are.externals
 
 -- what no mark of the records is, no mark of the module is
-of_marks : (reads_debug : Bool) (prefix : List Step) (s : Sliced reads_debug prefix) (test : DebugMark → Bool) → list_any test (marks (indexes_of s.f) s.f.debug) ≡ false → list_any test (debug_marks (stated_by reads_debug prefix s)) ≡ false
+of_marks : (reads_debug : Bool) (prefix : List Step) (s : Sliced reads_debug prefix) (test : DebugMark → Bool)
+    → list_any test (marks (indexes_of s.f) s.f.debug) ≡ false → list_any test (debug_marks (stated_by reads_debug prefix s)) ≡ false
 of_marks reads_debug prefix s test h = ap (list_any test) (its_marks reads_debug prefix s) ∙ h
 
-no_name : (reads_debug : Bool) (prefix : List Step) (s : Sliced reads_debug prefix) → declared debug_name ((header_of s.f ++ s.f.sections) ++ s.f.externals) ≡ []
+no_name : (reads_debug : Bool) (prefix : List Step) (s : Sliced reads_debug prefix)
+    → declared debug_name ((header_of s.f ++ s.f.sections) ++ s.f.externals) ≡ []
 no_name reads_debug prefix s =
     let h = header_of s.f in
     let are = sorted reads_debug prefix s in
@@ -139,9 +159,11 @@ no_name reads_debug prefix s =
     let none_h = not_silent debug_part ask only h are.header in
     let none_s = not_asked debug_part section_part ask only refl s.f.sections are.sections in
     let none_e = not_asked debug_part external_part ask only refl s.f.externals are.externals in
-    filter_map-append ask (h ++ s.f.sections) s.f.externals ∙ ap (λ l. l ++ filter_map ask s.f.externals) (filter_map-append ask h s.f.sections) ∙ (λ i. (none_h i ++ none_s i) ++ none_e i)
+    filter_map-append ask (h ++ s.f.sections) s.f.externals ∙ ap (λ l. l ++ filter_map ask s.f.externals) (filter_map-append ask h s.f.sections)
+    ∙ (λ i. (none_h i ++ none_s i) ++ none_e i)
 
-names_used : (reads_debug : Bool) (prefix : List Step) (s : Sliced reads_debug prefix) → is_none (d.declared_after 0 (debug_marks (stated_by reads_debug prefix s))) ≡ false
+names_used : (reads_debug : Bool) (prefix : List Step) (s : Sliced reads_debug prefix)
+    → is_none (d.declared_after 0 (debug_marks (stated_by reads_debug prefix s))) ≡ false
 names_used reads_debug prefix s =
     let before = (header_of s.f ++ s.f.sections) ++ s.f.externals in
     let none = no_name reads_debug prefix s in
@@ -154,11 +176,13 @@ names_used reads_debug prefix s =
 depth_fits : (reads_debug : Bool) (prefix : List Step) (s : Sliced reads_debug prefix) → d.has_defect (stated_by reads_debug prefix s) defect.Depth ≡ false
 depth_fits reads_debug prefix s =
     ap (λ l. nat_lt 32 (depth_of l)) (its_marks reads_debug prefix s)
-    ∙ le-ltb _ _ (debug_depth (indexes_of s.f) debug_part ((header_of s.f ++ s.f.sections) ++ s.f.externals) s.f.debug (none_open reads_debug prefix s) s.keep_debug)
+    ∙ le-ltb _ _ (debug_depth (indexes_of s.f) debug_part ((header_of s.f ++ s.f.sections)
+    ++ s.f.externals) s.f.debug (none_open reads_debug prefix s) s.keep_debug)
 
 ends_fit : (reads_debug : Bool) (prefix : List Step) (s : Sliced reads_debug prefix) → d.has_defect (stated_by reads_debug prefix s) defect.Nesting ≡ false
 ends_fit reads_debug prefix s =
-    debug_ends (indexes_of s.f) debug_part ((header_of s.f ++ s.f.sections) ++ s.f.externals) s.f.debug (none_open reads_debug prefix s) (short_debug reads_debug prefix s) s.keep_debug
+    debug_ends (indexes_of s.f) debug_part ((header_of s.f ++ s.f.sections)
+    ++ s.f.externals) s.f.debug (none_open reads_debug prefix s) (short_debug reads_debug prefix s) s.keep_debug
 
 -- the start has no position that is not there, and no counter
 record StartIsGood (m : Parts) : Type 0 where
@@ -171,7 +195,8 @@ start_is_good reads_debug prefix s =
     let ix = indexes_of s.f in
     let before = (((header_of s.f ++ s.f.sections) ++ s.f.externals) ++ s.f.debug) ++ s.f.loads in
     let short = all_short trailer_part before false s.f.trailer module_end refl s.keep_trailer s.trailer in
-    let are = good_from m (records_of prefix) ix (same_ix reads_debug prefix s) (counted reads_debug prefix s) trailer_part before s.f.trailer (s.end ∷ []) (sym s.records) short s.keep_trailer in
+    let are = good_from m (records_of prefix) ix (same_ix reads_debug prefix s) (counted reads_debug prefix s) trailer_part before s.f.trailer
+    (s.end ∷ []) (sym s.records) short s.keep_trailer in
     let both = start_good m ix before s.f.trailer are in
     record { inside = both.0; counter = both.1 }
 
@@ -192,14 +217,17 @@ light n size h limit = heavy n (omega arith) where
 long_string : (reads_debug : Bool) (prefix : List Step) (s : Sliced reads_debug prefix) → d.has_long_string (stated_by reads_debug prefix s) ≡ false
 long_string reads_debug prefix s =
     or_from _ _ (text_short s.f.begin s.begins.0 s.begins.3) (or_from _ _ (text_short s.f.begin s.begins.1 s.begins.4)
-    (or_from _ _ (sections_short s.f.sections (short_sections reads_debug prefix s)) (or_from _ _ (publics_short (indexes_of s.f) s.f.externals (short_externals reads_debug prefix s))
+    (or_from _ _ (sections_short s.f.sections (short_sections reads_debug prefix s))
+    (or_from _ _ (publics_short (indexes_of s.f) s.f.externals (short_externals reads_debug prefix s))
     (or_from _ _ (references_short s.f.externals (short_externals reads_debug prefix s))
-    (of_marks reads_debug prefix s d.has_long_name (marks_short (stated_by reads_debug prefix s) (indexes_of s.f) s.f.debug (debug_good reads_debug prefix s)))))))
+    (of_marks reads_debug prefix s d.has_long_name (marks_short (stated_by reads_debug prefix s) (indexes_of s.f) s.f.debug
+    (debug_good reads_debug prefix s)))))))
 
 bad_position : (reads_debug : Bool) (prefix : List Step) (s : Sliced reads_debug prefix) → d.has_bad_position (stated_by reads_debug prefix s) ≡ false
 bad_position reads_debug prefix s =
     let m = stated_by reads_debug prefix s in
-    or_from _ _ (publics_inside m (indexes_of s.f) s.f.externals (values_good reads_debug prefix s)) (or_from _ _ (no_place m None m.loads (loads_good reads_debug prefix s))
+    or_from _ _ (publics_inside m (indexes_of s.f) s.f.externals (values_good reads_debug prefix s))
+    (or_from _ _ (no_place m None m.loads (loads_good reads_debug prefix s))
     (or_from _ _ (of_marks reads_debug prefix s (d.has_bad_mark (d.counts_of m)) (marks_inside m (indexes_of s.f) s.f.debug (debug_good reads_debug prefix s)))
     (or_from _ _ (start_is_good reads_debug prefix s).inside (names_used reads_debug prefix s))))
 
@@ -207,9 +235,11 @@ misplaced : (reads_debug : Bool) (prefix : List Step) (s : Sliced reads_debug pr
 misplaced reads_debug prefix s =
     let m = stated_by reads_debug prefix s in
     or_from _ _ (publics_counter m (indexes_of s.f) s.f.externals (values_good reads_debug prefix s)) (or_from _ _ (start_is_good reads_debug prefix s).counter
-    (or_from _ _ (of_marks reads_debug prefix s (any_expression (d.has_other_counter None)) (marks_counter m (indexes_of s.f) s.f.debug (debug_good reads_debug prefix s))) (no_counter m None m.loads (loads_good reads_debug prefix s))))
+    (or_from _ _ (of_marks reads_debug prefix s (any_expression (d.has_other_counter None))
+    (marks_counter m (indexes_of s.f) s.f.debug (debug_good reads_debug prefix s))) (no_counter m None m.loads (loads_good reads_debug prefix s))))
 
-pub is_valid : (reads_debug : Bool) (prefix : List Step) (s : Sliced reads_debug prefix) → d.has_defect (stated_by reads_debug prefix s) defect.Weight ≡ false → d.IsValid (stated_by reads_debug prefix s)
+pub is_valid : (reads_debug : Bool) (prefix : List Step) (s : Sliced reads_debug prefix) → d.has_defect (stated_by reads_debug prefix s) defect.Weight
+    ≡ false → d.IsValid (stated_by reads_debug prefix s)
 is_valid reads_debug prefix s small =
     let m = stated_by reads_debug prefix s in
     let loads = loads_good reads_debug prefix s in
@@ -223,7 +253,8 @@ is_valid reads_debug prefix s small =
     (no_defect m defect.NoSection _ (none_nowhere m None m.loads loads)
     (no_defect m defect.LongRun _ (none_long m None m.loads loads)
     (no_defect m defect.FieldSize _ (none_sized m None m.loads loads)
-    (no_defect m defect.Attribute _ (of_marks reads_debug prefix s d.has_unknown_attribute (marks_attribute m (indexes_of s.f) s.f.debug (debug_good reads_debug prefix s)))
+    (no_defect m defect.Attribute _ (of_marks reads_debug prefix s d.has_unknown_attribute
+    (marks_attribute m (indexes_of s.f) s.f.debug (debug_good reads_debug prefix s)))
     (no_defect m defect.Nesting _ (ends_fit reads_debug prefix s)
     (no_defect m defect.Weight _ small refl))))))))))))
 
@@ -231,27 +262,35 @@ is_valid reads_debug prefix s small =
 
 -- The bytes of a prefix that is cut into its parts are the file of what these state, where what a file states weighs at most ten
 -- times the file.
-spelled_by : FilesWeighTenfold → (reads_debug : Bool) (prefix : List Step) (bytes : List ℕ) → AreBytes bytes → length bytes ≤ file_limit → bytes ≡ prefix_bytes prefix
+spelled_by : FilesWeighTenfold → (reads_debug : Bool) (prefix : List Step) (bytes : List ℕ) → AreBytes bytes → length bytes ≤ file_limit → bytes
+    ≡ prefix_bytes prefix
     → (s : Sliced reads_debug prefix) → SpellsModule (stated_by reads_debug prefix s) bytes reads_debug
 spelled_by weigh reads_debug prefix bytes fits limit same s =
     let m = stated_by reads_debug prefix s in
-    let cut = subst (λ (l : List ℕ). IsCutInto l reads_debug s.f) (sym same) (cut_into reads_debug prefix s (subst (λ (l : List ℕ). length l ≤ file_limit) same limit)) in
+    let cut = subst (λ (l : List ℕ). IsCutInto l reads_debug s.f) (sym same)
+    (cut_into reads_debug prefix s (subst (λ (l : List ℕ). length l ≤ file_limit) same limit)) in
     let names = has_names reads_debug prefix s in
     let tenfold : weight m ≤ 10 * length bytes = weigh reads_debug bytes s.f m fits cut names (states reads_debug prefix s) in
     (s.f, cut, names, states reads_debug prefix s, is_valid reads_debug prefix s (light (weight m) (length bytes) tenfold limit))
 
-sliced_from : (reads_debug : Bool) (prefix : List Step) (bytes : List ℕ) → AreBytes bytes → IsSoundPrefix reads_debug prefix bytes → is_ended prefix ≡ true → bytes ≡ prefix_bytes prefix → Sliced reads_debug prefix
+sliced_from : (reads_debug : Bool) (prefix : List Step) (bytes : List ℕ) → AreBytes bytes → IsSoundPrefix reads_debug prefix bytes → is_ended prefix
+    ≡ true → bytes ≡ prefix_bytes prefix → Sliced reads_debug prefix
 sliced_from reads_debug prefix bytes fits sound ends same =
-    sliced_of reads_debug prefix ends (walk_of reads_debug [] prefix (subst (λ (l : List ℕ). AreBytes l) same fits) (subst (λ (l : List ℕ). IsSoundFrom reads_debug [] prefix l) same sound))
+    sliced_of reads_debug prefix ends (walk_of reads_debug [] prefix (subst (λ (l : List ℕ). AreBytes l) same fits)
+    (subst (λ (l : List ℕ). IsSoundFrom reads_debug [] prefix l) same sound))
 
 -- A sound prefix that ends with the stream is cut into its parts, and is the file of what they state.
-pub ended_sliced : FilesWeighTenfold → (reads_debug : Bool) (prefix : List Step) (bytes : List ℕ) → AreBytes bytes → length bytes ≤ file_limit → IsSoundPrefix reads_debug prefix bytes
+pub ended_sliced : FilesWeighTenfold → (reads_debug : Bool) (prefix : List Step) (bytes : List ℕ) → AreBytes bytes → length bytes ≤ file_limit
+    → IsSoundPrefix reads_debug prefix bytes
     → is_ended prefix ≡ true → size_of prefix ≡ length bytes → (s : Sliced reads_debug prefix) × SpellsModule (stated_by reads_debug prefix s) bytes reads_debug
 ended_sliced weigh reads_debug prefix bytes fits limit sound ends size =
-    let same = all_bytes reads_debug prefix bytes fits sound size in
-    (sliced_from reads_debug prefix bytes fits sound ends same, spelled_by weigh reads_debug prefix bytes fits limit same (sliced_from reads_debug prefix bytes fits sound ends same))
+    let same = all_bytes reads_debug prefix bytes fits sound size in (
+      sliced_from reads_debug prefix bytes fits sound ends same,
+      spelled_by weigh reads_debug prefix bytes fits limit same (sliced_from reads_debug prefix bytes fits sound ends same),
+    )
 
-stated_prefix : (reads_debug : Bool) (prefix : List Step) (bytes : List ℕ) → (s : Sliced reads_debug prefix) → SpellsModule (stated_by reads_debug prefix s) bytes reads_debug → (m : Parts) × SpellsModule m bytes reads_debug × IsStatedBy prefix m
+stated_prefix : (reads_debug : Bool) (prefix : List Step) (bytes : List ℕ) → (s : Sliced reads_debug prefix)
+    → SpellsModule (stated_by reads_debug prefix s) bytes reads_debug → (m : Parts) × SpellsModule m bytes reads_debug × IsStatedBy prefix m
 stated_prefix reads_debug prefix bytes s spells = (stated_by reads_debug prefix s, spells, is_stated reads_debug prefix s)
 
 -- It is a module's file.

@@ -1,12 +1,14 @@
 -- What the records of the header are, and that strings and runs of literal bytes are short.
-use Rattle.std.proofs.Common.{◌≡◌, ◌⊎◌, inl, inr, ℕ, ◌+◌, ◌<◌, ◌≤◌, Bool, true, false, cond, ◌==◌, ◌&&◌, ◌||◌, nat_lt, nat_le, List, [], ◌∷◌, ◌++◌, length, Option, Some, None, refl, sym, ap, subst, ◌∙◌, arith, eqb-true, eq-eqb, ne_eqb, ltb-true, leb-true}
+use Rattle.std.proofs.Common.{◌≡◌, ◌⊎◌, inl, inr, ℕ, ◌+◌, ◌<◌, ◌≤◌, Bool, true, false, cond, ◌==◌, ◌&&◌, ◌||◌, nat_lt, nat_le, List, [], ◌∷◌, ◌++◌}
+use Rattle.std.proofs.Common.{length, Option, Some, None, refl, sym, ap, subst, ◌∙◌, arith, eqb-true, eq-eqb, ne_eqb, ltb-true, leb-true}
 use Rattle.std.proofs.lemmas.Bool.{and_parts, both_ways, cases_eq}
 use Rattle.mufom_numbers.specs.declared.taken.Span.{Span}
 use Rattle.mufom_numbers.specs.Spelling.{IsStringLead}
 use Rattle.mufom_records.specs.declared.record.Mode.TheVariants as mode
 use Rattle.mufom_records.specs.declared.record.Record.{Record}
 use Rattle.mufom_records.specs.declared.record.Record.TheVariants as r
-use Rattle.mufom_records.specs.Fields.{Field, ValueOf, byte, number, string, run, letter, optional_number, numbers, expression, optional_expression, is_one_of, SpellsField, first_of}
+use Rattle.mufom_records.specs.Fields.{Field, ValueOf, byte, number, string, run, letter, optional_number, numbers, expression, optional_expression}
+use Rattle.mufom_records.specs.Fields.{is_one_of, SpellsField, first_of}
 use Rattle.mufom_records.specs.Layouts
 use Rattle.mufom_read.specs.Prefixes.{is_module_end}
 use Rattle.mufom_read.specs.DebugSoFar.{FitsKind, HasKind}
@@ -54,7 +56,8 @@ field_promised (numbers most) x at bytes next is = tt
 field_promised expression x at bytes next is = tt
 field_promised optional_expression x at bytes next is = tt
 
-pub promised : (P : Record → Type 0) (layout : Layout) (row : Record) (at : ℕ) (bytes : List ℕ) (next : Option ℕ) → Layouts.SpellsRecord layout row at bytes next → Promises P layout → P row
+pub promised : (P : Record → Type 0) (layout : Layout) (row : Record) (at : ℕ) (bytes : List ℕ) (next : Option ℕ)
+    → Layouts.SpellsRecord layout row at bytes next → Promises P layout → P row
 promised P (Layouts.whole it) row at bytes next is has = subst P (sym is.0) has
 promised P (Layouts.refused back reason) row at bytes next is has = absurd is
 promised P (Layouts.field f rest) row at bytes next is has =
@@ -87,7 +90,8 @@ its_order (Some b) h = h
 
 pub begin_row : (row : Record) (bytes : List ℕ) (next : Option ℕ) → Layouts.IsWholeRecord mode.Begin row bytes next → IsBegin row
 begin_row it bytes next is = promised IsBegin (Layouts.layout_of mode.Begin) it 0 bytes next is
-    (λ (b : ℕ) _. by_test IsBegin (b == 0xE0) Layouts.module_begin (Layouts.refused 1 _) (λ _. λ (processor : Span) x (name : Span) y. (processor, name, refl, x, y)) (λ _. tt))
+    (λ (b : ℕ) _. by_test IsBegin (b == 0xE0) Layouts.module_begin (Layouts.refused 1 _)
+    (λ _. λ (processor : Span) x (name : Span) y. (processor, name, refl, x, y)) (λ _. tt))
 
 pub descriptor_row : (row : Record) (bytes : List ℕ) (next : Option ℕ) → Layouts.IsWholeRecord mode.Descriptor row bytes next → IsDescriptor row
 descriptor_row it bytes next is = promised IsDescriptor (Layouts.layout_of mode.Descriptor) it 0 bytes next is
@@ -131,10 +135,12 @@ named_short i absolute = λ (p : Option ℕ) _ (name : Span) x (a : Option ℕ) 
 
 section_short : Promises IsShort Layouts.section_type
 section_short = λ (i : ℕ) _ (c : ℕ) _. by_test IsShort (c == 0xC3) (Layouts.named_section i false) _ (λ _. named_short i false)
-    (λ _. by_test IsShort (c == 0xC1) (Layouts.absolute_section i) _ (λ _. λ (s : ℕ) _. by_test IsShort (s == 0xD3) (Layouts.named_section i true) _ (λ _. named_short i true) (λ _. tt)) (λ _. tt))
+    (λ _. by_test IsShort (c == 0xC1) (Layouts.absolute_section i) _
+    (λ _. λ (s : ℕ) _. by_test IsShort (s == 0xD3) (Layouts.named_section i true) _ (λ _. named_short i true) (λ _. tt)) (λ _. tt))
 
 repeat_short : Promises IsShort Layouts.repeat
-repeat_short = λ (times : ℕ) _ (b : ℕ) _. by_test IsShort (b == 0xED) (Layouts.constant (r.RepeatConstant times)) _ (λ _. λ (n : ℕ) small (span : Span) its. run_short n span small its)
+repeat_short = λ (times : ℕ) _ (b : ℕ) _. by_test IsShort (b == 0xED) (Layouts.constant (r.RepeatConstant times)) _
+    (λ _. λ (n : ℕ) small (span : Span) its. run_short n span small its)
     (λ _. by_test IsShort (b == 0xE4) (Layouts.whole (r.RepeatRelocate times)) _ (λ _. tt) (λ _. tt))
 
 start_short : (o : Option ℕ) → Promises IsShort (Layouts.start_by_bracket o)
@@ -146,7 +152,8 @@ size_from n h = let both = and_parts (nat_le 1 n) (nat_le n 8) h in (leb-true 1 
 
 comma_short : (b : ℕ) (v : Span) (c : Option ℕ) → Promises IsShort (Layouts.item_by_comma b v c)
 comma_short b v None = λ (e : ℕ) _. by_test IsShort (e == Layouts.partner b) (Layouts.whole (r.FieldItem (Layouts.kind_of b) v None)) _ (λ _. tt) (λ _. tt)
-comma_short b v (Some c) = λ (n : ℕ) fits (e : ℕ) _. by_test IsShort (e == Layouts.partner b) (Layouts.whole (r.FieldItem (Layouts.kind_of b) v (Some n))) _ (λ _. size_from n fits) (λ _. tt)
+comma_short b v (Some c) = λ (n : ℕ) fits (e : ℕ) _. by_test IsShort (e == Layouts.partner b)
+    (Layouts.whole (r.FieldItem (Layouts.kind_of b) v (Some n))) _ (λ _. size_from n fits) (λ _. tt)
 
 bracket_short : (o : Option ℕ) → Promises IsShort (Layouts.item_by_bracket o)
 bracket_short None = λ (n : ℕ) small (span : Span) its. run_short n span small its
@@ -215,23 +222,30 @@ coded_short b other =
     (λ _. by_test IsShort (b == 0xF9) Layouts.block_end _ (λ _ _ _. tt) (λ _. tt))))))))))))))))))
 
 -- a whole record is the end and its byte, or short
-end_or_short : (row : Record) (bytes : List ℕ) (next : Option ℕ) → Layouts.IsWholeRecord mode.Body row bytes next → ((row ≡ r.ModuleEnd) × (bytes ≡ 0xE1 ∷ [])) ⊎ IsShort row
+end_or_short : (row : Record) (bytes : List ℕ) (next : Option ℕ) → Layouts.IsWholeRecord mode.Body row bytes next
+    → ((row ≡ r.ModuleEnd) × (bytes ≡ 0xE1 ∷ [])) ⊎ IsShort row
 end_or_short row bytes next is = by_byte (is.0 == 0xE1) refl where
   by_byte : (test : Bool) → (is.0 == 0xE1) ≡ test → ((row ≡ r.ModuleEnd) × (bytes ≡ 0xE1 ∷ [])) ⊎ IsShort row
   by_byte true e =
       let its : is.0 ≡ 0xE1 = eqb-true is.0 0xE1 e in
-      let all : Layouts.SpellsRecord (Layouts.coded 0xE1) row (0 + length is.1) is.2 next = subst (λ (b : ℕ). Layouts.SpellsRecord (Layouts.coded b) row (0 + length is.1) is.2 next) its is.4 in
+      let all : Layouts.SpellsRecord (Layouts.coded 0xE1) row (0 + length is.1) is.2 next =
+      subst (λ (b : ℕ). Layouts.SpellsRecord (Layouts.coded b) row (0 + length is.1) is.2 next) its is.4 in
       inl (all.0, is.5 ∙ (λ i. is.3 i ++ all.1 i) ∙ ap (λ (b : ℕ). b ∷ []) its)
   by_byte false e = inr (promised IsShort (Layouts.coded is.0) row (0 + length is.1) is.2 next is.4 (coded_short is.0 e))
 
 pub body_short : (row : Record) (bytes : List ℕ) (next : Option ℕ) → is_module_end row ≡ false → Layouts.IsWholeRecord mode.Body row bytes next → IsShort row
-body_short row bytes next other is = elim (end_or_short row bytes next is) [ inl end ↦ absurd (both_ways (is_module_end row) other (ap is_module_end end.0)) | inr short ↦ short ]
+body_short row bytes next other is = elim (end_or_short row bytes next is) [
+  | inl end ↦
+      absurd (both_ways (is_module_end row) other (ap is_module_end end.0))
+  | inr short ↦ short
+]
 
 end_not_short : (row : Record) → is_module_end row ≡ true → IsShort row → ⊥
 end_not_short r.ModuleEnd h short = short
 end_not_short row h short = cc
 
-pub end_bytes : (row : Record) (bytes : List ℕ) (next : Option ℕ) → is_module_end row ≡ true → Layouts.IsWholeRecord mode.Body row bytes next → (row ≡ r.ModuleEnd) × (bytes ≡ 0xE1 ∷ [])
+pub end_bytes : (row : Record) (bytes : List ℕ) (next : Option ℕ) → is_module_end row ≡ true → Layouts.IsWholeRecord mode.Body row bytes next
+    → (row ≡ r.ModuleEnd) × (bytes ≡ 0xE1 ∷ [])
 end_bytes row bytes next ends is = elim (end_or_short row bytes next is) [ inl end ↦ end | inr short ↦ absurd (end_not_short row ends short) ]
 
 pub items_short : (row : Record) (bytes : List ℕ) (next : Option ℕ) → Layouts.IsWholeRecord mode.Items row bytes next → IsShort row

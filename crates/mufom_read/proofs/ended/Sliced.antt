@@ -1,12 +1,15 @@
 -- A sound prefix that has ended, as the parts of a file, with what its checks state of the records in them.
-use Rattle.std.proofs.Common.{◌≡◌, ◌⊎◌, ℕ, Bool, true, false, List, [], ◌∷◌, ◌++◌, length, Option, None, is_none, MatchBool, refl, sym, ap, subst, ◌∙◌, inl, inr, append_assoc, append-nil}
+use Rattle.std.proofs.Common.{◌≡◌, ◌⊎◌, ℕ, Bool, true, false, List, [], ◌∷◌, ◌++◌, length, Option, None, is_none, MatchBool, refl, sym, ap, subst}
+use Rattle.std.proofs.Common.{◌∙◌, inl, inr, append_assoc, append-nil}
 use Rattle.std.specs.List.{list_all, AllByRecursion}
 use Rattle.std.proofs.lemmas.Bool.{both_ways}
 use Rattle.mufom_module.specs.SpelledRecords.{SpelledRecord, bytes_of}
 use Rattle.mufom_module.specs.RecordParts.{Part, section_part, external_part, debug_part, data_part, trailer_part, end_part, part_of, stands_in}
-use Rattle.mufom_module.specs.Grammar.{FileParts, header_of, parts_of, module_end, from_trailer, from_loads, from_debug, from_externals, after_header, AreOfModes, header_modes, AreWhole, offsets_in, StandAt}
+use Rattle.mufom_module.specs.Grammar.{FileParts, header_of, parts_of, module_end, from_trailer, from_loads, from_debug, from_externals, after_header}
+use Rattle.mufom_module.specs.Grammar.{AreOfModes, header_modes, AreWhole, offsets_in, StandAt}
 use Rattle.mufom_read.specs.Prefixes.{Step, raw, read, prefix_bytes, records_of, offset_records_of, OffsetRecord, offsets_of, is_raw}
-use Rattle.mufom_read.specs.Faults.{Fault, fault_if, is_bad_descriptor, first_fault, section_fault, lacks_base, external_fault, has_unknown_variable, lacks_value, OpenBlock, open_blocks, open_fault, whole_fault}
+use Rattle.mufom_read.specs.Faults.{Fault, fault_if, is_bad_descriptor, first_fault, section_fault, lacks_base, external_fault, has_unknown_variable}
+use Rattle.mufom_read.specs.Faults.{lacks_value, OpenBlock, open_blocks, open_fault, whole_fault}
 use Rattle.mufom_read.proofs.so_far.BlockKinds.{kinds_of, open_kinds, kinds-open}
 use Rattle.mufom_read.proofs.ended.Walk.{no_fault}
 use Rattle.mufom_read.proofs.ended.Rows.{IsBegin, IsDescriptor}
@@ -21,15 +24,19 @@ bytes_of-append (p ∷ a) b = ap (λ l. p.bytes ++ l) (bytes_of-append a b) ∙ 
 
 -- ---- parts as wholes
 
-first_none : (fault : OffsetRecord → Option Fault) (P : SpelledRecord → Type 0) → ((q : OffsetRecord) → fault q ≡ None → P q.1) → (own : List Step) → first_fault fault (offset_records_of own) ≡ None → AllByRecursion P (records_of own)
+first_none : (fault : OffsetRecord → Option Fault) (P : SpelledRecord → Type 0) → ((q : OffsetRecord) → fault q ≡ None → P q.1) → (own : List Step)
+    → first_fault fault (offset_records_of own) ≡ None → AllByRecursion P (records_of own)
 first_none fault P states [] h = tt
 first_none fault P states (raw b ∷ own) h = first_none fault P states own h
-first_none fault P states (read start p ∷ own) h = let both = no_fault (fault (start, p)) (first_fault fault (offset_records_of own)) h in (states (start, p) both.0, first_none fault P states own both.1)
+first_none fault P states (read start p ∷ own) h = let both = no_fault (fault (start, p)) (first_fault fault (offset_records_of own)) h in
+    (states (start, p) both.0, first_none fault P states own both.1)
 
-after_none : (fault : OffsetRecord → Option Fault) (before own : List Step) → first_fault fault (offset_records_of (before ++ own)) ≡ None → first_fault fault (offset_records_of own) ≡ None
+after_none : (fault : OffsetRecord → Option Fault) (before own : List Step) → first_fault fault (offset_records_of (before ++ own)) ≡ None
+    → first_fault fault (offset_records_of own) ≡ None
 after_none fault [] own h = h
 after_none fault (raw b ∷ before) own h = after_none fault before own h
-after_none fault (read start p ∷ before) own h = after_none fault before own (no_fault (fault (start, p)) (first_fault fault (offset_records_of (before ++ own))) h).1
+after_none fault (read start p ∷ before) own h = after_none fault before own
+    (no_fault (fault (start, p)) (first_fault fault (offset_records_of (before ++ own))) h).1
 
 has_base : (all : List SpelledRecord) (q : OffsetRecord) → section_fault all q ≡ None → lacks_base all q.1.row ≡ false
 has_base all q h = no_fault_if (lacks_base all q.1.row) q.0 _ h
@@ -43,17 +50,23 @@ is_given all q h =
     let both = no_fault (fault_if (has_unknown_variable all q.1) q.0 _) (fault_if (lacks_value all q.1.row) q.0 _) h in
     (no_fault_if (has_unknown_variable all q.1) q.0 _ both.0, no_fault_if (lacks_value all q.1.row) q.0 _ both.1)
 
-pub all_based : (before own : List Step) → (own ≡ []) ⊎ (whole_fault section_part (before ++ own) ≡ None) → AllByRecursion (λ p. lacks_base (records_of (before ++ own)) p.row ≡ false) (records_of own)
-all_based before own (inl none) = subst (λ (l : List Step). AllByRecursion (λ p. lacks_base (records_of (before ++ own)) p.row ≡ false) (records_of l)) (sym none) tt
-all_based before own (inr h) = let all = records_of (before ++ own) in first_none (section_fault all) (λ p. lacks_base all p.row ≡ false) (has_base all) own (after_none (section_fault all) before own h)
+pub all_based : (before own : List Step) → (own ≡ []) ⊎ (whole_fault section_part (before ++ own) ≡ None)
+    → AllByRecursion (λ p. lacks_base (records_of (before ++ own)) p.row ≡ false) (records_of own)
+all_based before own (inl none) = subst (λ (l : List Step). AllByRecursion (λ p. lacks_base (records_of (before ++ own)) p.row
+    ≡ false) (records_of l)) (sym none) tt
+all_based before own (inr h) = let all = records_of (before ++ own) in
+    first_none (section_fault all) (λ p. lacks_base all p.row ≡ false) (has_base all) own (after_none (section_fault all) before own h)
 
-pub all_given : (before own : List Step) → (own ≡ []) ⊎ (whole_fault external_part (before ++ own) ≡ None) → AllByRecursion (IsGiven (records_of (before ++ own))) (records_of own)
+pub all_given : (before own : List Step) → (own ≡ []) ⊎ (whole_fault external_part (before ++ own) ≡ None)
+    → AllByRecursion (IsGiven (records_of (before ++ own))) (records_of own)
 all_given before own (inl none) = subst (λ (l : List Step). AllByRecursion (IsGiven (records_of (before ++ own))) (records_of l)) (sym none) tt
-all_given before own (inr h) = let all = records_of (before ++ own) in first_none (external_fault all) (IsGiven all) (is_given all) own (after_none (external_fault all) before own h)
+all_given before own (inr h) = let all = records_of (before ++ own) in
+    first_none (external_fault all) (IsGiven all) (is_given all) own (after_none (external_fault all) before own h)
 
 -- ---- the parts
 
-pub raw_records : (reads_debug : Bool) (part : Part) (before : List SpelledRecord) (own : List Step) (after : List ℕ) → is_raw reads_debug part ≡ true → IsOwn reads_debug part false before own after → records_of own ≡ []
+pub raw_records : (reads_debug : Bool) (part : Part) (before : List SpelledRecord) (own : List Step) (after : List ℕ) → is_raw reads_debug part ≡ true
+    → IsOwn reads_debug part false before own after → records_of own ≡ []
 raw_records reads_debug part before own after is (inl its) = its.1
 raw_records reads_debug part before own after is (inr its) = absurd (both_ways (is_raw reads_debug part) its.0 is)
 
@@ -63,7 +76,8 @@ pub record ReadPart (part : Part) (before : List SpelledRecord) (own : List Step
   pub are_whole : AreWhole false (records_of own) after
   pub keeps : KeptFrom part before (records_of own)
 
-pub read_records : (reads_debug : Bool) (part : Part) (before : List SpelledRecord) (own : List Step) (after : List ℕ) → is_raw reads_debug part ≡ false → IsOwn reads_debug part false before own after → ReadPart part before own after
+pub read_records : (reads_debug : Bool) (part : Part) (before : List SpelledRecord) (own : List Step) (after : List ℕ) → is_raw reads_debug part
+    ≡ false → IsOwn reads_debug part false before own after → ReadPart part before own after
 read_records reads_debug part before own after is (inl its) = absurd (both_ways (is_raw reads_debug part) is its.0)
 read_records reads_debug part before own after is (inr its) = record { bytes = its.1; are_whole = its.2; keeps = its.3 }
 
@@ -79,7 +93,8 @@ abbrev pub skipped_of : Bool → List Step → List ℕ
 skipped_of true own = []
 skipped_of false own = prefix_bytes own
 
-pub debug_records : (reads_debug : Bool) (before : List SpelledRecord) (own : List Step) (after : List ℕ) → IsOwn reads_debug debug_part false before own after → DebugPart reads_debug before own after (skipped_of reads_debug own)
+pub debug_records : (reads_debug : Bool) (before : List SpelledRecord) (own : List Step) (after : List ℕ)
+    → IsOwn reads_debug debug_part false before own after → DebugPart reads_debug before own after (skipped_of reads_debug own)
 debug_records true before own after is =
     let its = read_records true debug_part before own after refl is in
     record { bytes = append-nil (bytes_of (records_of own)) ∙ its.bytes; are_whole = its.are_whole; keeps = its.keeps; read = refl }
@@ -97,9 +112,12 @@ no_open [] h = refl
 no_open (b ∷ blocks) h = absurd cc
 
 -- no block is open after it
-pub debug_closed : (before own : List Step) → open_kinds (records_of before) ≡ [] → (own ≡ []) ⊎ (whole_fault debug_part (before ++ own) ≡ None) → open_kinds (records_of (before ++ own)) ≡ []
-debug_closed before own none (inl empty) = ap (λ (l : List Step). open_kinds (records_of (before ++ l))) empty ∙ ap (λ (l : List Step). open_kinds (records_of l)) (append-nil before) ∙ none
-debug_closed before own none (inr h) = sym (kinds-open (before ++ own)) ∙ ap (λ (l : List OpenBlock). kinds_of l) (no_open (open_blocks (offset_records_of (before ++ own))) h)
+pub debug_closed : (before own : List Step) → open_kinds (records_of before) ≡ [] → (own ≡ []) ⊎ (whole_fault debug_part (before ++ own) ≡ None)
+    → open_kinds (records_of (before ++ own)) ≡ []
+debug_closed before own none (inl empty) = ap (λ (l : List Step). open_kinds (records_of (before ++ l))) empty
+    ∙ ap (λ (l : List Step). open_kinds (records_of l)) (append-nil before) ∙ none
+debug_closed before own none (inr h) = sym (kinds-open (before ++ own))
+    ∙ ap (λ (l : List OpenBlock). kinds_of l) (no_open (open_blocks (offset_records_of (before ++ own))) h)
 
 -- ---- the file
 
@@ -133,6 +151,7 @@ pub record Sliced (reads_debug : Bool) (prefix : List Step) : Type 0 where
   pub offsets : offsets_of prefix ≡ offsets_in f.offsets
 
 -- the place of a part, or none where it is empty
-pub stands_of : (w at : ℕ) (own : List Step) (bytes : List ℕ) → prefix_bytes own ≡ bytes → ((w ≡ at) × (w ≡ 0 → ⊥)) ⊎ ((w ≡ 0) × (own ≡ [])) → (w ≡ at) ⊎ ((w ≡ 0) × (bytes ≡ []))
+pub stands_of : (w at : ℕ) (own : List Step) (bytes : List ℕ) → prefix_bytes own ≡ bytes → ((w ≡ at) × (w ≡ 0 → ⊥)) ⊎ ((w ≡ 0) × (own ≡ []))
+    → (w ≡ at) ⊎ ((w ≡ 0) × (bytes ≡ []))
 stands_of w at own bytes e (inl there) = inl there.0
 stands_of w at own bytes e (inr none) = inr (none.0, sym e ∙ ap prefix_bytes none.1)

@@ -1,12 +1,15 @@
 -- Seven parts after a header, and the record after them, make the parts of a file.
-use Rattle.std.proofs.Common.{◌≡◌, ◌⊎◌, ℕ, ◌+◌, Bool, true, false, ◌&&◌, List, [], ◌∷◌, ◌++◌, length, drop, Option, None, is_none, refl, sym, ap, subst, ◌∙◌, arith, append_assoc, append-nil, filter_map}
+use Rattle.std.proofs.Common.{◌≡◌, ◌⊎◌, ℕ, ◌+◌, Bool, true, false, ◌&&◌, List, [], ◌∷◌, ◌++◌, length, drop, Option, None, is_none, refl, sym, ap}
+use Rattle.std.proofs.Common.{subst, ◌∙◌, arith, append_assoc, append-nil, filter_map}
 use Rattle.std.specs.List.{list_all, AllByRecursion}
 use Rattle.mufom_records.specs.declared.record.Mode.TheVariants as mode
 use Rattle.mufom_records.specs.Fields.{first_of}
 use Rattle.mufom_records.specs.Layouts.{IsWholeRecord}
 use Rattle.mufom_module.specs.SpelledRecords.{SpelledRecord, bytes_of}
-use Rattle.mufom_module.specs.RecordParts.{Part, extension_part, environment_part, section_part, external_part, debug_part, data_part, trailer_part, end_part, part_of, stands_in}
-use Rattle.mufom_module.specs.Grammar.{FileParts, debug_bytes, parts_of, module_end, from_trailer, from_loads, from_debug, from_externals, from_sections, after_header, AreOfModes, header_modes, AreWhole, offsets_in, StandAt}
+use Rattle.mufom_module.specs.RecordParts.{Part, extension_part, environment_part, section_part, external_part, debug_part, data_part, trailer_part}
+use Rattle.mufom_module.specs.RecordParts.{end_part, part_of, stands_in}
+use Rattle.mufom_module.specs.Grammar.{FileParts, debug_bytes, parts_of, module_end, from_trailer, from_loads, from_debug, from_externals}
+use Rattle.mufom_module.specs.Grammar.{from_sections, after_header, AreOfModes, header_modes, AreWhole, offsets_in, StandAt}
 use Rattle.mufom_read.specs.Prefixes.{Step, read, prefix_bytes, size_of, records_of, offsets_of, first_present, parts_in_order, is_raw, is_ended}
 use Rattle.mufom_read.specs.Faults.{lacks_base, whole_fault, is_bad_descriptor}
 use Rattle.mufom_read.proofs.so_far.BlockKinds.{open_kinds, none_before}
@@ -15,7 +18,8 @@ use Rattle.mufom_read.proofs.ended.Rows.{IsBegin, IsDescriptor, begin_row, descr
 use Rattle.mufom_read.proofs.ended.Header.{offsets-append, InOrder, HeaderRun, header_run}
 use Rattle.mufom_read.proofs.ended.Parts.{KeptFrom, own_of, no_offset}
 use Rattle.mufom_read.proofs.ended.Chunks.{Chunk, EndsThere, Chunks, chunks_of, is_end}
-use Rattle.mufom_read.proofs.ended.Sliced.{ReadPart, raw_records, read_records, DebugPart, skipped_of, debug_records, debug_closed, IsGiven, all_based, all_given, Sliced, stands_of}
+use Rattle.mufom_read.proofs.ended.Sliced.{ReadPart, raw_records, read_records, DebugPart, skipped_of, debug_records, debug_closed, IsGiven}
+use Rattle.mufom_read.proofs.ended.Sliced.{all_based, all_given, Sliced, stands_of}
 
 -- the place of a part, or none where it is empty
 abbrev Stands : ℕ → List Step → List Step → Type 0
@@ -35,7 +39,8 @@ record ReadChunk (part : Part) (w : ℕ) (before own later steps : List Step) : 
   stands : Stands w before own
   offsets : offsets_of own ≡ []
 
-raw_chunk : (reads_debug : Bool) (part : Part) (w to : ℕ) (before steps : List Step) → is_raw reads_debug part ≡ true → (c : Chunk reads_debug part w to before steps) → RawChunk w before c.cut.own c.cut.later steps
+raw_chunk : (reads_debug : Bool) (part : Part) (w to : ℕ) (before steps : List Step) → is_raw reads_debug part ≡ true
+    → (c : Chunk reads_debug part w to before steps) → RawChunk w before c.cut.own c.cut.later steps
 raw_chunk reads_debug part w to before steps is c = record {
   split = c.cut.split;
   none = raw_records reads_debug part (records_of before) c.cut.own (prefix_bytes c.cut.later) is c.cut.is_own;
@@ -43,7 +48,8 @@ raw_chunk reads_debug part w to before steps is c = record {
   offsets = c.cut.offsets;
 }
 
-read_chunk : (reads_debug : Bool) (part : Part) (w to : ℕ) (before steps : List Step) → is_raw reads_debug part ≡ false → (c : Chunk reads_debug part w to before steps) → ReadChunk part w before c.cut.own c.cut.later steps
+read_chunk : (reads_debug : Bool) (part : Part) (w to : ℕ) (before steps : List Step) → is_raw reads_debug part ≡ false
+    → (c : Chunk reads_debug part w to before steps) → ReadChunk part w before c.cut.own c.cut.later steps
 read_chunk reads_debug part w to before steps is c = record {
   split = c.cut.split;
   is_read = read_records reads_debug part (records_of before) c.cut.own (prefix_bytes c.cut.later) is c.cut.is_own;
@@ -58,7 +64,8 @@ record DebugChunk (reads_debug : Bool) (w : ℕ) (before own later steps : List 
   stands : Stands w before own
   offsets : offsets_of own ≡ []
 
-debug_chunk : (reads_debug : Bool) (w to : ℕ) (before steps : List Step) → (c : Chunk reads_debug debug_part w to before steps) → DebugChunk reads_debug w before c.cut.own c.cut.later steps
+debug_chunk : (reads_debug : Bool) (w to : ℕ) (before steps : List Step) → (c : Chunk reads_debug debug_part w to before steps)
+    → DebugChunk reads_debug w before c.cut.own c.cut.later steps
 debug_chunk reads_debug w to before steps c = record {
   split = c.cut.split;
   is_debug = debug_records reads_debug (records_of before) c.cut.own (prefix_bytes c.cut.later) c.cut.is_own;
@@ -77,7 +84,8 @@ record HeaderFacts (before later : List Step) (begin descriptor : SpelledRecord)
   no_bad : is_bad_descriptor descriptor.row ≡ false
 
 -- the parts of the file
-abbrev file_of : Bool → SpelledRecord → SpelledRecord → List SpelledRecord → List Step → List Step → List Step → List Step → List Step → List Step → List Step → FileParts
+abbrev file_of : Bool → SpelledRecord → SpelledRecord → List SpelledRecord → List Step → List Step → List Step → List Step → List Step → List Step
+    → List Step → FileParts
 file_of reads_debug begin descriptor offsets o0 o1 o2 o3 o4 o5 o6 = record {
   begin = begin;
   descriptor = descriptor;
@@ -110,7 +118,8 @@ shifted prefix before own later steps a b = a ∙ ap (λ l. before ++ l) b ∙ s
 same_offsets : (before own : List Step) (ws : List ℕ) → offsets_of before ≡ ws → offsets_of own ≡ [] → offsets_of (before ++ own) ≡ ws
 same_offsets before own ws a b = offsets-append before own ∙ (λ i. a i ++ b i) ∙ append-nil ws
 
-here_or_none : (w n : ℕ) (before own : List Step) (x : List ℕ) → size_of before ≡ n → x ≡ prefix_bytes own → Stands w before own → (w ≡ n) ⊎ ((w ≡ 0) × (x ≡ []))
+here_or_none : (w n : ℕ) (before own : List Step) (x : List ℕ) → size_of before ≡ n → x ≡ prefix_bytes own → Stands w before own → (w ≡ n)
+    ⊎ ((w ≡ 0) × (x ≡ []))
 here_or_none w n before own x e its h = subst (λ (k : ℕ). (w ≡ k) ⊎ ((w ≡ 0) × (x ≡ []))) e (stands_of w (size_of before) own x (sym its) h)
 
 one_head : (a b : ℕ) → a ∷ [] ≡ b ∷ [] → a ≡ b
@@ -118,22 +127,27 @@ one_head a b h = cc
 
 end_bytes_of : (before steps : List Step) (ws : List ℕ) (last : EndsThere before ws steps) → prefix_bytes steps ≡ module_end
 end_bytes_of before steps ws last =
-    ap prefix_bytes last.is_last ∙ append-nil last.spelled.bytes ∙ (end_bytes last.spelled.row last.spelled.bytes None (is_end last.spelled.row last.own) last.is_whole).1
+    ap prefix_bytes last.is_last ∙ append-nil last.spelled.bytes
+    ∙ (end_bytes last.spelled.row last.spelled.bytes None (is_end last.spelled.row last.own) last.is_whole).1
 
 no_end_offset : (start : ℕ) (p : SpelledRecord) → stands_in end_part p.row ≡ true → offsets_of (read start p ∷ []) ≡ []
 no_end_offset start p own = ap (λ (o : Option ℕ). filter_map (λ (y : Option ℕ). y) (o ∷ [])) (no_offset end_part p.row own)
 
-header_offsets : (begin descriptor : SpelledRecord) (offs : List SpelledRecord) → IsBegin begin.row → IsDescriptor descriptor.row → offsets_in (begin ∷ descriptor ∷ offs) ≡ offsets_in offs
-header_offsets begin descriptor offs first second = (λ i. offsets_in (record { row = first.2 i; bytes = begin.bytes } ∷ record { row = second.3 i; bytes = descriptor.bytes } ∷ offs))
+header_offsets : (begin descriptor : SpelledRecord) (offs : List SpelledRecord) → IsBegin begin.row → IsDescriptor descriptor.row
+    → offsets_in (begin ∷ descriptor ∷ offs) ≡ offsets_in offs
+header_offsets begin descriptor offs first second = (λ i. offsets_in
+    (record { row = first.2 i; bytes = begin.bytes } ∷ record { row = second.3 i; bytes = descriptor.bytes } ∷ offs))
 
-header_silent : (begin descriptor : SpelledRecord) (offs : List SpelledRecord) → IsBegin begin.row → IsDescriptor descriptor.row → list_all (λ p. is_none (part_of p.row)) offs ≡ true → list_all (λ p. is_none (part_of p.row)) (begin ∷ descriptor ∷ offs) ≡ true
+header_silent : (begin descriptor : SpelledRecord) (offs : List SpelledRecord) → IsBegin begin.row → IsDescriptor descriptor.row
+    → list_all (λ p. is_none (part_of p.row)) offs ≡ true → list_all (λ p. is_none (part_of p.row)) (begin ∷ descriptor ∷ offs) ≡ true
 header_silent begin descriptor offs first second rest =
     (λ i. is_none (part_of (first.2 i)) && (is_none (part_of (second.3 i)) && list_all (λ p. is_none (part_of p.row)) offs)) ∙ rest
 
 -- ---- all together
 
 slice_from : (reads_debug : Bool) (prefix b0 l : List Step) (begin descriptor : SpelledRecord) (offs : List SpelledRecord) (w0 w1 w2 w3 w4 w5 w6 w7 : ℕ)
-    (o0 o1 o2 o3 o4 o5 o6 l0 l1 l2 l3 l4 l5 l6 : List Step) → prefix ≡ b0 ++ l → HeaderFacts b0 l begin descriptor offs → offsets_in offs ≡ w0 ∷ w1 ∷ w2 ∷ w3 ∷ w4 ∷ w5 ∷ w6 ∷ w7 ∷ []
+    (o0 o1 o2 o3 o4 o5 o6 l0 l1 l2 l3 l4 l5 l6 : List Step) → prefix ≡ b0 ++ l → HeaderFacts b0 l begin descriptor offs → offsets_in offs
+    ≡ w0 ∷ w1 ∷ w2 ∷ w3 ∷ w4 ∷ w5 ∷ w6 ∷ w7 ∷ []
     → RawChunk w0 b0 o0 l0 l
     → RawChunk w1 (b0 ++ o0) o1 l1 l0
     → ReadChunk section_part w2 ((b0 ++ o0) ++ o1) o2 l2 l1
@@ -141,13 +155,16 @@ slice_from : (reads_debug : Bool) (prefix b0 l : List Step) (begin descriptor : 
     → DebugChunk reads_debug w4 ((((b0 ++ o0) ++ o1) ++ o2) ++ o3) o4 l4 l3
     → ReadChunk data_part w5 (((((b0 ++ o0) ++ o1) ++ o2) ++ o3) ++ o4) o5 l5 l4
     → ReadChunk trailer_part w6 ((((((b0 ++ o0) ++ o1) ++ o2) ++ o3) ++ o4) ++ o5) o6 l6 l5
-    → ((o2 ≡ []) ⊎ (whole_fault section_part (((b0 ++ o0) ++ o1) ++ o2) ≡ None)) → ((o3 ≡ []) ⊎ (whole_fault external_part ((((b0 ++ o0) ++ o1) ++ o2) ++ o3) ≡ None))
+    → ((o2 ≡ []) ⊎ (whole_fault section_part (((b0 ++ o0) ++ o1) ++ o2) ≡ None))
+    → ((o3 ≡ []) ⊎ (whole_fault external_part ((((b0 ++ o0) ++ o1) ++ o2) ++ o3) ≡ None))
     → ((o4 ≡ []) ⊎ (whole_fault debug_part (((((b0 ++ o0) ++ o1) ++ o2) ++ o3) ++ o4) ≡ None))
     → EndsThere (((((((b0 ++ o0) ++ o1) ++ o2) ++ o3) ++ o4) ++ o5) ++ o6) (w7 ∷ []) l6 → Sliced reads_debug prefix
-slice_from reads_debug prefix b0 l begin descriptor offs w0 w1 w2 w3 w4 w5 w6 w7 o0 o1 o2 o3 o4 o5 o6 l0 l1 l2 l3 l4 l5 l6 whole h values c0 c1 c2 c3 c4 c5 c6 based given closed last =
+slice_from reads_debug prefix b0 l begin descriptor offs w0 w1 w2 w3 w4 w5 w6 w7 o0 o1 o2 o3 o4 o5 o6 l0 l1 l2 l3 l4 l5 l6 whole h values c0 c1 c2 c3
+    c4 c5 c6 based given closed last =
     let f = file_of reads_debug begin descriptor offs o0 o1 o2 o3 o4 o5 o6 in
     let header = begin ∷ descriptor ∷ offs in
-    let t : prefix_bytes l5 ≡ from_trailer f = chain o6 l6 l5 (bytes_of f.trailer) module_end c6.split c6.is_read.bytes (end_bytes_of (((((((b0 ++ o0) ++ o1) ++ o2) ++ o3) ++ o4) ++ o5) ++ o6) l6 (w7 ∷ []) last) in
+    let t : prefix_bytes l5 ≡ from_trailer f = chain o6 l6 l5 (bytes_of f.trailer) module_end c6.split c6.is_read.bytes
+    (end_bytes_of (((((((b0 ++ o0) ++ o1) ++ o2) ++ o3) ++ o4) ++ o5) ++ o6) l6 (w7 ∷ []) last) in
     let d5 : prefix_bytes l4 ≡ from_loads f = chain o5 l5 l4 (bytes_of f.loads) (from_trailer f) c5.split c5.is_read.bytes t in
     let d4 : prefix_bytes l3 ≡ from_debug f = chain o4 l4 l3 (debug_bytes f) (from_loads f) c4.split c4.is_debug.bytes d5 in
     let d3 : prefix_bytes l2 ≡ from_externals f = chain o3 l3 l2 (bytes_of f.externals) (from_debug f) c3.split c3.is_read.bytes d4 in
@@ -157,19 +174,42 @@ slice_from reads_debug prefix b0 l begin descriptor offs w0 w1 w2 w3 w4 w5 w6 w7
     let p1 : records_of (b0 ++ o0) ≡ header = same_records b0 o0 header h.records c0.none in
     let p2 : records_of ((b0 ++ o0) ++ o1) ≡ header = same_records (b0 ++ o0) o1 header p1 c1.none in
     let p3 : records_of (((b0 ++ o0) ++ o1) ++ o2) ≡ header ++ f.sections = grown ((b0 ++ o0) ++ o1) o2 header f.sections p2 refl in
-    let p4 : records_of ((((b0 ++ o0) ++ o1) ++ o2) ++ o3) ≡ (header ++ f.sections) ++ f.externals = grown (((b0 ++ o0) ++ o1) ++ o2) o3 (header ++ f.sections) f.externals p3 refl in
-    let p5 : records_of (((((b0 ++ o0) ++ o1) ++ o2) ++ o3) ++ o4) ≡ ((header ++ f.sections) ++ f.externals) ++ f.debug = grown ((((b0 ++ o0) ++ o1) ++ o2) ++ o3) o4 ((header ++ f.sections) ++ f.externals) f.debug p4 refl in
-    let p6 : records_of ((((((b0 ++ o0) ++ o1) ++ o2) ++ o3) ++ o4) ++ o5) ≡ (((header ++ f.sections) ++ f.externals) ++ f.debug) ++ f.loads = grown (((((b0 ++ o0) ++ o1) ++ o2) ++ o3) ++ o4) o5 (((header ++ f.sections) ++ f.externals) ++ f.debug) f.loads p5 refl in
-    let p7 : records_of (((((((b0 ++ o0) ++ o1) ++ o2) ++ o3) ++ o4) ++ o5) ++ o6) ≡ ((((header ++ f.sections) ++ f.externals) ++ f.debug) ++ f.loads) ++ f.trailer = grown ((((((b0 ++ o0) ++ o1) ++ o2) ++ o3) ++ o4) ++ o5) o6 ((((header ++ f.sections) ++ f.externals) ++ f.debug) ++ f.loads) f.trailer p6 refl in
+    let p4 : records_of ((((b0 ++ o0) ++ o1) ++ o2) ++ o3) ≡ (header ++ f.sections) ++ f.externals =
+    grown (((b0 ++ o0) ++ o1) ++ o2) o3 (header ++ f.sections) f.externals p3 refl in
+    let p5 : records_of (((((b0 ++ o0) ++ o1) ++ o2) ++ o3) ++ o4) ≡ ((header ++ f.sections) ++ f.externals) ++ f.debug =
+    grown ((((b0 ++ o0) ++ o1) ++ o2) ++ o3) o4 ((header ++ f.sections) ++ f.externals) f.debug p4 refl in
+    let p6 : records_of ((((((b0 ++ o0) ++ o1) ++ o2) ++ o3) ++ o4) ++ o5) ≡ (((header ++ f.sections) ++ f.externals) ++ f.debug) ++ f.loads =
+    grown (((((b0 ++ o0) ++ o1) ++ o2) ++ o3) ++ o4) o5 (((header ++ f.sections) ++ f.externals) ++ f.debug) f.loads p5 refl in
+    let p7 : records_of (((((((b0 ++ o0) ++ o1) ++ o2) ++ o3) ++ o4) ++ o5) ++ o6) ≡ ((((header ++ f.sections) ++ f.externals) ++ f.debug) ++ f.loads)
+    ++ f.trailer = grown ((((((b0 ++ o0) ++ o1) ++ o2) ++ o3) ++ o4) ++ o5) o6 ((((header ++ f.sections) ++ f.externals) ++ f.debug)
+    ++ f.loads) f.trailer p6 refl in
     let n0 = length (bytes_of header) in
     let e0 : size_of b0 ≡ n0 = sym (ap length h.bytes) in
     let e1 : size_of (b0 ++ o0) ≡ (n0 + length (f.extension)) = longer b0 o0 n0 (f.extension) e0 refl in
-    let e2 : size_of ((b0 ++ o0) ++ o1) ≡ ((n0 + length (f.extension)) + length (f.environment)) = longer (b0 ++ o0) o1 (n0 + length (f.extension)) (f.environment) e1 refl in
-    let e3 : size_of (((b0 ++ o0) ++ o1) ++ o2) ≡ (((n0 + length (f.extension)) + length (f.environment)) + length (bytes_of f.sections)) = longer ((b0 ++ o0) ++ o1) o2 ((n0 + length (f.extension)) + length (f.environment)) (bytes_of f.sections) e2 c2.is_read.bytes in
-    let e4 : size_of ((((b0 ++ o0) ++ o1) ++ o2) ++ o3) ≡ ((((n0 + length (f.extension)) + length (f.environment)) + length (bytes_of f.sections)) + length (bytes_of f.externals)) = longer (((b0 ++ o0) ++ o1) ++ o2) o3 (((n0 + length (f.extension)) + length (f.environment)) + length (bytes_of f.sections)) (bytes_of f.externals) e3 c3.is_read.bytes in
-    let e5 : size_of (((((b0 ++ o0) ++ o1) ++ o2) ++ o3) ++ o4) ≡ (((((n0 + length (f.extension)) + length (f.environment)) + length (bytes_of f.sections)) + length (bytes_of f.externals)) + length (debug_bytes f)) = longer ((((b0 ++ o0) ++ o1) ++ o2) ++ o3) o4 ((((n0 + length (f.extension)) + length (f.environment)) + length (bytes_of f.sections)) + length (bytes_of f.externals)) (debug_bytes f) e4 c4.is_debug.bytes in
-    let e6 : size_of ((((((b0 ++ o0) ++ o1) ++ o2) ++ o3) ++ o4) ++ o5) ≡ ((((((n0 + length (f.extension)) + length (f.environment)) + length (bytes_of f.sections)) + length (bytes_of f.externals)) + length (debug_bytes f)) + length (bytes_of f.loads)) = longer (((((b0 ++ o0) ++ o1) ++ o2) ++ o3) ++ o4) o5 (((((n0 + length (f.extension)) + length (f.environment)) + length (bytes_of f.sections)) + length (bytes_of f.externals)) + length (debug_bytes f)) (bytes_of f.loads) e5 c5.is_read.bytes in
-    let e7 : size_of (((((((b0 ++ o0) ++ o1) ++ o2) ++ o3) ++ o4) ++ o5) ++ o6) ≡ ((((((n0 + length (f.extension)) + length (f.environment)) + length (bytes_of f.sections)) + length (bytes_of f.externals)) + length (debug_bytes f)) + length (bytes_of f.loads)) + length (bytes_of f.trailer) = longer ((((((b0 ++ o0) ++ o1) ++ o2) ++ o3) ++ o4) ++ o5) o6 ((((((n0 + length (f.extension)) + length (f.environment)) + length (bytes_of f.sections)) + length (bytes_of f.externals)) + length (debug_bytes f)) + length (bytes_of f.loads)) (bytes_of f.trailer) e6 c6.is_read.bytes in
+    let e2 : size_of ((b0 ++ o0) ++ o1) ≡ ((n0 + length (f.extension)) + length (f.environment)) =
+    longer (b0 ++ o0) o1 (n0 + length (f.extension)) (f.environment) e1 refl in
+    let e3 : size_of (((b0 ++ o0) ++ o1) ++ o2) ≡ (((n0 + length (f.extension)) + length (f.environment)) + length (bytes_of f.sections)) =
+    longer ((b0 ++ o0) ++ o1) o2 ((n0 + length (f.extension)) + length (f.environment)) (bytes_of f.sections) e2 c2.is_read.bytes in
+    let e4 : size_of ((((b0 ++ o0) ++ o1) ++ o2) ++ o3) ≡ ((((n0 + length (f.extension)) + length (f.environment)) + length
+    (bytes_of f.sections)) + length (bytes_of f.externals)) =
+    longer (((b0 ++ o0) ++ o1) ++ o2) o3 (((n0 + length (f.extension)) + length (f.environment)) + length (bytes_of f.sections))
+    (bytes_of f.externals) e3 c3.is_read.bytes in
+    let e5 : size_of (((((b0 ++ o0) ++ o1) ++ o2) ++ o3) ++ o4)
+    ≡ (((((n0 + length (f.extension)) + length (f.environment)) + length (bytes_of f.sections)) + length (bytes_of f.externals)) + length
+    (debug_bytes f)) = longer ((((b0 ++ o0) ++ o1) ++ o2) ++ o3) o4
+    ((((n0 + length (f.extension)) + length (f.environment)) + length (bytes_of f.sections)) + length (bytes_of f.externals)) (debug_bytes f) e4
+    c4.is_debug.bytes in
+    let e6 : size_of ((((((b0 ++ o0) ++ o1) ++ o2) ++ o3) ++ o4) ++ o5)
+    ≡ ((((((n0 + length (f.extension)) + length (f.environment)) + length (bytes_of f.sections)) + length (bytes_of f.externals)) + length
+    (debug_bytes f)) + length (bytes_of f.loads)) = longer (((((b0 ++ o0) ++ o1) ++ o2) ++ o3)
+    ++ o4) o5 (((((n0 + length (f.extension)) + length (f.environment)) + length (bytes_of f.sections)) + length (bytes_of f.externals)) + length
+    (debug_bytes f)) (bytes_of f.loads) e5 c5.is_read.bytes in
+    let e7 : size_of (((((((b0 ++ o0) ++ o1) ++ o2) ++ o3) ++ o4) ++ o5) ++ o6)
+    ≡ ((((((n0 + length (f.extension)) + length (f.environment)) + length (bytes_of f.sections)) + length (bytes_of f.externals)) + length
+    (debug_bytes f)) + length (bytes_of f.loads)) + length (bytes_of f.trailer) =
+    longer ((((((b0 ++ o0) ++ o1) ++ o2) ++ o3) ++ o4) ++ o5) o6
+    ((((((n0 + length (f.extension)) + length (f.environment)) + length (bytes_of f.sections)) + length (bytes_of f.externals)) + length
+    (debug_bytes f)) + length (bytes_of f.loads)) (bytes_of f.trailer) e6 c6.is_read.bytes in
     let g0 = shifted prefix b0 o0 l0 l whole c0.split in
     let g1 = shifted prefix (b0 ++ o0) o1 l1 l0 g0 c1.split in
     let g2 = shifted prefix ((b0 ++ o0) ++ o1) o2 l2 l1 g1 c2.split in
@@ -190,11 +230,40 @@ slice_from reads_debug prefix b0 l begin descriptor offs w0 w1 w2 w3 w4 w5 w6 w7
       end = last.spelled;
       bytes = ap prefix_bytes whole ∙ bytes-append b0 l ∙ (λ i. sym h.bytes i ++ d0 i);
       header = subst (λ (k : List ℕ). AreOfModes header_modes header k) d0 h.modes;
-      stand = subst (λ (ws : List ℕ). StandAt ws n0 (parts_of f)) (sym values) (here_or_none w0 n0 b0 o0 (f.extension) e0 refl c0.stands, (here_or_none w1 (n0 + length (f.extension)) (b0 ++ o0) o1 (f.environment) e1 refl c1.stands, (here_or_none w2 ((n0 + length (f.extension)) + length (f.environment)) ((b0 ++ o0) ++ o1) o2 (bytes_of f.sections) e2 c2.is_read.bytes c2.stands, (here_or_none w3 (((n0 + length (f.extension)) + length (f.environment)) + length (bytes_of f.sections)) (((b0 ++ o0) ++ o1) ++ o2) o3 (bytes_of f.externals) e3 c3.is_read.bytes c3.stands, (here_or_none w4 ((((n0 + length (f.extension)) + length (f.environment)) + length (bytes_of f.sections)) + length (bytes_of f.externals)) ((((b0 ++ o0) ++ o1) ++ o2) ++ o3) o4 (debug_bytes f) e4 c4.is_debug.bytes c4.stands, (here_or_none w5 (((((n0 + length (f.extension)) + length (f.environment)) + length (bytes_of f.sections)) + length (bytes_of f.externals)) + length (debug_bytes f)) (((((b0 ++ o0) ++ o1) ++ o2) ++ o3) ++ o4) o5 (bytes_of f.loads) e5 c5.is_read.bytes c5.stands, (here_or_none w6 ((((((n0 + length (f.extension)) + length (f.environment)) + length (bytes_of f.sections)) + length (bytes_of f.externals)) + length (debug_bytes f)) + length (bytes_of f.loads)) ((((((b0 ++ o0) ++ o1) ++ o2) ++ o3) ++ o4) ++ o5) o6 (bytes_of f.trailer) e6 c6.is_read.bytes c6.stands, ap (λ (k : ℕ). k ∷ []) (one_head w7 (size_of (((((((b0 ++ o0) ++ o1) ++ o2) ++ o3) ++ o4) ++ o5) ++ o6)) last.offset ∙ e7))))))));
+      stand = subst (λ (ws : List ℕ). StandAt ws n0 (parts_of f)) (sym values) (
+        here_or_none w0 n0 b0 o0 (f.extension) e0 refl c0.stands,
+        (
+          here_or_none w1 (n0 + length (f.extension)) (b0 ++ o0) o1 (f.environment) e1 refl c1.stands,
+          (
+            here_or_none w2 ((n0 + length (f.extension)) + length (f.environment)) ((b0 ++ o0)
+                ++ o1) o2 (bytes_of f.sections) e2 c2.is_read.bytes c2.stands,
+            (
+              here_or_none w3 (((n0 + length (f.extension)) + length (f.environment)) + length (bytes_of f.sections)) (((b0 ++ o0) ++ o1)
+                  ++ o2) o3 (bytes_of f.externals) e3 c3.is_read.bytes c3.stands,
+              (
+                here_or_none w4 ((((n0 + length (f.extension)) + length (f.environment)) + length (bytes_of f.sections)) + length (bytes_of f.externals))
+                    ((((b0 ++ o0) ++ o1) ++ o2) ++ o3) o4 (debug_bytes f) e4 c4.is_debug.bytes c4.stands,
+                (
+                  here_or_none w5 (((((n0 + length (f.extension)) + length (f.environment)) + length (bytes_of f.sections)) + length
+                      (bytes_of f.externals)) + length (debug_bytes f)) (((((b0 ++ o0) ++ o1) ++ o2) ++ o3)
+                      ++ o4) o5 (bytes_of f.loads) e5 c5.is_read.bytes c5.stands,
+                  (
+                    here_or_none w6 ((((((n0 + length (f.extension)) + length (f.environment)) + length (bytes_of f.sections)) + length
+                        (bytes_of f.externals)) + length (debug_bytes f)) + length (bytes_of f.loads)) ((((((b0 ++ o0) ++ o1) ++ o2) ++ o3) ++ o4)
+                        ++ o5) o6 (bytes_of f.trailer) e6 c6.is_read.bytes c6.stands,
+                    ap (λ (k : ℕ). k ∷ []) (one_head w7 (size_of (((((((b0 ++ o0) ++ o1) ++ o2) ++ o3) ++ o4) ++ o5) ++ o6)) last.offset ∙ e7),
+                  ),
+                ),
+              ),
+            ),
+          ),
+        ),
+      );
       sections = subst (λ (k : List ℕ). AreWhole false f.sections k) d3 c2.is_read.are_whole;
       externals = subst (λ (k : List ℕ). AreWhole false f.externals k) d4 c3.is_read.are_whole;
       loads = subst (λ (k : List ℕ). AreWhole false f.loads k) t c5.is_read.are_whole;
-      trailer = subst (λ (k : List ℕ). AreWhole false f.trailer k) (end_bytes_of (((((((b0 ++ o0) ++ o1) ++ o2) ++ o3) ++ o4) ++ o5) ++ o6) l6 (w7 ∷ []) last) c6.is_read.are_whole;
+      trailer = subst (λ (k : List ℕ). AreWhole false f.trailer k)
+          (end_bytes_of (((((((b0 ++ o0) ++ o1) ++ o2) ++ o3) ++ o4) ++ o5) ++ o6) l6 (w7 ∷ []) last) c6.is_read.are_whole;
       debug = subst (λ (k : List ℕ). AreWhole false f.debug k) d5 c4.is_debug.are_whole;
       debug_read = c4.is_debug.read;
       keep_sections = subst (λ (k : List SpelledRecord). KeptFrom section_part k f.sections) p2 c2.is_read.keeps;
@@ -206,26 +275,33 @@ slice_from reads_debug prefix b0 l begin descriptor offs w0 w1 w2 w3 w4 w5 w6 w7
       given = subst (λ (k : List SpelledRecord). AllByRecursion (IsGiven k) f.externals) p4 (all_given (((b0 ++ o0) ++ o1) ++ o2) o3 given);
       closed = subst (λ (k : List SpelledRecord). open_kinds k ≡ []) p5 (debug_closed ((((b0 ++ o0) ++ o1) ++ o2) ++ o3) o4
           (ap (λ (k : List SpelledRecord). open_kinds k) p4
-          ∙ none_before header f.sections f.externals h.silent (own_of section_part _ f.sections c2.is_read.keeps) (own_of external_part _ f.externals c3.is_read.keeps)) closed);
+          ∙ none_before header f.sections f.externals h.silent (own_of section_part _ f.sections c2.is_read.keeps)
+          (own_of external_part _ f.externals c3.is_read.keeps)) closed);
       silent = h.silent;
       begins = h.begins;
       describes = h.describes;
       no_bad = h.no_bad;
       ends = last.own;
-      records = ap records_of (g6 ∙ ap (λ k. (((((((b0 ++ o0) ++ o1) ++ o2) ++ o3) ++ o4) ++ o5) ++ o6) ++ k) last.is_last) ∙ records-append (((((((b0 ++ o0) ++ o1) ++ o2) ++ o3) ++ o4) ++ o5) ++ o6) (it ∷ []) ∙ ap (λ k. k ++ last.spelled ∷ []) p7;
-      offsets = ap offsets_of (g6 ∙ ap (λ k. (((((((b0 ++ o0) ++ o1) ++ o2) ++ o3) ++ o4) ++ o5) ++ o6) ++ k) last.is_last) ∙ same_offsets (((((((b0 ++ o0) ++ o1) ++ o2) ++ o3) ++ o4) ++ o5) ++ o6) (it ∷ []) (offsets_in offs) a7 (no_end_offset (size_of (((((((b0 ++ o0) ++ o1) ++ o2) ++ o3) ++ o4) ++ o5) ++ o6)) last.spelled last.own);
+      records = ap records_of (g6 ∙ ap (λ k. (((((((b0 ++ o0) ++ o1) ++ o2) ++ o3) ++ o4) ++ o5) ++ o6) ++ k) last.is_last)
+          ∙ records-append (((((((b0 ++ o0) ++ o1) ++ o2) ++ o3) ++ o4) ++ o5) ++ o6) (it ∷ []) ∙ ap (λ k. k ++ last.spelled ∷ []) p7;
+      offsets = ap offsets_of (g6 ∙ ap (λ k. (((((((b0 ++ o0) ++ o1) ++ o2) ++ o3) ++ o4) ++ o5) ++ o6) ++ k) last.is_last)
+          ∙ same_offsets (((((((b0 ++ o0) ++ o1) ++ o2) ++ o3) ++ o4) ++ o5)
+          ++ o6) (it ∷ []) (offsets_in offs) a7 (no_end_offset (size_of (((((((b0 ++ o0) ++ o1) ++ o2) ++ o3) ++ o4) ++ o5) ++ o6)) last.spelled last.own);
     }
 
 -- ---- an ended prefix
 
-header_facts : (reads_debug : Bool) (prefix : List Step) (h : HeaderRun reads_debug prefix) → HeaderFacts (read 0 h.begin ∷ read (length h.begin.bytes) h.descriptor ∷ h.rest.own) h.rest.later h.begin h.descriptor (records_of h.rest.own)
+header_facts : (reads_debug : Bool) (prefix : List Step) (h : HeaderRun reads_debug prefix)
+    → HeaderFacts (read 0 h.begin ∷ read (length h.begin.bytes) h.descriptor ∷ h.rest.own) h.rest.later h.begin h.descriptor (records_of h.rest.own)
 header_facts reads_debug prefix h =
     let offs = records_of h.rest.own in
     let after = prefix_bytes h.rest.later in
     let first = begin_row h.begin.row h.begin.bytes (first_of (prefix_bytes (read (length h.begin.bytes) h.descriptor ∷ drop 2 prefix)) None) h.begins in
     let second = descriptor_row h.descriptor.row h.descriptor.bytes (first_of (prefix_bytes (drop 2 prefix)) None) h.describes in
-    let rest : prefix_bytes (drop 2 prefix) ≡ bytes_of offs ++ after = ap prefix_bytes h.rest.split ∙ bytes-append h.rest.own h.rest.later ∙ ap (λ l. l ++ after) (sym h.rest.bytes) in
-    let more : prefix_bytes (read (length h.begin.bytes) h.descriptor ∷ drop 2 prefix) ≡ (h.descriptor.bytes ++ bytes_of offs) ++ after = ap (λ l. h.descriptor.bytes ++ l) rest ∙ sym (append_assoc h.descriptor.bytes (bytes_of offs) after) in
+    let rest : prefix_bytes (drop 2 prefix) ≡ bytes_of offs ++ after = ap prefix_bytes h.rest.split ∙ bytes-append h.rest.own h.rest.later
+    ∙ ap (λ l. l ++ after) (sym h.rest.bytes) in
+    let more : prefix_bytes (read (length h.begin.bytes) h.descriptor ∷ drop 2 prefix) ≡ (h.descriptor.bytes ++ bytes_of offs) ++ after =
+    ap (λ l. h.descriptor.bytes ++ l) rest ∙ sym (append_assoc h.descriptor.bytes (bytes_of offs) after) in
     record {
       records = refl;
       bytes = ap (λ l. h.begin.bytes ++ (h.descriptor.bytes ++ l)) h.rest.bytes;
@@ -239,7 +315,8 @@ header_facts reads_debug prefix h =
       no_bad = h.no_bad;
     }
 
-slice_chunks : (reads_debug : Bool) (prefix b0 l : List Step) (begin descriptor : SpelledRecord) (offs : List SpelledRecord) (w0 w1 w2 w3 w4 w5 w6 w7 : ℕ) → prefix ≡ b0 ++ l → HeaderFacts b0 l begin descriptor offs
+slice_chunks : (reads_debug : Bool) (prefix b0 l : List Step) (begin descriptor : SpelledRecord) (offs : List SpelledRecord)
+    (w0 w1 w2 w3 w4 w5 w6 w7 : ℕ) → prefix ≡ b0 ++ l → HeaderFacts b0 l begin descriptor offs
     → offsets_in offs ≡ w0 ∷ w1 ∷ w2 ∷ w3 ∷ w4 ∷ w5 ∷ w6 ∷ w7 ∷ []
     → Chunks reads_debug parts_in_order (w0 ∷ w1 ∷ w2 ∷ w3 ∷ w4 ∷ w5 ∷ w6 ∷ w7 ∷ []) b0 l → Sliced reads_debug prefix
 slice_chunks reads_debug prefix b0 l begin descriptor offs w0 w1 w2 w3 w4 w5 w6 w7 whole h values all =
@@ -250,7 +327,8 @@ slice_chunks reads_debug prefix b0 l begin descriptor offs w0 w1 w2 w3 w4 w5 w6 
     let c4 = all.1.1.1.1.0 in
     let c5 = all.1.1.1.1.1.0 in
     let c6 = all.1.1.1.1.1.1.0 in
-    slice_from reads_debug prefix b0 l begin descriptor offs w0 w1 w2 w3 w4 w5 w6 w7 c0.cut.own c1.cut.own c2.cut.own c3.cut.own c4.cut.own c5.cut.own c6.cut.own
+    slice_from reads_debug prefix b0 l begin descriptor offs w0 w1 w2 w3 w4 w5 w6 w7 c0.cut.own c1.cut.own c2.cut.own c3.cut.own c4.cut.own c5.cut.own
+    c6.cut.own
     c0.cut.later c1.cut.later c2.cut.later c3.cut.later c4.cut.later c5.cut.later c6.cut.later whole h values
     (raw_chunk reads_debug extension_part w0 _ _ _ refl c0) (raw_chunk reads_debug environment_part w1 _ _ _ refl c1)
     (read_chunk reads_debug section_part w2 _ _ _ refl c2) (read_chunk reads_debug external_part w3 _ _ _ refl c3)
@@ -258,7 +336,8 @@ slice_chunks reads_debug prefix b0 l begin descriptor offs w0 w1 w2 w3 w4 w5 w6 
     (read_chunk reads_debug data_part w5 _ _ _ refl c5) (read_chunk reads_debug trailer_part w6 _ _ _ refl c6)
     c2.faultless c3.faultless c4.faultless all.1.1.1.1.1.1.1
 
-slice_by : (reads_debug : Bool) (prefix : List Step) (h : HeaderRun reads_debug prefix) (offsets : List ℕ) → h.rest.offsets ≡ offsets → length offsets ≡ 8 → Sliced reads_debug prefix
+slice_by : (reads_debug : Bool) (prefix : List Step) (h : HeaderRun reads_debug prefix) (offsets : List ℕ) → h.rest.offsets ≡ offsets → length offsets
+    ≡ 8 → Sliced reads_debug prefix
 slice_by reads_debug prefix h (w0 ∷ w1 ∷ w2 ∷ w3 ∷ w4 ∷ w5 ∷ w6 ∷ w7 ∷ []) same count =
     let b0 = read 0 h.begin ∷ read (length h.begin.bytes) h.descriptor ∷ h.rest.own in
     let offsets = w0 ∷ w1 ∷ w2 ∷ w3 ∷ w4 ∷ w5 ∷ w6 ∷ w7 ∷ [] in

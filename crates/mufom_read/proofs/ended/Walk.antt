@@ -1,5 +1,6 @@
 -- A sound prefix as a walk: each step with what stands after it, read by the place where it stands.
-use Rattle.std.proofs.Common.{◌≡◌, ◌⊎◌, ℕ, zero, suc, ◌+◌, ◌≤◌, Bool, true, false, List, [], ◌∷◌, ◌++◌, length, take, drop, Option, Some, None, refl, sym, ap, subst, ◌∙◌, inl, inr, arith, append_assoc, append-nil}
+use Rattle.std.proofs.Common.{◌≡◌, ◌⊎◌, ℕ, zero, suc, ◌+◌, ◌≤◌, Bool, true, false, List, [], ◌∷◌, ◌++◌, length, take, drop, Option, Some, None, refl}
+use Rattle.std.proofs.Common.{sym, ap, subst, ◌∙◌, inl, inr, arith, append_assoc, append-nil}
 use Rattle.std.specs.Option.{option_or}
 use Rattle.std.proofs.lemmas.List.{length-append, take-append-drop, drop_at}
 use Rattle.std.proofs.lemmas.List.Elements.{filter_map-append}
@@ -14,7 +15,9 @@ use Rattle.mufom_records.specs.Layouts.{IsWholeRecord}
 use Rattle.mufom_records.specs.Reading.{record_at}
 use Rattle.mufom_records.proofs.RecordLaws.{record_at-got}
 use Rattle.mufom_module.specs.SpelledRecords.{SpelledRecord}
-use Rattle.mufom_read.specs.Prefixes.{Step, raw, read, step_bytes, prefix_bytes, size_of, record_of, records_of, Extent, Location, in_header, in_part, at_end, location_after, header_mode, is_raw, body_mode, as_step, raw_step, step_in, step_at, next_step, is_ended}
+use Rattle.mufom_read.specs.Prefixes.{Step, raw, read, step_bytes, prefix_bytes, size_of, record_of, records_of, Extent, Location, in_header, in_part}
+use Rattle.mufom_read.specs.Prefixes.{at_end, location_after, header_mode, is_raw, body_mode, as_step, raw_step, step_in, step_at, next_step}
+use Rattle.mufom_read.specs.Prefixes.{is_ended}
 use Rattle.mufom_read.specs.Faults.{Fault, ended_part_fault, step_fault}
 use Rattle.mufom_read.specs.Judging.{IsSoundFrom, IsSoundPrefix}
 
@@ -86,7 +89,8 @@ raw_at (b ∷ more) step n h =
     let count : 1 ≡ n = cc in
     record { byte = b; more = more; split = refl; is_this = sym its; count = sym count }
 
-part_at_test : (reads_debug : Bool) (before : List Step) (e : Extent) (rest : List ℕ) (step : Step) (n : ℕ) (test : Bool) → is_raw reads_debug e.part ≡ test → AreBytes rest
+part_at_test : (reads_debug : Bool) (before : List Step) (e : Extent) (rest : List ℕ) (step : Step) (n : ℕ) (test : Bool) → is_raw reads_debug e.part
+    ≡ test → AreBytes rest
     → step_in reads_debug before e rest ≡ taken step n → IsNextAt reads_debug before (in_part e) rest step n
 part_at_test reads_debug before e rest step n true is fits h = inl (is, raw_at rest step n (rw is at h))
 part_at_test reads_debug before e rest step n false is fits h = inr (is, read_at (body_mode before e rest) before rest step n fits (rw is at h))
@@ -106,7 +110,8 @@ read_prefix m before rest step n is = ap step_bytes is.is_this
 raw_prefix : (rest : List ℕ) (step : Step) (n : ℕ) → IsRaw rest step n → step_bytes step ≡ take n rest
 raw_prefix rest step n is = ap step_bytes is.is_this ∙ sym (ap (take n) is.split ∙ ap (λ k. take k (is.byte ∷ is.more)) is.count)
 
-pub next_prefix : (reads_debug : Bool) (before : List Step) (fault_offset : Location) (rest : List ℕ) (step : Step) (n : ℕ) → IsNextAt reads_debug before fault_offset rest step n → step_bytes step ≡ take n rest
+pub next_prefix : (reads_debug : Bool) (before : List Step) (fault_offset : Location) (rest : List ℕ) (step : Step) (n : ℕ)
+    → IsNextAt reads_debug before fault_offset rest step n → step_bytes step ≡ take n rest
 next_prefix reads_debug before (in_header k) rest step n is = read_prefix (header_mode k) before rest step n is
 next_prefix reads_debug before (in_part e) rest step n (inl is) = raw_prefix rest step n is.1
 next_prefix reads_debug before (in_part e) rest step n (inr is) = read_prefix (body_mode before e rest) before rest step n is.1
@@ -120,8 +125,10 @@ no_fault (Some fault) b h = absurd cc
 -- has not ended before it.
 abbrev pub IsWalk : Bool → List Step → List Step → Type 0
 IsWalk reads_debug before [] = Unit {0}
-IsWalk reads_debug before (step ∷ steps) = (is_ended before ≡ false) × (ended_part_fault before ≡ None) × (step_fault before (taken step (length (step_bytes step))) ≡ None)
-    × IsNextAt reads_debug before (location_after before) (prefix_bytes (step ∷ steps)) step (length (step_bytes step)) × IsWalk reads_debug (before ++ step ∷ []) steps
+IsWalk reads_debug before (step ∷ steps) = (is_ended before ≡ false) × (ended_part_fault before ≡ None)
+    × (step_fault before (taken step (length (step_bytes step))) ≡ None)
+    × IsNextAt reads_debug before (location_after before) (prefix_bytes (step ∷ steps)) step (length (step_bytes step))
+    × IsWalk reads_debug (before ++ step ∷ []) steps
 
 AreBytes-drop : (n : ℕ) (bytes : List ℕ) → AreBytes bytes → AreBytes (drop n bytes)
 AreBytes-drop zero bytes fits = fits
@@ -129,16 +136,22 @@ AreBytes-drop (suc n) [] fits = tt
 AreBytes-drop (suc n) (b ∷ bytes) fits = AreBytes-drop n bytes fits.1
 
 -- the stream begins with the bytes of a sound prefix
-pub prefix_first : (reads_debug : Bool) (before steps : List Step) (rest : List ℕ) → AreBytes rest → IsSoundFrom reads_debug before steps rest → (later : List ℕ) × (rest ≡ prefix_bytes steps ++ later)
+pub prefix_first : (reads_debug : Bool) (before steps : List Step) (rest : List ℕ) → AreBytes rest → IsSoundFrom reads_debug before steps rest
+    → (later : List ℕ) × (rest ≡ prefix_bytes steps ++ later)
 prefix_first reads_debug before [] rest fits sound = (rest, refl)
 prefix_first reads_debug before (step ∷ steps) rest fits sound =
     let n = length (step_bytes step) in
-    let first = next_prefix reads_debug before (location_after before) rest step n (next_at reads_debug before (location_after before) rest step n fits sound.2) in
-    let rec = prefix_first reads_debug (before ++ step ∷ []) steps (drop n rest) (AreBytes-drop n rest fits) sound.3 in
-    (rec.0, sym (take-append-drop n rest) ∙ ap (λ l. l ++ drop n rest) (sym first) ∙ ap (λ l. step_bytes step ++ l) rec.1 ∙ sym (append_assoc (step_bytes step) (prefix_bytes steps) rec.0))
+    let first = next_prefix reads_debug before (location_after before) rest step n
+    (next_at reads_debug before (location_after before) rest step n fits sound.2) in
+    let rec = prefix_first reads_debug (before ++ step ∷ []) steps (drop n rest) (AreBytes-drop n rest fits) sound.3 in (
+      rec.0,
+      sym (take-append-drop n rest) ∙ ap (λ l. l ++ drop n rest) (sym first) ∙ ap (λ l. step_bytes step ++ l) rec.1
+          ∙ sym (append_assoc (step_bytes step) (prefix_bytes steps) rec.0),
+    )
 
 -- a prefix that is the whole stream is a walk
-pub walk_of : (reads_debug : Bool) (before steps : List Step) → AreBytes (prefix_bytes steps) → IsSoundFrom reads_debug before steps (prefix_bytes steps) → IsWalk reads_debug before steps
+pub walk_of : (reads_debug : Bool) (before steps : List Step) → AreBytes (prefix_bytes steps)
+    → IsSoundFrom reads_debug before steps (prefix_bytes steps) → IsWalk reads_debug before steps
 walk_of reads_debug before [] fits sound = tt
 walk_of reads_debug before (step ∷ steps) fits sound =
     let n = length (step_bytes step) in
@@ -154,7 +167,8 @@ walk_of reads_debug before (step ∷ steps) fits sound =
     )
 
 -- the bytes of a sound prefix that is as long as the stream are the stream
-pub all_bytes : (reads_debug : Bool) (prefix : List Step) (bytes : List ℕ) → AreBytes bytes → IsSoundPrefix reads_debug prefix bytes → size_of prefix ≡ length bytes → bytes ≡ prefix_bytes prefix
+pub all_bytes : (reads_debug : Bool) (prefix : List Step) (bytes : List ℕ) → AreBytes bytes → IsSoundPrefix reads_debug prefix bytes → size_of prefix
+    ≡ length bytes → bytes ≡ prefix_bytes prefix
 all_bytes reads_debug prefix bytes fits sound size =
     let first = prefix_first reads_debug [] prefix bytes fits sound in
     let count : length bytes ≡ size_of prefix + length first.0 = ap length first.1 ∙ length-append (prefix_bytes prefix) first.0 in

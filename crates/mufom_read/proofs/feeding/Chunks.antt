@@ -1,5 +1,7 @@
 -- A reader that has read one record more.
-use Rattle.std.proofs.Common.{◌≡◌, ◌≢◌, ◌⊎◌, inl, inr, ℕ, zero, suc, ◌+◌, ◌-◌, ◌<◌, ◌≤◌, Bool, true, false, true≢false, List, [], ◌∷◌, ◌++◌, length, take, drop, Option, Some, None, Ok, Err, refl, sym, ap, subst, ◌∙◌, arith, take_all, length-drop, length-append, length-take, min, nat_lt, Fits, w8, slice_index_or}
+use Rattle.std.proofs.Common.{◌≡◌, ◌≢◌, ◌⊎◌, inl, inr, ℕ, zero, suc, ◌+◌, ◌-◌, ◌<◌, ◌≤◌, Bool, true, false, true≢false, List, [], ◌∷◌, ◌++◌, length}
+use Rattle.std.proofs.Common.{take, drop, Option, Some, None, Ok, Err, refl, sym, ap, subst, ◌∙◌, arith, take_all, length-drop, length-append}
+use Rattle.std.proofs.Common.{length-take, min, nat_lt, Fits, w8, slice_index_or}
 use Rattle.std.proofs.lemmas.Bool.{cases_lt, ltb-false, ltb-true}
 use Rattle.std.proofs.lemmas.List.{nil_from_length}
 use Rattle.mufom_numbers.specs.declared.reason.Reason.{Reason}
@@ -36,10 +38,12 @@ record IsLonger (reads_debug : Bool) (prefix : List Step) (stream chunk judged r
   pub sound : IsSoundPrefix reads_debug prefix judged
   pub after : rest ≡ drop (size_of prefix) judged
 
-longer : (r : State) (stream chunk w : List ℕ) (is : IsReading r stream) → AreBytes (stream ++ chunk) → w ≡ take (file_limit - (r.prefix.size + length r.rest.items)) chunk
+longer : (r : State) (stream chunk w : List ℕ) (is : IsReading r stream) → AreBytes (stream ++ chunk) → w
+    ≡ take (file_limit - (r.prefix.size + length r.rest.items)) chunk
     → IsLonger r.reads_debug is.prefix stream chunk (stream ++ w) (r.rest.items ++ w)
 longer r stream chunk w is bytes cut =
-    let count : r.prefix.size + length r.rest.items ≡ length stream = omega (arith, is.kept.size, ap length is.rest, length-drop (size_of is.prefix) stream, is.inside) in
+    let count : r.prefix.size + length r.rest.items ≡ length stream =
+    omega (arith, is.kept.size, ap length is.rest, length-drop (size_of is.prefix) stream, is.inside) in
     let same : take (file_limit - length stream) chunk ≡ w = ap (λ n. take (file_limit - n) chunk) (sym count) ∙ sym cut in
     record {
       all = within-append stream chunk ∙ ap (λ l. l ++ take (file_limit - length stream) chunk) (whole-within stream is.within) ∙ ap (λ l. stream ++ l) same;
@@ -48,7 +52,8 @@ longer r stream chunk w is bytes cut =
     }
 
 -- the steps that were taken of it
-more_steps : (reads_debug : Bool) (prefix steps : List Step) (judged rest : List ℕ) → IsSoundPrefix reads_debug prefix judged → rest ≡ drop (size_of prefix) judged → IsSoundFrom reads_debug prefix steps rest
+more_steps : (reads_debug : Bool) (prefix steps : List Step) (judged rest : List ℕ) → IsSoundPrefix reads_debug prefix judged → rest
+    ≡ drop (size_of prefix) judged → IsSoundFrom reads_debug prefix steps rest
     → IsSoundPrefix reads_debug (prefix ++ steps) judged × (drop (size_of steps) rest ≡ drop (size_of (prefix ++ steps)) judged)
 more_steps reads_debug prefix steps judged rest sound here more = (
   sound-append reads_debug [] prefix steps judged sound (subst (λ (l : List ℕ). IsSoundFrom reads_debug prefix steps l) here more),
@@ -56,7 +61,8 @@ more_steps reads_debug prefix steps judged rest sound here more = (
 )
 
 -- a fault after them is one of the stream
-pub chunk-refused : (r : State) (stream chunk w : List ℕ) (is : IsReading r stream) (new : Prefix) (f : ReadRefusal) → AreBytes (stream ++ chunk) → w ≡ take (file_limit - (r.prefix.size + length r.rest.items)) chunk
+pub chunk-refused : (r : State) (stream chunk w : List ℕ) (is : IsReading r stream) (new : Prefix) (f : ReadRefusal) → AreBytes (stream ++ chunk) → w
+    ≡ take (file_limit - (r.prefix.size + length r.rest.items)) chunk
     → HasTakenAll r.reads_debug is.prefix (r.rest.items ++ w) new (Err (stop.Refused f)) → IsRefusedAt r.reads_debug (stream ++ chunk) f.place f.reason
 chunk-refused r stream chunk w is new f bytes cut (steps, sound, unended, fault) =
     let far = longer r stream chunk w is bytes cut in
@@ -65,7 +71,8 @@ chunk-refused r stream chunk w is new f bytes cut (steps, sound, unended, fault)
       prefix = is.prefix ++ steps;
       sound = subst (λ (l : List ℕ). IsSoundPrefix r.reads_debug (is.prefix ++ steps) l) (sym far.all) both.0;
       unended = unended;
-      fault = ap (λ (l : List ℕ). fault_after r.reads_debug (is.prefix ++ steps) (drop (size_of (is.prefix ++ steps)) l)) far.all ∙ ap (fault_after r.reads_debug (is.prefix ++ steps)) (sym both.1) ∙ fault;
+      fault = ap (λ (l : List ℕ). fault_after r.reads_debug (is.prefix ++ steps) (drop (size_of (is.prefix ++ steps)) l)) far.all
+          ∙ ap (fault_after r.reads_debug (is.prefix ++ steps)) (sym both.1) ∙ fault;
     })
 
 -- ---- what a chunk makes known
@@ -81,7 +88,8 @@ read-length r stream is = omega (arith, is.kept.size, ap length is.rest, length-
 -- a reader has no step left
 pub reading-no-step : (r : State) (stream : List ℕ) (is : IsReading r stream) → HasNoStep r.reads_debug is.prefix r.rest.items
 reading-no-step r stream is = by_case is.waits where
-  by_case : (((is_ended is.prefix ≡ true) × (size_of is.prefix ≡ length stream)) ⊎ IsIncomplete r.reads_debug is.prefix r.rest.items) → HasNoStep r.reads_debug is.prefix r.rest.items
+  by_case : (((is_ended is.prefix ≡ true) × (size_of is.prefix ≡ length stream)) ⊎ IsIncomplete r.reads_debug is.prefix r.rest.items)
+      → HasNoStep r.reads_debug is.prefix r.rest.items
   by_case (inl end) = inl (end.0, nil_from_length r.rest.items (omega (arith, ap length is.rest, length-drop (size_of is.prefix) stream, end.1)))
   by_case (inr want) = inr want
 
@@ -97,7 +105,8 @@ record HasGoneAfter (r : State) (stream chunk : List ℕ) (prefix : List Step) (
   pub long : length (stream ++ chunk) ≡ length stream + length chunk
 
 gone-after : (r : State) (stream chunk : List ℕ) (is : IsReading r stream) (steps : List Step) (n : ℕ) → AreBytes (stream ++ chunk)
-    → IsSoundFrom r.reads_debug is.prefix steps (r.rest.items ++ take (room_of r) chunk) → size_of steps ≡ n → n ≤ length (r.rest.items ++ take (room_of r) chunk)
+    → IsSoundFrom r.reads_debug is.prefix steps (r.rest.items ++ take (room_of r) chunk) → size_of steps ≡ n
+    → n ≤ length (r.rest.items ++ take (room_of r) chunk)
     → HasGoneAfter r stream chunk (is.prefix ++ steps) n (r.rest.items ++ take (room_of r) chunk)
 gone-after r stream chunk is steps n bytes sound size within =
     let w = take (room_of r) chunk in
@@ -126,8 +135,10 @@ abbrev Waits : Bool → List Step → List ℕ → Type 0
 Waits reads_debug prefix after = (is_ended prefix ≡ true) ⊎ IsIncomplete reads_debug prefix after
 
 -- nothing is stated: the whole stream was read
-still-reading : (r : State) (stream chunk : List ℕ) (prefix : List Step) (n : ℕ) (rest : List ℕ) (new : State) → HasGoneAfter r stream chunk prefix n rest → new.reads_debug ≡ r.reads_debug
-    → IsPrefixOf new.prefix prefix → Waits r.reads_debug prefix (drop n rest) → nat_lt (room_of r) (length chunk) ≡ false → new.rest.items ≡ drop n rest → (is_ended prefix ≡ true → drop n rest ≡ [])
+still-reading : (r : State) (stream chunk : List ℕ) (prefix : List Step) (n : ℕ) (rest : List ℕ) (new : State)
+    → HasGoneAfter r stream chunk prefix n rest → new.reads_debug ≡ r.reads_debug
+    → IsPrefixOf new.prefix prefix → Waits r.reads_debug prefix (drop n rest) → nat_lt (room_of r) (length chunk) ≡ false → new.rest.items
+    ≡ drop n rest → (is_ended prefix ≡ true → drop n rest ≡ [])
     → IsReading new (stream ++ chunk)
 still-reading r stream chunk prefix n rest new gone same is waits short left none =
     let few : length chunk ≤ room_of r = ltb-false (room_of r) (length chunk) short in
@@ -136,28 +147,35 @@ still-reading r stream chunk prefix n rest new gone same is waits short left non
     record {
       prefix = prefix;
       kept = is;
-      sound = subst (λ (b : Bool). IsSoundPrefix b prefix (stream ++ chunk)) (sym same) (subst (λ (l : List ℕ). IsSoundPrefix r.reads_debug prefix l) whole gone.sound);
+      sound = subst (λ (b : Bool). IsSoundPrefix b prefix (stream ++ chunk)) (sym same)
+          (subst (λ (l : List ℕ). IsSoundPrefix r.reads_debug prefix l) whole gone.sound);
       within = omega (arith, gone.long, gone.room, few);
       inside = omega (arith, gone.long, gone.inside, all, few);
       rest = left ∙ gone.after ∙ ap (drop (size_of prefix)) whole;
       waits = by_case waits;
     }
   where
-    by_case : Waits r.reads_debug prefix (drop n rest) → ((is_ended prefix ≡ true) × (size_of prefix ≡ length (stream ++ chunk))) ⊎ IsIncomplete new.reads_debug prefix new.rest.items
+    by_case : Waits r.reads_debug prefix (drop n rest) → ((is_ended prefix ≡ true) × (size_of prefix ≡ length (stream ++ chunk)))
+        ⊎ IsIncomplete new.reads_debug prefix new.rest.items
     by_case (inl end) = let few : length chunk ≤ room_of r = ltb-false (room_of r) (length chunk) short in
         inl (end, omega (arith, gone.long, gone.size, gone.count, few, ap length (none end)))
-    by_case (inr want) = inr (subst (λ (b : Bool). IsIncomplete b prefix new.rest.items) (sym same) (subst (λ (l : List ℕ). IsIncomplete r.reads_debug prefix l) (sym left) want))
+    by_case (inr want) = inr (subst (λ (b : Bool). IsIncomplete b prefix new.rest.items) (sym same)
+        (subst (λ (l : List ℕ). IsIncomplete r.reads_debug prefix l) (sym left) want))
 
 -- a byte stands after the end
-after-end : (r : State) (stream chunk : List ℕ) (prefix : List Step) (n : ℕ) (rest : List ℕ) (offset : ℕ) (reason : Reason) → HasGoneAfter r stream chunk prefix n rest → is_ended prefix ≡ true → offset ≡ size_of prefix → reason ≡ why.AfterEnd
+after-end : (r : State) (stream chunk : List ℕ) (prefix : List Step) (n : ℕ) (rest : List ℕ) (offset : ℕ) (reason : Reason)
+    → HasGoneAfter r stream chunk prefix n rest → is_ended prefix ≡ true → offset ≡ size_of prefix → reason ≡ why.AfterEnd
     → (nat_lt (room_of r) (length chunk) ≡ true) ⊎ (drop n rest ≢ []) → IsRefusedAt r.reads_debug (stream ++ chunk) offset reason
-after-end r stream chunk prefix n rest offset reason gone end here for_ more = inr (inl (for_, record { prefix = prefix; sound = gone.sound; ended = end; here = sym here }, by_case more)) where
-  by_case : ((nat_lt (room_of r) (length chunk) ≡ true) ⊎ (drop n rest ≢ [])) → offset < length (stream ++ chunk)
-  by_case (inl long) = let many : room_of r < length chunk = ltb-true (room_of r) (length chunk) long in omega (arith, here, gone.inside, gone.count, gone.long, many)
-  by_case (inr some) = let left : 0 < length (drop n rest) = some_left n rest some in omega (arith, here, gone.size, gone.count, gone.long, left)
+after-end r stream chunk prefix n rest offset reason gone end here for_ more =
+    inr (inl (for_, record { prefix = prefix; sound = gone.sound; ended = end; here = sym here }, by_case more)) where
+      by_case : ((nat_lt (room_of r) (length chunk) ≡ true) ⊎ (drop n rest ≢ [])) → offset < length (stream ++ chunk)
+      by_case (inl long) = let many : room_of r < length chunk = ltb-true (room_of r) (length chunk) long in
+          omega (arith, here, gone.inside, gone.count, gone.long, many)
+      by_case (inr some) = let left : 0 < length (drop n rest) = some_left n rest some in omega (arith, here, gone.size, gone.count, gone.long, left)
 
 -- the stream is too long
-too-long : (r : State) (stream chunk : List ℕ) (prefix : List Step) (n : ℕ) (rest : List ℕ) (offset : ℕ) (reason : Reason) → HasGoneAfter r stream chunk prefix n rest → is_ended prefix ≡ false → offset ≡ file_limit → reason ≡ why.FileLimit
+too-long : (r : State) (stream chunk : List ℕ) (prefix : List Step) (n : ℕ) (rest : List ℕ) (offset : ℕ) (reason : Reason)
+    → HasGoneAfter r stream chunk prefix n rest → is_ended prefix ≡ false → offset ≡ file_limit → reason ≡ why.FileLimit
     → nat_lt (room_of r) (length chunk) ≡ true → Waits r.reads_debug prefix (drop n rest) → IsRefusedAt r.reads_debug (stream ++ chunk) offset reason
 too-long r stream chunk prefix n rest offset reason gone unended here for_ long waits =
     let many : room_of r < length chunk = ltb-true (room_of r) (length chunk) long in
@@ -165,13 +183,23 @@ too-long r stream chunk prefix n rest offset reason gone unended here for_ long 
   where
     by_case : Waits r.reads_debug prefix (drop n rest) → IsWaiting r.reads_debug (stream ++ chunk) (drop n rest)
     by_case (inl end) = absurd (true≢false (sym end ∙ unended))
-    by_case (inr want) = record { prefix = prefix; sound = gone.sound; unended = want.unended; faultless = want.faultless; wanting = want.wanting; after = gone.after }
+    by_case (inr want) = record {
+      prefix = prefix;
+      sound = gone.sound;
+      unended = want.unended;
+      faultless = want.faultless;
+      wanting = want.wanting;
+      after = gone.after;
+    }
 
 -- what is stated after the steps
-knows-ended : (r : State) (stream chunk : List ℕ) (prefix : List Step) (n : ℕ) (rest : List ℕ) (longer_ : Bool) (new : State) (result : Option ReadStop) → HasGoneAfter r stream chunk prefix n rest → new.reads_debug ≡ r.reads_debug
-    → longer_ ≡ nat_lt (room_of r) (length chunk) → IsPrefixOf new.prefix prefix → Waits r.reads_debug prefix (drop n rest) → HasEndedChunk (is_ended prefix) new.prefix.size longer_ (drop n rest) new result
+knows-ended : (r : State) (stream chunk : List ℕ) (prefix : List Step) (n : ℕ) (rest : List ℕ) (longer_ : Bool) (new : State)
+    (result : Option ReadStop) → HasGoneAfter r stream chunk prefix n rest → new.reads_debug ≡ r.reads_debug
+    → longer_ ≡ nat_lt (room_of r) (length chunk) → IsPrefixOf new.prefix prefix → Waits r.reads_debug prefix (drop n rest)
+    → HasEndedChunk (is_ended prefix) new.prefix.size longer_ (drop n rest) new result
     → Knows new (stream ++ chunk) result
-knows-ended r stream chunk prefix n rest longer_ new None gone same test is waits (left, short, none) = still-reading r stream chunk prefix n rest new gone same is waits (sym test ∙ short) left none
+knows-ended r stream chunk prefix n rest longer_ new None gone same test is waits (left, short, none) =
+    still-reading r stream chunk prefix n rest new gone same is waits (sym test ∙ short) left none
 knows-ended r stream chunk prefix n rest longer_ new (Some (stop.Refused f)) gone same test is waits (inl (end, fault, more)) =
     subst (λ (b : Bool). IsRefusedAt b (stream ++ chunk) f.place f.reason) (sym same)
     (after-end r stream chunk prefix n rest f.place f.reason gone end (ap (λ (p : Fault). p.0) fault ∙ is.size) (ap (λ (p : Fault). p.1) fault) (by_case more))
@@ -181,7 +209,8 @@ knows-ended r stream chunk prefix n rest longer_ new (Some (stop.Refused f)) gon
     by_case (inr some) = inr some
 knows-ended r stream chunk prefix n rest longer_ new (Some (stop.Refused f)) gone same test is waits (inr (unended, fault, long)) =
     subst (λ (b : Bool). IsRefusedAt b (stream ++ chunk) f.place f.reason) (sym same)
-    (too-long r stream chunk prefix n rest f.place f.reason gone unended (ap (λ (p : Fault). p.0) fault) (ap (λ (p : Fault). p.1) fault) (sym test ∙ long) waits)
+    (too-long r stream chunk prefix n rest f.place f.reason gone unended (ap (λ (p : Fault). p.0) fault) (ap (λ (p : Fault). p.1) fault) (sym test
+    ∙ long) waits)
 knows-ended r stream chunk prefix n rest longer_ new (Some stop.NoMemory) gone same test is waits ended = tt
 
 -- a slice of u8 is of bytes
@@ -190,27 +219,37 @@ fits-bytes [] fits = tt
 fits-bytes (b ∷ bytes) fits = let first : Fits w8 b = fits 0 in (omega (arith, first), fits-bytes bytes (λ i. fits (suc i)))
 
 -- the pending bytes and a chunk of a stream are bytes
-pub rest-bytes : (r : State) (stream chunk : List ℕ) (n : ℕ) → AreBytes stream → IsReading r stream → ((i : ℕ) → Fits w8 (slice_index_or chunk i 0)) → AreBytes (r.rest.items ++ take n chunk)
+pub rest-bytes : (r : State) (stream chunk : List ℕ) (n : ℕ) → AreBytes stream → IsReading r stream → ((i : ℕ) → Fits w8 (slice_index_or chunk i 0))
+    → AreBytes (r.rest.items ++ take n chunk)
 rest-bytes r stream chunk n bytes is fits =
-    AreBytes-append r.rest.items (take n chunk) (subst (λ (l : List ℕ). AreBytes l) (sym is.rest) (AreBytes-drop (size_of is.prefix) stream bytes)) (AreBytes-take n chunk (fits-bytes chunk fits))
+    AreBytes-append r.rest.items (take n chunk) (subst (λ (l : List ℕ). AreBytes l) (sym is.rest) (AreBytes-drop (size_of is.prefix) stream bytes))
+    (AreBytes-take n chunk (fits-bytes chunk fits))
 
 -- what a chunk makes known, where all that it has with the pending bytes was taken
-pub known-taken : (r new : State) (stream chunk w : List ℕ) (longer_ : Bool) (result : Option ReadStop) → IsReading r stream → AreBytes (stream ++ chunk) → w ≡ take (file_limit - (r.prefix.size + length r.rest.items)) chunk
+pub known-taken : (r new : State) (stream chunk w : List ℕ) (longer_ : Bool) (result : Option ReadStop) → IsReading r stream
+    → AreBytes (stream ++ chunk) → w ≡ take (file_limit - (r.prefix.size + length r.rest.items)) chunk
     → longer_ ≡ nat_lt (file_limit - (r.prefix.size + length r.rest.items)) (length chunk) → new.reads_debug ≡ r.reads_debug
-    → ((before : List Step) → IsPrefixOf r.prefix before → HasNoStep r.reads_debug before r.rest.items → HasTakenChunk r.reads_debug before (r.rest.items ++ w) new (Ok tt))
-    → ((prefix : List Step) → IsPrefixOf new.prefix prefix → HasEndedChunk (is_ended prefix) new.prefix.size longer_ new.rest.items new result) → Knows new (stream ++ chunk) result
+    → ((before : List Step) → IsPrefixOf r.prefix before → HasNoStep r.reads_debug before r.rest.items
+    → HasTakenChunk r.reads_debug before (r.rest.items ++ w) new (Ok tt))
+    → ((prefix : List Step) → IsPrefixOf new.prefix prefix → HasEndedChunk (is_ended prefix) new.prefix.size longer_ new.rest.items new result)
+    → Knows new (stream ++ chunk) result
 known-taken r new stream chunk w longer_ result is bytes cut test same taken ended =
-    let all = subst (λ (l : List ℕ). HasTakenChunk r.reads_debug is.prefix (r.rest.items ++ l) new (Ok tt)) cut (taken is.prefix is.kept (reading-no-step r stream is)) in
+    let all = subst (λ (l : List ℕ). HasTakenChunk r.reads_debug is.prefix (r.rest.items ++ l) new (Ok tt)) cut
+    (taken is.prefix is.kept (reading-no-step r stream is)) in
     let its = all.1 in
     let prefix = is.prefix ++ its.0 in
-    knows-ended r stream chunk prefix all.0 (r.rest.items ++ take (room_of r) chunk) longer_ new result (gone-after r stream chunk is its.0 all.0 bytes its.2 its.3 its.4) same test its.1 its.5
+    knows-ended r stream chunk prefix all.0 (r.rest.items ++ take (room_of r) chunk) longer_ new result
+    (gone-after r stream chunk is its.0 all.0 bytes its.2 its.3 its.4) same test its.1 its.5
     (subst (λ (l : List ℕ). HasEndedChunk (is_ended prefix) new.prefix.size longer_ l new result) all.2 (ended prefix its.1))
 
 -- and where there is a fault in it, or no memory
-pub known-stopped : (r new : State) (stream chunk w : List ℕ) (s : ReadStop) → IsReading r stream → AreBytes (stream ++ chunk) → w ≡ take (file_limit - (r.prefix.size + length r.rest.items)) chunk → new.reads_debug ≡ r.reads_debug
-    → ((before : List Step) → IsPrefixOf r.prefix before → HasNoStep r.reads_debug before r.rest.items → HasTakenChunk r.reads_debug before (r.rest.items ++ w) new (Err s)) → Knows new (stream ++ chunk) (Some s)
+pub known-stopped : (r new : State) (stream chunk w : List ℕ) (s : ReadStop) → IsReading r stream → AreBytes (stream ++ chunk) → w
+    ≡ take (file_limit - (r.prefix.size + length r.rest.items)) chunk → new.reads_debug ≡ r.reads_debug
+    → ((before : List Step) → IsPrefixOf r.prefix before → HasNoStep r.reads_debug before r.rest.items
+    → HasTakenChunk r.reads_debug before (r.rest.items ++ w) new (Err s)) → Knows new (stream ++ chunk) (Some s)
 known-stopped r new stream chunk w (stop.Refused f) is bytes cut same taken =
-    subst (λ (b : Bool). IsRefusedAt b (stream ++ chunk) f.place f.reason) (sym same) (chunk-refused r stream chunk w is new.prefix f bytes cut (taken is.prefix is.kept (reading-no-step r stream is)))
+    subst (λ (b : Bool). IsRefusedAt b (stream ++ chunk) f.place f.reason) (sym same)
+    (chunk-refused r stream chunk w is new.prefix f bytes cut (taken is.prefix is.kept (reading-no-step r stream is)))
 known-stopped r new stream chunk w stop.NoMemory is bytes cut same taken = tt
 
 -- ---- how many bytes are pending
@@ -223,8 +262,12 @@ pending-is r stream is = by_case is.waits where
   sound : IsSoundPrefix r.reads_debug is.prefix (within_limit stream)
   sound = subst (λ (l : List ℕ). IsSoundPrefix r.reads_debug is.prefix l) (sym all) is.sound
 
-  by_case : (((is_ended is.prefix ≡ true) × (size_of is.prefix ≡ length stream)) ⊎ IsIncomplete r.reads_debug is.prefix r.rest.items) → IsPending r.reads_debug stream (length r.rest.items)
-  by_case (inl end) = inr (record { prefix = is.prefix; sound = sound; ended = end.0; here = end.1 }, omega (arith, ap length is.rest, length-drop (size_of is.prefix) stream, end.1))
+  by_case : (((is_ended is.prefix ≡ true) × (size_of is.prefix ≡ length stream)) ⊎ IsIncomplete r.reads_debug is.prefix r.rest.items)
+      → IsPending r.reads_debug stream (length r.rest.items)
+  by_case (inl end) = inr (
+    record { prefix = is.prefix; sound = sound; ended = end.0; here = end.1 },
+    omega (arith, ap length is.rest, length-drop (size_of is.prefix) stream, end.1),
+  )
   by_case (inr want) = inl (
     r.rest.items,
     record {

@@ -1,5 +1,6 @@
 -- What a reader answers for a whole stream.
-use Rattle.std.proofs.Common.{◌≡◌, ◌≢◌, ◌⊎◌, ◌↔◌, inl, inr, ℕ, Bool, true, false, true≢false, List, length, drop, Some, Result, Ok, Err, refl, sym, ap, subst, ◌∙◌}
+use Rattle.std.proofs.Common.{◌≡◌, ◌≢◌, ◌⊎◌, ◌↔◌, inl, inr, ℕ, Bool, true, false, true≢false, List, length, drop, Some, Result, Ok, Err, refl, sym}
+use Rattle.std.proofs.Common.{ap, subst, ◌∙◌}
 use Rattle.std.specs.Prelude.{IfOk}
 use Rattle.mufom_numbers.specs.declared.reason.Reason.{Reason}
 use Rattle.mufom_numbers.specs.declared.reason.Reason.TheVariants as why
@@ -26,7 +27,8 @@ sound-within r stream is = subst (λ (l : List ℕ). IsSoundPrefix r.reads_debug
 -- where the module has not ended, the stream is cut off
 cut-off : (r : State) (stream : List ℕ) (is : IsReading r stream) → is_ended is.prefix ≡ false → IsTruncated r.reads_debug stream
 cut-off r stream is unended = (is.within, r.rest.items, by_case is.waits) where
-  by_case : (((is_ended is.prefix ≡ true) × (size_of is.prefix ≡ length stream)) ⊎ IsIncomplete r.reads_debug is.prefix r.rest.items) → IsWaiting r.reads_debug stream r.rest.items
+  by_case : (((is_ended is.prefix ≡ true) × (size_of is.prefix ≡ length stream)) ⊎ IsIncomplete r.reads_debug is.prefix r.rest.items)
+      → IsWaiting r.reads_debug stream r.rest.items
   by_case (inl end) = absurd (true≢false (sym end.0 ∙ unended))
   by_case (inr want) = record {
     prefix = is.prefix;
@@ -40,21 +42,34 @@ cut-off r stream is unended = (is.within, r.rest.items, by_case is.waits) where
 -- where it has, the prefix is the whole stream
 whole-size : (r : State) (stream : List ℕ) (is : IsReading r stream) → is_ended is.prefix ≡ true → size_of is.prefix ≡ length stream
 whole-size r stream is ended = by_case is.waits where
-  by_case : (((is_ended is.prefix ≡ true) × (size_of is.prefix ≡ length stream)) ⊎ IsIncomplete r.reads_debug is.prefix r.rest.items) → size_of is.prefix ≡ length stream
+  by_case : (((is_ended is.prefix ≡ true) × (size_of is.prefix ≡ length stream)) ⊎ IsIncomplete r.reads_debug is.prefix r.rest.items)
+      → size_of is.prefix ≡ length stream
   by_case (inl end) = end.1
   by_case (inr want) = absurd (true≢false (sym ended ∙ want.unended))
 
-pub is-whole : (r : State) (stream : List ℕ) (is : IsReading r stream) → AreBytes stream → is_ended is.prefix ≡ true → IsWhole r.reads_debug r.prefix is.prefix stream
-is-whole r stream is bytes ended = record { kept = is.kept; fits = bytes; limit = is.within; sound = is.sound; ends = ended; all = whole-size r stream is ended }
+pub is-whole : (r : State) (stream : List ℕ) (is : IsReading r stream) → AreBytes stream → is_ended is.prefix ≡ true
+    → IsWhole r.reads_debug r.prefix is.prefix stream
+is-whole r stream is bytes ended = record {
+  kept = is.kept;
+  fits = bytes;
+  limit = is.within;
+  sound = is.sound;
+  ends = ended;
+  all =
+      whole-size r stream is ended;
+}
 
 -- the answer of a reader that has stopped
-pub finish-stopped : {M : Type 0} (r : State) (stream : List ℕ) (s : ReadStop) (offset : ℕ) (reason : Reason) → AreBytes stream → Knows r stream (Some s) → ◌≢◌ {A = Result M ReadStop} (Err s) (Err stop.NoMemory)
+pub finish-stopped : {M : Type 0} (r : State) (stream : List ℕ) (s : ReadStop) (offset : ℕ) (reason : Reason) → AreBytes stream
+    → Knows r stream (Some s) → ◌≢◌ {A = Result M ReadStop} (Err s) (Err stop.NoMemory)
     → (◌≡◌ {A = Result M ReadStop} (Err s) (Err (stop.Refused (the_refusal offset reason)))) ↔ IsJudged r.reads_debug stream (refusal offset reason)
 finish-stopped {M} r stream (stop.Refused f) offset reason bytes known memory = (forth, back) where
-  forth : ◌≡◌ {A = Result M ReadStop} (Err (stop.Refused f)) (Err (stop.Refused (the_refusal offset reason))) → IsJudged r.reads_debug stream (refusal offset reason)
+  forth : ◌≡◌ {A = Result M ReadStop} (Err (stop.Refused f)) (Err (stop.Refused (the_refusal offset reason)))
+      → IsJudged r.reads_debug stream (refusal offset reason)
   forth e = let same : f ≡ the_refusal offset reason = cc in inl (subst (λ (g : ReadRefusal). IsRefusedAt r.reads_debug stream g.place g.reason) same known)
 
-  back : IsJudged r.reads_debug stream (refusal offset reason) → ◌≡◌ {A = Result M ReadStop} (Err (stop.Refused f)) (Err (stop.Refused (the_refusal offset reason)))
+  back : IsJudged r.reads_debug stream (refusal offset reason)
+      → ◌≡◌ {A = Result M ReadStop} (Err (stop.Refused f)) (Err (stop.Refused (the_refusal offset reason)))
   back (inl refused) =
       let same = refusal_is_single r.reads_debug stream f.place offset f.reason reason bytes known refused in
       ap (λ p. Err (stop.Refused (the_refusal p f.reason))) same.0 ∙ ap (λ w. Err (stop.Refused (the_refusal offset w))) same.1
@@ -62,7 +77,8 @@ finish-stopped {M} r stream (stop.Refused f) offset reason bytes known memory = 
 finish-stopped r stream stop.NoMemory offset reason bytes known memory = absurd (memory refl)
 
 -- the answer where the module has not ended
-pub finish-cut : {M : Type 0} (r : State) (stream : List ℕ) (is : IsReading r stream) (s : ReadStop) (size offset : ℕ) (reason : Reason) → is_ended is.prefix ≡ false → s ≡ stop.Refused (the_refusal size why.Truncated) → size ≡ length stream
+pub finish-cut : {M : Type 0} (r : State) (stream : List ℕ) (is : IsReading r stream) (s : ReadStop) (size offset : ℕ) (reason : Reason)
+    → is_ended is.prefix ≡ false → s ≡ stop.Refused (the_refusal size why.Truncated) → size ≡ length stream
     → (◌≡◌ {A = Result M ReadStop} (Err s) (Err (stop.Refused (the_refusal offset reason)))) ↔ IsJudged r.reads_debug stream (refusal offset reason)
 finish-cut {M} r stream is s size offset reason unended states all = (forth, back) where
   forth : ◌≡◌ {A = Result M ReadStop} (Err s) (Err (stop.Refused (the_refusal offset reason))) → IsJudged r.reads_debug stream (refusal offset reason)
@@ -71,7 +87,8 @@ finish-cut {M} r stream is s size offset reason unended states all = (forth, bac
 
   back : IsJudged r.reads_debug stream (refusal offset reason) → ◌≡◌ {A = Result M ReadStop} (Err s) (Err (stop.Refused (the_refusal offset reason)))
   back (inl refused) = absurd (reading-not-refused r stream offset reason is refused)
-  back (inr cut) = ap (λ x. Err x) states ∙ ap (λ p. Err (stop.Refused (the_refusal p why.Truncated))) (all ∙ sym cut.1) ∙ ap (λ w. Err (stop.Refused (the_refusal offset w))) (sym cut.0)
+  back (inr cut) = ap (λ x. Err x) states ∙ ap (λ p. Err (stop.Refused (the_refusal p why.Truncated))) (all ∙ sym cut.1)
+      ∙ ap (λ w. Err (stop.Refused (the_refusal offset w))) (sym cut.0)
 
 -- the answer where it has
 pub finish-whole : {M : Type 0} (r : State) (stream : List ℕ) (is : IsReading r stream) (m : M) (offset : ℕ) (reason : Reason) → is_ended is.prefix ≡ true
@@ -88,8 +105,10 @@ finish-whole {M} r stream is m offset reason ended = (λ e. absurd (ok_err e), b
   back (inr cut) = let truncated = cut.2 in absurd (ended_not_waiting r.reads_debug stream truncated.1 (size_of is.prefix) ends truncated.2)
 
 -- a stream that is a module's is answered as that module, unless memory ran out
-pub finish-file : (reads_debug : Bool) (stream : List ℕ) (m : Parts) (result : Result Parts ReadStop) → AreBytes stream → IfOk result (λ n. IsModule reads_debug stream n)
-    → ((offset : ℕ) (reason : Reason) → result ≡ Err (stop.Refused (the_refusal offset reason)) → IsJudged reads_debug stream (refusal offset reason)) → IsModule reads_debug stream m → result ≢ Err stop.NoMemory
+pub finish-file : (reads_debug : Bool) (stream : List ℕ) (m : Parts) (result : Result Parts ReadStop) → AreBytes stream
+    → IfOk result (λ n. IsModule reads_debug stream n)
+    → ((offset : ℕ) (reason : Reason) → result ≡ Err (stop.Refused (the_refusal offset reason)) → IsJudged reads_debug stream (refusal offset reason))
+    → IsModule reads_debug stream m → result ≢ Err stop.NoMemory
     → result ≡ Ok m
 finish-file reads_debug stream m (Ok n) bytes ok refused is memory = ap (λ x. Ok x) (one_module n m stream reads_debug ok is)
 finish-file reads_debug stream m (Err (stop.Refused f)) bytes ok refused is memory = absurd (excluded (refused f.place f.reason refl)) where

@@ -9,7 +9,8 @@ use Rattle.mufom_records.specs.declared.record.Record.{Record}
 use Rattle.mufom_records.specs.Reading.{record_at}
 use Rattle.mufom_records.proofs.ShortLaws.{unended-short}
 use Rattle.mufom_read.specs.declared.state.State.{State}
-use Rattle.mufom_read.specs.Prefixes.{Step, Extent, Location, in_header, in_part, at_end, size_of, location_after, header_mode, is_raw, body_mode, as_step, raw_step, step_in, step_at, is_ended}
+use Rattle.mufom_read.specs.Prefixes.{Step, Extent, Location, in_header, in_part, at_end, size_of, location_after, header_mode, is_raw, body_mode}
+use Rattle.mufom_read.specs.Prefixes.{as_step, raw_step, step_in, step_at, is_ended}
 use Rattle.mufom_read.specs.Reader.{IsReading, IsIncomplete}
 use Rattle.mufom_read.proofs.judged.Stays.{AreBytes-drop}
 
@@ -22,17 +23,20 @@ as-step-wants at rest (taken.Bad offset reason) e = let wrong : ◌≡◌ {A = T
 step-few : (at : ℕ) (m : Mode) (rest : List ℕ) → AreBytes rest → as_step at rest (record_at m rest) ≡ taken.More → length rest < 131077
 step-few at m rest fits e = unended-short m rest fits (as-step-wants at rest (record_at m rest) e)
 
-part-few : (reads_debug : Bool) (prefix : List Step) (extent : Extent) (rest : List ℕ) → AreBytes rest → step_in reads_debug prefix extent rest ≡ taken.More → length rest < 131077
+part-few : (reads_debug : Bool) (prefix : List Step) (extent : Extent) (rest : List ℕ) → AreBytes rest → step_in reads_debug prefix extent rest
+    ≡ taken.More → length rest < 131077
 part-few reads_debug prefix extent rest fits wants = by_test (is_raw reads_debug extent.part) wants where
   none : (rest : List ℕ) → raw_step rest ≡ taken.More → length rest < 131077
   none [] e = omega arith
   none (b ∷ rest) e = let wrong : ◌≡◌ {A = Taken Step} (raw_step (b ∷ rest)) taken.More = e in absurd cc
 
-  by_test : (test : Bool) → cond test (raw_step rest) (as_step (size_of prefix) rest (record_at (body_mode prefix extent rest) rest)) ≡ taken.More → length rest < 131077
+  by_test : (test : Bool) → cond test (raw_step rest) (as_step (size_of prefix) rest (record_at (body_mode prefix extent rest) rest)) ≡ taken.More
+      → length rest < 131077
   by_test true e = none rest e
   by_test false e = step-few (size_of prefix) (body_mode prefix extent rest) rest fits e
 
-fault_offset-few : (reads_debug : Bool) (prefix : List Step) (fault_offset : Location) (rest : List ℕ) → AreBytes rest → step_at reads_debug prefix fault_offset rest ≡ taken.More → length rest < 131077
+fault_offset-few : (reads_debug : Bool) (prefix : List Step) (fault_offset : Location) (rest : List ℕ) → AreBytes rest
+    → step_at reads_debug prefix fault_offset rest ≡ taken.More → length rest < 131077
 fault_offset-few reads_debug prefix (in_header k) rest fits e = step-few (size_of prefix) (header_mode k) rest fits e
 fault_offset-few reads_debug prefix (in_part extent) rest fits e = part-few reads_debug prefix extent rest fits e
 fault_offset-few reads_debug prefix at_end rest fits e = step-few (size_of prefix) mode.Body rest fits e
@@ -43,6 +47,7 @@ few-pending r stream bytes is = by_case is.waits where
   fits : AreBytes r.rest.items
   fits = subst (λ (l : List ℕ). AreBytes l) (sym is.rest) (AreBytes-drop (size_of is.prefix) stream bytes)
 
-  by_case : (((is_ended is.prefix ≡ true) × (size_of is.prefix ≡ length stream)) ⊎ IsIncomplete r.reads_debug is.prefix r.rest.items) → length r.rest.items < 131077
+  by_case : (((is_ended is.prefix ≡ true) × (size_of is.prefix ≡ length stream)) ⊎ IsIncomplete r.reads_debug is.prefix r.rest.items)
+      → length r.rest.items < 131077
   by_case (inl end) = omega (arith, ap length is.rest, length-drop (size_of is.prefix) stream, end.1)
   by_case (inr want) = fault_offset-few r.reads_debug is.prefix (location_after is.prefix) r.rest.items fits want.wanting

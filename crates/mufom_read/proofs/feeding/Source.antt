@@ -1,5 +1,6 @@
 -- What the answers of a reader state of the bytes that a source had left.
-use Rattle.std.proofs.Common.{◌≡◌, ◌≢◌, ◌⊎◌, ◌↔◌, inl, inr, ℕ, ◌+◌, ◌-◌, ◌<◌, ◌≤◌, Bool, List, [], ◌∷◌, ◌++◌, length, take, drop, Option, Some, None, Result, Ok, Err, IfSome, refl, sym, ap, subst, ◌∙◌, arith, append_assoc, append-nil}
+use Rattle.std.proofs.Common.{◌≡◌, ◌≢◌, ◌⊎◌, ◌↔◌, inl, inr, ℕ, ◌+◌, ◌-◌, ◌<◌, ◌≤◌, Bool, List, [], ◌∷◌, ◌++◌, length, take, drop, Option, Some, None}
+use Rattle.std.proofs.Common.{Result, Ok, Err, IfSome, refl, sym, ap, subst, ◌∙◌, arith, append_assoc, append-nil}
 use Rattle.std.proofs.lemmas.List.{length-append, length-take, length-take-le, take_all, take-take, take-append-drop}
 use Rattle.mufom_numbers.specs.declared.reason.Reason.{Reason}
 use Rattle.mufom_numbers.specs.declared.reason.Reason.TheVariants as why
@@ -17,7 +18,8 @@ use Rattle.mufom_read.specs.declared.source.SourceStop.TheVariants as stop
 use Rattle.mufom_read.specs.declared.state.State.{State}
 use Rattle.mufom_read.specs.Judging.{IsRefusedAt, IsTruncated, IsModule, IsJudged, refusal}
 use Rattle.mufom_read.specs.Reader.{Knows, HasRead, reads_debug_of, reader_stop, answer_of}
-use Rattle.mufom_read.specs.Source.{IsUnrefused, IsRefusedWithin, IsPastLimit, buffer_size, ReadsAtMost, ReadsNoFurther, ReadsModule, stop_by, HasFed, HasReadChunk, HasReadAll}
+use Rattle.mufom_read.specs.Source.{IsUnrefused, IsRefusedWithin, IsPastLimit, buffer_size, ReadsAtMost, ReadsNoFurther, ReadsModule, stop_by, HasFed}
+use Rattle.mufom_read.specs.Source.{HasReadChunk, HasReadAll}
 use Rattle.mufom_read.proofs.judged.PrefixesOne.{one_refusal, not_cut}
 use Rattle.mufom_read.proofs.judged.Stays.{limit-append, refusal_goes_on}
 use Rattle.mufom_read.proofs.spelled.Judged.{judgments_exclude_each_other}
@@ -43,17 +45,22 @@ unrefused : (reader : State) (stream : List ℕ) → HasRead reader stream → r
 unrefused reader stream read none = λ offset reason refused.
     reading-not-refused reader stream offset reason (subst (λ (s : Option ReadStop). Knows reader stream s) none read.1) refused
 
-pub fed-whole : (room count : ℕ) (stream buffer : List ℕ) (reader : State) (done : Unit {0}) → count ≤ room → ◌≡◌ {A = Result (Unit {0}) ReadStop} (Ok done) (answer_of (reader_stop reader)) → HasRead reader (stream ++ take count buffer)
+pub fed-whole : (room count : ℕ) (stream buffer : List ℕ) (reader : State) (done : Unit {0}) → count ≤ room
+    → ◌≡◌ {A = Result (Unit {0}) ReadStop} (Ok done) (answer_of (reader_stop reader)) → HasRead reader (stream ++ take count buffer)
     → HasFed room stream (take count buffer) reader (Ok tt)
-fed-whole room count stream buffer reader done few answers read = (omega (arith, length-take count buffer, few), read, unrefused reader (stream ++ take count buffer) read (going-answered (reader_stop reader) done answers))
+fed-whole room count stream buffer reader done few answers read =
+    (omega (arith, length-take count buffer, few), read, unrefused reader (stream ++ take count buffer) read (going-answered (reader_stop reader) done answers))
 
-pub fed-stopped : (room : ℕ) (stream chunk fed : List ℕ) (reader : State) (s : ReadStop) (made : SourceStop) → take room chunk ≡ fed → made ≡ stop_by s → ◌≡◌ {A = Result (Unit {0}) ReadStop} (Err s) (answer_of (reader_stop reader))
+pub fed-stopped : (room : ℕ) (stream chunk fed : List ℕ) (reader : State) (s : ReadStop) (made : SourceStop) → take room chunk ≡ fed → made
+    ≡ stop_by s → ◌≡◌ {A = Result (Unit {0}) ReadStop} (Err s) (answer_of (reader_stop reader))
     → HasRead reader (stream ++ fed) → HasFed room stream chunk reader (Err made)
 fed-stopped room stream chunk fed reader s made same by answers read =
-    subst (λ (m : SourceStop). HasFed room stream chunk reader (Err m)) (sym by) (by_stop s (subst (λ (o : Option ReadStop). Knows reader (stream ++ fed) o) (stop-answered (reader_stop reader) s answers) read.1))
+    subst (λ (m : SourceStop). HasFed room stream chunk reader (Err m)) (sym by)
+    (by_stop s (subst (λ (o : Option ReadStop). Knows reader (stream ++ fed) o) (stop-answered (reader_stop reader) s answers) read.1))
   where
     by_stop : (s : ReadStop) → Knows reader (stream ++ fed) (Some s) → HasFed room stream chunk reader (Err (stop_by s))
-    by_stop (read_stop.Refused f) known = subst (λ (l : List ℕ). AreBytes (stream ++ l) × IsRefusedAt (reads_debug_of reader) (stream ++ l) f.place f.reason) (sym same) (read.0, known)
+    by_stop (read_stop.Refused f) known = subst (λ (l : List ℕ). AreBytes (stream ++ l)
+        × IsRefusedAt (reads_debug_of reader) (stream ++ l) f.place f.reason) (sym same) (read.0, known)
     by_stop read_stop.NoMemory known = tt
 
 -- a read stop is no fault
@@ -63,11 +70,13 @@ stop-no-fault s made by = λ e. by_stop s (sym by ∙ e) where
   by_stop (read_stop.Refused f) e = let wrong : stop.Refused f ≡ stop.Fault = e in cc
   by_stop read_stop.NoMemory e = let wrong : stop.NoMemory ≡ stop.Fault = e in cc
 
-pub fed-limit : (room count : ℕ) (stream buffer : List ℕ) (reader : State) (done : Unit {0}) → room < count → count ≤ length buffer → ◌≡◌ {A = Result (Unit {0}) ReadStop} (Ok done) (answer_of (reader_stop reader))
+pub fed-limit : (room count : ℕ) (stream buffer : List ℕ) (reader : State) (done : Unit {0}) → room < count → count ≤ length buffer
+    → ◌≡◌ {A = Result (Unit {0}) ReadStop} (Ok done) (answer_of (reader_stop reader))
     → HasRead reader (stream ++ take room buffer) → HasFed room stream (take count buffer) reader (Err stop.Limit)
 fed-limit room count stream buffer reader done many inside answers read = (
   omega (arith, length-take-le count buffer inside, many),
-  subst (λ (l : List ℕ). IsUnrefused (reads_debug_of reader) (stream ++ l)) (sym (take-take room count buffer (omega (arith, many)))) (unrefused reader (stream ++ take room buffer) read (going-answered (reader_stop reader) done answers)),
+  subst (λ (l : List ℕ). IsUnrefused (reads_debug_of reader) (stream ++ l)) (sym (take-take room count buffer (omega (arith, many))))
+      (unrefused reader (stream ++ take room buffer) read (going-answered (reader_stop reader) done answers)),
 )
 
 -- ---- what one read gave
@@ -80,14 +89,17 @@ refused-in-left : (reads_debug : Bool) (room count : ℕ) (stream left : List �
     → IsRefusedAt reads_debug (stream ++ take room (take count left)) offset reason → IsRefusedAt reads_debug (stream ++ take room left) offset reason
 refused-in-left reads_debug room count stream left offset reason bytes refused =
     let more = take (room - length (take count left)) (drop count left) in
-    subst (λ (l : List ℕ). IsRefusedAt reads_debug l offset reason) (append_assoc stream (take room (take count left)) more ∙ ap (λ l. stream ++ l) (sym (take-grows room count left)))
+    subst (λ (l : List ℕ). IsRefusedAt reads_debug l offset reason) (append_assoc stream (take room (take count left)) more
+    ∙ ap (λ l. stream ++ l) (sym (take-grows room count left)))
     (refusal_goes_on reads_debug (stream ++ take room (take count left)) more offset reason bytes refused)
 
-pub chunk-stopped : (room count : ℕ) (before after : Option (List ℕ)) (stream buffer : List ℕ) (reader : State) (s : SourceStop) → Reads before after (Ok count) buffer → HasFed room stream (take count buffer) reader (Err s)
+pub chunk-stopped : (room count : ℕ) (before after : Option (List ℕ)) (stream buffer : List ℕ) (reader : State) (s : SourceStop)
+    → Reads before after (Ok count) buffer → HasFed room stream (take count buffer) reader (Err s)
     → HasReadChunk room before after stream reader (Err s)
 chunk-stopped room count None after stream buffer reader (stop.Refused f) reads fed = tt
 chunk-stopped room count (Some left) after stream buffer reader (stop.Refused f) reads fed =
-    let same = subst (λ (l : List ℕ). AreBytes (stream ++ take room l) × IsRefusedAt (reads_debug_of reader) (stream ++ take room l) f.place f.reason) reads.bytes fed in
+    let same = subst (λ (l : List ℕ). AreBytes (stream ++ take room l)
+    × IsRefusedAt (reads_debug_of reader) (stream ++ take room l) f.place f.reason) reads.bytes fed in
     refused-in-left (reads_debug_of reader) room count stream left f.place f.reason same.0 same.1
 chunk-stopped room count None after stream buffer reader stop.Limit reads fed = tt
 chunk-stopped room count (Some left) after stream buffer reader stop.Limit reads fed =
@@ -100,7 +112,8 @@ chunk-stopped room count (Some left) after stream buffer reader stop.Limit reads
 chunk-stopped room count before after stream buffer reader stop.Fault reads fed = absurd fed
 chunk-stopped room count before after stream buffer reader stop.NoMemory reads fed = tt
 
-pub chunk-read : (room count : ℕ) (before after : Option (List ℕ)) (stream buffer : List ℕ) (reader : State) (done : Unit {0}) → Reads before after (Ok count) buffer → count ≤ length buffer → 0 < length buffer
+pub chunk-read : (room count : ℕ) (before after : Option (List ℕ)) (stream buffer : List ℕ) (reader : State) (done : Unit {0})
+    → Reads before after (Ok count) buffer → count ≤ length buffer → 0 < length buffer
     → HasFed room stream (take count buffer) reader (Ok done) → HasReadChunk room before after stream reader (Ok count)
 chunk-read room count before after stream buffer reader done reads inside some fed =
     let size = length-take-le count buffer inside in
@@ -112,10 +125,13 @@ chunk-read room count before after stream buffer reader done reads inside some f
     none_left (Some left) reads none = reads.end none some
 
 -- a read gives at most as many bytes as the buffer has, and none where it fails
-pub read-at-most : (before after : Option (List ℕ)) (count : ℕ) (buffer : List ℕ) (most : ℕ) → Reads before after (Ok count) buffer → count ≤ length buffer → length buffer ≡ most → ReadsAtMost most before after
-read-at-most before after count buffer most reads inside size = (take count buffer, ReadsOff-read before after count buffer reads, omega (arith, length-take count buffer, inside, size))
+pub read-at-most : (before after : Option (List ℕ)) (count : ℕ) (buffer : List ℕ) (most : ℕ) → Reads before after (Ok count) buffer
+    → count ≤ length buffer → length buffer ≡ most → ReadsAtMost most before after
+read-at-most before after count buffer most reads inside size =
+    (take count buffer, ReadsOff-read before after count buffer reads, omega (arith, length-take count buffer, inside, size))
 
-pub failed-at-most : (before after : Option (List ℕ)) (e : Failed) (buffer : List ℕ) (most : ℕ) → Reads before after (Err e) buffer → ReadsAtMost most before after
+pub failed-at-most : (before after : Option (List ℕ)) (e : Failed) (buffer : List ℕ) (most : ℕ) → Reads before after (Err e) buffer
+    → ReadsAtMost most before after
 failed-at-most before after e buffer most reads = ([], none before reads, omega arith) where
   none : (before : Option (List ℕ)) → Reads before after (Err e) buffer → ReadsOff before after []
   none None reads = tt
@@ -124,7 +140,19 @@ failed-at-most before after e buffer most reads = ([], none before reads, omega 
 -- nothing is refused in no bytes
 pub unrefused-none : (reads_debug : Bool) → IsUnrefused reads_debug []
 unrefused-none reads_debug = λ offset reason refused.
-    not_cut reads_debug [] offset reason (omega arith, [], record { prefix = []; sound = tt; unended = refl; faultless = refl; wanting = refl; after = refl }) refused
+    not_cut reads_debug [] offset reason (
+      omega arith,
+      [],
+      record {
+        prefix = [];
+        sound = tt;
+        unended = refl;
+        faultless = refl;
+        wanting = refl;
+        after =
+            refl;
+      },
+    ) refused
 
 -- nothing was read
 pub none-further : (reads_debug : Bool) (limit : ℕ) (before : Option (List ℕ)) → ReadsNoFurther reads_debug limit before before
@@ -144,7 +172,8 @@ pub record HasCome (limit n : ℕ) (reads_debug : Bool) (reader : State) (old ne
   pub after : AfterReads old new before now bytes
 
 module _ (limit n : ℕ) (reads_debug : Bool) (reader next : State) (old mid new : Meaning) (before between now : Faults) where
-  pub come-on : (count : ℕ) (come : HasCome limit n reads_debug reader old mid before between) → HasReadChunk (limit - n) mid.left new.left come.bytes next (Ok count) → reads_debug_of next ≡ reads_debug_of reader
+  pub come-on : (count : ℕ) (come : HasCome limit n reads_debug reader old mid before between)
+      → HasReadChunk (limit - n) mid.left new.left come.bytes next (Ok count) → reads_debug_of next ≡ reads_debug_of reader
       → KeepsAllButLeft mid new → KeepsAllButReads between now → between.reads ≤ now.reads → HasCome limit (n + count) reads_debug next old new before now
   come-on count come chunk same stays counts later = record {
     bytes = come.bytes ++ chunk.0;
@@ -162,7 +191,8 @@ module _ (limit n : ℕ) (reads_debug : Bool) (reader next : State) (old mid new
   }
 
 -- before the first read
-pub come-none : (limit : ℕ) (reader : State) (meaning : Meaning) (faults : Faults) → HasRead reader [] → HasCome limit 0 (reads_debug_of reader) reader meaning meaning faults faults
+pub come-none : (limit : ℕ) (reader : State) (meaning : Meaning) (faults : Faults) → HasRead reader []
+    → HasCome limit 0 (reads_debug_of reader) reader meaning meaning faults faults
 come-none limit reader meaning faults read = record {
   bytes = [];
   count = refl;
@@ -174,7 +204,8 @@ come-none limit reader meaning faults read = record {
 }
 
 -- what is left after one read more
-pub come-further : (limit n : ℕ) (reads_debug : Bool) (before between after : Option (List ℕ)) (bytes : List ℕ) → length bytes ≡ n → n ≤ limit → IsUnrefused reads_debug bytes → ReadsOff before between bytes
+pub come-further : (limit n : ℕ) (reads_debug : Bool) (before between after : Option (List ℕ)) (bytes : List ℕ) → length bytes ≡ n → n ≤ limit
+    → IsUnrefused reads_debug bytes → ReadsOff before between bytes
     → ReadsAtMost buffer_size between after → ReadsNoFurther reads_debug limit before after
 come-further limit n reads_debug None between after bytes size few clean off once = tt
 come-further limit n reads_debug (Some left) between after bytes size few clean off once =
@@ -186,7 +217,8 @@ take-following : (limit : ℕ) (bytes rest : List ℕ) → length bytes ≤ limi
 take-following limit bytes rest few = limit-append limit bytes rest ∙ ap (λ l. l ++ take (limit - length bytes) rest) (take_all limit bytes few)
 
 -- a stop has its cause in what was left before all reads
-pub come-stopped : (limit n : ℕ) (next : State) (before between after : Option (List ℕ)) (bytes : List ℕ) (s : SourceStop) → length bytes ≡ n → n ≤ limit → ReadsOff before between bytes
+pub come-stopped : (limit n : ℕ) (next : State) (before between after : Option (List ℕ)) (bytes : List ℕ) (s : SourceStop) → length bytes ≡ n
+    → n ≤ limit → ReadsOff before between bytes
     → HasReadChunk (limit - n) between after bytes next (Err s) → HasReadAll limit before after next (Err s)
 come-stopped limit n next None between after bytes (stop.Refused f) size few off chunk = tt
 come-stopped limit n next (Some left) between after bytes (stop.Refused f) size few off chunk =
@@ -194,13 +226,16 @@ come-stopped limit n next (Some left) between after bytes (stop.Refused f) size 
     inl (subst (λ (l : List ℕ). IsRefusedAt (reads_debug_of next) l f.place f.reason) (first limit n left bytes off.0 size few off.1) here)
   where
     first : (limit n : ℕ) (left bytes rest : List ℕ) → length bytes ≡ n → n ≤ limit → left ≡ bytes ++ rest → bytes ++ take (limit - n) rest ≡ take limit left
-    first limit n left bytes rest size few whole = ap (λ k. bytes ++ take (limit - k) rest) (sym size) ∙ sym (take-following limit bytes rest (omega (arith, size, few))) ∙ ap (take limit) (sym whole)
+    first limit n left bytes rest size few whole = ap (λ k. bytes ++ take (limit - k) rest) (sym size)
+        ∙ sym (take-following limit bytes rest (omega (arith, size, few))) ∙ ap (take limit) (sym whole)
 come-stopped limit n next None between after bytes stop.Limit size few off chunk = tt
 come-stopped limit n next (Some left) between after bytes stop.Limit size few off chunk =
-    let here = subst (λ (o : Option (List ℕ)). IfSome o (λ l. (limit - n < length l) × IsUnrefused (reads_debug_of next) (bytes ++ take (limit - n) l))) off.2 chunk in
+    let here = subst (λ (o : Option (List ℕ)). IfSome o (λ l. (limit - n < length l)
+    × IsUnrefused (reads_debug_of next) (bytes ++ take (limit - n) l))) off.2 chunk in
     let more : limit - n < length off.0 = here.0 in (
       omega (arith, ap length off.1, length-append bytes off.0, size, few, more),
-      subst (λ (l : List ℕ). IsUnrefused (reads_debug_of next) l) (ap (λ k. bytes ++ take (limit - k) off.0) (sym size) ∙ sym (take-following limit bytes off.0 (omega (arith, size, few))) ∙ ap (take limit) (sym off.1)) here.1,
+      subst (λ (l : List ℕ). IsUnrefused (reads_debug_of next) l) (ap (λ k. bytes ++ take (limit - k) off.0) (sym size)
+          ∙ sym (take-following limit bytes off.0 (omega (arith, size, few))) ∙ ap (take limit) (sym off.1)) here.1,
     )
 come-stopped limit n next before between after bytes stop.Fault size few off chunk = tt
 come-stopped limit n next before between after bytes stop.NoMemory size few off chunk = tt
@@ -210,7 +245,8 @@ no_bytes [] e = refl
 no_bytes (b ∷ bytes) e = absurd (omega (arith, e))
 
 -- where a read gives no byte, all was read
-pub come-end : (limit n count : ℕ) (next : State) (before between after : Option (List ℕ)) (bytes : List ℕ) → length bytes ≡ n → n ≤ limit → ReadsOff before between bytes → count ≡ 0
+pub come-end : (limit n count : ℕ) (next : State) (before between after : Option (List ℕ)) (bytes : List ℕ) → length bytes ≡ n → n ≤ limit
+    → ReadsOff before between bytes → count ≡ 0
     → HasReadChunk (limit - n) between after bytes next (Ok count) → HasReadAll limit before after next (Ok n)
 come-end limit n count next before between after bytes size few off none chunk =
     let empty : chunk.0 ≡ [] = no_bytes chunk.0 (chunk.1 ∙ none) in
@@ -228,31 +264,42 @@ come-end limit n count next before between after bytes size few off none chunk =
 -- ---- what is answered
 
 -- all bytes were read: the module is theirs
-pub all-module : (reads_debug : Bool) (limit n : ℕ) (before after : Option (List ℕ)) (bytes : List ℕ) (m : Parts) → length bytes ≡ n → n ≤ limit → IfSome before (λ left. (left ≡ bytes) × (after ≡ Some [])) → IsModule reads_debug bytes m
+pub all-module : (reads_debug : Bool) (limit n : ℕ) (before after : Option (List ℕ)) (bytes : List ℕ) (m : Parts) → length bytes ≡ n → n ≤ limit
+    → IfSome before (λ left. (left ≡ bytes) × (after ≡ Some [])) → IsModule reads_debug bytes m
     → ReadsModule reads_debug limit before after (Ok (m, n))
 all-module reads_debug limit n None after bytes m size few all is = tt
 all-module reads_debug limit n (Some left) after bytes m size few all is =
     (subst (λ (l : List ℕ). IsModule reads_debug l m) (sym all.0) is, sym size ∙ ap length (sym all.0), omega (arith, ap length all.0, size, few), all.1)
 
 -- all bytes were read: the refusal is theirs
-pub all-refused : (reads_debug : Bool) (limit n : ℕ) (before after : Option (List ℕ)) (bytes : List ℕ) (s : ReadStop) (made : SourceStop) → length bytes ≡ n → n ≤ limit → IfSome before (λ left. (left ≡ bytes) × (after ≡ Some []))
-    → made ≡ stop_by s → ((offset : ℕ) (reason : Reason) → s ≡ read_stop.Refused (the_refusal offset reason) → IsJudged reads_debug bytes (refusal offset reason))
+pub all-refused : (reads_debug : Bool) (limit n : ℕ) (before after : Option (List ℕ)) (bytes : List ℕ) (s : ReadStop) (made : SourceStop)
+    → length bytes ≡ n → n ≤ limit → IfSome before (λ left. (left ≡ bytes) × (after ≡ Some []))
+    → made ≡ stop_by s → ((offset : ℕ) (reason : Reason) → s ≡ read_stop.Refused (the_refusal offset reason)
+    → IsJudged reads_debug bytes (refusal offset reason))
     → ReadsModule reads_debug limit before after (Err made)
 all-refused reads_debug limit n before after bytes s made size few all by judged =
     subst (λ (m : SourceStop). ReadsModule reads_debug limit before after (Err m)) (sym by) (by_stop s before all judged)
   where
-    by_stop : (s : ReadStop) (before : Option (List ℕ)) → IfSome before (λ left. (left ≡ bytes) × (after ≡ Some [])) → ((offset : ℕ) (reason : Reason) → s ≡ read_stop.Refused (the_refusal offset reason) → IsJudged reads_debug bytes (refusal offset reason))
+    by_stop : (s : ReadStop) (before : Option (List ℕ)) → IfSome before (λ left. (left ≡ bytes) × (after ≡ Some []))
+        → ((offset : ℕ) (reason : Reason) → s ≡ read_stop.Refused (the_refusal offset reason) → IsJudged reads_debug bytes (refusal offset reason))
         → ReadsModule reads_debug limit before after (Err (stop_by s))
     by_stop (read_stop.Refused f) None all judged = tt
     by_stop (read_stop.Refused f) (Some left) all judged =
-        inr (omega (arith, ap length all.0, size, few), subst (λ (l : List ℕ). IsJudged reads_debug l (refusal f.place f.reason)) (sym all.0) (judged f.place f.reason refl))
+        inr (
+          omega (arith, ap length all.0, size, few),
+          subst (λ (l : List ℕ). IsJudged reads_debug l (refusal f.place f.reason)) (sym all.0)
+              (judged f.place f.reason refl),
+        )
     by_stop read_stop.NoMemory before all judged = tt
 
 -- all bytes are the first, where there are no more
-first-all : (reads_debug : Bool) (limit : ℕ) (left : List ℕ) (offset : ℕ) (reason : Reason) → length left ≤ limit → IsRefusedAt reads_debug left offset reason → IsRefusedAt reads_debug (take limit left) offset reason
-first-all reads_debug limit left offset reason few refused = subst (λ (l : List ℕ). IsRefusedAt reads_debug l offset reason) (sym (take_all limit left few)) refused
+first-all : (reads_debug : Bool) (limit : ℕ) (left : List ℕ) (offset : ℕ) (reason : Reason) → length left ≤ limit
+    → IsRefusedAt reads_debug left offset reason → IsRefusedAt reads_debug (take limit left) offset reason
+first-all reads_debug limit left offset reason few refused =
+    subst (λ (l : List ℕ). IsRefusedAt reads_debug l offset reason) (sym (take_all limit left few)) refused
 
-all-first : (reads_debug : Bool) (limit : ℕ) (left : List ℕ) (offset : ℕ) (reason : Reason) → length left ≤ limit → IsRefusedAt reads_debug (take limit left) offset reason → IsRefusedAt reads_debug left offset reason
+all-first : (reads_debug : Bool) (limit : ℕ) (left : List ℕ) (offset : ℕ) (reason : Reason) → length left ≤ limit
+    → IsRefusedAt reads_debug (take limit left) offset reason → IsRefusedAt reads_debug left offset reason
 all-first reads_debug limit left offset reason few refused = subst (λ (l : List ℕ). IsRefusedAt reads_debug l offset reason) (take_all limit left few) refused
 
 -- a refusal within the limit is one of the first bytes; or there are no more of them, and they are cut off
@@ -260,45 +307,62 @@ abbrev IsWithin : Bool → ℕ → List ℕ → ℕ → Reason → Type 0
 IsWithin reads_debug limit left offset reason = IsRefusedAt reads_debug (take limit left) offset reason
     ⊎ ((length left ≤ limit) × (reason ≡ why.Truncated) × (offset ≡ length left) × IsTruncated reads_debug left)
 
-split : (reads_debug : Bool) (limit : ℕ) (left : List ℕ) (offset : ℕ) (reason : Reason) → IsRefusedWithin reads_debug limit left offset reason → IsWithin reads_debug limit left offset reason
+split : (reads_debug : Bool) (limit : ℕ) (left : List ℕ) (offset : ℕ) (reason : Reason) → IsRefusedWithin reads_debug limit left offset reason
+    → IsWithin reads_debug limit left offset reason
 split reads_debug limit left offset reason (inl refused) = inl refused
 split reads_debug limit left offset reason (inr (few, inl refused)) = inl (first-all reads_debug limit left offset reason few refused)
 split reads_debug limit left offset reason (inr (few, inr cut)) = inr (few, cut.0, cut.1, cut.2)
 
-one_within : (reads_debug : Bool) (limit : ℕ) (left : List ℕ) (offset other : ℕ) (reason why_ : Reason) → IsWithin reads_debug limit left offset reason → IsWithin reads_debug limit left other why_ → (offset ≡ other) × (reason ≡ why_)
+one_within : (reads_debug : Bool) (limit : ℕ) (left : List ℕ) (offset other : ℕ) (reason why_ : Reason)
+    → IsWithin reads_debug limit left offset reason → IsWithin reads_debug limit left other why_ → (offset ≡ other) × (reason ≡ why_)
 one_within reads_debug limit left offset other reason why_ (inl a) (inl b) = one_refusal reads_debug (take limit left) offset other reason why_ a b
-one_within reads_debug limit left offset other reason why_ (inl a) (inr b) = absurd (not_cut reads_debug left offset reason b.3 (all-first reads_debug limit left offset reason b.0 a))
-one_within reads_debug limit left offset other reason why_ (inr a) (inl b) = absurd (not_cut reads_debug left other why_ a.3 (all-first reads_debug limit left other why_ a.0 b))
+one_within reads_debug limit left offset other reason why_ (inl a) (inr b) =
+    absurd (not_cut reads_debug left offset reason b.3 (all-first reads_debug limit left offset reason b.0 a))
+one_within reads_debug limit left offset other reason why_ (inr a) (inl b) =
+    absurd (not_cut reads_debug left other why_ a.3 (all-first reads_debug limit left other why_ a.0 b))
 one_within reads_debug limit left offset other reason why_ (inr a) (inr b) = (a.2 ∙ sym b.2, a.1 ∙ sym b.1)
 
-not_past : (reads_debug : Bool) (limit : ℕ) (left : List ℕ) (offset : ℕ) (reason : Reason) → IsWithin reads_debug limit left offset reason → IsPastLimit reads_debug limit left → ⊥
+not_past : (reads_debug : Bool) (limit : ℕ) (left : List ℕ) (offset : ℕ) (reason : Reason) → IsWithin reads_debug limit left offset reason
+    → IsPastLimit reads_debug limit left → ⊥
 not_past reads_debug limit left offset reason (inl a) past = past.1 offset reason a
-not_past reads_debug limit left offset reason (inr a) past = let few : length left ≤ limit = a.0 in let many : limit < length left = past.0 in omega (arith, few, many)
+not_past reads_debug limit left offset reason (inr a) past = let few : length left ≤ limit = a.0 in let many : limit < length left = past.0 in
+    omega (arith, few, many)
 
 -- the file of a module is not refused
-not_module : (reads_debug : Bool) (limit : ℕ) (left : List ℕ) (m : Parts) (offset : ℕ) (reason : Reason) → AreBytes left → length left ≤ limit → IsModule reads_debug left m → IsWithin reads_debug limit left offset reason → ⊥
-not_module reads_debug limit left m offset reason bytes few is (inl a) = (judgments_exclude_each_other reads_debug left bytes).not_module m offset reason is (all-first reads_debug limit left offset reason few a)
+not_module : (reads_debug : Bool) (limit : ℕ) (left : List ℕ) (m : Parts) (offset : ℕ) (reason : Reason) → AreBytes left → length left ≤ limit
+    → IsModule reads_debug left m → IsWithin reads_debug limit left offset reason → ⊥
+not_module reads_debug limit left m offset reason bytes few is (inl a) =
+    (judgments_exclude_each_other reads_debug left bytes).not_module m offset reason is (all-first reads_debug limit left offset reason few a)
 not_module reads_debug limit left m offset reason bytes few is (inr a) = (judgments_exclude_each_other reads_debug left bytes).whole m is a.3
 
 abbrev pub Answer : Type 0
 Answer = Result (Parts × ℕ) SourceStop
 
 -- the answer where there is a module
-module-refused : (reads_debug : Bool) (limit : ℕ) (left : List ℕ) (read : Parts × ℕ) (offset : ℕ) (reason : Reason) → AreBytes left → length left ≤ limit → IsModule reads_debug left read.0
+module-refused : (reads_debug : Bool) (limit : ℕ) (left : List ℕ) (read : Parts × ℕ) (offset : ℕ) (reason : Reason) → AreBytes left
+    → length left ≤ limit → IsModule reads_debug left read.0
     → (◌≡◌ {A = Answer} (Ok read) (Err (stop.Refused (the_refusal offset reason)))) ↔ IsRefusedWithin reads_debug limit left offset reason
-module-refused reads_debug limit left read offset reason bytes few is =
-    (λ e. absurd (wrong e), λ refused. absurd (not_module reads_debug limit left read.0 offset reason bytes few is (split reads_debug limit left offset reason refused)))
+module-refused reads_debug limit left read offset reason bytes few is = (
+  λ e. absurd (wrong e),
+  λ refused. absurd (not_module reads_debug limit left read.0 offset reason bytes few is
+      (split reads_debug limit left offset reason refused)),
+)
   where
     wrong : ◌≡◌ {A = Answer} (Ok read) (Err (stop.Refused (the_refusal offset reason))) → ⊥
     wrong e = cc
 
-module-past : (reads_debug : Bool) (limit : ℕ) (left : List ℕ) (read : Parts × ℕ) → length left ≤ limit → (◌≡◌ {A = Answer} (Ok read) (Err stop.Limit)) ↔ IsPastLimit reads_debug limit left
-module-past reads_debug limit left read few = (λ e. absurd (wrong e), λ past. absurd (let many : limit < length left = past.0 in omega (arith, few, many))) where
+module-past : (reads_debug : Bool) (limit : ℕ) (left : List ℕ) (read : Parts × ℕ) → length left ≤ limit
+    → (◌≡◌ {A = Answer} (Ok read) (Err stop.Limit)) ↔ IsPastLimit reads_debug limit left
+module-past reads_debug limit left read few = (
+  λ e. absurd (wrong e),
+  λ past. absurd (let many : limit < length left = past.0 in omega (arith, few, many)),
+) where
   wrong : ◌≡◌ {A = Answer} (Ok read) (Err stop.Limit) → ⊥
   wrong e = cc
 
 -- the answer where there is none
-stop-refused : (reads_debug : Bool) (limit : ℕ) (left : List ℕ) (after : Option (List ℕ)) (s : SourceStop) (offset : ℕ) (reason : Reason) → ReadsModule reads_debug limit (Some left) after (Err s) → ◌≢◌ {A = Answer} (Err s) (Err stop.NoMemory) → ◌≢◌ {A = Answer} (Err s) (Err stop.Fault)
+stop-refused : (reads_debug : Bool) (limit : ℕ) (left : List ℕ) (after : Option (List ℕ)) (s : SourceStop) (offset : ℕ) (reason : Reason)
+    → ReadsModule reads_debug limit (Some left) after (Err s) → ◌≢◌ {A = Answer} (Err s) (Err stop.NoMemory) → ◌≢◌ {A = Answer} (Err s) (Err stop.Fault)
     → (◌≡◌ {A = Answer} (Err s) (Err (stop.Refused (the_refusal offset reason)))) ↔ IsRefusedWithin reads_debug limit left offset reason
 stop-refused reads_debug limit left after (stop.Refused f) offset reason is memory fault = (forth, back) where
   forth : ◌≡◌ {A = Answer} (Err (stop.Refused f)) (Err (stop.Refused (the_refusal offset reason))) → IsRefusedWithin reads_debug limit left offset reason
@@ -306,19 +370,23 @@ stop-refused reads_debug limit left after (stop.Refused f) offset reason is memo
 
   back : IsRefusedWithin reads_debug limit left offset reason → ◌≡◌ {A = Answer} (Err (stop.Refused f)) (Err (stop.Refused (the_refusal offset reason)))
   back refused =
-      let same = one_within reads_debug limit left f.place offset f.reason reason (split reads_debug limit left f.place f.reason is) (split reads_debug limit left offset reason refused) in
+      let same = one_within reads_debug limit left f.place offset f.reason reason (split reads_debug limit left f.place f.reason is)
+      (split reads_debug limit left offset reason refused) in
       ap (λ p. Err (stop.Refused (the_refusal p f.reason))) same.0 ∙ ap (λ w. Err (stop.Refused (the_refusal offset w))) same.1
-stop-refused reads_debug limit left after stop.Limit offset reason is memory fault = (λ e. absurd (wrong e), λ refused. absurd (not_past reads_debug limit left offset reason (split reads_debug limit left offset reason refused) is)) where
-  wrong : ◌≡◌ {A = Answer} (Err stop.Limit) (Err (stop.Refused (the_refusal offset reason))) → ⊥
-  wrong e = cc
+stop-refused reads_debug limit left after stop.Limit offset reason is memory fault =
+    (λ e. absurd (wrong e), λ refused. absurd (not_past reads_debug limit left offset reason (split reads_debug limit left offset reason refused) is)) where
+      wrong : ◌≡◌ {A = Answer} (Err stop.Limit) (Err (stop.Refused (the_refusal offset reason))) → ⊥
+      wrong e = cc
 stop-refused reads_debug limit left after stop.Fault offset reason is memory fault = absurd (fault refl)
 stop-refused reads_debug limit left after stop.NoMemory offset reason is memory fault = absurd (memory refl)
 
-stop-past : (reads_debug : Bool) (limit : ℕ) (left : List ℕ) (after : Option (List ℕ)) (s : SourceStop) → ReadsModule reads_debug limit (Some left) after (Err s) → ◌≢◌ {A = Answer} (Err s) (Err stop.NoMemory) → ◌≢◌ {A = Answer} (Err s) (Err stop.Fault)
+stop-past : (reads_debug : Bool) (limit : ℕ) (left : List ℕ) (after : Option (List ℕ)) (s : SourceStop)
+    → ReadsModule reads_debug limit (Some left) after (Err s) → ◌≢◌ {A = Answer} (Err s) (Err stop.NoMemory) → ◌≢◌ {A = Answer} (Err s) (Err stop.Fault)
     → (◌≡◌ {A = Answer} (Err s) (Err stop.Limit)) ↔ IsPastLimit reads_debug limit left
-stop-past reads_debug limit left after (stop.Refused f) is memory fault = (λ e. absurd (wrong e), λ past. absurd (not_past reads_debug limit left f.place f.reason (split reads_debug limit left f.place f.reason is) past)) where
-  wrong : ◌≡◌ {A = Answer} (Err (stop.Refused f)) (Err stop.Limit) → ⊥
-  wrong e = cc
+stop-past reads_debug limit left after (stop.Refused f) is memory fault =
+    (λ e. absurd (wrong e), λ past. absurd (not_past reads_debug limit left f.place f.reason (split reads_debug limit left f.place f.reason is) past)) where
+      wrong : ◌≡◌ {A = Answer} (Err (stop.Refused f)) (Err stop.Limit) → ⊥
+      wrong e = cc
 stop-past reads_debug limit left after stop.Limit is memory fault = (λ e. is, λ past. refl)
 stop-past reads_debug limit left after stop.Fault is memory fault = absurd (fault refl)
 stop-past reads_debug limit left after stop.NoMemory is memory fault = absurd (memory refl)
@@ -327,7 +395,8 @@ stop-past reads_debug limit left after stop.NoMemory is memory fault = absurd (m
 
 -- what is judged of a stream where a reader answers a stop for it
 judged-of : {M : Type 0} (reads_debug : Bool) (bytes : List ℕ) (s : ReadStop)
-    → ((offset : ℕ) (reason : Reason) → ◌≢◌ {A = Result M ReadStop} (Err s) (Err read_stop.NoMemory) → (◌≡◌ {A = Result M ReadStop} (Err s) (Err (read_stop.Refused (the_refusal offset reason)))) ↔ IsJudged reads_debug bytes (refusal offset reason))
+    → ((offset : ℕ) (reason : Reason) → ◌≢◌ {A = Result M ReadStop} (Err s) (Err read_stop.NoMemory)
+    → (◌≡◌ {A = Result M ReadStop} (Err s) (Err (read_stop.Refused (the_refusal offset reason)))) ↔ IsJudged reads_debug bytes (refusal offset reason))
     → (offset : ℕ) (reason : Reason) → s ≡ read_stop.Refused (the_refusal offset reason) → IsJudged reads_debug bytes (refusal offset reason)
 judged-of {M} reads_debug bytes s judges offset reason e = (judges offset reason memory).0 (ap (λ x. Err x) e) where
   memory : ◌≢◌ {A = Result M ReadStop} (Err s) (Err read_stop.NoMemory)
@@ -337,15 +406,19 @@ judged-of {M} reads_debug bytes s judges offset reason e = (judges offset reason
 abbrev HasAll : ℕ → Option (List ℕ) → Option (List ℕ) → State → ℕ → Type 0
 HasAll limit before after reader n = HasReadAll limit before after reader (Ok n)
 
-pub asked-stopped : {M : Type 0} (limit n : ℕ) (reads_debug : Bool) (before after : Option (List ℕ)) (reader : State) (s : ReadStop) (made : SourceStop) → reads_debug_of reader ≡ reads_debug → made ≡ stop_by s → HasAll limit before after reader n
+pub asked-stopped : {M : Type 0} (limit n : ℕ) (reads_debug : Bool) (before after : Option (List ℕ)) (reader : State) (s : ReadStop)
+    (made : SourceStop) → reads_debug_of reader ≡ reads_debug → made ≡ stop_by s → HasAll limit before after reader n
     → ((offset : ℕ) (reason : Reason) (stream : List ℕ) → HasRead reader stream → ◌≢◌ {A = Result M ReadStop} (Err s) (Err read_stop.NoMemory)
-    → (◌≡◌ {A = Result M ReadStop} (Err s) (Err (read_stop.Refused (the_refusal offset reason)))) ↔ IsJudged (reads_debug_of reader) stream (refusal offset reason))
+    → (◌≡◌ {A = Result M ReadStop} (Err s) (Err (read_stop.Refused (the_refusal offset reason))))
+    ↔ IsJudged (reads_debug_of reader) stream (refusal offset reason))
     → ReadsModule reads_debug limit before after (Err made)
 asked-stopped {M} limit n reads_debug before after reader s made flag by all judges =
     subst (λ (d : Bool). ReadsModule d limit before after (Err made)) flag
-    (all-refused (reads_debug_of reader) limit n before after all.0 s made all.1 all.2 all.4 by (judged-of {M = M} (reads_debug_of reader) all.0 s (λ offset reason memory. judges offset reason all.0 all.3 memory)))
+    (all-refused (reads_debug_of reader) limit n before after all.0 s made all.1 all.2 all.4 by
+    (judged-of {M = M} (reads_debug_of reader) all.0 s (λ offset reason memory. judges offset reason all.0 all.3 memory)))
 
-module _ (limit n : ℕ) (reads_debug : Bool) (before after : Option (List ℕ)) (reader : State) (m : Parts) (flag : reads_debug_of reader ≡ reads_debug) (all : HasAll limit before after reader n)
+module _ (limit n : ℕ) (reads_debug : Bool) (before after : Option (List ℕ)) (reader : State) (m : Parts) (flag : reads_debug_of reader
+    ≡ reads_debug) (all : HasAll limit before after reader n)
     (states : (stream : List ℕ) → HasRead reader stream → IsModule (reads_debug_of reader) stream m) where
   the_module : IsModule reads_debug all.0 m
   the_module = subst (λ (d : Bool). IsModule d all.0 m) flag (states all.0 all.3)
@@ -355,40 +428,54 @@ module _ (limit n : ℕ) (reads_debug : Bool) (before after : Option (List ℕ))
 
   pub asked-ok : IfSome before (λ left. IsModule reads_debug left m × (n ≡ length left) × (n ≤ limit) × (after ≡ Some []))
   asked-ok = forth before all.4 where
-    forth : (o : Option (List ℕ)) → IfSome o (λ left. (left ≡ all.0) × (after ≡ Some [])) → IfSome o (λ left. IsModule reads_debug left m × (n ≡ length left) × (n ≤ limit) × (after ≡ Some []))
+    forth : (o : Option (List ℕ)) → IfSome o (λ left. (left ≡ all.0) × (after ≡ Some []))
+        → IfSome o (λ left. IsModule reads_debug left m × (n ≡ length left) × (n ≤ limit) × (after ≡ Some []))
     forth None is = tt
     forth (Some left) is = (subst (λ (l : List ℕ). IsModule reads_debug l m) (sym is.0) the_module, sym all.1 ∙ ap length (sym is.0), all.2, is.1)
 
-  pub asked-refused : (offset : ℕ) (reason : Reason) → IfSome before (λ left. ◌≢◌ {A = Answer} (Ok (m, n)) (Err stop.NoMemory) → ◌≢◌ {A = Answer} (Ok (m, n)) (Err stop.Fault)
+  pub asked-refused : (offset : ℕ) (reason : Reason) → IfSome before (λ left. ◌≢◌ {A = Answer} (Ok (m, n)) (Err stop.NoMemory)
+      → ◌≢◌ {A = Answer} (Ok (m, n)) (Err stop.Fault)
       → (◌≡◌ {A = Answer} (Ok (m, n)) (Err (stop.Refused (the_refusal offset reason)))) ↔ IsRefusedWithin reads_debug limit left offset reason)
   asked-refused offset reason = forth before all.4 where
-    forth : (o : Option (List ℕ)) → IfSome o (λ left. (left ≡ all.0) × (after ≡ Some [])) → IfSome o (λ left. ◌≢◌ {A = Answer} (Ok (m, n)) (Err stop.NoMemory) → ◌≢◌ {A = Answer} (Ok (m, n)) (Err stop.Fault)
+    forth : (o : Option (List ℕ)) → IfSome o (λ left. (left ≡ all.0) × (after ≡ Some []))
+        → IfSome o (λ left. ◌≢◌ {A = Answer} (Ok (m, n)) (Err stop.NoMemory) → ◌≢◌ {A = Answer} (Ok (m, n)) (Err stop.Fault)
         → (◌≡◌ {A = Answer} (Ok (m, n)) (Err (stop.Refused (the_refusal offset reason)))) ↔ IsRefusedWithin reads_debug limit left offset reason)
     forth None is = tt
     forth (Some left) is = λ memory fault.
-        module-refused reads_debug limit left (m, n) offset reason (subst (λ (l : List ℕ). AreBytes l) (sym is.0) all.3.0) (omega (arith, ap length is.0, all.1, all.2)) (subst (λ (l : List ℕ). IsModule reads_debug l m) (sym is.0) the_module)
+        module-refused reads_debug limit left (m, n) offset reason (subst (λ (l : List ℕ). AreBytes l) (sym is.0) all.3.0)
+        (omega (arith, ap length is.0, all.1, all.2)) (subst (λ (l : List ℕ). IsModule reads_debug l m) (sym is.0) the_module)
 
-  pub asked-past : IfSome before (λ left. ◌≢◌ {A = Answer} (Ok (m, n)) (Err stop.NoMemory) → ◌≢◌ {A = Answer} (Ok (m, n)) (Err stop.Fault) → (◌≡◌ {A = Answer} (Ok (m, n)) (Err stop.Limit)) ↔ IsPastLimit reads_debug limit left)
+  pub asked-past : IfSome before (λ left. ◌≢◌ {A = Answer} (Ok (m, n)) (Err stop.NoMemory) → ◌≢◌ {A = Answer} (Ok (m, n)) (Err stop.Fault)
+      → (◌≡◌ {A = Answer} (Ok (m, n)) (Err stop.Limit)) ↔ IsPastLimit reads_debug limit left)
   asked-past = forth before all.4 where
-    forth : (o : Option (List ℕ)) → IfSome o (λ left. (left ≡ all.0) × (after ≡ Some [])) → IfSome o (λ left. ◌≢◌ {A = Answer} (Ok (m, n)) (Err stop.NoMemory) → ◌≢◌ {A = Answer} (Ok (m, n)) (Err stop.Fault) → (◌≡◌ {A = Answer} (Ok (m, n)) (Err stop.Limit)) ↔ IsPastLimit reads_debug limit left)
+    forth : (o : Option (List ℕ)) → IfSome o (λ left. (left ≡ all.0) × (after ≡ Some []))
+        → IfSome o (λ left. ◌≢◌ {A = Answer} (Ok (m, n)) (Err stop.NoMemory) → ◌≢◌ {A = Answer} (Ok (m, n)) (Err stop.Fault)
+        → (◌≡◌ {A = Answer} (Ok (m, n)) (Err stop.Limit)) ↔ IsPastLimit reads_debug limit left)
     forth None is = tt
     forth (Some left) is = λ memory fault. module-past reads_debug limit left (m, n) (omega (arith, ap length is.0, all.1, all.2))
 
 -- where the answer is a stop
-pub stopped-refused : (reads_debug : Bool) (limit : ℕ) (before after : Option (List ℕ)) (answer : Answer) (s : SourceStop) → answer ≡ Err s → ReadsModule reads_debug limit before after (Err s) → (offset : ℕ) (reason : Reason)
-    → IfSome before (λ left. ◌≢◌ {A = Answer} answer (Err stop.NoMemory) → ◌≢◌ {A = Answer} answer (Err stop.Fault) → (◌≡◌ {A = Answer} answer (Err (stop.Refused (the_refusal offset reason)))) ↔ IsRefusedWithin reads_debug limit left offset reason)
+pub stopped-refused : (reads_debug : Bool) (limit : ℕ) (before after : Option (List ℕ)) (answer : Answer) (s : SourceStop) → answer ≡ Err s
+    → ReadsModule reads_debug limit before after (Err s) → (offset : ℕ) (reason : Reason)
+    → IfSome before (λ left. ◌≢◌ {A = Answer} answer (Err stop.NoMemory) → ◌≢◌ {A = Answer} answer (Err stop.Fault)
+    → (◌≡◌ {A = Answer} answer (Err (stop.Refused (the_refusal offset reason)))) ↔ IsRefusedWithin reads_debug limit left offset reason)
 stopped-refused reads_debug limit None after answer s e is offset reason = tt
 stopped-refused reads_debug limit (Some left) after answer s e is offset reason =
-    subst (λ (a : Answer). ◌≢◌ {A = Answer} a (Err stop.NoMemory) → ◌≢◌ {A = Answer} a (Err stop.Fault) → (◌≡◌ {A = Answer} a (Err (stop.Refused (the_refusal offset reason)))) ↔ IsRefusedWithin reads_debug limit left offset reason) (sym e)
+    subst (λ (a : Answer). ◌≢◌ {A = Answer} a (Err stop.NoMemory) → ◌≢◌ {A = Answer} a (Err stop.Fault)
+    → (◌≡◌ {A = Answer} a (Err (stop.Refused (the_refusal offset reason)))) ↔ IsRefusedWithin reads_debug limit left offset reason) (sym e)
     (stop-refused reads_debug limit left after s offset reason is)
 
-pub stopped-past : (reads_debug : Bool) (limit : ℕ) (before after : Option (List ℕ)) (answer : Answer) (s : SourceStop) → answer ≡ Err s → ReadsModule reads_debug limit before after (Err s)
-    → IfSome before (λ left. ◌≢◌ {A = Answer} answer (Err stop.NoMemory) → ◌≢◌ {A = Answer} answer (Err stop.Fault) → (◌≡◌ {A = Answer} answer (Err stop.Limit)) ↔ IsPastLimit reads_debug limit left)
+pub stopped-past : (reads_debug : Bool) (limit : ℕ) (before after : Option (List ℕ)) (answer : Answer) (s : SourceStop) → answer ≡ Err s
+    → ReadsModule reads_debug limit before after (Err s)
+    → IfSome before (λ left. ◌≢◌ {A = Answer} answer (Err stop.NoMemory) → ◌≢◌ {A = Answer} answer (Err stop.Fault)
+    → (◌≡◌ {A = Answer} answer (Err stop.Limit)) ↔ IsPastLimit reads_debug limit left)
 stopped-past reads_debug limit None after answer s e is = tt
 stopped-past reads_debug limit (Some left) after answer s e is =
-    subst (λ (a : Answer). ◌≢◌ {A = Answer} a (Err stop.NoMemory) → ◌≢◌ {A = Answer} a (Err stop.Fault) → (◌≡◌ {A = Answer} a (Err stop.Limit)) ↔ IsPastLimit reads_debug limit left) (sym e) (stop-past reads_debug limit left after s is)
+    subst (λ (a : Answer). ◌≢◌ {A = Answer} a (Err stop.NoMemory) → ◌≢◌ {A = Answer} a (Err stop.Fault) → (◌≡◌ {A = Answer} a (Err stop.Limit))
+    ↔ IsPastLimit reads_debug limit left) (sym e) (stop-past reads_debug limit left after s is)
 
-pub stopped-reads : (reads_debug : Bool) (limit : ℕ) (before after : Option (List ℕ)) (answer : Answer) (s : SourceStop) → answer ≡ Err s → ReadsModule reads_debug limit before after (Err s) → ReadsModule reads_debug limit before after answer
+pub stopped-reads : (reads_debug : Bool) (limit : ℕ) (before after : Option (List ℕ)) (answer : Answer) (s : SourceStop) → answer ≡ Err s
+    → ReadsModule reads_debug limit before after (Err s) → ReadsModule reads_debug limit before after answer
 stopped-reads reads_debug limit before after answer s e is = subst (λ (a : Answer). ReadsModule reads_debug limit before after a) (sym e) is
 
 -- a stop is a fault only where it is one

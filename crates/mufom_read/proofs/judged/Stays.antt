@@ -1,5 +1,6 @@
 -- A refusal stays in every longer stream.
-use Rattle.std.proofs.Common.{◌≡◌, ℕ, zero, suc, ◌-◌, ◌<◌, ◌≤◌, Bool, true, false, cond, not, ◌==◌, ◌&&◌, List, [], ◌∷◌, ◌++◌, length, take, drop, Option, Some, None, refl, sym, ap, subst, ◌∙◌, inl, inr, arith, append-nil}
+use Rattle.std.proofs.Common.{◌≡◌, ℕ, zero, suc, ◌-◌, ◌<◌, ◌≤◌, Bool, true, false, cond, not, ◌==◌, ◌&&◌, List, [], ◌∷◌, ◌++◌, length, take, drop}
+use Rattle.std.proofs.Common.{Option, Some, None, refl, sym, ap, subst, ◌∙◌, inl, inr, arith, append-nil}
 use Rattle.std.specs.List.{last_or}
 use Rattle.std.specs.Option.{option_or}
 use Rattle.std.proofs.lemmas.Bool.{cases_lt}
@@ -16,7 +17,8 @@ use Rattle.mufom_records.specs.Layouts.{IsWholeRecord}
 use Rattle.mufom_records.specs.Reading.{record_at}
 use Rattle.mufom_records.proofs.RecordLaws.{record_at-got, record_at-stable}
 use Rattle.mufom_module.specs.Grammar.{file_limit}
-use Rattle.mufom_read.specs.Prefixes.{Step, read, step_bytes, prefix_bytes, size_of, records_of, Extent, Location, in_header, in_part, at_end, location_after, header_mode, is_raw, awaits_items, body_mode, as_step, raw_step, step_in, step_at, next_step}
+use Rattle.mufom_read.specs.Prefixes.{Step, read, step_bytes, prefix_bytes, size_of, records_of, Extent, Location, in_header, in_part, at_end}
+use Rattle.mufom_read.specs.Prefixes.{location_after, header_mode, is_raw, awaits_items, body_mode, as_step, raw_step, step_in, step_at, next_step}
 use Rattle.mufom_read.specs.Faults.{Fault, ended_part_fault, step_fault, fault_after}
 use Rattle.mufom_read.specs.Judging.{IsSoundFrom, IsSoundPrefix, within_limit, HasFault, EndsAt, IsWaiting, IsRefusedAt}
 use Rattle.mufom_read.specs.Laws.{PrefixesStay, RefusalStays}
@@ -30,18 +32,22 @@ wanting = More
 abbrev wanting_record : Taken Record
 wanting_record = More
 
-inside_of : (m : Mode) (rest : List ℕ) (answer : Taken Record) → IfGot answer (λ row used. (used ≤ length rest) × IsWholeRecord m row (take used rest) (first_of (drop used rest) None)) → IfGot answer (λ row used. used ≤ length rest)
+inside_of : (m : Mode) (rest : List ℕ) (answer : Taken Record)
+    → IfGot answer (λ row used. (used ≤ length rest) × IsWholeRecord m row (take used rest) (first_of (drop used rest) None))
+    → IfGot answer (λ row used. used ≤ length rest)
 inside_of m rest (Got row used) got = got.0
 inside_of m rest More got = tt
 inside_of m rest (Bad offset reason) got = tt
 
 -- what a record makes of a step is the same with more bytes after
-step_stays : (m : Mode) (at : ℕ) (rest more : List ℕ) → AreBytes rest → (as_step at rest (record_at m rest) ≡ wanting → ⊥) → as_step at (rest ++ more) (record_at m (rest ++ more)) ≡ as_step at rest (record_at m rest)
+step_stays : (m : Mode) (at : ℕ) (rest more : List ℕ) → AreBytes rest → (as_step at rest (record_at m rest) ≡ wanting → ⊥)
+    → as_step at (rest ++ more) (record_at m (rest ++ more)) ≡ as_step at rest (record_at m rest)
 step_stays m at rest more fits wanted =
     ap (as_step at (rest ++ more)) (record_at-stable m rest more fits (λ e. wanted (ap (as_step at rest) e)))
     ∙ same_used at rest more (record_at m rest) (inside_of m rest (record_at m rest) (record_at-got m rest fits))
   where
-    same_used : (at : ℕ) (rest more : List ℕ) (answer : Taken Record) → IfGot answer (λ row used. used ≤ length rest) → as_step at (rest ++ more) answer ≡ as_step at rest answer
+    same_used : (at : ℕ) (rest more : List ℕ) (answer : Taken Record) → IfGot answer (λ row used. used ≤ length rest)
+        → as_step at (rest ++ more) answer ≡ as_step at rest answer
     same_used at rest more (Got row used) got = ap (λ l. taken (read at (the_record row l)) used) (take-append-le used rest more got)
     same_used at rest more More got = refl
     same_used at rest more (Bad offset reason) got = refl
@@ -60,21 +66,28 @@ none_in reads_debug prefix e = by_test (is_raw reads_debug e.part) where
   by_test true = refl
   by_test false = ap (λ m. as_step (size_of prefix) [] (record_at m [])) (body_of_none prefix e)
 
-in_stays : (reads_debug : Bool) (prefix : List Step) (e : Extent) (rest more : List ℕ) → AreBytes rest → (step_in reads_debug prefix e rest ≡ wanting → ⊥) → step_in reads_debug prefix e (rest ++ more) ≡ step_in reads_debug prefix e rest
+in_stays : (reads_debug : Bool) (prefix : List Step) (e : Extent) (rest more : List ℕ) → AreBytes rest
+    → (step_in reads_debug prefix e rest ≡ wanting → ⊥) → step_in reads_debug prefix e (rest ++ more) ≡ step_in reads_debug prefix e rest
 in_stays reads_debug prefix e [] more fits wanted = absurd (wanted (none_in reads_debug prefix e))
 in_stays reads_debug prefix e (b ∷ rest) more fits wanted = by_test (is_raw reads_debug e.part) wanted where
-  by_test : (test : Bool) → (cond test (raw_step (b ∷ rest)) (as_step (size_of prefix) (b ∷ rest) (record_at (body_mode prefix e (b ∷ rest)) (b ∷ rest))) ≡ wanting → ⊥)
-      → cond test (raw_step (b ∷ rest ++ more)) (as_step (size_of prefix) (b ∷ rest ++ more) (record_at (body_mode prefix e (b ∷ rest)) (b ∷ rest ++ more))) ≡ cond test (raw_step (b ∷ rest)) (as_step (size_of prefix) (b ∷ rest) (record_at (body_mode prefix e (b ∷ rest)) (b ∷ rest)))
+  by_test : (test : Bool) → (cond test (raw_step (b ∷ rest)) (as_step (size_of prefix) (b ∷ rest)
+      (record_at (body_mode prefix e (b ∷ rest)) (b ∷ rest))) ≡ wanting → ⊥)
+      → cond test (raw_step (b ∷ rest ++ more)) (as_step (size_of prefix) (b ∷ rest
+      ++ more) (record_at (body_mode prefix e (b ∷ rest)) (b ∷ rest ++ more)))
+      ≡ cond test (raw_step (b ∷ rest)) (as_step (size_of prefix) (b ∷ rest) (record_at (body_mode prefix e (b ∷ rest)) (b ∷ rest)))
   by_test true wanted = refl
   by_test false wanted = step_stays (body_mode prefix e (b ∷ rest)) (size_of prefix) (b ∷ rest) more fits wanted
 
-at_stays : (reads_debug : Bool) (prefix : List Step) (fault_offset : Location) (rest more : List ℕ) → AreBytes rest → (step_at reads_debug prefix fault_offset rest ≡ wanting → ⊥) → step_at reads_debug prefix fault_offset (rest ++ more) ≡ step_at reads_debug prefix fault_offset rest
+at_stays : (reads_debug : Bool) (prefix : List Step) (fault_offset : Location) (rest more : List ℕ) → AreBytes rest
+    → (step_at reads_debug prefix fault_offset rest ≡ wanting → ⊥) → step_at reads_debug prefix fault_offset (rest ++ more)
+    ≡ step_at reads_debug prefix fault_offset rest
 at_stays reads_debug prefix (in_header k) rest more fits wanted = step_stays (header_mode k) (size_of prefix) rest more fits wanted
 at_stays reads_debug prefix (in_part e) rest more fits wanted = in_stays reads_debug prefix e rest more fits wanted
 at_stays reads_debug prefix at_end rest more fits wanted = step_stays mode.Body (size_of prefix) rest more fits wanted
 
 -- The step after a prefix stays, once no more bytes are wanted.
-pub next_stays : (reads_debug : Bool) (prefix : List Step) (rest more : List ℕ) → AreBytes rest → (next_step reads_debug prefix rest ≡ wanting → ⊥) → next_step reads_debug prefix (rest ++ more) ≡ next_step reads_debug prefix rest
+pub next_stays : (reads_debug : Bool) (prefix : List Step) (rest more : List ℕ) → AreBytes rest → (next_step reads_debug prefix rest ≡ wanting → ⊥)
+    → next_step reads_debug prefix (rest ++ more) ≡ next_step reads_debug prefix rest
 next_stays reads_debug prefix rest more fits wanted = at_stays reads_debug prefix (location_after prefix) rest more fits wanted
 
 -- ---- sound prefixes and faults
@@ -104,13 +117,19 @@ some_fault reads_debug prefix answer fault h more = wrong (sym (ap (step_fault p
   wrong e = cc
 
 -- a sound prefix stays one
-pub sound_stays : (reads_debug : Bool) (before steps : List Step) (rest more : List ℕ) → AreBytes rest → IsSoundFrom reads_debug before steps rest → IsSoundFrom reads_debug before steps (rest ++ more)
+pub sound_stays : (reads_debug : Bool) (before steps : List Step) (rest more : List ℕ) → AreBytes rest → IsSoundFrom reads_debug before steps rest
+    → IsSoundFrom reads_debug before steps (rest ++ more)
 sound_stays reads_debug before [] rest more fits sound = tt
 sound_stays reads_debug before (s ∷ steps) rest more fits sound =
     let n = length (step_bytes s) in
     let same = next_stays reads_debug before rest more fits (got_no_more (next_step reads_debug before rest) s n sound.2) in
     let first = prefix_first reads_debug before (s ∷ steps) rest fits sound in
-    let inside : n ≤ length rest = omega (arith, ap length first.1, length-append (step_bytes s ++ prefix_bytes steps) first.0, length-append (step_bytes s) (prefix_bytes steps)) in (
+    let inside : n ≤ length rest = omega (
+      arith,
+      ap length first.1,
+      length-append (step_bytes s ++ prefix_bytes steps) first.0,
+      length-append (step_bytes s) (prefix_bytes steps),
+    ) in (
       sound.0,
       ap (λ a. option_or (ended_part_fault before) (step_fault before a)) same ∙ sound.1,
       same ∙ sound.2,
@@ -119,18 +138,22 @@ sound_stays reads_debug before (s ∷ steps) rest more fits sound =
     )
 
 -- a fault after a prefix stays
-pub fault_stays : (reads_debug : Bool) (prefix : List Step) (rest more : List ℕ) (fault : Fault) → AreBytes rest → fault_after reads_debug prefix rest ≡ Some fault → fault_after reads_debug prefix (rest ++ more) ≡ Some fault
+pub fault_stays : (reads_debug : Bool) (prefix : List Step) (rest more : List ℕ) (fault : Fault) → AreBytes rest → fault_after reads_debug prefix rest
+    ≡ Some fault → fault_after reads_debug prefix (rest ++ more) ≡ Some fault
 fault_stays reads_debug prefix rest more fault fits h = by_part (ended_part_fault prefix) h where
-  by_part : (o : Option Fault) → option_or o (step_fault prefix (next_step reads_debug prefix rest)) ≡ Some fault → option_or o (step_fault prefix (next_step reads_debug prefix (rest ++ more))) ≡ Some fault
+  by_part : (o : Option Fault) → option_or o (step_fault prefix (next_step reads_debug prefix rest)) ≡ Some fault
+      → option_or o (step_fault prefix (next_step reads_debug prefix (rest ++ more))) ≡ Some fault
   by_part (Some it) e = e
-  by_part None e = ap (step_fault prefix) (next_stays reads_debug prefix rest more fits (some_fault reads_debug prefix (next_step reads_debug prefix rest) fault e)) ∙ e
+  by_part None e = ap (step_fault prefix) (next_stays reads_debug prefix rest more fits
+      (some_fault reads_debug prefix (next_step reads_debug prefix rest) fault e)) ∙ e
 
 -- ---- the limit
 
 -- the bytes that are judged of a longer stream begin with those of the shorter
 pub limit-append : (n : ℕ) (bytes more : List ℕ) → take n (bytes ++ more) ≡ take n bytes ++ take (n - length bytes) more
 limit-append n bytes more = elim (cases_lt n (length bytes)) [
-  | inl short ↦ take-append-le n bytes more (omega arith) ∙ sym (append-nil (take n bytes)) ∙ ap (λ k. take n bytes ++ take k more) (none n (length bytes) (omega arith))
+  | inl short ↦ take-append-le n bytes more (omega arith) ∙ sym (append-nil (take n bytes))
+      ∙ ap (λ k. take n bytes ++ take k more) (none n (length bytes) (omega arith))
   | inr long ↦ beyond n bytes more long ∙ ap (λ l. l ++ take (n - length bytes) more) (sym (take_all n bytes long))
 ]
   where
@@ -159,10 +182,13 @@ prefixes_stay reads_debug bytes more prefix fits sound =
 
 -- ---- refusals
 
-prefix_inside : (reads_debug : Bool) (prefix : List Step) (bytes : List ℕ) → AreBytes bytes → IsSoundPrefix reads_debug prefix bytes → size_of prefix ≤ length bytes
-prefix_inside reads_debug prefix bytes fits sound = let first = prefix_first reads_debug [] prefix bytes fits sound in omega (arith, ap length first.1, length-append (prefix_bytes prefix) first.0)
+prefix_inside : (reads_debug : Bool) (prefix : List Step) (bytes : List ℕ) → AreBytes bytes → IsSoundPrefix reads_debug prefix bytes
+    → size_of prefix ≤ length bytes
+prefix_inside reads_debug prefix bytes fits sound = let first = prefix_first reads_debug [] prefix bytes fits sound in
+    omega (arith, ap length first.1, length-append (prefix_bytes prefix) first.0)
 
-pub fault_goes_on : (reads_debug : Bool) (bytes more : List ℕ) (fault_offset : ℕ) (reason : Reason) → AreBytes bytes → HasFault reads_debug bytes fault_offset reason → HasFault reads_debug (bytes ++ more) fault_offset reason
+pub fault_goes_on : (reads_debug : Bool) (bytes more : List ℕ) (fault_offset : ℕ) (reason : Reason) → AreBytes bytes
+    → HasFault reads_debug bytes fault_offset reason → HasFault reads_debug (bytes ++ more) fault_offset reason
 fault_goes_on reads_debug bytes more fault_offset reason fits h =
     let judged = within_limit bytes in
     let after = take (file_limit - length bytes) more in
@@ -173,16 +199,20 @@ fault_goes_on reads_debug bytes more fault_offset reason fits h =
       prefix = h.prefix;
       sound = subst (λ (l : List ℕ). IsSoundPrefix reads_debug h.prefix l) (sym grows) (sound_stays reads_debug [] h.prefix judged after its h.sound);
       unended = h.unended;
-      fault = ap (λ l. fault_after reads_debug h.prefix (drop (size_of h.prefix) l)) grows ∙ ap (fault_after reads_debug h.prefix) (drop-append-le (size_of h.prefix) judged after inside)
-          ∙ fault_stays reads_debug h.prefix (drop (size_of h.prefix) judged) after (fault_offset, reason) (AreBytes-drop (size_of h.prefix) judged its) h.fault;
+      fault = ap (λ l. fault_after reads_debug h.prefix (drop (size_of h.prefix) l)) grows
+          ∙ ap (fault_after reads_debug h.prefix) (drop-append-le (size_of h.prefix) judged after inside)
+          ∙ fault_stays reads_debug h.prefix (drop (size_of h.prefix) judged) after (fault_offset, reason)
+          (AreBytes-drop (size_of h.prefix) judged its) h.fault;
     }
 
-pub end_goes_on : (reads_debug : Bool) (bytes more : List ℕ) (fault_offset : ℕ) → AreBytes bytes → EndsAt reads_debug bytes fault_offset → EndsAt reads_debug (bytes ++ more) fault_offset
+pub end_goes_on : (reads_debug : Bool) (bytes more : List ℕ) (fault_offset : ℕ) → AreBytes bytes → EndsAt reads_debug bytes fault_offset
+    → EndsAt reads_debug (bytes ++ more) fault_offset
 end_goes_on reads_debug bytes more fault_offset fits h =
     let its = AreBytes-take file_limit bytes fits in
     record {
       prefix = h.prefix;
-      sound = subst (λ (l : List ℕ). IsSoundPrefix reads_debug h.prefix l) (sym (within-append bytes more)) (sound_stays reads_debug [] h.prefix (within_limit bytes) (take (file_limit - length bytes) more) its h.sound);
+      sound = subst (λ (l : List ℕ). IsSoundPrefix reads_debug h.prefix l) (sym (within-append bytes more))
+          (sound_stays reads_debug [] h.prefix (within_limit bytes) (take (file_limit - length bytes) more) its h.sound);
       ended = h.ended;
       here = h.here;
     }
@@ -191,7 +221,8 @@ end_goes_on reads_debug bytes more fault_offset fits h =
 same_judged : (bytes more : List ℕ) → file_limit < length bytes → within_limit bytes ≡ within_limit (bytes ++ more)
 same_judged bytes more long = sym (take-append-le file_limit bytes more (omega arith))
 
-waiting_goes_on : (reads_debug : Bool) (bytes other pending : List ℕ) → within_limit bytes ≡ within_limit other → IsWaiting reads_debug bytes pending → IsWaiting reads_debug other pending
+waiting_goes_on : (reads_debug : Bool) (bytes other pending : List ℕ) → within_limit bytes ≡ within_limit other → IsWaiting reads_debug bytes pending
+    → IsWaiting reads_debug other pending
 waiting_goes_on reads_debug bytes other pending same h = record {
   prefix = h.prefix;
   sound = subst (λ (l : List ℕ). IsSoundPrefix reads_debug h.prefix l) same h.sound;
@@ -202,7 +233,8 @@ waiting_goes_on reads_debug bytes other pending same h = record {
 }
 
 -- whatever numbers stand after the bytes
-pub refusal_goes_on : (reads_debug : Bool) (bytes more : List ℕ) (fault_offset : ℕ) (reason : Reason) → AreBytes bytes → IsRefusedAt reads_debug bytes fault_offset reason → IsRefusedAt reads_debug (bytes ++ more) fault_offset reason
+pub refusal_goes_on : (reads_debug : Bool) (bytes more : List ℕ) (fault_offset : ℕ) (reason : Reason) → AreBytes bytes
+    → IsRefusedAt reads_debug bytes fault_offset reason → IsRefusedAt reads_debug (bytes ++ more) fault_offset reason
 refusal_goes_on reads_debug bytes more fault_offset reason fits (inl h) = inl (fault_goes_on reads_debug bytes more fault_offset reason fits h)
 refusal_goes_on reads_debug bytes more fault_offset reason fits (inr (inl h)) =
     let long = length-append bytes more in let below : fault_offset < length bytes = h.2 in
@@ -212,4 +244,5 @@ refusal_goes_on reads_debug bytes more fault_offset reason fits (inr (inr h)) =
     inr (inr (h.0, h.1, omega arith, h.3, waiting_goes_on reads_debug bytes (bytes ++ more) h.3 (same_judged bytes more h.2) h.4))
 
 pub refusal_stays : RefusalStays
-refusal_stays reads_debug bytes more fault_offset reason fits refused = refusal_goes_on reads_debug bytes more fault_offset reason (AreBytes-prefix bytes more fits) refused
+refusal_stays reads_debug bytes more fault_offset reason fits refused =
+    refusal_goes_on reads_debug bytes more fault_offset reason (AreBytes-prefix bytes more fits) refused

@@ -50,10 +50,12 @@ kinds-after [] start (r.BlockEnd value) = refl
 kinds-after (b ∷ blocks) start (r.BlockEnd value) = refl
 kinds-after blocks start row = refl
 
-kinds-open_from : (blocks : List OpenBlock) (prefix : List Step) → kinds_of (open_from blocks (offset_records_of prefix)) ≡ kinds_from (kinds_of blocks) (records_of prefix)
+kinds-open_from : (blocks : List OpenBlock) (prefix : List Step) → kinds_of (open_from blocks (offset_records_of prefix))
+    ≡ kinds_from (kinds_of blocks) (records_of prefix)
 kinds-open_from blocks [] = refl
 kinds-open_from blocks (raw b ∷ prefix) = kinds-open_from blocks prefix
-kinds-open_from blocks (read start p ∷ prefix) = kinds-open_from (opened_after blocks start p.row) prefix ∙ ap (λ (k : List ℕ). kinds_from k (records_of prefix)) (kinds-after blocks start p.row)
+kinds-open_from blocks (read start p ∷ prefix) = kinds-open_from (opened_after blocks start p.row) prefix
+    ∙ ap (λ (k : List ℕ). kinds_from k (records_of prefix)) (kinds-after blocks start p.row)
 
 -- the kinds of the blocks that are open after a prefix
 pub kinds-open : (prefix : List Step) → kinds_of (open_blocks (offset_records_of prefix)) ≡ open_kinds (records_of prefix)
@@ -70,10 +72,12 @@ deep-by-kinds blocks (r.BlockBegin kind n name block) = ap (λ (k : ℕ). nat_le
 deep-by-kinds blocks row = refl
 
 -- the rules for blocks after a prefix
-pub ends-kinds : (prefix : List Step) (row : Record) → ends_badly (open_blocks (offset_records_of prefix)) row ≡ ends_badly_in (open_kinds (records_of prefix)) row
+pub ends-kinds : (prefix : List Step) (row : Record) → ends_badly (open_blocks (offset_records_of prefix)) row
+    ≡ ends_badly_in (open_kinds (records_of prefix)) row
 ends-kinds prefix row = ends-by-kinds (open_blocks (offset_records_of prefix)) row ∙ ap (λ (k : List ℕ). ends_badly_in k row) (kinds-open prefix)
 
-pub deep-kinds : (prefix : List Step) (row : Record) → is_too_deep (open_blocks (offset_records_of prefix)) row ≡ is_too_deep_in (open_kinds (records_of prefix)) row
+pub deep-kinds : (prefix : List Step) (row : Record) → is_too_deep (open_blocks (offset_records_of prefix)) row
+    ≡ is_too_deep_in (open_kinds (records_of prefix)) row
 deep-kinds prefix row = deep-by-kinds (open_blocks (offset_records_of prefix)) row ∙ ap (λ (k : List ℕ). is_too_deep_in k row) (kinds-open prefix)
 
 -- ---- more records
@@ -91,7 +95,8 @@ kind-other part kinds (r.BlockBegin kind n name block) other own = absurd (both_
 kind-other part kinds (r.BlockEnd value) other own = absurd (both_ways (number_of part == 4) other own)
 kind-other part kinds row other own = refl
 
-pub kinds-other : (part : Part) (kinds : List ℕ) (records : List SpelledRecord) → (number_of part == 4) ≡ false → list_all (λ p. stands_in part p.row) records ≡ true → kinds_from kinds records ≡ kinds
+pub kinds-other : (part : Part) (kinds : List ℕ) (records : List SpelledRecord) → (number_of part == 4) ≡ false
+    → list_all (λ p. stands_in part p.row) records ≡ true → kinds_from kinds records ≡ kinds
 kinds-other part kinds [] other own = refl
 kinds-other part kinds (p ∷ records) other own =
     let both = and_parts (stands_in part p.row) _ own in
@@ -111,11 +116,13 @@ kinds-silent kinds (p ∷ header) h =
     ap (λ (k : List ℕ). kinds_from k header) (kind-silent kinds p.row both.0) ∙ kinds-silent kinds header both.1
 
 -- before the debug part none is open
-pub none_before : (header sections externals : List SpelledRecord) → list_all (λ p. is_none (part_of p.row)) header ≡ true → list_all (λ p. stands_in section_part p.row) sections ≡ true
+pub none_before : (header sections externals : List SpelledRecord) → list_all (λ p. is_none (part_of p.row)) header ≡ true
+    → list_all (λ p. stands_in section_part p.row) sections ≡ true
     → list_all (λ p. stands_in external_part p.row) externals ≡ true → open_kinds ((header ++ sections) ++ externals) ≡ []
 none_before header sections externals silent own_sections own_externals =
     kinds-append [] (header ++ sections) externals
-    ∙ ap (λ (k : List ℕ). kinds_from k externals) (kinds-append [] header sections ∙ ap (λ (k : List ℕ). kinds_from k sections) (kinds-silent [] header silent) ∙ kinds-other section_part [] sections refl own_sections)
+    ∙ ap (λ (k : List ℕ). kinds_from k externals) (kinds-append [] header sections
+    ∙ ap (λ (k : List ℕ). kinds_from k sections) (kinds-silent [] header silent) ∙ kinds-other section_part [] sections refl own_sections)
     ∙ kinds-other external_part [] externals refl own_externals
 
 -- nor does a record of another part end one
@@ -136,7 +143,8 @@ NestFrom kinds [] = Unit {0}
 NestFrom kinds (p ∷ records) = (ends_badly_in kinds p.row ≡ false) × (is_too_deep_in kinds p.row ≡ false) × NestFrom (kinds_after kinds p.row) records
 
 -- records of another part keep to them
-pub nest-other : (part : Part) (kinds : List ℕ) (records : List SpelledRecord) → (number_of part == 4) ≡ false → list_all (λ p. stands_in part p.row) records ≡ true → NestFrom kinds records
+pub nest-other : (part : Part) (kinds : List ℕ) (records : List SpelledRecord) → (number_of part == 4) ≡ false
+    → list_all (λ p. stands_in part p.row) records ≡ true → NestFrom kinds records
 nest-other part kinds [] other own = tt
 nest-other part kinds (p ∷ records) other own =
     let both = and_parts (stands_in part p.row) _ own in

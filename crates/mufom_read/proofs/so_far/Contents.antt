@@ -1,12 +1,14 @@
 -- What the code does to the contents with a record is what the record states in its part; those of the other parts stay.
-use Rattle.std.proofs.Common.{◌≡◌, ℕ, Bool, true, false, not, cond, true≢false, List, [], ◌∷◌, ◌++◌, filter_map, slice_get, Option, Some, None, is_some, option_map, refl, sym, ap, ◌∙◌, append-nil, append_assoc}
+use Rattle.std.proofs.Common.{◌≡◌, ℕ, Bool, true, false, not, cond, true≢false, List, [], ◌∷◌, ◌++◌, filter_map, slice_get, Option, Some, None}
+use Rattle.std.proofs.Common.{is_some, option_map, refl, sym, ap, ◌∙◌, append-nil, append_assoc}
 use Rattle.std.specs.List.{list_any, cons_option}
 use Rattle.std.specs.Option.{option_or}
 use Rattle.mufom_expr.specs.Tree.{Tree}
 use Rattle.mufom_expr.specs.Spelled.{Indexes}
 use Rattle.mufom_records.specs.declared.record.Record.{Record}
 use Rattle.mufom_records.specs.declared.record.Record.TheVariants as r
-use Rattle.mufom_module.specs.SpelledRecords.{SpelledRecord, tree_in, tree_of_record, positioned, Once, start_address, is_same_statement, assigned_by, is_assigned}
+use Rattle.mufom_module.specs.SpelledRecords.{SpelledRecord, tree_in, tree_of_record, positioned, Once, start_address, is_same_statement, assigned_by}
+use Rattle.mufom_module.specs.SpelledRecords.{is_assigned}
 use Rattle.mufom_module.specs.RecordParts.{section_part, external_part, debug_part, data_part, trailer_part, part_of, stands_in}
 use Rattle.mufom_module.specs.Gathered.{references_of, mark_by, start_by, starts_of}
 use Rattle.mufom_module.specs.Grammar.{states_again, names_unknown, FollowFrom}
@@ -85,15 +87,19 @@ cons_append : (o : Option Tree) (xs ys : List Tree) → cons_option o (xs ++ ys)
 cons_append None xs ys = refl
 cons_append (Some x) xs ys = refl
 
-starts_more : (before ps : List SpelledRecord) (p : SpelledRecord) → starts_from before (ps ++ p ∷ []) ≡ starts_from before ps ++ cons_option (start_by (indexes_by (tables_of (before ++ ps))) p p.row) []
+starts_more : (before ps : List SpelledRecord) (p : SpelledRecord) → starts_from before (ps ++ p ∷ []) ≡ starts_from before ps
+    ++ cons_option (start_by (indexes_by (tables_of (before ++ ps))) p p.row) []
 starts_more before [] p = ap (λ (b : List SpelledRecord). cons_option (start_by (indexes_by (tables_of b)) p p.row) []) (sym (append-nil before))
 starts_more before (q ∷ ps) p =
     ap (cons_option (start_by (indexes_by (tables_of before)) q q.row))
     (starts_more (before ++ q ∷ []) ps p
-    ∙ ap (λ (b : List SpelledRecord). starts_from (before ++ q ∷ []) ps ++ cons_option (start_by (indexes_by (tables_of b)) p p.row) []) (append_assoc before (q ∷ []) ps))
-    ∙ cons_append (start_by (indexes_by (tables_of before)) q q.row) (starts_from (before ++ q ∷ []) ps) (cons_option (start_by (indexes_by (tables_of (before ++ (q ∷ ps)))) p p.row) [])
+    ∙ ap (λ (b : List SpelledRecord). starts_from (before ++ q ∷ []) ps
+    ++ cons_option (start_by (indexes_by (tables_of b)) p p.row) []) (append_assoc before (q ∷ []) ps))
+    ∙ cons_append (start_by (indexes_by (tables_of before)) q q.row) (starts_from (before ++ q ∷ []) ps)
+    (cons_option (start_by (indexes_by (tables_of (before ++ (q ∷ ps)))) p p.row) [])
 
-unstarted_row : (ix : Indexes) (p : SpelledRecord) (row : Record) (later : List Once) (starts : List Tree) → list_any (is_same_statement start_address) (cons_option (assigned_by row) later) ≡ false
+unstarted_row : (ix : Indexes) (p : SpelledRecord) (row : Record) (later : List Once) (starts : List Tree)
+    → list_any (is_same_statement start_address) (cons_option (assigned_by row) later) ≡ false
     → (list_any (is_same_statement start_address) later ≡ false → starts ≡ []) → cons_option (start_by ix p row) starts ≡ []
 unstarted_row ix p (r.Start value) later starts h more = absurd (true≢false h)
 unstarted_row ix p (r.PublicValue j value) later starts h more = more h
@@ -106,14 +112,17 @@ unstarted_row ix p row later starts h more = more h
 -- no start address was given where none was assigned
 start_unstated : (before ps : List SpelledRecord) → is_assigned ps start_address ≡ false → starts_from before ps ≡ []
 start_unstated before [] h = refl
-start_unstated before (p ∷ ps) h = unstarted_row (indexes_by (tables_of before)) p p.row (filter_map (λ q. assigned_by q.row) ps) _ h (start_unstated (before ++ p ∷ []) ps)
+start_unstated before (p ∷ ps) h = unstarted_row (indexes_by (tables_of before)) p p.row (filter_map (λ q. assigned_by q.row) ps) _ h
+    (start_unstated (before ++ p ∷ []) ps)
 
 -- the first start address is that of a record that gives one
-start_given : (ps : List SpelledRecord) (p : SpelledRecord) (tree : Option Tree) (row : Record) → p.row ≡ row → stands_in trailer_part row ≡ true → states_again ps row ≡ false → tree ≡ option_map (positioned (indexes_by (tables_of ps))) (tree_of_record p)
+start_given : (ps : List SpelledRecord) (p : SpelledRecord) (tree : Option Tree) (row : Record) → p.row ≡ row → stands_in trailer_part row ≡ true
+    → states_again ps row ≡ false → tree ≡ option_map (positioned (indexes_by (tables_of ps))) (tree_of_record p)
     → tree ≡ start_so_far (ps ++ p ∷ [])
 start_given ps p tree (r.Start value) is own once same =
     let ix = indexes_by (tables_of ps) in
-    let given : option_map (positioned ix) (tree_of_record p) ≡ Some (positioned ix (tree_in p value)) = ap (λ row. option_map (positioned ix) (tree_of_record (record p { row = row }))) is in
+    let given : option_map (positioned ix) (tree_of_record p) ≡ Some (positioned ix (tree_in p value)) =
+    ap (λ row. option_map (positioned ix) (tree_of_record (record p { row = row }))) is in
     same ∙ given
     ∙ sym (ap (λ l. slice_get l 0) (starts_more [] ps p ∙ (λ k. start_unstated [] ps once k ++ cons_option (start_by ix p (is k)) [])))
 start_given ps p tree row is own once same = absurd cc
@@ -129,7 +138,8 @@ starts_all : (before records : List SpelledRecord) → FollowFrom before records
 starts_all before [] follow = refl
 starts_all before (p ∷ records) follow =
     let here = stays_row before (p ∷ records) p.row p.bytes follow.0.known in
-    let rest = starts_all (before ++ p ∷ []) records follow.1 ∙ ap (λ (all : List SpelledRecord). starts_of (indexes_in all) records) (append_assoc before (p ∷ []) records) in
+    let rest = starts_all (before ++ p ∷ []) records follow.1 ∙ ap (λ (all : List SpelledRecord). starts_of (indexes_in all) records)
+    (append_assoc before (p ∷ []) records) in
     (λ k. cons_option (here k) (rest k))
 
 -- The start address so far is the first of those of the records, by the indexes of all of them.
@@ -150,21 +160,39 @@ module _ (c : Contents) (t : Tables) (all : List OffsetRecord) (start : ℕ) (p 
 
   -- what is known of each list before the record
   pub sections-before : AreSectionsBefore c.sections t.sections all p
-  sections-before = record { sections = before.contents.sections; table = ap (λ (u : Tables). u.sections) before.tables; follow = before.follow; next = before.next }
+  sections-before = record {
+    sections = before.contents.sections;
+    table = ap (λ (u : Tables). u.sections) before.tables;
+    follow = before.follow;
+    next = before.next;
+  }
 
   pub publics-before : IsBefore c.publics t.publics all p
-  publics-before = record { publics = before.contents.publics; table = ap (λ (u : Tables). u.publics) before.tables; follow = before.follow; next = before.next }
+  publics-before = record {
+    publics = before.contents.publics;
+    table = ap (λ (u : Tables). u.publics) before.tables;
+    follow = before.follow;
+    next =
+        before.next;
+  }
 
   pub references-before : AreBefore c.references.items t.references ps p
-  references-before = record { same = before.contents.references; table = ap (λ (u : Tables). u.references) before.tables; follow = before.follow; next = before.next }
+  references-before = record {
+    same = before.contents.references;
+    table = ap (λ (u : Tables). u.references) before.tables;
+    follow = before.follow;
+    next = before.next;
+  }
 
   -- ---- the lists that stay
 
   pub names-same : is_some (part_of p.row) ≡ true → c.header.names ≡ names_in (records_in more)
-  names-same other = before.contents.names ∙ sym (ap names_in with_one ∙ ap (λ l. slice_get l 0) (one_more_none (λ q. names_by q q.row) ps p (no_names p p.row other)))
+  names-same other = before.contents.names ∙ sym (ap names_in with_one
+      ∙ ap (λ l. slice_get l 0) (one_more_none (λ q. names_by q q.row) ps p (no_names p p.row other)))
 
   pub layout-same : is_some (part_of p.row) ≡ true → c.header.layout ≡ layout_in (records_in more)
-  layout-same other = before.contents.layout ∙ sym (ap layout_in with_one ∙ ap (λ l. slice_get l 0) (one_more_none (λ q. layout_by q.row) ps p (no_layout p.row other)))
+  layout-same other = before.contents.layout ∙ sym (ap layout_in with_one
+      ∙ ap (λ l. slice_get l 0) (one_more_none (λ q. layout_by q.row) ps p (no_layout p.row other)))
 
   pub sections-same : stands_in section_part p.row ≡ false → AreSectionsOf c.sections more
   sections-same other = others-taken c.sections c.sections t.sections all start p sections-before other refl
@@ -173,12 +201,14 @@ module _ (c : Contents) (t : Tables) (all : List OffsetRecord) (start : ℕ) (p 
   publics-same other = other-taken c.publics c.publics t.publics all start p publics-before (no_public p.row other) refl
 
   pub references-same : stands_in external_part p.row ≡ false → c.references.items ≡ references_of (records_in more)
-  references-same other = other-reference-taken c.references.items c.references.items t.references ps p references-before (no_reference p.row other) refl ∙ ap references_of (sym with_one)
+  references-same other = other-reference-taken c.references.items c.references.items t.references ps p references-before (no_reference p.row other)
+      refl ∙ ap references_of (sym with_one)
 
   pub debug-same : stands_in debug_part p.row ≡ false → AreDebugOf c.debug more
   debug-same other = record {
     marks = before.contents.debug.marks
-        ∙ sym (ap marks_so_far with_one ∙ marks-more ps p ∙ ap (λ o. marks_so_far ps ++ cons_option o []) (no_mark (indexes_by (tables_of ps)) p p.row other) ∙ append-nil (marks_so_far ps));
+        ∙ sym (ap marks_so_far with_one ∙ marks-more ps p ∙ ap (λ o. marks_so_far ps
+        ++ cons_option o []) (no_mark (indexes_by (tables_of ps)) p p.row other) ∙ append-nil (marks_so_far ps));
     blocks = before.contents.debug.blocks ∙ sym (open-more all start p ∙ no_block (open_blocks all) start p.row other);
   }
 
@@ -187,29 +217,37 @@ module _ (c : Contents) (t : Tables) (all : List OffsetRecord) (start : ℕ) (p 
 
   pub start-same : stands_in trailer_part p.row ≡ false → c.start ≡ start_so_far (records_in more)
   start-same other = before.contents.start
-      ∙ sym (ap start_so_far with_one ∙ ap (λ l. slice_get l 0) (starts_more [] ps p ∙ ap (λ o. starts_from [] ps ++ cons_option o []) (no_start (indexes_by (tables_of ps)) p p.row other) ∙ append-nil (starts_from [] ps)))
+      ∙ sym (ap start_so_far with_one ∙ ap (λ l. slice_get l 0) (starts_more [] ps p
+      ∙ ap (λ o. starts_from [] ps ++ cons_option o []) (no_start (indexes_by (tables_of ps)) p p.row other) ∙ append-nil (starts_from [] ps)))
 
   -- ---- the lists that a record of their part changes
 
   pub names-taken : (new : Header) → new ≡ header_after c.header p → new.names ≡ names_in (records_in more)
-  names-taken new same = ap (λ (h : Header). h.names) same ∙ ap (λ o. option_or o (names_by p p.row)) before.contents.names ∙ sym (ap names_in with_one ∙ answer-more (λ q. names_by q q.row) ps p)
+  names-taken new same = ap (λ (h : Header). h.names) same ∙ ap (λ o. option_or o (names_by p p.row)) before.contents.names
+      ∙ sym (ap names_in with_one ∙ answer-more (λ q. names_by q q.row) ps p)
 
   pub layout-taken : (new : Header) → new ≡ header_after c.header p → new.layout ≡ layout_in (records_in more)
-  layout-taken new same = ap (λ (h : Header). h.layout) same ∙ ap (λ o. option_or o (layout_by p.row)) before.contents.layout ∙ sym (ap layout_in with_one ∙ answer-more (λ q. layout_by q.row) ps p)
+  layout-taken new same = ap (λ (h : Header). h.layout) same ∙ ap (λ o. option_or o (layout_by p.row)) before.contents.layout
+      ∙ sym (ap layout_in with_one ∙ answer-more (λ q. layout_by q.row) ps p)
 
-  pub debug-taken : (new : Debugs) → marks_kept new ≡ marks_kept c.debug ++ cons_option (mark_by (indexes_by t) p p.row) [] → opened new ≡ opened_after (opened c.debug) start p.row → AreDebugOf new more
+  pub debug-taken : (new : Debugs) → marks_kept new ≡ marks_kept c.debug ++ cons_option (mark_by (indexes_by t) p p.row) [] → opened new
+      ≡ opened_after (opened c.debug) start p.row → AreDebugOf new more
   debug-taken new marks blocks = record {
-    marks = marks ∙ (λ j. before.contents.debug.marks j ++ cons_option (mark_by (indexes_by (before.tables j)) p p.row) []) ∙ sym (ap marks_so_far with_one ∙ marks-more ps p);
+    marks = marks ∙ (λ j. before.contents.debug.marks j ++ cons_option (mark_by (indexes_by (before.tables j)) p p.row) [])
+        ∙ sym (ap marks_so_far with_one ∙ marks-more ps p);
     blocks = blocks ∙ ap (λ bs. opened_after bs start p.row) before.contents.debug.blocks ∙ sym (open-more all start p);
   }
 
-  pub loads-taken : (new : Loads) (maus : ℕ) → stands_in data_part p.row ≡ true → maus ≡ units_or (option_map (λ (l : Layout). l.maus) c.header.layout) → new ≡ with_load (indexes_by t) maus c.loads p → new ≡ loads_so_far (records_in more)
+  pub loads-taken : (new : Loads) (maus : ℕ) → stands_in data_part p.row ≡ true → maus
+      ≡ units_or (option_map (λ (l : Layout). l.maus) c.header.layout) → new ≡ with_load (indexes_by t) maus c.loads p → new ≡ loads_so_far (records_in more)
   loads-taken new maus own units same =
       let its : maus ≡ units_or (units_in ps) = units ∙ ap (λ (o : Option Layout). units_or (option_map (λ (l : Layout). l.maus) o)) before.contents.layout in
       same ∙ (λ j. with_load (indexes_by (before.tables j)) (its j) (before.contents.loads j) p)
       ∙ sym (ap (λ (b : Bool). cond b (with_load (indexes_by (tables_of ps)) (units_or (units_in ps)) (loads_so_far ps) p) (loads_so_far ps)) own)
       ∙ sym (ap loads_so_far with_one ∙ loads-more ps p)
 
-  pub start-taken : (new : Option Tree) → stands_in trailer_part p.row ≡ true → new ≡ option_map (positioned (indexes_by t)) (tree_of_record p) → new ≡ start_so_far (records_in more)
+  pub start-taken : (new : Option Tree) → stands_in trailer_part p.row ≡ true → new ≡ option_map (positioned (indexes_by t)) (tree_of_record p) → new
+      ≡ start_so_far (records_in more)
   start-taken new own same =
-      start_given ps p new p.row refl own before.next.once (same ∙ ap (λ (u : Tables). option_map (positioned (indexes_by u)) (tree_of_record p)) before.tables) ∙ ap start_so_far (sym with_one)
+      start_given ps p new p.row refl own before.next.once (same
+      ∙ ap (λ (u : Tables). option_map (positioned (indexes_by u)) (tree_of_record p)) before.tables) ∙ ap start_so_far (sym with_one)

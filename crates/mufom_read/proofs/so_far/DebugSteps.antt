@@ -1,5 +1,6 @@
 -- What a record of the debug part does to the debug items so far: their marks are those of one more record.
-use Rattle.std.proofs.Common.{◌≡◌, ℕ, zero, suc, ◌+◌, ◌==◌, ◌&&◌, ◌||◌, false, cond, arith, List, [], ◌∷◌, ◌++◌, length, map, drop, get_or, is_some, Option, Some, None, option_map, refl, sym, ap, ◌∙◌, append_assoc, append-nil, Result, Ok, Err, OnOk}
+use Rattle.std.proofs.Common.{◌≡◌, ℕ, zero, suc, ◌+◌, ◌==◌, ◌&&◌, ◌||◌, false, cond, arith, List, [], ◌∷◌, ◌++◌, length, map, drop, get_or, is_some}
+use Rattle.std.proofs.Common.{Option, Some, None, option_map, refl, sym, ap, ◌∙◌, append_assoc, append-nil, Result, Ok, Err, OnOk}
 use Rattle.std.specs.List.{cons_option}
 use Rattle.std.proofs.lemmas.List.{map-append}
 use Rattle.mufom_numbers.specs.declared.taken.Span.{Span}
@@ -45,7 +46,8 @@ stacked-none [] h = refl
 stacked-none (b ∷ blocks) h = let count = ap length h in let all = stacked-length [] (b ∷ blocks) in absurd (omega (arith, count, all))
 
 -- the innermost is the last one
-pub innermost : (outer : List Opened) (blocks : List OpenBlock) (k : ℕ) (b : OpenBlock) → length blocks ≡ suc k → b ≡ get_or blocks k b → (inner : List Opened) × (stacked outer blocks ≡ as_opened b ∷ inner)
+pub innermost : (outer : List Opened) (blocks : List OpenBlock) (k : ℕ) (b : OpenBlock) → length blocks ≡ suc k → b ≡ get_or blocks k b
+    → (inner : List Opened) × (stacked outer blocks ≡ as_opened b ∷ inner)
 innermost outer [] k b count is = absurd (omega (arith, count))
 innermost outer (x ∷ []) zero b count is = (outer, ap (λ (y : OpenBlock). as_opened y ∷ outer) (sym is))
 innermost outer (x ∷ []) (suc k) b count is = absurd (omega (arith, count))
@@ -71,17 +73,21 @@ to_one blocks b =
 
 -- BB
 pub block-begun : (blocks : List OpenBlock) (b : OpenBlock)
-    → joined (map marks_to_block (blocks ++ b ∷ [])) ++ marks_of [] ≡ (joined (map marks_to_block blocks) ++ marks_of b.before) ++ block_begin b.head b.name ∷ []
+    → joined (map marks_to_block (blocks ++ b ∷ [])) ++ marks_of [] ≡ (joined (map marks_to_block blocks) ++ marks_of b.before)
+    ++ block_begin b.head b.name ∷ []
 block-begun blocks b =
     append-nil (joined (map marks_to_block (blocks ++ b ∷ []))) ∙ to_one blocks b
     ∙ sym (append_assoc (joined (map marks_to_block blocks)) (marks_of b.before) (block_begin b.head b.name ∷ []))
 
 regrouped : {X : Type 0} (p q m : List X) (b e : X) → p ++ (q ++ (b ∷ (m ++ e ∷ []))) ≡ ((p ++ (q ++ b ∷ [])) ++ m) ++ e ∷ []
-regrouped p q m b e = sym (append_assoc (p ++ (q ++ b ∷ [])) m (e ∷ []) ∙ append_assoc p (q ++ b ∷ []) (m ++ e ∷ []) ∙ ap (λ l. p ++ l) (append_assoc q (b ∷ []) (m ++ e ∷ [])))
+regrouped p q m b e = sym (append_assoc (p ++ (q ++ b ∷ [])) m (e ∷ []) ∙ append_assoc p (q ++ b ∷ []) (m ++ e ∷ [])
+    ∙ ap (λ l. p ++ l) (append_assoc q (b ∷ []) (m ++ e ∷ [])))
 
 -- BE
-pub block-ended : (blocks : List OpenBlock) (b : OpenBlock) (items : List DebugItem) (end : Option Tree) (item : DebugItem) → marks_of_item item ≡ block_begin b.head b.name ∷ (marks_of items ++ block_end end ∷ [])
-    → joined (map marks_to_block blocks) ++ marks_of (b.before ++ item ∷ []) ≡ (joined (map marks_to_block (blocks ++ b ∷ [])) ++ marks_of items) ++ block_end end ∷ []
+pub block-ended : (blocks : List OpenBlock) (b : OpenBlock) (items : List DebugItem) (end : Option Tree) (item : DebugItem) → marks_of_item item
+    ≡ block_begin b.head b.name ∷ (marks_of items ++ block_end end ∷ [])
+    → joined (map marks_to_block blocks) ++ marks_of (b.before ++ item ∷ []) ≡ (joined (map marks_to_block (blocks ++ b ∷ [])) ++ marks_of items)
+    ++ block_end end ∷ []
 block-ended blocks b items end item same =
     let p = joined (map marks_to_block blocks) in
     ap (λ l. p ++ l) (marks_of-one b.before item ∙ ap (λ l. marks_of b.before ++ l) same)
@@ -108,16 +114,20 @@ cons-append : {X : Type 0} (o : Option X) (xs ys : List X) → cons_option o (xs
 cons-append None xs ys = refl
 cons-append (Some x) xs ys = refl
 
-marks_more : (before ps : List SpelledRecord) (p : SpelledRecord) → marks_from before (ps ++ p ∷ []) ≡ marks_from before ps ++ cons_option (mark_by (indexes_by (tables_of (before ++ ps))) p p.row) []
+marks_more : (before ps : List SpelledRecord) (p : SpelledRecord) → marks_from before (ps ++ p ∷ []) ≡ marks_from before ps
+    ++ cons_option (mark_by (indexes_by (tables_of (before ++ ps))) p p.row) []
 marks_more before [] p = ap (λ (b : List SpelledRecord). cons_option (mark_by (indexes_by (tables_of b)) p p.row) []) (sym (append-nil before))
 marks_more before (q ∷ ps) p =
     ap (cons_option (mark_by (indexes_by (tables_of before)) q q.row))
     (marks_more (before ++ q ∷ []) ps p
-    ∙ ap (λ (b : List SpelledRecord). marks_from (before ++ q ∷ []) ps ++ cons_option (mark_by (indexes_by (tables_of b)) p p.row) []) (append_assoc before (q ∷ []) ps))
-    ∙ cons-append (mark_by (indexes_by (tables_of before)) q q.row) (marks_from (before ++ q ∷ []) ps) (cons_option (mark_by (indexes_by (tables_of (before ++ (q ∷ ps)))) p p.row) [])
+    ∙ ap (λ (b : List SpelledRecord). marks_from (before ++ q ∷ []) ps
+    ++ cons_option (mark_by (indexes_by (tables_of b)) p p.row) []) (append_assoc before (q ∷ []) ps))
+    ∙ cons-append (mark_by (indexes_by (tables_of before)) q q.row) (marks_from (before ++ q ∷ []) ps)
+    (cons_option (mark_by (indexes_by (tables_of (before ++ (q ∷ ps)))) p p.row) [])
 
 -- the marks with one more record
-pub marks-more : (ps : List SpelledRecord) (p : SpelledRecord) → marks_so_far (ps ++ p ∷ []) ≡ marks_so_far ps ++ cons_option (mark_by (indexes_by (tables_of ps)) p p.row) []
+pub marks-more : (ps : List SpelledRecord) (p : SpelledRecord) → marks_so_far (ps ++ p ∷ []) ≡ marks_so_far ps
+    ++ cons_option (mark_by (indexes_by (tables_of ps)) p p.row) []
 marks-more ps p = marks_more [] ps p
 
 open_append : (blocks : List Opened) (a b : List OffsetRecord) → open_from blocks (a ++ b) ≡ open_from (open_from blocks a) b
@@ -130,7 +140,8 @@ open-more all start p = open_append [] all ((start, p) ∷ [])
 
 -- ---- all records
 
-begin_stays : (before more : List SpelledRecord) (kind n : ℕ) (name : Span) (block : BlockTail) (bytes : List ℕ) → names_unknown before (as_record (r.BlockBegin kind n name block) bytes) ≡ false
+begin_stays : (before more : List SpelledRecord) (kind n : ℕ) (name : Span) (block : BlockTail) (bytes : List ℕ)
+    → names_unknown before (as_record (r.BlockBegin kind n name block) bytes) ≡ false
     → mark_by (indexes_by (tables_of before)) (as_record (r.BlockBegin kind n name block) bytes) (r.BlockBegin kind n name block)
     ≡ mark_by (indexes_in (before ++ more)) (as_record (r.BlockBegin kind n name block) bytes) (r.BlockBegin kind n name block)
 begin_stays before more kind n name tail.Module bytes known = refl
@@ -146,7 +157,8 @@ begin_stays before more kind n name (tail.Section section_type i offset) bytes k
     (λ k. Some (block_begin (heads.Section section_type (at k) (tree k)) (text_in p name)))
 
 end_stays : (before more : List SpelledRecord) (value : Option Span) (bytes : List ℕ) → names_unknown before (as_record (r.BlockEnd value) bytes) ≡ false
-    → mark_by (indexes_by (tables_of before)) (as_record (r.BlockEnd value) bytes) (r.BlockEnd value) ≡ mark_by (indexes_in (before ++ more)) (as_record (r.BlockEnd value) bytes) (r.BlockEnd value)
+    → mark_by (indexes_by (tables_of before)) (as_record (r.BlockEnd value) bytes) (r.BlockEnd value)
+    ≡ mark_by (indexes_in (before ++ more)) (as_record (r.BlockEnd value) bytes) (r.BlockEnd value)
 end_stays before more None bytes known = refl
 end_stays before more (Some span) bytes known =
     let p = as_record (r.BlockEnd (Some span)) bytes in
@@ -171,7 +183,8 @@ marks_all : (before records : List SpelledRecord) → FollowFrom before records 
 marks_all before [] follow = refl
 marks_all before (p ∷ records) follow =
     let here = mark_stays before (p ∷ records) p.row p.bytes follow.0.known in
-    let rest = marks_all (before ++ p ∷ []) records follow.1 ∙ ap (λ (all : List SpelledRecord). marks (indexes_in all) records) (append_assoc before (p ∷ []) records) in
+    let rest = marks_all (before ++ p ∷ []) records follow.1 ∙ ap (λ (all : List SpelledRecord). marks (indexes_in all) records)
+    (append_assoc before (p ∷ []) records) in
     (λ k. cons_option (here k) (rest k))
 
 -- The marks so far are those of the records, by the indexes of all of them.

@@ -1,5 +1,6 @@
 -- Each record of a prefix keeps to the rules after those before it: what that makes known of what was stated of an index.
-use Rattle.std.proofs.Common.{◌≡◌, ℕ, ◌+◌, ◌<◌, ◌≤◌, arith, ◌==◌, ◌||◌, Bool, true, false, true≢false, cond, List, [], ◌∷◌, ◌++◌, filter_map, Option, Some, None, refl, sym, ap, subst, ◌∙◌, append-nil, append_assoc, ne_eqb}
+use Rattle.std.proofs.Common.{◌≡◌, ℕ, ◌+◌, ◌<◌, ◌≤◌, arith, ◌==◌, ◌||◌, Bool, true, false, true≢false, cond, List, [], ◌∷◌, ◌++◌, filter_map, Option}
+use Rattle.std.proofs.Common.{Some, None, refl, sym, ap, subst, ◌∙◌, append-nil, append_assoc, ne_eqb}
 use Rattle.std.specs.Prelude.{unwrap_or}
 use Rattle.std.specs.List.{cons_option, list_any}
 use Rattle.std.proofs.lemmas.Bool.{or_parts}
@@ -8,7 +9,9 @@ use Rattle.std.proofs.lemmas.List.Folds.{list_any-append}
 use Rattle.mufom_records.specs.declared.record.Record.{Record}
 use Rattle.mufom_records.specs.declared.record.Record.TheVariants as r
 use Rattle.mufom_names.specs.declared.name.Weak.{Weak}
-use Rattle.mufom_module.specs.SpelledRecords.{SpelledRecord, tree_in, Kind, section, public, reference, declared, declared_by, of_kind, is_declared, named_by, Once, value_of_public, weakness, alignment, section_size, section_base, is_same_statement, assigned_by, is_assigned}
+use Rattle.mufom_module.specs.SpelledRecords.{SpelledRecord, tree_in, Kind, section, public, reference, declared, declared_by, of_kind, is_declared}
+use Rattle.mufom_module.specs.SpelledRecords.{named_by, Once, value_of_public, weakness, alignment, section_size, section_base, is_same_statement}
+use Rattle.mufom_module.specs.SpelledRecords.{assigned_by, is_assigned}
 use Rattle.mufom_module.specs.Gathered.{answers, size_for, alignment_for, base_for, note_of, value_for, weak_for, public_note_for, reference_note_for}
 use Rattle.mufom_module.specs.Grammar.{Follows, FollowFrom}
 use Rattle.mufom_read.specs.Prefixes.{OffsetRecord}
@@ -21,7 +24,11 @@ weak_of n default = record { size = n; default = unwrap_or default 0 }
 -- one more record that keeps to the rules
 pub follow-more : (before a : List SpelledRecord) (p : SpelledRecord) → FollowFrom before a → Follows (before ++ a) p → FollowFrom before (a ++ p ∷ [])
 follow-more before [] p all one = (subst (λ (l : List SpelledRecord). Follows l p) (append-nil before) one, tt)
-follow-more before (q ∷ a) p all one = (all.0, follow-more (before ++ q ∷ []) a p all.1 (subst (λ (l : List SpelledRecord). Follows l p) (sym (append_assoc before (q ∷ []) a)) one))
+follow-more before (q ∷ a) p all one = (
+  all.0,
+  follow-more (before
+      ++ q ∷ []) a p all.1 (subst (λ (l : List SpelledRecord). Follows l p) (sym (append_assoc before (q ∷ []) a)) one),
+)
 
 -- ---- an index that is not declared
 
@@ -31,11 +38,13 @@ declared_first kind before more i h =
     ∙ list_any-append (λ n. n == i) (declared kind before) (declared kind more) ∙ ap (λ b. b || is_declared more (kind, i)) h
 
 -- Of an index that none of the records declares they state nothing: each names only what those before it declare.
-pub nothing-stated : {X : Type 0} (kind : Kind) (i : ℕ) (ask : SpelledRecord → Option X) → ((p : SpelledRecord) → (named_by p.row ≡ Some (kind, i) → ⊥) → ask p ≡ None)
+pub nothing-stated : {X : Type 0} (kind : Kind) (i : ℕ) (ask : SpelledRecord → Option X)
+    → ((p : SpelledRecord) → (named_by p.row ≡ Some (kind, i) → ⊥) → ask p ≡ None)
     → (before ps : List SpelledRecord) → FollowFrom before ps → is_declared (before ++ ps) (kind, i) ≡ false → filter_map ask ps ≡ []
 nothing-stated kind i ask silent before [] follow none = refl
 nothing-stated kind i ask silent before (p ∷ ps) follow none =
-    let unnamed = λ (named : named_by p.row ≡ Some (kind, i)). absurd {A = ⊥} (true≢false (sym (declared_first kind before (p ∷ ps) i (named_known before p (kind, i) named follow.0.known)) ∙ none)) in
+    let unnamed = λ (named : named_by p.row ≡ Some (kind, i)). absurd {A =
+    ⊥} (true≢false (sym (declared_first kind before (p ∷ ps) i (named_known before p (kind, i) named follow.0.known)) ∙ none)) in
     let rest = nothing-stated kind i ask silent (before ++ p ∷ []) ps follow.1 (ap (λ l. is_declared l (kind, i)) (append_assoc before (p ∷ []) ps) ∙ none) in
     (λ k. cons_option (silent p unnamed k) (rest k))
 
@@ -49,7 +58,8 @@ module _ (i : ℕ) (p : SpelledRecord) where
   public_note_silent row no_ = refl
 
   pub weak_silent : (row : Record) → (named_by row ≡ Some (reference, i) → ⊥) → weak_for i row ≡ None
-  weak_silent (r.WeakReference j n default) no_ = ap (λ b. cond b (Some (weak_of n default)) None) (ne_eqb i j (λ e. no_ (ap (λ n. Some (reference, n)) (sym e))))
+  weak_silent (r.WeakReference j n default) no_ = ap (λ b. cond b (Some (weak_of n default)) None)
+      (ne_eqb i j (λ e. no_ (ap (λ n. Some (reference, n)) (sym e))))
   weak_silent row no_ = refl
 
   pub size_silent : (row : Record) → (named_by row ≡ Some (section, i) → ⊥) → size_for i row ≡ None
@@ -65,7 +75,8 @@ module _ (i : ℕ) (p : SpelledRecord) where
   base_silent row no_ = refl
 
   pub reference_note_silent : (row : Record) → (named_by row ≡ Some (reference, i) → ⊥) → reference_note_for i row ≡ None
-  reference_note_silent (r.ReferenceNote j a b ns) no_ = ap (λ t. cond t (Some (note_of a b ns)) None) (ne_eqb i j (λ e. no_ (ap (λ n. Some (reference, n)) (sym e))))
+  reference_note_silent (r.ReferenceNote j a b ns) no_ = ap (λ t. cond t (Some (note_of a b ns)) None)
+      (ne_eqb i j (λ e. no_ (ap (λ n. Some (reference, n)) (sym e))))
   reference_note_silent row no_ = refl
 
 -- ---- what was not stated yet
@@ -132,7 +143,8 @@ base-unstated i = unstated (section_base i) (λ p. base_for i p.row) (λ p. unba
 
 -- ---- offsets that rise
 
-pub rising-more : (from : ℕ) (placed : List OffsetRecord) (n m : ℕ) (p : SpelledRecord) → AreRising from placed n → n < m → AreRising from (placed ++ (n, p) ∷ []) m
+pub rising-more : (from : ℕ) (placed : List OffsetRecord) (n m : ℕ) (p : SpelledRecord) → AreRising from placed n → n < m
+    → AreRising from (placed ++ (n, p) ∷ []) m
 rising-more from [] n m p rising more = (rising, omega (arith, more))
 rising-more from (q ∷ placed) n m p rising more = (rising.0, rising-more (q.0 + 1) placed n m p rising.1 more)
 

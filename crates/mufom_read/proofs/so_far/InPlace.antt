@@ -1,5 +1,6 @@
 -- What a record states of an entry that an earlier one declares changes this entry in its place, and no other.
-use Rattle.std.proofs.Common.{◌≡◌, ℕ, zero, suc, ◌==◌, false, cond, nat_eq, List, [], ◌∷◌, filter_map, slice_get, Option, Some, None, is_some, refl, sym, ap, subst, ◌∙◌, eq-eqb, true≢false}
+use Rattle.std.proofs.Common.{◌≡◌, ℕ, zero, suc, ◌==◌, false, cond, nat_eq, List, [], ◌∷◌, filter_map, slice_get, Option, Some, None, is_some, refl}
+use Rattle.std.proofs.Common.{sym, ap, subst, ◌∙◌, eq-eqb, true≢false}
 use Rattle.std.specs.Prelude.{unwrap_or, slice_set}
 use Rattle.std.specs.List.{cons_option, IsDistinct, AllByRecursion}
 use Rattle.mufom_read.proofs.TableLaws.{eqb-swap}
@@ -32,7 +33,8 @@ module _ {P E : Type 0} (key : P → Option ℕ) (by after : P → Option E) (i 
   pub others-same : (ps : List P) → lacks_key i (filter_map key ps) → filter_map after ps ≡ filter_map by ps
   others-same [] lacks = refl
   others-same (p ∷ ps) lacks =
-      (λ z. cons_option ((is.changed p ∙ one_same (key p) (by p) (filter_map key ps) lacks) z) (others-same ps (rest_lacks (key p) (filter_map key ps) lacks) z))
+      (λ z. cons_option ((is.changed p ∙ one_same (key p) (by p) (filter_map key ps) lacks) z)
+      (others-same ps (rest_lacks (key p) (filter_map key ps) lacks) z))
 
   none_else : (j : ℕ) (js : List ℕ) → j ≡ i → AllByRecursion (λ y. nat_eq j y ≡ false) js → lacks_key i js
   none_else j [] e all = tt
@@ -60,7 +62,8 @@ module _ {P E : Type 0} (key : P → Option ℕ) (by after : P → Option E) (i 
       (λ z. cond (other_there j offset ks distinct.0 there z) (change e) e ∷ some offset there is_old distinct.1 z)
 
   -- The entry with this key, at its place, is changed there.
-  pub changed-there : (ps : List P) (offset : ℕ) (old : E) → IsDistinct nat_eq (filter_map key ps) → slice_get (filter_map key ps) offset ≡ Some i → slice_get (filter_map by ps) offset ≡ Some old
+  pub changed-there : (ps : List P) (offset : ℕ) (old : E) → IsDistinct nat_eq (filter_map key ps) → slice_get (filter_map key ps) offset ≡ Some i
+      → slice_get (filter_map by ps) offset ≡ Some old
       → filter_map after ps ≡ slice_set (filter_map by ps) offset (change old)
   changed-there [] offset old distinct there is_old = cc
   changed-there (p ∷ ps) offset old distinct there is_old =

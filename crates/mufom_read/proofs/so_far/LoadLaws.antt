@@ -1,5 +1,6 @@
 -- The loads so far, record by record.
-use Rattle.std.proofs.Common.{◌≡◌, ℕ, true, true≢false, List, [], ◌∷◌, ◌++◌, filter_map, slice_get, refl, sym, ap, ◌∙◌, append-nil, append_assoc, Result, Ok, Err, OnOk, Option, Some, None, option_map}
+use Rattle.std.proofs.Common.{◌≡◌, ℕ, true, true≢false, List, [], ◌∷◌, ◌++◌, filter_map, slice_get, refl, sym, ap, ◌∙◌, append-nil, append_assoc}
+use Rattle.std.proofs.Common.{Result, Ok, Err, OnOk, Option, Some, None, option_map}
 use Rattle.std.specs.Prelude.{unwrap_or}
 use Rattle.std.specs.List.{cons_option}
 use Rattle.std.specs.Option.{option_or}
@@ -31,17 +32,20 @@ first-more [] (Some x) = refl
 first-more (x ∷ xs) o = refl
 
 -- what is answered first, with one more record
-pub answer-more : {X : Type 0} (ask : SpelledRecord → Option X) (ps : List SpelledRecord) (p : SpelledRecord) → slice_get (filter_map ask (ps ++ p ∷ [])) 0 ≡ option_or (slice_get (filter_map ask ps) 0) (ask p)
+pub answer-more : {X : Type 0} (ask : SpelledRecord → Option X) (ps : List SpelledRecord) (p : SpelledRecord)
+    → slice_get (filter_map ask (ps ++ p ∷ [])) 0 ≡ option_or (slice_get (filter_map ask ps) 0) (ask p)
 answer-more ask ps p = ap (λ xs. slice_get xs 0) (filter_map-append ask ps (p ∷ [])) ∙ first-more (filter_map ask ps) (ask p)
 
 -- units that are known stay
 pub units-stay : (ps : List SpelledRecord) (p : SpelledRecord) (maus : ℕ) → units_in ps ≡ Some maus → units_in (ps ++ p ∷ []) ≡ Some maus
 units-stay ps p maus given = ap (option_map (λ (l : Layout). l.maus)) (answer-more (λ q. layout_by q.row) ps p) ∙ stays (layout_in ps) given where
-  stays : (o : Option Layout) → option_map (λ (l : Layout). l.maus) o ≡ Some maus → option_map (λ (l : Layout). l.maus) (option_or o (layout_by p.row)) ≡ Some maus
+  stays : (o : Option Layout) → option_map (λ (l : Layout). l.maus) o ≡ Some maus
+      → option_map (λ (l : Layout). l.maus) (option_or o (layout_by p.row)) ≡ Some maus
   stays (Some l) h = h
   stays None h = absurd cc
 
-loads_more : (before : List SpelledRecord) (s : Loads) (ps : List SpelledRecord) (p : SpelledRecord) → loads_from before s (ps ++ p ∷ []) ≡ loads_after (before ++ ps) (loads_from before s ps) p
+loads_more : (before : List SpelledRecord) (s : Loads) (ps : List SpelledRecord) (p : SpelledRecord) → loads_from before s (ps ++ p ∷ [])
+    ≡ loads_after (before ++ ps) (loads_from before s ps) p
 loads_more before s [] p = ap (λ (b : List SpelledRecord). loads_after b s p) (sym (append-nil before))
 loads_more before s (q ∷ ps) p =
     loads_more (before ++ q ∷ []) (loads_after before s q) ps p
@@ -55,17 +59,21 @@ loads-more ps p = loads_more [] no_loads ps p
 
 module _ (ix : Indexes) (p : SpelledRecord) where
   -- the expression of a record, with positions, where one stands there
-  value_there : (row : Record) (span : Span) → p.row ≡ row → expression_of row ≡ Some span → option_map (positioned ix) (tree_of_record p) ≡ Some (positioned ix (tree_in p span))
-  value_there row span is there = ap (λ (x : Record). option_map (positioned ix) (option_map (tree_in p) (expression_of x))) is ∙ ap (λ (o : Option Span). option_map (positioned ix) (option_map (tree_in p) o)) there
+  value_there : (row : Record) (span : Span) → p.row ≡ row → expression_of row ≡ Some span → option_map (positioned ix) (tree_of_record p)
+      ≡ Some (positioned ix (tree_in p span))
+  value_there row span is there = ap (λ (x : Record). option_map (positioned ix) (option_map (tree_in p) (expression_of x))) is
+      ∙ ap (λ (o : Option Span). option_map (positioned ix) (option_map (tree_in p) o)) there
 
   pub pc-valued : (i : ℕ) (span : Span) → p.row ≡ r.SetPc i span → option_map (positioned ix) (tree_of_record p) ≡ Some (positioned ix (tree_in p span))
   pc-valued i span is = value_there (r.SetPc i span) span is refl
 
-  pub field-valued : (kind : FieldKind) (span : Span) (size : Option ℕ) → p.row ≡ r.FieldItem kind span size → option_map (positioned ix) (tree_of_record p) ≡ Some (positioned ix (tree_in p span))
+  pub field-valued : (kind : FieldKind) (span : Span) (size : Option ℕ) → p.row ≡ r.FieldItem kind span size
+      → option_map (positioned ix) (tree_of_record p) ≡ Some (positioned ix (tree_in p span))
   field-valued kind span size is = value_there (r.FieldItem kind span size) span is refl
 
   -- a field has its expression as its value
-  pub field-made : (maus : ℕ) (kind : FieldKind) (span : Span) (size : Option ℕ) (v : Tree) (n : ℕ) → p.row ≡ r.FieldItem kind span size → Some v ≡ option_map (positioned ix) (tree_of_record p) → n ≡ unwrap_or size maus
+  pub field-made : (maus : ℕ) (kind : FieldKind) (span : Span) (size : Option ℕ) (v : Tree) (n : ℕ) → p.row ≡ r.FieldItem kind span size → Some v
+      ≡ option_map (positioned ix) (tree_of_record p) → n ≡ unwrap_or size maus
       → item_by ix maus p p.row ≡ Some (Field kind v n)
   field-made maus kind span size v n is value count =
       let same : v ≡ positioned ix (tree_in p span) = ap (λ (o : Option Tree). unwrap_or o v) (value ∙ field-valued kind span size is) in

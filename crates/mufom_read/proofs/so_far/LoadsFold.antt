@@ -54,7 +54,8 @@ module _ (ix : Indexes) (maus : ℕ) where
   loads_by_all s [] = s
   loads_by_all s (p ∷ records) = loads_by_all (with_load ix maus s p) records
 
-  all_after : (s : Loads) (records : List SpelledRecord) → closed (loads_by_all s records) ≡ shut s.loads s.awaiting (items_at_prefix ix maus records) (loads_of ix maus records)
+  all_after : (s : Loads) (records : List SpelledRecord) → closed (loads_by_all s records)
+      ≡ shut s.loads s.awaiting (items_at_prefix ix maus records) (loads_of ix maus records)
   all_after s [] = sym (none_after s.loads s.awaiting [] ∙ append-nil (closed s))
   all_after s (p ∷ records) = all_after (with_load ix maus s p) records ∙ step s p.row p.bytes records
 

@@ -1,5 +1,6 @@
 -- What a record of the external part does to the publics: one more, or what it states of one, in its place.
-use Rattle.std.proofs.Common.{◌≡◌, ℕ, length, ◌==◌, Bool, true, false, cond, nat_eq, List, [], ◌∷◌, ◌++◌, map, filter_map, slice_get, Option, Some, None, option_map, is_some, refl, sym, ap, ◌∙◌, append-nil, true≢false}
+use Rattle.std.proofs.Common.{◌≡◌, ℕ, length, ◌==◌, Bool, true, false, cond, nat_eq, List, [], ◌∷◌, ◌++◌, map, filter_map, slice_get, Option, Some}
+use Rattle.std.proofs.Common.{None, option_map, is_some, refl, sym, ap, ◌∙◌, append-nil, true≢false}
 use Rattle.std.specs.Prelude.{unwrap_or, slice_set}
 use Rattle.std.specs.List.{cons_option, IsDistinct}
 use Rattle.std.proofs.lemmas.List.Elements.{filter_map-append}
@@ -26,7 +27,8 @@ map_cons : {X Y : Type 0} (f : X → Y) (o : Option X) (xs : List X) → map f (
 map_cons f None xs = refl
 map_cons f (Some x) xs = refl
 
-fused : {P X Y : Type 0} (f : P → Option Y) (g : X → Y) (h : P → Option X) → ((p : P) → f p ≡ option_map g (h p)) → (ps : List P) → filter_map f ps ≡ map g (filter_map h ps)
+fused : {P X Y : Type 0} (f : P → Option Y) (g : X → Y) (h : P → Option X) → ((p : P) → f p ≡ option_map g (h p)) → (ps : List P) → filter_map f ps
+    ≡ map g (filter_map h ps)
 fused f g h same [] = refl
 fused f g h same (p ∷ ps) = (λ k. cons_option (same p k) (fused f g h same ps k)) ∙ sym (map_cons g (h p) (filter_map h ps))
 
@@ -63,24 +65,33 @@ module _ (ps : List SpelledRecord) (i : ℕ) (name : Span) (bytes : List ℕ) wh
   no_note j = one_more_none (λ p. public_note_for j p.row) ps added refl
 
   same : (p : SpelledRecord) (row : Record) → unplaced_by (ps ++ added ∷ []) p row ≡ unplaced_by ps p row
-  same p (r.PublicName j other) = (λ k. Some (record { name = text_in p other; value = unwrap_or (slice_get (no_value j k) 0) (number 0); notes = no_note j k }))
+  same p (r.PublicName j other) = (λ k. Some (record {
+    name = text_in p other;
+    value = unwrap_or (slice_get (no_value j k) 0) (number 0);
+    notes =
+        no_note j k;
+  }))
   same p row = refl
 
   -- NI: a public more, of which nothing was stated
-  pub public-added : filter_map (λ p. value_for i p p.row) ps ≡ [] → answers (public_note_for i) ps ≡ [] → unplaced_publics (ps ++ added ∷ []) ≡ unplaced_publics ps ++ with_stated [] [] ∷ []
+  pub public-added : filter_map (λ p. value_for i p p.row) ps ≡ [] → answers (public_note_for i) ps ≡ [] → unplaced_publics (ps ++ added ∷ [])
+      ≡ unplaced_publics ps ++ with_stated [] [] ∷ []
   public-added unvalued unnoted =
       filter_map-append (λ p. unplaced_by (ps ++ added ∷ []) p p.row) ps (added ∷ [])
-      ∙ (λ k. same_each (λ p. unplaced_by ps p p.row) (λ p. unplaced_by (ps ++ added ∷ []) p p.row) (λ p. same p p.row) ps k ++ with_stated ((no_value i ∙ unvalued) k) ((no_note i ∙ unnoted) k) ∷ [])
+      ∙ (λ k. same_each (λ p. unplaced_by ps p p.row) (λ p. unplaced_by (ps ++ added ∷ []) p p.row) (λ p. same p p.row) ps k
+      ++ with_stated ((no_value i ∙ unvalued) k) ((no_note i ∙ unnoted) k) ∷ [])
 
 -- ---- its value
 
-chosen_value : (b : Bool) (name : List ℕ) (t v : Tree) (ns : List Note) → let old : Public = record { name = name; value = v; notes = ns } in let new : Public = record { name = name; value = t; notes = ns } in
+chosen_value : (b : Bool) (name : List ℕ) (t v : Tree) (ns : List Note) → let old : Public = record { name = name; value = v; notes = ns } in
+    let new : Public = record { name = name; value = t; notes = ns } in
     let both : Public = record { name = name; value = cond b t v; notes = ns } in Some both ≡ Some (cond b new old)
 chosen_value true name t v ns = refl
 chosen_value false name t v ns = refl
 
 -- the value that stands first, where none was stated of the index before
-first_value : (b : Bool) (vs : List Tree) (t : Tree) → (b ≡ true → vs ≡ []) → unwrap_or (slice_get (vs ++ cons_option (cond b (Some t) None) []) 0) (number 0) ≡ cond b t (unwrap_or (slice_get vs 0) (number 0))
+first_value : (b : Bool) (vs : List Tree) (t : Tree) → (b ≡ true → vs ≡ [])
+    → unwrap_or (slice_get (vs ++ cons_option (cond b (Some t) None) []) 0) (number 0) ≡ cond b t (unwrap_or (slice_get vs 0) (number 0))
 first_value true vs t none = ap (λ l. unwrap_or (slice_get (l ++ t ∷ []) 0) (number 0)) (none refl)
 first_value false vs t none = ap (λ l. unwrap_or (slice_get l 0) (number 0)) (append-nil vs)
 
@@ -93,24 +104,29 @@ module _ (ps : List SpelledRecord) (i : ℕ) (span : Span) (bytes : List ℕ) (u
 
   stated : (j : ℕ) → unplaced_value j (ps ++ given ∷ []) ≡ cond (j == i) (tree_in given span) (unplaced_value j ps)
   stated j = ap (λ vs. unwrap_or (slice_get vs 0) (number 0)) (filter_map-append (λ p. value_for j p p.row) ps (given ∷ []))
-      ∙ first_value (j == i) (filter_map (λ p. value_for j p p.row) ps) (tree_in given span) (λ e. ap (λ k. filter_map (λ p. value_for k p p.row) ps) (same_index j i e) ∙ unstated)
+      ∙ first_value (j == i) (filter_map (λ p. value_for j p p.row) ps) (tree_in given span)
+      (λ e. ap (λ k. filter_map (λ p. value_for k p p.row) ps) (same_index j i e) ∙ unstated)
 
-  changed : (p : SpelledRecord) (row : Record) → unplaced_by (ps ++ given ∷ []) p row ≡ changed_at i with_value (of_kind public (declared_by row)) (unplaced_by ps p row)
+  changed : (p : SpelledRecord) (row : Record) → unplaced_by (ps ++ given ∷ []) p row
+      ≡ changed_at i with_value (of_kind public (declared_by row)) (unplaced_by ps p row)
   changed p (r.PublicName j name) =
       (λ k. Some (record { name = text_in p name; value = stated j k; notes = one_more_none (λ p. public_note_for j p.row) ps given refl k }))
       ∙ chosen_value (j == i) (text_in p name) (tree_in given span) (unplaced_value j ps) (answers (public_note_for j) ps)
   changed p row = refl
 
   -- ASI: the public with the index has the value, in its place
-  pub value-in-place : (place : ℕ) (old : Public) → IsDistinct nat_eq (declared public ps) → slice_get (declared public ps) place ≡ Some i → slice_get (unplaced_publics ps) place ≡ Some old
+  pub value-in-place : (place : ℕ) (old : Public) → IsDistinct nat_eq (declared public ps) → slice_get (declared public ps) place ≡ Some i
+      → slice_get (unplaced_publics ps) place ≡ Some old
       → unplaced_publics (ps ++ given ∷ []) ≡ slice_set (unplaced_publics ps) place (record old { value = tree_in given span })
   value-in-place place old distinct there is_old =
       one_more_none (λ p. unplaced_by (ps ++ given ∷ []) p p.row) ps given refl
-      ∙ changed-there key (λ p. unplaced_by ps p p.row) (λ p. unplaced_by (ps ++ given ∷ []) p p.row) i with_value (record { keyed = λ p. keyed ps p p.row; changed = λ p. changed p p.row }) ps place old distinct there is_old
+      ∙ changed-there key (λ p. unplaced_by ps p p.row) (λ p. unplaced_by (ps ++ given ∷ []) p p.row) i with_value
+      (record { keyed = λ p. keyed ps p p.row; changed = λ p. changed p p.row }) ps place old distinct there is_old
 
 -- ---- a note
 
-chosen_note : (b : Bool) (name : List ℕ) (v : Tree) (more ns : List Note) → let old : Public = record { name = name; value = v; notes = ns } in let new : Public = record { name = name; value = v; notes = more } in
+chosen_note : (b : Bool) (name : List ℕ) (v : Tree) (more ns : List Note) → let old : Public = record { name = name; value = v; notes = ns } in
+    let new : Public = record { name = name; value = v; notes = more } in
     let both : Public = record { name = name; value = v; notes = cond b more ns } in Some both ≡ Some (cond b new old)
 chosen_note true name v more ns = refl
 chosen_note false name v more ns = refl
@@ -125,21 +141,30 @@ module _ (ps : List SpelledRecord) (i type_index attribute : ℕ) (ns : ArrayVec
   abbrev with_note : Public → Public
   with_note old = record old { notes = old.notes ++ its_note ∷ [] }
 
-  all_notes : (j : ℕ) → answers (public_note_for j) (ps ++ noted ∷ []) ≡ cond (j == i) (answers (public_note_for j) ps ++ its_note ∷ []) (answers (public_note_for j) ps)
+  all_notes : (j : ℕ) → answers (public_note_for j) (ps ++ noted ∷ [])
+      ≡ cond (j == i) (answers (public_note_for j) ps ++ its_note ∷ []) (answers (public_note_for j) ps)
   all_notes j = filter_map-append (λ p. public_note_for j p.row) ps (noted ∷ []) ∙ more_notes (j == i) (answers (public_note_for j) ps) its_note
 
-  note_changed : (p : SpelledRecord) (row : Record) → unplaced_by (ps ++ noted ∷ []) p row ≡ changed_at i with_note (of_kind public (declared_by row)) (unplaced_by ps p row)
+  note_changed : (p : SpelledRecord) (row : Record) → unplaced_by (ps ++ noted ∷ []) p row
+      ≡ changed_at i with_note (of_kind public (declared_by row)) (unplaced_by ps p row)
   note_changed p (r.PublicName j name) =
-      (λ k. Some (record { name = text_in p name; value = unwrap_or (slice_get (one_more_none (λ p. value_for j p p.row) ps noted refl k) 0) (number 0); notes = all_notes j k }))
+      (λ k. Some (record {
+        name = text_in p name;
+        value = unwrap_or (slice_get (one_more_none (λ p. value_for j p p.row) ps noted refl k) 0)
+            (number 0);
+        notes = all_notes j k;
+      }))
       ∙ chosen_note (j == i) (text_in p name) (unplaced_value j ps) (answers (public_note_for j) ps ++ its_note ∷ []) (answers (public_note_for j) ps)
   note_changed p row = refl
 
   -- ATI: the public with the index has a note more, in its place
-  pub note-in-place : (place : ℕ) (old : Public) → IsDistinct nat_eq (declared public ps) → slice_get (declared public ps) place ≡ Some i → slice_get (unplaced_publics ps) place ≡ Some old
+  pub note-in-place : (place : ℕ) (old : Public) → IsDistinct nat_eq (declared public ps) → slice_get (declared public ps) place ≡ Some i
+      → slice_get (unplaced_publics ps) place ≡ Some old
       → unplaced_publics (ps ++ noted ∷ []) ≡ slice_set (unplaced_publics ps) place (record old { notes = old.notes ++ its_note ∷ [] })
   note-in-place place old distinct there is_old =
       one_more_none (λ p. unplaced_by (ps ++ noted ∷ []) p p.row) ps noted refl
-      ∙ changed-there key (λ p. unplaced_by ps p p.row) (λ p. unplaced_by (ps ++ noted ∷ []) p p.row) i with_note (record { keyed = λ p. keyed ps p p.row; changed = λ p. note_changed p p.row }) ps place old distinct there is_old
+      ∙ changed-there key (λ p. unplaced_by ps p p.row) (λ p. unplaced_by (ps ++ noted ∷ []) p p.row) i with_note
+      (record { keyed = λ p. keyed ps p p.row; changed = λ p. note_changed p p.row }) ps place old distinct there is_old
 
 -- ---- other records
 

@@ -1,5 +1,6 @@
 -- What a record of the external part does to the references: one more, or what it states of one, in its place.
-use Rattle.std.proofs.Common.{◌≡◌, ℕ, zero, suc, ◌<◌, length, arith, ◌==◌, Bool, true, false, cond, nat_eq, List, [], ◌∷◌, ◌++◌, filter_map, slice_get, Option, Some, None, is_some, refl, sym, ap, ◌∙◌, append-nil, true≢false, eqb-true}
+use Rattle.std.proofs.Common.{◌≡◌, ℕ, zero, suc, ◌<◌, length, arith, ◌==◌, Bool, true, false, cond, nat_eq, List, [], ◌∷◌, ◌++◌, filter_map}
+use Rattle.std.proofs.Common.{slice_get, Option, Some, None, is_some, refl, sym, ap, ◌∙◌, append-nil, true≢false, eqb-true}
 use Rattle.std.specs.Prelude.{unwrap_or, slice_set}
 use Rattle.std.specs.List.{cons_option, IsDistinct}
 use Rattle.std.proofs.lemmas.List.Elements.{filter_map-append}
@@ -41,10 +42,12 @@ within-some (x ∷ xs) zero h = (x, refl)
 within-some (x ∷ xs) (suc n) h = within-some xs n (omega (arith, h))
 
 -- as many entries as keys
-pub same_count : {P X Y : Type 0} (f : P → Option X) (g : P → Option Y) → ((p : P) → is_some (f p) ≡ is_some (g p)) → (ps : List P) → length (filter_map f ps) ≡ length (filter_map g ps)
+pub same_count : {P X Y : Type 0} (f : P → Option X) (g : P → Option Y) → ((p : P) → is_some (f p) ≡ is_some (g p)) → (ps : List P)
+    → length (filter_map f ps) ≡ length (filter_map g ps)
 same_count f g same [] = refl
 same_count {X = X} {Y = Y} f g same (p ∷ ps) = one (f p) (g p) (filter_map f ps) (filter_map g ps) (same p) (same_count f g same ps) where
-  one : (a : Option X) (b : Option Y) (xs : List X) (ys : List Y) → is_some a ≡ is_some b → length xs ≡ length ys → length (cons_option a xs) ≡ length (cons_option b ys)
+  one : (a : Option X) (b : Option Y) (xs : List X) (ys : List Y) → is_some a ≡ is_some b → length xs ≡ length ys → length (cons_option a xs)
+      ≡ length (cons_option b ys)
   one None None xs ys e h = h
   one (Some a) (Some b) xs ys e h = ap suc h
   one None (Some b) xs ys e h = absurd (true≢false (sym e))
@@ -73,19 +76,23 @@ module _ (ps : List SpelledRecord) (i : ℕ) (name : Span) (bytes : List ℕ) wh
   same p row = refl
 
   -- NX: a reference more, of which nothing was stated
-  pub reference-added : answers (weak_for i) ps ≡ [] → answers (reference_note_for i) ps ≡ [] → references_of (ps ++ added ∷ []) ≡ references_of ps ++ with_stated [] [] ∷ []
+  pub reference-added : answers (weak_for i) ps ≡ [] → answers (reference_note_for i) ps ≡ [] → references_of (ps ++ added ∷ []) ≡ references_of ps
+      ++ with_stated [] [] ∷ []
   reference-added strong unnoted =
       filter_map-append (λ p. reference_by (ps ++ added ∷ []) p p.row) ps (added ∷ [])
-      ∙ (λ k. same_each (λ p. reference_by ps p p.row) (λ p. reference_by (ps ++ added ∷ []) p p.row) (λ p. same p p.row) ps k ++ with_stated ((no_weak i ∙ strong) k) ((no_note i ∙ unnoted) k) ∷ [])
+      ∙ (λ k. same_each (λ p. reference_by ps p p.row) (λ p. reference_by (ps ++ added ∷ []) p p.row) (λ p. same p p.row) ps k
+      ++ with_stated ((no_weak i ∙ strong) k) ((no_note i ∙ unnoted) k) ∷ [])
 
 -- ---- what makes one weak
 
 -- the weakness that stands first, where none was stated of the index before
-first_weak : (b : Bool) (ws : List Weak) (w : Weak) → (b ≡ true → ws ≡ []) → slice_get (ws ++ cons_option (cond b (Some w) None) []) 0 ≡ cond b (Some w) (slice_get ws 0)
+first_weak : (b : Bool) (ws : List Weak) (w : Weak) → (b ≡ true → ws ≡ []) → slice_get (ws ++ cons_option (cond b (Some w) None) []) 0
+    ≡ cond b (Some w) (slice_get ws 0)
 first_weak true ws w none = ap (λ l. slice_get (l ++ w ∷ []) 0) (none refl)
 first_weak false ws w none = ap (λ l. slice_get l 0) (append-nil ws)
 
-chosen_weak : (b : Bool) (name : List ℕ) (t v : Option Weak) (ns : List Note) → let old : Reference = record { name = name; weak = v; notes = ns } in let new : Reference = record { name = name; weak = t; notes = ns } in
+chosen_weak : (b : Bool) (name : List ℕ) (t v : Option Weak) (ns : List Note) → let old : Reference = record { name = name; weak = v; notes = ns } in
+    let new : Reference = record { name = name; weak = t; notes = ns } in
     let both : Reference = record { name = name; weak = cond b t v; notes = ns } in Some both ≡ Some (cond b new old)
 chosen_weak true name t v ns = refl
 chosen_weak false name t v ns = refl
@@ -107,18 +114,21 @@ module _ (ps : List SpelledRecord) (i n : ℕ) (default : Option ℕ) (bytes : L
   stated j = ap (λ ws. slice_get ws 0) (filter_map-append (λ p. weak_for j p.row) ps (weakened ∷ []))
       ∙ first_weak (j == i) (answers (weak_for j) ps) weak (λ e. ap (λ k. answers (weak_for k) ps) (same_index j i e) ∙ strong)
 
-  changed : (p : SpelledRecord) (row : Record) → reference_by (ps ++ weakened ∷ []) p row ≡ changed_at i with_weak (of_kind reference (declared_by row)) (reference_by ps p row)
+  changed : (p : SpelledRecord) (row : Record) → reference_by (ps ++ weakened ∷ []) p row
+      ≡ changed_at i with_weak (of_kind reference (declared_by row)) (reference_by ps p row)
   changed p (r.ReferenceName j name) =
       (λ k. Some (record { name = text_in p name; weak = stated j k; notes = one_more_none (λ p. reference_note_for j p.row) ps weakened refl k }))
       ∙ chosen_weak (j == i) (text_in p name) (Some weak) (first_answer (weak_for j) ps) (answers (reference_note_for j) ps)
   changed p row = refl
 
   -- WX: the reference with the index is weak, in its place
-  pub weak-in-place : (place : ℕ) (old : Reference) → IsDistinct nat_eq (declared reference ps) → slice_get (declared reference ps) place ≡ Some i → slice_get (references_of ps) place ≡ Some old
+  pub weak-in-place : (place : ℕ) (old : Reference) → IsDistinct nat_eq (declared reference ps) → slice_get (declared reference ps) place ≡ Some i
+      → slice_get (references_of ps) place ≡ Some old
       → references_of (ps ++ weakened ∷ []) ≡ slice_set (references_of ps) place (record old { weak = Some weak })
   weak-in-place place old distinct there is_old =
       one_more_none (λ p. reference_by (ps ++ weakened ∷ []) p p.row) ps weakened refl
-      ∙ changed-there key (λ p. reference_by ps p p.row) (λ p. reference_by (ps ++ weakened ∷ []) p p.row) i with_weak (record { keyed = λ p. keyed ps p p.row; changed = λ p. changed p p.row }) ps place old distinct there is_old
+      ∙ changed-there key (λ p. reference_by ps p p.row) (λ p. reference_by (ps ++ weakened ∷ []) p p.row) i with_weak
+      (record { keyed = λ p. keyed ps p p.row; changed = λ p. changed p p.row }) ps place old distinct there is_old
 
 -- ---- a note
 
@@ -126,7 +136,8 @@ pub more_notes : (b : Bool) (ns : List Note) (note : Note) → ns ++ cons_option
 more_notes true ns note = refl
 more_notes false ns note = append-nil ns
 
-chosen_note : (b : Bool) (name : List ℕ) (w : Option Weak) (more ns : List Note) → let old : Reference = record { name = name; weak = w; notes = ns } in let new : Reference = record { name = name; weak = w; notes = more } in
+chosen_note : (b : Bool) (name : List ℕ) (w : Option Weak) (more ns : List Note) → let old : Reference =
+    record { name = name; weak = w; notes = ns } in let new : Reference = record { name = name; weak = w; notes = more } in
     let both : Reference = record { name = name; weak = w; notes = cond b more ns } in Some both ≡ Some (cond b new old)
 chosen_note true name w more ns = refl
 chosen_note false name w more ns = refl
@@ -141,21 +152,26 @@ module _ (ps : List SpelledRecord) (i type_index attribute : ℕ) (ns : ArrayVec
   abbrev with_note : Reference → Reference
   with_note old = record old { notes = old.notes ++ its_note ∷ [] }
 
-  all_notes : (j : ℕ) → answers (reference_note_for j) (ps ++ noted ∷ []) ≡ cond (j == i) (answers (reference_note_for j) ps ++ its_note ∷ []) (answers (reference_note_for j) ps)
+  all_notes : (j : ℕ) → answers (reference_note_for j) (ps ++ noted ∷ [])
+      ≡ cond (j == i) (answers (reference_note_for j) ps ++ its_note ∷ []) (answers (reference_note_for j) ps)
   all_notes j = filter_map-append (λ p. reference_note_for j p.row) ps (noted ∷ []) ∙ more_notes (j == i) (answers (reference_note_for j) ps) its_note
 
-  note_changed : (p : SpelledRecord) (row : Record) → reference_by (ps ++ noted ∷ []) p row ≡ changed_at i with_note (of_kind reference (declared_by row)) (reference_by ps p row)
+  note_changed : (p : SpelledRecord) (row : Record) → reference_by (ps ++ noted ∷ []) p row
+      ≡ changed_at i with_note (of_kind reference (declared_by row)) (reference_by ps p row)
   note_changed p (r.ReferenceName j name) =
       (λ k. Some (record { name = text_in p name; weak = slice_get (one_more_none (λ p. weak_for j p.row) ps noted refl k) 0; notes = all_notes j k }))
-      ∙ chosen_note (j == i) (text_in p name) (first_answer (weak_for j) ps) (answers (reference_note_for j) ps ++ its_note ∷ []) (answers (reference_note_for j) ps)
+      ∙ chosen_note (j == i) (text_in p name) (first_answer (weak_for j) ps) (answers (reference_note_for j) ps
+      ++ its_note ∷ []) (answers (reference_note_for j) ps)
   note_changed p row = refl
 
   -- ATX: the reference with the index has a note more, in its place
-  pub note-in-place : (place : ℕ) (old : Reference) → IsDistinct nat_eq (declared reference ps) → slice_get (declared reference ps) place ≡ Some i → slice_get (references_of ps) place ≡ Some old
+  pub note-in-place : (place : ℕ) (old : Reference) → IsDistinct nat_eq (declared reference ps) → slice_get (declared reference ps) place ≡ Some i
+      → slice_get (references_of ps) place ≡ Some old
       → references_of (ps ++ noted ∷ []) ≡ slice_set (references_of ps) place (record old { notes = old.notes ++ its_note ∷ [] })
   note-in-place place old distinct there is_old =
       one_more_none (λ p. reference_by (ps ++ noted ∷ []) p p.row) ps noted refl
-      ∙ changed-there key (λ p. reference_by ps p p.row) (λ p. reference_by (ps ++ noted ∷ []) p p.row) i with_note (record { keyed = λ p. keyed ps p p.row; changed = λ p. note_changed p p.row }) ps place old distinct there is_old
+      ∙ changed-there key (λ p. reference_by ps p p.row) (λ p. reference_by (ps ++ noted ∷ []) p p.row) i with_note
+      (record { keyed = λ p. keyed ps p p.row; changed = λ p. note_changed p p.row }) ps place old distinct there is_old
 
 -- ---- other records
 

@@ -1,5 +1,6 @@
 -- The fault of the first absolute section without a base, found among the sections that are kept.
-use Rattle.std.proofs.Common.{◌≡◌, ℕ, suc, ◌+◌, ◌≤◌, ◌<◌, ◌==◌, ◌||◌, Bool, true, false, not, cond, List, [], ◌∷◌, filter_map, slice_get, Option, Some, None, is_some, is_none, refl, sym, ap, ◌∙◌, arith, length, drop, get_or}
+use Rattle.std.proofs.Common.{◌≡◌, ℕ, suc, ◌+◌, ◌≤◌, ◌<◌, ◌==◌, ◌||◌, Bool, true, false, not, cond, List, [], ◌∷◌, filter_map, slice_get, Option}
+use Rattle.std.proofs.Common.{Some, None, is_some, is_none, refl, sym, ap, ◌∙◌, arith, length, drop, get_or}
 use Rattle.std.proofs.Math.Seq.{drop-cons}
 use Rattle.std.proofs.lemmas.List.{drop_all}
 use Rattle.std.specs.Option.{option_or}
@@ -39,24 +40,29 @@ lacks : {X : Type 0} (o : Option X) → is_none o ≡ not (is_some o)
 lacks None = refl
 lacks (Some x) = refl
 
-listed_row : (part : List SpelledRecord) (start : ℕ) (row : Record) (bytes : List ℕ) (starts : List ℕ) (sections : List Section) (fault : Option Fault) → let p : SpelledRecord = record { row = row; bytes = bytes } in
-    first_unbased starts sections ≡ fault → first_unbased (cons_option (section_start_by (start, p) row) starts) (cons_option (section_by part p row) sections) ≡ option_or (section_fault part (start, p)) fault
+listed_row : (part : List SpelledRecord) (start : ℕ) (row : Record) (bytes : List ℕ) (starts : List ℕ) (sections : List Section)
+    (fault : Option Fault) → let p : SpelledRecord = record { row = row; bytes = bytes } in
+    first_unbased starts sections ≡ fault → first_unbased (cons_option (section_start_by (start, p) row) starts)
+    (cons_option (section_by part p row) sections) ≡ option_or (section_fault part (start, p)) fault
 listed_row part start (r.SectionType i true letter name a b c) bytes starts sections fault h =
     (λ k. option_or (fault_if ((lacks (first_answer (base_for i) part) ∙ ap not (sym (is_based i part))) k) start why.MissingBase) (h k))
 listed_row part start (r.SectionType i false letter name a b c) bytes starts sections fault h = h
 listed_row part start row bytes starts sections fault h = h
 
-listed : (part : List SpelledRecord) (placed : List OffsetRecord) → first_unbased (section_starts placed) (filter_map (λ p. section_by part p p.row) (records_in placed)) ≡ first_fault (section_fault part) placed
+listed : (part : List SpelledRecord) (placed : List OffsetRecord)
+    → first_unbased (section_starts placed) (filter_map (λ p. section_by part p p.row) (records_in placed)) ≡ first_fault (section_fault part) placed
 listed part [] = refl
 listed part (p ∷ placed) = listed_row part p.0 p.1.row p.1.bytes _ _ _ (listed part placed)
 
 -- the fault of the first section without a base is that of the first declaration of one
-pub unbased-first : (all : List OffsetRecord) → first_unbased (section_starts all) (sections_of (records_in all)) ≡ first_fault (section_fault (records_in all)) all
+pub unbased-first : (all : List OffsetRecord) → first_unbased (section_starts all) (sections_of (records_in all))
+    ≡ first_fault (section_fault (records_in all)) all
 unbased-first all = listed (records_in all) all
 
 -- ---- one by one
 
-module _ (starts : List ℕ) (sections : List Section) (i start : ℕ) (s : Section) (in_starts : i < length starts) (in_sections : i < length sections) (is_start : start ≡ get_or starts i start) (is_section : s ≡ get_or sections i s) where
+module _ (starts : List ℕ) (sections : List Section) (i start : ℕ) (s : Section) (in_starts : i < length starts) (in_sections : i < length sections)
+    (is_start : start ≡ get_or starts i start) (is_section : s ≡ get_or sections i s) where
   next : suc i ≡ i + 1
   next = omega arith
 
@@ -73,7 +79,8 @@ module _ (starts : List ℕ) (sections : List Section) (i start : ℕ) (s : Sect
       ∙ sym (λ k. first_unbased (from_start k) (from_section k))
 
 -- where it has one, or needs none, the first one comes later
-pub unbased-later : (starts : List ℕ) (sections : List Section) (i : ℕ) (s : Section) → i < length starts → i < length sections → s ≡ get_or sections i s → is_unbased s ≡ false
+pub unbased-later : (starts : List ℕ) (sections : List Section) (i : ℕ) (s : Section) → i < length starts → i < length sections → s
+    ≡ get_or sections i s → is_unbased s ≡ false
     → first_unbased (drop (i + 1) starts) (drop (i + 1) sections) ≡ first_unbased (drop i starts) (drop i sections)
 unbased-later starts sections i s in_starts in_sections is_section e =
     let start = get_or starts i 0 in
@@ -90,5 +97,6 @@ unbased-later starts sections i s in_starts in_sections is_section e =
     from_section = drop-cons sections i s in_sections ∙ (λ j. sym is_section j ∷ drop (next j) sections)
 
 -- none stands after the last
-pub unbased-end : (starts : List ℕ) (sections : List Section) (n : ℕ) → length starts ≤ n → length sections ≤ n → first_unbased (drop n starts) (drop n sections) ≡ None
+pub unbased-end : (starts : List ℕ) (sections : List Section) (n : ℕ) → length starts ≤ n → length sections ≤ n
+    → first_unbased (drop n starts) (drop n sections) ≡ None
 unbased-end starts sections n few less = (λ k. first_unbased (drop_all n starts few k) (drop_all n sections less k))

@@ -1,5 +1,6 @@
 -- What the code does to the sections with a record is what the record states of them.
-use Rattle.std.proofs.Common.{◌≡◌, ℕ, ◌<◌, ◌==◌, Bool, true, false, nat_eq, List, [], ◌∷◌, ◌++◌, length, slice_get, Option, Some, None, refl, sym, ap, subst, ◌∙◌}
+use Rattle.std.proofs.Common.{◌≡◌, ℕ, ◌<◌, ◌==◌, Bool, true, false, nat_eq, List, [], ◌∷◌, ◌++◌, length, slice_get, Option, Some, None, refl, sym, ap}
+use Rattle.std.proofs.Common.{subst, ◌∙◌}
 use Rattle.std.specs.Prelude.{slice_set}
 use Rattle.std.specs.List.{list_any, IsDistinct}
 use Rattle.std.proofs.lemmas.List.Elements.{filter_map-append}
@@ -24,7 +25,8 @@ use Rattle.mufom_read.proofs.so_far.SectionSteps.{section_with, sections-count, 
 use Rattle.mufom_read.proofs.so_far.PublicLaws.{records-more, same_record}
 
 -- a record of none of the four rows is none of the section part
-pub no-section-row : (row : Record) → ((i : ℕ) (absolute : Bool) (letter : Option ℕ) (name : Span) (a b c : Option ℕ) → row ≡ r.SectionType i absolute letter name a b c → ⊥) → ((i n : ℕ) → row ≡ r.SectionSize i n → ⊥)
+pub no-section-row : (row : Record) → ((i : ℕ) (absolute : Bool) (letter : Option ℕ) (name : Span) (a b c : Option ℕ) → row
+    ≡ r.SectionType i absolute letter name a b c → ⊥) → ((i n : ℕ) → row ≡ r.SectionSize i n → ⊥)
     → ((i n : ℕ) (other : Option ℕ) → row ≡ r.Alignment i n other → ⊥) → ((i n : ℕ) → row ≡ r.SectionBase i n → ⊥) → stands_in section_part row ≡ false
 no-section-row (r.SectionType i absolute letter name a b c) x y z w = absurd (x i absolute letter name a b c refl)
 no-section-row (r.SectionSize i n) x y z w = absurd (y i n refl)
@@ -40,7 +42,8 @@ module _ (s new : Sections) (table : List ℕ) (all : List OffsetRecord) (start 
   abbrev ps : List SpelledRecord
   ps = records_in all
 
-  grown : (row : Record) → p.row ≡ row → new.list.items ≡ sections_of (ps ++ as_record row p.bytes ∷ []) → new.starts.items ≡ section_starts (all ++ (start, as_record row p.bytes) ∷ []) → AreSectionsOf new (all ++ (start, p) ∷ [])
+  grown : (row : Record) → p.row ≡ row → new.list.items ≡ sections_of (ps ++ as_record row p.bytes ∷ []) → new.starts.items
+      ≡ section_starts (all ++ (start, as_record row p.bytes) ∷ []) → AreSectionsOf new (all ++ (start, p) ∷ [])
   grown row is list starts =
       let same = same_record p row is in
       record {
@@ -57,19 +60,25 @@ module _ (s new : Sections) (table : List ℕ) (all : List OffsetRecord) (start 
   section-named row i is named = ap (list_any (λ j. j == i)) before.table ∙ named_known ps p (section, i) (ap named_by is ∙ named) before.next.known
 
   -- a section is changed in place by a record that declares none
-  placed_there : (row : Record) (i : ℕ) (change : Section → Section) (position : ℕ) → p.row ≡ row → section_start_by (start, as_record row p.bytes) row ≡ None → slice_get table position ≡ Some i → IsDistinct nat_eq table → position < length table
-      → ((place : ℕ) (old : Section) → IsDistinct nat_eq (declared section ps) → slice_get (declared section ps) place ≡ Some i → slice_get (sections_of ps) place ≡ Some old
+  placed_there : (row : Record) (i : ℕ) (change : Section → Section) (position : ℕ) → p.row ≡ row
+      → section_start_by (start, as_record row p.bytes) row ≡ None → slice_get table position ≡ Some i → IsDistinct nat_eq table → position < length table
+      → ((place : ℕ) (old : Section) → IsDistinct nat_eq (declared section ps) → slice_get (declared section ps) place ≡ Some i
+      → slice_get (sections_of ps) place ≡ Some old
       → sections_of (ps ++ as_record row p.bytes ∷ []) ≡ slice_set (sections_of ps) place (change old))
-      → ((old : Section) → slice_get s.list.items position ≡ Some old → new.list.items ≡ slice_set s.list.items position (change old)) → new.starts ≡ s.starts → AreSectionsOf new (all ++ (start, p) ∷ [])
+      → ((old : Section) → slice_get s.list.items position ≡ Some old → new.list.items ≡ slice_set s.list.items position (change old)) → new.starts
+      ≡ s.starts → AreSectionsOf new (all ++ (start, p) ∷ [])
   placed_there row i change position is silent there distinct within in_place list starts =
       let old = within-some s.list.items position (section-within position within) in
       grown row is
       (list old.0 old.1 ∙ (λ k. slice_set (before.sections.list k) position (change old.0))
-      ∙ sym (in_place position old.0 (subst (IsDistinct nat_eq) before.table distinct) (sym (ap (λ l. slice_get l position) before.table) ∙ there) (sym (ap (λ l. slice_get l position) before.sections.list) ∙ old.1)))
+      ∙ sym (in_place position old.0 (subst (IsDistinct nat_eq) before.table distinct) (sym (ap (λ l. slice_get l position) before.table)
+      ∙ there) (sym (ap (λ l. slice_get l position) before.sections.list) ∙ old.1)))
       (ap (λ m. m.items) starts ∙ before.sections.starts ∙ sym (starts-stay all start (as_record row p.bytes) silent))
 
-  pub type-taken : (i : ℕ) (absolute : Bool) (letter : Option ℕ) (name : Span) (a b c : Option ℕ) (section_ : Section) → p.row ≡ r.SectionType i absolute letter name a b c
-      → section_ ≡ section_with (text_in p name) absolute letter None None None → new.list.items ≡ s.list.items ++ section_ ∷ [] → new.starts.items ≡ s.starts.items ++ start ∷ [] → AreSectionsOf new (all ++ (start, p) ∷ [])
+  pub type-taken : (i : ℕ) (absolute : Bool) (letter : Option ℕ) (name : Span) (a b c : Option ℕ) (section_ : Section) → p.row
+      ≡ r.SectionType i absolute letter name a b c
+      → section_ ≡ section_with (text_in p name) absolute letter None None None → new.list.items ≡ s.list.items ++ section_ ∷ [] → new.starts.items
+      ≡ s.starts.items ++ start ∷ [] → AreSectionsOf new (all ++ (start, p) ∷ [])
   type-taken i absolute letter name a b c section_ is same list starts =
       let undeclared : is_declared ps (section, i) ≡ false = ap (declares_again ps) (sym is) ∙ before.next.new in
       let unsized = nothing-stated section i (λ q. size_for i q.row) (λ q no_. size_silent i q q.row no_) [] ps before.follow undeclared in
@@ -77,30 +86,39 @@ module _ (s new : Sections) (table : List ℕ) (all : List OffsetRecord) (start 
       let unbased = nothing-stated section i (λ q. base_for i q.row) (λ q no_. base_silent i q q.row no_) [] ps before.follow undeclared in
       let more = filter_map-append (λ q. section_start_by q q.1.row) all ((start, as_record (r.SectionType i absolute letter name a b c) p.bytes) ∷ []) in
       grown (r.SectionType i absolute letter name a b c) is
-      (list ∙ (λ k. before.sections.list k ++ same k ∷ []) ∙ sym (section_steps.section-added ps i absolute letter name a b c p.bytes unsized unaligned unbased))
+      (list ∙ (λ k. before.sections.list k ++ same k ∷ []) ∙ sym
+      (section_steps.section-added ps i absolute letter name a b c p.bytes unsized unaligned unbased))
       (starts ∙ ap (λ l. l ++ start ∷ []) before.sections.starts ∙ sym more)
 
   pub size-taken : (i n position : ℕ) → p.row ≡ r.SectionSize i n → slice_get table position ≡ Some i → IsDistinct nat_eq table → position < length table
-      → ((old : Section) → slice_get s.list.items position ≡ Some old → new.list.items ≡ slice_set s.list.items position (record old { size = n })) → new.starts ≡ s.starts → AreSectionsOf new (all ++ (start, p) ∷ [])
+      → ((old : Section) → slice_get s.list.items position ≡ Some old → new.list.items ≡ slice_set s.list.items position (record old { size = n }))
+      → new.starts ≡ s.starts → AreSectionsOf new (all ++ (start, p) ∷ [])
   size-taken i n position is there distinct within list starts =
       let unsized = size-unstated i ps (ap (states_again ps) (sym is) ∙ before.next.once) in
-      placed_there (r.SectionSize i n) i (λ old. record old { size = n }) position is refl there distinct within (section_steps.size-in-place ps i n p.bytes unsized) list starts
+      placed_there (r.SectionSize i n) i (λ old. record old { size = n }) position is refl there distinct within
+      (section_steps.size-in-place ps i n p.bytes unsized) list starts
 
-  pub align-taken : (i n : ℕ) (other : Option ℕ) (position : ℕ) → p.row ≡ r.Alignment i n other → slice_get table position ≡ Some i → IsDistinct nat_eq table → position < length table
-      → ((old : Section) → slice_get s.list.items position ≡ Some old → new.list.items ≡ slice_set s.list.items position (record old { align = n })) → new.starts ≡ s.starts → AreSectionsOf new (all ++ (start, p) ∷ [])
+  pub align-taken : (i n : ℕ) (other : Option ℕ) (position : ℕ) → p.row ≡ r.Alignment i n other → slice_get table position ≡ Some i
+      → IsDistinct nat_eq table → position < length table
+      → ((old : Section) → slice_get s.list.items position ≡ Some old → new.list.items ≡ slice_set s.list.items position (record old { align = n }))
+      → new.starts ≡ s.starts → AreSectionsOf new (all ++ (start, p) ∷ [])
   align-taken i n other position is there distinct within list starts =
       let unaligned = alignment-unstated i ps (ap (states_again ps) (sym is) ∙ before.next.once) in
-      placed_there (r.Alignment i n other) i (λ old. record old { align = n }) position is refl there distinct within (section_steps.align-in-place ps i n other p.bytes unaligned) list starts
+      placed_there (r.Alignment i n other) i (λ old. record old { align = n }) position is refl there distinct within
+      (section_steps.align-in-place ps i n other p.bytes unaligned) list starts
 
   pub base-taken : (i n position : ℕ) → p.row ≡ r.SectionBase i n → slice_get table position ≡ Some i → IsDistinct nat_eq table → position < length table
-      → ((old : Section) → slice_get s.list.items position ≡ Some old → new.list.items ≡ slice_set s.list.items position (record old { base = Some n })) → new.starts ≡ s.starts → AreSectionsOf new (all ++ (start, p) ∷ [])
+      → ((old : Section) → slice_get s.list.items position ≡ Some old → new.list.items
+      ≡ slice_set s.list.items position (record old { base = Some n })) → new.starts ≡ s.starts → AreSectionsOf new (all ++ (start, p) ∷ [])
   base-taken i n position is there distinct within list starts =
       let unbased = base-unstated i ps (ap (states_again ps) (sym is) ∙ before.next.once) in
-      placed_there (r.SectionBase i n) i (λ old. record old { base = Some n }) position is refl there distinct within (section_steps.base-in-place ps i n p.bytes unbased) list starts
+      placed_there (r.SectionBase i n) i (λ old. record old { base = Some n }) position is refl there distinct within
+      (section_steps.base-in-place ps i n p.bytes unbased) list starts
 
   -- a record of another part leaves them as they are
   pub others-taken : stands_in section_part p.row ≡ false → new ≡ s → AreSectionsOf new (all ++ (start, p) ∷ [])
   others-taken other same = record {
-    list = ap (λ (x : Sections). x.list.items) same ∙ before.sections.list ∙ sym (section_steps.sections-stay ps p other) ∙ ap sections_of (sym (records-more all (start, p)));
+    list = ap (λ (x : Sections). x.list.items) same ∙ before.sections.list ∙ sym (section_steps.sections-stay ps p other)
+        ∙ ap sections_of (sym (records-more all (start, p)));
     starts = ap (λ (x : Sections). x.starts.items) same ∙ before.sections.starts ∙ sym (starts-stay all start p (no-start (start, p) p.row other));
   }

@@ -1,5 +1,6 @@
 -- With which bytes records and items begin.
-use Rattle.std.proofs.Common.{◌≡◌, ℕ, ◌+◌, ◌≤◌, Bool, true, false, cond, ◌==◌, nat_le, List, [], ◌∷◌, ◌++◌, length, Option, Some, None, refl, ap, ◌∙◌, arith, eqb-true}
+use Rattle.std.proofs.Common.{◌≡◌, ℕ, ◌+◌, ◌≤◌, Bool, true, false, cond, ◌==◌, nat_le, List, [], ◌∷◌, ◌++◌, length, Option, Some, None, refl, ap, ◌∙◌}
+use Rattle.std.proofs.Common.{arith, eqb-true}
 use Rattle.std.proofs.lemmas.Bool.{or_left, or_right, or_from}
 use Rattle.mufom_expr.specs.TokenAt.{begins_number}
 use Rattle.mufom_numbers.specs.declared.reason.Reason.TheVariants as why
@@ -21,8 +22,10 @@ always X x (Layouts.refused back reason) = tt
 always X x (Layouts.field f rest) = λ (v : ValueOf f) _. always X x (rest v)
 
 -- one code, and what another byte is
-by_code : (b code : ℕ) (layout others : Layouts.Layout) → 0xE0 ≤ code → Promises (λ (_ : Record). 0xE0 ≤ b) others → Promises (λ (_ : Record). 0xE0 ≤ b) (cond (b == code) layout others)
-by_code b code layout others low rest = by_test (λ (_ : Record). 0xE0 ≤ b) (b == code) layout others (λ same. always (0xE0 ≤ b) (let e = eqb-true b code same in omega arith) layout) (λ _. rest)
+by_code : (b code : ℕ) (layout others : Layouts.Layout) → 0xE0 ≤ code → Promises (λ (_ : Record). 0xE0 ≤ b) others
+    → Promises (λ (_ : Record). 0xE0 ≤ b) (cond (b == code) layout others)
+by_code b code layout others low rest = by_test (λ (_ : Record). 0xE0 ≤ b) (b == code) layout others
+    (λ same. always (0xE0 ≤ b) (let e = eqb-true b code same in omega arith) layout) (λ _. rest)
 
 -- the codes are E0 and above
 coded_high : (b : ℕ) → Promises (λ (_ : Record). 0xE0 ≤ b) (Layouts.coded b)
@@ -80,7 +83,8 @@ body_begins row bytes next (b, prefix, back, first, others, split) =
 
 -- ---- items
 
-number_begins : (n : ℕ) (prefix back : List ℕ) (more : (b : ℕ) × (rest : List ℕ) × (prefix ≡ b ∷ rest) × (begins_number b ≡ true)) → begins_item (prefix ++ back) ≡ true
+number_begins : (n : ℕ) (prefix back : List ℕ) (more : (b : ℕ) × (rest : List ℕ) × (prefix ≡ b ∷ rest) × (begins_number b ≡ true))
+    → begins_item (prefix ++ back) ≡ true
 number_begins n prefix back (b, rest, same, begins) = ap (λ l. begins_item (l ++ back)) same ∙ or_left (begins_number b) _ begins
 
 -- an item begins with a number or an opening bracket
@@ -99,7 +103,8 @@ item_some : (bytes : List ℕ) → begins_item bytes ≡ true → 1 ≤ length b
 item_some [] h = cc
 item_some (b ∷ bytes) h = omega arith
 
-pub record_some : (test : Bool) (row : Record) (bytes : List ℕ) (next : Option ℕ) → Layouts.IsWholeRecord (cond test mode.Items mode.Body) row bytes next → 1 ≤ length bytes
+pub record_some : (test : Bool) (row : Record) (bytes : List ℕ) (next : Option ℕ)
+    → Layouts.IsWholeRecord (cond test mode.Items mode.Body) row bytes next → 1 ≤ length bytes
 record_some true row bytes next is = item_some bytes (items_begin row bytes next is)
 record_some false row bytes next is = body_some row bytes next is
 

@@ -1,5 +1,6 @@
 -- The debug blocks of a valid module keep to the rules for blocks, record by record.
-use Rattle.std.proofs.Common.{◌≡◌, ℕ, suc, ◌+◌, ◌-◌, ◌≤◌, ◌==◌, ◌&&◌, ◌||◌, nat_le, Bool, true, false, arith, List, [], ◌∷◌, ◌++◌, length, map, Option, is_some, refl, sym, ap, subst, ◌∙◌, rules, append_assoc, append-nil}
+use Rattle.std.proofs.Common.{◌≡◌, ℕ, suc, ◌+◌, ◌-◌, ◌≤◌, ◌==◌, ◌&&◌, ◌||◌, nat_le, Bool, true, false, arith, List, [], ◌∷◌, ◌++◌, length, map}
+use Rattle.std.proofs.Common.{Option, is_some, refl, sym, ap, subst, ◌∙◌, rules, append_assoc, append-nil}
 use Rattle.std.specs.List.{list_any, cons_option, AllByRecursion}
 use Rattle.std.proofs.lemmas.Bool.{or_parts}
 use Rattle.std.proofs.lemmas.List.Folds.{list_any-append}
@@ -15,7 +16,8 @@ use Rattle.mufom_debug.specs.declared.item.DebugItem.{DebugItem, the_lemmas, ind
 use Rattle.mufom_debug.specs.declared.item.DebugItem.TheOpen.{Block-F, DebugItem-F}
 use Rattle.mufom_debug.specs.declared.item.DebugItem.TheFolds as folds
 use Rattle.mufom_debug.specs.declared.item.DebugItem.TheViews.{roll-DebugItem, roll-Block}
-use Rattle.mufom_debug.specs.Marks.{DebugMark, block_begin, block_end, name_mark, note_mark, value_mark, joined, item_step, block_step, marks_of_item, marks_of, depth_from, depth_of, kind_number}
+use Rattle.mufom_debug.specs.Marks.{DebugMark, block_begin, block_end, name_mark, note_mark, value_mark, joined, item_step, block_step, marks_of_item}
+use Rattle.mufom_debug.specs.Marks.{marks_of, depth_from, depth_of, kind_number}
 use Rattle.mufom_module.specs.Contents as contents
 use Rattle.mufom_module.specs.Contents.{HeadAndEnd, blocks_of_item, blocks_of}
 use Rattle.mufom_module.specs.SpelledRecords.{SpelledRecord, tree_in, positioned}
@@ -55,10 +57,12 @@ commuted true false h = refl
 commuted false true h = refl
 commuted false false h = refl
 
-end_fits : (head : BlockHead) (end : Option Tree) → has_bad_end (head, end) ≡ false → (is_some end && ((kind_number head == 3) || (kind_number head == 5))) ≡ false
+end_fits : (head : BlockHead) (end : Option Tree) → has_bad_end (head, end) ≡ false
+    → (is_some end && ((kind_number head == 3) || (kind_number head == 5))) ≡ false
 end_fits head end h = ap (λ a. is_some end && a) (sym (plain_kind head)) ∙ commuted (ends_plainly head) (is_some end) h
 
-in_block : (head : BlockHead) (name : List ℕ) (xs : List DebugMark) (bs : List HeadAndEnd) (end : Option Tree) → Well xs bs → Well ((block_begin head name ∷ xs) ++ block_end end ∷ []) ((head, end) ∷ bs)
+in_block : (head : BlockHead) (name : List ℕ) (xs : List DebugMark) (bs : List HeadAndEnd) (end : Option Tree) → Well xs bs
+    → Well ((block_begin head name ∷ xs) ++ block_end end ∷ []) ((head, end) ∷ bs)
 in_block head name xs bs end p h kinds rest g =
     let parts = or_parts (has_bad_end (head, end)) (list_any has_bad_end bs) h in
     subst (λ (l : List DebugMark). EndsWell (kind_number head ∷ kinds) l) (sym (append_assoc xs (block_end end ∷ []) rest))
@@ -80,7 +84,8 @@ blocks_of_block b = folds.fold-Block (List HeadAndEnd) (List HeadAndEnd) content
 module _ (I B : Type 0) (item_of : I → DebugItem) (block_of : B → Block)
     (p : (e : I) → Well (marks_of_item (item_of e)) (blocks_of_item (item_of e)))
     (q : (e : B) → Well (marks_of_block (block_of e)) (blocks_of_block (block_of e))) where
-  item_level : (y : DebugItem-F I B) → let item = roll-DebugItem (folds.map-DebugItem I B DebugItem Block item_of block_of y) in Well (marks_of_item item) (blocks_of_item item)
+  item_level : (y : DebugItem-F I B) → let item = roll-DebugItem (folds.map-DebugItem I B DebugItem Block item_of block_of y) in
+      Well (marks_of_item item) (blocks_of_item item)
   item_level (DebugItem-F.Block e) =
       let same : marks_of_item (roll-DebugItem (DebugItem-F.Block (block_of e))) ≡ marks_of_block (block_of e) = search (rules, the_lemmas) in
       let found : blocks_of_item (roll-DebugItem (DebugItem-F.Block (block_of e))) ≡ blocks_of_block (block_of e) = search (rules, the_lemmas) in
@@ -101,22 +106,28 @@ module _ (I B : Type 0) (item_of : I → DebugItem) (block_of : B → Block)
   items_level : (es : List I) → Well (joined (map marks_of_item (map item_of es))) (joined (map blocks_of_item (map item_of es)))
   items_level [] = none
   items_level (e ∷ es) =
-      both (marks_of_item (item_of e)) (joined (map marks_of_item (map item_of es))) (blocks_of_item (item_of e)) (joined (map blocks_of_item (map item_of es))) (p e) (items_level es)
+      both (marks_of_item (item_of e)) (joined (map marks_of_item (map item_of es))) (blocks_of_item (item_of e))
+      (joined (map blocks_of_item (map item_of es))) (p e) (items_level es)
 
-  block_level : (y : Block-F I B) → let block = roll-Block (folds.map-Block I B DebugItem Block item_of block_of y) in Well (marks_of_block block) (blocks_of_block block)
+  block_level : (y : Block-F I B) → let block = roll-Block (folds.map-Block I B DebugItem Block item_of block_of y) in
+      Well (marks_of_block block) (blocks_of_block block)
   block_level y =
       let block = roll-Block (folds.map-Block I B DebugItem Block item_of block_of y) in
       let same : marks_of_block block
       ≡ block_step (record { head = y.head; name = y.name; items = map marks_of_item (map item_of y.items); end = y.end }) = search (rules, the_lemmas) in
       let found : blocks_of_block block
-      ≡ contents.block_step (record { head = y.head; name = y.name; items = map blocks_of_item (map item_of y.items); end = y.end }) = search (rules, the_lemmas) in
+      ≡ contents.block_step (record { head = y.head; name = y.name; items = map blocks_of_item (map item_of y.items); end = y.end }) =
+      search (rules, the_lemmas) in
       well_by _ _ _ _ (sym same) (sym found)
-      (in_block y.head y.name (joined (map marks_of_item (map item_of y.items))) (joined (map blocks_of_item (map item_of y.items))) y.end (items_level y.items))
+      (in_block y.head y.name (joined (map marks_of_item (map item_of y.items))) (joined (map blocks_of_item (map item_of y.items))) y.end
+      (items_level y.items))
 
 well_item : (item : DebugItem) → Well (marks_of_item item) (blocks_of_item item)
 well_item = ind-DebugItem (λ item. Well (marks_of_item item) (blocks_of_item item)) (λ b. Well (marks_of_block b) (blocks_of_block b))
-    (λ x y is. subst (λ z. Well (marks_of_item (roll-DebugItem z)) (blocks_of_item (roll-DebugItem z))) is (item_level _ _ (λ e. e.0) (λ e. e.0) (λ e. e.1) (λ e. e.1) y))
-    (λ x y is. subst (λ z. Well (marks_of_block (roll-Block z)) (blocks_of_block (roll-Block z))) is (block_level _ _ (λ e. e.0) (λ e. e.0) (λ e. e.1) (λ e. e.1) y))
+    (λ x y is. subst (λ z. Well (marks_of_item (roll-DebugItem z)) (blocks_of_item (roll-DebugItem z))) is
+    (item_level _ _ (λ e. e.0) (λ e. e.0) (λ e. e.1) (λ e. e.1) y))
+    (λ x y is. subst (λ z. Well (marks_of_block (roll-Block z)) (blocks_of_block (roll-Block z))) is
+    (block_level _ _ (λ e. e.0) (λ e. e.0) (λ e. e.1) (λ e. e.1) y))
 
 well_items : (items : List DebugItem) → Well (marks_of items) (blocks_of items)
 well_items [] = none
@@ -146,8 +157,10 @@ no_end (k ∷ kinds) kind n name block = refl
 abbrev Onward : List ℕ → List DebugMark → Type 0 → Type 0
 Onward kinds rest C = EndsWell kinds rest → depth_from (length kinds) rest ≤ 32 → C
 
-nest_row : (ix : Indexes) (kinds : List ℕ) (p : SpelledRecord) (row : Record) (rest : List DebugMark) (C : Type 0) → IsShort row → EndsWell kinds (cons_option (mark_by ix p row) rest)
-    → depth_from (length kinds) (cons_option (mark_by ix p row) rest) ≤ 32 → Onward (kinds_after kinds row) rest C → (ends_badly_in kinds row ≡ false) × (is_too_deep_in kinds row ≡ false) × C
+nest_row : (ix : Indexes) (kinds : List ℕ) (p : SpelledRecord) (row : Record) (rest : List DebugMark) (C : Type 0) → IsShort row
+    → EndsWell kinds (cons_option (mark_by ix p row) rest)
+    → depth_from (length kinds) (cons_option (mark_by ix p row) rest) ≤ 32 → Onward (kinds_after kinds row) rest C → (ends_badly_in kinds row ≡ false)
+    × (is_too_deep_in kinds row ≡ false) × C
 nest_row ix kinds p (r.BlockBegin kind n name block) rest C short ends deep onward =
     let low = le-depth (length kinds + 1) rest in
     let same = ap (λ (k : ℕ). depth_from k rest) (next_depth (length kinds)) in (
@@ -174,14 +187,17 @@ nest_row ix (k ∷ kinds) p (r.DebugNote i type_index attribute ns) rest C short
 nest_row ix [] p row rest C short ends deep onward = (refl, refl, onward ends deep)
 nest_row ix (k ∷ kinds) p row rest C short ends deep onward = (refl, refl, onward ends deep)
 
-nest_all : (ix : Indexes) (kinds : List ℕ) (records : List SpelledRecord) → AllByRecursion (λ p. IsShort p.row) records → EndsWell kinds (marks ix records) → depth_from (length kinds) (marks ix records) ≤ 32 → NestWell kinds records
+nest_all : (ix : Indexes) (kinds : List ℕ) (records : List SpelledRecord) → AllByRecursion (λ p. IsShort p.row) records
+    → EndsWell kinds (marks ix records) → depth_from (length kinds) (marks ix records) ≤ 32 → NestWell kinds records
 nest_all ix kinds [] short ends deep = (tt, ends)
 nest_all ix kinds (p ∷ records) short ends deep =
-    let both = nest_row ix kinds p p.row (marks ix records) (NestWell (kinds_after kinds p.row) records) short.0 ends deep (λ e d. nest_all ix (kinds_after kinds p.row) records short.1 e d) in
+    let both = nest_row ix kinds p p.row (marks ix records) (NestWell (kinds_after kinds p.row) records) short.0 ends deep
+    (λ e d. nest_all ix (kinds_after kinds p.row) records short.1 e d) in
     ((both.0, both.1, both.2.0), both.2.1)
 
 -- Records with the marks of items, of which no block ends badly and which go to a depth of 32.
-pub nest_items : (ix : Indexes) (records : List SpelledRecord) (items : List DebugItem) → marks_of items ≡ marks ix records → list_any has_bad_end (blocks_of items) ≡ false → depth_of (marks_of items) ≤ 32
+pub nest_items : (ix : Indexes) (records : List SpelledRecord) (items : List DebugItem) → marks_of items ≡ marks ix records
+    → list_any has_bad_end (blocks_of items) ≡ false → depth_of (marks_of items) ≤ 32
     → AllByRecursion (λ p. IsShort p.row) records → NestWell [] records
 nest_items ix records items same good deep short =
     nest_all ix [] records short

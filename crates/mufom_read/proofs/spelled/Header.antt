@@ -1,5 +1,6 @@
 -- The header of a module's file as steps: a sound prefix.
-use Rattle.std.proofs.Common.{◌≡◌, ℕ, zero, suc, ◌+◌, ◌<◌, ◌≤◌, Bool, true, false, not, ◌==◌, ◌&&◌, List, [], ◌∷◌, ◌++◌, length, None, refl, sym, ap, subst, ◌∙◌, arith, append_assoc, append-nil, eq-eqb, ne_eqb, length-append}
+use Rattle.std.proofs.Common.{◌≡◌, ℕ, zero, suc, ◌+◌, ◌<◌, ◌≤◌, Bool, true, false, not, ◌==◌, ◌&&◌, List, [], ◌∷◌, ◌++◌, length, None, refl, sym, ap}
+use Rattle.std.proofs.Common.{subst, ◌∙◌, arith, append_assoc, append-nil, eq-eqb, ne_eqb, length-append}
 use Rattle.std.specs.Option.{option_or}
 use Rattle.mufom_numbers.specs.declared.reason.Reason.TheVariants as why
 use Rattle.mufom_records.specs.declared.record.Record.{Record}
@@ -19,15 +20,20 @@ use Rattle.mufom_read.proofs.spelled.Walk.{steps_of, IsStep, sound_step, next_re
 -- ---- a record of the header
 
 pub header_fault_at : (k : ℕ) (before : List Step) (p : SpelledRecord) → length before ≡ k → k < 10
-    → step_fault before (taken (read (size_of before) p) (length p.bytes)) ≡ header_fault (offsets_of before) (size_of before) (size_of before + length p.bytes) p.row
+    → step_fault before (taken (read (size_of before) p) (length p.bytes))
+    ≡ header_fault (offsets_of before) (size_of before) (size_of before + length p.bytes) p.row
 header_fault_at k before p count few = ap (λ (q : Location). record_fault before q (size_of before) p) (header_location before k count few)
 
-pub header_next : (reads_debug : Bool) (k : ℕ) (before : List Step) (p : SpelledRecord) (after : List ℕ) → length before ≡ k → k < 10 → IsWholeRecord (header_mode k) p.row p.bytes (first_of after None)
+pub header_next : (reads_debug : Bool) (k : ℕ) (before : List Step) (p : SpelledRecord) (after : List ℕ) → length before ≡ k → k < 10
+    → IsWholeRecord (header_mode k) p.row p.bytes (first_of after None)
     → next_step reads_debug before (p.bytes ++ after) ≡ taken (read (size_of before) p) (length p.bytes)
-header_next reads_debug k before p after count few is = next_read reads_debug before (in_header k) (header_mode k) p after (header_location before k count few) refl is
+header_next reads_debug k before p after count few is = next_read reads_debug before (in_header k) (header_mode k) p after
+    (header_location before k count few) refl is
 
-pub header_is_step : (reads_debug : Bool) (k : ℕ) (before : List Step) (p : SpelledRecord) (after : List ℕ) → length before ≡ k → k < 10 → is_ended before ≡ false → ended_part_fault before ≡ None
-    → IsWholeRecord (header_mode k) p.row p.bytes (first_of after None) → header_fault (offsets_of before) (size_of before) (size_of before + length p.bytes) p.row ≡ None
+pub header_is_step : (reads_debug : Bool) (k : ℕ) (before : List Step) (p : SpelledRecord) (after : List ℕ) → length before ≡ k → k < 10
+    → is_ended before ≡ false → ended_part_fault before ≡ None
+    → IsWholeRecord (header_mode k) p.row p.bytes (first_of after None)
+    → header_fault (offsets_of before) (size_of before) (size_of before + length p.bytes) p.row ≡ None
     → IsStep reads_debug before (read (size_of before) p) after
 header_is_step reads_debug k before p after count few open_ whole is fault = record {
   unended = open_;
@@ -58,7 +64,8 @@ pub record Standing (k n : ℕ) (end : ℕ) (earlier offsets : List ℕ) (before
   pub first : first_present (earlier ++ offsets) ≡ end
 
 -- the fault of an offset that is in order and leaves no gap
-offset_kept : (earlier : List ℕ) (w start end : ℕ) → is_out_of_order earlier w ≡ false → leaves_gap (earlier ++ w ∷ []) end ≡ false → offset_fault earlier w start end ≡ None
+offset_kept : (earlier : List ℕ) (w start end : ℕ) → is_out_of_order earlier w ≡ false → leaves_gap (earlier ++ w ∷ []) end ≡ false
+    → offset_fault earlier w start end ≡ None
 offset_kept earlier w start end order gap =
     (λ i. option_or (fault_if (order i) start why.OffsetOrder) (fault_if (gap i) end why.PartGap))
 
@@ -74,7 +81,8 @@ no_gap_last offsets end same = ap (λ b. (length offsets == 8) && not b) (eq-eqb
 one_more : (xs : List ℕ) (x : ℕ) → length (xs ++ x ∷ []) ≡ suc (length xs)
 one_more xs x = length-append xs (x ∷ []) ∙ omega arith
 
-no_gap_here : (n k : ℕ) (earlier offsets : List ℕ) (w start end size : ℕ) (records : List SpelledRecord) (after : List ℕ) → AreOfModes (modes_from (suc k) n) records after → length earlier ≡ k → k + suc n ≡ 8 → offsets_in records ≡ offsets
+no_gap_here : (n k : ℕ) (earlier offsets : List ℕ) (w start end size : ℕ) (records : List SpelledRecord) (after : List ℕ)
+    → AreOfModes (modes_from (suc k) n) records after → length earlier ≡ k → k + suc n ≡ 8 → offsets_in records ≡ offsets
     → first_present (earlier ++ w ∷ offsets) ≡ end → size + length (bytes_of records) ≡ end → leaves_gap (earlier ++ w ∷ []) size ≡ false
 no_gap_here zero k earlier offsets w start end size [] after modes many eight values first total =
     no_gap_last (earlier ++ w ∷ []) size (ap (λ l. first_present (earlier ++ w ∷ l)) values ∙ first ∙ sym total ∙ omega arith)
@@ -93,18 +101,23 @@ cons_parts : (a b : ℕ) (xs ys : List ℕ) → a ∷ xs ≡ b ∷ ys → (a ≡
 cons_parts a b xs ys h = (cc, cc)
 
 -- the first of these offsets
-first_offset : (n k : ℕ) (reads_debug : Bool) (end v : ℕ) (earlier offsets : List ℕ) (before : List Step) (p : SpelledRecord) (records : List SpelledRecord) (after : List ℕ) → Standing k (suc n) end earlier (v ∷ offsets) before (p ∷ records)
+first_offset : (n k : ℕ) (reads_debug : Bool) (end v : ℕ) (earlier offsets : List ℕ) (before : List Step) (p : SpelledRecord)
+    (records : List SpelledRecord) (after : List ℕ) → Standing k (suc n) end earlier (v ∷ offsets) before (p ∷ records)
     → AreOfModes (modes_from k (suc n)) (p ∷ records) after → offsets_in records ≡ offsets → p.row ≡ r.Offset k v → ended_part_fault before ≡ None
     → (Standing (suc k) n end (earlier ++ v ∷ []) offsets (before ++ read (size_of before) p ∷ []) records
-    → IsSoundFrom reads_debug (before ++ read (size_of before) p ∷ []) (steps_of (size_of (before ++ read (size_of before) p ∷ [])) records) (bytes_of records ++ after))
+    → IsSoundFrom reads_debug (before ++ read (size_of before) p ∷ []) (steps_of (size_of (before ++ read (size_of before) p ∷ [])) records)
+    (bytes_of records ++ after))
     → IsSoundFrom reads_debug before (steps_of (size_of before) (p ∷ records)) (bytes_of (p ∷ records) ++ after)
 first_offset n k reads_debug end v earlier offsets before p records after at modes tail its whole onward =
     let it = read (size_of before) p in
     let rest = bytes_of records ++ after in
     let all_in = length-append p.bytes (bytes_of records) in
-    let size : size_of (before ++ it ∷ []) ≡ size_of before + length p.bytes = size-append before (it ∷ []) ∙ ap (λ (l : List ℕ). size_of before + length l) (append-nil p.bytes) in
-    let gap = no_gap_here n k earlier offsets v (size_of before) end (size_of before + length p.bytes) records after modes.1 at.many at.eight tail at.first (omega (arith, at.size, all_in)) in
-    let is : IsStep reads_debug before it rest = header_is_step reads_debug (suc (suc k)) before p rest at.count (omega (arith, at.eight)) at.unended whole modes.0
+    let size : size_of (before ++ it ∷ []) ≡ size_of before + length p.bytes = size-append before (it ∷ [])
+    ∙ ap (λ (l : List ℕ). size_of before + length l) (append-nil p.bytes) in
+    let gap = no_gap_here n k earlier offsets v (size_of before) end (size_of before + length p.bytes) records after modes.1 at.many at.eight tail
+    at.first (omega (arith, at.size, all_in)) in
+    let is : IsStep reads_debug before it rest = header_is_step reads_debug (suc (suc k)) before p rest at.count (omega (arith, at.eight)) at.unended
+    whole modes.0
     ((λ i. header_fault (at.here i) (size_of before) (size_of before + length p.bytes) (its i))
     ∙ offset_kept earlier v (size_of before) (size_of before + length p.bytes) at.ordered.0 gap) in
     let prefix = before ++ it ∷ [] in
@@ -125,8 +138,10 @@ first_offset n k reads_debug end v earlier offsets before p records after at mod
     (sound_step reads_debug before it (steps_of (size_of before + length p.bytes) records) rest is
     (subst (λ (m : ℕ). IsSoundFrom reads_debug prefix (steps_of m records) rest) size (onward next)))
 
-pub offset_walk : (n k : ℕ) (reads_debug : Bool) (end : ℕ) (earlier offsets : List ℕ) (before : List Step) (records : List SpelledRecord) (after : List ℕ) → Standing k n end earlier offsets before records
-    → AreOfModes (modes_from k n) records after → offsets_in records ≡ offsets → IsSoundFrom reads_debug before (steps_of (size_of before) records) (bytes_of records ++ after)
+pub offset_walk : (n k : ℕ) (reads_debug : Bool) (end : ℕ) (earlier offsets : List ℕ) (before : List Step) (records : List SpelledRecord)
+    (after : List ℕ) → Standing k n end earlier offsets before records
+    → AreOfModes (modes_from k n) records after → offsets_in records ≡ offsets
+    → IsSoundFrom reads_debug before (steps_of (size_of before) records) (bytes_of records ++ after)
 offset_walk zero k reads_debug end earlier [] before [] after at modes values = tt
 offset_walk zero k reads_debug end earlier (w ∷ offsets) before [] after at modes values = absurd cc
 offset_walk zero k reads_debug end earlier offsets before (p ∷ records) after at modes values = absurd modes
@@ -138,6 +153,7 @@ offset_walk (suc n) k reads_debug end earlier (v ∷ offsets) before (p ∷ reco
     let row = offset_row k p.row p.bytes (first_of (bytes_of records ++ after) None) modes.0 in
     let heads = cons_parts row.0 v (offsets_in records) offsets (sym (row_offsets p records k row.0 row.1) ∙ values) in
     let its : p.row ≡ r.Offset k v = row.1 ∙ ap (λ (w : ℕ). r.Offset k w) heads.0 in
-    let whole : ended_part_fault before ≡ None = none_ended before end (subst (λ (l : List ℕ). Beyond end l) (sym at.here) at.passed) (omega (arith, at.size)) at.some in
+    let whole : ended_part_fault before ≡ None = none_ended before end (subst (λ (l : List ℕ). Beyond end l) (sym at.here) at.passed)
+    (omega (arith, at.size)) at.some in
     first_offset n k reads_debug end v earlier offsets before p records after at modes heads.1 its whole
     (λ next. offset_walk n (suc k) reads_debug end (earlier ++ v ∷ []) offsets (before ++ read (size_of before) p ∷ []) records after next modes.1 heads.1)

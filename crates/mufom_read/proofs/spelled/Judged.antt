@@ -25,8 +25,10 @@ ends_there reads_debug bytes m fits is =
       here = its.3;
     }
 
-not_refused : (reads_debug : Bool) (bytes : List ℕ) (m : Parts) (offset : ℕ) (reason : Reason) → AreBytes bytes → IsModule reads_debug bytes m → IsRefusedAt reads_debug bytes offset reason → ⊥
-not_refused reads_debug bytes m offset reason fits is (inl fault) = fault_not_ended reads_debug bytes offset (length bytes) reason fault (ends_there reads_debug bytes m fits is)
+not_refused : (reads_debug : Bool) (bytes : List ℕ) (m : Parts) (offset : ℕ) (reason : Reason) → AreBytes bytes → IsModule reads_debug bytes m
+    → IsRefusedAt reads_debug bytes offset reason → ⊥
+not_refused reads_debug bytes m offset reason fits is (inl fault) =
+    fault_not_ended reads_debug bytes offset (length bytes) reason fault (ends_there reads_debug bytes m fits is)
 not_refused reads_debug bytes m offset reason fits is (inr (inl after)) =
     let same : offset ≡ length bytes = one_end reads_debug bytes offset (length bytes) after.1 (ends_there reads_debug bytes m fits is) in
     let before : offset < length bytes = after.2 in

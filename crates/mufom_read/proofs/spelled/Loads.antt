@@ -1,5 +1,6 @@
 -- The program counters that the loads of a valid module name are those that its records may name.
-use Rattle.std.proofs.Common.{◌≡◌, ℕ, Bool, true, false, ◌==◌, ◌||◌, List, [], ◌∷◌, ◌++◌, map, Option, Some, None, option_map, unwrap_or, refl, sym, ap, subst, ◌∙◌, append-nil}
+use Rattle.std.proofs.Common.{◌≡◌, ℕ, Bool, true, false, ◌==◌, ◌||◌, List, [], ◌∷◌, ◌++◌, map, Option, Some, None, option_map, unwrap_or, refl, sym}
+use Rattle.std.proofs.Common.{ap, subst, ◌∙◌, append-nil}
 use Rattle.std.specs.List.{list_all, list_any, last_or, cons_option}
 use Rattle.std.proofs.lemmas.Bool.{and_parts, and_from, or_parts, both_ways}
 use Rattle.std.proofs.lemmas.List.Elements.{filter_map-append}
@@ -19,7 +20,9 @@ use Rattle.mufom_loads.specs.declared.load.Load.{Load}
 use Rattle.mufom_loads.specs.declared.load.Load.TheVariants.{One}
 use Rattle.mufom_module.specs.Contents.{any_of, item_any, current_after, placed_from}
 use Rattle.mufom_module.specs.Defects as d
-use Rattle.mufom_module.specs.SpelledRecords.{SpelledRecord, bytes_of, Kind, section, public, reference, of_kind, declared_by, declared, is_declared, kind_of_letter, index_of_variable, named_by, expression_of, is_public_value, text_in, tree_in, position_in, positioned, are_listed}
+use Rattle.mufom_module.specs.SpelledRecords.{SpelledRecord, bytes_of, Kind, section, public, reference, of_kind, declared_by, declared, is_declared}
+use Rattle.mufom_module.specs.SpelledRecords.{kind_of_letter, index_of_variable, named_by, expression_of, is_public_value, text_in, tree_in}
+use Rattle.mufom_module.specs.SpelledRecords.{position_in, positioned, are_listed}
 use Rattle.mufom_module.specs.RecordParts.{data_part, stands_in, opens_items, mode_of}
 use Rattle.mufom_module.specs.Gathered.{item_by, items_at_prefix, loads_by, loads_of}
 use Rattle.mufom_module.specs.Grammar.{AreWhole, Follows, FollowFrom}
@@ -37,7 +40,8 @@ pub record AreIn (ix : Indexes) (before : List SpelledRecord) : Type 0 where
   pub publics : declared public before ≡ ix.publics
   pub references : declared reference before ≡ ix.references
 
-listed_variable : (ix : Indexes) (before : List SpelledRecord) → AreIn ix before → (letter : Letter) (i : ℕ) → is_declared before (kind_of_letter letter, i) ≡ true → list_any (λ j. j == i) (list_of ix letter) ≡ true
+listed_variable : (ix : Indexes) (before : List SpelledRecord) → AreIn ix before → (letter : Letter) (i : ℕ)
+    → is_declared before (kind_of_letter letter, i) ≡ true → list_any (λ j. j == i) (list_of ix letter) ≡ true
 listed_variable ix before are I i h = ap (list_any (λ j. j == i)) (sym are.publics) ∙ h
 listed_variable ix before are X i h = ap (list_any (λ j. j == i)) (sym are.references) ∙ h
 listed_variable ix before are L i h = ap (list_any (λ j. j == i)) (sym are.sections) ∙ h
@@ -45,11 +49,13 @@ listed_variable ix before are P i h = ap (list_any (λ j. j == i)) (sym are.sect
 listed_variable ix before are R i h = ap (list_any (λ j. j == i)) (sym are.sections) ∙ h
 listed_variable ix before are S i h = ap (list_any (λ j. j == i)) (sym are.sections) ∙ h
 
-listed_variables : (ix : Indexes) (before : List SpelledRecord) → AreIn ix before → (variables : List (Letter × ℕ)) → list_all (is_declared before) (map index_of_variable variables) ≡ true
+listed_variables : (ix : Indexes) (before : List SpelledRecord) → AreIn ix before → (variables : List (Letter × ℕ))
+    → list_all (is_declared before) (map index_of_variable variables) ≡ true
     → list_all (λ v. list_any (λ j. j == v.1) (list_of ix v.0)) variables ≡ true
 listed_variables ix before are [] h = refl
 listed_variables ix before are (v ∷ variables) h =
-    let both = and_parts (is_declared before (index_of_variable v)) _ h in and_from _ _ (listed_variable ix before are v.0 v.1 both.0) (listed_variables ix before are variables both.1)
+    let both = and_parts (is_declared before (index_of_variable v)) _ h in
+    and_from _ _ (listed_variable ix before are v.0 v.1 both.0) (listed_variables ix before are variables both.1)
 
 listed_tree : (ix : Indexes) (before : List SpelledRecord) → AreIn ix before → (tree : Tree) → IsKnown before tree → are_listed ix tree ≡ true
 listed_tree ix before are tree known = listed_variables ix before are (variables_of tree) known
@@ -61,11 +67,14 @@ data_declares (r.ReferenceName i name) own = cc
 data_declares (r.DebugName i name) own = cc
 data_declares row own = refl
 
-same_declared : (kind : Kind) (before : List SpelledRecord) (p : SpelledRecord) → stands_in data_part p.row ≡ true → declared kind (before ++ p ∷ []) ≡ declared kind before
+same_declared : (kind : Kind) (before : List SpelledRecord) (p : SpelledRecord) → stands_in data_part p.row ≡ true → declared kind (before ++ p ∷ [])
+    ≡ declared kind before
 same_declared kind before p own =
-    filter_map-append (λ q. of_kind kind (declared_by q.row)) before (p ∷ []) ∙ ap (λ o. declared kind before ++ cons_option (of_kind kind o) []) (data_declares p.row own) ∙ append-nil (declared kind before)
+    filter_map-append (λ q. of_kind kind (declared_by q.row)) before (p ∷ [])
+    ∙ ap (λ o. declared kind before ++ cons_option (of_kind kind o) []) (data_declares p.row own) ∙ append-nil (declared kind before)
 
-are_in_next : (ix : Indexes) (before : List SpelledRecord) (p : SpelledRecord) → stands_in data_part p.row ≡ true → AreIn ix before → AreIn ix (before ++ p ∷ [])
+are_in_next : (ix : Indexes) (before : List SpelledRecord) (p : SpelledRecord) → stands_in data_part p.row ≡ true → AreIn ix before
+    → AreIn ix (before ++ p ∷ [])
 are_in_next ix before p own are = record {
   sections = same_declared section before p own ∙ are.sections;
   publics = same_declared public before p own ∙ are.publics;
@@ -94,7 +103,8 @@ ones current [] h = refl
 ones current (item ∷ items) h = let both = or_parts (item_any (d.has_other_counter current) item) _ h in (λ i. both.0 i || ones current items both.1 i)
 
 -- the items after a record that opens them
-opened : (ix : Indexes) (p : SpelledRecord) (items : List Item) (current : Option ℕ) (row : Record) → opens_items row ≡ true → is_item row ≡ false → NoneMisplaced current (loads_by ix p items row) → NoItemMisplaced current items
+opened : (ix : Indexes) (p : SpelledRecord) (items : List Item) (current : Option ℕ) (row : Record) → opens_items row ≡ true → is_item row ≡ false
+    → NoneMisplaced current (loads_by ix p items row) → NoItemMisplaced current items
 opened ix p items current r.Relocate opens plain h = ones current items h
 opened ix p items current (r.RepeatRelocate times) opens plain h = (or_parts (list_any (item_any (d.has_other_counter current)) items) false h).0
 opened ix p items current (r.ConstantItem run) opens plain h = cc
@@ -113,27 +123,35 @@ pub record Known (ix : Indexes) (maus : ℕ) (items : Bool) (before : List Spell
   pub its_items : items ≡ true → NoItemMisplaced (placed_section ix (current_section before)) (items_at_prefix ix maus (p ∷ records))
 
 -- the item of a record and those after it
-item_here : (ix : Indexes) (maus : ℕ) (items : Bool) (before : List SpelledRecord) (p : SpelledRecord) (records : List SpelledRecord) (item : Item) → Known ix maus items before p records → is_item p.row ≡ true → item_by ix maus p p.row ≡ Some item
-    → (item_any (d.has_other_counter (placed_section ix (current_section before))) item ≡ false) × NoItemMisplaced (placed_section ix (current_section before)) (items_at_prefix ix maus records)
+item_here : (ix : Indexes) (maus : ℕ) (items : Bool) (before : List SpelledRecord) (p : SpelledRecord) (records : List SpelledRecord) (item : Item)
+    → Known ix maus items before p records → is_item p.row ≡ true → item_by ix maus p p.row ≡ Some item
+    → (item_any (d.has_other_counter (placed_section ix (current_section before))) item ≡ false)
+    × NoItemMisplaced (placed_section ix (current_section before)) (items_at_prefix ix maus records)
 item_here ix maus items before p records item its is same =
     let current = placed_section ix (current_section before) in
-    or_parts (item_any (d.has_other_counter current) item) _ (ap (list_any (item_any (d.has_other_counter current))) (sym (prefix_some ix maus p records item same)) ∙ its.its_items (its.may is))
+    or_parts (item_any (d.has_other_counter current) item) _ (ap (list_any (item_any (d.has_other_counter current)))
+    (sym (prefix_some ix maus p records item same)) ∙ its.its_items (its.may is))
 
-its_tree : (ix : Indexes) (maus : ℕ) (items : Bool) (before : List SpelledRecord) (p : SpelledRecord) (records : List SpelledRecord) (row : Record) (span : Span) → Known ix maus items before p records → p.row ≡ row → expression_of row ≡ Some span → is_public_value row ≡ false
+its_tree : (ix : Indexes) (maus : ℕ) (items : Bool) (before : List SpelledRecord) (p : SpelledRecord) (records : List SpelledRecord) (row : Record)
+    (span : Span) → Known ix maus items before p records → p.row ≡ row → expression_of row ≡ Some span → is_public_value row ≡ false
     → are_listed ix (tree_in p span) ≡ true
 its_tree ix maus items before p records row span its is e other =
     listed_tree ix before its.are (tree_in p span) (tree_known before p span (ap expression_of is ∙ e) (ap is_public_value is ∙ other) its.follows.known)
 
 -- the index that it names is listed
-its_index : (ix : Indexes) (maus : ℕ) (items : Bool) (before : List SpelledRecord) (p : SpelledRecord) (records : List SpelledRecord) (row : Record) (i : ℕ) → Known ix maus items before p records → p.row ≡ row → named_by row ≡ Some (section, i) → list_any (λ k. k == i) ix.sections ≡ true
-its_index ix maus items before p records row i its is e = ap (list_any (λ k. k == i)) (sym its.are.sections) ∙ named_known before p (section, i) (ap named_by is ∙ e) its.follows.known
+its_index : (ix : Indexes) (maus : ℕ) (items : Bool) (before : List SpelledRecord) (p : SpelledRecord) (records : List SpelledRecord) (row : Record)
+    (i : ℕ) → Known ix maus items before p records → p.row ≡ row → named_by row ≡ Some (section, i) → list_any (λ k. k == i) ix.sections ≡ true
+its_index ix maus items before p records row i its is e = ap (list_any (λ k. k == i)) (sym its.are.sections)
+    ∙ named_known before p (section, i) (ap named_by is ∙ e) its.follows.known
 
-own_row : (ix : Indexes) (maus : ℕ) (items : Bool) (before : List SpelledRecord) (p : SpelledRecord) (records : List SpelledRecord) (row : Record) → Known ix maus items before p records → p.row ≡ row → stands_in data_part row ≡ true
+own_row : (ix : Indexes) (maus : ℕ) (items : Bool) (before : List SpelledRecord) (p : SpelledRecord) (records : List SpelledRecord) (row : Record)
+    → Known ix maus items before p records → p.row ≡ row → stands_in data_part row ≡ true
     → any_of (d.has_other_counter (counter_allowed before row)) (option_map (tree_in p) (expression_of row)) ≡ false
 own_row ix maus items before p records (r.FieldItem kind value n) its is own =
     let item = Field kind (positioned ix (tree_in p value)) (unwrap_or n maus) in
     let here = item_here ix maus items before p records item its (ap is_item is) (ap (item_by ix maus p) is) in
-    tree_back ix (current_section before) (tree_in p value) its.listed (its_tree ix maus items before p records (r.FieldItem kind value n) value its is refl refl) here.0
+    tree_back ix (current_section before) (tree_in p value) its.listed
+    (its_tree ix maus items before p records (r.FieldItem kind value n) value its is refl refl) here.0
 own_row ix maus items before p records (r.SetPc i value) its is own =
     let listed = its_index ix maus items before p records (r.SetPc i value) i its is refl in
     let loads : NoneMisplaced (placed_section ix (current_section before)) (loads_by ix p (items_at_prefix ix maus records) (r.SetPc i value)) =
@@ -149,7 +167,8 @@ own_row ix maus items before p records (r.RepeatRelocate times) its is own = ref
 own_row ix maus items before p records row its is own = cc
 
 -- the items after a record
-next_row : (ix : Indexes) (maus : ℕ) (items : Bool) (before : List SpelledRecord) (p : SpelledRecord) (records : List SpelledRecord) (row : Record) → Known ix maus items before p records → p.row ≡ row → opens_items row ≡ true
+next_row : (ix : Indexes) (maus : ℕ) (items : Bool) (before : List SpelledRecord) (p : SpelledRecord) (records : List SpelledRecord) (row : Record)
+    → Known ix maus items before p records → p.row ≡ row → opens_items row ≡ true
     → NoItemMisplaced (placed_section ix (current_section (before ++ p ∷ []))) (items_at_prefix ix maus records)
 next_row ix maus items before p records (r.FieldItem kind value n) its is opens =
     let item = Field kind (positioned ix (tree_in p value)) (unwrap_or n maus) in
@@ -166,9 +185,11 @@ next_row ix maus items before p records (r.RepeatRelocate times) its is opens =
     (opened ix p (items_at_prefix ix maus records) (placed_section ix (current_section before)) p.row (ap opens_items is) (ap is_item is) its.loads)
 next_row ix maus items before p records row its is opens = cc
 
-listed_row : (ix : Indexes) (maus : ℕ) (items : Bool) (before : List SpelledRecord) (p : SpelledRecord) (records : List SpelledRecord) (row : Record) → Known ix maus items before p records → p.row ≡ row → IsListed ix (current_section (before ++ p ∷ []))
+listed_row : (ix : Indexes) (maus : ℕ) (items : Bool) (before : List SpelledRecord) (p : SpelledRecord) (records : List SpelledRecord) (row : Record)
+    → Known ix maus items before p records → p.row ≡ row → IsListed ix (current_section (before ++ p ∷ []))
 listed_row ix maus items before p records (r.SetSection i) its is =
-    subst (IsListed ix) (sym (after_one before p ∙ ap (λ (row : Record). last_or (current_section before) (cons_option (set_by row) [])) is)) (its_index ix maus items before p records (r.SetSection i) i its is refl)
+    subst (IsListed ix) (sym (after_one before p ∙ ap (λ (row : Record). last_or (current_section before) (cons_option (set_by row) [])) is))
+    (its_index ix maus items before p records (r.SetSection i) i its is refl)
 listed_row ix maus items before p records row its is = subst (IsListed ix) (sym (same_section before p (ap set_by is))) its.listed
 
 -- ---- all records
@@ -178,11 +199,13 @@ abbrev pub CounterFrom : List SpelledRecord → List SpelledRecord → Type 0
 CounterFrom before [] = Unit {0}
 CounterFrom before (p ∷ records) = (misplaces_counter before p ≡ false) × CounterFrom (before ++ p ∷ []) records
 
-where_items : (items : Bool) (p : SpelledRecord) (next : Option ℕ) → IsWholeRecord (mode_of items p.bytes) p.row p.bytes next → is_item p.row ≡ true → items ≡ true
+where_items : (items : Bool) (p : SpelledRecord) (next : Option ℕ) → IsWholeRecord (mode_of items p.bytes) p.row p.bytes next → is_item p.row ≡ true
+    → items ≡ true
 where_items true p next is its = refl
 where_items false p next is its = absurd (both_ways (is_item p.row) (body_plain p.row p.bytes next is) its)
 
-pub load_counters : (ix : Indexes) (maus : ℕ) (items : Bool) (before records : List SpelledRecord) (after : List ℕ) → AreWhole items records after → list_all (λ p. stands_in data_part p.row) records ≡ true → FollowFrom before records → AreIn ix before
+pub load_counters : (ix : Indexes) (maus : ℕ) (items : Bool) (before records : List SpelledRecord) (after : List ℕ) → AreWhole items records after
+    → list_all (λ p. stands_in data_part p.row) records ≡ true → FollowFrom before records → AreIn ix before
     → IsListed ix (current_section before) → NoneMisplaced (placed_section ix (current_section before)) (loads_of ix maus records)
     → (items ≡ true → NoItemMisplaced (placed_section ix (current_section before)) (items_at_prefix ix maus records)) → CounterFrom before records
 load_counters ix maus items before [] after whole own follow are listed loads its = tt
@@ -198,8 +221,10 @@ load_counters ix maus items before (p ∷ records) after whole own follow are li
       loads = split.0;
       its_items = its;
     } in
-    let next : after_all current (loads_by ix p (items_at_prefix ix maus records) p.row) ≡ placed_section ix (current_section (before ++ p ∷ [])) = after_row ix p (items_at_prefix ix maus records) (current_section before) p.row ∙ ap (placed_section ix) (sym (after_one before p)) in (
+    let next : after_all current (loads_by ix p (items_at_prefix ix maus records) p.row) ≡ placed_section ix (current_section (before ++ p ∷ [])) =
+    after_row ix p (items_at_prefix ix maus records) (current_section before) p.row ∙ ap (placed_section ix) (sym (after_one before p)) in (
       own_row ix maus items before p records p.row known refl both.0,
-      load_counters ix maus (opens_items p.row) (before ++ p ∷ []) records after whole.1 both.1 follow.1 (are_in_next ix before p both.0 are) (listed_row ix maus items before p records p.row known refl)
+      load_counters ix maus (opens_items p.row) (before ++ p ∷ []) records after whole.1 both.1 follow.1 (are_in_next ix before p both.0 are)
+          (listed_row ix maus items before p records p.row known refl)
           (subst (λ (o : Option ℕ). NoneMisplaced o (loads_of ix maus records)) next split.1) (next_row ix maus items before p records p.row known refl),
     )

@@ -1,5 +1,6 @@
 -- What holds of the offsets of a file, and the header of a module's file as a sound prefix.
-use Rattle.std.proofs.Common.{◌≡◌, ◌⊎◌, ℕ, zero, suc, ◌+◌, ◌≤◌, Bool, true, false, not, ◌==◌, ◌&&◌, ◌||◌, nat_lt, List, [], ◌∷◌, ◌++◌, length, Option, None, is_none, refl, sym, ap, subst, ◌∙◌, inl, inr, arith, append_assoc, append-nil, ne_eqb, length-append}
+use Rattle.std.proofs.Common.{◌≡◌, ◌⊎◌, ℕ, zero, suc, ◌+◌, ◌≤◌, Bool, true, false, not, ◌==◌, ◌&&◌, ◌||◌, nat_lt, List, [], ◌∷◌, ◌++◌, length, Option}
+use Rattle.std.proofs.Common.{None, is_none, refl, sym, ap, subst, ◌∙◌, inl, inr, arith, append_assoc, append-nil, ne_eqb, length-append}
 use Rattle.std.specs.List.{list_any, cons_option, AllByRecursion}
 use Rattle.std.proofs.lemmas.Bool.{and_parts, or_from}
 use Rattle.mufom_records.specs.declared.record.Mode.TheVariants as mode
@@ -61,12 +62,17 @@ in_order_none : (earlier : List ℕ) (w : ℕ) → w ≡ 0 → (length earlier �
 in_order_none earlier w none few =
     ap (λ (k : ℕ). is_out_of_order earlier k) none ∙ ap (λ b. (false && list_any (λ e. nat_lt 0 e) earlier) || (b && true)) (ne_eqb (length earlier) 7 few)
 
-pub stand_ordered : (offsets : List ℕ) (earlier : List ℕ) (at : ℕ) (parts : List (List ℕ)) → 1 ≤ at → AllByRecursion (λ e. e ≤ at) earlier → length earlier + length offsets ≡ 8 → StandAt offsets at parts → AreOrdered earlier offsets
-stand_ordered offsets earlier at [] some all eight stand = subst (λ (l : List ℕ). AreOrdered earlier l) (sym stand) (in_order_here earlier at at refl some all, tt)
+pub stand_ordered : (offsets : List ℕ) (earlier : List ℕ) (at : ℕ) (parts : List (List ℕ)) → 1 ≤ at → AllByRecursion (λ e. e ≤ at) earlier
+    → length earlier + length offsets ≡ 8 → StandAt offsets at parts → AreOrdered earlier offsets
+stand_ordered offsets earlier at [] some all eight stand = subst (λ (l : List ℕ). AreOrdered earlier l) (sym stand)
+    (in_order_here earlier at at refl some all, tt)
 stand_ordered [] earlier at (x ∷ parts) some all eight stand = absurd stand
 stand_ordered (w ∷ offsets) earlier at (x ∷ parts) some all eight stand =
-    let count = stand_count offsets (at + length x) parts stand.1 in
-    (first stand.0 count, stand_ordered offsets (earlier ++ w ∷ []) (at + length x) parts (omega arith) (rises earlier at (length x) w all (low stand.0)) (omega (arith, length-append earlier (w ∷ []), eight)) stand.1)
+    let count = stand_count offsets (at + length x) parts stand.1 in (
+      first stand.0 count,
+      stand_ordered offsets (earlier ++ w ∷ []) (at + length x) parts (omega arith)
+          (rises earlier at (length x) w all (low stand.0)) (omega (arith, length-append earlier (w ∷ []), eight)) stand.1,
+    )
   where
     first : (w ≡ at) ⊎ ((w ≡ 0) × (x ≡ [])) → length offsets ≡ suc (length parts) → is_out_of_order earlier w ≡ false
     first (inl here) count = in_order_here earlier w at here some all
@@ -96,7 +102,8 @@ steps_many : (at : ℕ) (records : List SpelledRecord) → length (steps_of at r
 steps_many at [] = refl
 steps_many at (p ∷ records) = ap suc (steps_many (at + length p.bytes) records)
 
-silent_unended : (before : List Step) (at : ℕ) (records : List SpelledRecord) → IsSilent records → is_ended before ≡ false → is_ended (before ++ steps_of at records) ≡ false
+silent_unended : (before : List Step) (at : ℕ) (records : List SpelledRecord) → IsSilent records → is_ended before ≡ false
+    → is_ended (before ++ steps_of at records) ≡ false
 silent_unended before at [] quiet open_ = ap (λ l. is_ended l) (append-nil before) ∙ open_
 silent_unended before at (p ∷ records) quiet open_ =
     let both = and_parts (is_none (part_of p.row)) _ quiet in
@@ -133,11 +140,14 @@ positive : (row : Record) (bytes : List ℕ) (next : Option ℕ) → IsWholeReco
 positive row bytes next is = let e = ap length is.5 ∙ length-append is.1 is.2 in let one = ap length is.3 in omega arith
 
 header_some : (f : FileParts) (after : List ℕ) → AreOfModes header_modes (header_of f) after → 1 ≤ length (bytes_of (header_of f))
-header_some f after are = let one = positive f.begin.row f.begin.bytes _ are.0 in omega (arith, length-append f.begin.bytes (bytes_of (f.descriptor ∷ f.offsets)))
+header_some f after are = let one = positive f.begin.row f.begin.bytes _ are.0 in
+    omega (arith, length-append f.begin.bytes (bytes_of (f.descriptor ∷ f.offsets)))
 
 -- after the descriptor
-offsets_standing : (f : FileParts) (after : List ℕ) (before : List Step) → AreOfModes header_modes (header_of f) after → HeaderRows f → StandAt (offsets_in f.offsets) (length (bytes_of (header_of f))) (parts_of f) → length before ≡ 2 → offsets_of before ≡ [] → is_ended before ≡ false
-    → size_of before ≡ length f.begin.bytes + length f.descriptor.bytes → Standing 0 8 (length (bytes_of (header_of f))) [] (offsets_in f.offsets) before f.offsets
+offsets_standing : (f : FileParts) (after : List ℕ) (before : List Step) → AreOfModes header_modes (header_of f) after → HeaderRows f
+    → StandAt (offsets_in f.offsets) (length (bytes_of (header_of f))) (parts_of f) → length before ≡ 2 → offsets_of before ≡ [] → is_ended before ≡ false
+    → size_of before ≡ length f.begin.bytes + length f.descriptor.bytes
+    → Standing 0 8 (length (bytes_of (header_of f))) [] (offsets_in f.offsets) before f.offsets
 offsets_standing f after before are rows stand two none open_ size =
     let end = length (bytes_of (header_of f)) in
     let some = header_some f after are in
@@ -147,7 +157,8 @@ offsets_standing f after before are rows stand two none open_ size =
       many = refl;
       here = none;
       unended = open_;
-      ordered = stand_ordered (offsets_in f.offsets) [] end (parts_of f) some tt (omega (arith, stand_count (offsets_in f.offsets) end (parts_of f) stand)) stand;
+      ordered = stand_ordered (offsets_in f.offsets) [] end (parts_of f) some tt
+          (omega (arith, stand_count (offsets_in f.offsets) end (parts_of f) stand)) stand;
       passed = tt;
       beyond = stand_beyond (offsets_in f.offsets) end end (parts_of f) (omega arith) stand;
       size = omega (arith, size, length-append f.begin.bytes (bytes_of (f.descriptor ∷ f.offsets)), length-append f.descriptor.bytes (bytes_of f.offsets));
@@ -156,7 +167,8 @@ offsets_standing f after before are rows stand two none open_ size =
     }
 
 -- the header is sound
-pub header_prefix : (reads_debug : Bool) (f : FileParts) (after : List ℕ) → AreOfModes header_modes (header_of f) after → HeaderRows f → is_bad_descriptor f.descriptor.row ≡ false → StandAt (offsets_in f.offsets) (length (bytes_of (header_of f))) (parts_of f)
+pub header_prefix : (reads_debug : Bool) (f : FileParts) (after : List ℕ) → AreOfModes header_modes (header_of f) after → HeaderRows f
+    → is_bad_descriptor f.descriptor.row ≡ false → StandAt (offsets_in f.offsets) (length (bytes_of (header_of f))) (parts_of f)
     → IsSoundFrom reads_debug [] (steps_of 0 (header_of f)) (bytes_of (header_of f) ++ after)
 header_prefix reads_debug f after are rows good stand =
     let a = read 0 f.begin in
@@ -165,7 +177,8 @@ header_prefix reads_debug f after are rows good stand =
     let later = bytes_of f.offsets ++ after in
     let rest = f.descriptor.bytes ++ later in
     let split_rest : bytes_of (f.descriptor ∷ f.offsets) ++ after ≡ rest = append_assoc f.descriptor.bytes (bytes_of f.offsets) after in
-    let split : bytes_of (header_of f) ++ after ≡ f.begin.bytes ++ rest = append_assoc f.begin.bytes (bytes_of (f.descriptor ∷ f.offsets)) after ∙ ap (λ l. f.begin.bytes ++ l) split_rest in
+    let split : bytes_of (header_of f) ++ after ≡ f.begin.bytes ++ rest = append_assoc f.begin.bytes (bytes_of (f.descriptor ∷ f.offsets)) after
+    ∙ ap (λ l. f.begin.bytes ++ l) split_rest in
     let first : IsStep reads_debug [] a rest = header_is_step reads_debug 0 [] f.begin rest refl (omega arith) refl refl
     (subst (λ (l : List ℕ). IsWholeRecord mode.Begin f.begin.row f.begin.bytes (first_of l None)) split_rest are.0)
     (ap (λ (row : Record). header_fault [] 0 (0 + n) row) rows.begins.2) in
@@ -177,8 +190,10 @@ header_prefix reads_debug f after are rows good stand =
     ((λ i. header_fault (none i) (size_of (a ∷ [])) (size_of (a ∷ []) + length f.descriptor.bytes) (rows.describes.3 i))
     ∙ ap (λ t. fault_if t (size_of (a ∷ [])) why.BadDescriptor) (sym (ap is_bad_descriptor rows.describes.3) ∙ good))) in
     let prefix = a ∷ b ∷ [] in
-    let two_size : size_of prefix ≡ 0 + n + length f.descriptor.bytes = ap (λ (l : List ℕ). length (f.begin.bytes ++ l)) (append-nil f.descriptor.bytes) ∙ length-append f.begin.bytes f.descriptor.bytes ∙ omega arith in
-    let none_two : offsets_of prefix ≡ [] = offsets-append (a ∷ []) (b ∷ []) ∙ (λ i. none i ++ offsets_in (record { row = rows.describes.3 i; bytes = f.descriptor.bytes } ∷ [])) in
+    let two_size : size_of prefix ≡ 0 + n + length f.descriptor.bytes =
+    ap (λ (l : List ℕ). length (f.begin.bytes ++ l)) (append-nil f.descriptor.bytes) ∙ length-append f.begin.bytes f.descriptor.bytes ∙ omega arith in
+    let none_two : offsets_of prefix ≡ [] = offsets-append (a ∷ []) (b ∷ [])
+    ∙ (λ i. none i ++ offsets_in (record { row = rows.describes.3 i; bytes = f.descriptor.bytes } ∷ [])) in
     let standing = offsets_standing f after prefix are rows stand refl none_two (ap is_module_end rows.describes.3) (two_size ∙ omega arith) in
     let on = offset_walk 8 0 reads_debug (length (bytes_of (header_of f))) [] (offsets_in f.offsets) prefix f.offsets after standing are.1.1 refl in
     subst (λ (l : List ℕ). IsSoundFrom reads_debug [] (steps_of 0 (header_of f)) l) (sym split)
@@ -187,7 +202,8 @@ header_prefix reads_debug f after are rows good stand =
     (subst (λ (k : ℕ). IsSoundFrom reads_debug prefix (steps_of k f.offsets) later) two_size on)))
 
 -- after the header the parts begin
-pub header_joint : (f : FileParts) (after : List ℕ) → AreOfModes header_modes (header_of f) after → HeaderRows f → StandAt (offsets_in f.offsets) (length (bytes_of (header_of f))) (parts_of f) → Joint (offsets_in f.offsets) (steps_of 0 (header_of f))
+pub header_joint : (f : FileParts) (after : List ℕ) → AreOfModes header_modes (header_of f) after → HeaderRows f
+    → StandAt (offsets_in f.offsets) (length (bytes_of (header_of f))) (parts_of f) → Joint (offsets_in f.offsets) (steps_of 0 (header_of f))
 header_joint f after are rows stand =
     let prefix = steps_of 0 (header_of f) in
     let end = length (bytes_of (header_of f)) in
@@ -197,8 +213,10 @@ header_joint f after are rows stand =
       many = omega (arith, steps_many 0 (header_of f), rows.many);
       offsets = offsets;
       unended = silent_unended [] 0 (header_of f) rows.silent refl;
-      whole = none_ended prefix end (subst (λ (l : List ℕ). Beyond end l) (sym offsets) (stand_beyond (offsets_in f.offsets) end end (parts_of f) (omega arith) stand)) (omega arith) (header_some f after are);
+      whole = none_ended prefix end (subst (λ (l : List ℕ). Beyond end l) (sym offsets)
+          (stand_beyond (offsets_in f.offsets) end end (parts_of f) (omega arith) stand)) (omega arith) (header_some f after are);
     }
 
-pub header_size : (f : FileParts) (after : List ℕ) → AreOfModes header_modes (header_of f) after → (size_of (steps_of 0 (header_of f)) ≡ length (bytes_of (header_of f))) × (1 ≤ length (bytes_of (header_of f)))
+pub header_size : (f : FileParts) (after : List ℕ) → AreOfModes header_modes (header_of f) after
+    → (size_of (steps_of 0 (header_of f)) ≡ length (bytes_of (header_of f))) × (1 ≤ length (bytes_of (header_of f)))
 header_size f after are = (ap length (steps_bytes 0 (header_of f)), header_some f after are)

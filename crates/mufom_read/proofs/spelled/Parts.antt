@@ -1,5 +1,7 @@
 -- The parts of a module's file as steps, one part after another.
-use Rattle.std.proofs.Common.{◌≡◌, ◌⊎◌, ℕ, zero, suc, ◌+◌, ◌-◌, ◌<◌, ◌≤◌, Bool, true, false, cond, not, ◌==◌, ◌&&◌, nat_lt, List, [], ◌∷◌, ◌++◌, length, Option, Some, None, refl, sym, ap, subst, ◌∙◌, inl, inr, arith, append_assoc, append-nil, filter_map, eq-eqb, ne_eqb, length-append}
+use Rattle.std.proofs.Common.{◌≡◌, ◌⊎◌, ℕ, zero, suc, ◌+◌, ◌-◌, ◌<◌, ◌≤◌, Bool, true, false, cond, not, ◌==◌, ◌&&◌, nat_lt, List, [], ◌∷◌, ◌++◌}
+use Rattle.std.proofs.Common.{length, Option, Some, None, refl, sym, ap, subst, ◌∙◌, inl, inr, arith, append_assoc, append-nil, filter_map, eq-eqb}
+use Rattle.std.proofs.Common.{ne_eqb, length-append}
 use Rattle.std.specs.List.{last_or, cons_option}
 use Rattle.std.specs.Option.{option_or}
 use Rattle.std.proofs.lemmas.Bool.{not_from_true, not_from_false}
@@ -12,7 +14,9 @@ use Rattle.mufom_debug.specs.Marks.{joined}
 use Rattle.mufom_module.specs.SpelledRecords.{SpelledRecord, bytes_of}
 use Rattle.mufom_module.specs.RecordParts.{Part, number_of, stands_in, opens_items, begins_item, mode_of}
 use Rattle.mufom_module.specs.Grammar.{offsets_in, StandAt, AreWhole}
-use Rattle.mufom_read.specs.Prefixes.{Step, raw, read, prefix_bytes, size_of, records_of, offsets_of, Extent, Location, in_part, at_end, first_present, part_among, parts_in_order, part_at, location_by, location_after, is_raw, awaits_items, body_mode, as_step, raw_step, step_at, is_module_end, is_ended}
+use Rattle.mufom_read.specs.Prefixes.{Step, raw, read, prefix_bytes, size_of, records_of, offsets_of, Extent, Location, in_part, at_end}
+use Rattle.mufom_read.specs.Prefixes.{first_present, part_among, parts_in_order, part_at, location_by, location_after, is_raw, awaits_items}
+use Rattle.mufom_read.specs.Prefixes.{body_mode, as_step, raw_step, step_at, is_module_end, is_ended}
 use Rattle.mufom_read.specs.Faults.{Fault, fault_if, fault_for, rule_broken, part_record_fault, record_fault, whole_fault, ended_fault, ended_part_fault}
 use Rattle.mufom_read.specs.Judging.{IsSoundFrom}
 use Rattle.mufom_read.proofs.so_far.BlockKinds.{ends-kinds, deep-kinds}
@@ -35,14 +39,17 @@ record Inside (from to : ℕ) (all : List ℕ) (before : List Step) : Type 0 whe
   whole : size_of before < to → ended_part_fault before ≡ None
 
 -- no part ends inside a part
-none_inside : (part : Part) (from to : ℕ) (all : List ℕ) (prefix : List Step) → AllInside part from to all → offsets_of prefix ≡ all → from < size_of prefix → size_of prefix < to → ended_part_fault prefix ≡ None
+none_inside : (part : Part) (from to : ℕ) (all : List ℕ) (prefix : List Step) → AllInside part from to all → offsets_of prefix ≡ all
+    → from < size_of prefix → size_of prefix < to → ended_part_fault prefix ≡ None
 none_inside part from to all prefix within offsets low high =
-    let offset : part_at prefix (size_of prefix - 1) ≡ Some (extent part from to) = ap (λ ws. part_among parts_in_order ws (size_of prefix - 1)) offsets ∙ within (size_of prefix - 1) (omega arith) (omega arith) in
+    let offset : part_at prefix (size_of prefix - 1) ≡ Some (extent part from to) =
+    ap (λ ws. part_among parts_in_order ws (size_of prefix - 1)) offsets ∙ within (size_of prefix - 1) (omega arith) (omega arith) in
     ap (λ (o : Option Extent). ended_fault prefix o) offset ∙ ap (λ b. cond b (whole_fault part prefix) None) (ne_eqb to (size_of prefix) (λ same. omega arith))
 
 -- ---- bytes that are not read
 
-raw_is_step : (reads_debug : Bool) (part : Part) (from to : ℕ) (all : List ℕ) (before : List Step) (b : ℕ) (after : List ℕ) → AllInside part from to all → is_raw reads_debug part ≡ true
+raw_is_step : (reads_debug : Bool) (part : Part) (from to : ℕ) (all : List ℕ) (before : List Step) (b : ℕ) (after : List ℕ)
+    → AllInside part from to all → is_raw reads_debug part ≡ true
     → Inside from to all before → size_of before < to → IsStep reads_debug before (raw b) after
 raw_is_step reads_debug part from to all before b after within is at below =
     let rest = b ∷ after in
@@ -55,7 +62,8 @@ raw_is_step reads_debug part from to all before b after within is at below =
           ∙ ap (λ t. cond t (raw_step rest) (as_step (size_of before) rest (record_at (body_mode before (extent part from to) rest) rest))) is;
     }
 
-raw_inside : (part : Part) (from to : ℕ) (all : List ℕ) (before : List Step) (b : ℕ) → AllInside part from to all → Inside from to all before → Inside from to all (before ++ raw b ∷ [])
+raw_inside : (part : Part) (from to : ℕ) (all : List ℕ) (before : List Step) (b : ℕ) → AllInside part from to all → Inside from to all before
+    → Inside from to all (before ++ raw b ∷ [])
 raw_inside part from to all before b within at =
     let prefix = before ++ raw b ∷ [] in
     let size : size_of prefix ≡ size_of before + 1 = size-append before (raw b ∷ []) in
@@ -68,11 +76,13 @@ raw_inside part from to all before b within at =
       whole = λ below. none_inside part from to all prefix within offsets (omega (arith, at.begun, size)) below;
     }
 
-raw_sound : (reads_debug : Bool) (part : Part) (from to : ℕ) (all : List ℕ) (before : List Step) (bytes after : List ℕ) → AllInside part from to all → is_raw reads_debug part ≡ true
+raw_sound : (reads_debug : Bool) (part : Part) (from to : ℕ) (all : List ℕ) (before : List Step) (bytes after : List ℕ) → AllInside part from to all
+    → is_raw reads_debug part ≡ true
     → Inside from to all before → size_of before + length bytes ≡ to → IsSoundFrom reads_debug before (raw_steps bytes) (bytes ++ after)
 raw_sound reads_debug part from to all before [] after within is at total = tt
 raw_sound reads_debug part from to all before (b ∷ bytes) after within is at total =
-    sound_step reads_debug before (raw b) (raw_steps bytes) (bytes ++ after) (raw_is_step reads_debug part from to all before b (bytes ++ after) within is at (omega arith))
+    sound_step reads_debug before (raw b) (raw_steps bytes) (bytes
+    ++ after) (raw_is_step reads_debug part from to all before b (bytes ++ after) within is at (omega arith))
     (raw_sound reads_debug part from to all (before ++ raw b ∷ []) bytes after within is (raw_inside part from to all before b within at)
     (let size = size-append before (raw b ∷ []) in omega arith))
 
@@ -90,7 +100,8 @@ no_rule prefix p keeps =
     (cond (keeps.aligned i) (Some why.BadAlignment) (cond (keeps.placed i) (Some why.NoSection) (cond (keeps.counter i) (Some why.BadP)
     (cond (nested i) (Some why.BlockNesting) (cond (deep i) (Some why.Depth) None))))))))
 
-no_fault_here : (part : Part) (from to : ℕ) (before : List Step) (p : SpelledRecord) → size_of before + length p.bytes ≤ to → stands_in part p.row ≡ true → IsKept (records_of before) p
+no_fault_here : (part : Part) (from to : ℕ) (before : List Step) (p : SpelledRecord) → size_of before + length p.bytes ≤ to → stands_in part p.row
+    ≡ true → IsKept (records_of before) p
     → part_record_fault before (extent part from to) (size_of before) p ≡ None
 no_fault_here part from to before p below own keeps =
     let start = size_of before in
@@ -103,7 +114,8 @@ no_fault_here part from to before p below own keeps =
     not_above a b h = grind arith
 
 -- the mode in which the record is read
-mode_here : (items a b : Bool) (p : SpelledRecord) (rest : List ℕ) (next : Option ℕ) → (a && b) ≡ items → IsWholeRecord (mode_of items p.bytes) p.row p.bytes next
+mode_here : (items a b : Bool) (p : SpelledRecord) (rest : List ℕ) (next : Option ℕ) → (a && b) ≡ items
+    → IsWholeRecord (mode_of items p.bytes) p.row p.bytes next
     → IsWholeRecord (cond (a && (b && begins_item (p.bytes ++ rest))) mode.Items mode.Body) p.row p.bytes next
 mode_here items a b p rest next flag is =
     let some = record_some (items && begins_item p.bytes) p.row p.bytes next is in
@@ -119,8 +131,10 @@ mode_here items a b p rest next flag is =
 abbrev awaiting : ℕ → List Step → Bool
 awaiting from before = not (size_of before == from) && awaits_items (last_or None (records_of before))
 
-read_is_step : (reads_debug : Bool) (part : Part) (from to : ℕ) (all : List ℕ) (items : Bool) (before : List Step) (p : SpelledRecord) (after : List ℕ) → AllInside part from to all → is_raw reads_debug part ≡ false → IsPlain part
-    → Inside from to all before → awaiting from before ≡ items → size_of before < to → size_of before + length p.bytes ≤ to → stands_in part p.row ≡ true → IsKept (records_of before) p
+read_is_step : (reads_debug : Bool) (part : Part) (from to : ℕ) (all : List ℕ) (items : Bool) (before : List Step) (p : SpelledRecord)
+    (after : List ℕ) → AllInside part from to all → is_raw reads_debug part ≡ false → IsPlain part
+    → Inside from to all before → awaiting from before ≡ items → size_of before < to → size_of before + length p.bytes ≤ to → stands_in part p.row
+    ≡ true → IsKept (records_of before) p
     → IsWholeRecord (mode_of items p.bytes) p.row p.bytes (first_of after None) → IsStep reads_debug before (read (size_of before) p) after
 read_is_step reads_debug part from to all items before p after within is plain at flag below inside own keeps whole_p =
     let rest = p.bytes ++ after in
@@ -136,12 +150,14 @@ read_is_step reads_debug part from to all items before p after within is plain a
           (mode_here items (not (size_of before == from)) (awaits_items (last_or None (records_of before))) p after (first_of after None) flag whole_p);
     }
 
-read_inside : (part : Part) (from to : ℕ) (all : List ℕ) (before : List Step) (p : SpelledRecord) → AllInside part from to all → IsPlain part → Inside from to all before → stands_in part p.row ≡ true → 1 ≤ length p.bytes
+read_inside : (part : Part) (from to : ℕ) (all : List ℕ) (before : List Step) (p : SpelledRecord) → AllInside part from to all → IsPlain part
+    → Inside from to all before → stands_in part p.row ≡ true → 1 ≤ length p.bytes
     → Inside from to all (before ++ read (size_of before) p ∷ [])
 read_inside part from to all before p within plain at own some =
     let it = read (size_of before) p in
     let prefix = before ++ it ∷ [] in
-    let size : size_of prefix ≡ size_of before + length p.bytes = size-append before (it ∷ []) ∙ ap (λ (l : List ℕ). size_of before + length l) (append-nil p.bytes) in
+    let size : size_of prefix ≡ size_of before + length p.bytes = size-append before (it ∷ [])
+    ∙ ap (λ (l : List ℕ). size_of before + length l) (append-nil p.bytes) in
     let none : offsets_of (it ∷ []) ≡ [] = ap (λ (o : Option ℕ). filter_map (λ (y : Option ℕ). y) (o ∷ [])) (no_offset part p.row own) in
     let offsets = offsets-append before (it ∷ []) ∙ (λ i. at.offsets i ++ none i) ∙ append-nil all in
     record {
@@ -152,16 +168,22 @@ read_inside part from to all before p within plain at own some =
       whole = λ below. none_inside part from to all prefix within offsets (omega (arith, at.begun, size)) below;
     }
 
-awaits_next : (from : ℕ) (before : List Step) (p : SpelledRecord) → from ≤ size_of before → 1 ≤ length p.bytes → awaiting from (before ++ read (size_of before) p ∷ []) ≡ opens_items p.row
+awaits_next : (from : ℕ) (before : List Step) (p : SpelledRecord) → from ≤ size_of before → 1 ≤ length p.bytes
+    → awaiting from (before ++ read (size_of before) p ∷ []) ≡ opens_items p.row
 awaits_next from before p begun some =
     let it = read (size_of before) p in
-    let size : size_of (before ++ it ∷ []) ≡ size_of before + length p.bytes = size-append before (it ∷ []) ∙ ap (λ (l : List ℕ). size_of before + length l) (append-nil p.bytes) in
-    let after : not (size_of (before ++ it ∷ []) == from) ≡ true = not_from_false _ (ne_eqb (size_of (before ++ it ∷ [])) from (λ same. omega (arith, size, begun, some))) in
-    let last : awaits_items (last_or None (records_of (before ++ it ∷ []))) ≡ opens_items p.row = ap (λ ps. awaits_items (last_or None ps)) (records-append before (it ∷ [])) ∙ ap (λ o. awaits_items o) (last-append None (records_of before) p) in
+    let size : size_of (before ++ it ∷ []) ≡ size_of before + length p.bytes = size-append before (it ∷ [])
+    ∙ ap (λ (l : List ℕ). size_of before + length l) (append-nil p.bytes) in
+    let after : not (size_of (before ++ it ∷ []) == from) ≡ true =
+    not_from_false _ (ne_eqb (size_of (before ++ it ∷ [])) from (λ same. omega (arith, size, begun, some))) in
+    let last : awaits_items (last_or None (records_of (before ++ it ∷ []))) ≡ opens_items p.row =
+    ap (λ ps. awaits_items (last_or None ps)) (records-append before (it ∷ [])) ∙ ap (λ o. awaits_items o) (last-append None (records_of before) p) in
     (λ i. after i && last i)
 
-read_sound : (reads_debug : Bool) (part : Part) (from to : ℕ) (all : List ℕ) (items : Bool) (before : List Step) (records : List SpelledRecord) (after : List ℕ) → AllInside part from to all → is_raw reads_debug part ≡ false → IsPlain part
-    → Inside from to all before → awaiting from before ≡ items → AreWhole items records after → KeptFrom part (records_of before) records → size_of before + length (bytes_of records) ≡ to
+read_sound : (reads_debug : Bool) (part : Part) (from to : ℕ) (all : List ℕ) (items : Bool) (before : List Step) (records : List SpelledRecord)
+    (after : List ℕ) → AllInside part from to all → is_raw reads_debug part ≡ false → IsPlain part
+    → Inside from to all before → awaiting from before ≡ items → AreWhole items records after → KeptFrom part (records_of before) records
+    → size_of before + length (bytes_of records) ≡ to
     → IsSoundFrom reads_debug before (steps_of (size_of before) records) (bytes_of records ++ after)
 read_sound reads_debug part from to all items before [] after within is plain at flag are own total = tt
 read_sound reads_debug part from to all items before (p ∷ records) after within is plain at flag are own total =
@@ -170,10 +192,14 @@ read_sound reads_debug part from to all items before (p ∷ records) after withi
     let rest = bytes_of records ++ after in
     let some = record_some (items && begins_item p.bytes) p.row p.bytes (first_of rest None) are.0 in
     let all_in = length-append p.bytes (bytes_of records) in
-    let size : size_of prefix ≡ size_of before + length p.bytes = size-append before (it ∷ []) ∙ ap (λ (l : List ℕ). size_of before + length l) (append-nil p.bytes) in
-    let step = read_is_step reads_debug part from to all items before p rest within is plain at flag (omega (arith, all_in, some, total)) (omega (arith, all_in, total)) own.0 own.1 are.0 in
-    let later = read_sound reads_debug part from to all (opens_items p.row) prefix records after within is plain (read_inside part from to all before p within plain at own.0 some)
-    (awaits_next from before p at.begun some) are.1 (subst (λ (l : List SpelledRecord). KeptFrom part l records) (sym (records-append before (it ∷ []))) own.2) (omega (arith, size, all_in, total)) in
+    let size : size_of prefix ≡ size_of before + length p.bytes = size-append before (it ∷ [])
+    ∙ ap (λ (l : List ℕ). size_of before + length l) (append-nil p.bytes) in
+    let step = read_is_step reads_debug part from to all items before p rest within is plain at flag (omega (arith, all_in, some, total))
+    (omega (arith, all_in, total)) own.0 own.1 are.0 in
+    let later = read_sound reads_debug part from to all (opens_items p.row) prefix records after within is plain
+    (read_inside part from to all before p within plain at own.0 some)
+    (awaits_next from before p at.begun some) are.1 (subst (λ (l : List SpelledRecord). KeptFrom part l records)
+    (sym (records-append before (it ∷ []))) own.2) (omega (arith, size, all_in, total)) in
     subst (λ (l : List ℕ). IsSoundFrom reads_debug before (steps_of (size_of before) (p ∷ records)) l) (sym (append_assoc p.bytes (bytes_of records) after))
     (sound_step reads_debug before it (steps_of (size_of before + length p.bytes) records) rest step
     (subst (λ (n : ℕ). IsSoundFrom reads_debug prefix (steps_of n records) rest) size later))
@@ -189,7 +215,8 @@ pub record Joint (all : List ℕ) (before : List Step) : Type 0 where
 
 -- steps that fill a part with these bytes
 pub record Content (reads_debug : Bool) (part : Part) (before own : List Step) (bytes after : List ℕ) : Type 0 where
-  pub goes_on : (all : List ℕ) → AllInside part (size_of before) (size_of before + length bytes) all → Joint all before → IsSoundFrom reads_debug before own (bytes ++ after)
+  pub goes_on : (all : List ℕ) → AllInside part (size_of before) (size_of before + length bytes) all → Joint all before
+      → IsSoundFrom reads_debug before own (bytes ++ after)
   pub its_bytes : prefix_bytes own ≡ bytes
   pub none : length bytes ≡ 0 → own ≡ []
   pub no_offsets : offsets_of own ≡ []
@@ -201,7 +228,8 @@ joint_inside from to all before at same = record { many = at.many; offsets = at.
 
 ended-raws : (before : List Step) (bytes : List ℕ) → is_ended (before ++ raw_steps bytes) ≡ is_ended before
 ended-raws before bytes =
-    ap (λ (ps : List SpelledRecord). is_ended_of ps) (records-append before (raw_steps bytes) ∙ ap (λ l. records_of before ++ l) (raw_none bytes) ∙ append-nil (records_of before))
+    ap (λ (ps : List SpelledRecord). is_ended_of ps) (records-append before (raw_steps bytes) ∙ ap (λ l. records_of before ++ l) (raw_none bytes)
+    ∙ append-nil (records_of before))
   where
     is_ended_of : List SpelledRecord → Bool
     is_ended_of ps = ends (last_or None ps) where
@@ -209,9 +237,11 @@ ended-raws before bytes =
       ends None = false
       ends (Some p) = is_module_end p.row
 
-pub raw_content : (reads_debug : Bool) (part : Part) (before : List Step) (bytes after : List ℕ) → is_raw reads_debug part ≡ true → whole_fault part (before ++ raw_steps bytes) ≡ None → Content reads_debug part before (raw_steps bytes) bytes after
+pub raw_content : (reads_debug : Bool) (part : Part) (before : List Step) (bytes after : List ℕ) → is_raw reads_debug part ≡ true
+    → whole_fault part (before ++ raw_steps bytes) ≡ None → Content reads_debug part before (raw_steps bytes) bytes after
 raw_content reads_debug part before bytes after is whole = record {
-  goes_on = λ all within at. raw_sound reads_debug part (size_of before) (size_of before + length bytes) all before bytes after within is (joint_inside (size_of before) (size_of before + length bytes) all before at refl) refl;
+  goes_on = λ all within at. raw_sound reads_debug part (size_of before) (size_of before + length bytes) all before bytes after within is
+      (joint_inside (size_of before) (size_of before + length bytes) all before at refl) refl;
   its_bytes = raw_bytes bytes;
   none = λ h. ap raw_steps (empty bytes h);
   no_offsets = ap offsets_in (raw_none bytes);
@@ -231,18 +261,24 @@ no_records items (p ∷ records) after are h =
 
 no_offset_in : (part : Part) (before records : List SpelledRecord) → KeptFrom part before records → offsets_in records ≡ []
 no_offset_in part before [] own = refl
-no_offset_in part before (p ∷ records) own = ap (λ o. cons_option o (offsets_in records)) (no_offset part p.row own.0) ∙ no_offset_in part (before ++ p ∷ []) records own.2
+no_offset_in part before (p ∷ records) own = ap (λ o. cons_option o (offsets_in records)) (no_offset part p.row own.0)
+    ∙ no_offset_in part (before ++ p ∷ []) records own.2
 
-ended-reads : (part : Part) (before : List Step) (at : ℕ) (earlier records : List SpelledRecord) → IsPlain part → KeptFrom part earlier records → is_ended before ≡ false → is_ended (before ++ steps_of at records) ≡ false
+ended-reads : (part : Part) (before : List Step) (at : ℕ) (earlier records : List SpelledRecord) → IsPlain part → KeptFrom part earlier records
+    → is_ended before ≡ false → is_ended (before ++ steps_of at records) ≡ false
 ended-reads part before at earlier [] plain own open_ = ap (λ l. is_ended l) (append-nil before) ∙ open_
 ended-reads part before at earlier (p ∷ records) plain own open_ =
     ap (λ l. is_ended l) (sym (append_assoc before (read at p ∷ []) (steps_of (at + length p.bytes) records)))
-    ∙ ended-reads part (before ++ read at p ∷ []) (at + length p.bytes) (earlier ++ p ∷ []) records plain own.2 (ended-read before at p ∙ not_end part p.row plain own.0)
+    ∙ ended-reads part (before ++ read at p ∷ []) (at + length p.bytes) (earlier ++ p ∷ []) records plain own.2 (ended-read before at p
+    ∙ not_end part p.row plain own.0)
 
-pub read_content : (reads_debug : Bool) (part : Part) (before : List Step) (records : List SpelledRecord) (after : List ℕ) → is_raw reads_debug part ≡ false → IsPlain part → AreWhole false records after → KeptFrom part (records_of before) records
-    → whole_fault part (before ++ steps_of (size_of before) records) ≡ None → Content reads_debug part before (steps_of (size_of before) records) (bytes_of records) after
+pub read_content : (reads_debug : Bool) (part : Part) (before : List Step) (records : List SpelledRecord) (after : List ℕ) → is_raw reads_debug part
+    ≡ false → IsPlain part → AreWhole false records after → KeptFrom part (records_of before) records
+    → whole_fault part (before ++ steps_of (size_of before) records) ≡ None
+    → Content reads_debug part before (steps_of (size_of before) records) (bytes_of records) after
 read_content reads_debug part before records after is plain are own whole = record {
-  goes_on = λ all within at. read_sound reads_debug part (size_of before) (size_of before + length (bytes_of records)) all false before records after within is plain
+  goes_on = λ all within at. read_sound reads_debug part (size_of before) (size_of before + length (bytes_of records)) all false before records after
+      within is plain
       (joint_inside (size_of before) (size_of before + length (bytes_of records)) all before at refl)
       (ap (λ b. not b && awaits_items (last_or None (records_of before))) (eq-eqb (size_of before) (size_of before) refl)) are own refl;
   its_bytes = steps_bytes (size_of before) records;
@@ -257,7 +293,8 @@ read_content reads_debug part before records after is plain are own whole = reco
 -- contents of the parts, one after another, with these bytes after the last
 abbrev pub Contents : Bool → List Part → List Step → List (List Step) → List (List ℕ) → List ℕ → Type 0
 Contents reads_debug [] before [] [] after = Unit {0}
-Contents reads_debug (part ∷ parts) before (own ∷ contents) (bytes ∷ texts) after = Content reads_debug part before own bytes (joined texts ++ after) × Contents reads_debug parts (before ++ own) contents texts after
+Contents reads_debug (part ∷ parts) before (own ∷ contents) (bytes ∷ texts) after = Content reads_debug part before own bytes (joined texts ++ after)
+    × Contents reads_debug parts (before ++ own) contents texts after
 Contents reads_debug _ before _ _ after = ⊥
 
 -- a sound prefix up to the end of the parts
@@ -275,7 +312,8 @@ some_there : (bytes : List ℕ) (w at : ℕ) → 1 ≤ length bytes → (w ≡ a
 some_there bytes w at some (inl here) = here
 some_there bytes w at some (inr none) = absurd (let e = ap length none.1 in omega arith)
 
-within_part : (all : List ℕ) (part : Part) (parts : List Part) (w n : ℕ) (offsets bytes : List ℕ) → Places all (part ∷ parts) (w ∷ offsets) n → (w ≡ n) ⊎ ((w ≡ 0) × (bytes ≡ [])) → 1 ≤ n → first_present offsets ≡ n + length bytes
+within_part : (all : List ℕ) (part : Part) (parts : List Part) (w n : ℕ) (offsets bytes : List ℕ) → Places all (part ∷ parts) (w ∷ offsets) n
+    → (w ≡ n) ⊎ ((w ≡ 0) × (bytes ≡ [])) → 1 ≤ n → first_present offsets ≡ n + length bytes
     → AllInside part n (n + length bytes) all
 within_part all part parts w n offsets bytes offsets_named stands some first = λ at low high.
     let here : w ≡ n = some_there bytes w n (omega arith) stands in
@@ -283,12 +321,15 @@ within_part all part parts w n offsets bytes offsets_named stands some first = �
     offsets_named at low ∙ ap (λ b. cond b (Some (record { part = part; from = w; to = first_present offsets })) (part_among parts offsets at)) test
     ∙ (λ i. Some (record { part = part; from = here i; to = first i }))
 
-places_after : (all : List ℕ) (part : Part) (parts : List Part) (w n m : ℕ) (offsets : List ℕ) → Places all (part ∷ parts) (w ∷ offsets) n → n ≤ m → first_present offsets ≡ m → Places all parts offsets m
+places_after : (all : List ℕ) (part : Part) (parts : List Part) (w n m : ℕ) (offsets : List ℕ) → Places all (part ∷ parts) (w ∷ offsets) n → n ≤ m
+    → first_present offsets ≡ m → Places all parts offsets m
 places_after all part parts w n m offsets offsets_named low first = λ at from.
-    offsets_named at (omega arith) ∙ ap (λ b. cond b (Some (record { part = part; from = w; to = first_present offsets })) (part_among parts offsets at)) (is_after w at (first_present offsets) (omega arith))
+    offsets_named at (omega arith) ∙ ap (λ b. cond b (Some (record { part = part; from = w; to = first_present offsets }))
+    (part_among parts offsets at)) (is_after w at (first_present offsets) (omega arith))
 
 -- after a part
-joint_after : (reads_debug : Bool) (all : List ℕ) (part : Part) (before own : List Step) (bytes after : List ℕ) → (c : Content reads_debug part before own bytes after) → AllInside part (size_of before) (size_of before + length bytes) all
+joint_after : (reads_debug : Bool) (all : List ℕ) (part : Part) (before own : List Step) (bytes after : List ℕ)
+    → (c : Content reads_debug part before own bytes after) → AllInside part (size_of before) (size_of before + length bytes) all
     → Joint all before → (count : ℕ) → length bytes ≡ count → Joint all (before ++ own)
 joint_after reads_debug all part before own bytes after c within at zero count =
     subst (λ (l : List Step). Joint all l) (sym (append-nil before) ∙ ap (λ l. before ++ l) (sym (c.none count))) at
@@ -301,21 +342,25 @@ joint_after reads_debug all part before own bytes after c within at (suc n) coun
       many = omega (arith, at.many, length-append before own);
       offsets = grown;
       unended = c.unended at.unended;
-      whole = ap (λ (o : Option Extent). ended_fault (before ++ own) o) offset ∙ either_none (size_of before + length bytes == size_of (before ++ own)) (whole_fault part (before ++ own)) c.whole;
+      whole = ap (λ (o : Option Extent). ended_fault (before ++ own) o) offset
+          ∙ either_none (size_of before + length bytes == size_of (before ++ own)) (whole_fault part (before ++ own)) c.whole;
     }
   where
     either_none : (b : Bool) (o : Option Fault) → o ≡ None → cond b o None ≡ None
     either_none true o h = h
     either_none false o h = refl
 
-pub walk_contents : (reads_debug : Bool) (all : List ℕ) (parts : List Part) (offsets : List ℕ) (before : List Step) (contents : List (List Step)) (texts : List (List ℕ)) (after : List ℕ) → Places all parts offsets (size_of before)
-    → StandAt offsets (size_of before) texts → 1 ≤ size_of before → Contents reads_debug parts before contents texts after → Joint all before → Parted reads_debug all before contents texts after
+pub walk_contents : (reads_debug : Bool) (all : List ℕ) (parts : List Part) (offsets : List ℕ) (before : List Step) (contents : List (List Step))
+    (texts : List (List ℕ)) (after : List ℕ) → Places all parts offsets (size_of before)
+    → StandAt offsets (size_of before) texts → 1 ≤ size_of before → Contents reads_debug parts before contents texts after → Joint all before
+    → Parted reads_debug all before contents texts after
 walk_contents reads_debug all [] offsets before [] [] after offsets_named stand some fill at =
     let same = append-nil before in
     record {
       sound = tt;
       joint = subst (λ (l : List Step). Joint all l) (sym same) at;
-      place = ap location_after same ∙ after_header before at.many ∙ ap (λ ws. location_by (part_among parts_in_order ws (size_of before))) at.offsets ∙ ap location_by (offsets_named (size_of before) (omega arith));
+      place = ap location_after same ∙ after_header before at.many ∙ ap (λ ws. location_by (part_among parts_in_order ws (size_of before))) at.offsets
+          ∙ ap location_by (offsets_named (size_of before) (omega arith));
       bytes = refl;
     }
 walk_contents reads_debug all [] offsets before [] (bytes ∷ texts) after offsets_named stand some fill at = absurd fill
@@ -335,8 +380,10 @@ walk_contents reads_debug all (part ∷ parts) (w ∷ offsets) before (own ∷ c
     (subst (λ (n : ℕ). StandAt offsets n texts) (sym size) stand.1) (omega arith) fill.1 joint in
     let same = append_assoc before own (joined contents) in
     record {
-      sound = subst (λ (l : List ℕ). IsSoundFrom reads_debug before (own ++ joined contents) l) (ap (λ l. l ++ rest) c.its_bytes ∙ sym (append_assoc bytes (joined texts) after))
-          (sound-append reads_debug before own (joined contents) rest (subst (λ (l : List ℕ). IsSoundFrom reads_debug before own (l ++ rest)) (sym c.its_bytes) (c.goes_on all within at)) later.sound);
+      sound = subst (λ (l : List ℕ). IsSoundFrom reads_debug before (own ++ joined contents) l) (ap (λ l. l ++ rest) c.its_bytes
+          ∙ sym (append_assoc bytes (joined texts) after))
+          (sound-append reads_debug before own (joined contents) rest
+          (subst (λ (l : List ℕ). IsSoundFrom reads_debug before own (l ++ rest)) (sym c.its_bytes) (c.goes_on all within at)) later.sound);
       joint = subst (λ (l : List Step). Joint all l) same later.joint;
       place = ap location_after (sym same) ∙ later.place;
       bytes = bytes-append own (joined contents) ∙ (λ i. c.its_bytes i ++ later.bytes i);

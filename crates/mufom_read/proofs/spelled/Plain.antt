@@ -22,7 +22,8 @@ named_plain i absolute = λ (p : Option ℕ) _ (name : Span) _ (a : Option ℕ) 
 
 section_plain : Promises NoItem Layouts.section_type
 section_plain = λ (i : ℕ) _ (c : ℕ) _. by_test NoItem (c == 0xC3) (Layouts.named_section i false) _ (λ _. named_plain i false)
-    (λ _. by_test NoItem (c == 0xC1) (Layouts.absolute_section i) _ (λ _. λ (s : ℕ) _. by_test NoItem (s == 0xD3) (Layouts.named_section i true) _ (λ _. named_plain i true) (λ _. tt)) (λ _. tt))
+    (λ _. by_test NoItem (c == 0xC1) (Layouts.absolute_section i) _
+    (λ _. λ (s : ℕ) _. by_test NoItem (s == 0xD3) (Layouts.named_section i true) _ (λ _. named_plain i true) (λ _. tt)) (λ _. tt))
 
 repeat_plain : Promises NoItem Layouts.repeat
 repeat_plain = λ (times : ℕ) _ (b : ℕ) _. by_test NoItem (b == 0xED) (Layouts.constant (r.RepeatConstant times)) _ (λ _. λ (n : ℕ) _ (span : Span) _. refl)

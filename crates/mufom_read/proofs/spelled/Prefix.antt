@@ -1,5 +1,6 @@
 -- A module's file is one sound prefix, which ends with the stream and states the module.
-use Rattle.std.proofs.Common.{◌≡◌, ℕ, ◌≤◌, Bool, true, false, List, [], ◌∷◌, ◌++◌, length, map, drop, None, MatchBool, refl, sym, ap, subst, ◌∙◌, arith, append_assoc, append-nil}
+use Rattle.std.proofs.Common.{◌≡◌, ℕ, ◌≤◌, Bool, true, false, List, [], ◌∷◌, ◌++◌, length, map, drop, None, MatchBool, refl, sym, ap, subst, ◌∙◌}
+use Rattle.std.proofs.Common.{arith, append_assoc, append-nil}
 use Rattle.std.specs.List.{list_any}
 use Rattle.std.proofs.lemmas.List.{take_all}
 use Rattle.mufom_records.specs.declared.record.Mode.TheVariants as mode
@@ -11,7 +12,8 @@ use Rattle.mufom_module.specs.Defects as d
 use Rattle.mufom_module.specs.SpelledRecords.{SpelledRecord, bytes_of}
 use Rattle.mufom_module.specs.RecordParts.{extension_part, environment_part, section_part, external_part, debug_part, data_part, trailer_part}
 use Rattle.mufom_module.specs.Gathered.{sections_of, publics_of, references_of, marks, loads_of, starts_of}
-use Rattle.mufom_module.specs.Grammar.{file_limit, FileParts, header_of, debug_bytes, module_end, from_trailer, from_loads, from_debug, from_externals, after_header, AreWhole, offsets_in, StandAt, IsCutInto, indexes_of, HasNames, States}
+use Rattle.mufom_module.specs.Grammar.{file_limit, FileParts, header_of, debug_bytes, module_end, from_trailer, from_loads, from_debug}
+use Rattle.mufom_module.specs.Grammar.{from_externals, after_header, AreWhole, offsets_in, StandAt, IsCutInto, indexes_of, HasNames, States}
 use Rattle.mufom_read.specs.Prefixes.{Step, read, prefix_bytes, size_of, records_of, offsets_of, Location, at_end, location_after, parts_in_order, is_ended}
 use Rattle.mufom_read.specs.Faults.{record_fault, whole_fault}
 use Rattle.mufom_read.specs.Judging.{IsSoundFrom, within_limit}
@@ -21,7 +23,8 @@ use Rattle.mufom_read.proofs.so_far.BlockKinds.{open_kinds}
 use Rattle.mufom_read.proofs.ended.Walk.{bytes-append, records-append}
 use Rattle.mufom_read.proofs.ended.Header.{ended-read, offsets-append}
 use Rattle.mufom_read.proofs.ended.Parts.{KeptFrom}
-use Rattle.mufom_read.proofs.ended.Gathered.{AreSorted, all_records, same_sections, same_indexes, same_publics, same_references, same_marks, same_loads, same_starts}
+use Rattle.mufom_read.proofs.ended.Gathered.{AreSorted, all_records, same_sections, same_indexes, same_publics, same_references, same_marks}
+use Rattle.mufom_read.proofs.ended.Gathered.{same_loads, same_starts}
 use Rattle.mufom_read.proofs.ended.Slicing.{grown, same_records}
 use Rattle.mufom_read.proofs.ended.Stated.{extension_between, environment_between}
 use Rattle.mufom_read.proofs.spelled.Walk.{steps_of, raw_steps, steps_bytes, steps_records, raw_none, IsStep, sound_step, sound-append, next_read}
@@ -101,7 +104,8 @@ joined-chained (x ∷ xs) end = append_assoc x (joined xs) end ∙ ap (λ l. x +
 -- ---- contents
 
 -- no bytes are passed over
-read_alone : (before : List Step) (records : List SpelledRecord) (skipped after : List ℕ) → skipped ≡ [] → Content true debug_part before (steps_of (size_of before) records) (bytes_of records) after
+read_alone : (before : List Step) (records : List SpelledRecord) (skipped after : List ℕ) → skipped ≡ []
+    → Content true debug_part before (steps_of (size_of before) records) (bytes_of records) after
     → Content true debug_part before (steps_of (size_of before) records ++ raw_steps skipped) (bytes_of records ++ skipped) after
 read_alone before records skipped after none content =
     let steps = steps_of (size_of before) records in
@@ -111,27 +115,34 @@ read_alone before records skipped after none content =
     subst (λ (l : List ℕ). Content true debug_part before (steps ++ raw_steps l) (bytes ++ l) after) (sym none) whole
 
 -- no record is read
-raw_alone : (before : List Step) (records : List SpelledRecord) (skipped after : List ℕ) → records ≡ [] → Content false debug_part before (raw_steps skipped) skipped after
+raw_alone : (before : List Step) (records : List SpelledRecord) (skipped after : List ℕ) → records ≡ []
+    → Content false debug_part before (raw_steps skipped) skipped after
     → Content false debug_part before (steps_of (size_of before) records ++ raw_steps skipped) (bytes_of records ++ skipped) after
 raw_alone before records skipped after none content =
-    subst (λ (l : List SpelledRecord). Content false debug_part before (steps_of (size_of before) l ++ raw_steps skipped) (bytes_of l ++ skipped) after) (sym none) content
+    subst (λ (l : List SpelledRecord). Content false debug_part before (steps_of (size_of before) l ++ raw_steps skipped) (bytes_of l
+    ++ skipped) after) (sym none) content
 
 -- without bytes that are passed over, or without records, the steps are the others
-no_raws : (before : List Step) (records : List SpelledRecord) (skipped : List ℕ) → skipped ≡ [] → whole_fault debug_part (before ++ (steps_of (size_of before) records ++ raw_steps skipped)) ≡ None
+no_raws : (before : List Step) (records : List SpelledRecord) (skipped : List ℕ) → skipped ≡ []
+    → whole_fault debug_part (before ++ (steps_of (size_of before) records ++ raw_steps skipped)) ≡ None
     → whole_fault debug_part (before ++ steps_of (size_of before) records) ≡ None
 no_raws before records skipped none h =
     let steps = steps_of (size_of before) records in
     ap (λ (l : List Step). whole_fault debug_part (before ++ l)) (sym (append-nil steps) ∙ ap (λ (l : List ℕ). steps ++ raw_steps l) (sym none)) ∙ h
 
-no_reads : (before : List Step) (records : List SpelledRecord) (skipped : List ℕ) → records ≡ [] → whole_fault debug_part (before ++ (steps_of (size_of before) records ++ raw_steps skipped)) ≡ None
+no_reads : (before : List Step) (records : List SpelledRecord) (skipped : List ℕ) → records ≡ []
+    → whole_fault debug_part (before ++ (steps_of (size_of before) records ++ raw_steps skipped)) ≡ None
     → whole_fault debug_part (before ++ raw_steps skipped) ≡ None
-no_reads before records skipped none h = ap (λ (l : List SpelledRecord). whole_fault debug_part (before ++ (steps_of (size_of before) l ++ raw_steps skipped))) (sym none) ∙ h
+no_reads before records skipped none h = ap (λ (l : List SpelledRecord). whole_fault debug_part (before
+    ++ (steps_of (size_of before) l ++ raw_steps skipped))) (sym none) ∙ h
 
-debug_content : (reads_debug : Bool) (before : List Step) (records : List SpelledRecord) (skipped after : List ℕ) → MatchBool reads_debug (skipped ≡ []) (records ≡ []) → AreWhole false records after → KeptFrom debug_part (records_of before) records
+debug_content : (reads_debug : Bool) (before : List Step) (records : List SpelledRecord) (skipped after : List ℕ)
+    → MatchBool reads_debug (skipped ≡ []) (records ≡ []) → AreWhole false records after → KeptFrom debug_part (records_of before) records
     → whole_fault debug_part (before ++ (steps_of (size_of before) records ++ raw_steps skipped)) ≡ None
     → Content reads_debug debug_part before (steps_of (size_of before) records ++ raw_steps skipped) (bytes_of records ++ skipped) after
 debug_content true before records skipped after none are own whole =
-    read_alone before records skipped after none (read_content true debug_part before records after refl refl are own (no_raws before records skipped none whole))
+    read_alone before records skipped after none (read_content true debug_part before records after refl refl are own
+    (no_raws before records skipped none whole))
 debug_content false before records skipped after none are own whole =
     raw_alone before records skipped after none (raw_content false debug_part before skipped after refl (no_reads before records skipped none whole))
 
@@ -146,7 +157,8 @@ record Up (f : FileParts) : Type 0 where
 -- the records of the debug part
 debug_records : (f : FileParts) → records_of (debug_steps f) ≡ f.debug
 debug_records f =
-    records-append (steps_of (size_of (up_to_debug f)) f.debug) (raw_steps f.skipped) ∙ (λ i. steps_records (size_of (up_to_debug f)) f.debug i ++ raw_none f.skipped i) ∙ append-nil f.debug
+    records-append (steps_of (size_of (up_to_debug f)) f.debug) (raw_steps f.skipped)
+    ∙ (λ i. steps_records (size_of (up_to_debug f)) f.debug i ++ raw_none f.skipped i) ∙ append-nil f.debug
 
 records_up : (f : FileParts) → Up f
 records_up f =
@@ -160,7 +172,8 @@ records_up f =
     record { sections = b; externals = c; debug = e; loads = g; trailer = l }
 
 -- what the parts are filled with
-fill : (bytes : List ℕ) (reads_debug : Bool) (f : FileParts) (m : Parts) → IsCutInto bytes reads_debug f → HasNames f → States f (indexes_of f) m → IsSound m → HeaderRows f → AreKept f
+fill : (bytes : List ℕ) (reads_debug : Bool) (f : FileParts) (m : Parts) → IsCutInto bytes reads_debug f → HasNames f → States f (indexes_of f) m
+    → IsSound m → HeaderRows f → AreKept f
     → Contents reads_debug parts_in_order (up_to_extension f) (contents_of f) (texts_of f) module_end
 fill bytes reads_debug f m cut names states good rows kept =
     let up = records_up f in
@@ -168,25 +181,31 @@ fill bytes reads_debug f m cut names states good rows kept =
     sym (joined-chained (bytes_of f.externals ∷ debug_bytes f ∷ bytes_of f.loads ∷ bytes_of f.trailer ∷ []) module_end) in
     let after_externals : from_debug f ≡ joined (debug_bytes f ∷ bytes_of f.loads ∷ bytes_of f.trailer ∷ []) ++ module_end =
     sym (joined-chained (debug_bytes f ∷ bytes_of f.loads ∷ bytes_of f.trailer ∷ []) module_end) in
-    let after_debug : from_loads f ≡ joined (bytes_of f.loads ∷ bytes_of f.trailer ∷ []) ++ module_end = sym (joined-chained (bytes_of f.loads ∷ bytes_of f.trailer ∷ []) module_end) in
+    let after_debug : from_loads f ≡ joined (bytes_of f.loads ∷ bytes_of f.trailer ∷ []) ++ module_end =
+    sym (joined-chained (bytes_of f.loads ∷ bytes_of f.trailer ∷ []) module_end) in
     let after_loads : from_trailer f ≡ joined (bytes_of f.trailer ∷ []) ++ module_end = sym (joined-chained (bytes_of f.trailer ∷ []) module_end) in
     let closed : open_kinds (records_of (up_to_loads f)) ≡ [] = ap (λ (l : List SpelledRecord). open_kinds l) up.loads ∙ kept.closed in (
       raw_content reads_debug extension_part (up_to_extension f) f.extension _ refl refl,
       (
         raw_content reads_debug environment_part (up_to_environment f) f.environment _ refl refl,
         (
-          read_content reads_debug section_part (up_to_sections f) f.sections _ refl refl (subst (λ (l : List ℕ). AreWhole false f.sections l) after_sections cut.sections.are_whole)
+          read_content reads_debug section_part (up_to_sections f) f.sections _ refl refl
+              (subst (λ (l : List ℕ). AreWhole false f.sections l) after_sections cut.sections.are_whole)
               (subst (λ (l : List SpelledRecord). KeptFrom section_part l f.sections) (sym up.sections) kept.sections)
-              (section_whole (up_to_externals f) (header_of f) f.sections up.externals rows.silent (ap (list_any d.lacks_base) (sym states.sections) ∙ good.based)),
+              (section_whole (up_to_externals f) (header_of f) f.sections up.externals rows.silent (ap (list_any d.lacks_base) (sym states.sections)
+              ∙ good.based)),
           (
-            read_content reads_debug external_part (up_to_externals f) f.externals _ refl refl (subst (λ (l : List ℕ). AreWhole false f.externals l) after_externals cut.externals.are_whole)
+            read_content reads_debug external_part (up_to_externals f) f.externals _ refl refl
+                (subst (λ (l : List ℕ). AreWhole false f.externals l) after_externals cut.externals.are_whole)
                 (subst (λ (l : List SpelledRecord). KeptFrom external_part l f.externals) (sym up.externals) kept.externals)
                 (external_whole (up_to_debug f) (header_of f) f.sections f.externals up.debug rows.silent cut.sections.own names.values names.valued),
             (
-              debug_content reads_debug (up_to_debug f) f.debug f.skipped _ cut.debug_read (subst (λ (l : List ℕ). AreWhole false f.debug l) after_debug cut.debug.are_whole)
+              debug_content reads_debug (up_to_debug f) f.debug f.skipped _ cut.debug_read
+                  (subst (λ (l : List ℕ). AreWhole false f.debug l) after_debug cut.debug.are_whole)
                   (subst (λ (l : List SpelledRecord). KeptFrom debug_part l f.debug) (sym up.debug) kept.debug) (debug_whole (up_to_loads f) closed),
               (
-                read_content reads_debug data_part (up_to_loads f) f.loads _ refl refl (subst (λ (l : List ℕ). AreWhole false f.loads l) after_loads cut.loads.are_whole)
+                read_content reads_debug data_part (up_to_loads f) f.loads _ refl refl
+                    (subst (λ (l : List ℕ). AreWhole false f.loads l) after_loads cut.loads.are_whole)
                     (subst (λ (l : List SpelledRecord). KeptFrom data_part l f.loads) (sym up.loads) kept.loads) refl,
                 (
                   read_content reads_debug trailer_part (up_to_trailer f) f.trailer _ refl refl cut.trailer.are_whole
@@ -205,7 +224,8 @@ fill bytes reads_debug f m cut names states good rows kept =
 end_whole : IsWholeRecord mode.Body r.ModuleEnd (0xE1 ∷ []) None
 end_whole = (0xE1, 0xE1 ∷ [], [], refl, (refl, refl), refl)
 
-end_step : (reads_debug : Bool) (all : List ℕ) (before : List Step) → Joint all before → (offset : Location) → offset ≡ at_end → location_after before ≡ offset → IsStep reads_debug before (read (size_of before) the_end) []
+end_step : (reads_debug : Bool) (all : List ℕ) (before : List Step) → Joint all before → (offset : Location) → offset ≡ at_end → location_after before
+    ≡ offset → IsStep reads_debug before (read (size_of before) the_end) []
 end_step reads_debug all before at offset is here =
     let there = here ∙ is in
     record {
@@ -221,25 +241,30 @@ record Built (reads_debug : Bool) (f : FileParts) : Type 0 where
   bytes : prefix_bytes (prefix_of f) ≡ bytes_of (header_of f) ++ after_header f
   joint : Joint (offsets_in f.offsets) (up_to_end f)
 
-built : (bytes : List ℕ) (reads_debug : Bool) (f : FileParts) → IsCutInto bytes reads_debug f → HeaderRows f → IsSoundFrom reads_debug [] (steps_of 0 (header_of f)) (bytes_of (header_of f) ++ after_header f)
+built : (bytes : List ℕ) (reads_debug : Bool) (f : FileParts) → IsCutInto bytes reads_debug f → HeaderRows f
+    → IsSoundFrom reads_debug [] (steps_of 0 (header_of f)) (bytes_of (header_of f) ++ after_header f)
     → Contents reads_debug parts_in_order (up_to_extension f) (contents_of f) (texts_of f) module_end → Built reads_debug f
 built bytes reads_debug f cut rows header contents =
     let hs = steps_of 0 (header_of f) in
     let ws = offsets_in f.offsets in
     let size = header_size f (after_header f) cut.header in
     let stand : StandAt ws (size_of hs) (texts_of f) = subst (λ (n : ℕ). StandAt ws n (texts_of f)) (sym size.0) cut.offsets in
-    let parted = walk_contents reads_debug ws parts_in_order ws hs (contents_of f) (texts_of f) module_end (λ at low. refl) stand (omega (arith, size.0, size.1)) contents (header_joint f (after_header f) cut.header rows cut.offsets) in
+    let parted = walk_contents reads_debug ws parts_in_order ws hs (contents_of f) (texts_of f) module_end (λ at low. refl) stand
+    (omega (arith, size.0, size.1)) contents (header_joint f (after_header f) cut.header rows cut.offsets) in
     let before = up_to_end f in
     let it = read (size_of before) the_end in
-    let last : IsSoundFrom reads_debug before (it ∷ []) module_end = sound_step reads_debug before it [] [] (end_step reads_debug ws before parted.joint at_end refl parted.place) tt in
+    let last : IsSoundFrom reads_debug before (it ∷ []) module_end =
+    sound_step reads_debug before it [] [] (end_step reads_debug ws before parted.joint at_end refl parted.place) tt in
     let rest = prefix_bytes (joined (contents_of f)) ++ module_end in
     let after : rest ≡ after_header f = ap (λ l. l ++ module_end) parted.bytes ∙ joined-chained (texts_of f) module_end in
     let parts_sound : IsSoundFrom reads_debug hs (joined (contents_of f) ++ it ∷ []) rest =
-    sound-append reads_debug hs (joined (contents_of f)) (it ∷ []) module_end (subst (λ (l : List ℕ). IsSoundFrom reads_debug hs (joined (contents_of f)) (l ++ module_end)) (sym parted.bytes) parted.sound) last in
+    sound-append reads_debug hs (joined (contents_of f)) (it ∷ []) module_end
+    (subst (λ (l : List ℕ). IsSoundFrom reads_debug hs (joined (contents_of f)) (l ++ module_end)) (sym parted.bytes) parted.sound) last in
     let all_same : prefix_bytes hs ++ rest ≡ bytes_of (header_of f) ++ after_header f = (λ i. steps_bytes 0 (header_of f) i ++ after i) in
     record {
       sound = subst (λ (l : List ℕ). IsSoundFrom reads_debug [] (prefix_of f) l) all_same
-          (sound-append reads_debug [] hs (joined (contents_of f) ++ it ∷ []) rest (subst (λ (l : List ℕ). IsSoundFrom reads_debug [] hs l) (sym all_same) header) parts_sound);
+          (sound-append reads_debug [] hs (joined (contents_of f) ++ it ∷ []) rest
+          (subst (λ (l : List ℕ). IsSoundFrom reads_debug [] hs l) (sym all_same) header) parts_sound);
       bytes = bytes-append hs (joined (contents_of f) ++ it ∷ []) ∙ ap (λ l. prefix_bytes hs ++ l) (bytes-append (joined (contents_of f)) (it ∷ [])) ∙ all_same;
       joint = parted.joint;
     }
@@ -258,15 +283,18 @@ in_a_row h s e d l t x =
 prefix_records : (f : FileParts) → records_of (prefix_of f) ≡ all_records (header_of f) f.sections f.externals f.debug f.loads f.trailer the_end
 prefix_records f =
     let it = read (size_of (up_to_end f)) the_end in
-    let parts : records_of (joined (contents_of f)) ≡ f.sections ++ (f.externals ++ (f.debug ++ (f.loads ++ (f.trailer ++ [])))) = joined_records (contents_of f)
-    ∙ (λ i. raw_none f.extension i ++ (raw_none f.environment i ++ (steps_records (size_of (up_to_sections f)) f.sections i ++ (steps_records (size_of (up_to_externals f)) f.externals i ++ (debug_records f i
+    let parts : records_of (joined (contents_of f)) ≡ f.sections ++ (f.externals ++ (f.debug ++ (f.loads ++ (f.trailer ++ [])))) =
+    joined_records (contents_of f)
+    ∙ (λ i. raw_none f.extension i ++ (raw_none f.environment i
+    ++ (steps_records (size_of (up_to_sections f)) f.sections i ++ (steps_records (size_of (up_to_externals f)) f.externals i ++ (debug_records f i
     ++ (steps_records (size_of (up_to_loads f)) f.loads i ++ (steps_records (size_of (up_to_trailer f)) f.trailer i ++ []))))))) in
     records-append (steps_of 0 (header_of f)) (joined (contents_of f) ++ it ∷ [])
     ∙ ap (λ l. records_of (steps_of 0 (header_of f)) ++ l) (records-append (joined (contents_of f)) (it ∷ []))
     ∙ (λ i. steps_records 0 (header_of f) i ++ (parts i ++ the_end ∷ []))
     ∙ in_a_row (header_of f) f.sections f.externals f.debug f.loads f.trailer (the_end ∷ [])
 
-stated : (bytes : List ℕ) (reads_debug : Bool) (f : FileParts) (m : Parts) → IsCutInto bytes reads_debug f → States f (indexes_of f) m → HeaderRows f → Built reads_debug f → IsStatedBy (prefix_of f) m
+stated : (bytes : List ℕ) (reads_debug : Bool) (f : FileParts) (m : Parts) → IsCutInto bytes reads_debug f → States f (indexes_of f) m → HeaderRows f
+    → Built reads_debug f → IsStatedBy (prefix_of f) m
 stated bytes reads_debug f m cut states rows is =
     let h = header_of f in
     let s = f.sections in
@@ -276,10 +304,20 @@ stated bytes reads_debug f m cut states rows is =
     let t = f.trailer in
     let prefix = prefix_of f in
     let same = prefix_records f in
-    let are : AreSorted h s e g l t the_end = record { header = rows.silent; sections = cut.sections.own; externals = cut.externals.own; debug = cut.debug.own; loads = cut.loads.own; trailer = cut.trailer.own; end_ = refl } in
+    let are : AreSorted h s e g l t the_end = record {
+      header = rows.silent;
+      sections = cut.sections.own;
+      externals = cut.externals.own;
+      debug =
+          cut.debug.own;
+      loads = cut.loads.own;
+      trailer = cut.trailer.own;
+      end_ = refl;
+    } in
     let ix : indexes_in (records_of prefix) ≡ indexes_of f = ap (λ k. indexes_in k) same ∙ same_indexes h s e g l t the_end are in
     let size = header_size f (after_header f) cut.header in
-    let offsets : offsets_of prefix ≡ offsets_in f.offsets = ap (λ (k : List Step). offsets_of k) (sym (append_assoc (steps_of 0 h) (joined (contents_of f)) (read (size_of (up_to_end f)) the_end ∷ [])))
+    let offsets : offsets_of prefix ≡ offsets_in f.offsets = ap (λ (k : List Step). offsets_of k)
+    (sym (append_assoc (steps_of 0 h) (joined (contents_of f)) (read (size_of (up_to_end f)) the_end ∷ [])))
     ∙ offsets-append (up_to_end f) (read (size_of (up_to_end f)) the_end ∷ []) ∙ append-nil (offsets_of (up_to_end f)) ∙ is.joint.offsets in
     record {
       begin = f.begin;
@@ -288,8 +326,10 @@ stated bytes reads_debug f m cut states rows is =
       records = same;
       begins = states.begin;
       describes = states.descriptor;
-      extension = states.extension ∙ extension_between f (offsets_in f.offsets) (prefix_bytes prefix) is.bytes size.1 cut.offsets ∙ ap (λ ws. bytes_between ws (prefix_bytes prefix)) (sym offsets);
-      environment = states.environment ∙ environment_between f (offsets_in f.offsets) (prefix_bytes prefix) is.bytes size.1 cut.offsets ∙ ap (λ ws. bytes_between (drop 1 ws) (prefix_bytes prefix)) (sym offsets);
+      extension = states.extension ∙ extension_between f (offsets_in f.offsets) (prefix_bytes prefix) is.bytes size.1 cut.offsets
+          ∙ ap (λ ws. bytes_between ws (prefix_bytes prefix)) (sym offsets);
+      environment = states.environment ∙ environment_between f (offsets_in f.offsets) (prefix_bytes prefix) is.bytes size.1 cut.offsets
+          ∙ ap (λ ws. bytes_between (drop 1 ws) (prefix_bytes prefix)) (sym offsets);
       sections = states.sections ∙ sym (ap (λ k. sections_of k) same ∙ same_sections h s e g l t the_end are);
       publics = states.publics ∙ sym ((λ i. publics_of (ix i) (same i)) ∙ same_publics (indexes_of f) h s e g l t the_end are);
       references = states.references ∙ sym (ap (λ k. references_of k) same ∙ same_references h s e g l t the_end are);
@@ -305,10 +345,12 @@ within bytes h = take_all file_limit bytes h
 
 -- the prefix of a file, its bytes, and what it states
 abbrev IsPrefixOf : Bool → List ℕ → Parts → Type 0
-IsPrefixOf reads_debug bytes m = (prefix : List Step) × IsSoundFrom reads_debug [] prefix bytes × (is_ended prefix ≡ true) × (size_of prefix ≡ length bytes) × IsStatedBy prefix m
+IsPrefixOf reads_debug bytes m = (prefix : List Step) × IsSoundFrom reads_debug [] prefix bytes × (is_ended prefix ≡ true)
+    × (size_of prefix ≡ length bytes) × IsStatedBy prefix m
 
 -- a file of a valid module
-file_prefix : (bytes : List ℕ) (reads_debug : Bool) (f : FileParts) (m : Parts) → IsCutInto bytes reads_debug f → HasNames f → States f (indexes_of f) m → IsSound m → IsPrefixOf reads_debug bytes m
+file_prefix : (bytes : List ℕ) (reads_debug : Bool) (f : FileParts) (m : Parts) → IsCutInto bytes reads_debug f → HasNames f
+    → States f (indexes_of f) m → IsSound m → IsPrefixOf reads_debug bytes m
 file_prefix bytes reads_debug f m cut names states good =
     let rows = header_rows f (after_header f) cut.header in
     let header = header_prefix reads_debug f (after_header f) cut.header rows (no_bad_descriptor f m good rows.describes states.descriptor) cut.offsets in
@@ -317,7 +359,8 @@ file_prefix bytes reads_debug f m cut names states good =
     let it = read (size_of (up_to_end f)) the_end in (
       prefix_of f,
       subst (λ (l : List ℕ). IsSoundFrom reads_debug [] (prefix_of f) l) (sym cut.all) is.sound,
-      ap (λ (l : List Step). is_ended l) (sym (append_assoc (steps_of 0 (header_of f)) (joined (contents_of f)) (it ∷ []))) ∙ ended-read (up_to_end f) (size_of (up_to_end f)) the_end,
+      ap (λ (l : List Step). is_ended l) (sym (append_assoc (steps_of 0 (header_of f)) (joined (contents_of f)) (it ∷ [])))
+          ∙ ended-read (up_to_end f) (size_of (up_to_end f)) the_end,
       ap length (is.bytes ∙ sym cut.all),
       stated bytes reads_debug f m cut states rows is,
     )

@@ -1,5 +1,6 @@
 -- The records of a file as steps, and how a sound prefix goes on with one.
-use Rattle.std.proofs.Common.{◌≡◌, ◌⊎◌, ℕ, ◌+◌, ◌-◌, ◌<◌, ◌≤◌, Bool, true, false, cond, not, ◌==◌, ◌&&◌, nat_lt, nat_le, List, [], ◌∷◌, ◌++◌, length, map, drop, Option, Some, None, refl, sym, ap, subst, ◌∙◌, inl, inr, arith, append_assoc, append-nil}
+use Rattle.std.proofs.Common.{◌≡◌, ◌⊎◌, ℕ, ◌+◌, ◌-◌, ◌<◌, ◌≤◌, Bool, true, false, cond, not, ◌==◌, ◌&&◌, nat_lt, nat_le, List, [], ◌∷◌, ◌++◌, length}
+use Rattle.std.proofs.Common.{map, drop, Option, Some, None, refl, sym, ap, subst, ◌∙◌, inl, inr, arith, append_assoc, append-nil}
 use Rattle.std.specs.List.{AllByRecursion}
 use Rattle.std.specs.Option.{option_or}
 use Rattle.std.proofs.lemmas.List.{take_at, drop_at}
@@ -10,7 +11,8 @@ use Rattle.mufom_records.specs.Reading.{record_at}
 use Rattle.mufom_records.proofs.RecordLaws.{record_at-only}
 use Rattle.mufom_module.specs.SpelledRecords.{SpelledRecord, bytes_of}
 use Rattle.mufom_module.specs.RecordParts.{Part}
-use Rattle.mufom_read.specs.Prefixes.{Step, raw, read, step_bytes, prefix_bytes, size_of, records_of, offsets_of, Extent, Location, first_present, part_among, parts_in_order, location_after, as_step, step_at, next_step, is_ended}
+use Rattle.mufom_read.specs.Prefixes.{Step, raw, read, step_bytes, prefix_bytes, size_of, records_of, offsets_of, Extent, Location, first_present}
+use Rattle.mufom_read.specs.Prefixes.{part_among, parts_in_order, location_after, as_step, step_at, next_step, is_ended}
 use Rattle.mufom_read.specs.Faults.{ended_fault, ended_part_fault, step_fault}
 use Rattle.mufom_read.specs.Judging.{IsSoundFrom}
 use Rattle.mufom_read.proofs.ended.Walk.{the_record, taken}
@@ -51,7 +53,8 @@ pub record IsStep (reads_debug : Bool) (before : List Step) (step : Step) (after
   pub own : step_fault before (taken step (length (step_bytes step))) ≡ None
   pub next : next_step reads_debug before (step_bytes step ++ after) ≡ taken step (length (step_bytes step))
 
-pub sound_step : (reads_debug : Bool) (before : List Step) (step : Step) (steps : List Step) (after : List ℕ) → IsStep reads_debug before step after → IsSoundFrom reads_debug (before ++ step ∷ []) steps after
+pub sound_step : (reads_debug : Bool) (before : List Step) (step : Step) (steps : List Step) (after : List ℕ) → IsStep reads_debug before step after
+    → IsSoundFrom reads_debug (before ++ step ∷ []) steps after
     → IsSoundFrom reads_debug before (step ∷ steps) (step_bytes step ++ after)
 sound_step reads_debug before step steps after is later = (
   is.unended,
@@ -60,12 +63,14 @@ sound_step reads_debug before step steps after is later = (
   subst (λ (l : List ℕ). IsSoundFrom reads_debug (before ++ step ∷ []) steps l) (sym (drop_at (step_bytes step) after (length (step_bytes step)) refl)) later,
 )
 
-pub sound-append : (reads_debug : Bool) (before a b : List Step) (rest : List ℕ) → IsSoundFrom reads_debug before a (prefix_bytes a ++ rest) → IsSoundFrom reads_debug (before ++ a) b rest
+pub sound-append : (reads_debug : Bool) (before a b : List Step) (rest : List ℕ) → IsSoundFrom reads_debug before a (prefix_bytes a ++ rest)
+    → IsSoundFrom reads_debug (before ++ a) b rest
     → IsSoundFrom reads_debug before (a ++ b) (prefix_bytes a ++ rest)
 sound-append reads_debug before [] b rest x y = subst (λ (l : List Step). IsSoundFrom reads_debug l b rest) (append-nil before) y
 sound-append reads_debug before (s ∷ a) b rest x y =
     let n = length (step_bytes s) in
-    let split : drop n (prefix_bytes (s ∷ a) ++ rest) ≡ prefix_bytes a ++ rest = ap (drop n) (append_assoc (step_bytes s) (prefix_bytes a) rest) ∙ drop_at (step_bytes s) (prefix_bytes a ++ rest) n refl in (
+    let split : drop n (prefix_bytes (s ∷ a) ++ rest) ≡ prefix_bytes a ++ rest = ap (drop n) (append_assoc (step_bytes s) (prefix_bytes a) rest)
+    ∙ drop_at (step_bytes s) (prefix_bytes a ++ rest) n refl in (
       x.0,
       x.1,
       x.2,
@@ -80,7 +85,8 @@ pub next_read : (reads_debug : Bool) (before : List Step) (offset : Location) (m
     → IsWholeRecord m p.row p.bytes (first_of after None) → next_step reads_debug before (p.bytes ++ after) ≡ taken (read (size_of before) p) (length p.bytes)
 next_read reads_debug before offset m p after here as_it is =
     let rest = p.bytes ++ after in
-    ap (λ (q : Location). step_at reads_debug before q rest) here ∙ as_it ∙ ap (as_step (size_of before) rest) (record_at-only m rest p.row p.bytes after is refl)
+    ap (λ (q : Location). step_at reads_debug before q rest) here ∙ as_it
+    ∙ ap (as_step (size_of before) rest) (record_at-only m rest p.row p.bytes after is refl)
     ∙ ap (λ l. taken (read (size_of before) (the_record p.row l)) (length p.bytes)) (take_at p.bytes after (length p.bytes) refl)
 
 -- ---- no part before the first offset
@@ -104,8 +110,10 @@ pub none_among : (parts : List Part) (offsets : List ℕ) (at n : ℕ) → Beyon
 none_among [] offsets at n beyond low = refl
 none_among (part ∷ parts) [] at n beyond low = refl
 none_among (part ∷ parts) (w ∷ offsets) at n beyond low =
-    ap (λ b. cond b (Some (record { part = part; from = w; to = first_present offsets })) (part_among parts offsets at)) (before_all w at (first_present offsets) n beyond.0 low)
+    ap (λ b. cond b (Some (record { part = part; from = w; to = first_present offsets })) (part_among parts offsets at))
+    (before_all w at (first_present offsets) n beyond.0 low)
     ∙ none_among parts offsets at n beyond.1 low
 
 pub none_ended : (before : List Step) (n : ℕ) → Beyond n (offsets_of before) → size_of before ≤ n → 1 ≤ n → ended_part_fault before ≡ None
-none_ended before n beyond low some = ap (λ (o : Option Extent). ended_fault before o) (none_among parts_in_order (offsets_of before) (size_of before - 1) n beyond (omega arith))
+none_ended before n beyond low some = ap (λ (o : Option Extent). ended_fault before o)
+    (none_among parts_in_order (offsets_of before) (size_of before - 1) n beyond (omega arith))

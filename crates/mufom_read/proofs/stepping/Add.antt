@@ -1,5 +1,7 @@
 -- A record without a fault may be added after a prefix.
-use Rattle.std.proofs.Common.{◌≡◌, ℕ, suc, ◌+◌, ◌≤◌, ◌==◌, ◌&&◌, Bool, true, false, not, true≢false, nat_lt, List, [], ◌∷◌, ◌++◌, length, filter_map, Option, Some, None, is_some, cond, refl, sym, ap, subst, ◌∙◌, arith, append-nil, le-ltb, ne_eqb, ltb-false, ◌⊎◌, inl, inr}
+use Rattle.std.proofs.Common.{◌≡◌, ℕ, suc, ◌+◌, ◌≤◌, ◌==◌, ◌&&◌, Bool, true, false, not, true≢false, nat_lt, List, [], ◌∷◌, ◌++◌, length, filter_map}
+use Rattle.std.proofs.Common.{Option, Some, None, is_some, cond, refl, sym, ap, subst, ◌∙◌, arith, append-nil, le-ltb, ne_eqb, ltb-false, ◌⊎◌, inl}
+use Rattle.std.proofs.Common.{inr}
 use Rattle.std.specs.List.{list_any, cons_option}
 use Rattle.std.specs.Option.{option_or}
 use Rattle.std.proofs.lemmas.Bool.{or_parts, cases_eq}
@@ -14,7 +16,8 @@ use Rattle.mufom_read.specs.declared.prefix.Prefix.{Prefix}
 use Rattle.mufom_read.specs.declared.prefix.Location as code
 use Rattle.mufom_read.specs.declared.prefix.Location.TheVariants as offset
 use Rattle.mufom_read.specs.Prefixes.{Step, Extent, records_of, offset_records_of, offsets_of, record_of}
-use Rattle.mufom_read.specs.Faults.{Fault, fault_if, fault_for, OpenBlock, open_blocks, ends_badly, is_too_deep, misplaces_counter, record_fault, part_record_fault, rule_broken, has_bad_alignment, is_out_of_order}
+use Rattle.mufom_read.specs.Faults.{Fault, fault_if, fault_for, OpenBlock, open_blocks, ends_badly, is_too_deep, misplaces_counter, record_fault}
+use Rattle.mufom_read.specs.Faults.{part_record_fault, rule_broken, has_bad_alignment, is_out_of_order}
 use Rattle.mufom_read.specs.PartsOfCode.{as_extent}
 use Rattle.mufom_read.specs.Kept.{as_record, tables_of, is_new, statements, alignment_stated, size_stated, base_stated, value_stated, weakness_stated, HasRoom}
 use Rattle.mufom_read.specs.DebugSoFar.{HasKind}
@@ -45,11 +48,13 @@ no_first false x o e = (refl, e)
 -- ---- the fault of a record in a part
 
 -- where it ends within the part and may stand in it, its fault is that of the rules
-pub part-clean : (prefix : List Step) (e : Extent) (start : ℕ) (p : SpelledRecord) (o : Option Fault) → start + length p.bytes ≤ e.to → stands_in e.part p.row ≡ true
+pub part-clean : (prefix : List Step) (e : Extent) (start : ℕ) (p : SpelledRecord) (o : Option Fault) → start + length p.bytes ≤ e.to
+    → stands_in e.part p.row ≡ true
     → o ≡ fault_for start (rule_broken prefix p) → o ≡ part_record_fault prefix e start p
 part-clean prefix e start p o within stands same =
     let after = fault_for start (rule_broken prefix p) in
-    same ∙ sym (ap (λ b. option_or (fault_if b start why.PartGap) (option_or (fault_if (not (stands_in e.part p.row)) start why.WrongPart) after)) (le-ltb _ _ within)
+    same ∙ sym (ap (λ b. option_or (fault_if b start why.PartGap) (option_or (fault_if (not (stands_in e.part p.row)) start why.WrongPart) after))
+    (le-ltb _ _ within)
     ∙ ap (λ b. option_or (fault_if (not b) start why.WrongPart) after) stands)
 
 -- ---- a record of a part has no offset
@@ -102,7 +107,8 @@ from_next v w (u ∷ os) is here = (is.0, from_next v w os is.1 here)
 ordered_next : (os : List ℕ) (w : ℕ) → ((w ≡ 0) ⊎ (list_any (λ e. nat_lt w e) os ≡ false)) → AreOrdered os → AreOrdered (os ++ w ∷ [])
 ordered_next [] w test is = (tt, tt)
 ordered_next (v ∷ os) w (inl e) is = (from_next v w os is.0 (inl e), ordered_next os w (inl e) is.1)
-ordered_next (v ∷ os) w (inr test) is = let both = or_parts _ _ test in (from_next v w os is.0 (inr (ltb-false w v both.0)), ordered_next os w (inr both.1) is.1)
+ordered_next (v ∷ os) w (inr test) is = let both = or_parts _ _ test in
+    (from_next v w os is.0 (inr (ltb-false w v both.0)), ordered_next os w (inr both.1) is.1)
 
 -- ---- records that may be added
 
@@ -122,16 +128,30 @@ no_blocks [] row stands = cc
 no_blocks (x ∷ blocks) r.ModuleEnd stands = refl
 no_blocks (x ∷ blocks) row stands = cc
 
-header_row : (prefix : List Step) (k start : ℕ) (bytes : List ℕ) (row : Record) → IsHeaderRow row → record_fault prefix (as_location (offset.Header k)) start (record { row = row; bytes = bytes }) ≡ None → IsAddable prefix row
+header_row : (prefix : List Step) (k start : ℕ) (bytes : List ℕ) (row : Record) → IsHeaderRow row
+    → record_fault prefix (as_location (offset.Header k)) start (record { row = row; bytes = bytes }) ≡ None → IsAddable prefix row
 header_row prefix k start bytes (r.ModuleBegin a b) is clean =
-    record { new = refl; kind = tt; nested = no_end (open_blocks (offset_records_of prefix)) (r.ModuleBegin a b) is; ordered = same_order (offsets_of prefix) None refl }
+    record {
+      new = refl;
+      kind = tt;
+      nested = no_end (open_blocks (offset_records_of prefix)) (r.ModuleBegin a b) is;
+      ordered =
+          same_order (offsets_of prefix) None refl;
+    }
 header_row prefix k start bytes (r.Descriptor a b c) is clean =
-    record { new = refl; kind = tt; nested = no_end (open_blocks (offset_records_of prefix)) (r.Descriptor a b c) is; ordered = same_order (offsets_of prefix) None refl }
+    record {
+      new = refl;
+      kind = tt;
+      nested = no_end (open_blocks (offset_records_of prefix)) (r.Descriptor a b c) is;
+      ordered =
+          same_order (offsets_of prefix) None refl;
+    }
 header_row prefix k start bytes (r.Offset n w) is clean = record {
   new = refl;
   kind = tt;
   nested = no_end (open_blocks (offset_records_of prefix)) (r.Offset n w) is;
-  ordered = ordered_next (offsets_of prefix) w (in_order w (offsets_of prefix) (or_parts _ _ (no_fault (is_out_of_order (offsets_of prefix) w) start why.OffsetOrder (none_of _ _ clean).0)).0);
+  ordered = ordered_next (offsets_of prefix) w (in_order w (offsets_of prefix)
+      (or_parts _ _ (no_fault (is_out_of_order (offsets_of prefix) w) start why.OffsetOrder (none_of _ _ clean).0)).0);
 }
 header_row prefix k start bytes row is clean = absurd is
 
@@ -160,7 +180,8 @@ both_new false false e h = refl
 both_new false true e h = absurd (true≢false h)
 both_new true b e h = absurd (true≢false e)
 
-part_row : (prefix : List Step) (e : Extent) (start : ℕ) (p : SpelledRecord) → HasKind p.row → part_record_fault prefix e start p ≡ None → IsAddable prefix p.row
+part_row : (prefix : List Step) (e : Extent) (start : ℕ) (p : SpelledRecord) → HasKind p.row → part_record_fault prefix e start p ≡ None
+    → IsAddable prefix p.row
 part_row prefix e start p kind clean =
     let after = none_of _ _ clean in
     let more = none_of _ _ after.1 in
@@ -172,7 +193,8 @@ part_row prefix e start p kind clean =
     let fourth = no_first (has_bad_alignment p.row) _ _ third.1 in
     let fifth = no_first (has_no_section (records_of prefix) p.row) _ _ fourth.1 in
     let sixth = no_first (misplaces_counter (records_of prefix) p) _ _ fifth.1 in
-    let seventh = no_first (ends_badly (open_blocks (offset_records_of prefix)) p.row) why.BlockNesting (cond (is_too_deep (open_blocks (offset_records_of prefix)) p.row) (Some why.Depth) None) sixth.1 in
+    let seventh = no_first (ends_badly (open_blocks (offset_records_of prefix)) p.row) why.BlockNesting
+    (cond (is_too_deep (open_blocks (offset_records_of prefix)) p.row) (Some why.Depth) None) sixth.1 in
     record {
       new = both_new _ _ (declares (records_of prefix) p.row ∙ first.0) (states (records_of prefix) p.row ∙ third.0);
       kind = kind;
@@ -204,13 +226,15 @@ part_follows prefix e start p clean =
     record { new = first.0; known = second.0; once = third.0; placed = fifth.0 }
 
 -- a record at its place that has no fault keeps to the rules after those before it
-pub follows-at : (prefix : List Step) (at : code.Location) (start : ℕ) (p : SpelledRecord) → IsPlacedWell at p.row → record_fault prefix (as_location at) start p ≡ None → Follows (records_of prefix) p
+pub follows-at : (prefix : List Step) (at : code.Location) (start : ℕ) (p : SpelledRecord) → IsPlacedWell at p.row
+    → record_fault prefix (as_location at) start p ≡ None → Follows (records_of prefix) p
 follows-at prefix (offset.Header k) start p well clean = header_follows (records_of prefix) p.row p.bytes well.0
 follows-at prefix (offset.Part e) start p well clean = part_follows prefix (as_extent e) start p clean
 follows-at prefix offset.End start p well clean = end_follows (records_of prefix) p.row p.bytes (not_not _ (no_fault _ _ _ clean))
 
 -- a record at its place that has no fault may be added
-pub addable : (prefix : List Step) (at : code.Location) (start : ℕ) (p : SpelledRecord) → IsPlacedWell at p.row → record_fault prefix (as_location at) start p ≡ None → IsAddable prefix p.row
+pub addable : (prefix : List Step) (at : code.Location) (start : ℕ) (p : SpelledRecord) → IsPlacedWell at p.row
+    → record_fault prefix (as_location at) start p ≡ None → IsAddable prefix p.row
 addable prefix (offset.Header k) start p well clean = header_row prefix k start p.bytes p.row well.0 clean
 addable prefix (offset.Part e) start p well clean = part_row prefix (as_extent e) start p well clean
 addable prefix offset.End start p well clean = end_row prefix p.row (not_not _ (no_fault _ _ _ clean))

@@ -1,9 +1,12 @@
 -- The part in which the next byte stands goes on up to its end.
-use Rattle.std.proofs.Common.{◌≡◌, ℕ, zero, suc, ◌+◌, ◌-◌, ◌<◌, ◌≤◌, ◌==◌, ◌&&◌, Bool, true, false, not, true≢false, nat_lt, nat_le, List, [], ◌∷◌, ◌++◌, length, Option, Some, None, is_some, cond, refl, sym, ap, subst, ◌∙◌, arith, length-append, append-nil, ltb-true, ltb-false, leb-true, lt-ltb, le-ltb, le-leb, ne_eqb, ◌⊎◌, inl, inr}
+use Rattle.std.proofs.Common.{◌≡◌, ℕ, zero, suc, ◌+◌, ◌-◌, ◌<◌, ◌≤◌, ◌==◌, ◌&&◌, Bool, true, false, not, true≢false, nat_lt, nat_le, List, [], ◌∷◌}
+use Rattle.std.proofs.Common.{◌++◌, length, Option, Some, None, is_some, cond, refl, sym, ap, subst, ◌∙◌, arith, length-append, append-nil, ltb-true}
+use Rattle.std.proofs.Common.{ltb-false, leb-true, lt-ltb, le-ltb, le-leb, ne_eqb, ◌⊎◌, inl, inr}
 use Rattle.std.specs.List.{cons_option}
 use Rattle.std.proofs.lemmas.Bool.{and_parts}
 use Rattle.mufom_module.specs.RecordParts.{Part}
-use Rattle.mufom_read.specs.Prefixes.{Step, size_of, offsets_of, Extent, in_header, in_part, first_present, part_among, parts_in_order, part_at, location_by, location_after}
+use Rattle.mufom_read.specs.Prefixes.{Step, size_of, offsets_of, Extent, in_header, in_part, first_present, part_among, parts_in_order, part_at}
+use Rattle.mufom_read.specs.Prefixes.{location_by, location_after}
 use Rattle.mufom_read.specs.Faults.{whole_fault, ended_fault, ended_part_fault}
 use Rattle.mufom_read.specs.PrefixOfCode.{AreFrom, AreOrdered, next_location, is_inside}
 
@@ -26,7 +29,8 @@ among-within (part ∷ parts) (w ∷ os) at e found = by_case _ refl found (amon
   here : Extent
   here = record { part = part; from = w; to = first_present os }
 
-  by_case : (test : Bool) → test ≡ (not (w == 0) && (nat_le w at && nat_lt at (first_present os))) → cond test (Some here) (part_among parts os at) ≡ Some e → (part_among parts os at ≡ Some e → at < e.to) → at < e.to
+  by_case : (test : Bool) → test ≡ (not (w == 0) && (nat_le w at && nat_lt at (first_present os))) → cond test (Some here) (part_among parts os at)
+      ≡ Some e → (part_among parts os at ≡ Some e → at < e.to) → at < e.to
   by_case false is found after = after found
   by_case true is found after = subst (λ n. at < n) (ap the_end found) (ltb-true at (first_present os) (and_parts _ _ (and_parts _ _ (sym is)).1).1)
 
@@ -43,7 +47,8 @@ among_from (part ∷ parts) (v ∷ os) w at e is found = by_case _ refl found (�
   by_first (inl none) some = absurd (true≢false (sym some ∙ ap (λ n. not (n == 0)) none))
   by_first (inr from) some = from
 
-  by_case : (test : Bool) → test ≡ (not (v == 0) && (nat_le v at && nat_lt at (first_present os))) → cond test (Some here) (part_among parts os at) ≡ Some e → (part_among parts os at ≡ Some e → (w ≤ at) × (w ≤ e.from)) → (w ≤ at) × (w ≤ e.from)
+  by_case : (test : Bool) → test ≡ (not (v == 0) && (nat_le v at && nat_lt at (first_present os))) → cond test (Some here) (part_among parts os at)
+      ≡ Some e → (part_among parts os at ≡ Some e → (w ≤ at) × (w ≤ e.from)) → (w ≤ at) × (w ≤ e.from)
   by_case false same more after = after more
   by_case true same more after =
       let both = and_parts _ _ (sym same) in
@@ -56,7 +61,8 @@ stands : (w at end : ℕ) → not (w == 0) ≡ true → w ≤ at → at < end �
 stands w at end some low high = sym (ap (λ b. b && (nat_le w at && nat_lt at end)) some ∙ ap (λ b. b && nat_lt at end) (le-leb w at low) ∙ lt-ltb at end high)
 
 -- a byte after another one of a part, before the part's end, stands in it
-pub among-stays : (parts : List Part) (os : List ℕ) (at more : ℕ) (e : Extent) → AreOrdered os → part_among parts os at ≡ Some e → at ≤ more → more < e.to → part_among parts os more ≡ Some e
+pub among-stays : (parts : List Part) (os : List ℕ) (at more : ℕ) (e : Extent) → AreOrdered os → part_among parts os at ≡ Some e → at ≤ more
+    → more < e.to → part_among parts os more ≡ Some e
 among-stays [] os at more e is found low high = found
 among-stays (part ∷ parts) [] at more e is found low high = found
 among-stays (part ∷ parts) (w ∷ os) at more e is found low high =
@@ -64,8 +70,10 @@ among-stays (part ∷ parts) (w ∷ os) at more e is found low high =
       here : Extent
       here = record { part = part; from = w; to = first_present os }
 
-      by_case : (t u : Bool) → t ≡ (not (w == 0) && (nat_le w at && nat_lt at (first_present os))) → u ≡ (not (w == 0) && (nat_le w more && nat_lt more (first_present os)))
-          → cond t (Some here) (part_among parts os at) ≡ Some e → (part_among parts os at ≡ Some e → part_among parts os more ≡ Some e) → (part_among parts os at ≡ Some e → w ≤ at)
+      by_case : (t u : Bool) → t ≡ (not (w == 0) && (nat_le w at && nat_lt at (first_present os))) → u
+          ≡ (not (w == 0) && (nat_le w more && nat_lt more (first_present os)))
+          → cond t (Some here) (part_among parts os at) ≡ Some e → (part_among parts os at ≡ Some e → part_among parts os more ≡ Some e)
+          → (part_among parts os at ≡ Some e → w ≤ at)
           → cond u (Some here) (part_among parts os more) ≡ Some e
       by_case true true s t f after from = f
       by_case true false s t f after from =
@@ -95,7 +103,8 @@ first_before (part ∷ parts) (suc w ∷ os) at e is found = by_case _ found (λ
   by_case false f after = after f
 
 -- a byte before another one of a part, from the part's begin on, stands in it
-among-back : (parts : List Part) (os : List ℕ) (at less : ℕ) (e : Extent) → AreOrdered os → part_among parts os at ≡ Some e → e.from ≤ less → less ≤ at → part_among parts os less ≡ Some e
+among-back : (parts : List Part) (os : List ℕ) (at less : ℕ) (e : Extent) → AreOrdered os → part_among parts os at ≡ Some e → e.from ≤ less
+    → less ≤ at → part_among parts os less ≡ Some e
 among-back [] os at less e is found low high = found
 among-back (part ∷ parts) [] at less e is found low high = found
 among-back (part ∷ parts) (w ∷ os) at less e is found low high =
@@ -103,8 +112,10 @@ among-back (part ∷ parts) (w ∷ os) at less e is found low high =
       here : Extent
       here = record { part = part; from = w; to = first_present os }
 
-      by_case : (t u : Bool) → t ≡ (not (w == 0) && (nat_le w at && nat_lt at (first_present os))) → u ≡ (not (w == 0) && (nat_le w less && nat_lt less (first_present os)))
-          → cond t (Some here) (part_among parts os at) ≡ Some e → (part_among parts os at ≡ Some e → part_among parts os less ≡ Some e) → (part_among parts os at ≡ Some e → first_present os ≤ e.from)
+      by_case : (t u : Bool) → t ≡ (not (w == 0) && (nat_le w at && nat_lt at (first_present os))) → u
+          ≡ (not (w == 0) && (nat_le w less && nat_lt less (first_present os)))
+          → cond t (Some here) (part_among parts os at) ≡ Some e → (part_among parts os at ≡ Some e → part_among parts os less ≡ Some e)
+          → (part_among parts os at ≡ Some e → first_present os ≤ e.from)
           → cond u (Some here) (part_among parts os less) ≡ Some e
       by_case true true s t f after first = f
       by_case true false s t f after first =
@@ -128,7 +139,8 @@ later_count n = by_case (nat_lt n 9) refl where
   by_case false e = let many : 9 ≤ n = ltb-false n 9 e in le-ltb (n + 1) 10 (omega (arith, many))
 
 -- Where the next byte stands after more steps: one of the header, or some that the offsets stay after.
-pub location-moves : (prefix more : List Step) → (length prefix < 10 → length more ≡ 1) → (10 ≤ length prefix → offsets_of (prefix ++ more) ≡ offsets_of prefix) → AreOrdered (offsets_of prefix) → size_of prefix ≤ size_of (prefix ++ more)
+pub location-moves : (prefix more : List Step) → (length prefix < 10 → length more ≡ 1)
+    → (10 ≤ length prefix → offsets_of (prefix ++ more) ≡ offsets_of prefix) → AreOrdered (offsets_of prefix) → size_of prefix ≤ size_of (prefix ++ more)
     → location_after (prefix ++ more) ≡ next_location (location_after prefix) (offsets_of (prefix ++ more)) (size_of (prefix ++ more))
 location-moves prefix more one same ordered grows = by_header (nat_lt (length prefix) 10) refl where
   now : List Step
@@ -145,7 +157,8 @@ location-moves prefix more one same ordered grows = by_header (nat_lt (length pr
       ap (λ (os : List ℕ). location_by (part_among parts_in_order os (size_of now))) (same many)
       ∙ ap location_by (among-stays parts_in_order (offsets_of prefix) (size_of prefix) (size_of now) e ordered found grows under)
 
-  by_part : (o : Option Extent) → part_at prefix (size_of prefix) ≡ o → 10 ≤ length prefix → location_by (part_at now (size_of now)) ≡ next_location (location_by o) (offsets_of now) (size_of now)
+  by_part : (o : Option Extent) → part_at prefix (size_of prefix) ≡ o → 10 ≤ length prefix → location_by (part_at now (size_of now))
+      ≡ next_location (location_by o) (offsets_of now) (size_of now)
   by_part None found many = refl
   by_part (Some e) found many = in_part_now (nat_lt (size_of now) e.to) e refl found many
 
@@ -166,19 +179,23 @@ location-moves prefix more one same ordered grows = by_header (nat_lt (length pr
 -- ---- inside a part
 
 -- no part ends before a byte that stands in the part of the byte before it
-pub inside-whole : (prefix : List Step) → AreOrdered (offsets_of prefix) → is_inside (location_after prefix) (size_of prefix) ≡ true → ended_part_fault prefix ≡ None
+pub inside-whole : (prefix : List Step) → AreOrdered (offsets_of prefix) → is_inside (location_after prefix) (size_of prefix) ≡ true
+    → ended_part_fault prefix ≡ None
 inside-whole prefix ordered inside = by_header (nat_lt (length prefix) 10) inside where
-  in_its_part : (e : Extent) → part_at prefix (size_of prefix) ≡ Some e → size_of prefix < e.to → nat_lt e.from (size_of prefix) ≡ true → ended_part_fault prefix ≡ None
+  in_its_part : (e : Extent) → part_at prefix (size_of prefix) ≡ Some e → size_of prefix < e.to → nat_lt e.from (size_of prefix) ≡ true
+      → ended_part_fault prefix ≡ None
   in_its_part e found under begun =
       let some : e.from < size_of prefix = ltb-true e.from (size_of prefix) begun in
-      let last : part_at prefix (size_of prefix - 1) ≡ Some e = among-back parts_in_order (offsets_of prefix) (size_of prefix) (size_of prefix - 1) e ordered found (omega (arith, some)) (omega arith) in
+      let last : part_at prefix (size_of prefix - 1) ≡ Some e =
+      among-back parts_in_order (offsets_of prefix) (size_of prefix) (size_of prefix - 1) e ordered found (omega (arith, some)) (omega arith) in
       ap (ended_fault prefix) last ∙ ap (λ t. cond t (whole_fault e.part prefix) None) (ne_eqb e.to (size_of prefix) (λ end. omega (arith, end, under)))
 
   by_part : (o : Option Extent) → part_at prefix (size_of prefix) ≡ o → is_inside (location_by o) (size_of prefix) ≡ true → ended_part_fault prefix ≡ None
   by_part None found is = absurd (true≢false (sym is))
   by_part (Some e) found is = in_its_part e found (among-within parts_in_order (offsets_of prefix) (size_of prefix) e found) is
 
-  by_header : (b : Bool) → is_inside (cond b (in_header (length prefix)) (location_by (part_at prefix (size_of prefix)))) (size_of prefix) ≡ true → ended_part_fault prefix ≡ None
+  by_header : (b : Bool) → is_inside (cond b (in_header (length prefix)) (location_by (part_at prefix (size_of prefix)))) (size_of prefix) ≡ true
+      → ended_part_fault prefix ≡ None
   by_header true is = absurd (true≢false (sym is))
   by_header false is = by_part (part_at prefix (size_of prefix)) refl is
 

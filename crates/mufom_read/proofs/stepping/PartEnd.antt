@@ -1,5 +1,6 @@
 -- The first fault of a part, found among faults in another order: that with the smallest offset.
-use Rattle.std.proofs.Common.{◌≡◌, ◌⊎◌, ℕ, ◌+◌, ◌<◌, ◌≤◌, Bool, true, false, true≢false, cond, nat_lt, ltb-true, ltb-false, arith, List, [], ◌∷◌, Option, Some, None, is_some, refl, sym, ap, subst, ◌∙◌, inl, inr}
+use Rattle.std.proofs.Common.{◌≡◌, ◌⊎◌, ℕ, ◌+◌, ◌<◌, ◌≤◌, Bool, true, false, true≢false, cond, nat_lt, ltb-true, ltb-false, arith, List, [], ◌∷◌}
+use Rattle.std.proofs.Common.{Option, Some, None, is_some, refl, sym, ap, subst, ◌∙◌, inl, inr}
 use Rattle.std.specs.Option.{option_or}
 use Rattle.mufom_read.specs.Prefixes.{OffsetRecord}
 use Rattle.mufom_read.specs.Faults.{Fault, first_fault}
@@ -68,7 +69,8 @@ module _ (fault : OffsetRecord → Option Fault) (own : (p : OffsetRecord) (f : 
   first-is : (placed : List OffsetRecord) (f : Fault) → first_fault fault placed ≡ Some f → HasFault fault f placed
   first-is [] f e = absurd (true≢false (sym (ap is_some e)))
   first-is (p ∷ placed) f e = by_case (first-is placed f) (fault p) refl e where
-    by_case : (first_fault fault placed ≡ Some f → HasFault fault f placed) → (o : Option Fault) → fault p ≡ o → option_or o (first_fault fault placed) ≡ Some f → (fault p ≡ Some f) ⊎ HasFault fault f placed
+    by_case : (first_fault fault placed ≡ Some f → HasFault fault f placed) → (o : Option Fault) → fault p ≡ o
+        → option_or o (first_fault fault placed) ≡ Some f → (fault p ≡ Some f) ⊎ HasFault fault f placed
     by_case after None is h = inr (after h)
     by_case after (Some g) is h = inl (is ∙ h)
 
@@ -78,22 +80,26 @@ module _ (fault : OffsetRecord → Option Fault) (own : (p : OffsetRecord) (f : 
   above from to (p ∷ placed) f rising (inr h) = let more = above (p.0 + 1) to placed f rising.1 h in let low = rising.0 in omega (arith, more, low)
 
   -- a fault of a record whose offset is at most that of another is the first
-  least-first : (from to : ℕ) (placed : List OffsetRecord) (f : Fault) → AreRising from placed to → HasFault fault f placed → ((g : Fault) → HasFault fault g placed → f.0 ≤ g.0) → first_fault fault placed ≡ Some f
+  least-first : (from to : ℕ) (placed : List OffsetRecord) (f : Fault) → AreRising from placed to → HasFault fault f placed
+      → ((g : Fault) → HasFault fault g placed → f.0 ≤ g.0) → first_fault fault placed ≡ Some f
   least-first from to [] f rising h low = absurd h
-  least-first from to (p ∷ placed) f rising h low = by_case (λ k. least-first (p.0 + 1) to placed f rising.1 k (λ g there. low g (inr there))) (fault p) refl h where
-    by_case : (HasFault fault f placed → first_fault fault placed ≡ Some f) → (o : Option Fault) → fault p ≡ o → ((fault p ≡ Some f) ⊎ HasFault fault f placed) → option_or o (first_fault fault placed) ≡ Some f
-    by_case after None is (inl k) = absurd (true≢false (sym (ap is_some (sym is ∙ k))))
-    by_case after None is (inr k) = after k
-    by_case after (Some g) is (inl k) = sym is ∙ k
-    by_case after (Some g) is (inr k) =
-        let same = own p g is in
-        let more = above (p.0 + 1) to placed f rising.1 k in
-        let less = low g (inl is) in
-        absurd (omega (arith, same, more, less))
+  least-first from to (p ∷ placed) f rising h low = by_case (λ k. least-first (p.0 + 1) to placed f rising.1 k (λ g there. low g (inr there)))
+      (fault p) refl h where
+        by_case : (HasFault fault f placed → first_fault fault placed ≡ Some f) → (o : Option Fault) → fault p ≡ o
+            → ((fault p ≡ Some f) ⊎ HasFault fault f placed) → option_or o (first_fault fault placed) ≡ Some f
+        by_case after None is (inl k) = absurd (true≢false (sym (ap is_some (sym is ∙ k))))
+        by_case after None is (inr k) = after k
+        by_case after (Some g) is (inl k) = sym is ∙ k
+        by_case after (Some g) is (inr k) =
+            let same = own p g is in
+            let more = above (p.0 + 1) to placed f rising.1 k in
+            let less = low g (inl is) in
+            absurd (omega (arith, same, more, less))
 
   -- The least of faults is the first of the part, where they are the faults of its records.
   pub part-fault : (from to : ℕ) (placed : List OffsetRecord) (bs : List (Option Fault)) → AreRising from placed to
-      → ((f : Fault) → IsAmong f bs → HasFault fault f placed) → ((f : Fault) → HasFault fault f placed → IsAmong f bs) → least_from None bs ≡ first_fault fault placed
+      → ((f : Fault) → IsAmong f bs → HasFault fault f placed) → ((f : Fault) → HasFault fault f placed → IsAmong f bs) → least_from None bs
+      ≡ first_fault fault placed
   part-fault from to placed bs rising sound whole = by_case (least_from None bs) refl where
     none : (o : Option Fault) → least_from None bs ≡ None → first_fault fault placed ≡ o → None ≡ o
     none None is e = refl

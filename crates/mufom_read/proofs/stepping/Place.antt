@@ -35,7 +35,8 @@ place_found false k None e same = absurd (part_end e same)
 place_found false k (Some x) e same = (refl, ap Some (sym (part_part e x same)))
 
 -- the place of the code is in a part
-pub part-found : (prefix : List Step) (at : code.Location) (e : extents.Extent) → at ≡ offset.Part e → as_location at ≡ location_after prefix → (nat_lt (length prefix) 10 ≡ false) × (part_at prefix (size_of prefix) ≡ Some (as_extent e))
+pub part-found : (prefix : List Step) (at : code.Location) (e : extents.Extent) → at ≡ offset.Part e → as_location at ≡ location_after prefix
+    → (nat_lt (length prefix) 10 ≡ false) × (part_at prefix (size_of prefix) ≡ Some (as_extent e))
 part-found prefix at e is same = place_found _ _ _ _ (sym (ap as_location is) ∙ same)
 
 found_header : (lt : Bool) (n k : ℕ) (o : Option Extent) → in_header k ≡ cond lt (in_header n) (location_by o) → (lt ≡ true) × (k ≡ n)

@@ -1,5 +1,6 @@
 -- What a part declares, with what is stated of it, weighs at most what its records cost; and so do its sections.
-use Rattle.std.proofs.Common.{◌≡◌, ℕ, ◌+◌, ◌≤◌, Bool, true, false, cond, ◌==◌, List, [], ◌∷◌, ◌++◌, sum_by, Option, Some, None, unwrap_or, refl, sym, subst, ◌∙◌, arith, append_assoc, append-nil, filter_map}
+use Rattle.std.proofs.Common.{◌≡◌, ℕ, ◌+◌, ◌≤◌, Bool, true, false, cond, ◌==◌, List, [], ◌∷◌, ◌++◌, sum_by, Option, Some, None, unwrap_or, refl, sym}
+use Rattle.std.proofs.Common.{subst, ◌∙◌, arith, append_assoc, append-nil, filter_map}
 use Rattle.std.specs.List.{list_any, cons_option, AllByRecursion}
 use Rattle.std.proofs.lemmas.Bool.{or_parts}
 use Rattle.std.proofs.lemmas.List.Sums.{sum_by-cons}
@@ -9,12 +10,14 @@ use Rattle.mufom_records.specs.declared.record.Record.{Record}
 use Rattle.mufom_records.specs.declared.record.Record.TheVariants as r
 use Rattle.mufom_records.specs.declared.record.BlockTail.TheVariants as tail
 use Rattle.mufom_module.specs.Contents.{any_of}
-use Rattle.mufom_module.specs.SpelledRecords.{SpelledRecord, Kind, section, public, reference, debug_name, is_same_kind, FileIndex, declared_by, named_by, of_kind, declared, is_declared}
+use Rattle.mufom_module.specs.SpelledRecords.{SpelledRecord, Kind, section, public, reference, debug_name, is_same_kind, FileIndex, declared_by}
+use Rattle.mufom_module.specs.SpelledRecords.{named_by, of_kind, declared, is_declared}
 use Rattle.mufom_module.specs.Gathered.{answers, first_answer, size_for, alignment_for, base_for, section_by, sections_of}
 use Rattle.mufom_module.specs.Grammar.{FollowFrom}
 use Rattle.mufom_module.specs.Weights.{alignment_weight, size_weight, base_weight, section_weight}
 use Rattle.mufom_read.proofs.weighing.Records.{cost}
-use Rattle.mufom_read.proofs.weighing.Sums.{costs, value_by, sum_by-option, sum_by-two, sum_by-below, first_below, always, gathered_below, NewFrom, paid_for, shares_below}
+use Rattle.mufom_read.proofs.weighing.Sums.{costs, value_by, sum_by-option, sum_by-two, sum_by-below, first_below, always, gathered_below, NewFrom}
+use Rattle.mufom_read.proofs.weighing.Sums.{paid_for, shares_below}
 
 -- ---- indexes are declared once
 
@@ -32,10 +35,12 @@ new_by kind before (p ∷ records) follow =
     let split = filter_map-append (λ (q : SpelledRecord). of_kind kind (declared_by q.row)) before (p ∷ []) in
     next (declared_by p.row) (declared kind records) follow.0.new (subst (λ (l : List ℕ). NewFrom l (declared kind records)) split rest)
   where
-    next : (o : Option FileIndex) (rest : List ℕ) → any_of (is_declared before) o ≡ false → NewFrom (declared kind before ++ cons_option (of_kind kind o) []) rest → NewFrom (declared kind before) (cons_option (of_kind kind o) rest)
+    next : (o : Option FileIndex) (rest : List ℕ) → any_of (is_declared before) o ≡ false
+        → NewFrom (declared kind before ++ cons_option (of_kind kind o) []) rest → NewFrom (declared kind before) (cons_option (of_kind kind o) rest)
     next None rest h new = subst (λ (l : List ℕ). NewFrom l rest) (append-nil (declared kind before)) new
     next (Some index) rest h new = by_kind (is_same_kind kind index.0) refl new where
-      by_kind : (b : Bool) → is_same_kind kind index.0 ≡ b → NewFrom (declared kind before ++ cons_option (cond b (Some index.1) None) []) rest → NewFrom (declared kind before) (cons_option (cond b (Some index.1) None) rest)
+      by_kind : (b : Bool) → is_same_kind kind index.0 ≡ b → NewFrom (declared kind before ++ cons_option (cond b (Some index.1) None) []) rest
+          → NewFrom (declared kind before) (cons_option (cond b (Some index.1) None) rest)
       by_kind true e new = (subst (λ (k : Kind). list_any (λ j. j == index.1) (declared k before) ≡ false) (sym (same_kind kind index.0 e)) h, new)
       by_kind false e new = subst (λ (l : List ℕ). NewFrom l rest) (append-nil (declared kind before)) new
 
@@ -54,7 +59,8 @@ new_after a b (i ∷ is) new = (
 
 -- the records of a part declare no index twice
 pub new_in : (kind : Kind) (before records : List SpelledRecord) → FollowFrom before records → NewFrom [] (declared kind records)
-new_in kind before records follow = new_after (declared kind before) [] (declared kind records) (subst (λ (l : List ℕ). NewFrom l (declared kind records)) (sym (append-nil (declared kind before))) (new_by kind before records follow))
+new_in kind before records follow = new_after (declared kind before) [] (declared kind records)
+    (subst (λ (l : List ℕ). NewFrom l (declared kind records)) (sym (append-nil (declared kind before))) (new_by kind before records follow))
 
 -- ---- what records cost, by the index that they declare or speak of
 
@@ -85,13 +91,15 @@ at_index weight false x n h = omega arith
 
 -- ---- sections
 
-stated_section : (i : ℕ) (p : SpelledRecord) (row : Record) → value_by (λ _. 19) (alignment_for i row) + value_by (λ _. 20) (size_for i row) + value_by (λ _. 20) (base_for i row) ≤ paid_for i (of_kind section (named_by row)) (cost p row)
+stated_section : (i : ℕ) (p : SpelledRecord) (row : Record) → value_by (λ _. 19) (alignment_for i row) + value_by (λ _. 20)
+    (size_for i row) + value_by (λ _. 20) (base_for i row) ≤ paid_for i (of_kind section (named_by row)) (cost p row)
 stated_section i p (r.Alignment j n other) = let its = at_index (λ _. 19) (i == j) n 19 (omega arith) in omega (arith, its)
 stated_section i p (r.SectionSize j n) = let its = at_index (λ _. 20) (i == j) n 20 (omega arith) in omega (arith, its)
 stated_section i p (r.SectionBase j n) = let its = at_index (λ _. 20) (i == j) n 20 (omega arith) in omega (arith, its)
 stated_section i p row = omega arith
 
-stated_sections : (i : ℕ) (part : List SpelledRecord) → sum_by (λ _. 19) (answers (alignment_for i) part) + sum_by (λ _. 20) (answers (size_for i) part) + sum_by (λ _. 20) (answers (base_for i) part) ≤ stated_of section part i
+stated_sections : (i : ℕ) (part : List SpelledRecord) → sum_by (λ _. 19) (answers (alignment_for i) part) + sum_by (λ _. 20)
+    (answers (size_for i) part) + sum_by (λ _. 20) (answers (base_for i) part) ≤ stated_of section part i
 stated_sections i [] = omega arith
 stated_sections i (p ∷ part) =
     let own = stated_section i p p.row in
@@ -118,7 +126,9 @@ base_below : (o : Option ℕ) → base_weight o ≤ value_by (λ _. 20) o
 base_below None = omega arith
 base_below (Some n) = omega arith
 
-section_below : (part : List SpelledRecord) (p : SpelledRecord) (row : Record) → value_by section_weight (section_by part p row) ≤ value_by (λ _. cost p row) (of_kind section (declared_by row)) + value_by (stated_of section part) (of_kind section (declared_by row))
+section_below : (part : List SpelledRecord) (p : SpelledRecord) (row : Record)
+    → value_by section_weight (section_by part p row) ≤ value_by (λ _. cost p row) (of_kind section (declared_by row)) + value_by
+    (stated_of section part) (of_kind section (declared_by row))
 section_below part p (r.SectionType i absolute letter name a b c) =
     let stated = stated_sections i part in
     let first_a = first_below (λ _. 19) (answers (alignment_for i) part) in
@@ -140,7 +150,8 @@ section_costs row n = omega arith
 pub sections_below : (part : List SpelledRecord) → NewFrom [] (declared section part) → sum_by section_weight (sections_of part) ≤ costs part
 sections_below part new =
     let all = declared_below section_weight (λ p. section_by part p p.row) section part new
-    (always (λ p. value_by section_weight (section_by part p p.row) ≤ declares section p + value_by (stated_of section part) (of_kind section (declared_by p.row))) (λ p. section_below part p p.row) part) in
+    (always (λ p. value_by section_weight (section_by part p p.row) ≤ declares section p + value_by (stated_of section part)
+    (of_kind section (declared_by p.row))) (λ p. section_below part p p.row) part) in
     let two = sum_by-two (declares section) (speaks section) part in
     let costs_ = sum_by-below (λ (p : SpelledRecord). declares section p + speaks section p) (λ (p : SpelledRecord). cost p p.row) part
     (always (λ p. declares section p + speaks section p ≤ cost p p.row) (λ p. section_costs p.row (cost p p.row)) part) in

@@ -11,7 +11,8 @@ use Rattle.mufom_module.specs.declared.module.Parts.{Parts}
 use Rattle.mufom_module.specs.SpelledRecords.{SpelledRecord, bytes_of, section, public, reference}
 use Rattle.mufom_module.specs.Written.{weight}
 use Rattle.mufom_module.specs.Weights.{section_weight, public_weight, reference_weight, marks_weight, load_weight, start_weight}
-use Rattle.mufom_module.specs.Grammar.{FileParts, header_of, after_header, from_sections, from_externals, from_debug, debug_bytes, from_loads, from_trailer, module_end, AreOfModes, header_modes, AreWhole, NamesModule, indexes_of}
+use Rattle.mufom_module.specs.Grammar.{FileParts, header_of, after_header, from_sections, from_externals, from_debug, debug_bytes, from_loads}
+use Rattle.mufom_module.specs.Grammar.{from_trailer, module_end, AreOfModes, header_modes, AreWhole, NamesModule, indexes_of}
 use Rattle.mufom_module.proofs.WeightLaws.{weight-sum}
 use Rattle.mufom_read.specs.Laws.{FilesWeighTenfold, ModulesWeighTenfold}
 use Rattle.mufom_read.proofs.weighing.Records.{cost, begin_paid, descriptor_paid, offset_paid}
@@ -37,7 +38,8 @@ mode_paid (mode.Offset k) p next is = offset_paid k p next is
 mode_paid mode.Body p next is = omega arith
 mode_paid mode.Items p next is = omega arith
 
-modes_paid : (modes : List Mode) (records : List SpelledRecord) (after : List ℕ) → AreOfModes modes records after → sum_by header_weight modes ≤ 10 * length (bytes_of records)
+modes_paid : (modes : List Mode) (records : List SpelledRecord) (after : List ℕ) → AreOfModes modes records after
+    → sum_by header_weight modes ≤ 10 * length (bytes_of records)
 modes_paid [] [] after are = omega arith
 modes_paid [] (p ∷ records) after are = absurd are
 modes_paid (m ∷ modes) [] after are = absurd are
@@ -54,9 +56,11 @@ begin_weight m p row names = absurd names
 
 -- AD, and the offsets
 abbrev after_begin : List Mode
-after_begin = mode.Descriptor ∷ mode.Offset 0 ∷ mode.Offset 1 ∷ mode.Offset 2 ∷ mode.Offset 3 ∷ mode.Offset 4 ∷ mode.Offset 5 ∷ mode.Offset 6 ∷ mode.Offset 7 ∷ []
+after_begin = mode.Descriptor ∷ mode.Offset 0 ∷ mode.Offset 1 ∷ mode.Offset 2 ∷ mode.Offset 3 ∷ mode.Offset 4 ∷ mode.Offset 5 ∷ mode.Offset
+    6 ∷ mode.Offset 7 ∷ []
 
-header_below : (m : Parts) (f : FileParts) (after : List ℕ) → AreOfModes header_modes (header_of f) after → NamesModule m f.begin f.begin.row → 155 + length m.processor + length m.name ≤ 10 * length (bytes_of (header_of f))
+header_below : (m : Parts) (f : FileParts) (after : List ℕ) → AreOfModes header_modes (header_of f) after → NamesModule m f.begin f.begin.row
+    → 155 + length m.processor + length m.name ≤ 10 * length (bytes_of (header_of f))
 header_below m f after are names =
     let begin = begin_paid f.begin _ are.0 in
     let its = begin_weight m f.begin f.begin.row names in
@@ -67,7 +71,8 @@ header_below m f after are names =
 -- ---- the bytes
 
 file_length : (f : FileParts) → length (bytes_of (header_of f) ++ after_header f) ≡ length (bytes_of (header_of f)) + length f.extension + length f.environment
-    + length (bytes_of f.sections) + length (bytes_of f.externals) + length (bytes_of f.debug) + length f.skipped + length (bytes_of f.loads) + length (bytes_of f.trailer) + 1
+    + length (bytes_of f.sections) + length (bytes_of f.externals) + length (bytes_of f.debug) + length f.skipped + length (bytes_of f.loads) + length
+    (bytes_of f.trailer) + 1
 file_length f =
     let a = length-append (bytes_of (header_of f)) (after_header f) in
     let b = length-append f.extension (f.environment ++ from_sections f) in
@@ -86,7 +91,8 @@ part_paid : (records : List SpelledRecord) (after : List ℕ) (w : ℕ) → AreW
 part_paid records after w are below = let paid = costs_paid false records after are in omega (arith, paid, below)
 
 total : (w p n x e s u r d l t all header sections externals debug skipped loads trailer : ℕ) → w ≡ 156 + p + n + x + e + s + u + r + d + l + t
-    → all ≡ header + x + e + sections + externals + debug + skipped + loads + trailer + 1 → 155 + p + n ≤ 10 * header → s ≤ 10 * sections → u + r ≤ 10 * externals → d ≤ 10 * debug
+    → all ≡ header + x + e + sections + externals + debug + skipped + loads + trailer + 1 → 155 + p + n ≤ 10 * header → s ≤ 10 * sections
+    → u + r ≤ 10 * externals → d ≤ 10 * debug
     → l ≤ 10 * loads → t ≤ 10 * trailer → w ≤ 10 * all
 total w p n x e s u r d l t all header sections externals debug skipped loads trailer a b c f g h i j = omega arith
 
@@ -105,10 +111,13 @@ files_weigh reads_debug bytes f m are cut names states =
     let d = marks_below ix f.debug in
     let l = loads_below ix m.maus f.loads in
     let t = starts_below ix f.trailer m.start states.start in
-    total (weight m) (length m.processor) (length m.name) (length f.extension) (length f.environment) (sum_by section_weight m.sections) (sum_by public_weight m.names.publics) (sum_by reference_weight m.names.references)
+    total (weight m) (length m.processor) (length m.name) (length f.extension) (length f.environment) (sum_by section_weight m.sections)
+    (sum_by public_weight m.names.publics) (sum_by reference_weight m.names.references)
     (marks_weight (marks_of m.debug)) (sum_by load_weight m.loads) (start_weight m.start) (length bytes) (length (bytes_of (header_of f)))
-    (length (bytes_of f.sections)) (length (bytes_of f.externals)) (length (bytes_of f.debug)) (length f.skipped) (length (bytes_of f.loads)) (length (bytes_of f.trailer))
-    (weight-sum m ∙ (λ i. 156 + length m.processor + length m.name + length (states.extension i) + length (states.environment i) + sum_by section_weight m.sections + sum_by public_weight m.names.publics
+    (length (bytes_of f.sections)) (length (bytes_of f.externals)) (length (bytes_of f.debug)) (length f.skipped) (length (bytes_of f.loads))
+    (length (bytes_of f.trailer))
+    (weight-sum m ∙ (λ i. 156 + length m.processor + length m.name + length (states.extension i) + length (states.environment i) + sum_by
+    section_weight m.sections + sum_by public_weight m.names.publics
     + sum_by reference_weight m.names.references + marks_weight (marks_of m.debug) + sum_by load_weight m.loads + start_weight m.start))
     (ap length cut.all ∙ file_length f)
     (header_below m f (after_header f) cut.header states.begin)

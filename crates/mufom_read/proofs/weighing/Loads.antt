@@ -1,5 +1,6 @@
 -- The debug marks, the loads and the start that the records of a part state weigh at most what the records cost.
-use Rattle.std.proofs.Common.{◌≡◌, ℕ, ◌+◌, ◌≤◌, Bool, true, false, cond, ◌==◌, List, [], ◌∷◌, ◌++◌, map, sum_by, Option, Some, None, refl, ap, arith, filter_map}
+use Rattle.std.proofs.Common.{◌≡◌, ℕ, ◌+◌, ◌≤◌, Bool, true, false, cond, ◌==◌, List, [], ◌∷◌, ◌++◌, map, sum_by, Option, Some, None, refl, ap, arith}
+use Rattle.std.proofs.Common.{filter_map}
 use Rattle.std.specs.Prelude.{option_to_list}
 use Rattle.std.proofs.lemmas.List.Sums.{sum_by-cons, sum_by-append}
 use Rattle.mufom_expr.specs.Tree.{Tree}
@@ -21,7 +22,8 @@ use Rattle.mufom_read.proofs.weighing.Sums.{costs, value_by, sum_by-option, sum_
 
 -- ---- entries of one record each
 
-own_below : {X : Type 0} (weight : X → ℕ) (ask : SpelledRecord → Option X) → ((p : SpelledRecord) → value_by weight (ask p) ≤ cost p p.row) → (spelled_records : List SpelledRecord) → sum_by weight (filter_map ask spelled_records) ≤ costs spelled_records
+own_below : {X : Type 0} (weight : X → ℕ) (ask : SpelledRecord → Option X) → ((p : SpelledRecord) → value_by weight (ask p) ≤ cost p p.row)
+    → (spelled_records : List SpelledRecord) → sum_by weight (filter_map ask spelled_records) ≤ costs spelled_records
 own_below weight ask below [] = omega arith
 own_below weight ask below (p ∷ spelled_records) =
     let own = below p in
@@ -32,7 +34,8 @@ own_below weight ask below (p ∷ spelled_records) =
 
 -- ---- debug marks
 
-scope_weight : (b : Bool) (stack type_index : ℕ) (value : Tree) → head_weight (cond b (head.Global stack type_index value) (head.Local stack type_index value)) ≡ 18 + expression_weight value
+scope_weight : (b : Bool) (stack type_index : ℕ) (value : Tree)
+    → head_weight (cond b (head.Global stack type_index value) (head.Local stack type_index value)) ≡ 18 + expression_weight value
 scope_weight true stack type_index value = refl
 scope_weight false stack type_index value = refl
 
@@ -96,19 +99,23 @@ weight-ones (item ∷ items) =
 items_alone : (items : List Item) → items_weight items ≤ sum_by alone_weight items
 items_alone items = sum_by-below item_weight alone_weight items (always (λ item. item_weight item ≤ alone_weight item) (λ item. omega arith) items)
 
-prefix_none : (ix : Indexes) (maus : ℕ) (p : SpelledRecord) (spelled_records : List SpelledRecord) → item_by ix maus p p.row ≡ None → items_at_prefix ix maus (p ∷ spelled_records) ≡ []
+prefix_none : (ix : Indexes) (maus : ℕ) (p : SpelledRecord) (spelled_records : List SpelledRecord) → item_by ix maus p p.row ≡ None
+    → items_at_prefix ix maus (p ∷ spelled_records) ≡ []
 prefix_none ix maus p spelled_records e = rw e refl
 
-prefix_some : (ix : Indexes) (maus : ℕ) (p : SpelledRecord) (spelled_records : List SpelledRecord) (item : Item) → item_by ix maus p p.row ≡ Some item → items_at_prefix ix maus (p ∷ spelled_records) ≡ item ∷ items_at_prefix ix maus spelled_records
+prefix_some : (ix : Indexes) (maus : ℕ) (p : SpelledRecord) (spelled_records : List SpelledRecord) (item : Item) → item_by ix maus p p.row ≡ Some item
+    → items_at_prefix ix maus (p ∷ spelled_records) ≡ item ∷ items_at_prefix ix maus spelled_records
 prefix_some ix maus p spelled_records item e = rw e refl
 
 -- an item states no load of its own
-no_load : (ix : Indexes) (maus : ℕ) (p : SpelledRecord) (items : List Item) (row : Record) (item : Item) → item_by ix maus p row ≡ Some item → loads_by ix p items row ≡ []
+no_load : (ix : Indexes) (maus : ℕ) (p : SpelledRecord) (items : List Item) (row : Record) (item : Item) → item_by ix maus p row ≡ Some item
+    → loads_by ix p items row ≡ []
 no_load ix maus p items (r.ConstantItem run) item e = refl
 no_load ix maus p items (r.FieldItem kind value n) item e = refl
 no_load ix maus p items row item e = cc
 
-row_below : (ix : Indexes) (p : SpelledRecord) (items : List Item) (row : Record) → sum_by load_weight (loads_by ix p items row) ≤ cost p row + sum_by alone_weight items
+row_below : (ix : Indexes) (p : SpelledRecord) (items : List Item) (row : Record)
+    → sum_by load_weight (loads_by ix p items row) ≤ cost p row + sum_by alone_weight items
 row_below ix p items (r.SetSection i) = omega arith
 row_below ix p items (r.SetPc i value) = let same = weight-positioned ix (tree_in p value) in omega (arith, same)
 row_below ix p items (r.Constant run) = omega arith
@@ -118,11 +125,14 @@ row_below ix p items (r.RepeatRelocate times) = let its = items_alone items in o
 row_below ix p items row = omega arith
 
 -- the loads of records, and the items at their start
-loads_and_items : (ix : Indexes) (maus : ℕ) (spelled_records : List SpelledRecord) → sum_by load_weight (loads_of ix maus spelled_records) + sum_by alone_weight (items_at_prefix ix maus spelled_records) ≤ costs spelled_records
+loads_and_items : (ix : Indexes) (maus : ℕ) (spelled_records : List SpelledRecord)
+    → sum_by load_weight (loads_of ix maus spelled_records) + sum_by alone_weight (items_at_prefix ix maus spelled_records) ≤ costs spelled_records
 loads_and_items ix maus [] = omega arith
 loads_and_items ix maus (p ∷ spelled_records) = by_answer (item_by ix maus p p.row) refl (loads_and_items ix maus spelled_records) where
-  by_answer : (o : Option Item) → item_by ix maus p p.row ≡ o → sum_by load_weight (loads_of ix maus spelled_records) + sum_by alone_weight (items_at_prefix ix maus spelled_records) ≤ costs spelled_records
-      → sum_by load_weight (loads_of ix maus (p ∷ spelled_records)) + sum_by alone_weight (items_at_prefix ix maus (p ∷ spelled_records)) ≤ costs (p ∷ spelled_records)
+  by_answer : (o : Option Item) → item_by ix maus p p.row ≡ o
+      → sum_by load_weight (loads_of ix maus spelled_records) + sum_by alone_weight (items_at_prefix ix maus spelled_records) ≤ costs spelled_records
+      → sum_by load_weight (loads_of ix maus (p ∷ spelled_records)) + sum_by alone_weight (items_at_prefix ix maus (p ∷ spelled_records)) ≤ costs
+      (p ∷ spelled_records)
   by_answer None e rest =
       let items = items_at_prefix ix maus spelled_records in
       let all = sum_by-append load_weight (loads_by ix p items p.row) (loads_of ix maus spelled_records) in
@@ -140,5 +150,6 @@ loads_and_items ix maus (p ∷ spelled_records) = by_answer (item_by ix maus p p
       let records = sum_by-cons (λ (q : SpelledRecord). cost q q.row) p spelled_records in
       omega (arith, rest, none, own, its, prefix, sum, records)
 
-pub loads_below : (ix : Indexes) (maus : ℕ) (spelled_records : List SpelledRecord) → sum_by load_weight (loads_of ix maus spelled_records) ≤ costs spelled_records
+pub loads_below : (ix : Indexes) (maus : ℕ) (spelled_records : List SpelledRecord)
+    → sum_by load_weight (loads_of ix maus spelled_records) ≤ costs spelled_records
 loads_below ix maus spelled_records = let all = loads_and_items ix maus spelled_records in omega (arith, all)

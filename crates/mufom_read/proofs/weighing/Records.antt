@@ -1,5 +1,6 @@
 -- What a record lets be written weighs at most ten times its bytes.
-use Rattle.std.proofs.Common.{◌≡◌, ℕ, ◌+◌, ◌-◌, ◌*◌, ◌≤◌, Bool, true, false, cond, ◌==◌, ◌&&◌, List, [], ◌∷◌, ◌++◌, length, take, drop, slice_range, Option, Some, None, option_map, refl, sym, ap, subst, ◌∙◌, arith, append_assoc, length-append, length-take}
+use Rattle.std.proofs.Common.{◌≡◌, ℕ, ◌+◌, ◌-◌, ◌*◌, ◌≤◌, Bool, true, false, cond, ◌==◌, ◌&&◌, List, [], ◌∷◌, ◌++◌, length, take, drop, slice_range}
+use Rattle.std.proofs.Common.{Option, Some, None, option_map, refl, sym, ap, subst, ◌∙◌, arith, append_assoc, length-append, length-take}
 use Rattle.std.proofs.lemmas.List.{drop_at, take_at}
 use Rattle.mufom_numbers.specs.declared.taken.Span.{Span}
 use Rattle.mufom_numbers.specs.Spelling.{IsStringLead}
@@ -10,7 +11,8 @@ use Rattle.mufom_records.specs.declared.record.BlockTail.{BlockTail}
 use Rattle.mufom_records.specs.declared.record.BlockTail.TheVariants as tail
 use Rattle.arrayvec.specs.ArrayVec.{ArrayVec}
 use Rattle.mufom_expr.specs.Spelled.{SpellsTree}
-use Rattle.mufom_records.specs.Fields.{Field, ValueOf, byte, number, string, run, letter, optional_number, numbers, expression, optional_expression, is_one_of, SpellsNumbers, SpellsField, first_of}
+use Rattle.mufom_records.specs.Fields.{Field, ValueOf, byte, number, string, run, letter, optional_number, numbers, expression, optional_expression}
+use Rattle.mufom_records.specs.Fields.{is_one_of, SpellsNumbers, SpellsField, first_of}
 use Rattle.mufom_records.specs.Layouts
 use Rattle.mufom_module.specs.SpelledRecords.{SpelledRecord, text_in, tree_in}
 use Rattle.mufom_module.specs.RecordParts.{begins_item, mode_of}
@@ -40,7 +42,8 @@ end_cost p (Some span) = expression_weight (tree_in p span)
 -- what the record that is written for this one weighs; an item of an LR is written with a code of its own
 abbrev pub cost : SpelledRecord → Record → ℕ
 cost p (r.ModuleBegin processor name) = 7 + length (text_in p processor) + length (text_in p name)
-cost p (r.SectionType i absolute purpose name a b c) = 13 + section_letters_weight absolute + purpose_weight (option_map purpose_of purpose) + length (text_in p name)
+cost p (r.SectionType i absolute purpose name a b c) = 13 + section_letters_weight absolute + purpose_weight (option_map purpose_of purpose) + length
+    (text_in p name)
 cost p (r.Alignment i n other) = 19
 cost p (r.SectionSize i n) = 20
 cost p (r.SectionBase i n) = 20
@@ -112,7 +115,8 @@ field_long optional_number (Some n) at bytes next is = number_long n bytes is
 field_long (numbers most) x at bytes next is = numbers_long x.items bytes is.0
 field_long expression x at bytes next (tree, fault_offset, stops) = let its : x.len ≡ length bytes = ap (λ (s : Span). s.len) fault_offset in omega (arith, its)
 field_long optional_expression None at bytes next is = omega arith
-field_long optional_expression (Some x) at bytes next (tree, fault_offset, stops) = let its : x.len ≡ length bytes = ap (λ (s : Span). s.len) fault_offset in omega (arith, its)
+field_long optional_expression (Some x) at bytes next (tree, fault_offset, stops) = let its : x.len ≡ length bytes =
+    ap (λ (s : Span). s.len) fault_offset in omega (arith, its)
 
 -- ---- what is written for a field
 
@@ -131,13 +135,18 @@ text_long : (p : SpelledRecord) (span : Span) → length (text_in p span) ≤ sp
 text_long p span = omega (arith, length-take (span.start + span.len - span.start) (drop span.start p.bytes))
 
 -- bytes where they stand
-slice_at : (before prefix back : List ℕ) (start len : ℕ) → start ≡ length before → len ≡ length prefix → slice_range (before ++ (prefix ++ back)) start (start + len) ≡ prefix
-slice_at before prefix back start len a b = ap (take (start + len - start)) (drop_at before (prefix ++ back) start (sym a)) ∙ take_at prefix back (start + len - start) (omega arith)
+slice_at : (before prefix back : List ℕ) (start len : ℕ) → start ≡ length before → len ≡ length prefix
+    → slice_range (before ++ (prefix ++ back)) start (start + len) ≡ prefix
+slice_at before prefix back start len a b = ap (take (start + len - start)) (drop_at before (prefix ++ back) start (sym a))
+    ∙ take_at prefix back (start + len - start) (omega arith)
 
-text_at : (p : SpelledRecord) (span : Span) (before prefix back : List ℕ) → p.bytes ≡ before ++ (prefix ++ back) → span.start ≡ length before → span.len ≡ length prefix → text_in p span ≡ prefix
-text_at p span before prefix back whole start len = ap (λ (l : List ℕ). slice_range l span.start (span.start + span.len)) whole ∙ slice_at before prefix back span.start span.len start len
+text_at : (p : SpelledRecord) (span : Span) (before prefix back : List ℕ) → p.bytes ≡ before ++ (prefix ++ back) → span.start ≡ length before
+    → span.len ≡ length prefix → text_in p span ≡ prefix
+text_at p span before prefix back whole start len = ap (λ (l : List ℕ). slice_range l span.start (span.start + span.len)) whole
+    ∙ slice_at before prefix back span.start span.len start len
 
-has_tree : (p : SpelledRecord) (span : Span) (at : ℕ) (before prefix back : List ℕ) (next : Option ℕ) → SpellsField expression span at prefix next → p.bytes ≡ before ++ (prefix ++ back) → at ≡ length before → HasTree p span
+has_tree : (p : SpelledRecord) (span : Span) (at : ℕ) (before prefix back : List ℕ) (next : Option ℕ) → SpellsField expression span at prefix next
+    → p.bytes ≡ before ++ (prefix ++ back) → at ≡ length before → HasTree p span
 has_tree p span at before prefix back next (tree, fault_offset, stops) whole start =
     let starts : span.start ≡ length before = ap (λ (s : Span). s.start) fault_offset ∙ start in
     let len : span.len ≡ length prefix = ap (λ (s : Span). s.len) fault_offset in
@@ -146,7 +155,8 @@ has_tree p span at before prefix back next (tree, fault_offset, stops) whole sta
     let long : length (text_in p span) ≡ length prefix = ap length text in
     omega (arith, its, long, len)
 
-in_record : (p : SpelledRecord) (f : Field) (x : ValueOf f) (at : ℕ) (before prefix back : List ℕ) (next : Option ℕ) → SpellsField f x at prefix next → p.bytes ≡ before ++ (prefix ++ back) → at ≡ length before → InRecord p f x
+in_record : (p : SpelledRecord) (f : Field) (x : ValueOf f) (at : ℕ) (before prefix back : List ℕ) (next : Option ℕ) → SpellsField f x at prefix next
+    → p.bytes ≡ before ++ (prefix ++ back) → at ≡ length before → InRecord p f x
 in_record p byte x at before prefix back next is whole start = tt
 in_record p (number fits fault_offset fault) x at before prefix back next is whole start = tt
 in_record p string x at before prefix back next is whole start = text_long p x
@@ -166,7 +176,8 @@ Pays p price (Layouts.whole row) n = price row ≤ 10 * n
 Pays p price (Layouts.refused back reason) n = Unit {0}
 Pays p price (Layouts.field f rest) n = (x : ValueOf f) → InRecord p f x → Pays p price (rest x) (n + least f x)
 
-paid_from : (p : SpelledRecord) (price : Record → ℕ) (layout : Layout) (row : Record) (at : ℕ) (before bytes : List ℕ) (next : Option ℕ) (n : ℕ) → Layouts.SpellsRecord layout row at bytes next
+paid_from : (p : SpelledRecord) (price : Record → ℕ) (layout : Layout) (row : Record) (at : ℕ) (before bytes : List ℕ) (next : Option ℕ) (n : ℕ)
+    → Layouts.SpellsRecord layout row at bytes next
     → p.bytes ≡ before ++ bytes → at ≡ length before → n ≤ at → Pays p price layout n → price row ≤ 10 * length p.bytes
 paid_from p price (Layouts.whole it) row at before bytes next n is whole start few pays =
     let same : price row ≡ price it = ap price is.0 in
@@ -181,7 +192,8 @@ paid_from p price (Layouts.field f rest) row at before bytes next n (x, prefix, 
     (its ∙ sym (append_assoc before prefix back)) (ap (λ m. m + length prefix) start ∙ sym (length-append before prefix)) (omega (arith, few, long))
     (pays x (in_record p f x at before prefix back (first_of back next) first its start))
 
-paid : (p : SpelledRecord) (price : Record → ℕ) (layout : Layout) (next : Option ℕ) → Layouts.SpellsRecord layout (p.row) 0 p.bytes next → Pays p price layout 0 → price p.row ≤ 10 * length p.bytes
+paid : (p : SpelledRecord) (price : Record → ℕ) (layout : Layout) (next : Option ℕ) → Layouts.SpellsRecord layout (p.row) 0 p.bytes next
+    → Pays p price layout 0 → price p.row ≤ 10 * length p.bytes
 paid p price layout next is pays = paid_from p price layout (p.row) 0 [] p.bytes next 0 is refl refl (omega arith) pays
 
 by_test : (p : SpelledRecord) (price : Record → ℕ) (n : ℕ) (test : Bool) (a b : Layout) → Pays p price a n → Pays p price b n → Pays p price (cond test a b) n
@@ -190,7 +202,8 @@ by_test p price n false a b x y = y
 
 -- ---- the records of the header
 
-begins_paid : (p : SpelledRecord) (price : Record → ℕ) (n back code : ℕ) (rest : Layout) → Pays p price rest (n + 1) → Pays p price (Layouts.begins_with back code rest) n
+begins_paid : (p : SpelledRecord) (price : Record → ℕ) (n back code : ℕ) (rest : Layout) → Pays p price rest (n + 1)
+    → Pays p price (Layouts.begins_with back code rest) n
 begins_paid p price n back code rest pays = λ (b : ℕ) _. by_test p price (n + 1) (b == code) rest _ pays tt
 
 pub begin_paid : (p : SpelledRecord) (next : Option ℕ) → Layouts.IsWholeRecord mode.Begin p.row p.bytes next → cost p p.row ≤ 10 * length p.bytes
@@ -217,14 +230,17 @@ present_small None = omega arith
 present_small (Some b) = omega arith
 
 named_paid : (p : SpelledRecord) (i n : ℕ) (absolute : Bool) → 2 + section_letters_weight absolute ≤ n → Pays p (cost p) (Layouts.named_section i absolute) n
-named_paid p i n absolute letters = λ (purpose : Option ℕ) _ (name : Span) x (a : Option ℕ) _ (b : Option ℕ) _ (c : Option ℕ) _. let its = purpose_paid purpose in omega (arith, letters, x, its)
+named_paid p i n absolute letters = λ (purpose : Option ℕ) _ (name : Span) x (a : Option ℕ) _ (b : Option ℕ) _ (c : Option ℕ) _. let its =
+    purpose_paid purpose in omega (arith, letters, x, its)
 
 section_paid : (p : SpelledRecord) → Pays p (cost p) Layouts.section_type 1
 section_paid p = λ (i : ℕ) _ (c : ℕ) _. by_test p (cost p) 3 (c == 0xC3) (Layouts.named_section i false) _ (named_paid p i 3 false (omega arith))
-    (by_test p (cost p) 3 (c == 0xC1) (Layouts.absolute_section i) _ (λ (s : ℕ) _. by_test p (cost p) 4 (s == 0xD3) (Layouts.named_section i true) _ (named_paid p i 4 true (omega arith)) tt) tt)
+    (by_test p (cost p) 3 (c == 0xC1) (Layouts.absolute_section i) _
+    (λ (s : ℕ) _. by_test p (cost p) 4 (s == 0xD3) (Layouts.named_section i true) _ (named_paid p i 4 true (omega arith)) tt) tt)
 
 repeat_paid : (p : SpelledRecord) → Pays p (cost p) Layouts.repeat 1
-repeat_paid p = λ (times : ℕ) _ (b : ℕ) _. by_test p (cost p) 3 (b == 0xED) (Layouts.constant (r.RepeatConstant times)) _ (λ (n : ℕ) _ (span : Span) x. omega (arith, x))
+repeat_paid p = λ (times : ℕ) _ (b : ℕ) _. by_test p (cost p) 3 (b == 0xED) (Layouts.constant (r.RepeatConstant times)) _
+    (λ (n : ℕ) _ (span : Span) x. omega (arith, x))
     (by_test p (cost p) 3 (b == 0xE4) (Layouts.whole (r.RepeatRelocate times)) _ (omega arith) tt)
 
 start_paid : (p : SpelledRecord) (o : Option ℕ) (n : ℕ) → 1 ≤ n → Pays p (cost p) (Layouts.start_by_bracket o) n
@@ -232,8 +248,10 @@ start_paid p None n some = λ (v : Span) x. omega (arith, some, x)
 start_paid p (Some b) n some = λ (v : Span) x (c : ℕ) _. by_test p (cost p) _ (c == Layouts.partner b) (Layouts.whole (r.Start v)) _ (omega (arith, some, x)) tt
 
 comma_paid : (p : SpelledRecord) (b : ℕ) (v : Span) (c : Option ℕ) (n : ℕ) → HasTree p v → 1 + v.len ≤ n → Pays p (cost p) (Layouts.item_by_comma b v c) n
-comma_paid p b v None n x some = λ (e : ℕ) _. by_test p (cost p) (n + 1) (e == Layouts.partner b) (Layouts.whole (r.FieldItem (Layouts.kind_of b) v None)) _ (omega (arith, some, x)) tt
-comma_paid p b v (Some c) n x some = λ (k : ℕ) _ (e : ℕ) _. by_test p (cost p) (n + 1 + 1) (e == Layouts.partner b) (Layouts.whole (r.FieldItem (Layouts.kind_of b) v (Some k))) _ (omega (arith, some, x)) tt
+comma_paid p b v None n x some = λ (e : ℕ) _. by_test p (cost p) (n + 1) (e == Layouts.partner b)
+    (Layouts.whole (r.FieldItem (Layouts.kind_of b) v None)) _ (omega (arith, some, x)) tt
+comma_paid p b v (Some c) n x some = λ (k : ℕ) _ (e : ℕ) _. by_test p (cost p) (n + 1 + 1) (e == Layouts.partner b)
+    (Layouts.whole (r.FieldItem (Layouts.kind_of b) v (Some k))) _ (omega (arith, some, x)) tt
 
 bracket_paid : (p : SpelledRecord) (o : Option ℕ) → Pays p (cost p) (Layouts.item_by_bracket o) (0 + present o)
 bracket_paid p None = λ (n : ℕ) _ (span : Span) x. omega (arith, x)
@@ -243,7 +261,8 @@ block_paid : (p : SpelledRecord) → Pays p (cost p) Layouts.block_begin 1
 block_paid p = λ (kind : ℕ) _ (n : ℕ) _ (name : Span) x.
     by_test p (cost p) _ (kind == 3) (Layouts.whole (r.BlockBegin kind n name tail.Module)) _ (omega (arith, x))
     (by_test p (cost p) _ (kind == 5) (Layouts.source_begin kind n name) _ (λ (ns : ArrayVec ℕ) _. omega (arith, x))
-    (by_test p (cost p) _ (kind == 11) (Layouts.section_begin kind n name) _ (λ (a : ℕ) _ (b : ℕ) _ (v : Span) y. omega (arith, x, y)) (λ (a : ℕ) _ (b : ℕ) _ (v : Span) y. omega (arith, x, y))))
+    (by_test p (cost p) _ (kind == 11) (Layouts.section_begin kind n name) _ (λ (a : ℕ) _ (b : ℕ) _ (v : Span) y. omega (arith, x, y))
+    (λ (a : ℕ) _ (b : ℕ) _ (v : Span) y. omega (arith, x, y))))
 
 end_paid : (p : SpelledRecord) (o : Option Span) → InRecord p optional_expression o → cost p (r.BlockEnd o) ≤ 10 * (1 + span_length o)
 end_paid p None x = omega arith
@@ -294,7 +313,8 @@ item_paid : (p : SpelledRecord) (next : Option ℕ) → Layouts.IsWholeRecord mo
 item_paid p next is = paid p (cost p) Layouts.item next is (λ (o : Option ℕ) _. bracket_paid p o)
 
 -- a record after the header, or an item
-pub record_paid : (p : SpelledRecord) (items : Bool) (next : Option ℕ) → Layouts.IsWholeRecord (mode_of items p.bytes) p.row p.bytes next → cost p p.row ≤ 10 * length p.bytes
+pub record_paid : (p : SpelledRecord) (items : Bool) (next : Option ℕ) → Layouts.IsWholeRecord (mode_of items p.bytes) p.row p.bytes next
+    → cost p p.row ≤ 10 * length p.bytes
 record_paid p items next is = by_mode (items && begins_item p.bytes) is where
   by_mode : (b : Bool) → Layouts.IsWholeRecord (cond b mode.Items mode.Body) p.row p.bytes next → cost p p.row ≤ 10 * length p.bytes
   by_mode true is = item_paid p next is

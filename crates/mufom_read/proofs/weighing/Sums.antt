@@ -1,5 +1,6 @@
 -- Sums over the records of a part, and over the entries that are gathered from them.
-use Rattle.std.proofs.Common.{◌≡◌, ℕ, ◌+◌, ◌*◌, ◌≤◌, Bool, true, false, cond, ◌==◌, ◌||◌, List, [], ◌∷◌, ◌++◌, length, sum_by, slice_get, Option, Some, None, refl, ap, subst, ◌∙◌, arith, length-append, eqb-true, filter_map}
+use Rattle.std.proofs.Common.{◌≡◌, ℕ, ◌+◌, ◌*◌, ◌≤◌, Bool, true, false, cond, ◌==◌, ◌||◌, List, [], ◌∷◌, ◌++◌, length, sum_by, slice_get, Option}
+use Rattle.std.proofs.Common.{Some, None, refl, ap, subst, ◌∙◌, arith, length-append, eqb-true, filter_map}
 use Rattle.std.specs.List.{list_any, cons_option, AllByRecursion}
 use Rattle.std.proofs.lemmas.List.Sums.{sum_by-cons}
 use Rattle.std.proofs.lemmas.List.Folds.{list_any-append}
@@ -12,7 +13,8 @@ use Rattle.mufom_read.proofs.weighing.Records.{cost, record_paid}
 abbrev pub costs : List SpelledRecord → ℕ
 costs spelled_records = sum_by (λ (p : SpelledRecord). cost p p.row) spelled_records
 
-pub costs_paid : (items : Bool) (spelled_records : List SpelledRecord) (after : List ℕ) → AreWhole items spelled_records after → costs spelled_records ≤ 10 * length (bytes_of spelled_records)
+pub costs_paid : (items : Bool) (spelled_records : List SpelledRecord) (after : List ℕ) → AreWhole items spelled_records after
+    → costs spelled_records ≤ 10 * length (bytes_of spelled_records)
 costs_paid items [] after are = omega arith
 costs_paid items (p ∷ spelled_records) after are =
     let own = record_paid p items _ are.0 in
@@ -64,8 +66,10 @@ always P f (x ∷ xs) = (f x, always P f xs)
 -- ---- entries that are gathered
 
 -- each entry weighs at most what its record costs, and what is stated of its index
-pub gathered_below : {X : Type 0} (weight : X → ℕ) (ask : SpelledRecord → Option X) (key : SpelledRecord → Option ℕ) (own : SpelledRecord → ℕ) (more : ℕ → ℕ) (spelled_records : List SpelledRecord)
-    → AllByRecursion (λ p. value_by weight (ask p) ≤ own p + value_by more (key p)) spelled_records → sum_by weight (filter_map ask spelled_records) ≤ sum_by own spelled_records + sum_by more (filter_map key spelled_records)
+pub gathered_below : {X : Type 0} (weight : X → ℕ) (ask : SpelledRecord → Option X) (key : SpelledRecord → Option ℕ) (own : SpelledRecord
+    → ℕ) (more : ℕ → ℕ) (spelled_records : List SpelledRecord)
+    → AllByRecursion (λ p. value_by weight (ask p) ≤ own p + value_by more (key p)) spelled_records
+    → sum_by weight (filter_map ask spelled_records) ≤ sum_by own spelled_records + sum_by more (filter_map key spelled_records)
 gathered_below weight ask key own more [] are = omega arith
 gathered_below weight ask key own more (p ∷ spelled_records) are =
     let rest = gathered_below weight ask key own more spelled_records are.1 in
@@ -108,14 +112,18 @@ at_most_once j n seen (i ∷ is) new = by_case (i == j) refl (at_most_once j n (
       let all = sum_by-cons (λ i. cond (i == j) n 0) i is in
       let own : cond (i == j) n 0 ≡ n = ap (λ (b : Bool). cond b n 0) e in
       let same : i ≡ j = eqb-true i j e in
-      let unseen : cond (list_any (λ k. k == j) seen) n 0 ≡ 0 = ap (λ (b : Bool). cond b n 0) (subst (λ (m : ℕ). list_any (λ k. k == m) seen ≡ false) same new.0) in
-      let now : cond (list_any (λ k. k == j) (seen ++ i ∷ [])) n 0 ≡ n = ap (λ (b : Bool). cond b n 0) (seen_once seen i j ∙ ap (λ (b : Bool). list_any (λ k. k == j) seen || (b || false)) e ∙ or_true (list_any (λ k. k == j) seen)) in
+      let unseen : cond (list_any (λ k. k == j) seen) n 0 ≡ 0 =
+      ap (λ (b : Bool). cond b n 0) (subst (λ (m : ℕ). list_any (λ k. k == m) seen ≡ false) same new.0) in
+      let now : cond (list_any (λ k. k == j) (seen ++ i ∷ [])) n 0 ≡ n =
+      ap (λ (b : Bool). cond b n 0) (seen_once seen i j ∙ ap (λ (b : Bool). list_any (λ k. k == j) seen || (b || false)) e
+      ∙ or_true (list_any (λ k. k == j) seen)) in
       omega (arith, all, own, unseen, now, rest)
   by_case false e rest =
       let all = sum_by-cons (λ i. cond (i == j) n 0) i is in
       let own : cond (i == j) n 0 ≡ 0 = ap (λ (b : Bool). cond b n 0) e in
       let now : cond (list_any (λ k. k == j) (seen ++ i ∷ [])) n 0 ≡ cond (list_any (λ k. k == j) seen) n 0 =
-      ap (λ (b : Bool). cond b n 0) (seen_once seen i j ∙ ap (λ (b : Bool). list_any (λ k. k == j) seen || (b || false)) e ∙ or_false (list_any (λ k. k == j) seen)) in
+      ap (λ (b : Bool). cond b n 0) (seen_once seen i j ∙ ap (λ (b : Bool). list_any (λ k. k == j) seen || (b || false)) e
+      ∙ or_false (list_any (λ k. k == j) seen)) in
       omega (arith, all, own, now, rest)
 
 for_each : (is : List ℕ) (o : Option ℕ) (n : ℕ) → NewFrom [] is → sum_by (λ i. paid_for i o n) is ≤ value_by (λ _. n) o
@@ -124,16 +132,20 @@ for_each is (Some j) n new = let once = at_most_once j n [] is new in omega (ari
 
 -- what records state of indexes that are declared once is counted once
 pub shares_below : (is : List ℕ) → NewFrom [] is → (ask : SpelledRecord → Option ℕ) (price : SpelledRecord → ℕ) (spelled_records : List SpelledRecord)
-    → sum_by (λ i. sum_by (λ (p : SpelledRecord). paid_for i (ask p) (price p)) spelled_records) is ≤ sum_by (λ (p : SpelledRecord). value_by (λ _. price p) (ask p)) spelled_records
+    → sum_by (λ i. sum_by (λ (p : SpelledRecord). paid_for i (ask p) (price p)) spelled_records) is ≤ sum_by
+    (λ (p : SpelledRecord). value_by (λ _. price p) (ask p)) spelled_records
 shares_below is new ask price [] = let none = sum_by-none is in omega (arith, none)
 shares_below is new ask price (p ∷ spelled_records) =
     let share : ℕ → SpelledRecord → ℕ = λ i q. paid_for i (ask q) (price q) in
     let rest = shares_below is new ask price spelled_records in
     let own = for_each is (ask p) (price p) new in
-    let inner : (i : ℕ) → sum_by (λ q. paid_for i (ask q) (price q)) (p ∷ spelled_records) ≤ paid_for i (ask p) (price p) + sum_by (λ q. paid_for i (ask q) (price q)) spelled_records
+    let inner : (i : ℕ) → sum_by (λ q. paid_for i (ask q) (price q)) (p ∷ spelled_records) ≤ paid_for i (ask p) (price p) + sum_by
+    (λ q. paid_for i (ask q) (price q)) spelled_records
     = λ i. (let e = sum_by-cons (λ (q : SpelledRecord). paid_for i (ask q) (price q)) p spelled_records in omega (arith, e)) in
-    let split = sum_by-below (λ i. sum_by (λ (q : SpelledRecord). paid_for i (ask q) (price q)) (p ∷ spelled_records)) (λ i. paid_for i (ask p) (price p) + sum_by (λ (q : SpelledRecord). paid_for i (ask q) (price q)) spelled_records) is
-    (always (λ i. sum_by (λ q. paid_for i (ask q) (price q)) (p ∷ spelled_records) ≤ paid_for i (ask p) (price p) + sum_by (λ q. paid_for i (ask q) (price q)) spelled_records) inner is) in
+    let split = sum_by-below (λ i. sum_by (λ (q : SpelledRecord). paid_for i (ask q) (price q)) (p ∷ spelled_records))
+    (λ i. paid_for i (ask p) (price p) + sum_by (λ (q : SpelledRecord). paid_for i (ask q) (price q)) spelled_records) is
+    (always (λ i. sum_by (λ q. paid_for i (ask q) (price q)) (p ∷ spelled_records) ≤ paid_for i (ask p) (price p) + sum_by
+    (λ q. paid_for i (ask q) (price q)) spelled_records) inner is) in
     let two = sum_by-two (λ i. paid_for i (ask p) (price p)) (λ i. sum_by (λ (q : SpelledRecord). paid_for i (ask q) (price q)) spelled_records) is in
     let sum = sum_by-cons (λ (q : SpelledRecord). value_by (λ _. price q) (ask q)) p spelled_records in
     omega (arith, rest, own, split, two, sum)

@@ -52,7 +52,8 @@ weight-renamed rename (variable letter i) = refl
 weight-renamed rename (one f a) =
     let its = weight-renamed rename a in
     let last = Fun (function_of_one f) ∷ [] in
-    sum_by-append token_weight (tokens_of (with_variables rename a)) last ∙ (λ i. its i + sum_by token_weight last) ∙ sym (sum_by-append token_weight (tokens_of a) last)
+    sum_by-append token_weight (tokens_of (with_variables rename a)) last ∙ (λ i. its i + sum_by token_weight last)
+    ∙ sym (sum_by-append token_weight (tokens_of a) last)
 weight-renamed rename (two f a b) =
     let first = weight-renamed rename a in
     let second = weight-renamed rename b in
@@ -60,7 +61,8 @@ weight-renamed rename (two f a b) =
     let x = tokens_of (with_variables rename a) in
     let y = tokens_of (with_variables rename b) in
     sum_by-append token_weight (x ++ y) last
-    ∙ ap (λ n. n + sum_by token_weight last) (sum_by-append token_weight x y ∙ (λ i. first i + second i) ∙ sym (sum_by-append token_weight (tokens_of a) (tokens_of b)))
+    ∙ ap (λ n. n + sum_by token_weight last) (sum_by-append token_weight x y ∙ (λ i. first i + second i)
+    ∙ sym (sum_by-append token_weight (tokens_of a) (tokens_of b)))
     ∙ sym (sum_by-append token_weight (tokens_of a ++ tokens_of b) last)
 
 pub weight-positioned : (ix : Indexes) (tree : Tree) → expression_weight (positioned ix tree) ≡ expression_weight tree

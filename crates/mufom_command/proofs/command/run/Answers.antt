@@ -8,27 +8,36 @@ use Rattle.mufom_command.proofs.command.run.Goals as goal
 
 pub returns-clause-answers : goal.returns-clause-answers
 returns-clause-answers g c =
-    (answered (answer_of (map (λ word. string_bytes word) c.args.words.now)) (g.H.World.meaning c.args.host.now) (g.H.World.meaning c.answer-outcome.new.host) (g.H.World.meaning c.print_error_line.new.host)
-    (g.H.World.faults c.args.host.now) (g.H.World.faults c.answer-outcome.new.host) (g.H.World.faults c.print_error_line.new.host) c.answer-outcome.result c.print_error_line.result
+    (answered (answer_of (map (λ word. string_bytes word) c.args.words.now)) (g.H.World.meaning c.args.host.now)
+    (g.H.World.meaning c.answer-outcome.new.host) (g.H.World.meaning c.print_error_line.new.host)
+    (g.H.World.faults c.args.host.now) (g.H.World.faults c.answer-outcome.new.host) (g.H.World.faults c.print_error_line.new.host)
+    c.answer-outcome.result c.print_error_line.result
     c.print_error_line.ensures.same c.print_error_line.ensures.only c.answer-outcome.ensures).answers
 
 pub returns-clause-complete : goal.returns-clause-complete
 returns-clause-complete g c =
-    answers-complete (map (λ word. string_bytes word) c.args.words.now) (call_of g.H.World.meaning g.H.World.faults c.args.host.now c.print_error_line.new.host) c.print_error_line.result
+    answers-complete (map (λ word. string_bytes word) c.args.words.now)
+    (call_of g.H.World.meaning g.H.World.faults c.args.host.now c.print_error_line.new.host) c.print_error_line.result
     (g.H.World.together c.args.host.now).bytes
-    (answered (answer_of (map (λ word. string_bytes word) c.args.words.now)) (g.H.World.meaning c.args.host.now) (g.H.World.meaning c.answer-outcome.new.host) (g.H.World.meaning c.print_error_line.new.host)
-    (g.H.World.faults c.args.host.now) (g.H.World.faults c.answer-outcome.new.host) (g.H.World.faults c.print_error_line.new.host) c.answer-outcome.result c.print_error_line.result
+    (answered (answer_of (map (λ word. string_bytes word) c.args.words.now)) (g.H.World.meaning c.args.host.now)
+    (g.H.World.meaning c.answer-outcome.new.host) (g.H.World.meaning c.print_error_line.new.host)
+    (g.H.World.faults c.args.host.now) (g.H.World.faults c.answer-outcome.new.host) (g.H.World.faults c.print_error_line.new.host)
+    c.answer-outcome.result c.print_error_line.result
     c.print_error_line.ensures.same c.print_error_line.ensures.only c.answer-outcome.ensures).answers
 
 pub returns-clause-opens : goal.returns-clause-opens
 returns-clause-opens g c =
-    (answered (answer_of (map (λ word. string_bytes word) c.args.words.now)) (g.H.World.meaning c.args.host.now) (g.H.World.meaning c.answer-outcome.new.host) (g.H.World.meaning c.print_error_line.new.host)
-    (g.H.World.faults c.args.host.now) (g.H.World.faults c.answer-outcome.new.host) (g.H.World.faults c.print_error_line.new.host) c.answer-outcome.result c.print_error_line.result
+    (answered (answer_of (map (λ word. string_bytes word) c.args.words.now)) (g.H.World.meaning c.args.host.now)
+    (g.H.World.meaning c.answer-outcome.new.host) (g.H.World.meaning c.print_error_line.new.host)
+    (g.H.World.faults c.args.host.now) (g.H.World.faults c.answer-outcome.new.host) (g.H.World.faults c.print_error_line.new.host)
+    c.answer-outcome.result c.print_error_line.result
     c.print_error_line.ensures.same c.print_error_line.ensures.only c.answer-outcome.ensures).opens
 
 pub returns-clause-line : goal.returns-clause-line
 returns-clause-line g c =
-    let stays = err-before (answer_of (map (λ word. string_bytes word) c.args.words.now)) (g.H.World.meaning c.args.host.now) (g.H.World.meaning c.answer-outcome.new.host)
+    let stays = err-before (answer_of (map (λ word. string_bytes word) c.args.words.now)) (g.H.World.meaning c.args.host.now)
+    (g.H.World.meaning c.answer-outcome.new.host)
     (g.H.World.faults c.args.host.now) (g.H.World.faults c.answer-outcome.new.host) c.answer-outcome.result c.answer-outcome.ensures in
     line-since (g.H.World.meaning c.args.host.now) (g.H.World.meaning c.answer-outcome.new.host) (g.H.World.meaning c.print_error_line.new.host)
-    (g.H.World.faults c.args.host.now) (g.H.World.faults c.answer-outcome.new.host) (g.H.World.faults c.print_error_line.new.host) c.print_error_line.result stays.0 stays.1 c.print_error_line.ensures.line
+    (g.H.World.faults c.args.host.now) (g.H.World.faults c.answer-outcome.new.host) (g.H.World.faults c.print_error_line.new.host)
+    c.print_error_line.result stays.0 stays.1 c.print_error_line.ensures.line

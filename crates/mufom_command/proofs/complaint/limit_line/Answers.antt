@@ -3,7 +3,8 @@ use Rattle.std.specs.Fmt.{decimal}
 use Rattle.mufom_command.specs.Text.{Text, line}
 use Rattle.mufom_command.proofs.complaint.limit_line.Goals as goal
 
-regroup : (file : Text) → codes "refused: file " ++ (file ++ (codes ": InputLimit" ++ 10 ∷ [])) ≡ line (codes "refused: " ++ (codes "file " ++ file ++ codes ": InputLimit"))
+regroup : (file : Text) → codes "refused: file " ++ (file ++ (codes ": InputLimit" ++ 10 ∷ []))
+    ≡ line (codes "refused: " ++ (codes "file " ++ file ++ codes ": InputLimit"))
 regroup file = simp append_assoc
 
 pub returns : goal.returns

@@ -8,7 +8,8 @@ use Rattle.mufom_command.proofs.complaint.mismatch_line.Goals as goal
 written : Text → Text → Text → Text → Text
 written m o n p = codes "refused: link: Mismatch " ++ (m ++ (codes " " ++ (o ++ (codes " " ++ (n ++ (codes " " ++ (p ++ 10 ∷ [])))))))
 
-regroup : (m o n p : Text) → written m o n p ≡ line (codes "refused: " ++ (codes "link: " ++ (codes "Mismatch " ++ (m ++ codes " " ++ o) ++ codes " " ++ (n ++ codes " " ++ p))))
+regroup : (m o n p : Text) → written m o n p ≡ line (codes "refused: "
+    ++ (codes "link: " ++ (codes "Mismatch " ++ (m ++ codes " " ++ o) ++ codes " " ++ (n ++ codes " " ++ p))))
 unfolding written
 regroup m o n p = simp append_assoc
 

@@ -9,4 +9,6 @@ regroup : (file place reason : Text) → codes "refused: file " ++ (file ++ (cod
 regroup file place reason = simp append_assoc
 
 pub returns : goal.returns
-returns c = c.in_ok-format.ensures.ok ∙ ap (λ (reason : Text). codes "refused: file " ++ (decimal c.args.file ++ (codes " at " ++ (decimal c.args.refusal.place ++ (codes ": " ++ (reason ++ 10 ∷ [])))))) c.reason_name-reason.ensures ∙ regroup (decimal c.args.file) (decimal c.args.refusal.place) (reason_text c.args.refusal.reason)
+returns c = c.in_ok-format.ensures.ok ∙ ap (λ (reason : Text). codes "refused: file "
+    ++ (decimal c.args.file ++ (codes " at " ++ (decimal c.args.refusal.place ++ (codes ": " ++ (reason ++ 10 ∷ [])))))) c.reason_name-reason.ensures
+    ∙ regroup (decimal c.args.file) (decimal c.args.refusal.place) (reason_text c.args.refusal.reason)

@@ -16,13 +16,15 @@ returns-in-Err g c = c.in-Err.ensures.stops verb.Locate tt
 pub returns : goal.returns
 returns g c =
     let read = c.in-Ok.ensures in let command = c.args.command.now in
-    lacking-does command (λ files. linking (locating absolute_file) files command) (g.H.World.meaning c.args.host.now) (g.H.World.meaning c.locate_inputs.new.host) (g.H.World.faults c.args.host.now) (g.H.World.faults c.locate_inputs.new.host) read.only read.all
+    lacking-does command (λ files. linking (locating absolute_file) files command) (g.H.World.meaning c.args.host.now)
+    (g.H.World.meaning c.locate_inputs.new.host) (g.H.World.faults c.args.host.now) (g.H.World.faults c.locate_inputs.new.host) read.only read.all
 
 pub returns-in-Ok-absolute : goal.returns-in-Ok-absolute
 returns-in-Ok-absolute g c =
     let read = c.in-Ok.ensures in let command = c.args.command.now in let r = c.in-Ok.located in let object = c.in-Ok-absolute.object in
     let old = g.H.World.meaning c.args.host.now in let mid = g.H.World.meaning c.locate_inputs.new.host in let new = g.H.World.meaning c.make_output.new.host in
-    let before = g.H.World.faults c.args.host.now in let between = g.H.World.faults c.locate_inputs.new.host in let now = g.H.World.faults c.make_output.new.host in
+    let before = g.H.World.faults c.args.host.now in let between = g.H.World.faults c.locate_inputs.new.host in let now =
+    g.H.World.faults c.make_output.new.host in
     made-does command (λ files. linking (locating absolute_file) files command) old mid before between read.only read.all new now (written object)
     (λ name named. known-map (λ fs. LocatesTo fs command r) (λ fs. linking (locating absolute_file) fs command (gives (made name (written object)))) old.files
     (λ fs is. subst (λ (m : Parts). linking (locating absolute_file) fs command (gives (made name (written m)))) (sym c.in-Ok-absolute.ensures.absolute)

@@ -9,5 +9,7 @@ returns-in-Ok-read_module-clause-read g c =
 pub returns-in-Err-clause-stops : goal.returns-in-Err-clause-stops
 returns-in-Err-clause-stops g c =
     rw (c.outcome_of_source_stop.ensures)
-    (file_stopped c.args.reads_debug c.args.name.now c.args.file c.args.limit _ (g.H.World.meaning c.open.new.self).left (g.H.World.meaning c.read_module.new.source).left (g.H.World.faults c.args.host.now) (g.H.World.faults c.open.new.self) (g.H.World.faults c.read_module.new.source) c.in-Err.stop
+    (file_stopped c.args.reads_debug c.args.name.now c.args.file c.args.limit _ (g.H.World.meaning c.open.new.self).left
+    (g.H.World.meaning c.read_module.new.source).left (g.H.World.faults c.args.host.now) (g.H.World.faults c.open.new.self)
+    (g.H.World.faults c.read_module.new.source) c.in-Err.stop
     c.in-Ok.ensures.opens.bytes c.in-Err.ensures.reads (λ is. c.in-Err.ensures.fault (ap (λ s. Err s) is)) c.in-Ok.ensures.cause.later)

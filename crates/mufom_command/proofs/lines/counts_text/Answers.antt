@@ -6,9 +6,11 @@ use Rattle.mufom_command.proofs.lines.counts_text.Goals as goal
 
 -- as the chunks are written, one after another
 written : Text → Text → Text → Text → Text → Text
-written s p r l d = codes ": sections " ++ (s ++ (codes " publics " ++ (p ++ (codes " references " ++ (r ++ (codes " loads " ++ (l ++ (codes " debug " ++ (d ++ 10 ∷ [])))))))))
+written s p r l d = codes ": sections " ++ (s ++ (codes " publics "
+    ++ (p ++ (codes " references " ++ (r ++ (codes " loads " ++ (l ++ (codes " debug " ++ (d ++ 10 ∷ [])))))))))
 
-regroup : (s p r l d : Text) → written s p r l d ≡ line (codes ": sections " ++ s ++ codes " publics " ++ p ++ codes " references " ++ r ++ codes " loads " ++ l ++ codes " debug " ++ d)
+regroup : (s p r l d : Text) → written s p r l d ≡ line (codes ": sections " ++ s ++ codes " publics " ++ p ++ codes " references " ++ r
+    ++ codes " loads " ++ l ++ codes " debug " ++ d)
 unfolding written
 regroup s p r l d = simp append_assoc
 

@@ -13,18 +13,23 @@ located-requires-clause-names c = link-names c.args.command.now c.args.inputs.mo
 
 pub returns-in-Ok-clause-ok : goal.returns-in-Ok-clause-ok
 returns-in-Ok-clause-ok c =
-    if-ok-map c.located.result (λ r. located c.args.inputs.plan (c.in-Ok.object ∷ []) (gives r)) (λ r. location_of c.args.command.now c.args.inputs.plan c.args.inputs.modules (gives r))
-    (λ r there. link-located c.args.command.now c.args.inputs.modules c.requires.linkable.valid c.requires.unnamed c.in-Ok.object c.in-Ok.ensures.valid c.args.inputs.plan c.in-Ok.ensures.ok r there)
+    if-ok-map c.located.result (λ r. located c.args.inputs.plan (c.in-Ok.object ∷ []) (gives r))
+    (λ r. location_of c.args.command.now c.args.inputs.plan c.args.inputs.modules (gives r))
+    (λ r there. link-located c.args.command.now c.args.inputs.modules c.requires.linkable.valid c.requires.unnamed c.in-Ok.object
+    c.in-Ok.ensures.valid c.args.inputs.plan c.in-Ok.ensures.ok r there)
     c.located.ensures.ok
 
 pub returns-in-Ok-clause-stops : goal.returns-in-Ok-clause-stops
 returns-in-Ok-clause-stops c =
-    if-err-map c.located.result (EndsAt (located c.args.inputs.plan (c.in-Ok.object ∷ []))) (EndsAt (location_of c.args.command.now c.args.inputs.plan c.args.inputs.modules))
+    if-err-map c.located.result (EndsAt (located c.args.inputs.plan (c.in-Ok.object ∷ [])))
+    (EndsAt (location_of c.args.command.now c.args.inputs.plan c.args.inputs.modules))
     (λ o ends. ends-along (located c.args.inputs.plan (c.in-Ok.object ∷ [])) (location_of c.args.command.now c.args.inputs.plan c.args.inputs.modules)
-    (λ s there. link-unlocated c.args.command.now c.args.inputs.modules c.requires.linkable.valid c.requires.unnamed c.in-Ok.object c.in-Ok.ensures.valid c.args.inputs.plan c.in-Ok.ensures.ok s there) o ends)
+    (λ s there. link-unlocated c.args.command.now c.args.inputs.modules c.requires.linkable.valid c.requires.unnamed c.in-Ok.object
+    c.in-Ok.ensures.valid c.args.inputs.plan c.in-Ok.ensures.ok s there) o ends)
     c.located.ensures.stops
 
 pub returns-clause-stops : goal.returns-clause-stops
 returns-clause-stops c =
-    ends-along (with_stops link_fact (linked_module c.args.command.now c.args.inputs.modules)) (location_of c.args.command.now c.args.inputs.plan c.args.inputs.modules)
+    ends-along (with_stops link_fact (linked_module c.args.command.now c.args.inputs.modules))
+    (location_of c.args.command.now c.args.inputs.plan c.args.inputs.modules)
     (λ s ends. unlinked-stops c.args.command.now c.args.inputs.modules c.requires.linkable.valid c.args.inputs.plan s ends) c.in-Err.stop c.in-Err.ensures.stops

@@ -18,7 +18,8 @@ returns-in-Ok g c =
     let old = g.H.World.meaning c.args.host.now in let mid = g.H.World.meaning c.read_inputs.new.host in let new = g.H.World.meaning c.print_one.new.host in
     let before = g.H.World.faults c.args.host.now in let between = g.H.World.faults c.read_inputs.new.host in let now = g.H.World.faults c.print_one.new.host in
     let text : List Parts → List ℕ = λ ms. flat_map (text_of (form_of command)) ms in
-    let printed_text = subst (λ (f : TextForm). IsPrinted (flat_map (text_of f) inputs.modules) (call_of g.H.World.meaning g.H.World.faults c.read_inputs.new.host c.print_one.new.host) c.print_one.result)
+    let printed_text = subst (λ (f : TextForm). IsPrinted (flat_map (text_of f) inputs.modules)
+    (call_of g.H.World.meaning g.H.World.faults c.read_inputs.new.host c.print_one.new.host) c.print_one.result)
     c.form_of.ensures (rw c.as_slice.ensures at put.answer) in
     printed-does command (λ files. showing files command) old mid before between read.only read.all new now put.only.1 put.only.2 (text inputs.modules)
     (known-map (λ fs. inputs_in fs command (gives (inputs.plan, inputs.modules))) (λ fs. showing fs command (gives (printed (text inputs.modules)))) old.files
@@ -28,7 +29,8 @@ returns-in-Ok g c =
 pub returns-in-Err : goal.returns-in-Err
 returns-in-Err g c =
     let read = c.in-Err.ensures in let command = c.args.command.now in
-    stopped-does command (λ files. showing files command) (g.H.World.meaning c.args.host.now) (g.H.World.meaning c.read_inputs.new.host) (g.H.World.faults c.args.host.now) (g.H.World.faults c.read_inputs.new.host) read.only
+    stopped-does command (λ files. showing files command) (g.H.World.meaning c.args.host.now) (g.H.World.meaning c.read_inputs.new.host)
+    (g.H.World.faults c.args.host.now) (g.H.World.faults c.read_inputs.new.host) read.only
     (listing-begins (λ ms. flat_map (text_of (form_of command)) ms) command c.requires.no_plan) c.in-Err.stop read.stops read.opened
 
 pub print_one-requires : goal.print_one-requires

@@ -5,13 +5,17 @@ pub returns-in-Ok-read_bytes-clause-bytes : goal.returns-in-Ok-read_bytes-clause
 returns-in-Ok-read_bytes-clause-bytes g c = bytes_of_file c.args.name.now _ _ _ c.in-Ok.ensures.opens.bytes c.in-Ok-read_bytes.ensures.bytes
 
 pub returns-in-Ok-read_bytes-clause-opens : goal.returns-in-Ok-read_bytes-clause-opens
-returns-in-Ok-read_bytes-clause-opens g c = grows-then-read (g.H.World.meaning c.args.host.now) (g.H.World.meaning c.open.new.self) (g.H.World.meaning c.read_bytes.new.source) c.args.name.now c.in-Ok.ensures.opens.names c.read_bytes.ensures.only.0
+returns-in-Ok-read_bytes-clause-opens g c = grows-then-read (g.H.World.meaning c.args.host.now) (g.H.World.meaning c.open.new.self)
+    (g.H.World.meaning c.read_bytes.new.source) c.args.name.now c.in-Ok.ensures.opens.names c.read_bytes.ensures.only.0
 
 pub returns-in-Ok-read_bytes-clause-opened : goal.returns-in-Ok-read_bytes-clause-opened
-returns-in-Ok-read_bytes-clause-opened g c = opened_then_read (g.H.World.meaning c.args.host.now) (g.H.World.meaning c.open.new.self) (g.H.World.meaning c.read_bytes.new.source) c.args.name.now c.in-Ok.ensures.opens.names c.read_bytes.ensures.only.0
+returns-in-Ok-read_bytes-clause-opened g c = opened_then_read (g.H.World.meaning c.args.host.now) (g.H.World.meaning c.open.new.self)
+    (g.H.World.meaning c.read_bytes.new.source) c.args.name.now c.in-Ok.ensures.opens.names c.read_bytes.ensures.only.0
 
 pub returns-in-Err-Fault-clause-opened : goal.returns-in-Err-Fault-clause-opened
-returns-in-Err-Fault-clause-opened g c = opened_then_read (g.H.World.meaning c.args.host.now) (g.H.World.meaning c.open.new.self) (g.H.World.meaning c.read_bytes.new.source) c.args.name.now c.in-Ok.ensures.opens.names c.read_bytes.ensures.only.0
+returns-in-Err-Fault-clause-opened g c = opened_then_read (g.H.World.meaning c.args.host.now) (g.H.World.meaning c.open.new.self)
+    (g.H.World.meaning c.read_bytes.new.source) c.args.name.now c.in-Ok.ensures.opens.names c.read_bytes.ensures.only.0
 
 pub returns-clause-opened : goal.returns-clause-opened
-returns-clause-opened g c = opened_then_read (g.H.World.meaning c.args.host.now) (g.H.World.meaning c.open.new.self) (g.H.World.meaning c.read_bytes.new.source) c.args.name.now c.in-Ok.ensures.opens.names c.read_bytes.ensures.only.0
+returns-clause-opened g c = opened_then_read (g.H.World.meaning c.args.host.now) (g.H.World.meaning c.open.new.self)
+    (g.H.World.meaning c.read_bytes.new.source) c.args.name.now c.in-Ok.ensures.opens.names c.read_bytes.ensures.only.0

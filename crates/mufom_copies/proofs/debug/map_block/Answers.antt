@@ -8,5 +8,11 @@ returns g c =
     let head = c.in_ok-map_head.ensures in
     let name = c.in_ok-copy_bytes.ensures in
     let end = c.in_ok-map_end.ensures in
-    marks-Block (record { head = c.in_ok-map_head.field-0; name = c.in_ok-copy_bytes.field-0; items = c.items.inside.items.items; end = c.in_ok-map_end.field-0 })
+    marks-Block (record {
+      head = c.in_ok-map_head.field-0;
+      name = c.in_ok-copy_bytes.field-0;
+      items = c.items.inside.items.items;
+      end =
+          c.in_ok-map_end.field-0;
+    })
     ∙ (λ i. block_begin (head i) (name i) ∷ (marks_of (c.items.view_is i) ++ block_end (end i) ∷ []))

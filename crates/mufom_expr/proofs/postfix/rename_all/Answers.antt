@@ -35,5 +35,6 @@ loop-token-preserved g c =
     drop-set-lt (i + 1) now i c.renamed.result (omega arith) ∙ drop_more_same now c.args.tokens.items i c.loop-token.invariant.1 in (
       renamed_more f c.args.tokens.items now i c.renamed.result within c.loop-token.invariant.0 c.loop-token.invariant.1 c.renamed.ensures.value,
       rest,
-      subst (λ (ts : List Token). AllByRecursion IsInRange ts) (sym (take_more_set now i c.renamed.result within)) (in_range-push (take i now) c.renamed.result c.loop-token.invariant.2 c.renamed.ensures.range),
+      subst (λ (ts : List Token). AllByRecursion IsInRange ts) (sym (take_more_set now i c.renamed.result within))
+          (in_range-push (take i now) c.renamed.result c.loop-token.invariant.2 c.renamed.ensures.range),
     )

@@ -16,7 +16,8 @@ loop-token-preserved g c =
     let i = c.loop-token.token-index in
     let here = drop_more items i _ c.loop-token-test.true in
     let Runs : List (Option ℕ) → Type 0 = λ vs. IsRunning (value_at m env) items (the_term items) (i + 1) vs in (
-      subst Runs (sym c.step.ensures.value) (goes_on (value_at m env) (values_with m env) (values_fit m env) items (the_term items) i values c.loop-token.invariant.0 _ here),
+      subst Runs (sym c.step.ensures.value) (goes_on (value_at m env) (values_with m env) (values_fit m env) items (the_term items) i values
+          c.loop-token.invariant.0 _ here),
       omega (arith, c.step.ensures.length, c.loop-token.invariant.1),
       c.step.ensures.residues,
     )

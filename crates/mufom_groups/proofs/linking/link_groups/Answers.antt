@@ -15,11 +15,14 @@ loop-mark-init c =
 pub returns-in_err-take_mark-clause-refused : goal.returns-in_err-take_mark-clause-refused
 returns-in_err-take_mark-clause-refused c =
     let refused : StopsWork (links (map (members_at c.args.roots.items) (groups (tree_of c.args.marks.now)))) c.in_err-take_mark.field-0.0
-    = refused-here c.args.roots.items (tree_of c.args.marks.now) c.args.marks.now c.loop-mark.mark-index _ c.loop-mark.linked.items c.loop-mark.begun.items (into_iter_items c.loop-mark.rest) c.loop-mark-test.true c.loop-mark.invariant
+    = refused-here c.args.roots.items (tree_of c.args.marks.now) c.args.marks.now c.loop-mark.mark-index _ c.loop-mark.linked.items
+    c.loop-mark.begun.items (into_iter_items c.loop-mark.rest) c.loop-mark-test.true c.loop-mark.invariant
     c.requires.valid c.requires.light c.in_err-take_mark.field-0.0 c.in_err-take_mark.ensures.refused in
     search (rules, refused)
 
 pub loop-mark-preserved : goal.loop-mark-preserved
 loop-mark-preserved c =
-    taken-here c.args.roots.items (tree_of c.args.marks.now) c.args.marks.now c.loop-mark.mark-index _ c.loop-mark.linked.items c.loop-mark.begun.items (into_iter_items c.loop-mark.rest) c.loop-mark-test.true c.loop-mark.invariant
-    c.requires.valid c.requires.light c.take_mark.new.begun.items c.take_mark.new.linked.items (into_iter_items c.take_mark.new.rest) c.in_ok-take_mark.ensures.ok
+    taken-here c.args.roots.items (tree_of c.args.marks.now) c.args.marks.now c.loop-mark.mark-index _ c.loop-mark.linked.items
+    c.loop-mark.begun.items (into_iter_items c.loop-mark.rest) c.loop-mark-test.true c.loop-mark.invariant
+    c.requires.valid c.requires.light c.take_mark.new.begun.items c.take_mark.new.linked.items (into_iter_items c.take_mark.new.rest)
+    c.in_ok-take_mark.ensures.ok

@@ -9,9 +9,11 @@ loop-turn-preserved c = next-drop c.loop-turn.turn (into_iter_items c.args.rest.
 pub returns-clause-item : goal.returns-clause-item
 returns-clause-item c =
     let same : c.loop-turn.turn ≡ c.args.count = omega (arith, c.loop-turn-test.false, c.loop-turn.auto.turn-end) in
-    next-get c.args.count (into_iter_items c.args.rest.now) _ _ c.next_of-2.result (c.loop-turn.invariant ∙ ap (λ k. drop k (into_iter_items c.args.rest.now)) same) c.next_of-2.ensures
+    next-get c.args.count (into_iter_items c.args.rest.now) _ _ c.next_of-2.result (c.loop-turn.invariant
+    ∙ ap (λ k. drop k (into_iter_items c.args.rest.now)) same) c.next_of-2.ensures
 
 pub returns-clause-rest : goal.returns-clause-rest
 returns-clause-rest c =
     let same : c.loop-turn.turn ≡ c.args.count = omega (arith, c.loop-turn-test.false, c.loop-turn.auto.turn-end) in
-    next-drop c.args.count (into_iter_items c.args.rest.now) _ _ c.next_of-2.result (c.loop-turn.invariant ∙ ap (λ k. drop k (into_iter_items c.args.rest.now)) same) c.next_of-2.ensures
+    next-drop c.args.count (into_iter_items c.args.rest.now) _ _ c.next_of-2.result (c.loop-turn.invariant
+    ∙ ap (λ k. drop k (into_iter_items c.args.rest.now)) same) c.next_of-2.ensures

@@ -16,7 +16,8 @@ loop-written-preserved g c =
     let bound = rw rest at c.in-Ok.ensures.bound in
     let left = rw length-drop at bound in (
       omega (arith, left, c.loop-written-test.true),
-      rw take-add (AfterWrites-write _ _ _ _ _ _ (take written bytes) c.in-Ok.count (drop written bytes) c.loop-written.invariant.1 (rw rest at c.in-Ok.ensures.bytes) c.in-Ok.ensures.stays c.in-Ok.ensures.cause c.in-Ok.ensures.counts),
+      rw take-add (AfterWrites-write _ _ _ _ _ _ (take written bytes) c.in-Ok.count (drop written bytes) c.loop-written.invariant.1
+          (rw rest at c.in-Ok.ensures.bytes) c.in-Ok.ensures.stays c.in-Ok.ensures.cause c.in-Ok.ensures.counts),
     )
 
 pub returns-in-Err : goal.returns-in-Err
@@ -31,8 +32,13 @@ returns-in-Err g c =
     let between = g.S.World.faults c.loop-written.sink in
     let now = g.S.World.faults c.write.new.self in
     record {
-      bytes = rw take-append-drop at (MakingGrowsByPrefix-trans old.making mid.making new.making (take written bytes) (drop written bytes) so_far.added (rw rest at c.in-Err.ensures.bytes));
+      bytes = rw take-append-drop at (MakingGrowsByPrefix-trans old.making mid.making new.making (take written bytes) (drop written bytes)
+          so_far.added (rw rest at c.in-Err.ensures.bytes));
       stays = KeepsAllButMaking-trans old mid new so_far.stays c.in-Err.ensures.stays;
-      cause = record { later = omega (arith, so_far.later, c.in-Err.ensures.cause.later); failed = later-Rose before.writes between.writes now.writes so_far.later c.in-Err.ensures.cause.failed };
+      cause = record {
+        later = omega (arith, so_far.later, c.in-Err.ensures.cause.later);
+        failed =
+            later-Rose before.writes between.writes now.writes so_far.later c.in-Err.ensures.cause.failed;
+      };
       counts = KeepsAllButWrites-trans before between now so_far.counts c.in-Err.ensures.counts;
     }

@@ -16,7 +16,8 @@ loop-place-preserved c =
     let m = c.args.module.now in
     let k = c.loop-place.place in
     let r = c.index-references-place.result in
-    let all : c.as_slice-references.result.now ≡ m.names.references = c.as_slice-references.ensures ∙ ap (λ (parts : Parts). parts.names.references) c.parts.ensures.same in
+    let all : c.as_slice-references.result.now ≡ m.names.references = c.as_slice-references.ensures
+    ∙ ap (λ (parts : Parts). parts.names.references) c.parts.ensures.same in
     let inside : k < length m.names.references = omega (arith, c.loop-place-test.true, ap length all) in
     let is : get_or m.names.references k r ≡ r = ap (λ (rs : List Reference). get_or rs k r) (sym all) ∙ sym c.index-references-place.is in
     let at = slice_get-get_or m.names.references k r inside ∙ ap Some is in
@@ -28,6 +29,8 @@ loop-place-preserved c =
 pub returns : goal.returns
 returns c =
     let m = c.args.module.now in
-    let all : c.as_slice-references.result.now ≡ m.names.references = c.as_slice-references.ensures ∙ ap (λ (parts : Parts). parts.names.references) c.parts.ensures.same in
-    let whole : take c.loop-place.place m.names.references ≡ m.names.references = take_all c.loop-place.place m.names.references (omega (arith, c.loop-place-test.false, ap length all)) in
+    let all : c.as_slice-references.result.now ≡ m.names.references = c.as_slice-references.ensures
+    ∙ ap (λ (parts : Parts). parts.names.references) c.parts.ensures.same in
+    let whole : take c.loop-place.place m.names.references ≡ m.names.references =
+    take_all c.loop-place.place m.names.references (omega (arith, c.loop-place-test.false, ap length all)) in
     c.from_vec.ensures ∙ c.loop-place.invariant ∙ ap (λ (rs : List Reference). sections_for (asked_by m rs)) whole ∙ all-sections m

@@ -14,7 +14,8 @@ returns-then-place-len c =
     let count : vec_len c.args.commons.now ≡ length commons = grind arith in
     let inside : room.common < vec_len c.args.commons.now = omega (arith, c.if-place-len.true, c.len.ensures) in
     let there = slice_get_read commons (vec_len c.args.commons.now) room.common x count inside c.index_mut.ensures.value in
-    ap (slice_set commons room.common) c.raise.ensures ∙ room-set commons (room_of c.args.meeting c.args.reference.now.weak) room c.args.reference.now.name x asked there
+    ap (slice_set commons room.common) c.raise.ensures ∙ room-set commons (room_of c.args.meeting c.args.reference.now.weak) room
+    c.args.reference.now.name x asked there
 
 pub returns : goal.returns
 returns c =

@@ -6,7 +6,8 @@ use Rattle.mufom_image_values.specs.Evaluated.{AreValues}
 use Rattle.mufom_image.proofs.MetLaws.{unplaced-answered, judged-answered}
 use Rattle.mufom_image.proofs.ReadyLaws.{placed-count}
 use Rattle.mufom_image.proofs.EntryLaws.{location-light}
-use Rattle.mufom_image.proofs.PlannedLaws.{placed-there, graph-placed, nothing-unplaced, placed-acyclic, walk-met, valued-where-placed, walked-where-placed, located-where-placed}
+use Rattle.mufom_image.proofs.PlannedLaws.{placed-there, graph-placed, nothing-unplaced, placed-acyclic, walk-met, valued-where-placed}
+use Rattle.mufom_image.proofs.PlannedLaws.{walked-where-placed, located-where-placed}
 use Rattle.mufom_image.proofs.locating.located.Goals as goal
 
 pub returns-in_err-sections-clause-refused : goal.returns-in_err-sections-clause-refused
@@ -54,7 +55,8 @@ returns-in_err-runs-clause-refused c =
     let there = placed-there _ _ _ _ _ c.in_ok-sections.ensures.placed c.as_slice.ensures in
     let p = err_from_is_err_and c.from_residual-in_err-runs.result c.from_residual-in_err-runs.ensures.1 in
     rw (p.1, p.2)
-    (walk-met _ _ _ _ c.placed_module-placed.ensures c.requires.names _ _ there c.in_ok-components.ensures.ok c.in_err-runs.field-0.0 c.in_err-runs.ensures.refused)
+    (walk-met _ _ _ _ c.placed_module-placed.ensures c.requires.names _ _ there c.in_ok-components.ensures.ok c.in_err-runs.field-0.0
+    c.in_err-runs.ensures.refused)
 
 pub located_parts-requires : goal.located_parts-requires
 located_parts-requires c =
@@ -66,10 +68,12 @@ pub returns : goal.returns
 returns c =
     let there = placed-there _ _ _ _ _ c.in_ok-sections.ensures.placed c.as_slice.ensures in
     let own : c.placed_sections-sections.result ≡ placed_sections c.as_slice.result.now c.in_ok-sections.field-0.sections
-    = c.placed_sections-sections.ensures ∙ ap (λ bases. placed_sections bases c.in_ok-sections.field-0.sections) (c.as_slice-3.ensures ∙ sym c.as_slice.ensures) in
+    = c.placed_sections-sections.ensures ∙ ap (λ bases. placed_sections bases c.in_ok-sections.field-0.sections) (c.as_slice-3.ensures
+    ∙ sym c.as_slice.ensures) in
     let valid : IsValid c.args.module.now = subst IsValid c.placed_module-placed.ensures.parts c.placed_module-placed.ensures.valid in
     let is : IsLocation (c.args.module.now ∷ []) c.args.plan.now c.in_ok-located_parts.field-0
-    = located-where-placed _ _ _ _ _ _ _ c.in_ok-located_parts.ensures c.placed_module-placed.ensures c.requires.names _ _ there own c.in_ok-components.ensures.ok c.in_ok-runs.ensures.passed c.in_ok-runs.ensures.rows in
+    = located-where-placed _ _ _ _ _ _ _ c.in_ok-located_parts.ensures c.placed_module-placed.ensures c.requires.names _ _ there own
+    c.in_ok-components.ensures.ok c.in_ok-runs.ensures.passed c.in_ok-runs.ensures.rows in
     record {
       sound = record { source = c.args.module.now; plan = c.args.plan.now; valid = valid; is = is };
       located = is;

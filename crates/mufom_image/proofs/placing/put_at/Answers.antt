@@ -10,7 +10,8 @@ loop-place-preserved c =
     let x = c.index-sections-place.result in
     let whole = c.loop-place.invariant in
     let inside : k < length c.args.sections.now = omega (arith, c.loop-place-test.true, c.loop-place.auto.sections) in
-    let at : x ≡ get_or (made_until (placed_section c.args.bases.now) 0 c.args.sections.now k) k x = c.index-sections-place.is ∙ ap (λ (xs : List Section). get_or xs k x) whole in
+    let at : x ≡ get_or (made_until (placed_section c.args.bases.now) 0 c.args.sections.now k) k x = c.index-sections-place.is
+    ∙ ap (λ (xs : List Section). get_or xs k x) whole in
     let first : 0 + k ≡ k = omega arith in
     let bases = c.args.bases.now in
     ap (λ (y : Section). slice_set c.loop-place.sections k (record y { absolute = true; base = c.base_at-section.result })) (sym c.index-sections-place.is)
@@ -20,4 +21,5 @@ loop-place-preserved c =
     ∙ made-more (placed_section bases) 0 c.args.sections.now k x inside at
 
 pub returns : goal.returns
-returns c = c.loop-place.invariant ∙ made-all (placed_section c.args.bases.now) 0 c.args.sections.now c.loop-place.place (omega (arith, c.loop-place-test.false, c.loop-place.auto.sections))
+returns c = c.loop-place.invariant ∙ made-all (placed_section c.args.bases.now) 0 c.args.sections.now c.loop-place.place
+    (omega (arith, c.loop-place-test.false, c.loop-place.auto.sections))

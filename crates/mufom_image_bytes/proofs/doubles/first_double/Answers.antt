@@ -27,5 +27,6 @@ returns-clause-double c = λ loaded h.
     let place : slice_get (addresses_of loaded) number ≡ Some a = ap (slice_get (addresses_of loaded)) (sym here) ∙ at in
     let low : a < 2 ^ 64 = below a (In-Contains a (addresses_of loaded) (In-at a (addresses_of loaded) number place)) in
     let same = found.3 low in
-    double_at loaded chunks c.args.count permuted tiles number c.address_of.result c.requires c.first_shared-number.ensures.before c.first_shared-number.ensures.shares
+    double_at loaded chunks c.args.count permuted tiles number c.address_of.result c.requires c.first_shared-number.ensures.before
+    c.first_shared-number.ensures.shares
     (place ∙ ap Some (sym same))

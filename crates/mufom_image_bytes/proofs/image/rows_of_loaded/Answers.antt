@@ -20,7 +20,8 @@ returns-in-Some-clause-refusal c =
     let h : AreSorted (loaded_cells c.args.loaded) bytes chunks sorted =
     record { consecutive = c.in_ok-chunks.ensures.consecutive; same = c.in_ok-chunks.ensures.cells; permuted = c.sort_by_address.ensures.permutation } in
     refused (loaded_cells c.args.loaded) bytes chunks sorted h c.in-Some.stop (option_map fact_of c.args.stop)
-    (λ loaded ordered. c.in-Some.ensures.stop loaded (subst (λ (x : List Chunk × ℕ). AreOrdered x.0 x.1 loaded) (λ i. (sym c.deref.ensures.value i, sym long i)) ordered))
+    (λ loaded ordered. c.in-Some.ensures.stop loaded (subst (λ (x : List Chunk × ℕ). AreOrdered x.0 x.1 loaded)
+    (λ i. (sym c.deref.ensures.value i, sym long i)) ordered))
 
 pub rows_of-requires-clause-spread : goal.rows_of-requires-clause-spread
 rows_of-requires-clause-spread c =
@@ -54,11 +55,13 @@ returns-clause-image c =
     let h : AreSorted (loaded_cells c.args.loaded) bytes chunks sorted =
     record { consecutive = c.in_ok-chunks.ensures.consecutive; same = c.in_ok-chunks.ensures.cells; permuted = c.sort_by_address.ensures.permutation } in
     imaged (loaded_cells c.args.loaded) bytes chunks sorted h c.args.stop c.in_ok-rows_of-in-None.field-0
-    (λ loaded ordered. c.in-None.ensures.stop loaded (subst (λ (x : List Chunk × ℕ). AreOrdered x.0 x.1 loaded) (λ i. (sym c.deref.ensures.value i, sym long i)) ordered))
+    (λ loaded ordered. c.in-None.ensures.stop loaded (subst (λ (x : List Chunk × ℕ). AreOrdered x.0 x.1 loaded)
+    (λ i. (sym c.deref.ensures.value i, sym long i)) ordered))
     (c.in-None.ensures.ended refl) c.in_ok-rows_of-in-None.ensures.apart
     (c.in_ok-rows_of-in-None.ensures.cells ∙ ap (cells_of_chunks bytes) c.deref-in-None.ensures.value)
 
 pub rows_of-requires-clause-whole : goal.rows_of-requires-clause-whole
 rows_of-requires-clause-whole c =
     let bytes = c.in_ok-chunks.bytes.items in
-    rw c.deref-in-None.ensures.value (single_whole (length bytes) c.in_ok-chunks.chunks.items c.sort_by_address.new.chunks.items c.in_ok-chunks.ensures.consecutive c.sort_by_address.ensures.permutation)
+    rw c.deref-in-None.ensures.value (single_whole (length bytes) c.in_ok-chunks.chunks.items c.sort_by_address.new.chunks.items
+    c.in_ok-chunks.ensures.consecutive c.sort_by_address.ensures.permutation)

@@ -9,7 +9,8 @@ use Rattle.mufom_image_bytes.proofs.ModuleLaws.{valid_narrow, module_image, modu
 use Rattle.mufom_image_bytes.proofs.module_image.image_of_module.Goals as goal
 
 pub image_of-requires-clause-narrow : goal.image_of-requires-clause-narrow
-image_of-requires-clause-narrow g c = subst (λ (loads : List Load). All HasNarrowItems loads) (sym c.as_slice-2.ensures) (valid_narrow c.args.parts.now c.requires)
+image_of-requires-clause-narrow g c = subst (λ (loads : List Load). All HasNarrowItems loads) (sym c.as_slice-2.ensures)
+    (valid_narrow c.args.parts.now c.requires)
 
 pub returns-clause-image : goal.returns-clause-image
 returns-clause-image g c =

@@ -15,7 +15,8 @@ use Rattle.mufom_image_entries.proofs.debug.first_debug_division.Goals as goal
 pub first_division-requires-clause-few : goal.first_division-requires-clause-few
 first_division-requires-clause-few c =
     let m = c.args.valued.now.placed.now.graph.parts.now in
-    let all = c.in_ok-all.ensures ∙ ap (λ (items : List DebugItem). expressions_of (marks_of items)) (c.as_slice.ensures ∙ ap (λ (parts : Parts). parts.debug) c.parts.ensures) in
+    let all = c.in_ok-all.ensures ∙ ap (λ (items : List DebugItem). expressions_of (marks_of items)) (c.as_slice.ensures
+    ∙ ap (λ (parts : Parts). parts.debug) c.parts.ensures) in
     let few = few-expressions m c.requires.placed.graph.valid in
     omega (arith, few, ap (λ (ts : List Tree). length ts) all)
 
@@ -25,7 +26,8 @@ returns c =
     let m = valued.placed.now.graph.parts.now in
     let s = setting_of valued.placed.now in
     let trees = expressions_of (marks_of m.debug) in
-    let all = c.in_ok-all.ensures ∙ ap (λ (items : List DebugItem). expressions_of (marks_of items)) (c.as_slice.ensures ∙ ap (λ (parts : Parts). parts.debug) c.parts.ensures) in
+    let all = c.in_ok-all.ensures ∙ ap (λ (items : List DebugItem). expressions_of (marks_of items)) (c.as_slice.ensures
+    ∙ ap (λ (parts : Parts). parts.debug) c.parts.ensures) in
     let first = subst (λ (ts : List Tree). IsFirstDivision (divides valued) ts c.first_division.result) all c.first_division.ensures in
     ap (λ (xs : List SitedTree). first_some (debug_fact s) (enumerate_from 0 xs)) (append-nil (map (λ t. (alone m, t)) trees))
     ∙ first-debug s (alone m) trees c.first_division.result first

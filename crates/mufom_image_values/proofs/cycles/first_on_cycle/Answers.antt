@@ -23,7 +23,8 @@ returns-in-Some c =
     let p = c.index-publics-position.result in
     let first = subst (IsFirstOnCircle steps (length publics)) c.in-Some.is c.in_ok-position.ensures in
     let inside : n < length c.publics.result.now = omega (arith, first.0, ap length c.publics.ensures) in
-    let at = ap (λ (ps : List Public). slice_get ps n) (sym c.publics.ensures) ∙ slice_get-get_or c.publics.result.now n p inside ∙ ap Some (sym c.index-publics-position.is) in
+    let at = ap (λ (ps : List Public). slice_get ps n) (sym c.publics.ensures) ∙ slice_get-get_or c.publics.result.now n p inside
+    ∙ ap Some (sym c.index-publics-position.is) in
     named-first c.args.graph.now c.requires c.in_ok-position.field-0 c.in_ok-position.ensures
     ∙ ap (λ (first : Option ℕ). option_map (λ (p : Public). cycle p.name) (option_and_then (slice_get publics) first)) c.in-Some.is
     ∙ ap (option_map (λ (p : Public). cycle p.name)) at
@@ -31,4 +32,5 @@ returns-in-Some c =
 pub returns-in-None : goal.returns-in-None
 returns-in-None c =
     named-first c.args.graph.now c.requires c.in_ok-position.field-0 c.in_ok-position.ensures
-    ∙ ap (λ (first : Option ℕ). option_map (λ (p : Public). cycle p.name) (option_and_then (slice_get c.args.graph.now.parts.now.names.publics) first)) c.in-None.is
+    ∙ ap (λ (first : Option ℕ). option_map (λ (p : Public). cycle p.name)
+    (option_and_then (slice_get c.args.graph.now.parts.now.names.publics) first)) c.in-None.is

@@ -8,7 +8,8 @@ use Rattle.mufom_image_values.proofs.cycles.follow.Goals as goal
 
 pub mark-requires : goal.mark-requires
 mark-requires c =
-    let inside = c.requires c.in-Some.next (mention-at c.args.graph.now.meetings.now c.args.tokens.now c.loop-token.token-index _ c.in-Some.next c.loop-token-test.true (sym c.in-Some.is ∙ c.mentioned.ensures)) in
+    let inside = c.requires c.in-Some.next (mention-at c.args.graph.now.meetings.now c.args.tokens.now c.loop-token.token-index _ c.in-Some.next
+    c.loop-token-test.true (sym c.in-Some.is ∙ c.mentioned.ensures)) in
     omega (arith, inside, c.loop-token.invariant.1)
 
 pub loop-token-preserved : goal.loop-token-preserved

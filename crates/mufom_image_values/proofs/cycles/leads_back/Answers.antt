@@ -41,11 +41,13 @@ loop-public-smaller c =
     let marks = c.loop-public.marks.items in
     let rest = c.pop.new.self.items in
     let n = c.in-Some.public in
-    let now = subst (λ (pending : List ℕ). IsSearching (edges met publics) count c.args.position (search_of marks pending)) c.in-Some.ensures.items c.loop-public.invariant in
+    let now = subst (λ (pending : List ℕ). IsSearching (edges met publics) count c.args.position (search_of marks pending)) c.in-Some.ensures.items
+    c.loop-public.invariant in
     let less = searches_less (edges met publics) count c.requires.closed c.args.position marks rest n now in
     let same = c.in_ok-follow-2.ensures ∙ ap (λ (ts : List Token). followed (mentions_of met ts) (search_of marks rest)) c.tokens-in-Some.ensures.tokens in
     subst (λ (s : Search). left s < left (search_of marks c.loop-public.pending.items)) (sym same)
-    (subst (λ (pending : List ℕ). left (followed (edges met publics n) (search_of marks rest)) < left (search_of marks pending)) (sym c.in-Some.ensures.items) less)
+    (subst (λ (pending : List ℕ). left (followed (edges met publics n) (search_of marks rest)) < left (search_of marks pending))
+    (sym c.in-Some.ensures.items) less)
 
 pub loop-public-preserved : goal.loop-public-preserved
 loop-public-preserved c =
@@ -55,7 +57,8 @@ loop-public-preserved c =
     let marks = c.loop-public.marks.items in
     let rest = c.pop.new.self.items in
     let n = c.in-Some.public in
-    let now = subst (λ (pending : List ℕ). IsSearching (edges met publics) count c.args.position (search_of marks pending)) c.in-Some.ensures.items c.loop-public.invariant in
+    let now = subst (λ (pending : List ℕ). IsSearching (edges met publics) count c.args.position (search_of marks pending)) c.in-Some.ensures.items
+    c.loop-public.invariant in
     let same = c.in_ok-follow-2.ensures ∙ ap (λ (ts : List Token). followed (mentions_of met ts) (search_of marks rest)) c.tokens-in-Some.ensures.tokens in
     subst (IsSearching (edges met publics) count c.args.position) (sym same)
     (searches_on (edges met publics) count c.requires.closed c.args.position marks rest n now)

@@ -6,4 +6,5 @@ use Rattle.mufom_image_values.proofs.meetings.first_common.Given as goal
 
 -- no reference so far stands for the first common
 abbrev pub invariant-loop-place : goal.invariant-loop-place
-invariant-loop-place l = (j : ℕ) → j < l.place → (r : Reference) → slice_get l.module.names.references j ≡ Some r → is_first_common (meeting_of l.module r) ≡ false
+invariant-loop-place l = (j : ℕ) → j < l.place → (r : Reference) → slice_get l.module.names.references j ≡ Some r
+    → is_first_common (meeting_of l.module r) ≡ false

@@ -18,9 +18,12 @@ returns-then-is_undefined c =
     let place = c.loop-place.place in
     let r = c.index-references-place.result in
     let all = c.as_slice-references.ensures ∙ ap (λ (parts : Parts). parts.names.references) c.parts.ensures.same in
-    let at = ap (λ (rs : List Reference). slice_get rs place) (sym all) ∙ slice_get-get_or c.as_slice-references.result.now place r c.loop-place-test.true ∙ ap Some (sym c.index-references-place.is) in
-    let its = ap (λ (met : Meeting). is_nothing met && is_strong r) (sym (meeting-at m c.args.meetings.now place _ r c.requires at)) ∙ sym c.is_undefined.ensures ∙ c.if-is_undefined.true in
-    sym (first_undefined-is m ∙ ap (option_map (λ (r : Reference). r.name)) (find-first (is_undefined m) m.names.references place r at its (λ j x less e. c.loop-place.invariant j less x e)))
+    let at = ap (λ (rs : List Reference). slice_get rs place) (sym all)
+    ∙ slice_get-get_or c.as_slice-references.result.now place r c.loop-place-test.true ∙ ap Some (sym c.index-references-place.is) in
+    let its = ap (λ (met : Meeting). is_nothing met && is_strong r) (sym (meeting-at m c.args.meetings.now place _ r c.requires at))
+    ∙ sym c.is_undefined.ensures ∙ c.if-is_undefined.true in
+    sym (first_undefined-is m ∙ ap (option_map (λ (r : Reference). r.name))
+    (find-first (is_undefined m) m.names.references place r at its (λ j x less e. c.loop-place.invariant j less x e)))
 
 pub loop-place-preserved : goal.loop-place-preserved
 loop-place-preserved c =
@@ -28,8 +31,10 @@ loop-place-preserved c =
     let place = c.loop-place.place in
     let r = c.index-references-place.result in
     let all = c.as_slice-references.ensures ∙ ap (λ (parts : Parts). parts.names.references) c.parts.ensures.same in
-    let at = ap (λ (rs : List Reference). slice_get rs place) (sym all) ∙ slice_get-get_or c.as_slice-references.result.now place r c.loop-place-test.true ∙ ap Some (sym c.index-references-place.is) in
-    let its = ap (λ (met : Meeting). is_nothing met && is_strong r) (sym (meeting-at m c.args.meetings.now place _ r c.requires at)) ∙ sym c.is_undefined.ensures ∙ c.if-is_undefined.false in
+    let at = ap (λ (rs : List Reference). slice_get rs place) (sym all)
+    ∙ slice_get-get_or c.as_slice-references.result.now place r c.loop-place-test.true ∙ ap Some (sym c.index-references-place.is) in
+    let its = ap (λ (met : Meeting). is_nothing met && is_strong r) (sym (meeting-at m c.args.meetings.now place _ r c.requires at))
+    ∙ sym c.is_undefined.ensures ∙ c.if-is_undefined.false in
     below_more (λ j. (x : Reference) → slice_get m.names.references j ≡ Some x → is_undefined m x ≡ false) place c.loop-place.invariant
     (λ x e. ap (is_undefined m) (some_same x r (sym e ∙ at)) ∙ its)
 
@@ -39,4 +44,5 @@ returns c =
     let all = c.as_slice-references.ensures ∙ ap (λ (parts : Parts). parts.names.references) c.parts.ensures.same in
     sym (first_undefined-is m ∙ ap (option_map (λ (r : Reference). r.name))
     (find-never (is_undefined m) m.names.references
-    (λ j x e. let inside = slice_get_within m.names.references j x e in c.loop-place.invariant j (omega (arith, inside, c.loop-place-test.false, ap length all)) x e)))
+    (λ j x e. let inside = slice_get_within m.names.references j x e in
+    c.loop-place.invariant j (omega (arith, inside, c.loop-place-test.false, ap length all)) x e)))

@@ -18,7 +18,12 @@ index_of_publics-requires c =
 pub index_of_commons-requires : goal.index_of_commons-requires
 index_of_commons-requires c =
     let few = few-references c.args.module.now c.parts.ensures.valid in
-    omega (arith, few, ap (λ (rs : List Reference). length rs) c.as_slice-references.ensures, ap (λ (parts : Parts). length parts.names.references) c.parts.ensures.same)
+    omega (
+      arith,
+      few,
+      ap (λ (rs : List Reference). length rs) c.as_slice-references.ensures,
+      ap (λ (parts : Parts). length parts.names.references) c.parts.ensures.same,
+    )
 
 pub returns : goal.returns
 returns c =

@@ -12,7 +12,8 @@ loop-place-preserved c name =
     let publics = c.args.publics.now in
     let i = c.loop-place.place in
     let p = c.index-publics-place.result in
-    ap (λ es. position_of es name) (c.in_ok-_earlier.ensures.after ∙ ap (λ key. with_entry c.loop-place.index key i) (c.as_slice.ensures ∙ ap (λ (q : Public). q.name) (sym c.index-publics-place.is)))
+    ap (λ es. position_of es name) (c.in_ok-_earlier.ensures.after
+    ∙ ap (λ key. with_entry c.loop-place.index key i) (c.as_slice.ensures ∙ ap (λ (q : Public). q.name) (sym c.index-publics-place.is)))
     ∙ finds-more c.loop-place.index publics i p c.loop-place-test.true (sym c.index-publics-place.is) c.loop-place.invariant name
 
 pub returns : goal.returns

@@ -14,7 +14,8 @@ names_after-names_after_item-count-requires t c =
     let item = c.item-item.result in
     let rest = marks_of (drop (i + 1) items) in
     let small : the_size item ≤ most the_size items = rw c.item-item.is (at_most the_size items i item c.loop-item-test.true) in
-    let next = ap (names_after_all c.loop-item.count) (marks-next items i item c.loop-item-test.true c.item-item.is) ∙ names-append c.loop-item.count (marks_of_item item) rest in
+    let next = ap (names_after_all c.loop-item.count) (marks-next items i item c.loop-item-test.true c.item-item.is)
+    ∙ names-append c.loop-item.count (marks_of_item item) rest in
     let grown = names-counted (names_after_all c.loop-item.count (marks_of_item item)) rest in
     (search (rules, small), omega (arith, next, grown, c.loop-item.invariant, c.requires))
 
@@ -25,7 +26,8 @@ names_after-loop-item-preserved t c =
     let item = c.item-item.result in
     let rest = marks_of (drop (i + 1) items) in
     ap (λ n. names_after_all n rest) c.names_after_item-count.ensures
-    ∙ sym (ap (names_after_all c.loop-item.count) (marks-next items i item c.loop-item-test.true c.item-item.is) ∙ names-append c.loop-item.count (marks_of_item item) rest)
+    ∙ sym (ap (names_after_all c.loop-item.count) (marks-next items i item c.loop-item-test.true c.item-item.is)
+    ∙ names-append c.loop-item.count (marks_of_item item) rest)
     ∙ c.loop-item.invariant
 
 pub names_after_item-names_after-requires : goal.names_after_item-names_after-requires

@@ -18,7 +18,10 @@ returns-then-not-is_alike c =
     ∙ at_drop_more (find test) others i x c.loop-other-test.true
     ∙ ap (λ (other : Parts). find test (other ∷ drop (i + 1) others)) (sym c.other-item.is)
     ∙ ap (λ (b : Bool). if not b then Some x else find test (drop (i + 1) others)) differs in
-    (λ j. Some (mismatch (c.descriptor_of.ensures.maus j, c.descriptor_of.ensures.order j) (c.descriptor_of-then-not-is_alike.ensures.maus j, c.descriptor_of-then-not-is_alike.ensures.order j)))
+    (λ j. Some (mismatch (c.descriptor_of.ensures.maus j, c.descriptor_of.ensures.order j) (
+      c.descriptor_of-then-not-is_alike.ensures.maus j,
+      c.descriptor_of-then-not-is_alike.ensures.order j,
+    )))
     ∙ sym (ap (option_map (λ (other : Parts). mismatch (descriptor first) (descriptor other))) found)
     ∙ sym (ap first_mismatch c.in_ok-first.ensures.cases.0)
 

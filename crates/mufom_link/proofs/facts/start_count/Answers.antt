@@ -12,7 +12,8 @@ loop-entry-preserved c =
     let x = c.entry-item.result in
     let rest = flat_starts (drop (i + 1) xs) in
     let next : length (flat_starts (drop i xs)) ≡ length (option_to_list x.start ++ rest) =
-    at_drop_more (λ ms. length (flat_starts ms)) xs i x c.loop-entry-test.true ∙ ap (λ (m : Parts). length (option_to_list m.start ++ rest)) (sym c.entry-item.is) in
+    at_drop_more (λ ms. length (flat_starts ms)) xs i x c.loop-entry-test.true
+    ∙ ap (λ (m : Parts). length (option_to_list m.start ++ rest)) (sym c.entry-item.is) in
     let split = length-append (option_to_list x.start) rest in
     let own = c.own_starts-count.ensures.value in
     let few = c.own_starts-count.ensures.few in

@@ -51,7 +51,8 @@ loop-entry-preserved c =
     let gone = steps.1 in
     let counted = c.loop-entry.invariant.counted in
     record {
-      underway = joined ms c.requires.light m rest all underway c.parts.ensures.valid c.requires.starts c.split_at.result.0.now c.append.new.self own c.in_ok-append.ensures;
+      underway = joined ms c.requires.light m rest all underway c.parts.ensures.valid c.requires.starts c.split_at.result.0.now c.append.new.self own
+          c.in_ok-append.ensures;
       variables = later;
       counted = omega (arith, short, gone, counted);
     }

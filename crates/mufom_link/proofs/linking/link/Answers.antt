@@ -19,19 +19,25 @@ linked-requires c =
     }
 
 pub returns-clause-joined : goal.returns-clause-joined
-returns-clause-joined c = (subst (λ (ms : List Parts). IsPartialLink c.in_ok-linked.field-0 ms c.args.name.now) c.in_ok-copies.ensures c.in_ok-linked.ensures).joined
+returns-clause-joined c = (subst (λ (ms : List Parts). IsPartialLink c.in_ok-linked.field-0 ms c.args.name.now) c.in_ok-copies.ensures
+    c.in_ok-linked.ensures).joined
 
 pub returns-clause-stands : goal.returns-clause-stands
-returns-clause-stands c = (subst (λ (ms : List Parts). IsPartialLink c.in_ok-linked.field-0 ms c.args.name.now) c.in_ok-copies.ensures c.in_ok-linked.ensures).stands
+returns-clause-stands c = (subst (λ (ms : List Parts). IsPartialLink c.in_ok-linked.field-0 ms c.args.name.now) c.in_ok-copies.ensures
+    c.in_ok-linked.ensures).stands
 
 pub returns-clause-sections : goal.returns-clause-sections
-returns-clause-sections c = (subst (λ (ms : List Parts). IsPartialLink c.in_ok-linked.field-0 ms c.args.name.now) c.in_ok-copies.ensures c.in_ok-linked.ensures).sections
+returns-clause-sections c = (subst (λ (ms : List Parts). IsPartialLink c.in_ok-linked.field-0 ms c.args.name.now) c.in_ok-copies.ensures
+    c.in_ok-linked.ensures).sections
 
 pub returns-clause-names : goal.returns-clause-names
-returns-clause-names c = (subst (λ (ms : List Parts). IsPartialLink c.in_ok-linked.field-0 ms c.args.name.now) c.in_ok-copies.ensures c.in_ok-linked.ensures).names
+returns-clause-names c = (subst (λ (ms : List Parts). IsPartialLink c.in_ok-linked.field-0 ms c.args.name.now) c.in_ok-copies.ensures
+    c.in_ok-linked.ensures).names
 
 pub returns-clause-settled : goal.returns-clause-settled
-returns-clause-settled c = (subst (λ (ms : List Parts). IsPartialLink c.in_ok-linked.field-0 ms c.args.name.now) c.in_ok-copies.ensures c.in_ok-linked.ensures).settled
+returns-clause-settled c = (subst (λ (ms : List Parts). IsPartialLink c.in_ok-linked.field-0 ms c.args.name.now) c.in_ok-copies.ensures
+    c.in_ok-linked.ensures).settled
 
 pub returns-clause-weighs : goal.returns-clause-weighs
-returns-clause-weighs c = (subst (λ (ms : List Parts). IsPartialLink c.in_ok-linked.field-0 ms c.args.name.now) c.in_ok-copies.ensures c.in_ok-linked.ensures).weighs
+returns-clause-weighs c = (subst (λ (ms : List Parts). IsPartialLink c.in_ok-linked.field-0 ms c.args.name.now) c.in_ok-copies.ensures
+    c.in_ok-linked.ensures).weighs

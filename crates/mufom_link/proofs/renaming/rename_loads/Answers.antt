@@ -7,4 +7,5 @@ pub loop-load-preserved : goal.loop-load-preserved
 loop-load-preserved c =
     let now = c.loop-load.load-items in
     let within : c.loop-load.load-index < length now = omega (arith, c.loop-load-test.true, c.loop-load.auto.load-items) in
-    changed-more (renamed_load (renaming_of c.args.site.now)) c.args.loads.items now c.loop-load.load-index c.load-item.result c.rename_load.new.load within c.loop-load.invariant c.rename_load.ensures
+    changed-more (renamed_load (renaming_of c.args.site.now)) c.args.loads.items now c.loop-load.load-index c.load-item.result c.rename_load.new.load
+    within c.loop-load.invariant c.rename_load.ensures

@@ -7,4 +7,5 @@ pub loop-public-preserved : goal.loop-public-preserved
 loop-public-preserved c =
     let now = c.loop-public.public-items in
     let within : c.loop-public.public-index < length now = omega (arith, c.loop-public-test.true, c.loop-public.auto.public-items) in
-    changed-more (renamed_public (renaming_of c.args.site.now)) c.args.publics.items now c.loop-public.public-index c.public-item.result c.rename_public.new.public within c.loop-public.invariant c.rename_public.ensures
+    changed-more (renamed_public (renaming_of c.args.site.now)) c.args.publics.items now c.loop-public.public-index c.public-item.result
+    c.rename_public.new.public within c.loop-public.invariant c.rename_public.ensures

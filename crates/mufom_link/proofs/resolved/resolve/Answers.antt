@@ -13,7 +13,8 @@ index_publics-requires c =
 
 pub returns-in_err-publics-clause-refused : goal.returns-in_err-publics-clause-refused
 returns-in_err-publics-clause-refused c =
-    let refused : IsRefusalOf c.args.list.now c.in_err-publics.field-0.0 = names-refused c.args.list.now (sym c.in_default.ensures) c.in_err-publics.field-0.0 c.in_err-publics.ensures in
+    let refused : IsRefusalOf c.args.list.now c.in_err-publics.field-0.0 =
+    names-refused c.args.list.now (sym c.in_default.ensures) c.in_err-publics.field-0.0 c.in_err-publics.ensures in
     search (rules, refused)
 
 pub returns-then-start_count-gt1-clause-refused : goal.returns-then-start_count-gt1-clause-refused
@@ -27,4 +28,5 @@ resolved_by-requires-clause-publics c = (indexed-all (public_names c.args.list.n
 
 pub returns-clause-linkable : goal.returns-clause-linkable
 returns-clause-linkable c =
-    linkable c.args.list.now c.in_ok-publics.publics c.start_count.result c.in_default.ensures c.in_ok-publics.ensures c.start_count.ensures c.if-start_count-gt1.false
+    linkable c.args.list.now c.in_ok-publics.publics c.start_count.result c.in_default.ensures c.in_ok-publics.ensures c.start_count.ensures
+    c.if-start_count-gt1.false

@@ -54,7 +54,8 @@ loop-entry-preserved c =
     let names = names-are c.args.publics.now (public_names modules) c.requires.publics in
     let found = c.in_ok-resolve.ensures.targets ∙ (λ j. targets ++ targets_after (names j) kept (own j)) in
     let later = c.in_ok-resolve.ensures.kept ∙ (λ j. kept_after (names j) kept (own j)) in (
-      resolving-more modules c.requires.light m rest targets kept so_far c.parts.ensures.valid c.parts.ensures.made c.resolve.new.targets c.resolve.new.self.kept found later,
+      resolving-more modules c.requires.light m rest targets kept so_far c.parts.ensures.valid c.parts.ensures.made c.resolve.new.targets
+          c.resolve.new.self.kept found later,
       c.in_ok-resolve.ensures.keys,
     )
 

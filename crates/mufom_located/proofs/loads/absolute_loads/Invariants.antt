@@ -6,4 +6,5 @@ use Rattle.mufom_located.proofs.loads.absolute_loads.Given as goal
 
 abbrev pub invariant-loop-number : goal.invariant-loop-number
 invariant-loop-number l =
-    l.loads ++ flat_map (section_loads l.runs) (enumerate_from l.number (drop l.number l.sections)) ≡ flat_map (section_loads l.runs) (enumerate_from 0 l.sections)
+    l.loads ++ flat_map (section_loads l.runs) (enumerate_from l.number (drop l.number l.sections))
+    ≡ flat_map (section_loads l.runs) (enumerate_from 0 l.sections)

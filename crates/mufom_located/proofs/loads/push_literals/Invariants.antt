@@ -6,7 +6,8 @@ use Rattle.mufom_located.proofs.loads.push_literals.Given as goal
 
 abbrev pub invariant-loop-rest : goal.invariant-loop-rest
 invariant-loop-rest l =
-    l.loads ++ map (λ chunk. One (Literal chunk)) (chunks literal_limit l.rest) ≡ l.fn.loads ++ map (λ chunk. One (Literal chunk)) (chunks literal_limit l.fn.bytes)
+    l.loads ++ map (λ chunk. One (Literal chunk)) (chunks literal_limit l.rest) ≡ l.fn.loads
+    ++ map (λ chunk. One (Literal chunk)) (chunks literal_limit l.fn.bytes)
 
 abbrev pub decreases-loop-rest : goal.decreases-loop-rest
 decreases-loop-rest l = length l.rest

@@ -13,7 +13,8 @@ returns-clause-rows c = subst AreRows (sym c.split_at.ensures.back) (rows-drop c
 pub returns-clause-same : goal.returns-clause-same
 returns-clause-same c section to =
     let runs = c.args.runs.now in
-    let point = IsPartitionPoint-from_clause (λ (run : Run). nat_le (end_of run) c.args.from) runs c.partition_point-first.result c.partition_point-first.ensures.partitioned
+    let point = IsPartitionPoint-from_clause (λ (run : Run). nat_le (end_of run) c.args.from) runs c.partition_point-first.result
+    c.partition_point-first.ensures.partitioned
     (IsPartitionedBy-leb end_of runs c.args.from (ends_rise runs c.requires)) (λ a r f' call. search rules) in
     from_first section c.args.from to runs c.partition_point-first.result point.0
     ∙ ap (λ rows. loads_between section rows c.args.from to) (sym c.split_at.ensures.back)

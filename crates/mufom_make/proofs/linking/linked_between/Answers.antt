@@ -23,5 +23,6 @@ pub returns : goal.returns
 returns c =
     let some = c.requires.some in
     let few : c.args.end ≤ 65536 = c.requires.few in
-    link-found c.linked.result c.args.count (c.args.end - c.args.first) c.args.first c.in_ok-modules.modules.items (omega (arith, some, few)) c.in_ok-modules.ensures
+    link-found c.linked.result c.args.count (c.args.end - c.args.first) c.args.first c.in_ok-modules.modules.items (omega (arith, some, few))
+    c.in_ok-modules.ensures
     c.linked.ensures.joined c.linked.ensures.named c.linked.ensures.light

@@ -11,7 +11,9 @@ pub locate-requires-clause-plan : goal.locate-requires-clause-plan
 locate-requires-clause-plan c = subst IsSoundPlan (sym c.in_ok-plan.ensures) (sound-plan c.args.count)
 
 pub returns-clause-located : goal.returns-clause-located
-returns-clause-located c = location-of-all c.locate.result c.args.count c.in_ok-module.module c.in_ok-plan.plan c.requires.few c.in_ok-module.ensures c.in_ok-plan.ensures c.locate.ensures.located
+returns-clause-located c = location-of-all c.locate.result c.args.count c.in_ok-module.module c.in_ok-plan.plan c.requires.few c.in_ok-module.ensures
+    c.in_ok-plan.ensures c.locate.ensures.located
 
 pub returns-clause-refused : goal.returns-clause-refused
-returns-clause-refused c = refusal-of-all c.locate.result c.args.count c.in_ok-module.module c.in_ok-plan.plan c.requires.few c.in_ok-module.ensures c.in_ok-plan.ensures c.locate.ensures.refused
+returns-clause-refused c = refusal-of-all c.locate.result c.args.count c.in_ok-module.module c.in_ok-plan.plan c.requires.few c.in_ok-module.ensures
+    c.in_ok-plan.ensures c.locate.ensures.refused

@@ -7,11 +7,13 @@ use Rattle.mufom_make.proofs.summary.summary_text.Goals as goal
 
 pub byte_count-bytes-requires : goal.byte_count-bytes-requires
 byte_count-bytes-requires c =
-    bounded c.args.located.now c.as_slice-runs.result.now (c.as_slice-runs.ensures ∙ ap (λ (r : LocatedParts). r.runs) c.parts-parts.ensures.same) c.parts-parts.ensures.located
+    bounded c.args.located.now c.as_slice-runs.result.now (c.as_slice-runs.ensures
+    ∙ ap (λ (r : LocatedParts). r.runs) c.parts-parts.ensures.same) c.parts-parts.ensures.located
 
 pub run_sum-sum-requires : goal.run_sum-sum-requires
 run_sum-sum-requires c =
-    bounded c.args.located.now c.as_slice-runs.result.now (c.as_slice-runs.ensures ∙ ap (λ (r : LocatedParts). r.runs) c.parts-parts.ensures.same) c.parts-parts.ensures.located
+    bounded c.args.located.now c.as_slice-runs.result.now (c.as_slice-runs.ensures
+    ∙ ap (λ (r : LocatedParts). r.runs) c.parts-parts.ensures.same) c.parts-parts.ensures.located
 
 -- as the chunks are written, one after another
 written : List ℕ → List ℕ → List ℕ → List ℕ → List ℕ

@@ -19,7 +19,8 @@ debug_items-loop-item-preserved t c =
     (All-append IsMadeMark (marks_of (take i items)) (marks_of_item (get_or items i item)) c.loop-item.invariant made)
 
 pub debug_items-returns : goal.debug_items-returns
-debug_items-returns t c = subst (λ (items : List DebugItem). All IsMadeMark (marks_of items)) (take_all c.loop-item.item-index c.args.items.now c.loop-item-test.false) c.loop-item.invariant
+debug_items-returns t c = subst (λ (items : List DebugItem). All IsMadeMark (marks_of items))
+    (take_all c.loop-item.item-index c.args.items.now c.loop-item-test.false) c.loop-item.invariant
 
 pub debug_item-returns-in-Block : goal.debug_item-returns-in-Block
 debug_item-returns-in-Block t c =

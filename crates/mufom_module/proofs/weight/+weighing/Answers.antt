@@ -12,6 +12,7 @@ debug_items_weight-loop-item-preserved t c =
     let i = c.loop-item.item-index in
     let item = c.item-item.result in
     let more : marks_weight (marks_of (take (i + 1) items)) ≡ marks_weight (marks_of (take i items)) + marks_weight (marks_of_item (get_or items i item)) =
-    ap marks_weight (marks_of_more items i item c.loop-item-test.true) ∙ sum_by-append mark_weight (marks_of (take i items)) (marks_of_item (get_or items i item)) in
+    ap marks_weight (marks_of_more items i item c.loop-item-test.true)
+    ∙ sum_by-append mark_weight (marks_of (take i items)) (marks_of_item (get_or items i item)) in
     let its = ap (λ (x : DebugItem). marks_weight (marks_of_item x)) c.item-item.is in
     omega (arith, more, its, c.debug_item_weight.ensures, c.saturating_add-total.ensures, c.loop-item.invariant)

@@ -50,12 +50,14 @@ module _ (Before After : RattleType) (change : Before.Denot → After.Denot) whe
   pub the_places : Alike Before After change → Alike (seen.the_row Before) (seen.the_row After) ((the_former this).map Before.Denot After.Denot change)
   the_places alike =
       let vec_alike = vec.the_places global.the_row ghosts Before After change alike in
-      let fields_alike = struct_places (stored.the_type Before) (stored.the_type After) (vec.mapped change, tt) _ (λ fields. refl) refl (laid _ _ _ vec_alike, tt) in
+      let fields_alike = struct_places (stored.the_type Before) (stored.the_type After) (vec.mapped change, tt) _ (λ fields. refl) refl
+      (laid _ _ _ vec_alike, tt) in
       view_places in_vec (the_former this) view (λ X Y f fields. refl) (λ X fields. refl)
       Before.Denot After.Denot change (seen.the_row Before).coded (seen.the_row After).coded
       (invariant Before.Denot) (invariant After.Denot) (λ fields p q. refl) (λ fields p q. refl) (λ fields p. tt) (λ fields p. tt)
       (over (stored.the_row Before)) (over (stored.the_row After)) fields_alike
 
   -- a list's code is that of its items' codes
-  pub the_codes_placed : Recodes Before After change → Recodes (seen.the_row Before) (seen.the_row After) ((the_former this).map Before.Denot After.Denot change)
+  pub the_codes_placed : Recodes Before After change → Recodes (seen.the_row Before) (seen.the_row After)
+      ((the_former this).map Before.Denot After.Denot change)
   the_codes_placed recodes items = sym (code_map Before.coded.code After.coded.code change (λ x. sym (recodes x)) items)

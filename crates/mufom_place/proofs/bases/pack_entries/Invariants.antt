@@ -7,7 +7,8 @@ use Rattle.mufom_place.proofs.bases.pack_entries.Given as goal
 -- the sections at the entries so far are put
 abbrev pub invariant-loop-waiting : goal.invariant-loop-waiting
 invariant-loop-waiting l = record {
-  placed : l.fn.placings ++ packed l.region l.address (flat_map (λ waiting. waiting) l.entries) ≡ l.placings ++ packed l.region l.end (flat_map (λ waiting. waiting) (drop l.waiting-index l.entries));
+  placed : l.fn.placings ++ packed l.region l.address (flat_map (λ waiting. waiting) l.entries) ≡ l.placings
+      ++ packed l.region l.end (flat_map (λ waiting. waiting) (drop l.waiting-index l.entries));
   ends : end_of l.address (flat_map (λ waiting. waiting) l.entries) ≡ end_of l.end (flat_map (λ waiting. waiting) (drop l.waiting-index l.entries));
   bound : l.end + sum_by length (drop l.waiting-index l.entries) * 2 ^ 65 ≤ l.address + sum_by length l.entries * 2 ^ 65;
 }

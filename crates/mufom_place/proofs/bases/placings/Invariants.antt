@@ -6,6 +6,7 @@ use Rattle.mufom_place.proofs.bases.placings.Given as goal
 -- the regions so far are filled, and as many entries are left as their lists have names
 abbrev pub invariant-loop-place : goal.invariant-loop-place
 invariant-loop-place l = record {
-  placed : placings_from 0 l.plan.regions l.entries l.commons ≡ l.placings ++ placings_from l.place (drop l.place l.plan.regions) (drop l.start l.entries) l.commons;
+  placed : placings_from 0 l.plan.regions l.entries l.commons ≡ l.placings
+      ++ placings_from l.place (drop l.place l.plan.regions) (drop l.start l.entries) l.commons;
   left : length l.entries ≡ l.start + length (listed_names (drop l.place l.plan.regions));
 }

@@ -19,12 +19,14 @@ loop-placing-preserved c =
         count = ap vec_len w.planned-is ∙ count;
         value = λ n h. let less = w.if-section-len.true in let is = c.len.ensures in let long = c.loop-placing.planned.ok.0 in
             let within : p.section < length c.loop-placing.planned.items = omega (arith, less, is, long) in
-            ap (λ v. get_or v.items n None) w.planned-is ∙ planned-next c.loop-placing.planned.items (take i placings) p n within (c.loop-placing.invariant.value n h) ∙ ap (λ ps. placing_of ps n) (sym more);
+            ap (λ v. get_or v.items n None) w.planned-is ∙ planned-next c.loop-placing.planned.items (take i placings) p n within
+            (c.loop-placing.invariant.value n h) ∙ ap (λ ps. placing_of ps n) (sym more);
       }
       | else-section-len w ↦ record {
         count = ap vec_len w.planned-is ∙ count;
         value = λ n h. let far = w.if-section-len.false in let is = c.len.ensures in
             let differ : p.section ≢ n = λ same. omega (arith, same, far, is, count, h) in
-            ap (λ v. get_or v.items n None) w.planned-is ∙ c.loop-placing.invariant.value n h ∙ planned-passed (take i placings) p n differ ∙ ap (λ ps. placing_of ps n) (sym more);
+            ap (λ v. get_or v.items n None) w.planned-is ∙ c.loop-placing.invariant.value n h ∙ planned-passed (take i placings) p n differ
+            ∙ ap (λ ps. placing_of ps n) (sym more);
       }
     ]

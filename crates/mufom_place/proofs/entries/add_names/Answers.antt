@@ -12,7 +12,8 @@ loop-name-preserved c =
     let name = c.name-item.result in
     let old = c.args.index.now in
     let is = sym c.name-item.is in
-    let cut = sym (take-append-drop i names) ∙ ap (λ rest. take i names ++ rest) (drop_more names i name c.loop-name-test.true ∙ ap (λ n. n ∷ drop (i + 1) names) is) in
+    let cut = sym (take-append-drop i names) ∙ ap (λ rest. take i names ++ rest) (drop_more names i name c.loop-name-test.true
+    ∙ ap (λ n. n ∷ drop (i + 1) names) is) in
     let whole : AreDistinctNames ((old ++ take i names) ++ name ∷ drop (i + 1) names) =
     subst AreDistinctNames (ap (λ all. old ++ all) cut ∙ sym (append_assoc old (take i names) (name ∷ drop (i + 1) names))) c.requires in
     let new : has_name c.loop-name.index c.as_slice.result.now ≡ false =

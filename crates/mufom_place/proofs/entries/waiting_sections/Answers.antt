@@ -1,4 +1,5 @@
-use Rattle.std.proofs.Common.{◌≡◌, length-append, ◌∷◌, ◌++◌, [], length, map, drop, take, replicate, sum_by, Some, None, get_or, not, ◌&&◌, ◌+◌, refl, sym, ap, ◌∙◌, arith}
+use Rattle.std.proofs.Common.{◌≡◌, length-append, ◌∷◌, ◌++◌, [], length, map, drop, take, replicate, sum_by, Some, None, get_or, not, ◌&&◌, ◌+◌, refl}
+use Rattle.std.proofs.Common.{sym, ap, ◌∙◌, arith}
 use Rattle.std.specs.Prelude.{if◌then◌else◌}
 use Rattle.std.proofs.lemmas.List.{get_or-map, length-map, take_all}
 use Rattle.std.proofs.lemmas.List.Sums.{sum_by-set}
@@ -60,13 +61,16 @@ loop-place-preserved c =
     let prefix = take place (numbered sections) in
     let e = c.in-Some.entry in
     let baseless = none_of_not_some section.base (sym c.is_some.ensures ∙ c.if-is_some.false) in
-    let alone = entry_for-some listed section.name e c.requires.names (ap (entry_for listed) (sym c.as_slice.ensures) ∙ sym c.entry_of.ensures ∙ c.in-Some.is) in
+    let alone = entry_for-some listed section.name e c.requires.names (ap (entry_for listed) (sym c.as_slice.ensures) ∙ sym c.entry_of.ensures
+    ∙ c.in-Some.is) in
     let known = is_listed-some listed section.name e alone in
     let none : unplaced_at listed (place, section) ≡ None = λ i. if baseless i && not (known i) then Some (Unplaced place) else None in
     let entries = c.loop-place.entries.items in
     let lent = c.index_mut.result.now in
-    let old = c.index_mut.ensures.value ∙ ap (λ es. get_or es e lent) c.loop-place.invariant.waiting ∙ get_or-map (waiting_among listed prefix) listed e [] lent alone.within in
-    let pushed : c.push.new.self ≡ waiting_among listed prefix (get_or listed e []) ++ waiting_of (place, section) ∷ [] = c.in_ok-push.ensures.ok ∙ (λ j. old j ++ c.waiting.ensures j ∷ []) in
+    let old = c.index_mut.ensures.value ∙ ap (λ es. get_or es e lent) c.loop-place.invariant.waiting
+    ∙ get_or-map (waiting_among listed prefix) listed e [] lent alone.within in
+    let pushed : c.push.new.self ≡ waiting_among listed prefix (get_or listed e []) ++ waiting_of (place, section) ∷ [] = c.in_ok-push.ensures.ok
+    ∙ (λ j. old j ++ c.waiting.ensures j ∷ []) in
     let long = ap length c.loop-place.invariant.waiting ∙ length-map listed (waiting_among listed prefix) in
     let within = alone.within in
     let sum = sum_by-set length entries e c.push.new.self lent (omega (arith, long, within)) in
@@ -85,9 +89,11 @@ loop-place-preserved c =
 pub returns-clause-waiting : goal.returns-clause-waiting
 returns-clause-waiting c =
     let all = c.args.sections.now in
-    let whole = take_all c.loop-place.place (numbered all) (let long = length-enumerate_from 0 all in let end = c.loop-place-test.false in omega (arith, long, end)) in
+    let whole = take_all c.loop-place.place (numbered all) (let long = length-enumerate_from 0 all in let end = c.loop-place-test.false in
+    omega (arith, long, end)) in
     c.loop-place.invariant.waiting ∙ ap (λ ss. map (waiting_among c.args.index.now ss) c.args.index.now) whole
 
 pub returns-clause-placed : goal.returns-clause-placed
 returns-clause-placed c =
-    c.loop-place.invariant.placed ∙ ap (first_some (unplaced_at c.args.index.now)) (drop-numbered-all c.args.sections.now c.loop-place.place c.loop-place-test.false)
+    c.loop-place.invariant.placed ∙ ap (first_some (unplaced_at c.args.index.now))
+    (drop-numbered-all c.args.sections.now c.loop-place.place c.loop-place-test.false)

@@ -17,13 +17,16 @@ returns-in_err-fitting_base-clause-misfit c =
     let section = c.index-sections-place.result in
     let count = c.in_ok-planned.ensures.count in let long = c.in_ok-planned.planned.ok.0 in let inside = c.loop-place-test.true in
     let within : place < length c.in_ok-planned.planned.items = omega (arith, count, long, inside) in
-    let at : c.site-site.result ≡ site_by given (place, section) = c.site-site.ensures ∙ ap (site_with section.base) (c.index.ensures ∙ get_or_default c.in_ok-planned.planned.items place c.index.result.now None within ∙ c.in_ok-planned.ensures.value place c.loop-place-test.true) in
+    let at : c.site-site.result ≡ site_by given (place, section) = c.site-site.ensures
+    ∙ ap (site_with section.base) (c.index.ensures ∙ get_or_default c.in_ok-planned.planned.items place c.index.result.now None within
+    ∙ c.in_ok-planned.ensures.value place c.loop-place-test.true) in
     let some : misfit_by modulus regions given (place, section) ≡ misfit_with modulus regions place section.size c.site-site.result =
     λ i. misfit_with modulus regions place section.size (sym at i) in
     let p = err_from_is_err_and c.from_residual-in_err-fitting_base.result c.from_residual-in_err-fitting_base.ensures.1 in
     rw (p.1, p.2) (λ _. c.loop-place.invariant.fit
     ∙ ap (first_some (misfit_by modulus regions given)) (drop-numbered sections place section c.loop-place-test.true c.index-sections-place.is)
-    ∙ first_some-found (misfit_by modulus regions given) (place, section) (drop (place + 1) (numbered sections)) c.in_err-fitting_base.field-0.0 (some ∙ c.in_err-fitting_base.ensures.misfit))
+    ∙ first_some-found (misfit_by modulus regions given) (place, section) (drop (place + 1) (numbered sections)) c.in_err-fitting_base.field-0.0 (some
+    ∙ c.in_err-fitting_base.ensures.misfit))
 
 pub loop-place-preserved : goal.loop-place-preserved
 loop-place-preserved c =
@@ -38,7 +41,9 @@ loop-place-preserved c =
     let next = drop-numbered sections place section c.loop-place-test.true c.index-sections-place.is in
     let count = c.in_ok-planned.ensures.count in let long = c.in_ok-planned.planned.ok.0 in let inside = c.loop-place-test.true in
     let within : place < length c.in_ok-planned.planned.items = omega (arith, count, long, inside) in
-    let at : c.site-site.result ≡ site_by given (place, section) = c.site-site.ensures ∙ ap (site_with section.base) (c.index.ensures ∙ get_or_default c.in_ok-planned.planned.items place c.index.result.now None within ∙ c.in_ok-planned.ensures.value place c.loop-place-test.true) in
+    let at : c.site-site.result ≡ site_by given (place, section) = c.site-site.ensures
+    ∙ ap (site_with section.base) (c.index.ensures ∙ get_or_default c.in_ok-planned.planned.items place c.index.result.now None within
+    ∙ c.in_ok-planned.ensures.value place c.loop-place-test.true) in
     let none : misfit_by modulus regions given (place, section) ≡ misfit_with modulus regions place section.size c.site-site.result =
     λ i. misfit_with modulus regions place section.size (sym at i) in
     let base = ap (λ (s : Site). s.base) (sym at) ∙ sym c.in_ok-fitting_base.ensures.base in
@@ -55,7 +60,8 @@ loop-place-preserved c =
 pub returns-clause-bases : goal.returns-clause-bases
 returns-clause-bases c =
     let all = drop-numbered-all c.args.sections.now c.loop-place.place c.loop-place-test.false in
-    sym (c.loop-place.invariant.based ∙ ap (λ rest. c.loop-place.bases ++ map (λ s. (site_by c.args.placings.now s).base) rest) all ∙ append-nil c.loop-place.bases)
+    sym (c.loop-place.invariant.based ∙ ap (λ rest. c.loop-place.bases ++ map (λ s. (site_by c.args.placings.now s).base) rest) all
+    ∙ append-nil c.loop-place.bases)
 
 pub returns-clause-fit : goal.returns-clause-fit
 returns-clause-fit c =

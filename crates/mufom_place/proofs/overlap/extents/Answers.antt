@@ -15,8 +15,10 @@ loop-place-preserved-then-section-eq0 c =
     let less : place < length bases = let same = c.requires.same in let less = c.loop-place-test.true in omega (arith, same, less) in
     let more = drop (place + 1) (numbered sections) in
     c.loop-place.invariant
-    ∙ (λ i. c.loop-place.extents.items ++ extents_of (drop-numbered sections place section c.loop-place-test.true c.index-sections-place.is i) (drop_more bases place 0 less i))
-    ∙ ap (λ list. c.loop-place.extents.items ++ list) (extents-empty (place, section) more (get_or bases place 0) (drop (place + 1) bases) c.if-section-eq0.true)
+    ∙ (λ i. c.loop-place.extents.items ++ extents_of (drop-numbered sections place section c.loop-place-test.true c.index-sections-place.is i)
+    (drop_more bases place 0 less i))
+    ∙ ap (λ list. c.loop-place.extents.items ++ list) (extents-empty (place, section) more (get_or bases place 0) (drop (place + 1) bases)
+    c.if-section-eq0.true)
 
 pub loop-place-preserved : goal.loop-place-preserved
 loop-place-preserved c =
@@ -27,12 +29,16 @@ loop-place-preserved c =
     let less : place < length bases = let same = c.requires.same in let less = c.loop-place-test.true in omega (arith, same, less) in
     let more = drop (place + 1) (numbered sections) in
     c.loop-place.invariant
-    ∙ (λ i. c.loop-place.extents.items ++ extents_of (drop-numbered sections place section c.loop-place-test.true c.index-sections-place.is i) (drop_more bases place 0 less i))
-    ∙ ap (λ list. c.loop-place.extents.items ++ list) (extents-some (place, section) more (get_or bases place 0) (drop (place + 1) bases) c.if-section-eq0.false)
-    ∙ sym (append_assoc c.loop-place.extents.items (record { base = get_or bases place 0; section = place; size = section.size } ∷ []) (extents_of more (drop (place + 1) bases)))
+    ∙ (λ i. c.loop-place.extents.items ++ extents_of (drop-numbered sections place section c.loop-place-test.true c.index-sections-place.is i)
+    (drop_more bases place 0 less i))
+    ∙ ap (λ list. c.loop-place.extents.items ++ list) (extents-some (place, section) more (get_or bases place 0) (drop (place + 1) bases)
+    c.if-section-eq0.false)
+    ∙ sym (append_assoc c.loop-place.extents.items (record { base = get_or bases place 0; section = place; size = section.size } ∷ [])
+    (extents_of more (drop (place + 1) bases)))
     ∙ ap (λ list. list ++ extents_of more (drop (place + 1) bases)) (sym c.in_ok-push.ensures.items)
 
 pub returns : goal.returns
 returns c =
     let all = drop-numbered-all c.args.sections.now c.loop-place.place c.loop-place-test.false in
-    sym (c.loop-place.invariant ∙ ap (λ rest. c.loop-place.extents.items ++ extents_of rest (drop c.loop-place.place c.args.bases.now)) all ∙ append-nil c.loop-place.extents.items)
+    sym (c.loop-place.invariant ∙ ap (λ rest. c.loop-place.extents.items ++ extents_of rest (drop c.loop-place.place c.args.bases.now)) all
+    ∙ append-nil c.loop-place.extents.items)

@@ -7,4 +7,6 @@ use Rattle.mufom_place.proofs.overlap.overlap.Goals as goal
 pub returns : goal.returns
 returns c =
     let distinct = subst (IsDistinct same_section) (sym c.in_ok-extents.ensures) (extents-distinct 0 c.args.sections.now c.args.bases.now) in
-    c.first_overlap.ensures ∙ ap overlap_of (c.deref.ensures.value ∙ sorted-in_order c.in_ok-extents.extents.items c.sort.new.self.items distinct c.in_ok-sort.ensures.permutation c.in_ok-sort.ensures.sorted ∙ ap in_order c.in_ok-extents.ensures)
+    c.first_overlap.ensures ∙ ap overlap_of (c.deref.ensures.value
+    ∙ sorted-in_order c.in_ok-extents.extents.items c.sort.new.self.items distinct c.in_ok-sort.ensures.permutation c.in_ok-sort.ensures.sorted
+    ∙ ap in_order c.in_ok-extents.ensures)

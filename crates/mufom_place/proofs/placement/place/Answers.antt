@@ -15,8 +15,10 @@ returns-in_err-bases-clause-refused c =
     let before = sections_before c.args.commons sections in
     let last = last_sections c.args.commons sections in
     let given = c.as_slice-2.result.now in
-    let is : given ≡ placings_of plan before last = c.as_slice-2.ensures ∙ c.in_ok-placings.ensures.given ∙ (λ i. placings_of plan (c.split_at.ensures.front i) (c.split_at.ensures.back i)) in
-    let unplaced = ap (λ ss. first_some (unplaced_at (listed_names plan.regions)) (numbered ss)) (sym c.split_at.ensures.front) ∙ c.in_ok-placings.ensures.placed in
+    let is : given ≡ placings_of plan before last = c.as_slice-2.ensures ∙ c.in_ok-placings.ensures.given
+    ∙ (λ i. placings_of plan (c.split_at.ensures.front i) (c.split_at.ensures.back i)) in
+    let unplaced = ap (λ ss. first_some (unplaced_at (listed_names plan.regions)) (numbered ss)) (sym c.split_at.ensures.front)
+    ∙ c.in_ok-placings.ensures.placed in
     let placed = map (λ s. (site_by given s).base) (numbered sections) in
     let rest = first_overlap (in_order (extents (numbered sections) placed)) in
     let p = err_from_is_err_and c.from_residual-in_err-bases.result c.from_residual-in_err-bases.ensures.1 in
@@ -28,7 +30,8 @@ pub overlap-requires-clause-same : goal.overlap-requires-clause-same
 overlap-requires-clause-same c =
     let sections = c.args.sections.now in
     let given = c.as_slice-2.result.now in
-    ap length (c.as_slice-3.ensures ∙ c.in_ok-bases.ensures.bases) ∙ length-map (numbered sections) (λ s. (site_by given s).base) ∙ length-enumerate_from 0 sections
+    ap length (c.as_slice-3.ensures ∙ c.in_ok-bases.ensures.bases) ∙ length-map (numbered sections) (λ s. (site_by given s).base)
+    ∙ length-enumerate_from 0 sections
 
 pub returns-in-Some-clause-refused : goal.returns-in-Some-clause-refused
 returns-in-Some-clause-refused c =
@@ -37,13 +40,16 @@ returns-in-Some-clause-refused c =
     let before = sections_before c.args.commons sections in
     let last = last_sections c.args.commons sections in
     let given = c.as_slice-2.result.now in
-    let is : given ≡ placings_of plan before last = c.as_slice-2.ensures ∙ c.in_ok-placings.ensures.given ∙ (λ i. placings_of plan (c.split_at.ensures.front i) (c.split_at.ensures.back i)) in
-    let unplaced = ap (λ ss. first_some (unplaced_at (listed_names plan.regions)) (numbered ss)) (sym c.split_at.ensures.front) ∙ c.in_ok-placings.ensures.placed in
+    let is : given ≡ placings_of plan before last = c.as_slice-2.ensures ∙ c.in_ok-placings.ensures.given
+    ∙ (λ i. placings_of plan (c.split_at.ensures.front i) (c.split_at.ensures.back i)) in
+    let unplaced = ap (λ ss. first_some (unplaced_at (listed_names plan.regions)) (numbered ss)) (sym c.split_at.ensures.front)
+    ∙ c.in_ok-placings.ensures.placed in
     let based = c.as_slice-3.ensures ∙ c.in_ok-bases.ensures.bases in
     let rest = first_overlap (in_order (extents (numbered sections) c.as_slice-3.result.now)) in
     let found : rest ≡ Some c.in-Some.refusal = search rules in
     λ _. place_refusal-by c.args.width plan before last sections given c.as_slice-3.result.now (sections_rejoined c.args.commons sections) is based unplaced
-    ∙ ap (λ m. m or_else rest) (ap (λ regions. first_some (misfit_by (2 ^ c.args.width) regions given) (numbered sections)) (sym c.as_slice.ensures) ∙ c.in_ok-bases.ensures.fit)
+    ∙ ap (λ m. m or_else rest) (ap (λ regions. first_some (misfit_by (2 ^ c.args.width) regions given) (numbered sections)) (sym c.as_slice.ensures)
+    ∙ c.in_ok-bases.ensures.fit)
     ∙ found
 
 pub returns-clause-bases : goal.returns-clause-bases
@@ -53,7 +59,8 @@ returns-clause-bases c =
     let before = sections_before c.args.commons sections in
     let last = last_sections c.args.commons sections in
     let given = c.as_slice-2.result.now in
-    let is : given ≡ placings_of plan before last = c.as_slice-2.ensures ∙ c.in_ok-placings.ensures.given ∙ (λ i. placings_of plan (c.split_at.ensures.front i) (c.split_at.ensures.back i)) in
+    let is : given ≡ placings_of plan before last = c.as_slice-2.ensures ∙ c.in_ok-placings.ensures.given
+    ∙ (λ i. placings_of plan (c.split_at.ensures.front i) (c.split_at.ensures.back i)) in
     c.in_ok-bases.ensures.bases ∙ (λ i. map (λ s. (site_by (is i) s).base) (numbered (sym (sections_rejoined c.args.commons sections) i)))
 
 pub returns-clause-placed : goal.returns-clause-placed
@@ -63,11 +70,14 @@ returns-clause-placed c =
     let before = sections_before c.args.commons sections in
     let last = last_sections c.args.commons sections in
     let given = c.as_slice-2.result.now in
-    let is : given ≡ placings_of plan before last = c.as_slice-2.ensures ∙ c.in_ok-placings.ensures.given ∙ (λ i. placings_of plan (c.split_at.ensures.front i) (c.split_at.ensures.back i)) in
-    let unplaced = ap (λ ss. first_some (unplaced_at (listed_names plan.regions)) (numbered ss)) (sym c.split_at.ensures.front) ∙ c.in_ok-placings.ensures.placed in
+    let is : given ≡ placings_of plan before last = c.as_slice-2.ensures ∙ c.in_ok-placings.ensures.given
+    ∙ (λ i. placings_of plan (c.split_at.ensures.front i) (c.split_at.ensures.back i)) in
+    let unplaced = ap (λ ss. first_some (unplaced_at (listed_names plan.regions)) (numbered ss)) (sym c.split_at.ensures.front)
+    ∙ c.in_ok-placings.ensures.placed in
     let based = c.as_slice-3.ensures ∙ c.in_ok-bases.ensures.bases in
     let rest = first_overlap (in_order (extents (numbered sections) c.as_slice-3.result.now)) in
     let found : rest ≡ None = search rules in
     place_refusal-by c.args.width plan before last sections given c.as_slice-3.result.now (sections_rejoined c.args.commons sections) is based unplaced
-    ∙ ap (λ m. m or_else rest) (ap (λ regions. first_some (misfit_by (2 ^ c.args.width) regions given) (numbered sections)) (sym c.as_slice.ensures) ∙ c.in_ok-bases.ensures.fit)
+    ∙ ap (λ m. m or_else rest) (ap (λ regions. first_some (misfit_by (2 ^ c.args.width) regions given) (numbered sections)) (sym c.as_slice.ensures)
+    ∙ c.in_ok-bases.ensures.fit)
     ∙ found

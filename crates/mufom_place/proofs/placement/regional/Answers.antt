@@ -12,11 +12,13 @@ use Rattle.mufom_place.proofs.placement.regional.Goals as goal
 
 pub placings-requires-clause-aligned : goal.placings-requires-clause-aligned
 placings-requires-clause-aligned c =
-    subst (All (All IsAlignedWaiting)) (sym (c.deref.ensures.value ∙ c.in_ok-entries.ensures.waiting)) (waiting-aligned c.in_ok-index.index c.args.sections.now c.requires.alignments c.in_ok-index.index)
+    subst (All (All IsAlignedWaiting)) (sym (c.deref.ensures.value ∙ c.in_ok-entries.ensures.waiting))
+    (waiting-aligned c.in_ok-index.index c.args.sections.now c.requires.alignments c.in_ok-index.index)
 
 pub placings-requires-clause-aligned_commons : goal.placings-requires-clause-aligned_commons
 placings-requires-clause-aligned_commons c =
-    subst (All IsAlignedWaiting) (sym (c.deref-2.ensures.value ∙ c.in_ok-waiting.ensures)) (commons-aligned (length c.args.sections.now) c.args.commons.now c.requires.aligned_commons)
+    subst (All IsAlignedWaiting) (sym (c.deref-2.ensures.value ∙ c.in_ok-waiting.ensures))
+    (commons-aligned (length c.args.sections.now) c.args.commons.now c.requires.aligned_commons)
 
 pub placings-requires-clause-room : goal.placings-requires-clause-room
 placings-requires-clause-room c =
@@ -36,4 +38,5 @@ returns-clause-given c =
     let listed = c.in_ok-index.ensures in
     let entries = c.deref.ensures.value ∙ c.in_ok-entries.ensures.waiting ∙ (λ i. map (waiting_among (listed i) (numbered sections)) (listed i)) in
     let last = c.deref-2.ensures.value ∙ c.in_ok-waiting.ensures in
-    c.in_ok-placings.ensures ∙ (λ i. placings_from 0 regions (entries i) (last i)) ∙ placings_from-waiting (waiting_among (listed_names regions) (numbered sections)) (waiting_of sections commons) 0 regions
+    c.in_ok-placings.ensures ∙ (λ i. placings_from 0 regions (entries i) (last i))
+    ∙ placings_from-waiting (waiting_among (listed_names regions) (numbered sections)) (waiting_of sections commons) 0 regions

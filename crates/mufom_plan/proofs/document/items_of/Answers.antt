@@ -8,4 +8,5 @@ use Rattle.mufom_plan.proofs.document.items_of.Goals as goal
 pub returns : goal.returns
 returns c =
     let values = c.in_ok-as_array.field-0.now.items in
-    rw c.in_ok-value.was (ap Some (ap (map view) c.as_slice.ensures.value ∙ sym (list_of-items_of (map view values))) ∙ ap (option_map list_of) c.in_ok-as_array.ensures)
+    rw c.in_ok-value.was (ap Some (ap (map view) c.as_slice.ensures.value ∙ sym (list_of-items_of (map view values)))
+    ∙ ap (option_map list_of) c.in_ok-as_array.ensures)

@@ -4,7 +4,9 @@ use Rattle.mufom_plan.proofs.PlanLemmas.{plan_of_document-sound}
 use Rattle.mufom_plan.proofs.read.read_plan.Goals as goal
 
 pub returns-clause-distinct : goal.returns-clause-distinct
-returns-clause-distinct c = IfOk-weaker c.plan.result _ _ (λ plan is. (plan_of_document-sound (table_view c.in_ok-document.document) plan is).distinct) c.plan.ensures.ok
+returns-clause-distinct c = IfOk-weaker c.plan.result _ _ (λ plan
+    is. (plan_of_document-sound (table_view c.in_ok-document.document) plan is).distinct) c.plan.ensures.ok
 
 pub returns-clause-common : goal.returns-clause-common
-returns-clause-common c = IfOk-weaker c.plan.result _ _ (λ plan is. (plan_of_document-sound (table_view c.in_ok-document.document) plan is).common) c.plan.ensures.ok
+returns-clause-common c = IfOk-weaker c.plan.result _ _ (λ plan is. (plan_of_document-sound (table_view c.in_ok-document.document) plan is).common)
+    c.plan.ensures.ok

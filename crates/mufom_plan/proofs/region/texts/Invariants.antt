@@ -8,5 +8,6 @@ use Rattle.mufom_plan.proofs.region.texts.Given as goal
 abbrev pub invariant-loop-value : goal.invariant-loop-value
 invariant-loop-value l = record {
   added : l.earlier ≡ l.fn.earlier ++ l.names;
-  rest : fresh_names l.fn.earlier (map view l.values) ≡ option_map (λ more. l.names ++ more) (fresh_names (l.fn.earlier ++ l.names) (map view (drop l.value-index l.values)));
+  rest : fresh_names l.fn.earlier (map view l.values) ≡ option_map (λ more. l.names
+      ++ more) (fresh_names (l.fn.earlier ++ l.names) (map view (drop l.value-index l.values)));
 }

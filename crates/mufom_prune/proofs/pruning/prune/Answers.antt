@@ -12,20 +12,26 @@ use Rattle.mufom_prune.proofs.PrunedWeight.{pruned_weighs}
 use Rattle.mufom_prune.proofs.pruning.prune.Goals as goal
 
 pub index_publics-requires : goal.index_publics-requires
-index_publics-requires c = subst (λ (m : Parts). entry_count m < 2 ^ 32) (sym c.parts-parts.ensures.same) (few_entries c.args.module.now c.parts-parts.ensures.valid)
+index_publics-requires c = subst (λ (m : Parts). entry_count m < 2 ^ 32) (sym c.parts-parts.ensures.same)
+    (few_entries c.args.module.now c.parts-parts.ensures.valid)
 
 pub kept-requires-clause-few : goal.kept-requires-clause-few
-kept-requires-clause-few c = subst (λ (m : Parts). entry_count m < 2 ^ 32) (sym c.parts-parts.ensures.same) (few_entries c.args.module.now c.parts-parts.ensures.valid)
+kept-requires-clause-few c = subst (λ (m : Parts). entry_count m < 2 ^ 32) (sym c.parts-parts.ensures.same)
+    (few_entries c.args.module.now c.parts-parts.ensures.valid)
 
 pub remaining_parts-requires-clause-few : goal.remaining_parts-requires-clause-few
-remaining_parts-requires-clause-few c = subst (λ (m : Parts). entry_count m < 2 ^ 32) (sym c.parts-parts.ensures.same) (few_entries c.args.module.now c.parts-parts.ensures.valid)
+remaining_parts-requires-clause-few c = subst (λ (m : Parts). entry_count m < 2 ^ 32) (sym c.parts-parts.ensures.same)
+    (few_entries c.args.module.now c.parts-parts.ensures.valid)
 
 pub returns-in_default-clause-refused : goal.returns-in_default-clause-refused
 returns-in_default-clause-refused c =
     let m = c.parts-parts.result.now in
     let keep = c.args.keep.now in
-    let found = sym (finds_named m keep) ∙ ap (λ es. position_of es keep) (sym c.in_ok-publics.ensures) ∙ sym c.in_default.ensures.value in
-    (c.in_ok-from_slice.ensures, none_named (length c.args.module.now.sections) c.args.module.now.names.publics keep (ap (λ (m : Parts). named m keep) (sym c.parts-parts.ensures.same) ∙ found))
+    let found = sym (finds_named m keep) ∙ ap (λ es. position_of es keep) (sym c.in_ok-publics.ensures) ∙ sym c.in_default.ensures.value in (
+      c.in_ok-from_slice.ensures,
+      none_named (length c.args.module.now.sections) c.args.module.now.names.publics keep
+          (ap (λ (m : Parts). named m keep) (sym c.parts-parts.ensures.same) ∙ found),
+    )
 
 pub kept-requires-clause-named : goal.kept-requires-clause-named
 kept-requires-clause-named c =
@@ -41,7 +47,8 @@ returns-clause-known c =
     let m = c.parts-parts.result.now in
     let keep = c.args.keep.now in
     let found = sym (finds_named m keep) ∙ ap (λ es. position_of es keep) (sym c.in_ok-publics.ensures) ∙ sym c.in-Some.ensures.value in
-    some_named (length c.args.module.now.sections) c.args.module.now.names.publics keep c.in-Some.entry (ap (λ (m : Parts). named m keep) (sym c.parts-parts.ensures.same) ∙ found)
+    some_named (length c.args.module.now.sections) c.args.module.now.names.publics keep c.in-Some.entry
+    (ap (λ (m : Parts). named m keep) (sym c.parts-parts.ensures.same) ∙ found)
 
 pub sound-requires : goal.sound-requires
 sound-requires c =
@@ -55,5 +62,6 @@ sound-requires c =
 pub returns-clause-weighs : goal.returns-clause-weighs
 returns-clause-weighs c =
     let m = c.args.module.now in
-    let rest = c.sound.ensures.same ∙ c.in_ok-rest.ensures ∙ (λ i. without_others (c.parts-parts.ensures.same i) (remains (c.parts-parts.ensures.same i) c.deref.result.now)) in
+    let rest = c.sound.ensures.same ∙ c.in_ok-rest.ensures ∙ (λ i. without_others (c.parts-parts.ensures.same i)
+    (remains (c.parts-parts.ensures.same i) c.deref.result.now)) in
     subst (λ (M : Parts). weight M ≤ weight m) (sym rest) (pruned_weighs m (remains m c.deref.result.now))

@@ -11,5 +11,6 @@ returns c =
     let publics = c.split_at-2.ensures.front ∙ (λ i. take (c.len-2.ensures i) (others i)) in
     let mentioned = c.split_at-2.ensures.back ∙ (λ i. drop (c.len-2.ensures i) (others i)) in
     let own = c.as_slice.ensures in
-    let references = c.as_slice-3.ensures ∙ c.in_ok-references.ensures.marks ∙ (λ i. with_commons (remaining_names (mentioned i) (own i)) (mentioned i) (own i)) in
+    let references = c.as_slice-3.ensures ∙ c.in_ok-references.ensures.marks
+    ∙ (λ i. with_commons (remaining_names (mentioned i) (own i)) (mentioned i) (own i)) in
     c.in_ok-fill.ensures ∙ (λ i. without_others m (marks_of_all (sections i) (publics i) (references i)))

@@ -10,13 +10,15 @@ use Rattle.mufom_prune.proofs.reach.follow.Goals as goal
 pub loop-turn-init : goal.loop-turn-init
 loop-turn-init c =
     let start = choice c.args.marks.now c.args.order.now in
-    subst (IsUnderway c.args.needs.now c.args.roots.now 0) (sym c.in_ok-mark_all.ensures) (begun c.args.needs.now c.args.roots.now start c.requires.start c.requires.rooted)
+    subst (IsUnderway c.args.needs.now c.args.roots.now 0) (sym c.in_ok-mark_all.ensures)
+    (begun c.args.needs.now c.args.roots.now start c.requires.start c.requires.rooted)
 
 pub mark_all-requires : goal.mark_all-requires
 mark_all-requires c = subst (λ k. AreBelow k c.args.roots.now) (sym c.requires.start.sized) c.requires.rooted
 
 pub bounds-needs-entry : goal.bounds-needs-entry
-bounds-needs-entry c = All-at (λ n. n < length c.args.needs.now) c.loop-turn.order c.loop-turn.turn c.in-Some.entry.now c.loop-turn.invariant.one.inside (sym c.in-Some.ensures)
+bounds-needs-entry c = All-at (λ n. n < length c.args.needs.now) c.loop-turn.order c.loop-turn.turn c.in-Some.entry.now
+    c.loop-turn.invariant.one.inside (sym c.in-Some.ensures)
 
 pub mark_all-requires-in-loop-turn : goal.mark_all-requires-in-loop-turn
 mark_all-requires-in-loop-turn c =
@@ -44,8 +46,10 @@ loop-turn-preserved c =
 pub returns-after-loop-turn : goal.returns-after-loop-turn
 returns-after-loop-turn c =
     let order = order-within (length c.args.needs.now) (choice c.loop-turn.marks c.loop-turn.order) c.loop-turn.invariant.one in
-    all-done c.args.needs.now c.args.roots.now c.loop-turn.turn (choice c.loop-turn.marks c.loop-turn.order) c.loop-turn.invariant (omega (arith, order, c.loop-turn-test.false))
+    all-done c.args.needs.now c.args.roots.now c.loop-turn.turn (choice c.loop-turn.marks c.loop-turn.order) c.loop-turn.invariant
+    (omega (arith, order, c.loop-turn-test.false))
 
 pub returns-in_default : goal.returns-in_default
 returns-in_default c =
-    all-done c.args.needs.now c.args.roots.now c.loop-turn.turn (choice c.loop-turn.marks c.loop-turn.order) c.loop-turn.invariant (past-end c.loop-turn.order c.loop-turn.turn (sym c.in_default.ensures))
+    all-done c.args.needs.now c.args.roots.now c.loop-turn.turn (choice c.loop-turn.marks c.loop-turn.order) c.loop-turn.invariant
+    (past-end c.loop-turn.order c.loop-turn.turn (sym c.in_default.ensures))

@@ -13,9 +13,11 @@ loop-place-preserved c =
     let index = c.loop-place.index in
     elim c.if-marks-place.branch [
       | then-marks-place+in_ok-_known w ↦
-          index_keep marks xs i w.index-references-place.result index c.if-marks-place.index (with_remaining [] marks xs) c.loop-place-test.true c.requires w.if-marks-place.true
+          index_keep marks xs i w.index-references-place.result index c.if-marks-place.index (with_remaining [] marks xs) c.loop-place-test.true
+          c.requires w.if-marks-place.true
           (w.index-is ∙ w.in_ok-_known.ensures.after ∙ ap (λ name. with_entry index name 0) w.as_slice.ensures)
           c.loop-place.invariant
       | else-marks-place w ↦
-          index_skip marks xs i index c.if-marks-place.index (with_remaining [] marks xs) c.loop-place-test.true c.requires w.if-marks-place.false w.index-is c.loop-place.invariant
+          index_skip marks xs i index c.if-marks-place.index (with_remaining [] marks xs) c.loop-place-test.true c.requires w.if-marks-place.false
+          w.index-is c.loop-place.invariant
     ]

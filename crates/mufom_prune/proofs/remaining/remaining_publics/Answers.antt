@@ -14,8 +14,10 @@ loop-place-preserved c =
     elim c.if-marks-place.branch [
       | then-marks-place+in_ok-move_public+in_ok-push w ↦
           let x = w.index-publics-place.result in
-          keep_step f (map f) (λ x ys. refl) marks xs i x rest c.if-marks-place.rest (map f (remaining marks xs)) c.loop-place-test.true c.requires w.if-marks-place.true
+          keep_step f (map f) (λ x ys. refl) marks xs i x rest c.if-marks-place.rest (map f (remaining marks xs)) c.loop-place-test.true c.requires
+          w.if-marks-place.true
           (w.rest-is ∙ w.in_ok-push.ensures.ok ∙ ap (λ y. rest ++ y ∷ []) (w.in_ok-move_public.ensures ∙ ap f w.index-publics-place.is)) c.loop-place.invariant
       | else-marks-place w ↦
-          skip_step (map f) marks xs i rest c.if-marks-place.rest (map f (remaining marks xs)) c.loop-place-test.true c.requires w.if-marks-place.false w.rest-is c.loop-place.invariant
+          skip_step (map f) marks xs i rest c.if-marks-place.rest (map f (remaining marks xs)) c.loop-place-test.true c.requires
+          w.if-marks-place.false w.rest-is c.loop-place.invariant
     ]

@@ -14,8 +14,10 @@ loop-place-preserved c =
     elim c.if-marks-place.branch [
       | then-marks-place+in_ok-copy_reference+in_ok-push w ↦
           let x = w.index-references-place.result in
-          keep_step (λ (x : Reference). x) (λ (ys : List Reference). ys) (λ x ys. refl) marks xs i x rest c.if-marks-place.rest (remaining marks xs) c.loop-place-test.true c.requires w.if-marks-place.true
+          keep_step (λ (x : Reference). x) (λ (ys : List Reference). ys) (λ x ys. refl) marks xs i x rest c.if-marks-place.rest (remaining marks xs)
+          c.loop-place-test.true c.requires w.if-marks-place.true
           (w.rest-is ∙ w.in_ok-push.ensures.ok ∙ ap (λ y. rest ++ y ∷ []) (w.in_ok-copy_reference.ensures ∙ w.index-references-place.is)) c.loop-place.invariant
       | else-marks-place w ↦
-          skip_step (λ (ys : List Reference). ys) marks xs i rest c.if-marks-place.rest (remaining marks xs) c.loop-place-test.true c.requires w.if-marks-place.false w.rest-is c.loop-place.invariant
+          skip_step (λ (ys : List Reference). ys) marks xs i rest c.if-marks-place.rest (remaining marks xs) c.loop-place-test.true c.requires
+          w.if-marks-place.false w.rest-is c.loop-place.invariant
     ]

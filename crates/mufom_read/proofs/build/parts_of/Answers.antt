@@ -9,5 +9,6 @@ whole_header-names-requires c =
 
 pub returns : goal.returns
 returns c = λ m stated.
-    the-parts c.args.prefix m _ c.whole_header-names.result.0 c.whole_header-names.result.1 stated c.whole_header-names.ensures refl refl refl refl c.from_vec.ensures c.from_vec-2.ensures c.into_list-sections.ensures
+    the-parts c.args.prefix m _ c.whole_header-names.result.0 c.whole_header-names.result.1 stated c.whole_header-names.ensures refl refl refl refl
+    c.from_vec.ensures c.from_vec-2.ensures c.into_list-sections.ensures
     c.into_placed-publics.ensures c.from_vec-3.ensures c.into_items-items.ensures c.in_ok-loads.ensures refl

@@ -28,5 +28,8 @@ loop-public-preserved c =
     let i = c.loop-public.public-index in
     let within : i < length now = omega (arith, c.loop-public-test.true, c.loop-public.auto.public-items) in
     let rest : drop (i + 1) (slice_set now i c.place.new.public) ≡ drop (i + 1) c.args.publics.items =
-    drop-set-lt (i + 1) now i c.place.new.public (omega arith) ∙ drop_more_same now c.args.publics.items i c.loop-public.invariant.1 in
-    (placed_more (indexes_by c.args.tables.now) c.args.publics.items now i c.public-item.result c.place.new.public within c.loop-public.invariant.0 c.loop-public.invariant.1 c.place.ensures, rest)
+    drop-set-lt (i + 1) now i c.place.new.public (omega arith) ∙ drop_more_same now c.args.publics.items i c.loop-public.invariant.1 in (
+      placed_more (indexes_by c.args.tables.now) c.args.publics.items now i c.public-item.result c.place.new.public within c.loop-public.invariant.0
+          c.loop-public.invariant.1 c.place.ensures,
+      rest,
+    )

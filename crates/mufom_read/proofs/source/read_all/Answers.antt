@@ -14,7 +14,8 @@ returns-in_err-count-clause-read g c =
     let come = c.loop-count.invariant in
     let p = err_from_is_err_and c.from_residual.result c.from_residual.ensures.1 in
     subst (λ (r : Result ℕ SourceStop). HasReadAll c.args.limit before after c.read_chunk.new.reader r) (sym (p.1 ∙ ap Err p.2))
-    (come-stopped c.args.limit c.loop-count.length c.read_chunk.new.reader before between after come.bytes c.in_err-count.field-0.0 come.count come.within come.after.taken (c.in_err-count.ensures.read come.bytes come.read))
+    (come-stopped c.args.limit c.loop-count.length c.read_chunk.new.reader before between after come.bytes c.in_err-count.field-0.0 come.count
+    come.within come.after.taken (c.in_err-count.ensures.read come.bytes come.read))
 
 pub returns-then-count-eq0-clause-read : goal.returns-then-count-eq0-clause-read
 returns-then-count-eq0-clause-read g c =
@@ -22,7 +23,8 @@ returns-then-count-eq0-clause-read g c =
     let between = (g.S.World.meaning c.loop-count.source).left in
     let after = (g.S.World.meaning c.read_chunk.new.source).left in
     let come = c.loop-count.invariant in
-    come-end c.args.limit c.loop-count.length c.in_ok-count.count c.read_chunk.new.reader before between after come.bytes come.count come.within come.after.taken (omega (arith, c.if-count-eq0.true)) (c.in_ok-count.ensures.read come.bytes come.read)
+    come-end c.args.limit c.loop-count.length c.in_ok-count.count c.read_chunk.new.reader before between after come.bytes come.count come.within
+    come.after.taken (omega (arith, c.if-count-eq0.true)) (c.in_ok-count.ensures.read come.bytes come.read)
 
 pub loop-count-preserved : goal.loop-count-preserved
 loop-count-preserved g c =
@@ -30,7 +32,8 @@ loop-count-preserved g c =
     come-on c.args.limit c.loop-count.length (reads_debug_of c.args.reader.now) c.loop-count.reader c.read_chunk.new.reader
     (g.S.World.meaning c.args.source.now) (g.S.World.meaning c.loop-count.source) (g.S.World.meaning c.read_chunk.new.source)
     (g.S.World.faults c.args.source.now) (g.S.World.faults c.loop-count.source) (g.S.World.faults c.read_chunk.new.source)
-    c.in_ok-count.count come (c.in_ok-count.ensures.read come.bytes come.read) c.read_chunk.ensures.reads_debug c.read_chunk.ensures.only.0 c.read_chunk.ensures.only.1 c.read_chunk.ensures.only.2
+    c.in_ok-count.count come (c.in_ok-count.ensures.read come.bytes come.read) c.read_chunk.ensures.reads_debug c.read_chunk.ensures.only.0
+    c.read_chunk.ensures.only.1 c.read_chunk.ensures.only.2
 
 pub loop-count-init : goal.loop-count-init
 loop-count-init g c = come-none c.args.limit c.args.reader.now (g.S.World.meaning c.args.source.now) (g.S.World.faults c.args.source.now) c.requires.begins
@@ -41,7 +44,8 @@ returns-in_err-count-clause-further g c =
     let between = (g.S.World.meaning c.loop-count.source).left in
     let after = (g.S.World.meaning c.read_chunk.new.source).left in
     let come = c.loop-count.invariant in
-    come-further c.args.limit c.loop-count.length (reads_debug_of c.args.reader.now) before between after come.bytes come.count come.within come.unrefused come.after.taken
+    come-further c.args.limit c.loop-count.length (reads_debug_of c.args.reader.now) before between after come.bytes come.count come.within
+    come.unrefused come.after.taken
     (subst (λ (n : ℕ). ReadsAtMost n between after) (c.loop-count.auto.buffer ∙ c.requires.buffer) c.read_chunk.ensures.taken)
 
 pub returns-then-count-eq0-clause-further : goal.returns-then-count-eq0-clause-further
@@ -50,5 +54,6 @@ returns-then-count-eq0-clause-further g c =
     let between = (g.S.World.meaning c.loop-count.source).left in
     let after = (g.S.World.meaning c.read_chunk.new.source).left in
     let come = c.loop-count.invariant in
-    come-further c.args.limit c.loop-count.length (reads_debug_of c.args.reader.now) before between after come.bytes come.count come.within come.unrefused come.after.taken
+    come-further c.args.limit c.loop-count.length (reads_debug_of c.args.reader.now) before between after come.bytes come.count come.within
+    come.unrefused come.after.taken
     (subst (λ (n : ℕ). ReadsAtMost n between after) (c.loop-count.auto.buffer ∙ c.requires.buffer) c.read_chunk.ensures.taken)

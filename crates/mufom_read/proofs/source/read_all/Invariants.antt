@@ -4,7 +4,8 @@ use Rattle.mufom_read.proofs.feeding.Source.{HasCome}
 use Rattle.mufom_read.proofs.source.read_all.Given as goal
 
 abbrev pub invariant-loop-count : goal.invariant-loop-count
-invariant-loop-count g l = HasCome l.limit l.length (reads_debug_of l.initial.reader) l.reader (g.S.World.meaning l.initial.source) (g.S.World.meaning l.source) (g.S.World.faults l.initial.source) (g.S.World.faults l.source)
+invariant-loop-count g l = HasCome l.limit l.length (reads_debug_of l.initial.reader) l.reader (g.S.World.meaning l.initial.source)
+    (g.S.World.meaning l.source) (g.S.World.faults l.initial.source) (g.S.World.faults l.source)
 
 abbrev pub decreases-loop-count : goal.decreases-loop-count
 decreases-loop-count g l = l.limit - l.length

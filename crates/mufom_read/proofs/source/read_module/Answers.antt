@@ -2,7 +2,8 @@ use Rattle.std.proofs.Common.{◌∙◌, ap, subst, refl, Bool, Err}
 use Rattle.std.proofs.lemmas.Result.{err_from_is_err_and}
 use Rattle.mufom_read.specs.declared.source.SourceStop.TheVariants as stop
 use Rattle.mufom_read.specs.Source.{ReadsModule, ReadsNoFurther}
-use Rattle.mufom_read.proofs.feeding.Source.{stopped-reads, stopped-refused, stopped-past, asked-stopped, asked-module, asked-ok, asked-refused, asked-past, same-stop, stop-no-fault, none-further}
+use Rattle.mufom_read.proofs.feeding.Source.{stopped-reads, stopped-refused, stopped-past, asked-stopped, asked-module, asked-ok, asked-refused}
+use Rattle.mufom_read.proofs.feeding.Source.{asked-past, same-stop, stop-no-fault, none-further}
 use Rattle.mufom_read.proofs.source.read_module.Goals as goal
 
 pub returns-in_default-new-clause-limit : goal.returns-in_default-new-clause-limit
@@ -49,7 +50,8 @@ returns-in_err-module-clause-reads g c =
     let p = err_from_is_err_and c.from_residual-in_err-module.result c.from_residual-in_err-module.ensures.1 in
     let flag = c.read_all.ensures.reads_debug ∙ c.in-Ok-new.ensures.reads_debug in
     stopped-reads c.args.reads_debug c.args.limit before after c.from_residual-in_err-module.result p.0 p.1
-    (asked-stopped c.args.limit c.in_ok-length.length c.args.reads_debug before after c.read_all.new.reader c.in_err-module.field-0.0 p.0 flag p.2 c.in_ok-length.ensures.read c.in_err-module.ensures.refused)
+    (asked-stopped c.args.limit c.in_ok-length.length c.args.reads_debug before after c.read_all.new.reader c.in_err-module.field-0.0 p.0 flag p.2
+    c.in_ok-length.ensures.read c.in_err-module.ensures.refused)
 
 pub returns-in_err-module-clause-refused : goal.returns-in_err-module-clause-refused
 returns-in_err-module-clause-refused g c = λ place reason.
@@ -58,7 +60,8 @@ returns-in_err-module-clause-refused g c = λ place reason.
     let p = err_from_is_err_and c.from_residual-in_err-module.result c.from_residual-in_err-module.ensures.1 in
     let flag = c.read_all.ensures.reads_debug ∙ c.in-Ok-new.ensures.reads_debug in
     stopped-refused c.args.reads_debug c.args.limit before after c.from_residual-in_err-module.result p.0 p.1
-    (asked-stopped c.args.limit c.in_ok-length.length c.args.reads_debug before after c.read_all.new.reader c.in_err-module.field-0.0 p.0 flag p.2 c.in_ok-length.ensures.read c.in_err-module.ensures.refused) place reason
+    (asked-stopped c.args.limit c.in_ok-length.length c.args.reads_debug before after c.read_all.new.reader c.in_err-module.field-0.0 p.0 flag p.2
+    c.in_ok-length.ensures.read c.in_err-module.ensures.refused) place reason
 
 pub returns-in_err-module-clause-limit : goal.returns-in_err-module-clause-limit
 returns-in_err-module-clause-limit g c =
@@ -67,7 +70,8 @@ returns-in_err-module-clause-limit g c =
     let p = err_from_is_err_and c.from_residual-in_err-module.result c.from_residual-in_err-module.ensures.1 in
     let flag = c.read_all.ensures.reads_debug ∙ c.in-Ok-new.ensures.reads_debug in
     stopped-past c.args.reads_debug c.args.limit before after c.from_residual-in_err-module.result p.0 p.1
-    (asked-stopped c.args.limit c.in_ok-length.length c.args.reads_debug before after c.read_all.new.reader c.in_err-module.field-0.0 p.0 flag p.2 c.in_ok-length.ensures.read c.in_err-module.ensures.refused)
+    (asked-stopped c.args.limit c.in_ok-length.length c.args.reads_debug before after c.read_all.new.reader c.in_err-module.field-0.0 p.0 flag p.2
+    c.in_ok-length.ensures.read c.in_err-module.ensures.refused)
 
 pub returns-in_err-module-clause-fault : goal.returns-in_err-module-clause-fault
 returns-in_err-module-clause-fault g c = λ fault.
@@ -78,25 +82,29 @@ pub returns-clause-reads : goal.returns-clause-reads
 returns-clause-reads g c =
     let before = (g.S.World.meaning c.args.source.now).left in
     let after = (g.S.World.meaning c.read_all.new.source).left in
-    asked-module c.args.limit c.in_ok-length.length c.args.reads_debug before after c.read_all.new.reader c.in_ok-module.module (c.read_all.ensures.reads_debug ∙ c.in-Ok-new.ensures.reads_debug) c.in_ok-length.ensures.read c.in_ok-module.ensures.ok
+    asked-module c.args.limit c.in_ok-length.length c.args.reads_debug before after c.read_all.new.reader c.in_ok-module.module
+    (c.read_all.ensures.reads_debug ∙ c.in-Ok-new.ensures.reads_debug) c.in_ok-length.ensures.read c.in_ok-module.ensures.ok
 
 pub returns-clause-ok : goal.returns-clause-ok
 returns-clause-ok g c =
     let before = (g.S.World.meaning c.args.source.now).left in
     let after = (g.S.World.meaning c.read_all.new.source).left in
-    asked-ok c.args.limit c.in_ok-length.length c.args.reads_debug before after c.read_all.new.reader c.in_ok-module.module (c.read_all.ensures.reads_debug ∙ c.in-Ok-new.ensures.reads_debug) c.in_ok-length.ensures.read c.in_ok-module.ensures.ok
+    asked-ok c.args.limit c.in_ok-length.length c.args.reads_debug before after c.read_all.new.reader c.in_ok-module.module
+    (c.read_all.ensures.reads_debug ∙ c.in-Ok-new.ensures.reads_debug) c.in_ok-length.ensures.read c.in_ok-module.ensures.ok
 
 pub returns-clause-refused : goal.returns-clause-refused
 returns-clause-refused g c = λ place reason.
     let before = (g.S.World.meaning c.args.source.now).left in
     let after = (g.S.World.meaning c.read_all.new.source).left in
-    asked-refused c.args.limit c.in_ok-length.length c.args.reads_debug before after c.read_all.new.reader c.in_ok-module.module (c.read_all.ensures.reads_debug ∙ c.in-Ok-new.ensures.reads_debug) c.in_ok-length.ensures.read c.in_ok-module.ensures.ok place reason
+    asked-refused c.args.limit c.in_ok-length.length c.args.reads_debug before after c.read_all.new.reader c.in_ok-module.module
+    (c.read_all.ensures.reads_debug ∙ c.in-Ok-new.ensures.reads_debug) c.in_ok-length.ensures.read c.in_ok-module.ensures.ok place reason
 
 pub returns-clause-limit : goal.returns-clause-limit
 returns-clause-limit g c =
     let before = (g.S.World.meaning c.args.source.now).left in
     let after = (g.S.World.meaning c.read_all.new.source).left in
-    asked-past c.args.limit c.in_ok-length.length c.args.reads_debug before after c.read_all.new.reader c.in_ok-module.module (c.read_all.ensures.reads_debug ∙ c.in-Ok-new.ensures.reads_debug) c.in_ok-length.ensures.read c.in_ok-module.ensures.ok
+    asked-past c.args.limit c.in_ok-length.length c.args.reads_debug before after c.read_all.new.reader c.in_ok-module.module
+    (c.read_all.ensures.reads_debug ∙ c.in-Ok-new.ensures.reads_debug) c.in_ok-length.ensures.read c.in_ok-module.ensures.ok
 
 pub returns-in_err-length-clause-further : goal.returns-in_err-length-clause-further
 returns-in_err-length-clause-further g c =

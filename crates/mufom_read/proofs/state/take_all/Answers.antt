@@ -23,8 +23,10 @@ advance-requires-clause-fits c =
 pub overflow_add-taken : goal.overflow_add-taken
 overflow_add-taken c =
     let step = rw c.in-Ok-Took.field-0-is at c.in-Ok-Took.ensures in
-    let gone = gone-more c.args.reads_debug c.requires.known.0 c.args.rest.now c.after.result.now c.loop-alloc.prefix c.advance.new.self c.loop-alloc.taken c.in-Ok-Took.count
-    (c.loop-alloc.invariant c.requires.known.0 c.requires.known.1 c.requires.known.2) c.after.ensures step (λ prefix is. sym (c.is_ended.ensures.prefix prefix is) ∙ c.loop-alloc-test.true) in
+    let gone = gone-more c.args.reads_debug c.requires.known.0 c.args.rest.now c.after.result.now c.loop-alloc.prefix c.advance.new.self
+    c.loop-alloc.taken c.in-Ok-Took.count
+    (c.loop-alloc.invariant c.requires.known.0 c.requires.known.1 c.requires.known.2) c.after.ensures step
+    (λ prefix is. sym (c.is_ended.ensures.prefix prefix is) ∙ c.loop-alloc-test.true) in
     omega (arith, gone.within, c.requires.fits)
 
 pub loop-alloc-smaller : goal.loop-alloc-smaller
@@ -32,7 +34,8 @@ loop-alloc-smaller c =
     let step = rw c.in-Ok-Took.field-0-is at c.in-Ok-Took.ensures in
     let before = c.loop-alloc.invariant c.requires.known.0 c.requires.known.1 c.requires.known.2 in
     let unended = λ (prefix : List Step) (is : IsPrefixOf c.loop-alloc.prefix prefix). sym (c.is_ended.ensures.prefix prefix is) ∙ c.loop-alloc-test.true in
-    let gone = gone-more c.args.reads_debug c.requires.known.0 c.args.rest.now c.after.result.now c.loop-alloc.prefix c.advance.new.self c.loop-alloc.taken c.in-Ok-Took.count before c.after.ensures step unended in
+    let gone = gone-more c.args.reads_debug c.requires.known.0 c.args.rest.now c.after.result.now c.loop-alloc.prefix c.advance.new.self
+    c.loop-alloc.taken c.in-Ok-Took.count before c.after.ensures step unended in
     let open_ = unended (c.requires.known.0 ++ before.steps) before.is in
     let some = (step (c.requires.known.0 ++ before.steps) before.is open_ (before.whole open_)).4 in
     omega (arith, gone.within, some)

@@ -29,4 +29,5 @@ returns-in-External c = λ f prefix is tables contents.
 
 pub returns-in-Debug : goal.returns-in-Debug
 returns-in-Debug c = λ f prefix is tables contents.
-    c.open_fault.ensures ∙ ap (λ bs. open_fault (stacked [] bs)) c.as_slice.ensures ∙ (λ k. open_fault (stacked [] (contents k).debug.blocks)) ∙ debug-fault f prefix is ∙ sym (ap (λ p. whole_fault (as_part p) prefix) c.in-Debug.is)
+    c.open_fault.ensures ∙ ap (λ bs. open_fault (stacked [] bs)) c.as_slice.ensures ∙ (λ k. open_fault (stacked [] (contents k).debug.blocks))
+    ∙ debug-fault f prefix is ∙ sym (ap (λ p. whole_fault (as_part p) prefix) c.in-Debug.is)

@@ -11,20 +11,23 @@ returns-in_err-b-clause-exact c =
 pub returns-then-not-begins_token-clause-exact : goal.returns-then-not-begins_token-clause-exact
 returns-then-not-begins_token-clause-exact c =
     let ends : begins_token c.in_ok-b.b ≡ false = search rules in
-    c.end_of.ensures.exact ∙ sym (tokens-last c.loop-b.room c.loop-b.terms c.loop-b.at c.args.input.now c.in_ok-b.b c.in_ok-b.field-0-1 (sym c.in_ok-b.ensures.exact) ends)
+    c.end_of.ensures.exact ∙ sym (tokens-last c.loop-b.room c.loop-b.terms c.loop-b.at c.args.input.now c.in_ok-b.b c.in_ok-b.field-0-1
+    (sym c.in_ok-b.ensures.exact) ends)
     ∙ c.loop-b.invariant.same
 
 pub returns-in_err-left-clause-exact : goal.returns-in_err-left-clause-exact
 returns-in_err-left-clause-exact c =
     let begins : begins_token c.in_ok-b.b ≡ true = search rules in
     let e = sym c.loop-b.invariant.same
-    ∙ tokens-stop c.loop-b.room c.loop-b.terms c.loop-b.at c.args.input.now c.in_ok-b.b c.in_ok-b.field-0-1 _ (sym c.in_ok-b.ensures.exact) begins (sym c.in_err-left.ensures.exact) in
+    ∙ tokens-stop c.loop-b.room c.loop-b.terms c.loop-b.at c.args.input.now c.in_ok-b.b c.in_ok-b.field-0-1 _ (sym c.in_ok-b.ensures.exact) begins
+    (sym c.in_err-left.ensures.exact) in
     rw e (search rules)
 
 pub loop-b-preserved : goal.loop-b-preserved
 loop-b-preserved c =
     let begins : begins_token c.in_ok-b.b ≡ true = search rules in
-    let e = tokens-got c.loop-b.room c.loop-b.terms c.loop-b.at c.args.input.now c.in_ok-b.b c.in_ok-b.field-0-1 c.in_ok-left.left c.in_ok-left.after (search rules) (sym c.in_ok-b.ensures.exact) begins (sym c.in_ok-left.ensures.exact) in
+    let e = tokens-got c.loop-b.room c.loop-b.terms c.loop-b.at c.args.input.now c.in_ok-b.b c.in_ok-b.field-0-1 c.in_ok-left.left c.in_ok-left.after
+    (search rules) (sym c.in_ok-b.ensures.exact) begins (sym c.in_ok-left.ensures.exact) in
     record {
       begun = search rules;
       within = search rules;

@@ -14,7 +14,8 @@ pub loop-all-preserved : goal.loop-all-preserved
 loop-all-preserved g c =
     let room : length c.loop-all.all.items < g.row.N = search rules in
     let some : optional_number_at c.args.input.now c.loop-all.at ≡ Ok (Some c.in-Some.value, c.in_ok-value.after) = search rules in
-    let e = sym (numbers-next c.loop-all.all.items g.row.N c.in-Some.value c.args.input.now c.loop-all.at c.in_ok-value.after room some) ∙ c.loop-all.invariant.same in
+    let e = sym (numbers-next c.loop-all.all.items g.row.N c.in-Some.value c.args.input.now c.loop-all.at c.in_ok-value.after room some)
+    ∙ c.loop-all.invariant.same in
     record {
       within = search rules;
       few = search rules;

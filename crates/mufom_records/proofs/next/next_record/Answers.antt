@@ -14,10 +14,16 @@ returns-clause-only c = λ row text rest is split. c.next.ensures.exact ∙ reco
 pub returns-clause-bad : goal.returns-clause-bad
 returns-clause-bad c =
     let fits = are_bytes c.args.input.now (λ i. omega (arith, c.type_inv.input i)) in
-    λ place reason.
-    (λ e. bad-record_at c.args.mode c.args.input.now fits place reason (sym c.next.ensures.exact ∙ e), λ has. c.next.ensures.exact ∙ record_at-bad c.args.mode c.args.input.now place reason has)
+    λ place reason. (
+      λ e. bad-record_at c.args.mode c.args.input.now fits place reason (sym c.next.ensures.exact ∙ e),
+      λ has. c.next.ensures.exact
+          ∙ record_at-bad c.args.mode c.args.input.now place reason has,
+    )
 
 pub returns-clause-more : goal.returns-clause-more
 returns-clause-more c =
-    let fits = are_bytes c.args.input.now (λ i. omega (arith, c.type_inv.input i)) in
-    (λ e. more-record_at c.args.mode c.args.input.now fits (sym c.next.ensures.exact ∙ e), λ ends. c.next.ensures.exact ∙ record_at-more c.args.mode c.args.input.now ends)
+    let fits = are_bytes c.args.input.now (λ i. omega (arith, c.type_inv.input i)) in (
+      λ e. more-record_at c.args.mode c.args.input.now fits (sym c.next.ensures.exact ∙ e),
+      λ ends. c.next.ensures.exact
+          ∙ record_at-more c.args.mode c.args.input.now ends,
+    )

@@ -16,14 +16,19 @@ first_token-token-requires c =
 pub loop-rest-smaller : goal.loop-rest-smaller
 loop-rest-smaller c =
     let some : 0 < length c.loop-rest.rest.now = search rules in
-    let next = left_next c.args.input.now c.loop-rest.rest.now c.loop-rest.tokens.items c.first_token-token.result.0 c.first_token-token.result.1 c.loop-rest.invariant.0 some c.first_token-token.ensures.token in
+    let next = left_next c.args.input.now c.loop-rest.rest.now c.loop-rest.tokens.items c.first_token-token.result.0 c.first_token-token.result.1
+    c.loop-rest.invariant.0 some c.first_token-token.ensures.token in
     rw c.after-rest.ensures (omega (arith, length-drop c.first_token-token.result.1 c.loop-rest.rest.now, next.some, some))
 
 pub loop-rest-preserved : goal.loop-rest-preserved
 loop-rest-preserved c =
     let some : 0 < length c.loop-rest.rest.now = search rules in
-    let next = left_next c.args.input.now c.loop-rest.rest.now c.loop-rest.tokens.items c.first_token-token.result.0 c.first_token-token.result.1 c.loop-rest.invariant.0 some c.first_token-token.ensures.token in
-    rw (c.after-rest.ensures, c.in_ok-push.ensures.items) (next.left, in_range-push c.loop-rest.tokens.items c.first_token-token.result.0 c.loop-rest.invariant.1 c.first_token-token.ensures.range)
+    let next = left_next c.args.input.now c.loop-rest.rest.now c.loop-rest.tokens.items c.first_token-token.result.0 c.first_token-token.result.1
+    c.loop-rest.invariant.0 some c.first_token-token.ensures.token in
+    rw (c.after-rest.ensures, c.in_ok-push.ensures.items) (
+      next.left,
+      in_range-push c.loop-rest.tokens.items c.first_token-token.result.0 c.loop-rest.invariant.1 c.first_token-token.ensures.range,
+    )
 
 pub of-requires-clause-one : goal.of-requires-clause-one
 of-requires-clause-one c =

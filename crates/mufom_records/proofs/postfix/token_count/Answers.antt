@@ -15,21 +15,29 @@ first_token-used-requires c =
 pub overflow_add-count : goal.overflow_add-count
 overflow_add-count c =
     let some : 0 < length c.loop-rest.rest.now = search rules in
-    let next = left_next c.args.input.now c.loop-rest.rest.now c.loop-rest.invariant.0 c.first_token-used.result.0 c.first_token-used.result.1 c.loop-rest.invariant.1 some c.first_token-used.ensures.token in
+    let next = left_next c.args.input.now c.loop-rest.rest.now c.loop-rest.invariant.0 c.first_token-used.result.0 c.first_token-used.result.1
+    c.loop-rest.invariant.1 some c.first_token-used.ensures.token in
     omega (arith, next.room, c.loop-rest.invariant.2)
 
 pub loop-rest-smaller : goal.loop-rest-smaller
 loop-rest-smaller c =
     let some : 0 < length c.loop-rest.rest.now = search rules in
-    let next = left_next c.args.input.now c.loop-rest.rest.now c.loop-rest.invariant.0 c.first_token-used.result.0 c.first_token-used.result.1 c.loop-rest.invariant.1 some c.first_token-used.ensures.token in
+    let next = left_next c.args.input.now c.loop-rest.rest.now c.loop-rest.invariant.0 c.first_token-used.result.0 c.first_token-used.result.1
+    c.loop-rest.invariant.1 some c.first_token-used.ensures.token in
     rw c.after-rest.ensures (omega (arith, length-drop c.first_token-used.result.1 c.loop-rest.rest.now, next.some, some))
 
 pub loop-rest-preserved : goal.loop-rest-preserved
 loop-rest-preserved c =
     let some : 0 < length c.loop-rest.rest.now = search rules in
-    let next = left_next c.args.input.now c.loop-rest.rest.now c.loop-rest.invariant.0 c.first_token-used.result.0 c.first_token-used.result.1 c.loop-rest.invariant.1 some c.first_token-used.ensures.token in
+    let next = left_next c.args.input.now c.loop-rest.rest.now c.loop-rest.invariant.0 c.first_token-used.result.0 c.first_token-used.result.1
+    c.loop-rest.invariant.1 some c.first_token-used.ensures.token in
     let passed = c.loop-rest.invariant.0 ++ c.first_token-used.result.0 ∷ [] in
-    rw c.after-rest.ensures (passed, next.left, length-append c.loop-rest.invariant.0 (c.first_token-used.result.0 ∷ []) ∙ ap (λ n. n + 1) c.loop-rest.invariant.2)
+    rw c.after-rest.ensures (
+      passed,
+      next.left,
+      length-append c.loop-rest.invariant.0 (c.first_token-used.result.0 ∷ [])
+          ∙ ap (λ n. n + 1) c.loop-rest.invariant.2,
+    )
 
 pub returns : goal.returns
 returns c =

@@ -17,7 +17,8 @@ pub loop-turn-init : goal.loop-turn-init
 loop-turn-init c =
     let start = choice c.args.marks.now c.args.order.now in
     let references = c.as_slice-references.ensures ∙ ap (λ (m : Parts). m.names.references) c.parts.ensures.same in
-    let needs = (λ i. all_needed_in (c.requires.defined i) (c.requires.providers i) (references i)) ∙ all-needed c.args.roots.now c.args.members.now c.args.roots.now.names.references in
+    let needs = (λ i. all_needed_in (c.requires.defined i) (c.requires.providers i) (references i))
+    ∙ all-needed c.args.roots.now c.args.members.now c.args.roots.now.names.references in
     subst (IsUnderway (c.args.roots.now ∷ []) c.args.members.now 0) (sym (c.in_ok-choose.ensures ∙ ap (with_members start) needs))
     (begun c.args.roots.now c.args.members.now start c.requires.start)
 
@@ -44,7 +45,8 @@ loop-turn-preserved c =
     let references = c.as_slice-references-in-loop-turn.ensures ∙ ap (λ (m : Parts). m.names.references) c.parts-in-loop-turn.ensures.same in
     let needs = (λ i. all_needed_in (c.requires.defined i) (c.requires.providers i) (references i)) ∙ all-needed roots members m.names.references in
     subst (IsUnderway (roots ∷ []) members (place + 1)) (sym (c.in_ok-choose-2.ensures ∙ ap (with_members before) needs))
-    (looked (roots ∷ []) members place n m before c.loop-turn.invariant at (slice_get_within c.loop-turn.order place n at) its (needed-within (roots ∷ []) members m.names.references))
+    (looked (roots ∷ []) members place n m before c.loop-turn.invariant at (slice_get_within c.loop-turn.order place n at) its
+    (needed-within (roots ∷ []) members m.names.references))
 
 pub returns-after-loop-turn : goal.returns-after-loop-turn
 returns-after-loop-turn c =

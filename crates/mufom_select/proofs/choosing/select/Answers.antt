@@ -40,8 +40,10 @@ returns c =
     ∙ ap (take len) (append-nil marks)
     ∙ take_all len marks (omega (arith, sized, vec)) in
     IfOk-weaker c.positions.result (λ positions. positions ≡ positions_from 0 c.deref.result.now) (λ chosen. IsSelected (roots ∷ []) members chosen)
-    (λ chosen e. subst (IsSelected (roots ∷ []) members) (sym (e ∙ ap (positions_from 0) whole)) (chosen-selected (roots ∷ []) members (choice marks order) underway))
+    (λ chosen e. subst (IsSelected (roots ∷ []) members) (sym (e ∙ ap (positions_from 0) whole))
+    (chosen-selected (roots ∷ []) members (choice marks order) underway))
     c.positions.ensures
 
 pub returns-then-is_empty : goal.returns-then-is_empty
-returns-then-is_empty c = none-selected (c.args.roots.now ∷ []) c.args.members.now c.new.result (eqb-true (length c.args.members.now) 0 (sym c.is_empty.ensures ∙ c.if-is_empty.true)) c.new.ensures
+returns-then-is_empty c = none-selected (c.args.roots.now ∷ []) c.args.members.now c.new.result
+    (eqb-true (length c.args.members.now) 0 (sym c.is_empty.ensures ∙ c.if-is_empty.true)) c.new.ensures

@@ -12,7 +12,8 @@ debug_item-returns-in-Block-clause-takes g t c =
     let depth = c.args.depth in
     let n = c.args.names.now in
     let whole = ap (λ (x : DebugItem). mark_lines depth n (marks_of_item x)) c.in-Block.is ∙ lines-Block depth n c.in-Block.block in
-    let text = l.joins _ _ _ _ _ (l.joins _ _ _ _ _ (rw c.as_slice.ensures at c.block_line.ensures n) (rw c.as_slice-in-Block.ensures at c.debug_items.ensures.takes)) c.end_line.ensures in
+    let text = l.joins _ _ _ _ _ (l.joins _ _ _ _ _ (rw c.as_slice.ensures at c.block_line.ensures n)
+    (rw c.as_slice-in-Block.ensures at c.debug_items.ensures.takes)) c.end_line.ensures in
     subst (λ (bytes : List ℕ). g.K.Output.takes c.args.out.now c.end_line.new.out bytes) (sym whole) text
 
 pub debug_item-returns-in-Block-clause-names : goal.debug_item-returns-in-Block-clause-names
@@ -44,12 +45,15 @@ debug_items-loop-place-preserved g t c =
     let x = c.index-items-place.result in
     let before = marks_of (take i all) in
     let names = c.loop-place.invariant.names in
-    let lines = lines-more depth n all i x c.loop-place-test.true c.index-items-place.is ∙ ap (λ (k : ℕ). mark_lines depth n before ++ mark_lines depth k (marks_of_item x)) (sym names) in
+    let lines = lines-more depth n all i x c.loop-place-test.true c.index-items-place.is
+    ∙ ap (λ (k : ℕ). mark_lines depth n before ++ mark_lines depth k (marks_of_item x)) (sym names) in
     let bound = names-bound c.loop-place.names (marks_of_item x) in
     let count = ap length (marks-next all i x c.loop-place-test.true c.index-items-place.is) ∙ length-append (marks_of_item x) (marks_of (drop (i + 1) all)) in
     record {
-      takes = subst (λ (bytes : List ℕ). g.K.Output.takes c.args.out.now c.debug_item.new.out bytes) (sym lines) (g.met.K.Output.joins _ _ _ _ _ c.loop-place.invariant.takes c.debug_item.ensures.takes);
-      names = c.debug_item.ensures.names ∙ ap (λ (k : ℕ). names_after_all k (marks_of_item x)) names ∙ sym (names-more n all i x c.loop-place-test.true c.index-items-place.is);
+      takes = subst (λ (bytes : List ℕ). g.K.Output.takes c.args.out.now c.debug_item.new.out bytes) (sym lines)
+          (g.met.K.Output.joins _ _ _ _ _ c.loop-place.invariant.takes c.debug_item.ensures.takes);
+      names = c.debug_item.ensures.names ∙ ap (λ (k : ℕ). names_after_all k (marks_of_item x)) names
+          ∙ sym (names-more n all i x c.loop-place-test.true c.index-items-place.is);
       deep = omega (arith, count, c.loop-place.invariant.deep);
       few = omega (arith, count, c.debug_item.ensures.names, bound, c.loop-place.invariant.few);
     }

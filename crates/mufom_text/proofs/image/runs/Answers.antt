@@ -4,4 +4,5 @@ use Rattle.mufom_text.proofs.image.runs.Goals as goal
 
 pub loop-run-preserved : goal.loop-run-preserved
 loop-run-preserved g c =
-    flat-step g.K.Output.takes g.met.K.Output.joins (run_text c.args.maus) c.args.runs.now c.loop-run.run-index c.run-item.result _ _ _ _ c.loop-run-test.true c.run-item.is c.loop-run.invariant c.run_lines.ensures
+    flat-step g.K.Output.takes g.met.K.Output.joins (run_text c.args.maus) c.args.runs.now c.loop-run.run-index c.run-item.result _ _ _ _
+    c.loop-run-test.true c.run-item.is c.loop-run.invariant c.run_lines.ensures

@@ -15,10 +15,14 @@ invariant_of-image g c =
     record {
       units = fits.0;
       within = fits.1;
-      all = ap all_seen c.as_slice-2.ensures.value ∙ c.in-Ok.ensures ∙ ap (λ (items : List DebugItem). addresses_of (names_of (marks_of items)) items) c.as_slice.ensures;
+      all = ap all_seen c.as_slice-2.ensures.value ∙ c.in-Ok.ensures
+          ∙ ap (λ (items : List DebugItem). addresses_of (names_of (marks_of items)) items) c.as_slice.ensures;
     }
 
 pub returns-clause-fault : goal.returns-clause-fault
 returns-clause-fault g c = λ failed.
-    let prefix = c.print_lines.ensures.fault failed in
-    (subst (λ (parts : LocatedParts). GrowsByPrefix (g.H.World.meaning c.args.host.now).out (g.H.World.meaning c.print_lines.new.host).out (image_text parts)) c.parts-parts.ensures.same prefix.0, prefix.1)
+    let prefix = c.print_lines.ensures.fault failed in (
+      subst (λ (parts : LocatedParts). GrowsByPrefix (g.H.World.meaning c.args.host.now).out (g.H.World.meaning c.print_lines.new.host).out
+          (image_text parts)) c.parts-parts.ensures.same prefix.0,
+      prefix.1,
+    )

@@ -1,4 +1,5 @@
 use Rattle.mufom_text.proofs.loads.some_bytes.Goals as goal
 
 pub returns : goal.returns
-returns g c = let l = g.met.K.Output in (l.joins _ _ _ _ _ (l.joins _ _ _ _ _ (l.joins _ _ _ _ _ c.put.ensures c.number.ensures) c.put-2.ensures) c.hex_bytes.ensures)
+returns g c = let l = g.met.K.Output in (l.joins _ _ _ _ _ (l.joins _ _ _ _ _ (l.joins _ _ _ _ _ c.put.ensures c.number.ensures) c.put-2.ensures)
+    c.hex_bytes.ensures)

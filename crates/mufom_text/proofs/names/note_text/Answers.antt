@@ -1,4 +1,6 @@
 use Rattle.mufom_text.proofs.names.note_text.Goals as goal
 
 pub returns : goal.returns
-returns g c = let l = g.met.K.Output in (l.joins _ _ _ _ _ (l.joins _ _ _ _ _ (l.joins _ _ _ _ _ (l.joins _ _ _ _ _ c.put.ensures c.number.ensures) c.put-2.ensures) c.number-2.ensures) (rw c.as_slice.ensures.value at c.spaced_numbers.ensures))
+returns g c = let l = g.met.K.Output in (l.joins _ _ _ _ _ (l.joins _ _ _ _ _
+    (l.joins _ _ _ _ _ (l.joins _ _ _ _ _ c.put.ensures c.number.ensures) c.put-2.ensures) c.number-2.ensures)
+    (rw c.as_slice.ensures.value at c.spaced_numbers.ensures))

@@ -4,4 +4,5 @@ use Rattle.mufom_text.proofs.names.publics.Goals as goal
 
 pub loop-position-preserved : goal.loop-position-preserved
 loop-position-preserved g c =
-    each-step g.K.Output.takes g.met.K.Output.joins public_lines c.args.publics.now c.loop-position.position c.index-publics-position.result c.index-publics-position.result _ _ _ c.loop-position-test.true c.index-publics-position.is c.loop-position.invariant c.public.ensures
+    each-step g.K.Output.takes g.met.K.Output.joins public_lines c.args.publics.now c.loop-position.position c.index-publics-position.result
+    c.index-publics-position.result _ _ _ c.loop-position-test.true c.index-publics-position.is c.loop-position.invariant c.public.ensures

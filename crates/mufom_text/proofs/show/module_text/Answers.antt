@@ -16,4 +16,9 @@ debug_items-requires-clause-few g c =
     omega (arith, few, all)
 
 pub returns : goal.returns
-returns g c = let l = g.met.K.Output in (l.joins _ _ _ _ _ (l.joins _ _ _ _ _ (l.joins _ _ _ _ _ (l.joins _ _ _ _ _ (l.joins _ _ _ _ _ (l.joins _ _ _ _ _ (l.joins _ _ _ _ _ (l.joins _ _ _ _ _ c.module_line.ensures (rw c.as_slice.ensures at c.raw_line.ensures)) (rw c.as_slice-2.ensures at c.raw_line-2.ensures)) (rw c.as_slice-3.ensures at c.section_lines.ensures)) (rw c.as_slice-4.ensures at c.publics.ensures)) (rw c.as_slice-5.ensures at c.references.ensures)) (rw c.as_slice-6.ensures at c.debug_items.ensures.takes)) (rw c.as_slice-7.ensures at c.loads.ensures)) c.start.ensures)
+returns g c = let l = g.met.K.Output in (l.joins _ _ _ _ _ (l.joins _ _ _ _ _
+    (l.joins _ _ _ _ _ (l.joins _ _ _ _ _ (l.joins _ _ _ _ _ (l.joins _ _ _ _ _
+    (l.joins _ _ _ _ _ (l.joins _ _ _ _ _ c.module_line.ensures (rw c.as_slice.ensures at c.raw_line.ensures))
+    (rw c.as_slice-2.ensures at c.raw_line-2.ensures)) (rw c.as_slice-3.ensures at c.section_lines.ensures))
+    (rw c.as_slice-4.ensures at c.publics.ensures)) (rw c.as_slice-5.ensures at c.references.ensures))
+    (rw c.as_slice-6.ensures at c.debug_items.ensures.takes)) (rw c.as_slice-7.ensures at c.loads.ensures)) c.start.ensures)

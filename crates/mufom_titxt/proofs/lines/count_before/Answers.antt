@@ -5,7 +5,8 @@ use Rattle.mufom_titxt.proofs.lines.count_before.Goals as goal
 
 pub returns-then-byte-mark-clause-count : goal.returns-then-byte-mark-clause-count
 returns-then-byte-mark-clause-count c =
-    sym (position_or_len_is (λ b. b == c.args.mark) c.args.text.now c.loop-count.count 0 (omega arith) c.loop-count.invariant (λ less. eq-eqb _ _ c.if-byte-mark.true))
+    sym (position_or_len_is (λ b. b == c.args.mark) c.args.text.now c.loop-count.count 0 (omega arith) c.loop-count.invariant
+    (λ less. eq-eqb _ _ c.if-byte-mark.true))
 
 pub returns-clause-count : goal.returns-clause-count
 returns-clause-count c =

@@ -28,6 +28,7 @@ pub returns-in_ok-refusal-in-Err-Twice-clause-refused : goal.returns-in_ok-refus
 returns-in_ok-refusal-in-Err-Twice-clause-refused c refusal e =
     let P : RowsStop → Type 0 = λ stop. IsTwice (first_twice [] (cell_addresses (loaded_cells c.in_ok-loaded.loaded))) stop in
     let twice = subst P c.in-Err-Twice.field-0-is c.in-Err-Twice.ensures.twice ∙ ap (λ a. Some (loaded_twice a)) (sym c.in-Err-Twice.address-is) in
-    let found = refused_by_twice c.args.text.now (8 * c.args.maus) c.modulus_of-modulus.result c.modulus_of-modulus.ensures.value (loaded_cells c.in_ok-loaded.loaded)
+    let found = refused_by_twice c.args.text.now (8 * c.args.maus) c.modulus_of-modulus.result c.modulus_of-modulus.ensures.value
+    (loaded_cells c.in_ok-loaded.loaded)
     c.in_ok-loaded.ensures.cells _ twice in
     found ∙ ap (λ r. Some r) (sym c.in_ok-refusal-in-Err-Twice.ensures ∙ refused_same c.in_ok-refusal-in-Err-Twice.refusal refusal e)

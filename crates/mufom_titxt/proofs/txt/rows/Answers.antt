@@ -4,4 +4,5 @@ use Rattle.mufom_titxt.proofs.txt.rows.Goals as goal
 
 pub twice_address-requires : goal.twice_address-requires
 twice_address-requires c =
-    refusal_names (loaded_cells c.args.loaded) c.in-Err-Stopped.field-0 c.in-Err-Stopped.stop c.requires.low c.in-Err-Stopped.field-0-is c.in-Err-Stopped.ensures.refusal
+    refusal_names (loaded_cells c.args.loaded) c.in-Err-Stopped.field-0 c.in-Err-Stopped.stop c.requires.low c.in-Err-Stopped.field-0-is
+    c.in-Err-Stopped.ensures.refusal

@@ -43,7 +43,8 @@ loop-left-preserved c =
       line = ap (λ s. second_line c.args.address c.read_line.new.self.store.hits
           (places_read c.args.modulus (c.loop-left.count + 1) s (map line_of (lines_later (option_map (λ t. t.now) c.next_line.result.1))))) says
           ∙ (ap (λ n. second_line c.args.address c.read_line.new.self.store.hits
-          (places_read c.args.modulus n (so_far (stated c.loop-left.reading) (line_of c.next_line.result.0.now)) (map line_of (lines_later (option_map (λ t. t.now) c.next_line.result.1))))) (add-one c.loop-left.count)
+          (places_read c.args.modulus n (so_far (stated c.loop-left.reading) (line_of c.next_line.result.0.now))
+          (map line_of (lines_later (option_map (λ t. t.now) c.next_line.result.1))))) (add-one c.loop-left.count)
           ∙ found.2 c.if-reading-gt1.false (sym none ∙ c.in_ok-fault.ensures.fault));
       count = search rules;
     }

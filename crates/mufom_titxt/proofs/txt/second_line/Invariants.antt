@@ -11,7 +11,8 @@ invariant-loop-left l = record {
   tiled : IsTiled l.reading.store.loaded;
   watched : l.reading.store.watched ≡ Some l.address;
   hits : l.reading.store.hits ≤ 1;
-  line : second_line l.address l.reading.store.hits (places_read l.modulus l.count (stated l.reading) (map line_of (lines_later (option_map (λ t. t.now) l.left))))
+  line : second_line l.address l.reading.store.hits (places_read l.modulus l.count (stated l.reading)
+      (map line_of (lines_later (option_map (λ t. t.now) l.left))))
       ≡ second_line l.address 0 (places_read l.modulus 0 nothing_stated (map line_of (lines_of l.text)));
   count : l.count + bytes_left (option_map (λ t. t.now) l.left) ≤ length l.text + 1;
 }

@@ -14,6 +14,7 @@ loop-digit-preserved c =
     let is : c.min-number.result ≡ min next 65537 = c.min-number.ensures ∙ ap (λ s. min (c.loop-digit.number * 10 + s) 65537) c.saturating_sub.ensures in
     let more = ap (λ ds. number_from_digits_after 10 c.loop-digit.number (map (λ b. b - 48) ds)) (drop_more digits i 0 c.loop-digit-test.true) in
     record {
-      rest = ap (λ n. min 65537 (number_from_digits_after 10 n rest)) is ∙ capped-after 65537 next rest ∙ ap (min 65537) (sym more) ∙ c.loop-digit.invariant.rest;
+      rest = ap (λ n. min 65537 (number_from_digits_after 10 n rest)) is ∙ capped-after 65537 next rest ∙ ap (min 65537) (sym more)
+          ∙ c.loop-digit.invariant.rest;
       bound = grind (arith, is);
     }

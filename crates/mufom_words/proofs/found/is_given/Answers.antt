@@ -6,7 +6,8 @@ use Rattle.mufom_words.proofs.found.is_given.Goals as goal
 
 pub returns-in-Some : goal.returns-in-Some
 returns-in-Some c =
-    let text : Some c.in-Some.text.now ≡ value_in (usage_of c.args.form).settings (rows_of (found_of c.args.matches.now)) c.args.setting = rw c.in-Some.is at c.value_in.ensures in
+    let text : Some c.in-Some.text.now ≡ value_in (usage_of c.args.form).settings (rows_of (found_of c.args.matches.now)) c.args.setting =
+    rw c.in-Some.is at c.value_in.ensures in
     c.eq.ensures ∙ ap is_true text
 
 pub returns-in-None : goal.returns-in-None

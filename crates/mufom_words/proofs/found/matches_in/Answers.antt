@@ -13,7 +13,8 @@ returns-clause-found c =
     let words = map (λ word. string_bytes word) c.args.words.now in
     let app_is : app_of c.in_ok-command.command ≡ app_for c.args.form = c.in_ok-command.ensures in
     let parse = c.try_get_matches_from in
-    IfOk-weaker parse.result _ _ (λ m found. (found (ap is_simple app_is ∙ app_for-simple c.args.form)).0 ∙ ap (λ (a : App). matches_of a words) app_is) parse.ensures.matches
+    IfOk-weaker parse.result _ _ (λ m found. (found (ap is_simple app_is ∙ app_for-simple c.args.form)).0
+    ∙ ap (λ (a : App). matches_of a words) app_is) parse.ensures.matches
 
 pub returns-clause-kinds : goal.returns-clause-kinds
 returns-clause-kinds c =

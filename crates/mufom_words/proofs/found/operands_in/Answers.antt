@@ -14,7 +14,9 @@ none_given f None all e none = ap (λ given. unwrap_or given []) (sym e)
 none_given f (Some x) all e none = absurd (true≢false none)
 
 pub returns-clause-some : goal.returns-clause-some
-returns-clause-some c = some_given (λ s. map (λ v. v.now) s.now) c.get_strs.result _ (c.get_strs.ensures ∙ raw_values-rows (found_of c.args.matches.now) (codes "files"))
+returns-clause-some c = some_given (λ s. map (λ v. v.now) s.now) c.get_strs.result _ (c.get_strs.ensures
+    ∙ raw_values-rows (found_of c.args.matches.now) (codes "files"))
 
 pub returns-clause-none : goal.returns-clause-none
-returns-clause-none c = none_given (λ s. map (λ v. v.now) s.now) c.get_strs.result _ (c.get_strs.ensures ∙ raw_values-rows (found_of c.args.matches.now) (codes "files"))
+returns-clause-none c = none_given (λ s. map (λ v. v.now) s.now) c.get_strs.result _ (c.get_strs.ensures
+    ∙ raw_values-rows (found_of c.args.matches.now) (codes "files"))

@@ -18,5 +18,6 @@ command_of_taken-requires-clause-few c =
     let within = operands-within c.args.form words in
     let many : length words ≡ length c.args.words.now = length-map c.args.words.now (λ word. string_bytes word) in
     let same : length c.in-Some.operands.now ≡ length (given c.args.form words).operands =
-    sym (length-map c.in-Some.operands.now (λ word. word.now)) ∙ ap length c.in-Some.ensures.some ∙ ap (λ rows. length (operands_of rows)) c.in-Ok.ensures.found in
+    sym (length-map c.in-Some.operands.now (λ word. word.now)) ∙ ap length c.in-Some.ensures.some
+    ∙ ap (λ rows. length (operands_of rows)) c.in-Ok.ensures.found in
     omega arith

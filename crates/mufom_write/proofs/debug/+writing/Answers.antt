@@ -21,14 +21,17 @@ debug_item-returns-in_err-debug_items-in-Block-clause-takes g t c =
     let l = g.met.K.Output in
     let n = c.args.names.now in
     let split = ap (λ (x : DebugItem). debug_records shortest n (marks_of_item x)) c.in-Block.is ∙ records-Block n c.in-Block.block in
-    l.joins _ _ _ _ _ _ _ (c.in_ok-block_begin-in-Block.ensures n) (l.stops _ _ _ _ _ _ _ (rw c.as_slice.ensures at c.in_err-debug_items-in-Block.ensures.takes) c.from_residual-in_err-debug_items-in-Block.ensures.0 refl) split
+    l.joins _ _ _ _ _ _ _ (c.in_ok-block_begin-in-Block.ensures n)
+    (l.stops _ _ _ _ _ _ _ (rw c.as_slice.ensures at c.in_err-debug_items-in-Block.ensures.takes)
+    c.from_residual-in_err-debug_items-in-Block.ensures.0 refl) split
 
 pub debug_item-returns-in_ok-debug_items-in-Block-clause-takes : goal.debug_item-returns-in_ok-debug_items-in-Block-clause-takes
 debug_item-returns-in_ok-debug_items-in-Block-clause-takes g t c =
     let l = g.met.K.Output in
     let n = c.args.names.now in
     let split = ap (λ (x : DebugItem). debug_records shortest n (marks_of_item x)) c.in-Block.is ∙ records-Block n c.in-Block.block in
-    l.joins _ _ _ _ _ _ _ (c.in_ok-block_begin-in-Block.ensures n) (l.joins _ _ _ _ _ _ _ (rw c.as_slice.ensures at c.in_ok-debug_items-in-Block.ensures.takes) (c.block_end.ensures n) refl) split
+    l.joins _ _ _ _ _ _ _ (c.in_ok-block_begin-in-Block.ensures n)
+    (l.joins _ _ _ _ _ _ _ (rw c.as_slice.ensures at c.in_ok-debug_items-in-Block.ensures.takes) (c.block_end.ensures n) refl) split
 
 pub debug_item-returns-in_ok-debug_items-in-Block-clause-names : goal.debug_item-returns-in_ok-debug_items-in-Block-clause-names
 debug_item-returns-in_ok-debug_items-in-Block-clause-names g t c =
@@ -51,7 +54,9 @@ debug_items-returns-in_err-debug_item-clause-takes g t c =
     let x = c.index-items-place.result in
     let after = marks_of (drop (i + 1) all) in
     let split = ap (debug_records shortest n) (marks-next all i x c.loop-place-test.true c.index-items-place.is) ∙ records-append n (marks_of_item x) after in
-    leads-stop g.K.Output.takes g.met.K.Output.stops _ _ _ (debug_records shortest n (marks_of_item x)) (debug_records shortest (names_after_all n (marks_of_item x)) after) _ _ _ _ split c.loop-place.invariant.leads c.in_err-debug_item.ensures.takes c.from_residual.ensures.0
+    leads-stop g.K.Output.takes g.met.K.Output.stops _ _ _ (debug_records shortest n (marks_of_item x))
+    (debug_records shortest (names_after_all n (marks_of_item x)) after) _ _ _ _ split c.loop-place.invariant.leads
+    c.in_err-debug_item.ensures.takes c.from_residual.ensures.0
 
 pub debug_items-loop-place-preserved : goal.debug_items-loop-place-preserved
 debug_items-loop-place-preserved g t c =
@@ -62,12 +67,15 @@ debug_items-loop-place-preserved g t c =
     let after = marks_of (drop (i + 1) all) in
     let next = marks-next all i x c.loop-place-test.true c.index-items-place.is in
     let names = c.in_ok-debug_item.ensures.names in
-    let split = ap (debug_records shortest n) next ∙ records-append n (marks_of_item x) after ∙ ap (λ (k : ℕ). debug_records shortest n (marks_of_item x) ++ debug_records shortest k after) (sym names) in
+    let split = ap (debug_records shortest n) next ∙ records-append n (marks_of_item x) after
+    ∙ ap (λ (k : ℕ). debug_records shortest n (marks_of_item x) ++ debug_records shortest k after) (sym names) in
     let bound = names-bound n (marks_of_item x) in
     let count = ap length next ∙ length-append (marks_of_item x) after in
     record {
-      leads = leads-step g.K.Output.takes g.met.K.Output.joins _ _ _ (debug_records shortest n (marks_of_item x)) (debug_records shortest c.debug_item.new.names after) _ _ split c.loop-place.invariant.leads c.in_ok-debug_item.ensures.takes;
-      after = ap (λ (k : ℕ). names_after_all k after) names ∙ sym (names-append n (marks_of_item x) after) ∙ ap (names_after_all n) (sym next) ∙ c.loop-place.invariant.after;
+      leads = leads-step g.K.Output.takes g.met.K.Output.joins _ _ _ (debug_records shortest n (marks_of_item x))
+          (debug_records shortest c.debug_item.new.names after) _ _ split c.loop-place.invariant.leads c.in_ok-debug_item.ensures.takes;
+      after = ap (λ (k : ℕ). names_after_all k after) names ∙ sym (names-append n (marks_of_item x) after) ∙ ap (names_after_all n) (sym next)
+          ∙ c.loop-place.invariant.after;
       short = or_last _ _ _ (any_mark_next has_long_name all i x c.loop-place-test.true) c.loop-place.invariant.short;
       few = omega (arith, names, bound, count, c.loop-place.invariant.few);
     }

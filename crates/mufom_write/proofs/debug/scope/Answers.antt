@@ -5,7 +5,9 @@ pub returns-in_err-number : goal.returns-in_err-number
 returns-in_err-number g c = let l = g.met.K.Output in l.stops _ _ _ _ _ _ _ c.in_err-number.ensures c.from_residual.ensures.0 refl
 
 pub returns-in_err-number-2 : goal.returns-in_err-number-2
-returns-in_err-number-2 g c = let l = g.met.K.Output in l.joins _ _ _ _ _ _ _ c.in_ok-number.ensures (l.stops _ _ _ _ _ _ _ c.in_err-number-2.ensures c.from_residual-in_err-number-2.ensures.0 refl) refl
+returns-in_err-number-2 g c = let l = g.met.K.Output in l.joins _ _ _ _ _ _ _ c.in_ok-number.ensures
+    (l.stops _ _ _ _ _ _ _ c.in_err-number-2.ensures c.from_residual-in_err-number-2.ensures.0 refl) refl
 
 pub returns : goal.returns
-returns g c = let l = g.met.K.Output in l.joins _ _ _ _ _ _ _ c.in_ok-number.ensures (l.joins _ _ _ _ _ _ _ c.in_ok-number-2.ensures (c.expression.ensures) refl) refl
+returns g c = let l = g.met.K.Output in l.joins _ _ _ _ _ _ _ c.in_ok-number.ensures
+    (l.joins _ _ _ _ _ _ _ c.in_ok-number-2.ensures (c.expression.ensures) refl) refl

@@ -12,4 +12,5 @@ loop-next-preserved g c =
     let all = c.tokens-tokens.result.now in
     let x = get_or all i (Number 0) in
     let next = each_next write i all i (Number 0) x c.loop-next-test.true refl in
-    leads-step g.K.Output.takes g.met.K.Output.joins _ _ _ (write i x) (each_from (i + 1) write (drop (i + 1) all)) _ _ next c.loop-next.invariant c.in_ok-token.ensures
+    leads-step g.K.Output.takes g.met.K.Output.joins _ _ _ (write i x) (each_from (i + 1) write (drop (i + 1) all)) _ _ next c.loop-next.invariant
+    c.in_ok-token.ensures

@@ -5,7 +5,9 @@ pub returns-in_err-put : goal.returns-in_err-put
 returns-in_err-put g c = let l = g.met.K.Output in l.stops _ _ _ _ _ _ _ (rw c.opening.ensures at c.in_err-put.ensures) c.from_residual.ensures.0 refl
 
 pub returns-in_err-expression : goal.returns-in_err-expression
-returns-in_err-expression g c = let l = g.met.K.Output in l.joins _ _ _ _ _ _ _ (rw c.opening.ensures at c.in_ok-put.ensures) (l.stops _ _ _ _ _ _ _ c.in_err-expression.ensures c.from_residual-in_err-expression.ensures.0 refl) refl
+returns-in_err-expression g c = let l = g.met.K.Output in l.joins _ _ _ _ _ _ _ (rw c.opening.ensures at c.in_ok-put.ensures)
+    (l.stops _ _ _ _ _ _ _ c.in_err-expression.ensures c.from_residual-in_err-expression.ensures.0 refl) refl
 
 pub returns : goal.returns
-returns g c = let l = g.met.K.Output in l.joins _ _ _ _ _ _ _ (rw c.opening.ensures at c.in_ok-put.ensures) (l.joins _ _ _ _ _ _ _ c.in_ok-expression.ensures (c.field_end.ensures) refl) refl
+returns g c = let l = g.met.K.Output in l.joins _ _ _ _ _ _ _ (rw c.opening.ensures at c.in_ok-put.ensures)
+    (l.joins _ _ _ _ _ _ _ c.in_ok-expression.ensures (c.field_end.ensures) refl) refl

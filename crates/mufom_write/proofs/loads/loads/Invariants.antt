@@ -4,4 +4,5 @@ use Rattle.mufom_write.specs.Writing.{LeadsTo}
 use Rattle.mufom_write.proofs.loads.loads.Given as goal
 
 abbrev pub invariant-loop-place : goal.invariant-loop-place
-invariant-loop-place g l = LeadsTo g.K.Output.takes l.fn.out l.out (each_from l.place (λ _. load shortest) (drop l.place l.loads)) (each (λ _. load shortest) l.loads)
+invariant-loop-place g l = LeadsTo g.K.Output.takes l.fn.out l.out (each_from l.place (λ _. load shortest) (drop l.place l.loads))
+    (each (λ _. load shortest) l.loads)

@@ -11,5 +11,6 @@ returns c =
     let y = length (w.each (w.offset_record shortest) zeros) in
     let split = header-split m in
     let few = places-fit m c.requires in
-    let both = counted-both c.module_begin.new.out.bytes c.offset_records.new.out.bytes x y (omega (arith, split, few)) c.module_begin.ensures.length c.offset_records.ensures.length in
+    let both = counted-both c.module_begin.new.out.bytes c.offset_records.new.out.bytes x y (omega (arith, split, few)) c.module_begin.ensures.length
+    c.offset_records.ensures.length in
     both ∙ sym split

@@ -20,10 +20,17 @@ loop-number-preserved c =
     let i = c.loop-number.number in
     let len = c.part_length-length.result in
     let next = next-length (parts shortest m) i c.loop-number-test.true in
-    let place : c.if-length-eq0.offsets ≡ cond (len == 0) 0 c.loop-number.at = elim c.if-length-eq0.branch [ then-length-eq0 w ↦ place-empty _ _ _ w.if-length-eq0.true w.offsets-is | else-length-eq0 w ↦ place-full _ _ _ w.if-length-eq0.false w.offsets-is ] in
+    let place : c.if-length-eq0.offsets ≡ cond (len == 0) 0 c.loop-number.at =
+    elim c.if-length-eq0.branch [
+      | then-length-eq0 w ↦ place-empty _ _ _ w.if-length-eq0.true w.offsets-is
+      | else-length-eq0 w ↦
+          place-full _ _ _ w.if-length-eq0.false w.offsets-is
+    ] in
     record {
       size = length-set c.loop-number.offsets i c.if-length-eq0.offsets ∙ c.loop-number.invariant.size;
-      offsets = place-step c.loop-number.at i c.if-length-eq0.offsets len (parts shortest m) c.loop-number.offsets (offsets shortest m) c.loop-number-test.true (omega (arith, c.loop-number.invariant.size, c.loop-number-test.true)) c.part_length-length.ensures place c.loop-number.invariant.offsets;
+      offsets = place-step c.loop-number.at i c.if-length-eq0.offsets len (parts shortest m) c.loop-number.offsets (offsets shortest m)
+          c.loop-number-test.true (omega (arith, c.loop-number.invariant.size, c.loop-number-test.true)) c.part_length-length.ensures place
+          c.loop-number.invariant.offsets;
       at = omega (arith, next, c.loop-number.invariant.at, c.part_length-length.ensures);
     }
 
@@ -36,12 +43,14 @@ pub returns-clause-offsets : goal.returns-clause-offsets
 returns-clause-offsets c =
     let m = c.args.parts.now in
     let seven : c.loop-number.number ≡ 7 = omega (arith, c.loop-number-test.false, c.loop-number.auto.number-end) in
-    place-last c.loop-number.at 7 (parts shortest m) c.loop-number.offsets (offsets shortest m) (omega arith) c.loop-number.invariant.size (rw seven at c.loop-number.invariant.offsets)
+    place-last c.loop-number.at 7 (parts shortest m) c.loop-number.offsets (offsets shortest m) (omega arith) c.loop-number.invariant.size
+    (rw seven at c.loop-number.invariant.offsets)
 
 pub returns-clause-length : goal.returns-clause-length
 returns-clause-length c =
     let m = c.args.parts.now in
-    let ends : length (joined (drop c.loop-number.number (parts shortest m))) ≡ 0 = ap (λ (l : List (List ℕ)). length (joined l)) (drop_all c.loop-number.number (parts shortest m) c.loop-number-test.false) in
+    let ends : length (joined (drop c.loop-number.number (parts shortest m))) ≡ 0 =
+    ap (λ (l : List (List ℕ)). length (joined l)) (drop_all c.loop-number.number (parts shortest m) c.loop-number-test.false) in
     let whole = written-length m in
     omega (arith, ends, whole, c.loop-number.invariant.at)
 
@@ -50,5 +59,6 @@ returns-clause-fits c =
     let m = c.args.parts.now in
     let few = places-fit m c.requires in
     let seven : c.loop-number.number ≡ 7 = omega (arith, c.loop-number-test.false, c.loop-number.auto.number-end) in
-    let all = place-last c.loop-number.at 7 (parts shortest m) c.loop-number.offsets (offsets shortest m) (omega arith) c.loop-number.invariant.size (rw seven at c.loop-number.invariant.offsets) in
+    let all = place-last c.loop-number.at 7 (parts shortest m) c.loop-number.offsets (offsets shortest m) (omega arith) c.loop-number.invariant.size
+    (rw seven at c.loop-number.invariant.offsets) in
     subst (λ (l : List ℕ). All (λ offset. offset < 2 ^ 32) l) (sym all) (offsets-fit (header_length shortest m) (parts shortest m) (omega (arith, few)))

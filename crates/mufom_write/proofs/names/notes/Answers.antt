@@ -11,7 +11,8 @@ loop-place-preserved g c =
     let all = c.args.notes.now in
     let x = c.index-notes-place.result in
     let next = each_next write i all i x x c.loop-place-test.true c.index-notes-place.is in
-    leads-step g.K.Output.takes g.met.K.Output.joins _ _ _ (write i x) (each_from (i + 1) write (drop (i + 1) all)) _ _ next c.loop-place.invariant c.in_ok-note.ensures
+    leads-step g.K.Output.takes g.met.K.Output.joins _ _ _ (write i x) (each_from (i + 1) write (drop (i + 1) all)) _ _ next c.loop-place.invariant
+    c.in_ok-note.ensures
 
 pub returns-in_err-note : goal.returns-in_err-note
 returns-in_err-note g c =
@@ -20,4 +21,5 @@ returns-in_err-note g c =
     let all = c.args.notes.now in
     let x = c.index-notes-place.result in
     let next = each_next write i all i x x c.loop-place-test.true c.index-notes-place.is in
-    leads-stop g.K.Output.takes g.met.K.Output.stops _ _ _ (write i x) (each_from (i + 1) write (drop (i + 1) all)) _ _ _ _ next c.loop-place.invariant c.in_err-note.ensures c.from_residual.ensures.0
+    leads-stop g.K.Output.takes g.met.K.Output.stops _ _ _ (write i x) (each_from (i + 1) write (drop (i + 1) all)) _ _ _ _ next
+    c.loop-place.invariant c.in_err-note.ensures c.from_residual.ensures.0

@@ -11,7 +11,8 @@ loop-place-preserved g c =
     let all = c.args.references.now in
     let x = c.index-references-place.result in
     let next = each_next write i all i x x c.loop-place-test.true c.index-references-place.is in
-    leads-step g.K.Output.takes g.met.K.Output.joins _ _ _ (write i x) (each_from (i + 1) write (drop (i + 1) all)) _ _ next c.loop-place.invariant c.in_ok-reference.ensures
+    leads-step g.K.Output.takes g.met.K.Output.joins _ _ _ (write i x) (each_from (i + 1) write (drop (i + 1) all)) _ _ next c.loop-place.invariant
+    c.in_ok-reference.ensures
 
 pub returns-in_err-reference : goal.returns-in_err-reference
 returns-in_err-reference g c =
@@ -20,4 +21,5 @@ returns-in_err-reference g c =
     let all = c.args.references.now in
     let x = c.index-references-place.result in
     let next = each_next write i all i x x c.loop-place-test.true c.index-references-place.is in
-    leads-stop g.K.Output.takes g.met.K.Output.stops _ _ _ (write i x) (each_from (i + 1) write (drop (i + 1) all)) _ _ _ _ next c.loop-place.invariant c.in_err-reference.ensures c.from_residual.ensures.0
+    leads-stop g.K.Output.takes g.met.K.Output.stops _ _ _ (write i x) (each_from (i + 1) write (drop (i + 1) all)) _ _ _ _ next
+    c.loop-place.invariant c.in_err-reference.ensures c.from_residual.ensures.0

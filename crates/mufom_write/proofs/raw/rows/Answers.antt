@@ -13,8 +13,10 @@ loop-place-preserved g c =
     let runs : List Run = c.args.runs.now in
     let run : Run = c.index-runs-place.result in
     let next = rows_next fill c.loop-place.end runs i run run c.loop-place-test.true c.index-runs-place.is in
-    subst (λ (end : ℕ). LeadsTo g.K.Output.takes c.args.out.now c.row.new.out (rows_from fill end (drop (i + 1) runs)) (raw_image fill runs)) (sym c.run_end-end.ensures)
-    (leads-step g.K.Output.takes g.met.K.Output.joins _ _ _ (replicate (run.address - c.loop-place.end) fill ++ run.bytes) (rows_from fill (run_end run) (drop (i + 1) runs)) _ _ next
+    subst (λ (end : ℕ). LeadsTo g.K.Output.takes c.args.out.now c.row.new.out (rows_from fill end (drop (i + 1) runs)) (raw_image fill runs))
+    (sym c.run_end-end.ensures)
+    (leads-step g.K.Output.takes g.met.K.Output.joins _ _ _ (replicate (run.address - c.loop-place.end) fill
+    ++ run.bytes) (rows_from fill (run_end run) (drop (i + 1) runs)) _ _ next
     c.loop-place.invariant c.in_ok-row.ensures)
 
 pub returns-in_err-row : goal.returns-in_err-row
@@ -24,5 +26,6 @@ returns-in_err-row g c =
     let runs : List Run = c.args.runs.now in
     let run : Run = c.index-runs-place.result in
     let next = rows_next fill c.loop-place.end runs i run run c.loop-place-test.true c.index-runs-place.is in
-    leads-stop g.K.Output.takes g.met.K.Output.stops _ _ _ (replicate (run.address - c.loop-place.end) fill ++ run.bytes) (rows_from fill (run_end run) (drop (i + 1) runs)) _ _ _ _ next
+    leads-stop g.K.Output.takes g.met.K.Output.stops _ _ _ (replicate (run.address - c.loop-place.end) fill
+    ++ run.bytes) (rows_from fill (run_end run) (drop (i + 1) runs)) _ _ _ _ next
     c.loop-place.invariant c.in_err-row.ensures c.from_residual.ensures.0

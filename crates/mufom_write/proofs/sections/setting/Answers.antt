@@ -5,7 +5,8 @@ pub returns-in_err-put : goal.returns-in_err-put
 returns-in_err-put g c = let l = g.met.K.Output in l.stops _ _ _ _ _ _ _ c.in_err-put.ensures c.from_residual.ensures.0 refl
 
 pub returns-in_err-number : goal.returns-in_err-number
-returns-in_err-number g c = let l = g.met.K.Output in l.joins _ _ _ _ _ _ _ c.in_ok-put.ensures (l.stops _ _ _ _ _ _ _ c.in_err-number.ensures c.from_residual-in_err-number.ensures.0 refl) refl
+returns-in_err-number g c = let l = g.met.K.Output in l.joins _ _ _ _ _ _ _ c.in_ok-put.ensures
+    (l.stops _ _ _ _ _ _ _ c.in_err-number.ensures c.from_residual-in_err-number.ensures.0 refl) refl
 
 pub returns : goal.returns
 returns g c = let l = g.met.K.Output in l.joins _ _ _ _ _ _ _ c.in_ok-put.ensures (l.joins _ _ _ _ _ _ _ c.in_ok-number.ensures (c.number-2.ensures) refl) refl

@@ -19,5 +19,6 @@ of-requires-clause-one c =
 pub returns-clause-tokens : goal.returns-clause-tokens
 returns-clause-tokens c =
     let some : 0 < length c.self.inside.tokens.items = search rules in
-    let one : LeaveOneTerm c.self.inside.tokens.items = leaves-few c.self.inside.tokens.items c.self.inside.terms c.self.invariant.0 c.if-terms-gt1.false some in
+    let one : LeaveOneTerm c.self.inside.tokens.items = leaves-few c.self.inside.tokens.items c.self.inside.terms c.self.invariant.0
+    c.if-terms-gt1.false some in
     rw (← c.self.view_is) (ap tokens_of c.of.ensures ∙ sym (tokens_of-the_term c.self.inside.tokens.items one))

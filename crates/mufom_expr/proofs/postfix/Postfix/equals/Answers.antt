@@ -12,5 +12,6 @@ returns c =
     let left = c.as_slice.ensures in
     let right = c.as_slice-2.ensures in (
       λ e. sym c.self.view_is ∙ ap the_term (sym left ∙ decides.0 e ∙ right) ∙ c.other.view_is,
-      λ e. decides.1 (left ∙ tokens_of-the_term _ c.self.invariant.0 ∙ ap tokens_of (c.self.view_is ∙ e ∙ sym c.other.view_is) ∙ sym (tokens_of-the_term _ c.other.invariant.0) ∙ sym right),
+      λ e. decides.1 (left ∙ tokens_of-the_term _ c.self.invariant.0 ∙ ap tokens_of (c.self.view_is ∙ e ∙ sym c.other.view_is)
+          ∙ sym (tokens_of-the_term _ c.other.invariant.0) ∙ sym right),
     )

@@ -22,15 +22,21 @@ loop-token-preserved c =
 pub returns-clause-tokens : goal.returns-clause-tokens
 returns-clause-tokens c =
     let items = c.as_slice-token-items.result.now in
-    let past : drop c.loop-token.token-index items ≡ [] = nil_from_length _ (omega (arith, length-drop c.loop-token.token-index items, c.loop-token-test.false)) in
-    let left = last_expr items (the_term items) c.loop-token.token-index (reverse c.loop-token.stack.items) _ c.pop_expr.result c.loop-token.invariant past c.pop_expr.ensures.trees in
-    tokens_of_expr-tree c.pop_expr.result (the_term items) left ∙ ap (λ (ts : List Token). tokens_of (the_term ts)) c.as_slice-token-items.ensures ∙ ap tokens_of c.self.view_is
+    let past : drop c.loop-token.token-index items ≡ [] = nil_from_length _
+    (omega (arith, length-drop c.loop-token.token-index items, c.loop-token-test.false)) in
+    let left = last_expr items (the_term items) c.loop-token.token-index (reverse c.loop-token.stack.items) _ c.pop_expr.result c.loop-token.invariant
+    past c.pop_expr.ensures.trees in
+    tokens_of_expr-tree c.pop_expr.result (the_term items) left ∙ ap (λ (ts : List Token). tokens_of (the_term ts)) c.as_slice-token-items.ensures
+    ∙ ap tokens_of c.self.view_is
 
 pub returns-clause-fits : goal.returns-clause-fits
 returns-clause-fits c =
     let items = c.as_slice-token-items.result.now in
-    let past : drop c.loop-token.token-index items ≡ [] = nil_from_length _ (omega (arith, length-drop c.loop-token.token-index items, c.loop-token-test.false)) in
-    let left = last_expr items (the_term items) c.loop-token.token-index (reverse c.loop-token.stack.items) _ c.pop_expr.result c.loop-token.invariant past c.pop_expr.ensures.trees in
+    let past : drop c.loop-token.token-index items ≡ [] = nil_from_length _
+    (omega (arith, length-drop c.loop-token.token-index items, c.loop-token-test.false)) in
+    let left = last_expr items (the_term items) c.loop-token.token-index (reverse c.loop-token.stack.items) _ c.pop_expr.result c.loop-token.invariant
+    past c.pop_expr.ensures.trees in
     let same : items ≡ tokens_held c.self.inside.tokens = c.as_slice-token-items.ensures in
-    let few : length (tokens_of (the_term items)) ≤ 255 = rw same (subst (λ ts. length ts ≤ 255) (tokens_of-the_term _ c.self.invariant.0) c.self.invariant.1) in
+    let few : length (tokens_of (the_term items)) ≤ 255 = rw same
+    (subst (λ ts. length ts ≤ 255) (tokens_of-the_term _ c.self.invariant.0) c.self.invariant.1) in
     small_tree c.pop_expr.result (the_term items) left few

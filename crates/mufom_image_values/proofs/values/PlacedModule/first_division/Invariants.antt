@@ -9,4 +9,5 @@ use Rattle.mufom_image_values.proofs.values.PlacedModule.first_division.Given as
 -- no public so far divides by 0 itself
 abbrev pub invariant-loop-position : goal.invariant-loop-position
 invariant-loop-position l =
-    (j : ℕ) → j < l.position → (q : Public) → slice_get l.self.graph.parts.now.names.publics j ≡ Some q → public_fact (setting_of l.self) (sit l.self.graph.parts.now q) ≡ None
+    (j : ℕ) → j < l.position → (q : Public) → slice_get l.self.graph.parts.now.names.publics j ≡ Some q
+    → public_fact (setting_of l.self) (sit l.self.graph.parts.now q) ≡ None

@@ -17,12 +17,14 @@ returns-then-can_settle-clause-right c =
     let at = ap (λ (ps : List Public). slice_get ps n) (sym c.publics-publics.ensures)
     ∙ slice_get-get_or c.publics-publics.result.now n p inside
     ∙ ap Some (sym c.index-publics-position.is) in
-    let evaluated = subst (λ (vs : List Evaluation). AreEvaluated vs (graph_edges placed.graph n)) c.deref.ensures.value (c.can_settle.ensures.0 c.if-can_settle.true) in
+    let evaluated = subst (λ (vs : List Evaluation). AreEvaluated vs (graph_edges placed.graph n)) c.deref.ensures.value
+    (c.can_settle.ensures.0 c.if-can_settle.true) in
     let worth = c.worth.ensures.value ∙ ap (λ (vs : List Evaluation). worth_at placed vs None p.value) c.deref-then-can_settle.ensures.value in
     set-right placed c.requires.placed values c.requires.right n p at evaluated c.worth.result worth
 
 pub returns-then-can_settle-clause-kept : goal.returns-then-can_settle-clause-kept
-returns-then-can_settle-clause-kept c = set-kept c.args.self.now c.requires.placed c.args.values.now.items c.args.position c.worth.result c.worth.ensures.evaluated
+returns-then-can_settle-clause-kept c = set-kept c.args.self.now c.requires.placed c.args.values.now.items c.args.position c.worth.result
+    c.worth.ensures.evaluated
 
 pub returns-then-can_settle-clause-settled : goal.returns-then-can_settle-clause-settled
 returns-then-can_settle-clause-settled c inside evaluated =

@@ -13,7 +13,8 @@ pub loop-position-preserved : goal.loop-position-preserved
 loop-position-preserved c =
     let first = c.args.values.now.items in
     let kept = c.settle.ensures.kept in
-    let inside : c.loop-position.position < length c.args.self.now.graph.parts.now.names.publics = omega (arith, c.loop-position-test.true, ap length c.publics-position-end.ensures) in (
+    let inside : c.loop-position.position < length c.args.self.now.graph.parts.now.names.publics =
+    omega (arith, c.loop-position-test.true, ap length c.publics-position-end.ensures) in (
       c.settle.ensures.right,
       λ n e. kept n (c.loop-position.invariant.1 n e),
       below_more (λ n. AreEvaluated first (graph_edges c.args.self.now.graph n) → IsEvaluated c.settle.new.values.items n) c.loop-position.position

@@ -15,7 +15,8 @@ target-requires c =
     record {
       publics = c.requires.publics;
       keyed = c.loop-reference.invariant.2;
-      short = subst IsShortReference (sym c.reference-item.is) (all-get IsShortReference c.args.references.now i c.reference-item.result c.requires.short c.loop-reference-test.true);
+      short = subst IsShortReference (sym c.reference-item.is) (all-get IsShortReference c.args.references.now i c.reference-item.result
+          c.requires.short c.loop-reference-test.true);
       kept_short = c.loop-reference.invariant.3;
       room = omega (arith, few, c.requires.room, c.loop-reference-test.true);
     }
@@ -29,7 +30,8 @@ loop-reference-preserved c =
     let rest = drop (i + 1) references in
     let kept = c.loop-reference.self.kept in
     let targets = c.loop-reference.targets in
-    let left : drop i references ≡ r ∷ rest = drop_more references i r c.loop-reference-test.true ∙ ap (λ (q : Reference). q ∷ rest) (sym c.reference-item.is) in
+    let left : drop i references ≡ r ∷ rest = drop_more references i r c.loop-reference-test.true
+    ∙ ap (λ (q : Reference). q ∷ rest) (sym c.reference-item.is) in
     let target = c.in_ok-target.ensures.target in
     let with_it = c.in_ok-target.ensures.kept in
     let found =

@@ -7,7 +7,8 @@ use Rattle.mufom_link.proofs.references.References.resolve.Given as goal
 
 abbrev pub invariant-loop-reference : goal.invariant-loop-reference
 invariant-loop-reference l =
-    (l.targets ++ targets_after (keys_of l.publics) l.self.kept (drop l.reference-index l.references) ≡ l.fn.targets ++ targets_after (keys_of l.publics) l.fn.self.kept l.references)
+    (l.targets ++ targets_after (keys_of l.publics) l.self.kept (drop l.reference-index l.references) ≡ l.fn.targets
+    ++ targets_after (keys_of l.publics) l.fn.self.kept l.references)
     × (kept_after (keys_of l.publics) l.self.kept (drop l.reference-index l.references) ≡ kept_after (keys_of l.publics) l.fn.self.kept l.references)
     × (l.self.keys ≡ keyed l.self.kept)
     × AllByRecursion IsShortReference l.self.kept

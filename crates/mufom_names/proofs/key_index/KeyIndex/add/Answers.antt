@@ -18,7 +18,8 @@ returns-clause-answer c =
           let old = was-there (is_kept own key keys) w.in-Ok-default-false.field-0-1 w.in-Ok-default-false.ensures.added w.in-Ok-default-false.field-0-1-test in
           let same : c.insert_full.new.self.keys ≡ keys = w.in-Ok-default-false.ensures.keys ∙ ap (λ b. if b then keys else keys ++ c.args.key ∷ []) old in
           let short : length w.pop.new.self.items ≡ length positions = search rules in
-          let popped = last-off positions w.pop.new.self.items (option_to_list w.pop.result) c.args.position (sym c.in_ok-push.ensures.items ∙ w.pop.ensures.items) short in
+          let popped = last-off positions w.pop.new.self.items (option_to_list w.pop.result) c.args.position (sym c.in_ok-push.ensures.items
+          ∙ w.pop.ensures.items) short in
           rw w.result-is (found-at own key keys positions w.in-Ok-default-false.slot w.index.result.now c.self.invariant.0 old
           w.in-Ok-default-false.ensures.index (rw (← same) w.in-Ok-default-false.ensures.within)
           (rw (← popped) w.index.ensures)
@@ -34,7 +35,8 @@ returns-clause-after c =
     elim c.match-insert_full.branch [
       | in-Ok-default-true w ↦
           let new = was-new (is_kept own key keys) w.in-Ok-default-true.field-0-1 w.in-Ok-default-true.ensures.added w.in-Ok-default-true.field-0-1-test in
-          let more : c.insert_full.new.self.keys ≡ keys ++ c.args.key ∷ [] = w.in-Ok-default-true.ensures.keys ∙ ap (λ b. if b then keys else keys ++ c.args.key ∷ []) new in
+          let more : c.insert_full.new.self.keys ≡ keys ++ c.args.key ∷ [] = w.in-Ok-default-true.ensures.keys
+          ∙ ap (λ b. if b then keys else keys ++ c.args.key ∷ []) new in
           rw w.result-is (w.self-is
           ∙ ap (λ ks. seen own ks c.push.new.self.items) more
           ∙ ap (seen own (keys ++ c.args.key ∷ [])) c.in_ok-push.ensures.items
@@ -44,7 +46,8 @@ returns-clause-after c =
           let old = was-there (is_kept own key keys) w.in-Ok-default-false.field-0-1 w.in-Ok-default-false.ensures.added w.in-Ok-default-false.field-0-1-test in
           let same : c.insert_full.new.self.keys ≡ keys = w.in-Ok-default-false.ensures.keys ∙ ap (λ b. if b then keys else keys ++ c.args.key ∷ []) old in
           let short : length w.pop.new.self.items ≡ length positions = search rules in
-          let popped = last-off positions w.pop.new.self.items (option_to_list w.pop.result) c.args.position (sym c.in_ok-push.ensures.items ∙ w.pop.ensures.items) short in
+          let popped = last-off positions w.pop.new.self.items (option_to_list w.pop.result) c.args.position (sym c.in_ok-push.ensures.items
+          ∙ w.pop.ensures.items) short in
           let its = found-at own key keys positions w.in-Ok-default-false.slot w.index.result.now c.self.invariant.0 old
           w.in-Ok-default-false.ensures.index (rw (← same) w.in-Ok-default-false.ensures.within) (rw (← popped) w.index.ensures) in
           rw w.result-is (w.self-is

@@ -32,7 +32,8 @@ returns-in-Ok-default-false-clause-answer c =
     let old = was-there (is_kept borrowed c.args.name.now keys) arm.field-0-1 arm.ensures.added arm.field-0-1-test in
     let same : c.insert_full.new.self.keys ≡ keys = arm.ensures.keys ∙ ap (λ b. if b then keys else keys ++ c.args.name ∷ []) old in
     let short : length c.pop.new.self.items ≡ length positions = search rules in
-    let popped = last-off positions c.pop.new.self.items (option_to_list c.pop.result) c.args.position (sym c.in_ok-push.ensures.items ∙ c.pop.ensures.items) short in
+    let popped = last-off positions c.pop.new.self.items (option_to_list c.pop.result) c.args.position (sym c.in_ok-push.ensures.items
+    ∙ c.pop.ensures.items) short in
     found-at borrowed c.args.name.now keys positions arm.slot c.index.result.now c.self.invariant.0 old
     arm.ensures.index (rw (← same) arm.ensures.within) (rw (← popped) c.index.ensures)
     ∙ ap (λ entries. position_of entries c.args.name.now) c.self.view_is
@@ -45,7 +46,8 @@ returns-in-Ok-default-false-clause-after c =
     let old = was-there (is_kept borrowed c.args.name.now keys) arm.field-0-1 arm.ensures.added arm.field-0-1-test in
     let same : c.insert_full.new.self.keys ≡ keys = arm.ensures.keys ∙ ap (λ b. if b then keys else keys ++ c.args.name ∷ []) old in
     let short : length c.pop.new.self.items ≡ length positions = search rules in
-    let popped = last-off positions c.pop.new.self.items (option_to_list c.pop.result) c.args.position (sym c.in_ok-push.ensures.items ∙ c.pop.ensures.items) short in
+    let popped = last-off positions c.pop.new.self.items (option_to_list c.pop.result) c.args.position (sym c.in_ok-push.ensures.items
+    ∙ c.pop.ensures.items) short in
     let its = found-at borrowed c.args.name.now keys positions arm.slot c.index.result.now c.self.invariant.0 old
     arm.ensures.index (rw (← same) arm.ensures.within) (rw (← popped) c.index.ensures) in
     ap (λ ks. seen borrowed ks c.pop.new.self.items) same

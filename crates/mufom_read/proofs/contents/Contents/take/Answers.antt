@@ -6,7 +6,9 @@ use Rattle.mufom_module.specs.Gathered.{references_of}
 use Rattle.mufom_read.specs.Kept.{record_of_seen, indexes_by}
 use Rattle.mufom_read.specs.NamesSoFar.{records_in}
 use Rattle.mufom_read.proofs.so_far.PublicLaws.{on_ok, on_ok_both, records-more}
-use Rattle.mufom_read.proofs.so_far.Contents.{names-same, layout-same, sections-same, publics-same, references-same, debug-same, loads-same, start-same, names-taken, layout-taken, debug-taken, loads-taken, start-taken, sections-before, publics-before, references-before}
+use Rattle.mufom_read.proofs.so_far.Contents.{names-same, layout-same, sections-same, publics-same, references-same, debug-same, loads-same}
+use Rattle.mufom_read.proofs.so_far.Contents.{start-same, names-taken, layout-taken, debug-taken, loads-taken, start-taken, sections-before}
+use Rattle.mufom_read.proofs.so_far.Contents.{publics-before, references-before}
 use Rattle.mufom_read.proofs.contents.Contents.take.Goals as goal
 
 pub returns-in-None : goal.returns-in-None
@@ -114,7 +116,8 @@ returns-in-Some-Trailer c = λ all before.
       references = references-same old t all start p before (ap (is_this_part external_part) part);
       debug = debug-same old t all start p before (ap (is_this_part debug_part) part);
       loads = loads-same old t all start p before (ap (is_this_part data_part) part);
-      start = start-taken old t all start p before c.renamed.result (ap (is_this_part trailer_part) part) (c.renamed.ensures ∙ ap (option_map (positioned (indexes_by t))) c.requires.tree);
+      start = start-taken old t all start p before c.renamed.result (ap (is_this_part trailer_part) part) (c.renamed.ensures
+          ∙ ap (option_map (positioned (indexes_by t))) c.requires.tree);
     }
 
 pub returns-in-Some-End : goal.returns-in-Some-End

@@ -8,4 +8,5 @@ use Rattle.mufom_read.proofs.debug.Debugs.add.Goals as goal
 pub returns-clause-marks : goal.returns-clause-marks
 returns-clause-marks c =
     let old = c.args.self.now in
-    then_ok c.push.result _ _ (λ same. ap (λ (items : List DebugItem). joined (map marks_to_block old.blocks) ++ marks_of items) same ∙ item-added old.blocks old.items c.args.item) c.push.ensures.ok
+    then_ok c.push.result _ _ (λ same. ap (λ (items : List DebugItem). joined (map marks_to_block old.blocks) ++ marks_of items) same
+    ∙ item-added old.blocks old.items c.args.item) c.push.ensures.ok

@@ -13,12 +13,16 @@ returns-clause-marks c =
     let b = c.in-Some.block in
     let item = c.block_item.result in
     let has : marks_of_item item ≡ block_begin b.head b.name ∷ (marks_of old.items ++ block_end c.args.end ∷ []) =
-    c.block_item.ensures ∙ ap (λ (items : List DebugItem). block_begin b.head b.name ∷ (marks_of items ++ block_end c.args.end ∷ [])) c.replace-items.ensures.value in
+    c.block_item.ensures ∙ ap (λ (items : List DebugItem). block_begin b.head b.name ∷ (marks_of items ++ block_end c.args.end ∷ []))
+    c.replace-items.ensures.value in
     then_ok c.push.result _ _ (λ same.
-    ap (λ (items : List DebugItem). joined (map marks_to_block outer) ++ marks_of items) (same ∙ ap (λ (items : List DebugItem). items ++ item ∷ []) c.replace-items.ensures.after)
+    ap (λ (items : List DebugItem). joined (map marks_to_block outer) ++ marks_of items) (same
+    ∙ ap (λ (items : List DebugItem). items ++ item ∷ []) c.replace-items.ensures.after)
     ∙ block-ended outer b old.items c.args.end item has
-    ∙ ap (λ (blocks : List OpenBlock). (joined (map marks_to_block blocks) ++ marks_of old.items) ++ block_end c.args.end ∷ []) (sym c.in-Some.ensures.last)) c.push.ensures.ok
+    ∙ ap (λ (blocks : List OpenBlock). (joined (map marks_to_block blocks) ++ marks_of old.items)
+    ++ block_end c.args.end ∷ []) (sym c.in-Some.ensures.last)) c.push.ensures.ok
 
 pub returns-clause-blocks : goal.returns-clause-blocks
 returns-clause-blocks c =
-    then_ok c.push.result _ _ (λ same. stacked-inner c.pop.new.self c.in-Some.block ∙ ap (λ (blocks : List OpenBlock). drop 1 (stacked [] blocks)) (sym c.in-Some.ensures.last)) c.push.ensures.ok
+    then_ok c.push.result _ _ (λ same. stacked-inner c.pop.new.self c.in-Some.block
+    ∙ ap (λ (blocks : List OpenBlock). drop 1 (stacked [] blocks)) (sym c.in-Some.ensures.last)) c.push.ensures.ok

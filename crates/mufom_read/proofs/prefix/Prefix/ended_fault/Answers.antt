@@ -17,4 +17,5 @@ returns-then-extent-self c = λ prefix is.
     let found : part_at prefix (size_of prefix - 1) ≡ Some (as_extent e) =
     (λ k. part_among parts_in_order (sym (c.as_slice.ensures ∙ is.offsets) k) (at k)) ∙ sym c.part_at.ensures ∙ ap (option_map as_extent) c.in-Some.is in
     c.whole_fault.ensures c.args.self.now prefix is refl refl
-    ∙ sym (ap (ended_fault prefix) found ∙ ap (λ b. cond b (whole_fault (as_part e.part) prefix) None) (eq-eqb e.to (size_of prefix) (c.if-extent-self.true ∙ is.size)))
+    ∙ sym (ap (ended_fault prefix) found ∙ ap (λ b. cond b (whole_fault (as_part e.part) prefix) None)
+    (eq-eqb e.to (size_of prefix) (c.if-extent-self.true ∙ is.size)))

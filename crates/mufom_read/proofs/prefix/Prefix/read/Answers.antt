@@ -22,10 +22,12 @@ take-requires-clause-placed c =
     let prefix = c.requires.known.0 in
     let rest = c.args.rest.now in
     got-placed prefix c.args.place rest _ _ _
-    (subst (λ (m : Mode). IsWholeRecord m c.in-Got.row (take c.in-Got.used rest) (first_of (drop c.in-Got.used rest) None)) (c.mode.ensures prefix c.requires.known.1) c.in-Got.ensures.got.1)
+    (subst (λ (m : Mode). IsWholeRecord m c.in-Got.row (take c.in-Got.used rest) (first_of (drop c.in-Got.used rest) None))
+    (c.mode.ensures prefix c.requires.known.1) c.in-Got.ensures.got.1)
 
 pub overflow_add-result : goal.overflow_add-result
-overflow_add-result c = let within = bad-within c.mode.result c.args.rest.now c.in-Bad.offset c.in-Bad.reason ((c.in-Bad.ensures.bad c.in-Bad.offset c.in-Bad.reason).0 refl) in omega (arith, within, c.requires.fits)
+overflow_add-result c = let within = bad-within c.mode.result c.args.rest.now c.in-Bad.offset c.in-Bad.reason
+    ((c.in-Bad.ensures.bad c.in-Bad.offset c.in-Bad.reason).0 refl) in omega (arith, within, c.requires.fits)
 
 pub returns-in-Got : goal.returns-in-Got
 returns-in-Got c = if_ok _ _ c.take.result (λ done taken. λ prefix is at.
@@ -47,5 +49,6 @@ returns-in-More c = λ prefix is at.
 pub returns-in-Bad : goal.returns-in-Bad
 returns-in-Bad c = λ prefix is at.
     let rest = c.args.rest.now in
-    ap (λ a. step_fault prefix (as_step (size_of prefix) rest a)) (sym (c.in-Bad.ensures.exact ∙ ap (λ (m : Mode). record_at m rest) (c.mode.ensures prefix is)))
+    ap (λ a. step_fault prefix (as_step (size_of prefix) rest a))
+    (sym (c.in-Bad.ensures.exact ∙ ap (λ (m : Mode). record_at m rest) (c.mode.ensures prefix is)))
     ∙ ap (λ n. Some (n + c.in-Bad.offset, c.in-Bad.reason)) (sym is.size)

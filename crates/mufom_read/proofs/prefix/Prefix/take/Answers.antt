@@ -17,7 +17,8 @@ add-requires-clause-new c =
     let prefix = c.requires.known.0 in
     let is = c.requires.known.1 in
     let clean = sym (c.record_fault.ensures prefix is (sym (c.as_ref.ensures.value ∙ c.in_ok-tree.ensures))) ∙ ap (option_map as_fault) c.in-None.is in
-    ap (λ t. is_new t c.args.next.now.row.now) is.tables ∙ (addable prefix c.args.place c.args.self.now.size (record_of_seen c.args.next.now) c.requires.placed clean).new
+    ap (λ t. is_new t c.args.next.now.row.now) is.tables ∙ (addable prefix c.args.place c.args.self.now.size (record_of_seen c.args.next.now)
+    c.requires.placed clean).new
 
 pub add-requires-clause-kind : goal.add-requires-clause-kind
 add-requires-clause-kind c =
@@ -31,7 +32,8 @@ add-requires-clause-nested c =
     let prefix = c.requires.known.0 in
     let is = c.requires.known.1 in
     let clean = sym (c.record_fault.ensures prefix is (sym (c.as_ref.ensures.value ∙ c.in_ok-tree.ensures))) ∙ ap (option_map as_fault) c.in-None.is in
-    ap (λ (bs : List OpenBlock). ends_badly bs c.args.next.now.row.now) is.contents.debug.blocks ∙ (addable prefix c.args.place c.args.self.now.size (record_of_seen c.args.next.now) c.requires.placed clean).nested
+    ap (λ (bs : List OpenBlock). ends_badly bs c.args.next.now.row.now) is.contents.debug.blocks
+    ∙ (addable prefix c.args.place c.args.self.now.size (record_of_seen c.args.next.now) c.requires.placed clean).nested
 
 pub add-requires-clause-known : goal.add-requires-clause-known
 add-requires-clause-known c =
@@ -48,7 +50,8 @@ returns-in_ok-add-in-None c = λ prefix is at.
     let fits = addable prefix c.args.place c.args.self.now.size p c.requires.placed clean in
     let follows = follows-at prefix c.args.place c.args.self.now.size p c.requires.placed clean in
     let next = next-of c.args.self.now prefix p is follows in
-    let here : record_fault prefix (as_location c.args.place) (size_of prefix) p ≡ None = ap (λ n. record_fault prefix (as_location c.args.place) n p) (sym is.size) ∙ clean in (
+    let here : record_fault prefix (as_location c.args.place) (size_of prefix) p ≡ None =
+    ap (λ n. record_fault prefix (as_location c.args.place) n p) (sym is.size) ∙ clean in (
       refl,
       ap (λ pl. record_fault prefix pl (size_of prefix) p) (sym at) ∙ here,
       subst (λ (f : Prefix). IsPrefixOf f (prefix ++ read (size_of prefix) p ∷ [])) (sym c.in_ok-add-in-None.ensures.added)

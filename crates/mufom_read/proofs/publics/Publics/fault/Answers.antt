@@ -13,8 +13,10 @@ loop-position-preserved c =
     let same = c.deref-public-items.ensures.value in
     let within : i < length n.list.items = omega (arith, c.loop-position-test.true, ap length same) in
     let marked : i < length n.marks.items = omega (arith, within, c.requires) in
-    ap (λ f. least_from f (public_faults t (drop (i + 1) n.marks.items) (drop (i + 1) n.list.items))) (c.earlier-fault.ensures ∙ ap (earlier a) c.public_fault.ensures)
-    ∙ faults-step t n.marks.items n.list.items i c.index.result.now c.public-item.result a marked within c.index.ensures (c.public-item.is ∙ ap (λ l. get_or l i c.public-item.result) same)
+    ap (λ f. least_from f (public_faults t (drop (i + 1) n.marks.items) (drop (i + 1) n.list.items))) (c.earlier-fault.ensures
+    ∙ ap (earlier a) c.public_fault.ensures)
+    ∙ faults-step t n.marks.items n.list.items i c.index.result.now c.public-item.result a marked within c.index.ensures (c.public-item.is
+    ∙ ap (λ l. get_or l i c.public-item.result) same)
     ∙ c.loop-position.invariant
 
 pub returns : goal.returns

@@ -5,4 +5,6 @@ use Rattle.mufom_read.proofs.publics.Publics.fault.Given as goal
 
 -- the least of the fault so far and of those to come is the least of all
 abbrev pub invariant-loop-position : goal.invariant-loop-position
-invariant-loop-position l = least_from (option_map as_fault l.fault) (public_faults l.tables (drop l.position l.self.marks.items) (drop l.position l.self.list.items)) ≡ least_from None (public_faults l.tables l.self.marks.items l.self.list.items)
+invariant-loop-position l = least_from (option_map as_fault l.fault)
+    (public_faults l.tables (drop l.position l.self.marks.items) (drop l.position l.self.list.items))
+    ≡ least_from None (public_faults l.tables l.self.marks.items l.self.list.items)

@@ -19,15 +19,18 @@ pub returns-in-None-clause-read : goal.returns-in-None-clause-read
 returns-in-None-clause-read c = λ stream has.
     let bytes = AreBytes-append stream c.args.chunk.now has.0 (fits-bytes c.args.chunk.now c.type_inv.chunk) in
     let going = ap (λ (s : State). s.stop) (sym c.self.view_is) ∙ c.in-None.is in
-    let reading = subst (λ (s : State). IsReading s stream) (sym c.self.view_is) (subst (λ (o : Option ReadStop). Knows c.args.self.now stream o) going has.1) in
+    let reading = subst (λ (s : State). IsReading s stream) (sym c.self.view_is)
+    (subst (λ (o : Option ReadStop). Knows c.args.self.now stream o) going has.1) in
     (bytes, c.read_on.ensures.known stream bytes reading)
 
 pub returns-in-None-clause-refused : goal.returns-in-None-clause-refused
 returns-in-None-clause-refused c = λ place reason stream has memory.
     let bytes = AreBytes-append stream c.args.chunk.now has.0 (fits-bytes c.args.chunk.now c.type_inv.chunk) in
     let going = ap (λ (s : State). s.stop) (sym c.self.view_is) ∙ c.in-None.is in
-    let reading = subst (λ (s : State). IsReading s stream) (sym c.self.view_is) (subst (λ (o : Option ReadStop). Knows c.args.self.now stream o) going has.1) in
-    feed-refused c.read_on.new.self (stream ++ c.args.chunk.now) c.read_on.result c.args.self.now.reads_debug place reason bytes (c.read_on.ensures.known stream bytes reading) memory c.read_on.ensures.answer
+    let reading = subst (λ (s : State). IsReading s stream) (sym c.self.view_is)
+    (subst (λ (o : Option ReadStop). Knows c.args.self.now stream o) going has.1) in
+    feed-refused c.read_on.new.self (stream ++ c.args.chunk.now) c.read_on.result c.args.self.now.reads_debug place reason bytes
+    (c.read_on.ensures.known stream bytes reading) memory c.read_on.ensures.answer
     (c.read_on.ensures.reads_debug ∙ ap (λ (s : State). s.reads_debug) c.self.view_is)
 
 pub returns-in-Some-clause-read : goal.returns-in-Some-clause-read
@@ -36,7 +39,8 @@ returns-in-Some-clause-read c = λ stream has.
     let stopped = ap (λ (s : State). s.stop) (sym c.self.view_is) ∙ c.in-Some.is in (
       bytes,
       subst (λ (o : Option ReadStop). Knows c.args.self.now (stream ++ c.args.chunk.now) o) (sym stopped)
-          (stop-stays c.args.self.now stream c.args.chunk.now c.in-Some.stop bytes (subst (λ (o : Option ReadStop). Knows c.args.self.now stream o) stopped has.1)),
+          (stop-stays c.args.self.now stream c.args.chunk.now c.in-Some.stop bytes
+          (subst (λ (o : Option ReadStop). Knows c.args.self.now stream o) stopped has.1)),
     )
 
 pub returns-in-Some-clause-refused : goal.returns-in-Some-clause-refused

@@ -60,15 +60,18 @@ returns-in-Ok-clause-refused c = λ place reason stream has memory.
 
 pub returns-in-Some-clause-module : goal.returns-in-Some-clause-module
 returns-in-Some-clause-module c = λ stream m has is memory.
-    finish-file c.args.self.reads_debug stream m (Err c.in-Some.stop) has.0 tt (λ place reason. (returns-in-Some-clause-refused c place reason stream has memory).0) is memory
+    finish-file c.args.self.reads_debug stream m (Err c.in-Some.stop) has.0 tt
+    (λ place reason. (returns-in-Some-clause-refused c place reason stream has memory).0) is memory
 
 pub returns-then-not-is_ended-clause-module : goal.returns-then-not-is_ended-clause-module
 returns-then-not-is_ended-clause-module c = λ stream m has is memory.
-    finish-file c.args.self.reads_debug stream m (Err c.refused.result) has.0 tt (λ place reason. (returns-then-not-is_ended-clause-refused c place reason stream has memory).0) is memory
+    finish-file c.args.self.reads_debug stream m (Err c.refused.result) has.0 tt
+    (λ place reason. (returns-then-not-is_ended-clause-refused c place reason stream has memory).0) is memory
 
 pub returns-in-Ok-clause-module : goal.returns-in-Ok-clause-module
 returns-in-Ok-clause-module c = λ stream m has is memory.
-    finish-file c.args.self.reads_debug stream m (Ok c.in-Ok.module) has.0 (returns-in-Ok-clause-ok c stream has) (λ place reason. (returns-in-Ok-clause-refused c place reason stream has memory).0) is memory
+    finish-file c.args.self.reads_debug stream m (Ok c.in-Ok.module) has.0 (returns-in-Ok-clause-ok c stream has)
+    (λ place reason. (returns-in-Ok-clause-refused c place reason stream has memory).0) is memory
 
 pub returns-in-Ok-clause-weighs : goal.returns-in-Ok-clause-weighs
 returns-in-Ok-clause-weighs c = λ stream has. modules_weigh c.args.self.reads_debug stream c.in-Ok.module has.0 (returns-in-Ok-clause-ok c stream has)

@@ -9,7 +9,8 @@ returns-then-is_unbased c =
     let same = c.deref-section-items.ensures.value in
     let within : i < length s.list.items = omega (arith, c.loop-position-test.true, ap length same) in
     let marked : i < length s.starts.items = omega (arith, within, c.requires) in
-    unbased-here s.starts.items s.list.items i c.index.result.now c.section-item.result marked within c.index.ensures (c.section-item.is ∙ ap (λ l. get_or l i c.section-item.result) same) (sym c.is_unbased.ensures ∙ c.if-is_unbased.true)
+    unbased-here s.starts.items s.list.items i c.index.result.now c.section-item.result marked within c.index.ensures (c.section-item.is
+    ∙ ap (λ l. get_or l i c.section-item.result) same) (sym c.is_unbased.ensures ∙ c.if-is_unbased.true)
     ∙ c.loop-position.invariant
 
 pub loop-position-preserved : goal.loop-position-preserved
@@ -19,7 +20,8 @@ loop-position-preserved c =
     let same = c.deref-section-items.ensures.value in
     let within : i < length s.list.items = omega (arith, c.loop-position-test.true, ap length same) in
     let marked : i < length s.starts.items = omega (arith, within, c.requires) in
-    unbased-later s.starts.items s.list.items i c.section-item.result marked within (c.section-item.is ∙ ap (λ l. get_or l i c.section-item.result) same) (sym c.is_unbased.ensures ∙ c.if-is_unbased.false)
+    unbased-later s.starts.items s.list.items i c.section-item.result marked within (c.section-item.is
+    ∙ ap (λ l. get_or l i c.section-item.result) same) (sym c.is_unbased.ensures ∙ c.if-is_unbased.false)
     ∙ c.loop-position.invariant
 
 pub returns : goal.returns

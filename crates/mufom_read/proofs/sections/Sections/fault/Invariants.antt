@@ -4,4 +4,5 @@ use Rattle.mufom_read.proofs.sections.Sections.fault.Given as goal
 
 -- no section that was passed is at fault
 abbrev pub invariant-loop-position : goal.invariant-loop-position
-invariant-loop-position l = first_unbased (drop l.position l.self.starts.items) (drop l.position l.self.list.items) ≡ first_unbased l.self.starts.items l.self.list.items
+invariant-loop-position l = first_unbased (drop l.position l.self.starts.items) (drop l.position l.self.list.items)
+    ≡ first_unbased l.self.starts.items l.self.list.items

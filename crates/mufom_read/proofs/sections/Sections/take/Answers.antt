@@ -25,12 +25,14 @@ declared_position-position-requires c =
 
 pub set_size-requires : goal.set_size-requires
 set_size-requires c =
-    section-within c.args.self.now c.args.self.now c.args.table.now c.requires.known.0 c.args.seen.now.start (record_of_seen c.args.seen.now) c.requires.known.1 c.declared_position-position.result c.declared_position-position.ensures.within
+    section-within c.args.self.now c.args.self.now c.args.table.now c.requires.known.0 c.args.seen.now.start (record_of_seen c.args.seen.now)
+    c.requires.known.1 c.declared_position-position.result c.declared_position-position.ensures.within
 
 pub returns-in-SectionSize : goal.returns-in-SectionSize
 returns-in-SectionSize c = λ all before.
     let at = c.declared_position-position in
-    size-taken c.args.self.now (record c.args.self.now { list = c.set_size.new.sections }) c.args.table.now all c.args.seen.now.start (record_of_seen c.args.seen.now) before
+    size-taken c.args.self.now (record c.args.self.now { list = c.set_size.new.sections }) c.args.table.now all c.args.seen.now.start
+    (record_of_seen c.args.seen.now) before
     c.in-SectionSize.index c.in-SectionSize.size at.result c.in-SectionSize.is at.ensures.there at.ensures.distinct at.ensures.within c.set_size.ensures refl
 
 pub declared_position-position-requires-in-Alignment : goal.declared_position-position-requires-in-Alignment
@@ -40,13 +42,16 @@ declared_position-position-requires-in-Alignment c =
 
 pub set_align-requires : goal.set_align-requires
 set_align-requires c =
-    section-within c.args.self.now c.args.self.now c.args.table.now c.requires.known.0 c.args.seen.now.start (record_of_seen c.args.seen.now) c.requires.known.1 c.declared_position-position-in-Alignment.result c.declared_position-position-in-Alignment.ensures.within
+    section-within c.args.self.now c.args.self.now c.args.table.now c.requires.known.0 c.args.seen.now.start (record_of_seen c.args.seen.now)
+    c.requires.known.1 c.declared_position-position-in-Alignment.result c.declared_position-position-in-Alignment.ensures.within
 
 pub returns-in-Alignment : goal.returns-in-Alignment
 returns-in-Alignment c = λ all before.
     let at = c.declared_position-position-in-Alignment in
-    align-taken c.args.self.now (record c.args.self.now { list = c.set_align.new.sections }) c.args.table.now all c.args.seen.now.start (record_of_seen c.args.seen.now) before
-    c.in-Alignment.index c.in-Alignment.align c.in-Alignment.field-2 at.result c.in-Alignment.is at.ensures.there at.ensures.distinct at.ensures.within c.set_align.ensures refl
+    align-taken c.args.self.now (record c.args.self.now { list = c.set_align.new.sections }) c.args.table.now all c.args.seen.now.start
+    (record_of_seen c.args.seen.now) before
+    c.in-Alignment.index c.in-Alignment.align c.in-Alignment.field-2 at.result c.in-Alignment.is at.ensures.there at.ensures.distinct
+    at.ensures.within c.set_align.ensures refl
 
 pub declared_position-position-requires-in-SectionBase : goal.declared_position-position-requires-in-SectionBase
 declared_position-position-requires-in-SectionBase c =
@@ -55,15 +60,18 @@ declared_position-position-requires-in-SectionBase c =
 
 pub set_base-requires : goal.set_base-requires
 set_base-requires c =
-    section-within c.args.self.now c.args.self.now c.args.table.now c.requires.known.0 c.args.seen.now.start (record_of_seen c.args.seen.now) c.requires.known.1 c.declared_position-position-in-SectionBase.result c.declared_position-position-in-SectionBase.ensures.within
+    section-within c.args.self.now c.args.self.now c.args.table.now c.requires.known.0 c.args.seen.now.start (record_of_seen c.args.seen.now)
+    c.requires.known.1 c.declared_position-position-in-SectionBase.result c.declared_position-position-in-SectionBase.ensures.within
 
 pub returns-in-SectionBase : goal.returns-in-SectionBase
 returns-in-SectionBase c = λ all before.
     let at = c.declared_position-position-in-SectionBase in
-    base-taken c.args.self.now (record c.args.self.now { list = c.set_base.new.sections }) c.args.table.now all c.args.seen.now.start (record_of_seen c.args.seen.now) before
+    base-taken c.args.self.now (record c.args.self.now { list = c.set_base.new.sections }) c.args.table.now all c.args.seen.now.start
+    (record_of_seen c.args.seen.now) before
     c.in-SectionBase.index c.in-SectionBase.base at.result c.in-SectionBase.is at.ensures.there at.ensures.distinct at.ensures.within c.set_base.ensures refl
 
 pub returns-in_default : goal.returns-in_default
 returns-in_default c = λ all before.
-    let other = no-section-row c.args.seen.now.row.now c.in_default.not-SectionType c.in_default.not-SectionSize c.in_default.not-Alignment c.in_default.not-SectionBase in
+    let other = no-section-row c.args.seen.now.row.now c.in_default.not-SectionType c.in_default.not-SectionSize c.in_default.not-Alignment
+    c.in_default.not-SectionBase in
     others-taken c.args.self.now c.args.self.now c.args.table.now all c.args.seen.now.start (record_of_seen c.args.seen.now) before other refl

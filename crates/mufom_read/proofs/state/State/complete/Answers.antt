@@ -1,6 +1,7 @@
 use Rattle.std.proofs.Common.{◌+◌, ◌∙◌, length, ap, arith, length-drop}
 use Rattle.mufom_read.specs.declared.prefix.Next.TheVariants as next
-use Rattle.mufom_read.proofs.feeding.Complete.{added-here, advanced-there, waiting-still, whole-waiting, took-reaches, took-within, took-completed, refused-completed}
+use Rattle.mufom_read.proofs.feeding.Complete.{added-here, advanced-there, waiting-still, whole-waiting, took-reaches, took-within, took-completed}
+use Rattle.mufom_read.proofs.feeding.Complete.{refused-completed}
 use Rattle.mufom_read.proofs.state.State.complete.Goals as goal
 
 pub overflow_sub-result : goal.overflow_sub-result
@@ -10,19 +11,29 @@ overflow_sub-result c =
     let is = c.requires.known.1 in
     let want = c.requires.known.2 in
     let waited = c.loop-used.invariant.waited before is want in
-    let done = advanced-there it.reads_debug before it.rest.items c.args.chunk.now c.after.result.now c.deref.result.now c.loop-used.used c.in-Ok.added c.loop-used.self c.double_pending.new.self c.advance.new.self (next.Took c.in-Ok-Took.count)
-    want waited c.loop-used.invariant.flag c.double_pending.ensures.prefix c.double_pending.ensures.reads_debug c.after.ensures c.in-Ok.ensures.added.2 c.deref.ensures.value (rw c.in-Ok-Took.field-0-is at c.in-Ok-Took.ensures) in
-    omega (arith, took-reaches it.reads_debug before it.rest.items c.args.chunk.now (c.loop-used.used + c.in-Ok.added) c.in-Ok-Took.count c.advance.new.self c.requires.bytes want done, c.len-pending.ensures)
+    let done = advanced-there it.reads_debug before it.rest.items c.args.chunk.now c.after.result.now c.deref.result.now c.loop-used.used
+    c.in-Ok.added c.loop-used.self c.double_pending.new.self c.advance.new.self (next.Took c.in-Ok-Took.count)
+    want waited c.loop-used.invariant.flag c.double_pending.ensures.prefix c.double_pending.ensures.reads_debug c.after.ensures
+    c.in-Ok.ensures.added.2 c.deref.ensures.value (rw c.in-Ok-Took.field-0-is at c.in-Ok-Took.ensures) in
+    omega (
+      arith,
+      took-reaches it.reads_debug before it.rest.items c.args.chunk.now (c.loop-used.used + c.in-Ok.added) c.in-Ok-Took.count
+          c.advance.new.self c.requires.bytes want done,
+      c.len-pending.ensures,
+    )
 
 pub returns-in-Ok-Took-clause-completed : goal.returns-in-Ok-Took-clause-completed
 returns-in-Ok-Took-clause-completed c = λ before is want.
     let it = c.args.self.now in
     let now = c.double_pending.new.self in
     let waited = c.loop-used.invariant.waited before is want in
-    let done = advanced-there it.reads_debug before it.rest.items c.args.chunk.now c.after.result.now c.deref.result.now c.loop-used.used c.in-Ok.added c.loop-used.self c.double_pending.new.self c.advance.new.self (next.Took c.in-Ok-Took.count)
-    want waited c.loop-used.invariant.flag c.double_pending.ensures.prefix c.double_pending.ensures.reads_debug c.after.ensures c.in-Ok.ensures.added.2 c.deref.ensures.value (rw c.in-Ok-Took.field-0-is at c.in-Ok-Took.ensures) in
+    let done = advanced-there it.reads_debug before it.rest.items c.args.chunk.now c.after.result.now c.deref.result.now c.loop-used.used
+    c.in-Ok.added c.loop-used.self c.double_pending.new.self c.advance.new.self (next.Took c.in-Ok-Took.count)
+    want waited c.loop-used.invariant.flag c.double_pending.ensures.prefix c.double_pending.ensures.reads_debug c.after.ensures
+    c.in-Ok.ensures.added.2 c.deref.ensures.value (rw c.in-Ok-Took.field-0-is at c.in-Ok-Took.ensures) in
     took-completed it.reads_debug before it.rest.items c.args.chunk.now (c.loop-used.used + c.in-Ok.added) c.in-Ok-Took.count c.len-pending.result
-    (record { alloc = now.alloc; reads_debug = now.reads_debug; prefix = c.advance.new.self; rest = c.clear.new.self; stop = now.stop }) c.requires.bytes want (omega (arith, c.len-pending.ensures)) c.clear.ensures.items done
+    (record { alloc = now.alloc; reads_debug = now.reads_debug; prefix = c.advance.new.self; rest = c.clear.new.self; stop = now.stop })
+    c.requires.bytes want (omega (arith, c.len-pending.ensures)) c.clear.ensures.items done
 
 pub returns-in-Ok-Took-clause-within : goal.returns-in-Ok-Took-clause-within
 returns-in-Ok-Took-clause-within c =
@@ -31,9 +42,16 @@ returns-in-Ok-Took-clause-within c =
     let is = c.requires.known.1 in
     let want = c.requires.known.2 in
     let waited = c.loop-used.invariant.waited before is want in
-    let done = advanced-there it.reads_debug before it.rest.items c.args.chunk.now c.after.result.now c.deref.result.now c.loop-used.used c.in-Ok.added c.loop-used.self c.double_pending.new.self c.advance.new.self (next.Took c.in-Ok-Took.count)
-    want waited c.loop-used.invariant.flag c.double_pending.ensures.prefix c.double_pending.ensures.reads_debug c.after.ensures c.in-Ok.ensures.added.2 c.deref.ensures.value (rw c.in-Ok-Took.field-0-is at c.in-Ok-Took.ensures) in
-    omega (arith, took-within it.reads_debug before it.rest.items c.args.chunk.now (c.loop-used.used + c.in-Ok.added) c.in-Ok-Took.count c.advance.new.self done, c.len-pending.ensures)
+    let done = advanced-there it.reads_debug before it.rest.items c.args.chunk.now c.after.result.now c.deref.result.now c.loop-used.used
+    c.in-Ok.added c.loop-used.self c.double_pending.new.self c.advance.new.self (next.Took c.in-Ok-Took.count)
+    want waited c.loop-used.invariant.flag c.double_pending.ensures.prefix c.double_pending.ensures.reads_debug c.after.ensures
+    c.in-Ok.ensures.added.2 c.deref.ensures.value (rw c.in-Ok-Took.field-0-is at c.in-Ok-Took.ensures) in
+    omega (
+      arith,
+      took-within it.reads_debug before it.rest.items c.args.chunk.now (c.loop-used.used + c.in-Ok.added) c.in-Ok-Took.count
+          c.advance.new.self done,
+      c.len-pending.ensures,
+    )
 
 pub loop-used-preserved : goal.loop-used-preserved
 loop-used-preserved c = record {
@@ -42,11 +60,14 @@ loop-used-preserved c = record {
   waited = λ before is want.
       let it = c.args.self.now in
       let waited = c.loop-used.invariant.waited before is want in
-      let done = advanced-there it.reads_debug before it.rest.items c.args.chunk.now c.after.result.now c.deref.result.now c.loop-used.used c.in-Ok.added c.loop-used.self c.double_pending.new.self c.advance.new.self next.More
-      want waited c.loop-used.invariant.flag c.double_pending.ensures.prefix c.double_pending.ensures.reads_debug c.after.ensures c.in-Ok.ensures.added.2 c.deref.ensures.value (rw c.in-Ok-More.field-0-is at c.in-Ok-More.ensures) in
+      let done = advanced-there it.reads_debug before it.rest.items c.args.chunk.now c.after.result.now c.deref.result.now c.loop-used.used
+      c.in-Ok.added c.loop-used.self c.double_pending.new.self c.advance.new.self next.More
+      want waited c.loop-used.invariant.flag c.double_pending.ensures.prefix c.double_pending.ensures.reads_debug c.after.ensures
+      c.in-Ok.ensures.added.2 c.deref.ensures.value (rw c.in-Ok-More.field-0-is at c.in-Ok-More.ensures) in
       record {
         kept = done.0;
-        rest = added-here it.rest.items c.args.chunk.now c.loop-used.self.rest.items c.after.result.now c.double_pending.new.self.rest.items c.loop-used.used c.in-Ok.added waited.rest c.after.ensures c.in-Ok.ensures.added.2;
+        rest = added-here it.rest.items c.args.chunk.now c.loop-used.self.rest.items c.after.result.now c.double_pending.new.self.rest.items
+            c.loop-used.used c.in-Ok.added waited.rest c.after.ensures c.in-Ok.ensures.added.2;
         waits = waiting-still it.reads_debug before _ c.advance.new.self want.unended (whole-waiting it.reads_debug before it.rest.items want) done;
       };
 }
@@ -56,7 +77,9 @@ returns-in-Ok-Refused-clause-completed c = λ before is want.
     let it = c.args.self.now in
     let now = c.double_pending.new.self in
     let waited = c.loop-used.invariant.waited before is want in
-    let done = advanced-there it.reads_debug before it.rest.items c.args.chunk.now c.after.result.now c.deref.result.now c.loop-used.used c.in-Ok.added c.loop-used.self c.double_pending.new.self c.advance.new.self (next.Refused c.in-Ok-Refused.refusal)
-    want waited c.loop-used.invariant.flag c.double_pending.ensures.prefix c.double_pending.ensures.reads_debug c.after.ensures c.in-Ok.ensures.added.2 c.deref.ensures.value (rw c.in-Ok-Refused.field-0-is at c.in-Ok-Refused.ensures) in
+    let done = advanced-there it.reads_debug before it.rest.items c.args.chunk.now c.after.result.now c.deref.result.now c.loop-used.used
+    c.in-Ok.added c.loop-used.self c.double_pending.new.self c.advance.new.self (next.Refused c.in-Ok-Refused.refusal)
+    want waited c.loop-used.invariant.flag c.double_pending.ensures.prefix c.double_pending.ensures.reads_debug c.after.ensures
+    c.in-Ok.ensures.added.2 c.deref.ensures.value (rw c.in-Ok-Refused.field-0-is at c.in-Ok-Refused.ensures) in
     refused-completed it.reads_debug before it.rest.items c.args.chunk.now (c.loop-used.used + c.in-Ok.added) c.in-Ok-Refused.refusal
     (record { alloc = now.alloc; reads_debug = now.reads_debug; prefix = c.advance.new.self; rest = now.rest; stop = now.stop }) c.requires.bytes done

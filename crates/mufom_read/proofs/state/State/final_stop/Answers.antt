@@ -14,7 +14,8 @@ pub returns-then-is_longer : goal.returns-then-is_longer
 returns-then-is_longer c = λ prefix is.
     subst (λ (b : Bool). HasEndedChunk b c.args.self.now.prefix.size c.args.is_longer c.args.self.now.rest.items c.args.self.now (Some c.refused.result))
     (sym c.if-is_ended.false ∙ c.is_ended.ensures.prefix prefix is)
-    (subst (λ (s : ReadStop). HasEndedChunk false c.args.self.now.prefix.size c.args.is_longer c.args.self.now.rest.items c.args.self.now (Some s)) (sym c.refused.ensures) (inr (refl, refl, c.if-is_longer.true)))
+    (subst (λ (s : ReadStop). HasEndedChunk false c.args.self.now.prefix.size c.args.is_longer c.args.self.now.rest.items c.args.self.now (Some s))
+    (sym c.refused.ensures) (inr (refl, refl, c.if-is_longer.true)))
 
 pub returns-else-is_longer : goal.returns-else-is_longer
 returns-else-is_longer c = λ prefix is.

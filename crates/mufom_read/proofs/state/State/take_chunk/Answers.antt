@@ -1,7 +1,8 @@
 use Rattle.std.proofs.Common.{◌∙◌, ◌++◌, List, ℕ, length, sym, ap, subst, arith, length-drop}
 use Rattle.std.specs.Prelude.{vec_len}
 use Rattle.mufom_read.specs.Reader.{HasTakenChunk}
-use Rattle.mufom_read.proofs.feeding.Complete.{whole-no-step, none-pending, some-pending, some-waiting, completed-gone, gone-fits, goes-on-directly, chunk-pending}
+use Rattle.mufom_read.proofs.feeding.Complete.{whole-no-step, none-pending, some-pending, some-waiting, completed-gone, gone-fits, goes-on-directly}
+use Rattle.mufom_read.proofs.feeding.Complete.{chunk-pending}
 use Rattle.mufom_read.proofs.state.State.take_chunk.Goals as goal
 
 pub returns-then-is_empty-clause-taken : goal.returns-then-is_empty-clause-taken
@@ -19,7 +20,8 @@ take_directly-requires-then-is_empty-2-clause-known c =
     let none = none-pending after.items (vec_len after) (omega (arith, after.ok.0)) (sym c.is_empty-2.ensures ∙ c.if-is_empty-2.true) in
     let before = c.requires.known.0 in
     let want = some-waiting it.reads_debug before it.rest.items some c.requires.known.2 in
-    let gone = completed-gone it.reads_debug before it.rest.items c.args.chunk.now c.in_ok-used.used c.complete.new.self some none (c.in_ok-used.ensures.completed before c.requires.known.1 want) in
+    let gone = completed-gone it.reads_debug before it.rest.items c.args.chunk.now c.in_ok-used.used c.complete.new.self some none
+    (c.in_ok-used.ensures.completed before c.requires.known.1 want) in
     (before ++ gone.steps, gone.is, gone.whole)
 
 pub take_directly-requires-then-is_empty-2-clause-fits : goal.take_directly-requires-then-is_empty-2-clause-fits
@@ -30,7 +32,8 @@ take_directly-requires-then-is_empty-2-clause-fits c =
     let none = none-pending after.items (vec_len after) (omega (arith, after.ok.0)) (sym c.is_empty-2.ensures ∙ c.if-is_empty-2.true) in
     let before = c.requires.known.0 in
     let want = some-waiting it.reads_debug before it.rest.items some c.requires.known.2 in
-    let gone = completed-gone it.reads_debug before it.rest.items c.args.chunk.now c.in_ok-used.used c.complete.new.self some none (c.in_ok-used.ensures.completed before c.requires.known.1 want) in
+    let gone = completed-gone it.reads_debug before it.rest.items c.args.chunk.now c.in_ok-used.used c.complete.new.self some none
+    (c.in_ok-used.ensures.completed before c.requires.known.1 want) in
     let size = gone-fits it.reads_debug before it.rest.items c.args.chunk.now c.in_ok-used.used it.prefix c.complete.new.self.prefix c.requires.known.1 gone in
     omega (arith, size, ap length c.after.ensures, length-drop c.in_ok-used.used c.args.chunk.now, c.in_ok-used.ensures.within, c.requires.fits)
 
@@ -41,8 +44,10 @@ returns-then-is_empty-2-clause-taken c = λ before is stopped.
     let after = c.complete.new.self.rest in
     let none = none-pending after.items (vec_len after) (omega (arith, after.ok.0)) (sym c.is_empty-2.ensures ∙ c.if-is_empty-2.true) in
     let want = some-waiting it.reads_debug before it.rest.items some stopped in
-    let gone = completed-gone it.reads_debug before it.rest.items c.args.chunk.now c.in_ok-used.used c.complete.new.self some none (c.in_ok-used.ensures.completed before is want) in
-    goes-on-directly it.reads_debug c.complete.new.self.reads_debug before it.rest.items c.args.chunk.now c.after.result.now c.in_ok-used.used c.complete.new.self.prefix c.take_directly-then-is_empty-2.new.self c.take_directly-then-is_empty-2.result
+    let gone = completed-gone it.reads_debug before it.rest.items c.args.chunk.now c.in_ok-used.used c.complete.new.self some none
+    (c.in_ok-used.ensures.completed before is want) in
+    goes-on-directly it.reads_debug c.complete.new.self.reads_debug before it.rest.items c.args.chunk.now c.after.result.now c.in_ok-used.used
+    c.complete.new.self.prefix c.take_directly-then-is_empty-2.new.self c.take_directly-then-is_empty-2.result
     c.complete.ensures.reads_debug c.after.ensures gone c.take_directly-then-is_empty-2.ensures.taken
 
 pub returns-clause-taken : goal.returns-clause-taken
@@ -52,4 +57,5 @@ returns-clause-taken c = λ before is stopped.
     let after = c.complete.new.self.rest in
     let left = some-pending after.items (vec_len after) (omega (arith, after.ok.0)) (sym c.is_empty-2.ensures ∙ c.if-is_empty-2.false) in
     let want = some-waiting it.reads_debug before it.rest.items some stopped in
-    chunk-pending it.reads_debug before it.rest.items c.args.chunk.now c.in_ok-used.used c.complete.new.self left (c.in_ok-used.ensures.completed before is want)
+    chunk-pending it.reads_debug before it.rest.items c.args.chunk.now c.in_ok-used.used c.complete.new.self left
+    (c.in_ok-used.ensures.completed before is want)

@@ -17,7 +17,8 @@ pub returns-in-Bytes-clause-hits : goal.returns-in-Bytes-clause-hits
 returns-in-Bytes-clause-hits c =
     let found = byte_line_found c.args.line.now (sym c.in-Bytes.is ∙ c.shape_of.ensures) in
     let P : Option Line → Type 0 = λ line. OnOk c.read_bytes.result
-    (c.read_bytes.new.self.store.hits ≡ hits_after c.args.self.now.store.watched c.args.self.now.store.hits (inner_read c.args.modulus c.args.self.now.next line)) in
+    (c.read_bytes.new.self.store.hits ≡ hits_after c.args.self.now.store.watched c.args.self.now.store.hits
+    (inner_read c.args.modulus c.args.self.now.next line)) in
     subst P (sym found) c.read_bytes.ensures.hits
 
 pub returns-in-Bytes-clause-fault : goal.returns-in-Bytes-clause-fault

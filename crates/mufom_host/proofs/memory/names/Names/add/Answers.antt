@@ -12,7 +12,16 @@ returns-then-free-lt8-clause-after c =
     let full : s.room < name_weight (cut s.lengths.items s.bytes.items) + (length name + 8) =
     elim c.then-free-lt8.branch [
       | then-free-lt8-via-then-free-lt8 w ↦ omega (arith, weight, w.if-free-lt8.true, c.len.ensures, c.len-2.ensures, s.bytes.ok.0, s.lengths.ok.0)
-      | then-free-lt8-via-else-free-lt8+then-free-name w ↦ omega (arith, weight, w.if-free-lt8.false, w.if-free-name.true, c.len.ensures, c.len-2.ensures, s.bytes.ok.0, s.lengths.ok.0)
+      | then-free-lt8-via-else-free-lt8+then-free-name w ↦ omega (
+        arith,
+        weight,
+        w.if-free-lt8.false,
+        w.if-free-name.true,
+        c.len.ensures,
+        c.len-2.ensures,
+        s.bytes.ok.0,
+        s.lengths.ok.0,
+      )
     ] in
     rw (← c.self.view_is, c.if-not-self.false, names_with-full s.room (cut s.lengths.items s.bytes.items) name full) refl
 
@@ -23,6 +32,20 @@ returns-clause-after c =
     let weight = name_weight-cut s.lengths.items s.bytes.items c.self.invariant.whole in
     let fits : name_weight (cut s.lengths.items s.bytes.items) + (length name + 8) ≤ s.room =
     omega (arith, weight, c.if-free-lt8.false, c.if-free-name.false, c.len.ensures, c.len-2.ensures, s.bytes.ok.0, s.lengths.ok.0) in
-    let added = c.extend_from_slice.ensures.succeeds (omega (arith, c.if-free-lt8.false, c.if-free-name.false, c.len.ensures, c.len-2.ensures, c.self.invariant.bytes_fit)) in
+    let added = c.extend_from_slice.ensures.succeeds (omega (
+      arith,
+      c.if-free-lt8.false,
+      c.if-free-name.false,
+      c.len.ensures,
+      c.len-2.ensures,
+      c.self.invariant.bytes_fit,
+    )) in
     let bytes = rw added at c.extend_from_slice.ensures.items in
-    rw (← c.self.view_is, c.if-not-self.false, names_with-fits s.room (cut s.lengths.items s.bytes.items) name fits, bytes, c.push_reserved.ensures.items, cut-push s.lengths.items s.bytes.items name c.self.invariant.whole) refl
+    rw (
+      ← c.self.view_is,
+      c.if-not-self.false,
+      names_with-fits s.room (cut s.lengths.items s.bytes.items) name fits,
+      bytes,
+      c.push_reserved.ensures.items,
+      cut-push s.lengths.items s.bytes.items name c.self.invariant.whole,
+    ) refl
