@@ -1,6 +1,7 @@
 """Large inputs that somebody chose to take long: try_files.py --hostile makes them and times the program.
 
-Each kind answers its files and its command lines, each line with the status that it must end with.
+Each kind returns its files and its command lines. A line has the status that it must end with, and, if an
+image is large beside the files, the MiB of that image.
 """
 
 import random
@@ -132,5 +133,94 @@ def deep_blocks():
     return {"m": file_of(b"m", debug=blocks)}, [("check m", 0), ("link -o out m m", 0)]
 
 
+def based(size):
+    """One section from address 0 on."""
+    return b"\xE6\x01\xC1\xD3\x01t\xE2\xD3\x01" + number(size) + b"\xE2\xCC\x01\x00"
+
+
+def long_fields():
+    """60,000 fields whose expressions have 255 tokens."""
+    value = b"\xD2\x01" + b"\x01\xA5" * 127
+    data = b"\xE5\x01" + (b"\xE4\xBE" + value + b"\xBF") * 60_000
+    return {"m": file_of(b"m", sections=based(1 << 24), data=data)}, [
+        ("check m", 0), ("show m", 0), ("show --listing m", 0), ("link -o out m", 0), ("locate -o out m", 0)]
+
+
+def repeated_bytes():
+    """A repeat of one byte that asks for the largest image."""
+    data = b"\xE5\x01\xF7\x84\x04\x00\x00\x00\xED\x01\x55"
+    return {"m": file_of(b"m", sections=based(1 << 26), data=data)}, [
+        ("dump m", 0, 64), ("locate -o out m", 0, 64), ("bin -o out m", 0, 64)]
+
+
+def scattered_bytes():
+    """A million bytes, each at an address of its own, from the last to the first."""
+    pieces = (b"\xE2\xD0\x01" + number(2 * at) + b"\xED\x01" + bytes([at & 255]) for at in range(999_999, -1, -1))
+    return {"m": file_of(b"m", sections=based(1 << 24), data=b"\xE5\x01" + b"".join(pieces))}, [
+        ("dump m", 0), ("locate -o out m", 0), ("bin -o out m", 0, 2)]
+
+
+def an_address_with_two_bytes():
+    """Scattered bytes of which the last two have the same address."""
+    pieces = [b"\xE2\xD0\x01" + number(2 * at) + b"\xED\x01\x00" for at in range(999_999, -1, -1)]
+    return {"m": file_of(b"m", sections=based(1 << 24), data=b"\xE5\x01" + b"".join(pieces + pieces[-1:]))}, [("dump m", 1)]
+
+
+def bytes_far_apart():
+    """Two bytes at the ends of the longest raw image, and one more address between them."""
+    def far(last):
+        data = b"\xE5\x01\xED\x01\x55\xE2\xD0\x01" + number(last) + b"\xED\x01\xAA"
+        return file_of(b"m", sections=based(1 << 27), data=data)
+    return {"m": far((1 << 26) - 1), "n": far(1 << 26)}, [("bin -o out m", 0), ("bin -o out n", 1)]
+
+
+def debug_lines():
+    """500,000 names with a line number and an address each."""
+    lines = []
+    for at in range(500_000):
+        index = number(32 + at)
+        lines.append(b"\xF0" + index + b"\x00\xF1\xCE" + index + b"\x00\x07" + number(at) + b"\xE2\xCE" + index + number(at))
+    debug = b"\xF8\x05\x00\x01c" + b"".join(lines) + b"\xF9"
+    return {"m": file_of(b"m", debug=debug)}, [("check m", 0), ("addr --at 3E8 m", 0), ("show m", 0)]
+
+
+def plan(text):
+    """A small module, and a plan document of at most 65,536 bytes."""
+    return {"m": file_of(b"m", sections=b"\xE6\x01\xC3\xD0\x01s\xE7\x01\x04\xE2\xD3\x01\x04"), "p": text.encode()[:65536]}
+
+
+def plan_names():
+    names = ",".join('"%x"' % at for at in range(9000))
+    return plan('[[region]]\nname="r"\nbase=0\nsize=4096\nsections=[%s,"s"]\n' % names), [("locate --plan p -o out m", 0)]
+
+
+def plan_regions():
+    regions = "".join('[[region]]\nname="r%d"\nbase=%d\nsize=1\nsections=["a%d"]\n' % (r, r, r) for r in range(900))
+    return plan(regions + '[[region]]\nname="r"\nbase=4096\nsize=64\nsections=["*"]\n'), [("locate --plan p -o out m", 0)]
+
+
+def plan_brackets():
+    return plan("a = " + "[" * 65_000), [("locate --plan p -o out m", 1)]
+
+
+def plan_tables():
+    return plan("[" + "a." * 30_000 + "a]\n"), [("locate --plan p -o out m", 1)]
+
+
+def plan_keys():
+    return plan("".join("k%x = 1\n" % at for at in range(6500))), [("locate --plan p -o out m", 1)]
+
+
+def plan_text():
+    return plan('a = "' + "\\u0041" * 10_000 + '"'), [("locate --plan p -o out m", 1)]
+
+
+def no_files():
+    """Commands that read no file."""
+    return {}, [("make 65536", 0, 64), ("help Misfit", 0), ("help " + "x" * 100_000, 1)]
+
+
 KINDS = [colliding_publics, colliding_references, descending_indexes, scattered_indexes, chain, cycle, cycles_at_the_end,
-         members, groups, sections, long_expressions, deep_blocks]
+         members, groups, sections, long_expressions, deep_blocks, long_fields, repeated_bytes, scattered_bytes,
+         an_address_with_two_bytes, bytes_far_apart, debug_lines, plan_names, plan_regions, plan_brackets, plan_tables,
+         plan_keys, plan_text, no_files]
