@@ -3,22 +3,34 @@
 
 usage: audit.py [--check]      run at the top of the repository
 
-It begins with the names in the clauses of `run` and of the functions in ROOTS, and follows each name to its definition,
-through the `use` lines of the file that it stands in, until nothing new is reached. Definitions of the crates' specs/ are
-followed; types that Rust declares are listed with the file that declares them; what the toolchain's library defines is
-only counted. With --check it prints whether docs/AUDIT.md is what it would write, and ends with status 1 if it is not.
+It begins with the names in the clauses of ROOTS, and follows each name to its definition: through the `use` lines of the
+file that it is in, by the scope that it has there, so that a variable or a field is not taken for a definition of the same
+name. An operator is followed like a name, and `do` uses `>>=`. Definitions of the crates' specs/ are followed; types and
+constants that Rust declares, and definitions of the toolchain's library, are listed by name. With --check it prints
+whether docs/AUDIT.md is what it would write, and ends with status 1 if it is not.
 """
 import os, re, sys
 
+COMMAND = "mufom_command/src/"
 # The functions whose clauses are what there is to trust: file of the crate, and name (None: each in the file).
-ROOTS = [("mufom_command/src/command.rt", "run"), ("mufom_command/src/laws.rt", None), ("mufom_groups/src/laws.rt", None)]
+ROOTS = [(COMMAND + "command.rt", "run"), (COMMAND + "laws.rt", None), ("mufom_groups/src/laws.rt", None)]
+# What an auditor reads beside them: the clauses of the outside, the status, and how contracts see these types.
+BESIDE = ["mufom_host/src/world.rt", COMMAND + "outcome.rt", "mufom_numbers/src/text.rt", "mufom_numbers/src/bytes.rt",
+          "mufom_numbers/src/list.rt", "mufom_expr/src/postfix.rt", "mufom_module/src/module.rt"]
+# Laws of definitions that the facts of a list rest on, by file of proofs and name.
+FACTS = [("mufom_meaning/proofs/facts/AllAnswers.antt", "answers_are_facts"),
+         ("mufom_meaning/proofs/staging/Stages.antt", "staged_means_the_same")]
 # The crates whose definitions are those of the format.
-FORMAT = {"mufom_numbers", "mufom_expr", "mufom_records", "mufom_sections", "mufom_names", "mufom_loads", "mufom_debug", "mufom_module", "mufom_read"}
+FORMAT = {"mufom_numbers", "mufom_expr", "mufom_records", "mufom_sections", "mufom_names", "mufom_loads", "mufom_debug",
+          "mufom_module", "mufom_read"}
 PAGE = "docs/AUDIT.md"
-WORD = re.compile(r"[^\s(){}\[\],;:.λ→×⊎∷≡]+")
+TOKEN = re.compile(r'"(?:\\.|[^"\\])*"|[()\[\]{},;]|[^\s()\[\]{},;"]+')
 # A line that begins a definition: all other lines go on with the one before.
-START = re.compile(r"^(?:(?:abbrev|unfoldable|pub|infix[lr]? \d+)\s+)*(?:(?:record|data|module)\s+(\S+)|(\S+)\s+:)")
-INNER = re.compile(r"^\s+(?:(?:abbrev|unfoldable|pub)\s+)*(?:(?:record|data)\s+)?(\S+)[^:]*:")
+START = re.compile(r"^(?:(?:abbrev|unfoldable|pub)\s+)*(?:(record|data)\s+(\S+)|(\S+)\s+:)")
+USE = re.compile(r"^(?:ghost |pub )*use (Rattle\.[^\s{]+?)(?:\.\{([^}]*)\})?(?: as (\S+?))?;?\s*$", re.M)
+# Constructors of the library, which a pattern may have.
+BUILT_IN = {"Some", "None", "Ok", "Err", "true", "false", "zero", "suc", "tt", "inl", "inr", "refl", "[]", "∷", "_"}
+SIGNS = {":", "=", "→", "λ", "←", "×", "|", "↦", "∷", "let", "in", "do", "where", "record", "data", "pub", "abbrev"}
 
 
 def read(path):
@@ -29,7 +41,7 @@ def read(path):
 def names_of_use(text):
     """Returns the local names of `use` lines with the path that each stands for."""
     found = {}
-    for path, group, alias in re.findall(r"use (Rattle\.[\w.\-+]+?)(?:\.\{([^}]*)\})?(?: as (\S+?))?;?\s*$", text, re.M):
+    for path, group, alias in USE.findall(text):
         if group:
             for part in group.split(","):
                 words = part.split()
@@ -40,54 +52,167 @@ def names_of_use(text):
     return found
 
 
-def parts_of(name):
-    """Returns the words by which a name is used: of an operator its signs."""
-    return [it for it in name.split("◌") if it] if "◌" in name else [name]
+def tokens_of(text):
+    """Returns the tokens of a piece of a definition, without comments and texts in quotes."""
+    lines = [re.sub(r"(^|\s)--.*$", "", line) for line in text.split("\n")]
+    return [it for it in TOKEN.findall("\n".join(lines)) if not it.startswith('"')]
+
+
+def binders(tokens):
+    """Returns the variables that a type, or the right side of an equation, binds."""
+    bound = set()
+    for at, token in enumerate(tokens):
+        if token in "({" and at + 1 < len(tokens):
+            names, after = [], at + 1
+            while after < len(tokens) and tokens[after] not in ":(){}[],;=.→":
+                names.append(tokens[after])
+                after += 1
+            if after < len(tokens) and tokens[after] == ":":
+                bound |= set(names)
+        elif token == "λ":
+            after = at + 1
+            while after < len(tokens) and not tokens[after].endswith("."):
+                bound.add(tokens[after])
+                after += 1
+            if after < len(tokens):
+                bound.add(tokens[after].rstrip("."))
+        elif token == "let":
+            after = at + 1
+            while after < len(tokens) and tokens[after] not in (":", "="):
+                bound.add(tokens[after])
+                after += 1
+        elif token == "←":
+            before = at - 1
+            bound.add(tokens[before])
+    return bound - SIGNS - set("()[]{},;")
+
+
+class Item:
+    """A definition: its names, its kind, and its lines."""
+
+    def __init__(self, kind, name, lines):
+        self.kind, self.name, self.lines = kind, name, lines
+        self.inner = set()
 
 
 class Spec:
     """A file of definitions, cut at its top-level definitions."""
 
     def __init__(self, path):
-        self.path, self.text = path, read(path)
-        self.uses = names_of_use(self.text)
-        self.blocks, self.where = [], {}
-        comment = []
-        for line in self.text.splitlines():
+        self.path, text = path, read(path)
+        self.uses, self.items, self.where, comment = names_of_use(text), [], {}, []
+        for line in text.splitlines():
             start = START.match(line)
             if line.startswith("--"):
                 comment.append(line)
             elif start:
-                self.blocks.append({"names": {start[1] or start[2]}, "lines": comment + [line]})
+                self.items.append(Item(start[1] or "function", start[2] or start[3], comment + [line]))
                 comment = []
-            elif line.strip() and self.blocks and not line.startswith(("use ", "pub use ")):
-                self.blocks[-1]["lines"] += comment + [line]
+            elif line.strip() and self.items and not re.match(r"(pub )?use |infix|unfolding|open |module |pub mod", line):
+                self.items[-1].lines += comment + [line]
                 comment = []
-                inner = INNER.match(line)
-                if inner:
-                    self.blocks[-1]["names"].add(inner[1])
-        for number, block in enumerate(self.blocks):
-            for name in block["names"]:
-                self.where.setdefault(name, number)
+        for item in self.items:
+            self.where[item.name] = item
+            if item.kind == "data":
+                for line in item.lines:
+                    found = re.match(r"\s+(?:pub )?(\S+)\s+:", line)
+                    if found and not line.startswith(("data", "pub data")):
+                        item.inner.add(found[1])
+                        self.where.setdefault(found[1], item)
 
-    def cited(self, block):
-        body = "\n".join(line for line in block["lines"] if not line.startswith("--"))
-        words = set(WORD.findall(body))
-        signs = set(re.findall(r"\S+", body))
-        local = [name for name in self.where if name not in block["names"] and all(it in words or it in signs for it in parts_of(name))]
-        distant = [path for name, path in self.uses.items() if all(it in words or it in signs for it in parts_of(name))]
+    def is_constructor(self, name):
+        if name in BUILT_IN:
+            return True
+        if name in self.where:
+            return name in self.where[name].inner
+        path = self.uses.get(name)
+        if path is None:
+            return False
+        kind, place, inner = file_of(path)
+        if kind == "spec":
+            return spec_at(place).is_constructor(inner)
+        return kind == "type" or inner is None and name[:1].isupper()
+
+    def pieces(self, item):
+        """Returns the pieces of a definition with the names that each binds: its head, and each of its equations."""
+        found, now = [], []
+        for line in item.lines:
+            if line.startswith("--"):
+                continue
+            if line[:1] not in " \t" and now:
+                found.append("\n".join(now))
+                now = []
+            now.append(line)
+        found.append("\n".join(now))
+        for number, piece in enumerate(found):
+            tokens = tokens_of(piece)
+            if number == 0:
+                bound = binders(tokens) | {item.name} | item.inner
+                if item.kind == "record":
+                    bound |= {it[0] for it in re.findall(r"^\s+(?:pub )?(\S+)\s+(:)", piece, re.M)}
+                # the one line of a short definition may have an equation too
+                yield tokens, bound
+            else:
+                depth, cut = 0, len(tokens)
+                for at, token in enumerate(tokens):
+                    depth += (token in "([{") - (token in ")]}")
+                    if token == "=" and depth == 0:
+                        cut = at
+                        break
+                left, right = tokens[:cut], tokens[cut + 1:]
+                variables = {it for it in left if re.match(r"[\w'-]", it) and "." not in it and not self.is_constructor(it)}
+                yield [it for it in left if it not in variables] + right, binders(right) | variables | {item.name}
+
+    def cited(self, item):
+        """Returns the local definitions and the imported paths that a definition uses."""
+        local, distant = set(), set()
+        for tokens, bound in self.pieces(item):
+            seen = set()
+            for at, token in enumerate(tokens):
+                if at + 1 < len(tokens) and tokens[at + 1] == "=" and at and tokens[at - 1] in "{;":
+                    continue
+                if token == "do":
+                    seen.add(">>=")
+                first, _, rest = token.partition(".")
+                if rest and first in self.uses and first not in bound and self.uses[first].split(".")[-1] in ("TheVariants", "TheConstants", "TheOpen"):
+                    distant.add(f"{self.uses[first]}.{rest.split('.')[0]}")
+                    continue
+                seen |= {first or token, token}
+            for name in [*self.where, *self.uses]:
+                parts = [it for it in name.split("◌") if it] if "◌" in name else [name]
+                if name in bound or not all(it in seen for it in parts):
+                    continue
+                if name in self.where:
+                    if self.where[name] is not item:
+                        local.add(self.where[name].name)
+                else:
+                    distant.add(self.uses[name])
         return local, distant
 
 
+SPECS = {}
+
+
+def spec_at(place):
+    if place not in SPECS:
+        SPECS[place] = Spec(place)
+    return SPECS[place]
+
+
 def file_of(path):
-    """Returns the file of a path of definitions in this repository, and the name in it; or the declaring crate, or nothing."""
+    """Returns what a path leads to: a definition of this repository, a declared type, or the library."""
     words = path.split(".")
     crate = words[1]
     if not os.path.isdir(f"crates/{crate}"):
         return "library", path, None
-    if "declared" in words:
-        at = words.index("declared")
-        return "type", f"crates/{crate}/src", ".".join(words[at + 1 : at + 3])
+    if words[3:4] == ["declared"]:
+        rest = words[4:]
+        cut = next((n for n, it in enumerate(rest) if it[:1].isupper()), len(rest))
+        name = rest[cut] if cut < len(rest) else ""
+        if name == "TheConstants":
+            name = rest[cut + 1] if cut + 1 < len(rest) else ""
+        folder = "/".join(rest[:cut])
+        return "type", f"crates/{crate}/src/{folder}.rt", name
     for end in range(len(words), 2, -1):
         name = f"crates/{crate}/" + "/".join(words[2:end]) + ".antt"
         if os.path.isfile(name):
@@ -95,71 +220,126 @@ def file_of(path):
     return "library", path, None
 
 
-def clauses():
-    """Returns the paths that the clauses of the roots name, and how many lines those clauses have."""
-    paths, lines = [], []
-    for path, wanted in ROOTS:
-        text = read(f"crates/{path}")
-        uses = names_of_use(text.replace("ghost use", "use"))
-        for found in re.finditer(r"pub fn (\w+)[^{]*?\n((?:\s+(?:requires|ensures|//)[^\n]*\n|\s+[^\n{]*\}\n)+)\{", text):
-            if wanted in (None, found[1]):
-                lines.append((path, found[1], found[2].strip().count("\n") + 1))
-                paths += [uses[word] for word in WORD.findall(found[2]) if word in uses]
-    return paths, lines
+def clauses_of(path, wanted):
+    """Returns the functions of a file with the paths that their clauses name and the number of lines of these."""
+    text = read(f"crates/{path}")
+    uses = names_of_use(text)
+    for found in re.finditer(r"pub fn (\w+)[^{]*?\n((?:\s+(?:requires|ensures|//)[^\n]*\n|\s+[^\n{]*\}\n)+)\{", text):
+        if wanted in (None, found[1]):
+            words = {it.split(".")[0] for it in tokens_of(found[2])}
+            yield found[1], found[2].strip().count("\n") + 1, [uses[it] for it in words if it in uses]
+
+
+def ghosts_of(path):
+    """Returns the paths that the clauses and the ghost members of a file name."""
+    text = read(f"crates/{path}")
+    uses = names_of_use(re.sub(r"^\s+", "", text, flags=re.M))
+    body = "\n".join(re.findall(r"(?:ghost \w+\s*(?:=|:)|requires|ensures)[^\n]*(?:\n\s{8,}[^\n]*)*", text))
+    words = {it.split(".")[0] for it in tokens_of(body)}
+    return [path for name, path in uses.items() if all(it in words for it in name.split("◌") if it)]
+
+
+class Reached:
+    """What has been reached from some paths."""
+
+    def __init__(self):
+        self.items, self.types, self.library, self.order = {}, set(), set(), []
+
+    def follow(self, paths):
+        todo = list(paths)
+        while todo:
+            kind, place, name = file_of(todo.pop(0))
+            if kind == "library":
+                self.library.add(place.replace("Rattle.", "", 1))
+            elif kind == "type":
+                self.types.add((place, name))
+            else:
+                todo += self.enter(place, name)
+
+    def enter(self, place, name):
+        spec = spec_at(place)
+        if name not in spec.where:
+            return [spec.uses[name]] if name in spec.uses else []
+        more, pending = [], [spec.where[name].name]
+        if place not in self.order:
+            self.order.append(place)
+        while pending:
+            one = pending.pop(0)
+            if one in self.items.setdefault(place, []):
+                continue
+            self.items[place].append(one)
+            local, distant = spec.cited(spec.where[one])
+            pending += sorted(local)
+            more += sorted(distant)
+        return more
+
+    def lines(self, place):
+        return sum(len(spec_at(place).where[it].lines) for it in self.items[place])
+
+
+def table_of(reached):
+    rows = ["| file | lines | definitions |", "|---|---|---|"]
+    for place in reached.order:
+        spec = spec_at(place)
+        names = sorted(reached.items[place], key=lambda it: spec.items.index(spec.where[it]))
+        rows.append(f"| `{place}` | {reached.lines(place)} | {', '.join(f'`{it}`' for it in names)} |")
+    return rows
+
+
+def listed(pairs):
+    """Returns lines of names by the file, or module, that has them."""
+    groups = {}
+    for place, name in pairs:
+        groups.setdefault(place, set()).add(name)
+    return [f"- `{place}`: {', '.join(f'`{it}`' for it in sorted(names))}" for place, names in sorted(groups.items())]
+
+
+def page_text():
+    functions = [(path, *found) for path, wanted in ROOTS for found in clauses_of(path, wanted)]
+    reached = Reached()
+    reached.follow(path for *_, paths in functions for path in paths)
+    total = sum(reached.lines(place) for place in reached.order)
+    of_format = sum(reached.lines(place) for place in reached.order if place.split("/")[1] in FORMAT)
+    count = sum(len(it) for it in reached.items.values())
+    beside = Reached()
+    beside.follow(path for file in BESIDE for path in ghosts_of(file))
+    for place, name in FACTS:
+        beside.follow([path for path in spec_at(f"crates/{place}").cited(spec_at(f"crates/{place}").where[name])[1] if ".specs." in path])
+    for place in list(beside.order):
+        beside.items[place] = [it for it in beside.items[place] if it not in reached.items.get(place, [])]
+        if not beside.items[place]:
+            beside.order.remove(place)
+    library = [tuple(it.rsplit(".", 1)) for it in reached.library | beside.library if "." in it]
+    return "\n".join([
+        "# What there is to trust", "",
+        "The definitions that the contract of `run` and its public laws reach, and nothing else: somebody who reads these, and trusts"
+        " the toolchain, knows what is proved. `python3 bench/audit.py` writes this page; with `--check` it says whether the page is up to"
+        " date.", "",
+        "## The clauses", "", "| function | lines | file |", "|---|---|---|",
+        *[f"| `{name}` | {lines} | `crates/{path}` |" for path, name, lines, _ in functions], "",
+        "## The definitions", "", "In the order in which they are reached.", "", *table_of(reached), "",
+        f"{len(reached.order)} files, {count} definitions, {total} lines with their comments. {of_format} of the lines are the format"
+        " alone: how numbers, expressions and records are spelled, which bytes are the file of a module, and the errors of reading and of"
+        " modules. The rest is about linking, locating and runs.", "",
+        "## The types", "", "Types and constants that Rust declares, whose fields and variants the definitions use.", "",
+        *listed(reached.types), "",
+        "## Beside them", "",
+        "The clauses of what is outside, and how contracts see the types that own their contents, with the definitions that only these reach:",
+        "", *[f"- `crates/{it}`" for it in BESIDE], "",
+        "and two laws that tie the facts to a list: "
+        + " and ".join(f"`{name}` of `crates/{place}`" for place, name in FACTS) + ".", "", *table_of(beside), "", *listed(beside.types - reached.types), "",
+        "## The toolchain's library", "", "Definitions of the library that these use, by module.", "", *listed(library), ""])
 
 
 def main():
-    roots, lines = clauses()
-    specs, reached, types, library, order = {}, {}, set(), set(), []
-    todo = [(path, None) for path in roots]
-    while todo:
-        path, _ = todo.pop(0)
-        kind, place, name = file_of(path)
-        if kind == "library":
-            library.add(path)
-        elif kind == "type":
-            types.add((place, name))
-        else:
-            spec = specs.setdefault(place, Spec(place)) if place not in specs else specs[place]
-            if place not in order:
-                order.append(place)
-            if name in spec.where:
-                pending = [spec.where[name]]
-                while pending:
-                    number = pending.pop(0)
-                    if number in reached.setdefault(place, set()):
-                        continue
-                    reached[place].add(number)
-                    local, distant = spec.cited(spec.blocks[number])
-                    pending += [spec.where[it] for it in local]
-                    todo += [(it, None) for it in distant]
-            elif name in spec.uses:
-                todo.append((spec.uses[name], None))
-    page = ["# What there is to trust", "",
-            "The definitions that the contract of `run` and its public laws reach, and nothing else: somebody who reads these, and trusts the toolchain,",
-            "knows what is proved. Written by `python3 bench/audit.py`; `python3 bench/audit.py --check` says whether it is up to date.", "",
-            "## The clauses", "", "| function | lines | file |", "|---|---|---|"]
-    page += [f"| `{name}` | {count} | `crates/{path}` |" for path, name, count in lines]
-    page += ["", "## The definitions, in the order in which they are reached", "", "| file | definitions | lines |", "|---|---|---|"]
-    total, of_format = 0, 0
-    for place in order:
-        numbers = reached.get(place, ())
-        count = sum(len(specs[place].blocks[it]["lines"]) for it in numbers)
-        total += count
-        of_format += count if place.split("/")[1] in FORMAT else 0
-        page.append(f"| `{place}` | {len(numbers)} | {count} |")
-    page += ["", f"{len(order)} files, {sum(len(it) for it in reached.values())} definitions, {total} lines with their comments. They speak of"
-             f" {len(types)} types that Rust declares, and of {len(library)} definitions of the toolchain's library.", "",
-             f"{of_format} of the lines are the format alone: how numbers, expressions and records are spelled, which bytes are the file of a module, and",
-             "the faults of reading and of modules. What is stated of linking, locating and runs is the rest.", ""]
-    text = "\n".join(page)
+    text = page_text()
     if "--check" in sys.argv:
         same = os.path.isfile(PAGE) and read(PAGE) == text
         print("up to date" if same else f"{PAGE} is stale: run bench/audit.py")
         sys.exit(0 if same else 1)
     with open(PAGE, "w", encoding="utf-8") as file:
         file.write(text)
-    print(f"{PAGE}: {len(order)} files, {total} lines")
+    print(f"{PAGE}: {text.count(chr(10))} lines")
 
 
 main()

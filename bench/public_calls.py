@@ -18,6 +18,21 @@ def read(path):
         return file.read()
 
 
+def errors_of_memory(crates):
+    """Returns the types of errors of which one case is that memory was not found, also through another such type."""
+    variants = {}
+    for crate in crates:
+        for path in files(crate):
+            for name, body in re.findall(r"pub enum (\w+)[^{]*\{(.*?)^\}", read(path), re.M | re.S):
+                variants[name] = set(re.findall(r"\w+", re.sub(r"//[^\n]*", "", body)))
+    found = {"NoMemory"}
+    while True:
+        more = {name for name, words in variants.items() if words & found} - found
+        if not more:
+            return found
+        found |= more
+
+
 def exported(crate):
     """Returns the names that the root of a crate exports."""
     root = read(f"crates/{crate}/src/lib.rt")
@@ -34,7 +49,7 @@ def files(crate):
                 yield os.path.join(folder, name)
 
 
-def calls(crate):
+def calls(crate, of_memory):
     names = exported(crate)
     for path in files(crate):
         text = read(path)
@@ -50,7 +65,7 @@ def calls(crate):
             needs = len(re.findall(r"^\s*requires\b", clauses, re.M))
             gives = len(re.findall(r"^\s*ensures\b", clauses, re.M))
             answer = re.sub(r"\s+", " ", answer or "()").strip()
-            memory = "yes" if re.search(r"NoMemory|Refusal|PrintStop|Stop\b|Outcome", answer) and "alloc" in params else ("yes" if "NoMemory" in answer else "")
+            memory = "yes" if set(re.findall(r"\w+", answer)) & of_memory else ""
             host = "yes" if re.search(r"&mut (H|S|K|W)\b|&mut impl", params) else ""
             yield (f"{owner}::{name}" if owner else name, needs, gives, memory, host, answer)
 
@@ -62,11 +77,10 @@ def main():
             "*Conditions* and *clauses* count the `requires` and `ensures` of its contract. A call with *memory* may run out of memory, and then changes",
             "nothing that its clauses do not name. A call with *host* does I/O through the host that it is given, and returns an I/O error only if an error",
             "counter increased.", ""]
-    total = 0
+    total, crates = 0, [it for it in crates if os.path.isfile(f"crates/{it}/src/lib.rt")]
+    of_memory = errors_of_memory(crates)
     for crate in crates:
-        if not os.path.isfile(f"crates/{crate}/src/lib.rt"):
-            continue
-        rows = list(calls(crate))
+        rows = list(calls(crate, of_memory))
         if not rows:
             continue
         total += len(rows)
