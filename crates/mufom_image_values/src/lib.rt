@@ -2,8 +2,8 @@
 //!
 //! [`resolve_references`] answers what each reference stands for. [`first_undefined`], [`first_common`] and
 //! [`first_on_cycle`] find the first name that keeps a module from being located, and
-//! [`PlacedModule::settled`] the value of each public, each evaluated once. All take time in proportion to
-//! the names and the tokens of their expressions. The crate stands on `mufom_expr`, `mufom_names`,
+//! [`PlacedModule::settled`] the value of each public, each evaluated once. Their time is linear in the
+//! names and the tokens of their expressions, expected where names are hashed. The crate stands on `mufom_expr`, `mufom_names`,
 //! `mufom_module` and `mufom_meaning`, whose definitions its contracts cite.
 #![tactic(auto)]
 
