@@ -262,6 +262,7 @@ impl<'a> Search<'a> {
     {
         match item {
             DebugItem::Block(block) => {
+                let block = block.get();
                 self.see_block(block, depth);
                 let source = source_within(block, source);
                 self.see_items(block.items.as_slice(), depth + 1, source)

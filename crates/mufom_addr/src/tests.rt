@@ -2,7 +2,7 @@
 
 use crate::{Hit, find_address};
 use arrayvec::ArrayVec;
-use mufom_debug::{Block, BlockHead, DebugItem, is_within_depth};
+use mufom_debug::{Block, BlockHead, Boxed, DebugItem, is_within_depth};
 use mufom_expr::Postfix;
 use mufom_names::Note;
 use mufom_numbers::{Bytes, List};
@@ -40,6 +40,7 @@ fn program(rt: &impl Abort, alloc: Global) -> List<DebugItem> {
         items,
         end: Some(number(rt, alloc, 271)),
     };
+    let main = Boxed::new(alloc, main).expect(rt, "memory");
     List::single(alloc, DebugItem::Block(main)).expect(rt, "memory")
 }
 

@@ -18,7 +18,7 @@ fn item_total(item: &DebugItem) -> u64
     ensures { result ≡ capped (item_count (marks_of_item item.now)) }
 {
     match item {
-        DebugItem::Block(block) => 1u64.saturating_add(items_total(block.items.as_slice())),
+        DebugItem::Block(block) => 1u64.saturating_add(items_total(block.get().items.as_slice())),
         DebugItem::Name(_) => 1,
         DebugItem::Note { .. } => 1,
         DebugItem::Value { .. } => 1,

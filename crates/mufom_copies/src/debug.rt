@@ -6,7 +6,7 @@ ghost use Rattle.mufom_debug.specs.Marks.{block_begin, block_end, marks_of, mark
 ghost use Rattle.mufom_copies.specs.Mapped.{mapped_head, mapped_mark};
 
 use crate::entries::{copy_bytes, copy_note};
-use mufom_debug::{Block, BlockHead, DebugItem};
+use mufom_debug::{Block, BlockHead, Boxed, DebugItem};
 use mufom_expr::Postfix;
 use mufom_numbers::{List, NoMemory};
 use std::alloc::Global;
@@ -98,12 +98,13 @@ fn map_block<M: ExpressionMap>(
         ≡ block_begin (mapped_head (M.meaning map.now) block.now.head) block.now.name
         ∷ (marks_of items ++ block_end (option_map (M.meaning map.now) block.now.end) ∷ [])) }
 {
-    Ok(DebugItem::Block(Block {
+    let copy = Block {
         head: map_head(alloc, map, &block.head)?,
         name: copy_bytes(alloc, &block.name)?,
         items,
         end: map_end(alloc, map, &block.end)?,
-    }))
+    };
+    Ok(DebugItem::Block(Boxed::new(alloc, copy)?))
 }
 
 #[cycle(copying)]
@@ -116,6 +117,7 @@ fn map_debug_item<M: ExpressionMap>(
 {
     match item {
         DebugItem::Block(block) => {
+            let block = block.get();
             let items = map_debug_items(alloc, map, block.items.as_slice())?;
             map_block(alloc, map, block, items)
         }

@@ -10,7 +10,7 @@ fn item_depth(item: &DebugItem) -> u32
     ensures { result ≡ depth_of (marks_of_item item.now) }
 {
     match item {
-        DebugItem::Block(block) => 1 + depth(block.items.as_slice()),
+        DebugItem::Block(block) => 1 + depth(block.get().items.as_slice()),
         DebugItem::Name(_) => 0,
         DebugItem::Note { .. } => 0,
         DebugItem::Value { .. } => 0,
@@ -39,7 +39,7 @@ fn item_is_within(item: &DebugItem, limit: u32) -> bool
 {
     match item {
         DebugItem::Block(_) if limit == 0 => false,
-        DebugItem::Block(block) => is_within_depth(block.items.as_slice(), limit - 1),
+        DebugItem::Block(block) => is_within_depth(block.get().items.as_slice(), limit - 1),
         DebugItem::Name(_) => true,
         DebugItem::Note { .. } => true,
         DebugItem::Value { .. } => true,

@@ -24,6 +24,7 @@ fn gather_item<'a>(item: &'a DebugItem, list: &mut Vec<&'a Postfix>) -> Result<(
 {
     match item {
         DebugItem::Block(block) => {
+            let block = block.get();
             add(block.head.offset(), list)?;
             gather(block.items.as_slice(), list)?;
             add(block.end.as_ref(), list)

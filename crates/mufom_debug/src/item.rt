@@ -1,6 +1,7 @@
 ghost use Rattle.std.specs.Prelude.{◌≡◌, option_map};
 ghost use Rattle.mufom_debug.specs.Marks.{kind_number, offset_of};
 
+use crate::boxed::Boxed;
 use arrayvec::ArrayVec;
 use mufom_expr::Postfix;
 use mufom_names::Note;
@@ -51,7 +52,7 @@ pub struct Block {
 #[derive(Debug, Drop)]
 #[cycle(debug)]
 pub enum DebugItem {
-    Block(Block),
+    Block(Boxed<Block>),
     /// Declares a name.
     Name(Bytes),
     Note { name: u32, note: Note },

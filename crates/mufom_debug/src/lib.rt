@@ -7,12 +7,14 @@
 //! those of its items, then its end.
 #![tactic(auto)]
 
+mod boxed;
 mod deepest;
 mod gather;
 mod item;
 mod iterator;
 mod laws;
 
+pub use boxed::Boxed;
 pub use deepest::{depth, is_within_depth};
 pub use gather::addresses;
 pub use item::{Block, BlockHead, DebugItem};

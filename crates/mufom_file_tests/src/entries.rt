@@ -1,7 +1,7 @@
 //! Entries of modules. Where there is no memory, a test fails.
 
 use arrayvec::ArrayVec;
-use mufom_debug::{Block, BlockHead, DebugItem};
+use mufom_debug::{Block, BlockHead, Boxed, DebugItem};
 use mufom_expr::{Builder, FieldKind, Function, Letter, Postfix, Token};
 use mufom_loads::Item;
 use mufom_module::{Module, Parts, assemble};
@@ -156,10 +156,11 @@ pub(crate) fn block(
     items: List<DebugItem>,
     end: Option<Postfix>,
 ) -> DebugItem {
-    DebugItem::Block(Block {
+    let block = Block {
         head,
         name: bytes(rt, alloc, name),
         items,
         end,
-    })
+    };
+    DebugItem::Block(Boxed::new(alloc, block).expect(rt, "memory"))
 }

@@ -2,7 +2,7 @@
 
 use crate::draft::{BASE, Draft, PLUS, bytes, expression, locates};
 use arrayvec::ArrayVec;
-use mufom_debug::{Block, BlockHead, DebugItem, addresses, is_within_depth};
+use mufom_debug::{Block, BlockHead, Boxed, DebugItem, addresses, is_within_depth};
 use mufom_expr::Token::{self, Number};
 use mufom_names::Note;
 use mufom_numbers::List;
@@ -56,8 +56,9 @@ fn program(rt: &impl Abort, alloc: Global) -> Block {
     items
         .push(DebugItem::Name(bytes(rt, alloc, b"x")))
         .expect(rt, "memory");
+    let inner = Boxed::new(alloc, function(rt, alloc)).expect(rt, "memory");
     items
-        .push(DebugItem::Block(function(rt, alloc)))
+        .push(DebugItem::Block(inner))
         .expect(rt, "memory");
     Block {
         head: BlockHead::Module,

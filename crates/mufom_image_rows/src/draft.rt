@@ -1,7 +1,7 @@
 //! Modules that are made entry by entry, and what locating them comes to. Where there is no memory, a
 //! test fails.
 
-use mufom_debug::{Block, DebugItem};
+use mufom_debug::{Block, Boxed, DebugItem};
 use mufom_expr::{Builder, FieldKind, Function, Letter, Postfix, Token};
 use mufom_image::{LocateRefusal, Located, locate};
 use mufom_loads::{Item, Load};
@@ -87,6 +87,7 @@ impl Draft {
 
     /// A debug block.
     pub(crate) fn block(&mut self, rt: &impl Abort, block: Block) {
+        let block = Boxed::new(self.alloc, block).expect(rt, "memory");
         self.parts
             .debug
             .push(DebugItem::Block(block))

@@ -5,7 +5,7 @@ ghost use Rattle.mufom_debug.specs.Marks.{marks_of, marks_of_item, names_after_a
 ghost use Rattle.mufom_link.specs.Renaming.{renaming_of, renamed_tree, renamed_head, renamed_mark};
 
 use crate::site::Site;
-use mufom_debug::{Block, BlockHead, DebugItem};
+use mufom_debug::{Block, BlockHead, Boxed, DebugItem};
 use mufom_expr::Postfix;
 use mufom_numbers::{List, NoMemory};
 use std::alloc::Global;
@@ -66,13 +66,14 @@ fn renamed_item(alloc: Global, site: &Site<'_>, item: DebugItem) -> Result<Debug
                 name,
                 items,
                 end,
-            } = block;
-            Ok(DebugItem::Block(Block {
+            } = block.into_inner();
+            let other = Block {
                 head: renamed_head(site, head),
                 name,
                 items: renamed_items(alloc, site, items)?,
                 end: renamed_end(site, end),
-            }))
+            };
+            Ok(DebugItem::Block(Boxed::new(alloc, other)?))
         }
         DebugItem::Name(name) => Ok(DebugItem::Name(name)),
         DebugItem::Note { name, note } => Ok(DebugItem::Note {
@@ -109,7 +110,7 @@ fn names_after_item(before: u32, item: &DebugItem) -> u32
     ensures { result ≡ names_after_all before (marks_of_item item.now) }
 {
     match item {
-        DebugItem::Block(block) => names_after(before, block.items.as_slice()),
+        DebugItem::Block(block) => names_after(before, block.get().items.as_slice()),
         DebugItem::Name(_) => before + 1,
         DebugItem::Note { .. } => before,
         DebugItem::Value { .. } => before,

@@ -100,6 +100,7 @@ fn item_breaks(rule: Rule, item: &DebugItem) -> bool
 {
     match item {
         DebugItem::Block(block) => {
+            let block = block.get();
             begin_breaks(rule, &block.head, block.name.as_slice())
                 || any_breaks(rule, block.items.as_slice())
                 || end_breaks(rule, &block.end)
@@ -143,6 +144,7 @@ fn item_ends_badly(item: &DebugItem) -> bool
 {
     match item {
         DebugItem::Block(block) => {
+            let block = block.get();
             (ends_plainly(&block.head) && block.end.is_some())
                 || any_ends_badly(block.items.as_slice())
         }
@@ -172,7 +174,7 @@ fn item_declares(item: &DebugItem, declared: u64) -> Option<u64>
     ensures { (n : ℕ) → capped n ≡ declared → result ≡ option_map capped (declared_after n (marks_of_item item.now)) }
 {
     match item {
-        DebugItem::Block(block) => all_declare(block.items.as_slice(), declared),
+        DebugItem::Block(block) => all_declare(block.get().items.as_slice(), declared),
         DebugItem::Name(_) => Some(declared.saturating_add(1)),
         DebugItem::Note { name, .. } if (*name as u64) < declared => Some(declared),
         DebugItem::Value { name, .. } if (*name as u64) < declared => Some(declared),

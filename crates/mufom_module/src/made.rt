@@ -179,6 +179,7 @@ fn debug_item(item: &DebugItem)
 {
     match item {
         DebugItem::Block(block) => {
+            let block = block.get();
             begin(&block.head, block.name.as_slice());
             debug_items(block.items.as_slice());
             end(&block.end);

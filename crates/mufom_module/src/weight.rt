@@ -170,6 +170,7 @@ fn debug_item_weight(item: &DebugItem) -> u64
 {
     match item {
         DebugItem::Block(block) => {
+            let block = block.get();
             let begin = begin_weight(&block.head, block.name.as_slice());
             let items = debug_items_weight(block.items.as_slice());
             begin

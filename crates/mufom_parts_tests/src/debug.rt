@@ -1,7 +1,7 @@
 //! How deep debug items stand, and their addresses in order.
 
 use arrayvec::ArrayVec;
-use mufom_debug::{Block, BlockHead, DebugItem, addresses, depth, is_within_depth};
+use mufom_debug::{Block, BlockHead, Boxed, DebugItem, addresses, depth, is_within_depth};
 use mufom_expr::{Postfix, Token};
 use mufom_numbers::{Bytes, List};
 use std::alloc::Global;
@@ -16,6 +16,10 @@ fn expression(rt: &impl Abort, alloc: Global, number: u64) -> Postfix {
 fn value(rt: &impl Abort, alloc: Global, number: u64) -> List<DebugItem> {
     let value = expression(rt, alloc, number);
     List::single(alloc, DebugItem::Value { name: 0, value }).expect(rt, "memory")
+}
+
+fn block(rt: &impl Abort, alloc: Global, block: Block) -> DebugItem {
+    DebugItem::Block(Boxed::new(alloc, block).expect(rt, "memory"))
 }
 
 // A source file that holds a value 3.
@@ -35,7 +39,7 @@ fn source(rt: &impl Abort, alloc: Global) -> Block {
 fn function(rt: &impl Abort, alloc: Global) -> List<DebugItem> {
     let mut inner = value(rt, alloc, 2);
     inner
-        .push(DebugItem::Block(source(rt, alloc)))
+        .push(block(rt, alloc, source(rt, alloc)))
         .expect(rt, "memory");
     let function = Block {
         head: BlockHead::Global {
@@ -47,7 +51,7 @@ fn function(rt: &impl Abort, alloc: Global) -> List<DebugItem> {
         items: inner,
         end: Some(expression(rt, alloc, 4)),
     };
-    List::single(alloc, DebugItem::Block(function)).expect(rt, "memory")
+    List::single(alloc, block(rt, alloc, function)).expect(rt, "memory")
 }
 
 #[test]

@@ -16,7 +16,7 @@ use crate::publics::{note, stated};
 use crate::refusal::ReadRefusal;
 use crate::seen::SeenRecord;
 use crate::tables::Tables;
-use mufom_debug::{Block, BlockHead, DebugItem};
+use mufom_debug::{Block, BlockHead, Boxed, DebugItem};
 use mufom_expr::Postfix;
 use mufom_names::Note;
 use mufom_numbers::{Bytes, List, NoMemory, Reason};
@@ -71,19 +71,21 @@ fn value_item(name: u32, value: Postfix) -> DebugItem
 }
 
 fn block_item(
+    alloc: Global,
     head: BlockHead,
     name: Bytes,
     items: List<DebugItem>,
     end: Option<Postfix>,
-) -> DebugItem
-    ensures { marks_of_item result ≡ block_begin head name ∷ (marks_of items ++ block_end end ∷ []) }
+) -> Result<DebugItem, NoMemory>
+    ensures { IfOk result (λ item. marks_of_item item ≡ block_begin head name ∷ (marks_of items ++ block_end end ∷ [])) }
 {
-    DebugItem::Block(Block {
+    let block = Block {
         head,
         name,
         items,
         end,
-    })
+    };
+    Ok(DebugItem::Block(Boxed::new(alloc, block)?))
 }
 
 // The head of a global function, of the kind 4, or else of a local one.
@@ -240,7 +242,7 @@ impl Debugs {
     }
 
     // Ends the innermost open block.
-    fn end(&mut self, end: Option<Postfix>) -> Result<(), NoMemory>
+    fn end(&mut self, alloc: Global, end: Option<Postfix>) -> Result<(), NoMemory>
         requires { opened self.old ≢ [] }
         ensures marks { OnOk result (marks_kept self.new ≡ marks_kept self.old ++ block_end end ∷ []) }
         ensures blocks { OnOk result (opened self.new ≡ drop 1 (opened self.old)) }
@@ -255,7 +257,7 @@ impl Debugs {
                     ..
                 } = block;
                 let items = mem::replace(&mut self.items, before);
-                self.items.push(block_item(head, name, items, end))
+                self.items.push(block_item(alloc, head, name, items, end)?)
             }
         }
     }
@@ -284,7 +286,7 @@ impl Debugs {
                 let name = seen.copy_text(alloc, *name)?;
                 self.begin(alloc, seen.start, head, name)
             }
-            Record::BlockEnd(_) => self.end(value),
+            Record::BlockEnd(_) => self.end(alloc, value),
             Record::DebugName(_, name) => {
                 let name = seen.copy_text(alloc, *name)?;
                 self.add(name_item(name))

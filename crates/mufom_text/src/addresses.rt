@@ -53,7 +53,7 @@ fn push_names_in<'a>(item: &'a DebugItem, names: &mut Vec<&'a [u8]>) -> Result<(
     ensures { OnOk result (map (λ name. name.now) names.new.items ≡ map (λ name. name.now) names.old.items ++ names_of (marks_of_item item.now)) }
 {
     match item {
-        DebugItem::Block(block) => push_names(block.items.as_slice(), names),
+        DebugItem::Block(block) => push_names(block.get().items.as_slice(), names),
         DebugItem::Name(name) => Ok(names.push(name.as_slice())?),
         DebugItem::Note { .. } => Ok(()),
         DebugItem::Value { .. } => Ok(()),
@@ -142,6 +142,7 @@ fn push_addresses_in<'a>(
 {
     match item {
         DebugItem::Block(block) => {
+            let block = block.get();
             push_begin(block, addresses)?;
             push_addresses(names, block.items.as_slice(), addresses)?;
             push_end(block, addresses)

@@ -146,6 +146,7 @@ fn debug_item<K: Output>(out: &mut K, depth: u32, item: &DebugItem, names: &mut 
 {
     match item {
         DebugItem::Block(block) => {
+            let block = block.get();
             block_line(out, depth, &block.head, block.name.as_slice());
             debug_items(out, depth + 1, block.items.as_slice(), names);
             end_line(out, depth, &block.end);

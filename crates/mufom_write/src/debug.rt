@@ -104,6 +104,7 @@ fn debug_item<K: Output>(out: &mut K, item: &DebugItem, names: &mut u64) -> Resu
 {
     match item {
         DebugItem::Block(block) => {
+            let block = block.get();
             block_begin(out, &block.head, &block.name)?;
             debug_items(out, block.items.as_slice(), names)?;
             block_end(out, &block.end)

@@ -1,5 +1,6 @@
 use denote.Param.Weighed.{most, at_most}
-use Rattle.std.proofs.Common.{◌≡◌, ◌≤◌, max, ap, rules, arith}
+use Rattle.std.proofs.Common.{◌≡◌, ◌≤◌, max, ap, ◌∙◌, rules, arith}
+use Rattle.mufom_debug.specs.declared.item.Block.{Block}
 use Rattle.mufom_debug.specs.declared.item.DebugItem.{DebugItem, the_lemmas}
 use Rattle.mufom_debug.specs.Marks.{marks_of, marks_of_item, depth_of}
 use Rattle.mufom_debug.proofs.item.DebugItem.TheLaws.{the_size}
@@ -10,14 +11,14 @@ pub item_depth-depth-requires : goal.item_depth-depth-requires
 item_depth-depth-requires t c =
     let inner = depth_of-Block c.in-Block.block in
     let whole = ap (λ (item : DebugItem). depth_of (marks_of_item item)) c.in-Block.is in
-    let own = ap (λ items. depth_of (marks_of items)) c.as_slice.ensures in
+    let own = ap (λ items. depth_of (marks_of items)) (c.as_slice.ensures ∙ ap (λ (block : Block). block.items) c.get.ensures) in
     (search (rules, the_lemmas), omega (arith, inner, whole, own, c.requires))
 
 pub item_depth-returns-in-Block : goal.item_depth-returns-in-Block
 item_depth-returns-in-Block t c =
     let inner = depth_of-Block c.in-Block.block in
     let whole = ap (λ (item : DebugItem). depth_of (marks_of_item item)) c.in-Block.is in
-    let own = ap (λ items. depth_of (marks_of items)) c.as_slice.ensures in
+    let own = ap (λ items. depth_of (marks_of items)) (c.as_slice.ensures ∙ ap (λ (block : Block). block.items) c.get.ensures) in
     omega (arith, inner, whole, own, c.depth.ensures)
 
 pub depth-item_depth-requires : goal.depth-item_depth-requires
@@ -39,5 +40,5 @@ pub item_depth-overflow_add-result : goal.item_depth-overflow_add-result
 item_depth-overflow_add-result t c =
     let inner = depth_of-Block c.in-Block.block in
     let whole = ap (λ (item : DebugItem). depth_of (marks_of_item item)) c.in-Block.is in
-    let own = ap (λ items. depth_of (marks_of items)) c.as_slice.ensures in
+    let own = ap (λ items. depth_of (marks_of items)) (c.as_slice.ensures ∙ ap (λ (block : Block). block.items) c.get.ensures) in
     omega (arith, inner, whole, own, c.requires, c.depth.ensures)

@@ -1,4 +1,5 @@
-use Rattle.std.proofs.Common.{◌≤◌, ◌-◌, ap, sym, refl, true≢false, arith}
+use Rattle.std.proofs.Common.{◌≤◌, ◌-◌, ap, ◌∙◌, sym, refl, true≢false, arith}
+use Rattle.mufom_debug.specs.declared.item.Block.{Block}
 use Rattle.mufom_debug.specs.declared.item.DebugItem.{DebugItem}
 use Rattle.mufom_debug.specs.Marks.{marks_of, marks_of_item, depth_of}
 use Rattle.mufom_debug.proofs.Balance.{depth_of-Block, depth_of_more, item-within}
@@ -28,7 +29,7 @@ pub item_is_within-returns-in-Block-2 : goal.item_is_within-returns-in-Block-2
 item_is_within-returns-in-Block-2 t c =
     let inner = depth_of-Block c.in-Block-2.block in
     let whole = ap (λ (item : DebugItem). depth_of (marks_of_item item)) c.in-Block-2.is in
-    let own = ap (λ items. depth_of (marks_of items)) c.as_slice.ensures in (
+    let own = ap (λ items. depth_of (marks_of items)) (c.as_slice.ensures ∙ ap (λ (block : Block). block.items) c.get.ensures) in (
       λ yes. let deep : depth_of (marks_of c.as_slice.result.now) ≤ c.args.limit - 1 = c.is_within_depth.ensures.0 yes in
           omega (arith, inner, whole, own, deep, c.if-limit-eq0.false),
       λ h. c.is_within_depth.ensures.1 (omega (arith, inner, whole, own, h, c.if-limit-eq0.false)),

@@ -1,5 +1,6 @@
 use denote.Param.Weighed.{most, at_most}
 use Rattle.std.proofs.Common.{◌+◌, ◌≤◌, ap, sym, ◌∙◌, drop, rules, arith}
+use Rattle.mufom_debug.specs.declared.item.Block.{Block}
 use Rattle.mufom_debug.specs.declared.item.DebugItem.{DebugItem, the_lemmas}
 use Rattle.mufom_debug.specs.Marks.{marks_of, marks_of_item, names_after_all}
 use Rattle.mufom_debug.proofs.item.DebugItem.TheLaws.{the_size}
@@ -34,12 +35,12 @@ pub names_after_item-names_after-requires : goal.names_after_item-names_after-re
 names_after_item-names_after-requires t c =
     let inner = names-Block c.args.before c.in-Block.block in
     let whole = ap (λ (item : DebugItem). names_after_all c.args.before (marks_of_item item)) c.in-Block.is in
-    let own = ap (λ items. names_after_all c.args.before (marks_of items)) c.as_slice.ensures in
+    let own = ap (λ items. names_after_all c.args.before (marks_of items)) (c.as_slice.ensures ∙ ap (λ (block : Block). block.items) c.get.ensures) in
     (search (rules, the_lemmas), omega (arith, inner, whole, own, c.requires))
 
 pub names_after_item-returns-in-Block : goal.names_after_item-returns-in-Block
 names_after_item-returns-in-Block t c =
     let inner = names-Block c.args.before c.in-Block.block in
     let whole = ap (λ (item : DebugItem). names_after_all c.args.before (marks_of_item item)) c.in-Block.is in
-    let own = ap (λ items. names_after_all c.args.before (marks_of items)) c.as_slice.ensures in
+    let own = ap (λ items. names_after_all c.args.before (marks_of items)) (c.as_slice.ensures ∙ ap (λ (block : Block). block.items) c.get.ensures) in
     c.names_after.ensures ∙ own ∙ sym inner ∙ sym whole

@@ -1,22 +1,25 @@
 use Rattle.std.proofs.Common.{◌≡◌, ◌++◌, ◌∷◌, [], map, ap, sym, ◌∙◌}
 use Rattle.std.proofs.lemmas.List.{map-append}
 use Rattle.mufom_copies.proofs.MarkLaws.{marks-push}
-use Rattle.mufom_debug.specs.declared.item.DebugItem.{DebugItem}
+use Rattle.mufom_debug.specs.declared.item.Block.{Block}
+use Rattle.mufom_debug.specs.declared.item.DebugItem.{DebugItem, Block as block_case}
 use Rattle.mufom_debug.specs.Marks.{block_begin, block_end, marks_of, marks_of_item}
 use Rattle.mufom_debug.proofs.MarksLemmas.{marks-Block}
 use Rattle.mufom_link.specs.Renaming.{renaming_of, renamed_mark}
 use Rattle.mufom_link.proofs.debug_renaming.+renaming.Goals as goal
 
-pub renamed_item-returns-in_ok-renamed_items-in-Block : goal.renamed_item-returns-in_ok-renamed_items-in-Block
-renamed_item-returns-in_ok-renamed_items-in-Block t c =
+pub renamed_item-returns-in_ok-new-in-Block : goal.renamed_item-returns-in_ok-new-in-Block
+renamed_item-returns-in_ok-new-in-Block t c =
     let f = renamed_mark (renaming_of c.args.site.now) in
-    let b = c.in-Block.block in
+    let b = c.into_inner-head.result in
+    let is = c.in-Block.is ∙ ap (λ (block : Block). block_case block) (sym c.into_inner-head.ensures) in
     let head = c.renamed_head.ensures in
     let end = c.renamed_end.ensures in
     let items : marks_of c.in_ok-renamed_items-in-Block.field-0 ≡ map f (marks_of b.items) = c.in_ok-renamed_items-in-Block.ensures in
-    marks-Block (record { head = c.renamed_head.result; name = b.name; items = c.in_ok-renamed_items-in-Block.field-0; end = c.renamed_end.result })
+    ap (λ (block : Block). marks_of_item (block_case block)) c.in_ok-new-in-Block.ensures
+    ∙ marks-Block (record { head = c.renamed_head.result; name = b.name; items = c.in_ok-renamed_items-in-Block.field-0; end = c.renamed_end.result })
     ∙ (λ i. block_begin (head i) b.name ∷ (items i ++ block_end (end i) ∷ []))
-    ∙ sym (ap (λ (item : DebugItem). map f (marks_of_item item)) c.in-Block.is
+    ∙ sym (ap (λ (item : DebugItem). map f (marks_of_item item)) is
     ∙ ap (map f) (marks-Block b)
     ∙ ap (λ ms. f (block_begin b.head b.name) ∷ ms) (map-append f (marks_of b.items) (block_end b.end ∷ [])))
 

@@ -1,4 +1,5 @@
 use Rattle.std.proofs.Common.{◌≡◌, Some, None, option_map, sym, ap, ◌∙◌}
+use Rattle.mufom_debug.specs.declared.item.Block.{Block}
 use Rattle.mufom_debug.specs.declared.item.DebugItem.{DebugItem}
 use Rattle.mufom_debug.specs.Marks.{marks_of, marks_of_item}
 use Rattle.mufom_module.specs.Defects.{declared_after}
@@ -24,6 +25,6 @@ all_declare-loop-item-preserved t c = λ n h.
 pub item_declares-returns-in-Block : goal.item_declares-returns-in-Block
 item_declares-returns-in-Block t c = λ n h.
     c.all_declare.ensures n h
-    ∙ ap (λ items. option_map capped (declared_after n (marks_of items))) c.as_slice.ensures
+    ∙ ap (λ items. option_map capped (declared_after n (marks_of items))) (c.as_slice.ensures ∙ ap (λ (block : Block). block.items) c.get.ensures)
     ∙ ap (option_map capped) (sym (declared_after-Block n c.in-Block.block))
     ∙ ap (λ (x : DebugItem). option_map capped (declared_after n (marks_of_item x))) (sym c.in-Block.is)

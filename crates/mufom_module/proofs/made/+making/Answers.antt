@@ -1,8 +1,9 @@
-use Rattle.std.proofs.Common.{ℕ, List, take, get_or, subst, sym}
+use Rattle.std.proofs.Common.{ℕ, List, take, get_or, subst, sym, ap, ◌∙◌}
 use Rattle.std.specs.Prelude.{All}
 use Rattle.std.proofs.lemmas.List.{take_all}
 use Rattle.std.proofs.lemmas.List.Elements.{All-append}
-use Rattle.mufom_debug.specs.declared.item.DebugItem.{DebugItem}
+use Rattle.mufom_debug.specs.declared.item.Block.{Block}
+use Rattle.mufom_debug.specs.declared.item.DebugItem.{DebugItem, Block as block_case}
 use Rattle.mufom_debug.specs.Marks.{block_begin, marks_of, marks_of_item}
 use Rattle.mufom_debug.proofs.MarksLemmas.{marks_of_more}
 use Rattle.mufom_module.specs.Made.{IsMadeMark}
@@ -24,7 +25,8 @@ debug_items-returns t c = subst (λ (items : List DebugItem). All IsMadeMark (ma
 
 pub debug_item-returns-in-Block : goal.debug_item-returns-in-Block
 debug_item-returns-in-Block t c =
-    let block = c.in-Block.block in
+    let block = c.get-block.result.now in
+    let is = c.in-Block.is ∙ ap (λ (its : Block). block_case its) (sym c.get-block.ensures) in
     let begins = subst (λ (name : List ℕ). IsMadeMark (block_begin block.head name)) c.as_slice.ensures c.begin.ensures in
     let inside = subst (λ (items : List DebugItem). All IsMadeMark (marks_of items)) c.as_slice-in-Block.ensures c.debug_items.ensures in
-    subst (λ (item : DebugItem). All IsMadeMark (marks_of_item item)) (sym c.in-Block.is) (all-block IsMadeMark block begins inside c.end.ensures)
+    subst (λ (item : DebugItem). All IsMadeMark (marks_of_item item)) (sym is) (all-block IsMadeMark block begins inside c.end.ensures)

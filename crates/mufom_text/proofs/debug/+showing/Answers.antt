@@ -1,5 +1,6 @@
 use Rattle.std.proofs.Common.{ℕ, List, ◌+◌, ◌++◌, length, length-append, drop, take, sym, ap, subst, ◌∙◌, arith}
-use Rattle.mufom_debug.specs.declared.item.DebugItem.{DebugItem}
+use Rattle.mufom_debug.specs.declared.item.Block.{Block}
+use Rattle.mufom_debug.specs.declared.item.DebugItem.{DebugItem, Block as block_case}
 use Rattle.mufom_debug.specs.Marks.{marks_of, marks_of_item, names_after_all}
 use Rattle.mufom_text.specs.Show.{mark_lines}
 use Rattle.mufom_debug.proofs.NameCounts.{names-Block, names-more, names-bound, marks-next}
@@ -11,7 +12,8 @@ debug_item-returns-in-Block-clause-takes g t c =
     let l = g.met.K.Output in
     let depth = c.args.depth in
     let n = c.args.names.now in
-    let whole = ap (λ (x : DebugItem). mark_lines depth n (marks_of_item x)) c.in-Block.is ∙ lines-Block depth n c.in-Block.block in
+    let whole = ap (λ (x : DebugItem). mark_lines depth n (marks_of_item x)) (c.in-Block.is
+    ∙ ap (λ (b : Block). block_case b) (sym c.get-block.ensures)) ∙ lines-Block depth n c.get-block.result.now in
     let text = l.joins _ _ _ _ _ (l.joins _ _ _ _ _ (rw c.as_slice.ensures at c.block_line.ensures n)
     (rw c.as_slice-in-Block.ensures at c.debug_items.ensures.takes)) c.end_line.ensures in
     subst (λ (bytes : List ℕ). g.K.Output.takes c.args.out.now c.end_line.new.out bytes) (sym whole) text
@@ -20,7 +22,8 @@ pub debug_item-returns-in-Block-clause-names : goal.debug_item-returns-in-Block-
 debug_item-returns-in-Block-clause-names g t c =
     let n = c.args.names.now in
     c.debug_items.ensures.names ∙ ap (λ (items : List DebugItem). names_after_all n (marks_of items)) c.as_slice-in-Block.ensures
-    ∙ sym (names-Block n c.in-Block.block) ∙ ap (λ (x : DebugItem). names_after_all n (marks_of_item x)) (sym c.in-Block.is)
+    ∙ sym (names-Block n c.get-block.result.now) ∙ ap (λ (x : DebugItem). names_after_all n (marks_of_item x))
+    (sym (c.in-Block.is ∙ ap (λ (b : Block). block_case b) (sym c.get-block.ensures)))
 
 pub debug_item-returns-in-Note-clause-takes : goal.debug_item-returns-in-Note-clause-takes
 debug_item-returns-in-Note-clause-takes g t c =

@@ -1,5 +1,6 @@
 use Rattle.std.proofs.Common.{◌≡◌, ℕ, List, ◌+◌, ◌++◌, drop, length, refl, sym, ap, subst, ◌∙◌, arith, length-append}
-use Rattle.mufom_debug.specs.declared.item.DebugItem.{DebugItem}
+use Rattle.mufom_debug.specs.declared.item.Block.{Block}
+use Rattle.mufom_debug.specs.declared.item.DebugItem.{DebugItem, Block as block_case}
 use Rattle.mufom_debug.specs.Marks.{marks_of, marks_of_item, names_after_all}
 use Rattle.mufom_module.specs.Written.{shortest, debug_records}
 use Rattle.mufom_module.specs.Defects.{has_long_name}
@@ -13,14 +14,16 @@ pub debug_item-returns-in_err-block_begin-in-Block-clause-takes : goal.debug_ite
 debug_item-returns-in_err-block_begin-in-Block-clause-takes g t c =
     let l = g.met.K.Output in
     let n = c.args.names.now in
-    let split = ap (λ (x : DebugItem). debug_records shortest n (marks_of_item x)) c.in-Block.is ∙ records-Block n c.in-Block.block in
+    let split = ap (λ (x : DebugItem). debug_records shortest n (marks_of_item x)) (c.in-Block.is
+    ∙ ap (λ (b : Block). block_case b) (sym c.get-block.ensures)) ∙ records-Block n c.get-block.result.now in
     l.stops _ _ _ _ _ _ _ (c.in_err-block_begin-in-Block.ensures n) c.from_residual.ensures.0 split
 
 pub debug_item-returns-in_err-debug_items-in-Block-clause-takes : goal.debug_item-returns-in_err-debug_items-in-Block-clause-takes
 debug_item-returns-in_err-debug_items-in-Block-clause-takes g t c =
     let l = g.met.K.Output in
     let n = c.args.names.now in
-    let split = ap (λ (x : DebugItem). debug_records shortest n (marks_of_item x)) c.in-Block.is ∙ records-Block n c.in-Block.block in
+    let split = ap (λ (x : DebugItem). debug_records shortest n (marks_of_item x)) (c.in-Block.is
+    ∙ ap (λ (b : Block). block_case b) (sym c.get-block.ensures)) ∙ records-Block n c.get-block.result.now in
     l.joins _ _ _ _ _ _ _ (c.in_ok-block_begin-in-Block.ensures n)
     (l.stops _ _ _ _ _ _ _ (rw c.as_slice.ensures at c.in_err-debug_items-in-Block.ensures.takes)
     c.from_residual-in_err-debug_items-in-Block.ensures.0 refl) split
@@ -29,7 +32,8 @@ pub debug_item-returns-in_ok-debug_items-in-Block-clause-takes : goal.debug_item
 debug_item-returns-in_ok-debug_items-in-Block-clause-takes g t c =
     let l = g.met.K.Output in
     let n = c.args.names.now in
-    let split = ap (λ (x : DebugItem). debug_records shortest n (marks_of_item x)) c.in-Block.is ∙ records-Block n c.in-Block.block in
+    let split = ap (λ (x : DebugItem). debug_records shortest n (marks_of_item x)) (c.in-Block.is
+    ∙ ap (λ (b : Block). block_case b) (sym c.get-block.ensures)) ∙ records-Block n c.get-block.result.now in
     l.joins _ _ _ _ _ _ _ (c.in_ok-block_begin-in-Block.ensures n)
     (l.joins _ _ _ _ _ _ _ (rw c.as_slice.ensures at c.in_ok-debug_items-in-Block.ensures.takes) (c.block_end.ensures n) refl) split
 
@@ -37,7 +41,8 @@ pub debug_item-returns-in_ok-debug_items-in-Block-clause-names : goal.debug_item
 debug_item-returns-in_ok-debug_items-in-Block-clause-names g t c =
     let n = c.args.names.now in
     let inside = c.in_ok-debug_items-in-Block.ensures.names ∙ ap (λ (items : List DebugItem). names_after_all n (marks_of items)) c.as_slice.ensures in
-    let all = inside ∙ sym (names-Block n c.in-Block.block) ∙ ap (λ (x : DebugItem). names_after_all n (marks_of_item x)) (sym c.in-Block.is) in
+    let all = inside ∙ sym (names-Block n c.get-block.result.now)
+    ∙ ap (λ (x : DebugItem). names_after_all n (marks_of_item x)) (sym (c.in-Block.is ∙ ap (λ (b : Block). block_case b) (sym c.get-block.ensures))) in
     however_ok c.block_end.result (c.debug_items.new.names ≡ names_after_all n (marks_of_item c.args.item.now)) all
 
 pub debug_item-returns-in-Value-clause-takes : goal.debug_item-returns-in-Value-clause-takes

@@ -1,6 +1,7 @@
 use denote.Param.Weighed.{most, at_most}
-use Rattle.std.proofs.Common.{◌≤◌, List, ℕ, option_map, ap, rules, arith, Bor}
-use Rattle.mufom_debug.specs.declared.item.DebugItem.{DebugItem, the_lemmas}
+use Rattle.std.proofs.Common.{◌≤◌, List, ℕ, option_map, sym, ap, ◌∙◌, rules, arith, Bor}
+use Rattle.mufom_debug.specs.declared.item.Block.{Block}
+use Rattle.mufom_debug.specs.declared.item.DebugItem.{DebugItem, Block as block_case, the_lemmas}
 use Rattle.mufom_debug.specs.Marks.{depth_of, marks_of, marks_of_item}
 use Rattle.mufom_debug.proofs.item.DebugItem.TheLaws.{the_size}
 use Rattle.mufom_debug.proofs.Balance.{depth_of-Block, item-within}
@@ -12,15 +13,15 @@ pub see_item-see_items-requires : goal.see_item-see_items-requires
 see_item-see_items-requires t c =
     let inner = depth_of-Block c.in-Block.block in
     let whole = ap (λ (item : DebugItem). depth_of (marks_of_item item)) c.in-Block.is in
-    let own = ap (λ items. depth_of (marks_of items)) c.as_slice.ensures in
+    let own = ap (λ items. depth_of (marks_of items)) (c.as_slice.ensures ∙ ap (λ (block : Block). block.items) c.get-block.ensures) in
     (search (rules, the_lemmas), omega (arith, inner, whole, own, c.requires))
 
 pub see_item-returns-in-Block : goal.see_item-returns-in-Block
 see_item-returns-in-Block t c =
     on_ok c.see_items.result
-    (sees-Block c.args.item.now c.in-Block.block c.args.depth (option_map (λ (s : Bor (List ℕ)). s.now) c.args.source)
+    (sees-Block c.args.item.now c.get-block.result.now c.args.depth (option_map (λ (s : Bor (List ℕ)). s.now) c.args.source)
     (option_map (λ (s : Bor (List ℕ)). s.now) c.source_within-source.result) c.as_slice.result.now c.args.self.now c.see_block.new.self c.see_items.new.self
-    c.in-Block.is c.as_slice.ensures c.source_within-source.ensures c.see_block.ensures)
+    (c.in-Block.is ∙ ap (λ (block : Block). block_case block) (sym c.get-block.ensures)) c.as_slice.ensures c.source_within-source.ensures c.see_block.ensures)
     c.see_items.ensures
 
 pub see_items-loop-item-init : goal.see_items-loop-item-init

@@ -11,9 +11,9 @@ returns-clause-marks c =
     let old = c.args.self.now in
     let outer = c.pop.new.self in
     let b = c.in-Some.block in
-    let item = c.block_item.result in
+    let item = c.in_ok-block_item-in-Some.field-0 in
     let has : marks_of_item item ≡ block_begin b.head b.name ∷ (marks_of old.items ++ block_end c.args.end ∷ []) =
-    c.block_item.ensures ∙ ap (λ (items : List DebugItem). block_begin b.head b.name ∷ (marks_of items ++ block_end c.args.end ∷ []))
+    c.in_ok-block_item-in-Some.ensures ∙ ap (λ (items : List DebugItem). block_begin b.head b.name ∷ (marks_of items ++ block_end c.args.end ∷ []))
     c.replace-items.ensures.value in
     then_ok c.push.result _ _ (λ same.
     ap (λ (items : List DebugItem). joined (map marks_to_block outer) ++ marks_of items) (same
