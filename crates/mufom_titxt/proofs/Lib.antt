@@ -10,3 +10,8 @@ pub mod ModuleLaws
 pub mod ModuleValid
 pub mod Worked
 pub mod AcceptLaws
+pub mod MapLaws
+pub mod DigitLaws
+pub mod LineTexts
+pub mod BackLaws
+pub mod LocatedLaws

@@ -36,7 +36,7 @@ pub split_whole : (p : ℕ → Bool) (xs : List ℕ) → position_or_len p xs �
 split_whole p xs e = slice_split_none p xs (All-from_get_or (λ x. p x ≡ false) xs 0 (λ i h. fails_before_first p xs i 0 (rw e h)))
 
 -- a piece before others ends at a line feed
-ended_more : (piece : List ℕ) (pieces : List (List ℕ)) → 0 < length pieces → ended_lines (piece ∷ pieces) ≡ without_return piece ∷ ended_lines pieces
+pub ended_more : (piece : List ℕ) (pieces : List (List ℕ)) → 0 < length pieces → ended_lines (piece ∷ pieces) ≡ without_return piece ∷ ended_lines pieces
 ended_more piece [] h = absurd (omega (arith, h))
 ended_more piece (next ∷ pieces) h = refl
 

@@ -1,5 +1,7 @@
 -- The module of the runs of a text.
 use Rattle.std.specs.Prelude.{ℕ, zero, suc, ◌+◌, ◌^◌, ◌≤◌, List, [], ◌∷◌, ◌++◌, map, length, sum_by, take, drop, Some, None, codes, true}
+use Rattle.std.specs.List.{AllByRecursion}
+use Rattle.mufom_numbers.specs.Spelling.{AreBytes}
 use Rattle.mufom_sections.specs.declared.section.Section.{Section}
 use Rattle.mufom_loads.specs.declared.load.Item.TheVariants.{Literal}
 use Rattle.mufom_loads.specs.declared.load.Load.{Load}
@@ -50,3 +52,10 @@ pub record HaveModule (width : ℕ) (runs : List Run) : Type 0 where
   pub below : EndBelow width runs
   pub few : length runs ≤ 33554432
   pub short : sum_by (λ run. length run.bytes) runs ≤ 33554432
+
+-- The runs of a text: maximal rows in increasing order below 2^width, and their bytes are bytes.
+pub record HaveText (width : ℕ) (runs : List Run) : Type 0 where
+  pub apart : AreApart 0 runs
+  pub below : EndBelow width runs
+  pub narrow : width ≤ 64
+  pub bytes : AllByRecursion (λ run. AreBytes run.bytes) runs
