@@ -13,7 +13,7 @@ use mufom_sections::Section;
 use std::alloc::Global;
 
 /// Where a section stands, by its own base and by what a region gives it.
-fn site(base: Option<u64>, placing: Option<Placing>) -> Site
+pub(crate) fn site(base: Option<u64>, placing: Option<Placing>) -> Site
     ensures { result ≡ site_with base placing }
 {
     match (base, placing) {

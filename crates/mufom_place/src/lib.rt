@@ -13,8 +13,10 @@ mod laws;
 mod overlap;
 mod placement;
 mod refusal;
+mod regions;
 mod site;
 
 pub use laws::place_refusals_are_facts;
 pub use placement::place;
 pub use refusal::PlaceRefusal;
+pub use regions::section_regions;

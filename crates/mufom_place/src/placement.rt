@@ -17,7 +17,7 @@ use mufom_sections::Section;
 use std::alloc::Global;
 
 /// The bases that the regions of a plan give to sections and commons.
-fn regional(
+pub(crate) fn regional(
     alloc: Global,
     sections: &[Section],
     commons: &[Section],

@@ -29,6 +29,8 @@ mod words;
 
 pub use form::TextForm;
 pub use image_lines::print_image;
-pub use print::PrintStop;
+pub use output::Output;
+pub use print::{Lines, PrintStop, print_lines};
 pub use quoting::quoted_name;
 pub use show::{print_module, print_text, text_bytes};
+pub use words::{number, numbered, quoted};

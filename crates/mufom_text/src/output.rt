@@ -1,7 +1,8 @@
 ghost use Rattle.std.specs.Prelude.{◌≡◌, ℕ, List, [], ◌++◌};
 
-/// Where text goes. Once it could not go on, no more is added; whoever made the output learns of it at the end.
-pub(crate) trait Output {
+/// Where text goes. Once a part of the text is lost, no more is added; the owner of the output learns of it
+/// at the end.
+pub trait Output {
     /// What stands before and after text that is put.
     ghost takes: { Self → Self → List ℕ → Type 0 };
 

@@ -22,7 +22,7 @@ pub enum PrintStop {
 }
 
 /// What has a text of lines.
-pub(crate) trait Lines {
+pub trait Lines {
     /// All its lines.
     ghost text: { Self → List ℕ };
 
@@ -59,7 +59,7 @@ fn print_all<H: Host, T: Lines>(room: Vec<u8>, host: &mut H, lines: &T) -> Resul
 ///
 /// `NoMemory` comes before anything is printed. `Fault` comes only where a print failed and the
 /// count of such faults rose; a prefix of the text may then be printed.
-pub(crate) fn print_lines<H: Host, T: Lines>(
+pub fn print_lines<H: Host, T: Lines>(
     alloc: Global,
     host: &mut H,
     lines: &T,

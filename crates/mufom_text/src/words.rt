@@ -13,7 +13,7 @@ use itoa::Buffer;
 const DIGITS: &[u8; 16] = b"0123456789ABCDEF";
 
 /// A number in decimal.
-pub(crate) fn number<K: Output>(out: &mut K, value: u64)
+pub fn number<K: Output>(out: &mut K, value: u64)
     ensures { K.takes out.old out.new (decimal value) }
 {
     let mut buffer = Buffer::new();
@@ -21,7 +21,7 @@ pub(crate) fn number<K: Output>(out: &mut K, value: u64)
 }
 
 /// A word and a number in decimal after it.
-pub(crate) fn numbered<K: Output>(out: &mut K, word: &[u8], value: u64)
+pub fn numbered<K: Output>(out: &mut K, word: &[u8], value: u64)
     ensures { K.takes out.old out.new (word.now ++ decimal value) }
 {
     out.put(word);
@@ -89,8 +89,8 @@ fn quoted_bytes<K: Output>(out: &mut K, bytes: &[u8])
     }
 }
 
-/// A name in double quotes.
-pub(crate) fn quoted<K: Output>(out: &mut K, name: &[u8])
+/// A name in double quotes: a byte that does not stand for itself is a backslash, `x` and two digits.
+pub fn quoted<K: Output>(out: &mut K, name: &[u8])
     ensures { K.takes out.old out.new (quoted name.now) }
 {
     out.put(b"\"");
