@@ -137,7 +137,7 @@ cells_low width a (b ∷ bytes) more end h =
     All-cons (λ (a : ℕ). a < 2 ^ width) a (cell_addresses (cells_from (suc a) bytes ++ more)) (omega (arith, end))
     (cells_low width (suc a) bytes more (omega (arith, end)) h)
 
-runs_low : (width : ℕ) (runs : List Run) → EndBelow width runs → All (λ a. a < 2 ^ width) (cell_addresses (run_cells runs))
+pub runs_low : (width : ℕ) (runs : List Run) → EndBelow width runs → All (λ a. a < 2 ^ width) (cell_addresses (run_cells runs))
 runs_low width [] below = All-nil (λ (a : ℕ). a < 2 ^ width)
 runs_low width (run ∷ runs) below = cells_low width run.address run.bytes (run_cells runs) below.0 (runs_low width runs below.1)
 

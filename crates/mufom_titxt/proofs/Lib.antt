@@ -15,3 +15,5 @@ pub mod DigitLaws
 pub mod LineTexts
 pub mod BackLaws
 pub mod LocatedLaws
+pub mod NoFactLaws
+pub mod ReadLaws

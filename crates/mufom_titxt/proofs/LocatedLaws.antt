@@ -1,7 +1,7 @@
 -- The module of runs, located by a plan without regions, loads the bytes of the runs.
 use Rattle.std.proofs.Common.{◌≡◌, ℕ, zero, suc, ◌+◌, ◌*◌, ◌%◌, ◌^◌, ◌<◌, ◌≤◌, List, [], ◌∷◌, ◌++◌, length, take, drop, map, Option, Some, None, Bool}
 use Rattle.std.proofs.Common.{true, false, refl, sym, ◌∙◌, ap, subst, arith, rules, append_assoc, append-nil, length-drop, length-append}
-use Rattle.std.specs.Prelude.{◌==◌, slice_get, option_map, Contains, if◌then◌else◌}
+use Rattle.std.specs.Prelude.{◌==◌, slice_get, option_map, unwrap_or, Contains, if◌then◌else◌}
 use Rattle.std.specs.List.{enumerate_from}
 use Rattle.std.proofs.Math.Nat.{mod-eq_of_lt}
 use Rattle.std.proofs.lemmas.List.{take-append-drop}
@@ -19,8 +19,10 @@ use Rattle.mufom_meaning.specs.Flat.{Sited, width}
 use Rattle.mufom_meaning.specs.Location.{IsLocation}
 use Rattle.mufom_meaning.specs.Placed.{placed_commons, planned_bases}
 use Rattle.mufom_meaning.specs.Readings.{readings}
-use Rattle.mufom_meaning.specs.Steps.{Step, item_step, steps_of, counter, readings_after}
+use Rattle.mufom_meaning.specs.Steps.{Step, item_step, steps, steps_of, counter}
 use Rattle.mufom_meaning.specs.Values.{Setting, setting}
+use Rattle.mufom_meaning.specs.Walk.{base_number, size_at}
+use Rattle.mufom_meaning.proofs.absolute.Walk.{GoodWalk}
 use Rattle.mufom_meaning.proofs.locations.CellRows.{rows_are_single}
 use Rattle.mufom_image_bytes.proofs.ChunkLaws.{cells_from-append}
 use Rattle.mufom_titxt.specs.TextModules.{run_section, literals, loads_from, text_parts, EndBelow, HaveModule}
@@ -29,10 +31,6 @@ equal_self : (n : ℕ) → (n == n) ≡ true
 equal_self n = search rules
 
 module _ (order : Order) (s : Setting) (site : Sited) where
-  -- the cells of steps after others
-  abbrev cells_of : List Step → List Step → List Cell
-  cells_of earlier more = address_map order s.modulus (readings_after s earlier more)
-
   -- the counters of the sections from this one on are at their bases
   abbrev IsAtBase : ℕ → List Step → Type 0
   IsAtBase n earlier = (m : ℕ) → n ≤ m → counter s earlier (site.first_section + m) ≡ counter s [] (site.first_section + m)
@@ -56,61 +54,78 @@ module _ (order : Order) (s : Setting) (site : Sited) where
       else counter s earlier (site.first_section + m)) other
       ∙ h m less
 
+  -- bytes at an address lie in a section, and in the address space
+  record Lies (n at count : ℕ) : Type 0 where
+    low : base_number s (site.first_section + n) ≤ at
+    high : at + count ≤ base_number s (site.first_section + n) + size_at s (site.first_section + n)
+    inside : at + count ≤ s.modulus
+
   -- the first literal of bytes, which are more
-  literal_first : (n : ℕ) (p rest bytes : List ℕ) → p ++ rest ≡ bytes → (at : ℕ) (earlier : List Step) → counter s earlier (site.first_section + n) ≡ Some at
-      → at + length bytes ≤ s.modulus → IsAtBase (n + 1) earlier → (more : List Step) (cells : List Cell)
-      → ((e : List Step) → (0 < length rest → counter s e (site.first_section + n) ≡ Some (at + length p)) → at + length p + length rest ≤ s.modulus
-      → IsAtBase (n + 1) e
-      → cells_of e more ≡ cells_from (at + length p) rest ++ cells)
-      → cells_of earlier (item_step site (site.first_section + n) (Literal p) ∷ more) ≡ cells_from at bytes ++ cells
-  literal_first n p rest bytes cut at earlier here inside later more cells after =
+  literal_first : (n : ℕ) (p rest bytes : List ℕ) → p ++ rest ≡ bytes → (at : ℕ) (earlier : List Step)
+      → counter s earlier (site.first_section + n) ≡ Some at → Lies n at (length bytes) → IsAtBase (n + 1) earlier → (more : List Step) (cells : List Cell)
+      → ((e : List Step) → (0 < length rest → counter s e (site.first_section + n) ≡ Some (at + length p)) → Lies n (at + length p) (length rest)
+      → IsAtBase (n + 1) e → GoodWalk order s site e more (cells_from (at + length p) rest ++ cells))
+      → GoodWalk order s site earlier (item_step site (site.first_section + n) (Literal p) ∷ more) (cells_from at bytes ++ cells)
+  literal_first n p rest bytes cut at earlier here lies later more cells after =
       let whole : length p + length rest ≡ length bytes = sym (length-append p rest) ∙ ap length cut in
+      let low = lies.low in
+      let high = lies.high in
+      let inside = lies.inside in
       let tail = after (item_step site (site.first_section + n) (Literal p) ∷ earlier)
       (λ some. counter_on earlier (site.first_section + n) at p here (omega (arith, some, whole, inside)))
-      (omega (arith, whole, inside)) (counter_other earlier n p later) in
-      (λ i. literal_cells (here i) p ++ tail i)
-      ∙ (sym (append_assoc (cells_from at p) (cells_from (at + length p) rest) cells)
-      ∙ ap (λ (l : List Cell). l ++ cells) (sym (cells_from-append at p rest) ∙ ap (cells_from at) cut))
+      (record { low = omega (arith, low); high = omega (arith, high, whole); inside = omega (arith, inside, whole) }) (counter_other earlier n p later) in (
+        (
+          record { at = at; bytes = p; is = refl; counted = here; low = low; high = omega (arith, high, whole); inside = omega (arith, inside, whole) },
+          tail.0,
+        ),
+        (λ i. literal_cells (here i) p ++ tail.1 i)
+            ∙ (sym (append_assoc (cells_from at p) (cells_from (at + length p) rest) cells)
+            ∙ ap (λ (l : List Cell). l ++ cells) (sym (cells_from-append at p rest) ∙ ap (cells_from at) cut)),
+      )
 
   rest_few : (b most : ℕ) (bytes : List ℕ) → suc (length bytes) ≤ suc most → length (drop 65535 (b ∷ bytes)) ≤ most
   rest_few b most bytes few = let left = length-drop 65534 bytes in omega (arith, few, left)
 
   -- the literals of bytes
-  literals_cells : (n most : ℕ) (bytes : List ℕ) (at : ℕ) (earlier : List Step) → length bytes ≤ most
-      → (0 < length bytes → counter s earlier (site.first_section + n) ≡ Some at)
-      → at + length bytes ≤ s.modulus → IsAtBase (n + 1) earlier → (loads : List Load) (cells : List Cell)
-      → ((e : List Step) → IsAtBase (n + 1) e → cells_of e (steps_of site (Some n) loads) ≡ cells)
-      → cells_of earlier (steps_of site (Some n) (literals most bytes ++ loads)) ≡ cells_from at bytes ++ cells
-  literals_cells n zero [] at earlier few ready inside later loads cells after = after earlier later
-  literals_cells n (suc most) [] at earlier few ready inside later loads cells after = after earlier later
-  literals_cells n zero (b ∷ bytes) at earlier few ready inside later loads cells after = absurd (omega (arith, few))
-  literals_cells n (suc most) (b ∷ bytes) at earlier few ready inside later loads cells after =
+  literals_walk : (n most : ℕ) (bytes : List ℕ) (at : ℕ) (earlier : List Step) → length bytes ≤ most
+      → (0 < length bytes → counter s earlier (site.first_section + n) ≡ Some at) → Lies n at (length bytes) → IsAtBase (n + 1) earlier
+      → (loads : List Load) (cells : List Cell) → ((e : List Step) → IsAtBase (n + 1) e → GoodWalk order s site e (steps_of site (Some n) loads) cells)
+      → GoodWalk order s site earlier (steps_of site (Some n) (literals most bytes ++ loads)) (cells_from at bytes ++ cells)
+  literals_walk n zero [] at earlier few ready lies later loads cells after = after earlier later
+  literals_walk n (suc most) [] at earlier few ready lies later loads cells after = after earlier later
+  literals_walk n zero (b ∷ bytes) at earlier few ready lies later loads cells after = absurd (omega (arith, few))
+  literals_walk n (suc most) (b ∷ bytes) at earlier few ready lies later loads cells after =
       literal_first n (take 65535 (b ∷ bytes)) (drop 65535 (b ∷ bytes)) (b ∷ bytes) (take-append-drop 65535 (b ∷ bytes)) at earlier
-      (ready (some bytes)) inside later
-      (steps_of site (Some n) (literals most (drop 65535 (b ∷ bytes)) ++ loads)) cells
-      (λ e start end unmoved. literals_cells n most (drop 65535 (b ∷ bytes)) (at + length (take 65535 (b ∷ bytes))) e (rest_few b most bytes few)
-      start end unmoved loads cells after) where
+      (ready (some bytes)) lies later (steps_of site (Some n) (literals most (drop 65535 (b ∷ bytes)) ++ loads)) cells
+      (λ e start left unmoved. literals_walk n most (drop 65535 (b ∷ bytes)) (at + length (take 65535 (b ∷ bytes))) e
+      (rest_few b most bytes few) start left unmoved loads cells after) where
         some : (bytes : List ℕ) → 0 < suc (length bytes)
         some bytes = omega arith
 
-  -- the sections from this one on have the addresses of the runs as bases
+  -- the sections from this one on are those of the runs, at their addresses
   abbrev AreBased : ℕ → List Run → Type 0
   AreBased n [] = Unit {0}
-  AreBased n (run ∷ runs) = (slice_get s.bases (site.first_section + n) ≡ Some run.address) × AreBased (n + 1) runs
+  AreBased n (run ∷ runs) =
+      (slice_get s.bases (site.first_section + n) ≡ Some run.address) × (slice_get s.sections (site.first_section + n) ≡ Some (run_section run))
+      × AreBased (n + 1) runs
 
   -- the loads of runs
-  runs_cells : (wide n from : ℕ) (runs : List Run) → s.modulus ≡ 2 ^ wide → EndBelow wide runs → AreApart from runs → AreBased n runs
+  runs_walk : (wide n from : ℕ) (runs : List Run) → s.modulus ≡ 2 ^ wide → EndBelow wide runs → AreApart from runs → AreBased n runs
       → (current : Option ℕ) (earlier : List Step) → IsAtBase n earlier
-      → cells_of earlier (steps_of site current (loads_from n runs)) ≡ run_cells runs
+      → GoodWalk order s site earlier (steps_of site current (loads_from n runs)) (run_cells runs)
   unfolding counter
-  runs_cells wide n from [] same below apart based current earlier h = refl
-  runs_cells wide n from (run ∷ runs) same below apart based current earlier h =
+  runs_walk wide n from [] same below apart based current earlier h = (tt, refl)
+  runs_walk wide n from (run ∷ runs) same below apart based current earlier h =
       let less : run.address < s.modulus = omega (arith, same, below.0, apart.1) in
       let start : counter s earlier (site.first_section + n) ≡ Some run.address
       = h n (omega arith) ∙ (ap (option_map (λ base. base % s.modulus)) based.0 ∙ ap (λ k. Some k) (mod-eq_of_lt less)) in
-      literals_cells n (length run.bytes) run.bytes run.address earlier (omega arith) (λ some. start) (omega (arith, same, below.0))
+      let base : base_number s (site.first_section + n) ≡ run.address = ap (λ o. unwrap_or o 0) based.0 in
+      let size : size_at s (site.first_section + n) ≡ length run.bytes
+      = ap (λ (o : Option Section). unwrap_or (option_map (λ found. found.size) o) 0) based.1 in
+      literals_walk n (length run.bytes) run.bytes run.address earlier (omega arith) (λ some. start)
+      (record { low = omega (arith, base); high = omega (arith, base, size); inside = omega (arith, same, below.0) })
       (λ m more. h m (omega (arith, more))) (loads_from (n + 1) runs) (run_cells runs)
-      (runs_cells wide (n + 1) (run.address + length run.bytes + 1) runs same below.1 apart.2 based.1 (Some n))
+      (runs_walk wide (n + 1) (run.address + length run.bytes + 1) runs same below.1 apart.2 based.2 (Some n))
 
 -- ---- the bases
 
@@ -135,22 +150,33 @@ module _ (maus : ℕ) (runs : List Run) where
       ap (λ (sections : List Section). take (length sections) (bases no_regions sections (placed_commons ms no_regions))) (append-nil (map run_section runs))
       ∙ run_bases (map run_section runs) (placed_commons ms no_regions) (placed_commons ms no_regions) runs 0
 
-  all_based : (order : Order) (more : List Run) (n : ℕ) → ((k : ℕ) → slice_get s.bases (n + k) ≡ slice_get (map (λ run. run.address) more) k)
-      → AreBased order s home n more
-  all_based order [] n h = tt
-  all_based order (run ∷ more) n h =
-      let here : 0 + n ≡ n + 0 = omega arith in (
+  all_based : (order : Order) (more : List Run) (n : ℕ)
+      → ((k : ℕ) → slice_get s.bases (n + k) ≡ slice_get (map (λ run. run.address) more) k)
+      → ((k : ℕ) → slice_get s.sections (n + k) ≡ slice_get (map run_section more) k) → AreBased order s home n more
+  all_based order [] n h g = tt
+  all_based order (run ∷ more) n h g =
+      let here : 0 + n ≡ n + 0 = omega arith in
+      let next : (k : ℕ) → n + 1 + k ≡ n + suc k = λ k. omega arith in (
         ap (slice_get s.bases) here ∙ h 0,
-        all_based order more (n + 1) (λ k. (let next : n + 1 + k ≡ n + suc k = omega arith in ap (slice_get s.bases) next ∙ h (suc k))),
+        ap (slice_get s.sections) here ∙ g 0,
+        all_based order more (n + 1) (λ k. ap (slice_get s.bases) (next k) ∙ h (suc k)) (λ k. ap (slice_get s.sections) (next k) ∙ g (suc k)),
       )
 
-  loaded : (order : Order) → HaveModule (8 * maus) runs → address_map order (2 ^ width ms) (readings ms (planned_bases ms no_regions)).steps ≡ run_cells runs
+  -- the walk over the loads of the module
+  pub text_walk : (order : Order) → HaveModule (8 * maus) runs → GoodWalk order s home [] (steps ms) (run_cells runs)
+  text_walk order h =
+      let zero_first : (k : ℕ) → 0 + k ≡ k = λ k. omega arith in
+      let bases_there : (k : ℕ) → slice_get s.bases (0 + k) ≡ slice_get (map (λ run. run.address) runs) k
+      = λ k. ap (slice_get s.bases) (zero_first k) ∙ ap (λ (l : List ℕ). slice_get l k) bases_are in
+      let sections_there : (k : ℕ) → slice_get s.sections (0 + k) ≡ slice_get (map run_section runs) k
+      = λ k. ap (slice_get s.sections) (zero_first k) ∙ ap (λ (l : List Section). slice_get l k) (append-nil (map run_section runs)) in
+      subst (λ all. GoodWalk order s home [] all (run_cells runs)) (sym (append-nil (steps_of home None (loads_from 0 runs))))
+      (runs_walk order s home (8 * maus) 0 0 runs refl h.below h.apart (all_based order runs 0 bases_there sections_there) None [] (λ m less. refl))
+
+  loaded : (order : Order) → HaveModule (8 * maus) runs
+      → address_map order (2 ^ width ms) (readings ms (planned_bases ms no_regions)).steps ≡ run_cells runs
   unfolding readings
-  loaded order h =
-      let there : (k : ℕ) → slice_get s.bases (0 + k) ≡ slice_get (map (λ run. run.address) runs) k
-      = λ k. (let same : 0 + k ≡ k = omega arith in ap (slice_get s.bases) same ∙ ap (λ (l : List ℕ). slice_get l k) bases_are) in
-      ap (λ all. address_map order s.modulus (readings_after s [] all)) (append-nil (steps_of home None (loads_from 0 runs)))
-      ∙ runs_cells order s home (8 * maus) 0 0 runs refl h.below h.apart (all_based order runs 0 there) None [] (λ m less. refl)
+  loaded order h = (text_walk order h).1
 
   -- the runs of its location
   pub located_runs : (r : LocatedParts) → HaveModule (8 * maus) runs → IsLocation ms no_regions r → r.runs ≡ runs

@@ -3,7 +3,7 @@ use Rattle.std.proofs.Common.{◌≡◌, [], ◌∷◌, Some, None, refl}
 use Rattle.std.specs.Prelude.{codes}
 use Rattle.mufom_titxt.specs.declared.refusal.TxtReason.TheVariants.{BadLine, NoAddress, Beyond, Twice, AfterEnd, NoEnd}
 use Rattle.mufom_titxt.specs.Texts.{refusal_at, txt_refusal, txt_cells}
-use Rattle.mufom_titxt.specs.Written.{run_text}
+use Rattle.mufom_titxt.specs.Written.{run_text, txt_text}
 
 -- bytes before any address
 no_address : txt_refusal (codes "00 11\nq\n") 32 ≡ Some (refusal_at 1 NoAddress)
@@ -66,3 +66,8 @@ first_of_two = refl
 -- the text of a run
 written : run_text 4096 (78 ∷ 113 ∷ 78 ∷ 117 ∷ []) ≡ codes "@1000\n4E 71 4E 75\n"
 written = refl
+
+-- the text of runs
+written_runs : txt_text (record { address = 61440; bytes = 10 ∷ [] } ∷ record { address = 74565; bytes = 171 ∷ [] } ∷ [])
+    ≡ codes "@F000\n0A\n@12345\nAB\nq\n"
+written_runs = refl

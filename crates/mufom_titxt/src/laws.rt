@@ -1,6 +1,7 @@
 //! Laws of texts, each the contract of a function that does nothing.
 
-ghost use Rattle.std.specs.Prelude.{◌≡◌, ◌*◌, ◌∷◌, [], ℕ, List, None};
+ghost use Rattle.std.specs.Prelude.{◌≡◌, ◌≤◌, ◌*◌, ◌∷◌, [], ℕ, List, length, None};
+ghost use Rattle.mufom_numbers.specs.declared.limits.TheConstants.{MOST_FILE_BYTES};
 ghost use Rattle.mufom_meaning.specs.declared.located.Run.{Run};
 ghost use Rattle.mufom_meaning.specs.declared.located.LocatedParts.{LocatedParts};
 ghost use Rattle.mufom_meaning.specs.Absolute.{no_regions};
@@ -35,4 +36,18 @@ pub fn written_texts_are_read_back()
 pub fn located_texts_have_their_runs()
     ensures { (maus : ℕ) (runs : List Run) (r : LocatedParts) → HaveModule (8 * maus) runs
         → IsLocation (text_parts maus runs ∷ []) no_regions r → r.runs ≡ runs }
+{}
+
+/// The module of runs has a location, alone and by a plan without regions: nothing keeps it from being
+/// located. Its runs are these runs.
+pub fn text_modules_are_located()
+    ensures { (maus : ℕ) (runs : List Run) → 1 ≤ maus → maus ≤ 8 → HaveModule (8 * maus) runs
+        → (r : LocatedParts) × IsLocation (text_parts maus runs ∷ []) no_regions r × (r.runs ≡ runs) }
+{}
+
+/// The runs of a text have a module, where the text is no longer than a file may be, and a text again.
+pub fn runs_of_texts_have_modules()
+    ensures modules { (text : List ℕ) (width : ℕ) (runs : List Run) → length text ≤ MOST_FILE_BYTES → IsTxtOf text width runs
+        → HaveModule width runs }
+    ensures texts { (text : List ℕ) (width : ℕ) (runs : List Run) → width ≤ 64 → IsTxtOf text width runs → HaveText width runs }
 {}

@@ -1,4 +1,13 @@
 //! TI-TXT, the text form of an image that flash programmers and `srec_cat` read, both ways.
+//!
+//! [`read_txt`] returns the bytes of a text in maximal rows, or the first line that is wrong. [`write_run`]
+//! and [`write_end`] write the text of rows to a sink, and [`text_module`] makes the module of rows, with an
+//! absolute section for each of them.
+//!
+//! The crate depends on `mufom_module` and the crates of its parts, on `mufom_host` for the sink, on
+//! `mufom_meaning` for rows and addresses, and on `mufom_image_bytes`, which joins bytes into rows. Its main
+//! clause is that of [`read_txt`]: exactly the texts in the sense of `TxtMap` are accepted, with the bytes that
+//! they give, and the text of rows is read back as these rows.
 #![tactic(auto)]
 
 mod laws;
@@ -15,8 +24,8 @@ mod txt;
 mod write;
 
 pub use laws::{
-    accepted_texts_are_texts, located_texts_have_their_runs, texts_are_accepted,
-    written_texts_are_read_back,
+    accepted_texts_are_texts, located_texts_have_their_runs, runs_of_texts_have_modules,
+    text_modules_are_located, texts_are_accepted, written_texts_are_read_back,
 };
 pub use module::text_module;
 pub use mufom_meaning::Run as TextRun;

@@ -13,6 +13,7 @@ ghost use Rattle.mufom_titxt.specs.declared.refusal.TxtRefusal.{TxtRefusal};
 ghost use Rattle.mufom_titxt.specs.declared.refusal.TxtReason.TheVariants as TxtReason;
 ghost use Rattle.mufom_titxt.specs.declared.refusal.TxtStop.TheVariants as TxtStop;
 ghost use Rattle.mufom_titxt.specs.Lines.{line_of, lines_of};
+ghost use Rattle.mufom_titxt.specs.TextModules.{HaveModule};
 ghost use Rattle.mufom_titxt.specs.Texts.{nothing_stated, refusal_at, txt_refusal, IsTxtOf};
 ghost use Rattle.mufom_titxt.specs.Reading.{cells_read, places_read, stop_read, second_line};
 ghost use Rattle.mufom_titxt.specs.Rows.{IsTwice, NamesTwice};
@@ -134,7 +135,7 @@ fn modulus_of(maus: u8) -> u128
 }
 
 /// The bytes of a TI-TXT text, in maximal rows of addresses in increasing order. An address has `maus`
-/// addressable units of eight bits.
+/// addressable units of eight bits. The rows meet the conditions of [`text_module`](crate::text_module).
 ///
 /// Errors: `Refused` with the first line that is wrong, and what is wrong with it; `NoMemory`.
 pub fn read_txt(alloc: Global, text: &[u8], maus: u8) -> Result<List<Run>, TxtStop>
@@ -142,6 +143,7 @@ pub fn read_txt(alloc: Global, text: &[u8], maus: u8) -> Result<List<Run>, TxtSt
     requires high { maus ≤ 8 }
     requires short { length text.now ≤ MOST_FILE_BYTES }
     ensures runs { IfOk result (λ runs. IsTxtOf text.now (8 * maus) runs) }
+    ensures modules { IfOk result (λ runs. HaveModule (8 * maus) runs) }
     ensures refused { (refusal : TxtRefusal) → result ≡ Err (TxtStop.Refused refusal) → txt_refusal text.now (8 * maus) ≡ Some refusal }
 {
     let modulus = modulus_of(maus);

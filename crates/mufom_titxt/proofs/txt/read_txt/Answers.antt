@@ -5,6 +5,7 @@ use Rattle.mufom_image_bytes.specs.Chunks.{cell_addresses}
 use Rattle.mufom_image_bytes.specs.Loaded.{loaded_cells}
 use Rattle.mufom_titxt.specs.declared.txt.RowsStop.{RowsStop}
 use Rattle.mufom_titxt.specs.Rows.{IsTwice}
+use Rattle.mufom_titxt.proofs.ReadLaws.{have-module}
 use Rattle.mufom_titxt.proofs.TxtLaws.{read_is_low, refused_by_stop, refused_by_twice, accepted_text, refused_same}
 use Rattle.mufom_titxt.proofs.txt.read_txt.Goals as goal
 
@@ -17,6 +18,13 @@ pub returns-in-None-clause-runs : goal.returns-in-None-clause-runs
 returns-in-None-clause-runs c =
     accepted_text c.args.text.now (8 * c.args.maus) c.modulus_of-modulus.result c.modulus_of-modulus.ensures.value (loaded_cells c.in_ok-loaded.loaded)
     c.in_ok-loaded.ensures.cells c.in-Ok.runs c.in-Ok.ensures.once (sym c.in-None.is ∙ c.in_ok-loaded.ensures.stop) c.in-Ok.ensures.rows
+
+pub returns-in-None-clause-modules : goal.returns-in-None-clause-modules
+returns-in-None-clause-modules c =
+    let is = accepted_text c.args.text.now (8 * c.args.maus) c.modulus_of-modulus.result c.modulus_of-modulus.ensures.value
+    (loaded_cells c.in_ok-loaded.loaded) c.in_ok-loaded.ensures.cells c.in-Ok.runs c.in-Ok.ensures.once
+    (sym c.in-None.is ∙ c.in_ok-loaded.ensures.stop) c.in-Ok.ensures.rows in
+    have-module c.args.text.now (8 * c.args.maus) c.in-Ok.runs is c.requires.short
 
 pub returns-in-Some-clause-refused : goal.returns-in-Some-clause-refused
 returns-in-Some-clause-refused c refusal e =
