@@ -8,7 +8,7 @@ use Rattle.mufom_place.specs.declared.site.Extent.{Extent}
 use Rattle.mufom_place.specs.Facts.{in_order, is_before, put_in_order}
 use Rattle.mufom_map.specs.MapText.{by_key, extent_of, put_in}
 use Rattle.mufom_map.specs.Mapped.{MappedSection, mapped_section}
-use Rattle.mufom_origins.specs.Origins.{FileModule}
+use Rattle.mufom_origins.specs.declared.origins.Origin.{Origin}
 
 tests-agree : (a b m n : ℕ) → m < n → (nat_lt a b || ((a == b) && nat_lt m n)) ≡ not (nat_lt b a)
 tests-agree a b m n less = grind (arith, nat_tests)
@@ -60,12 +60,16 @@ module _ {X : Type 0} (key : X → ℕ) (f : X → Extent) (base_is : (x : X) �
 
 -- ---- sections of a map
 
-later-sections : (files : List FileModule) (plan : Plan) (m n : ℕ) (sections : List Section) → m < n
-    → AreLater (λ (s : MappedSection). s.site.base) extent_of (λ s. refl) m (map (mapped_section files plan) (enumerate_from n sections))
-later-sections files plan m n [] less = tt
-later-sections files plan m n (s ∷ sections) less = (less, later-sections files plan m (n + 1) sections (omega arith))
+module _ (origins : List Origin) (plan : Plan) (own commons : List Section) where
+  abbrev shown : ℕ × Section → MappedSection
+  shown = mapped_section origins plan own commons
 
-pub rising-sections : (files : List FileModule) (plan : Plan) (n : ℕ) (sections : List Section)
-    → AreRising (λ (s : MappedSection). s.site.base) extent_of (λ s. refl) (map (mapped_section files plan) (enumerate_from n sections))
-rising-sections files plan n [] = tt
-rising-sections files plan n (s ∷ sections) = (later-sections files plan n (n + 1) sections (omega arith), rising-sections files plan (n + 1) sections)
+  later-sections : (m n : ℕ) (sections : List Section) → m < n
+      → AreLater (λ (s : MappedSection). s.base) extent_of (λ s. refl) m (map shown (enumerate_from n sections))
+  later-sections m n [] less = tt
+  later-sections m n (s ∷ sections) less = (less, later-sections m (n + 1) sections (omega arith))
+
+  pub rising-sections : (n : ℕ) (sections : List Section)
+      → AreRising (λ (s : MappedSection). s.base) extent_of (λ s. refl) (map shown (enumerate_from n sections))
+  rising-sections n [] = tt
+  rising-sections n (s ∷ sections) = (later-sections n (n + 1) sections (omega arith), rising-sections (n + 1) sections)

@@ -14,6 +14,7 @@ use Rattle.mufom_origins.specs.Places.{with_chosen}
 use Rattle.mufom_text.specs.Words.{line}
 use Rattle.mufom_map.specs.Mapped.{mapped}
 use Rattle.mufom_map.specs.MapText.{hex, map_text}
+use Rattle.mufom_map.specs.Room.{signs_from}
 
 abbrev first : Parts
 first = record {
@@ -61,7 +62,7 @@ map_is : map_text (mapped (numbered (first ∷ second ∷ [])) plan place)
     ++ (line (codes "section 0 00000100 size 4 align 4 \"t\" module 0 region 0") ++ (line (codes "section 1 00000104 size 4 align 4 \"t\" module 1 region 0")
     ++ (line (codes "common 2 00000108 size 6 align 8 \"c\" region 0") ++ (line (codes "public 00000108 \"end\" module 1")
     ++ line (codes "sections 3 bytes 14 loaded 8")))))))
-unfolding hex_on_literals digits
+unfolding hex_on_literals digits signs_from
 map_is = refl
 
 -- ---- a section with a base of its own uses room of a region, and a partly used cell is no full one
@@ -84,14 +85,14 @@ with_start = record absolute { name = codes "A"; start = Some (variable R 0) }
 no_plan : map_text (mapped (numbered (with_start ∷ [])) (record { regions = [] }) started)
     ≡ line (codes "module 0 \"A\" file 0") ++ (line (codes "section 0 00001000 size 4 align 2 \"code\" module 0") ++ (line (codes "start 00001000 module 0")
     ++ line (codes "sections 1 bytes 4 loaded 4")))
-unfolding hex_on_literals digits
+unfolding hex_on_literals digits signs_from
 no_plan = refl
 
 own_base : map_text (mapped (numbered (with_start ∷ [])) around started)
     ≡ line (codes "module 0 \"A\" file 0") ++ (line (codes "region 0 \"rom\" at 00000FFA size 320 used 4 free 316 [+...............................]")
     ++ (line (codes "section 0 00001000 size 4 align 2 \"code\" module 0") ++ (line (codes "start 00001000 module 0")
     ++ line (codes "sections 1 bytes 4 loaded 4"))))
-unfolding hex_on_literals digits
+unfolding hex_on_literals digits signs_from
 own_base = refl
 
 -- ---- a member that is selected keeps the number of its file
@@ -115,7 +116,7 @@ selected : map_text (mapped (with_chosen 1 (1 ∷ []) (numbered (defines (codes 
     (record { regions = [] }) values)
     ≡ line (codes "module 0 \"r\" file 0") ++ (line (codes "module 1 \"m1\" file 2") ++ (line (codes "public 00000000 \"f\" module 0")
     ++ (line (codes "public 00000000 \"g\" module 1") ++ line (codes "sections 0 bytes 0 loaded 0"))))
-unfolding hex_on_literals digits
+unfolding hex_on_literals digits signs_from
 selected = refl
 
 -- ---- addresses
@@ -131,3 +132,31 @@ longer = refl
 nothing : hex 2 0 ≡ codes "0000"
 unfolding hex_on_literals digits
 nothing = refl
+
+-- ---- sections and publics go by their addresses, not by their numbers or names
+
+abbrev apart : Parts
+apart = record first {
+  names = record {
+    publics = record { name = codes "a"; value = number 0; notes = [] } ∷ record { name = codes "b"; value = number 0; notes = [] }
+        ∷ record { name = codes "c"; value = number 0; notes = [] } ∷ [];
+    references = [];
+  };
+  sections = record { name = codes "high"; absolute = true; purpose = None; size = 2; align = 1; base = Some 512 }
+      ∷ record { name = codes "low"; absolute = true; purpose = None; size = 1; align = 1; base = Some 256 } ∷ [];
+}
+
+abbrev spread : LocatedParts
+spread = record place {
+  publics = record { name = codes "a"; value = 48; notes = [] } ∷ record { name = codes "b"; value = 16; notes = [] }
+      ∷ record { name = codes "c"; value = 48; notes = [] } ∷ [];
+  runs = [];
+}
+
+by_address : map_text (mapped (numbered (apart ∷ [])) (record { regions = [] }) spread)
+    ≡ line (codes "module 0 \"a\" file 0") ++ (line (codes "section 1 00000100 size 1 align 1 \"low\" module 0")
+    ++ (line (codes "section 0 00000200 size 2 align 1 \"high\" module 0") ++ (line (codes "public 00000010 \"b\" module 0")
+    ++ (line (codes "public 00000030 \"a\" module 0") ++ (line (codes "public 00000030 \"c\" module 0")
+    ++ line (codes "sections 2 bytes 3 loaded 0"))))))
+unfolding hex_on_literals digits signs_from
+by_address = refl

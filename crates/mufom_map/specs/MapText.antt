@@ -54,7 +54,7 @@ abbrev pub module_line : ℕ → Origin → Text
 module_line j o = line (counted (codes "module ") j ++ (codes " " ++ (quoted o.name ++ counted (codes " file ") o.file)))
 
 abbrev pub extent_of : MappedSection → Extent
-extent_of s = record { base = s.site.base; section = s.number; size = s.section.size }
+extent_of s = record { base = s.base; section = s.number; size = s.size }
 
 abbrev pub region_line : ℕ → List Extent → ℕ → Region → Text
 region_line maus sections k region =
@@ -65,8 +65,8 @@ region_line maus sections k region =
 
 -- what a section or a common is, after its number
 abbrev pub placed_text : ℕ → MappedSection → Text
-placed_text maus s = counted [] s.number ++ (codes " " ++ (hex maus s.site.base ++ (counted (codes " size ") s.section.size
-    ++ (counted (codes " align ") s.section.align ++ (codes " " ++ quoted s.section.name)))))
+placed_text maus s = counted [] s.number ++ (codes " " ++ (hex maus s.base ++ (counted (codes " size ") s.size
+    ++ (counted (codes " align ") s.align ++ (codes " " ++ quoted s.name)))))
 
 -- a section has a module, and a common has none
 abbrev pub kind_word : Option ℕ → Text
@@ -74,7 +74,7 @@ kind_word (Some j) = codes "section "
 kind_word None = codes "common "
 
 abbrev pub section_line : ℕ → MappedSection → Text
-section_line maus s = line (kind_word s.origin ++ (placed_text maus s ++ (in_module s.origin ++ in_region s.site.region)))
+section_line maus s = line (kind_word s.origin ++ (placed_text maus s ++ (in_module s.origin ++ in_region s.region)))
 
 abbrev pub public_line : ℕ → MappedPublic → Text
 public_line maus p = line (codes "public " ++ (hex maus p.value ++ (codes " " ++ (quoted p.name ++ in_module p.origin))))
@@ -85,7 +85,7 @@ start_line maus (Some start) = line (codes "start " ++ (hex maus start.0 ++ in_m
 
 abbrev pub total_line : Mapped → Text
 total_line m = line (counted (codes "sections ") (length m.sections)
-    ++ (counted (codes " bytes ") (sum_by (λ (s : MappedSection). s.section.size) m.sections) ++ counted (codes " loaded ") m.loaded))
+    ++ (counted (codes " bytes ") (sum_by (λ (s : MappedSection). s.size) m.sections) ++ counted (codes " loaded ") m.loaded))
 
 -- ---- the whole
 
@@ -94,6 +94,6 @@ abbrev pub map_text : Mapped → Text
 map_text m =
     each module_line m.origins
     ++ (each (region_line m.maus (map extent_of m.sections)) m.regions
-    ++ (flat_map (section_line m.maus) (by_key (λ (s : MappedSection). s.site.base) m.sections)
+    ++ (flat_map (section_line m.maus) (by_key (λ (s : MappedSection). s.base) m.sections)
     ++ (flat_map (public_line m.maus) (by_key (λ (p : MappedPublic). p.value) m.publics)
     ++ (start_line m.maus m.start ++ total_line m))))

@@ -1,25 +1,27 @@
 -- What a map shows of a located list of modules.
-use Rattle.std.specs.Prelude.{ℕ, List, length, map, Option, option_map, position, sum_by}
+use Rattle.std.specs.Prelude.{ℕ, List, ◌++◌, length, map, Option, option_map, position, sum_by}
 use Rattle.std.specs.List.{enumerate_from}
 use Rattle.mufom_sections.specs.declared.section.Section.{Section}
 use Rattle.mufom_plan.specs.declared.plan.Plan.{Plan}
 use Rattle.mufom_plan.specs.declared.plan.Region.{Region}
-use Rattle.mufom_place.specs.declared.site.Site.{Site}
 use Rattle.mufom_place.specs.Bases.{site_of}
 use Rattle.mufom_meaning.specs.declared.located.LocatedParts.{LocatedParts}
 use Rattle.mufom_meaning.specs.declared.located.PublicValue.{PublicValue}
 use Rattle.mufom_meaning.specs.Flat.{flat_sections}
-use Rattle.mufom_meaning.specs.Placed.{extended_sections, placed_commons}
+use Rattle.mufom_meaning.specs.Placed.{placed_commons}
 use Rattle.mufom_origins.specs.declared.origins.Origin.{Origin}
 use Rattle.mufom_origins.specs.declared.origins.Place.{Place}
 use Rattle.mufom_origins.specs.Origins.{FileModule, modules_of, origins_of}
 use Rattle.mufom_origins.specs.Places.{place_in}
 
--- a section or a common: its number, where it is, and the position of its module, which a common has not
+-- a section or a common: its number, what it is, where it is, and the position of its module, which a common has not
 pub record MappedSection : Type 0 where
   pub number : ℕ
-  pub section : Section
-  pub site : Site
+  pub name : List ℕ
+  pub size : ℕ
+  pub align : ℕ
+  pub base : ℕ
+  pub region : Option ℕ
   pub origin : Option ℕ
 
 -- a public with its value and the position of its module
@@ -43,26 +45,33 @@ pub record Mapped : Type 0 where
 abbrev pub module_in : List ℕ → ℕ → Option ℕ
 module_in counts number = option_map (λ (p : Place). p.«module») (place_in counts number)
 
--- a section, or a common, of the flat list with its number
-abbrev pub mapped_section : List FileModule → Plan → ℕ × Section → MappedSection
-mapped_section files plan s = let ms = modules_of files in record {
+-- a section or a common with its number, of a list of sections and commons that a plan places
+abbrev pub mapped_section : List Origin → Plan → (sections commons : List Section) → ℕ × Section → MappedSection
+mapped_section origins plan sections commons s = let site = site_of plan sections commons s in record {
   number = s.0;
-  section = s.1;
-  site = site_of plan (flat_sections ms) (placed_commons ms plan) s;
-  origin = module_in (map (λ (o : Origin). o.sections) (origins_of files)) s.0;
+  name = s.1.name;
+  size = s.1.size;
+  align = s.1.align;
+  base = site.base;
+  region = site.region;
+  origin = module_in (map (λ (o : Origin). o.sections) origins) s.0;
 }
 
-abbrev pub mapped_public : List FileModule → ℕ × PublicValue → MappedPublic
-mapped_public files p = record { name = p.1.name; value = p.1.value; origin = module_in (map (λ (o : Origin). o.publics) (origins_of files)) p.0 }
+abbrev pub mapped_public : List Origin → ℕ × PublicValue → MappedPublic
+mapped_public origins p = record { name = p.1.name; value = p.1.value; origin = module_in (map (λ (o : Origin). o.publics) origins) p.0 }
+
+-- what a map shows of sections and commons that a plan places, whose location this is, and which come from modules with these origins
+abbrev pub mapped_by : List Origin → Plan → (sections commons : List Section) → LocatedParts → Mapped
+mapped_by origins plan sections commons r = record {
+  maus = r.maus;
+  origins = origins;
+  regions = plan.regions;
+  sections = map (mapped_section origins plan sections commons) (enumerate_from 0 (sections ++ commons));
+  publics = map (mapped_public origins) (enumerate_from 0 r.publics);
+  start = option_map (λ (a : ℕ). (a, position (λ (o : Origin). o.has_start) origins)) r.start;
+  loaded = sum_by (λ run. length run.bytes) r.runs;
+}
 
 -- what the map of a flat list shows, whose location by the plan this is
 abbrev pub mapped : List FileModule → Plan → LocatedParts → Mapped
-mapped files plan r = record {
-  maus = r.maus;
-  origins = origins_of files;
-  regions = plan.regions;
-  sections = map (mapped_section files plan) (enumerate_from 0 (extended_sections (modules_of files) plan));
-  publics = map (mapped_public files) (enumerate_from 0 r.publics);
-  start = option_map (λ (a : ℕ). (a, position (λ (o : Origin). o.has_start) (origins_of files))) r.start;
-  loaded = sum_by (λ run. length run.bytes) r.runs;
-}
+mapped files plan r = let ms = modules_of files in mapped_by (origins_of files) plan (flat_sections ms) (placed_commons ms plan) r

@@ -34,7 +34,7 @@ cell_sign region sections cell = sign (cell_start region (cell + 1) - cell_start
     (used_between (cell_start region cell) (cell_start region (cell + 1)) sections)
 
 -- the signs of some cells, from one on
-abbrev pub signs_from : Region → List Extent → ℕ → ℕ → List ℕ
+unfoldable pub signs_from : Region → List Extent → ℕ → ℕ → List ℕ
 signs_from region sections zero cell = []
 signs_from region sections (suc count) cell = cell_sign region sections cell ∷ signs_from region sections count (cell + 1)
 

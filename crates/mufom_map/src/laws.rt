@@ -30,5 +30,5 @@ pub fn cells_cover_a_region()
 /// The sections of a map are in the order in which placing compares them: by base, and then by number.
 pub fn sections_are_in_order()
     ensures { (files : List FileModule) (plan : Plan) (r : LocatedParts) →
-        map extent_of (by_key (λ s. s.site.base) (mapped files plan r).sections) ≡ in_order (map extent_of (mapped files plan r).sections) }
+        map extent_of (by_key (λ s. s.base) (mapped files plan r).sections) ≡ in_order (map extent_of (mapped files plan r).sections) }
 {}

@@ -1,0 +1,67 @@
+use Rattle.std.proofs.Common.{◌≡◌, ◌≤◌, ℕ, List, [], length, get_or, map, None, false, refl, sym, ap, subst, ◌∙◌, arith}
+use Rattle.std.specs.Prelude.{option_map, slice_index_or}
+use Rattle.mufom_sections.specs.declared.section.Section.{Section}
+use Rattle.mufom_origins.specs.declared.origins.Origin.{Origin}
+use Rattle.mufom_origins.specs.declared.origins.Place.{Place}
+use Rattle.mufom_text.proofs.Loops.{flat-step, flat-end}
+use Rattle.mufom_map.specs.Mapped.{MappedSection, module_in}
+use Rattle.mufom_map.specs.MapText.{section_line}
+use Rattle.mufom_map.specs.Shown.{base_of, shown_section}
+use Rattle.mufom_map.proofs.OrderedLaws.{element-at, inside, key-at, long, made-in-order, number-inside, ordered}
+use Rattle.mufom_map.proofs.map.Map.section_lines.Goals as goal
+
+abbrev key : ℕ × Section → ℕ
+key s = base_of s.1
+
+abbrev none : ℕ × Section
+none = (0, record { name = []; absolute = false; purpose = None; size = 0; align = 0; base = None })
+
+pub bounds-sections-number : goal.bounds-sections-number
+bounds-sections-number g c =
+    let self = c.args.self.now in let sections = self.room.sections.now in let i = c.loop-number.number-index in
+    let items = c.as_slice-number-items.result.now in
+    let are = c.as_slice-number-items.ensures.value ∙ self.sections_ordered in
+    let within = number-inside key sections items are i c.loop-number-test.true none in
+    let number = ap (λ (k : ℕ × ℕ). k.1) (key-at key sections items are i c.loop-number-test.true none (0, 0)) in
+    omega (arith, within, number)
+
+pub loop-number-preserved : goal.loop-number-preserved
+loop-number-preserved g c =
+    let self = c.args.self.now in let sections = self.room.sections.now in let i = c.loop-number.number-index in
+    let origins = self.origins.now in let regions = self.section_regions.items in
+    let items = c.as_slice-number-items.result.now in
+    let are = c.as_slice-number-items.ensures.value ∙ self.sections_ordered in
+    let less = c.loop-number-test.true in
+    let all = ordered key sections in
+    let its = get_or all i none in
+    let number = ap (λ (k : ℕ × ℕ). k.1) (key-at key sections items are i less none (0, 0)) in
+    let section = c.index-sections-number.is ∙ ap (λ (k : ℕ). get_or sections k c.index-sections-number.result) number
+    ∙ element-at key sections items are i less none c.index-sections-number.result in
+    let region = c.region_at-region.ensures ∙ (λ j. slice_index_or (c.deref.ensures.value j) (number j) None) in
+    let counts = map (λ (o : Origin). o.sections) origins in
+    let origin = c.module_of-origin.ensures ∙ ap (option_map (λ (p : Place). p.«module»)) c.section.ensures ∙ ap (module_in counts) number in
+    let row : ◌≡◌ {A = MappedSection} _ (shown_section origins regions its) = λ j. record {
+      number = number j;
+      name = (section j).name;
+      size = (section j).size;
+      align = (section j).align;
+      base = base_of (section j);
+      region = region j;
+      origin = origin j;
+    } in
+    let line = subst (λ (r : MappedSection). g.K.Output.takes c.loop-number.out c.section_line.new.out (section_line self.maus r)) row c.section_line.ensures in
+    flat-step g.K.Output.takes g.met.K.Output.joins (λ s. section_line self.maus (shown_section origins regions s)) all i none its _ _ _
+    (inside key sections items are i less none) refl c.loop-number.invariant line
+
+pub returns : goal.returns
+returns g c =
+    let self = c.args.self.now in let sections = self.room.sections.now in let i = c.loop-number.number-index in
+    let origins = self.origins.now in let regions = self.section_regions.items in
+    let items = c.as_slice-number-items.result.now in
+    let are = c.as_slice-number-items.ensures.value ∙ self.sections_ordered in
+    let all = ordered key sections in
+    let past : length all ≤ i = let count = long key sections items are in let end = c.loop-number-test.false in omega (arith, count, end) in
+    let so_far = flat-end g.K.Output.takes g.met.K.Output.joins (λ s. section_line self.maus (shown_section origins regions s)) all i _ _ past
+    c.loop-number.invariant in
+    let text = made-in-order key sections (λ (s : MappedSection). s.base) (shown_section origins regions) (section_line self.maus) in
+    subst (λ (t : List ℕ). g.K.Output.takes c.args.out.now c.loop-number.out t) (sym text) so_far

@@ -1,0 +1,9 @@
+use Rattle.mufom_map.proofs.regions.region_line.Goals as goal
+
+pub returns : goal.returns
+returns g c = let l = g.met.K.Output in
+    l.joins _ _ _ _ _ (l.joins _ _ _ _ _ c.counted.ensures (l.joins _ _ _ _ _ c.put.ensures
+    (l.joins _ _ _ _ _ (rw c.as_slice.ensures at c.quoted.ensures) (l.joins _ _ _ _ _ c.put-2.ensures (l.joins _ _ _ _ _ c.hex.ensures
+    (l.joins _ _ _ _ _ c.counted-2.ensures (l.joins _ _ _ _ _ (rw c.used-used.ensures at c.counted-3.ensures)
+    (l.joins _ _ _ _ _ (rw (c.saturating_sub.ensures, c.used-used.ensures) at c.counted-4.ensures)
+    (l.joins _ _ _ _ _ c.put-3.ensures c.bar.ensures))))))))) c.put-4.ensures

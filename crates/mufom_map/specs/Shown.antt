@@ -1,0 +1,40 @@
+-- What a map shows of located sections, as the code has it: each section has its base, and its region and module are found beside it.
+use Rattle.std.specs.Prelude.{ℕ, ◌+◌, List, map, false, Option, None, unwrap_or, slice_index_or}
+use Rattle.std.specs.List.{enumerate_from}
+use Rattle.mufom_sections.specs.declared.section.Section.{Section}
+use Rattle.mufom_place.specs.declared.site.Extent.{Extent}
+use Rattle.mufom_origins.specs.declared.origins.Origin.{Origin}
+use Rattle.mufom_map.specs.Mapped.{MappedSection, module_in}
+
+-- a common as it was before it was placed: it had no base
+abbrev pub bare : Section → Section
+bare section = record section { absolute = false; base = None }
+
+-- the base of a located section
+abbrev pub base_of : Section → ℕ
+base_of section = unwrap_or section.base 0
+
+abbrev pub end_of : Section → ℕ
+end_of section = base_of section + section.size
+
+abbrev pub section_extent : ℕ × Section → Extent
+section_extent s = record { base = base_of s.1; section = s.0; size = s.1.size }
+
+abbrev pub section_extents : List Section → List Extent
+section_extents sections = map section_extent (enumerate_from 0 sections)
+
+-- a located section with its number, where these are the regions of all sections
+abbrev pub shown_section : List Origin → List (Option ℕ) → ℕ × Section → MappedSection
+shown_section origins regions s = record {
+  number = s.0;
+  name = s.1.name;
+  size = s.1.size;
+  align = s.1.align;
+  base = base_of s.1;
+  region = slice_index_or regions s.0 None;
+  origin = module_in (map (λ (o : Origin). o.sections) origins) s.0;
+}
+
+-- all of them, by their numbers
+abbrev pub shown_sections : List Origin → List (Option ℕ) → List Section → List MappedSection
+shown_sections origins regions sections = map (shown_section origins regions) (enumerate_from 0 sections)

@@ -1,0 +1,164 @@
+//! The lines of modules, sections, publics and of the start.
+
+ghost use Rattle.std.specs.Prelude.{◌≡◌, ◌+◌, ◌++◌, option_map};
+ghost use Rattle.std.specs.Fmt.{decimal};
+ghost use Rattle.mufom_text.specs.Fitting.{IsUnitCount};
+ghost use Rattle.mufom_text.specs.Words.{each, line};
+ghost use Rattle.mufom_map.specs.MapText.{counted, in_module, in_region, kind_word, module_line, placed_text, public_line, section_line, start_line};
+ghost use Rattle.mufom_map.specs.Shown.{base_of};
+
+use crate::room::base_of;
+use crate::words::{counted, hex};
+use mufom_meaning::PublicValue;
+use mufom_origins::Origin;
+use mufom_sections::Section;
+use mufom_text::{Output, quoted};
+
+// ---- modules
+
+fn module_line<K: Output>(out: &mut K, position: usize, origin: &Origin)
+    ensures { K.takes out.old out.new (module_line position origin.now) }
+{
+    counted(out, b"module ", position as u128);
+    out.put(b" ");
+    quoted(out, origin.name.as_slice());
+    counted(out, b" file ", origin.file as u128);
+    out.put(b"\n");
+}
+
+/// The lines of modules.
+pub(crate) fn module_lines<K: Output>(out: &mut K, origins: &[Origin])
+    ensures { K.takes out.old out.new (each module_line origins.now) }
+{
+    for position in 0..origins.len() {
+        module_line(out, position, &origins[position]);
+    }
+}
+
+// The position of a module, after the word.
+fn in_module<K: Output>(out: &mut K, origin: Option<usize>)
+    ensures { K.takes out.old out.new (in_module origin) }
+{
+    match origin {
+        Some(position) => counted(out, b" module ", position as u128),
+        None => {}
+    }
+}
+
+// ---- sections
+
+// The position of a region, after the word.
+fn in_region<K: Output>(out: &mut K, region: Option<u32>)
+    ensures { K.takes out.old out.new (in_region region) }
+{
+    match region {
+        Some(position) => counted(out, b" region ", position as u128),
+        None => {}
+    }
+}
+
+// A section has a module, and a common has none.
+fn kind_word(origin: Option<usize>) -> &'static [u8]
+    ensures { result.now ≡ kind_word origin }
+{
+    match origin {
+        Some(_) => b"section ",
+        None => b"common ",
+    }
+}
+
+// What a section or a common is and where.
+fn placed_text<K: Output>(out: &mut K, maus: u8, number: u32, section: &Section)
+    requires { IsUnitCount maus }
+    ensures { K.takes out.old out.new (placed_text maus (record {
+      number = number;
+      name = section.now.name;
+      size = section.now.size;
+      align = section.now.align;
+      base = base_of section.now;
+      region = None;
+      origin = None;
+    })) }
+{
+    counted(out, b"", number as u128);
+    out.put(b" ");
+    hex(out, maus, base_of(section));
+    counted(out, b" size ", section.size as u128);
+    counted(out, b" align ", section.align as u128);
+    out.put(b" ");
+    quoted(out, section.name.as_slice());
+}
+
+/// The line of a section, or of a common if it has no module.
+pub(crate) fn section_line<K: Output>(
+    out: &mut K,
+    maus: u8,
+    number: u32,
+    section: &Section,
+    region: Option<u32>,
+    origin: Option<usize>,
+)
+    requires { IsUnitCount maus }
+    ensures { K.takes out.old out.new (section_line maus (record {
+      number = number;
+      name = section.now.name;
+      size = section.now.size;
+      align = section.now.align;
+      base = base_of section.now;
+      region = region;
+      origin = origin;
+    })) }
+{
+    out.put(kind_word(origin));
+    placed_text(out, maus, number, section);
+    in_module(out, origin);
+    in_region(out, region);
+    out.put(b"\n");
+}
+
+// ---- publics and the start
+
+/// The line of a public.
+pub(crate) fn public_line<K: Output>(
+    out: &mut K,
+    maus: u8,
+    public: &PublicValue,
+    origin: Option<usize>,
+)
+    requires { IsUnitCount maus }
+    ensures { K.takes out.old out.new (public_line maus (record { name = public.now.name; value = public.now.value; origin = origin })) }
+{
+    out.put(b"public ");
+    hex(out, maus, public.value);
+    out.put(b" ");
+    quoted(out, public.name.as_slice());
+    in_module(out, origin);
+    out.put(b"\n");
+}
+
+// The line of a start.
+fn line_of_start<K: Output>(out: &mut K, maus: u8, start: u64, origin: Option<usize>)
+    requires { IsUnitCount maus }
+    ensures { K.takes out.old out.new (start_line maus (Some (start, origin))) }
+{
+    out.put(b"start ");
+    hex(out, maus, start);
+    in_module(out, origin);
+    out.put(b"\n");
+}
+
+/// The line of the start, if there is one.
+pub(crate) fn start_line<K: Output>(
+    out: &mut K,
+    maus: u8,
+    start: Option<u64>,
+    origin: Option<usize>,
+)
+    requires { IsUnitCount maus }
+    ensures { K.takes out.old out.new (start_line maus (option_map (λ a. (a, origin)) start)) }
+{
+    match start {
+        Some(start) => line_of_start(out, maus, start, origin),
+        None => {}
+    }
+}
