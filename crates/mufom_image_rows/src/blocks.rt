@@ -57,9 +57,7 @@ fn program(rt: &impl Abort, alloc: Global) -> Block {
         .push(DebugItem::Name(bytes(rt, alloc, b"x")))
         .expect(rt, "memory");
     let inner = Boxed::new(alloc, function(rt, alloc)).expect(rt, "memory");
-    items
-        .push(DebugItem::Block(inner))
-        .expect(rt, "memory");
+    items.push(DebugItem::Block(inner)).expect(rt, "memory");
     Block {
         head: BlockHead::Module,
         name: bytes(rt, alloc, b"prog"),
