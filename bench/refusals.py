@@ -47,7 +47,16 @@ def file_of(example):
         return SAMPLE + bytes.fromhex(rest)
     if kind in ("data", "external", "debug"):
         return with_part(kind, bytes.fromhex(rest))
+    if kind == "text":
+        return "".join(line + "\n" for line in rest.split(" / ")).encode()
     return None
+
+
+def wanted_of(name, place):
+    """The arguments that try a file, and the error line that names this place."""
+    if name.startswith("text line N: "):
+        return ["fromtxt", "-o", "c", "x.695"], "refused: " + name.replace(" N:", f" {place}:").replace("ADDRESS", "0")
+    return ["check", "x.695"], f"refused: file 0 at {place}: {name}"
 
 
 def examples():
@@ -59,7 +68,8 @@ def examples():
         if len(cells) == 5:
             example = re.fullmatch(r"`([^`]*)` at (\d+)", cells[3])
             if example and file_of(example.group(1)) is not None:
-                yield ["check", "x.695"], file_of(example.group(1)), "refused: file 0 at %s: %s" % (example.group(2), name.group(1))
+                words, wanted = wanted_of(name.group(1), example.group(2))
+                yield words, file_of(example.group(1)), wanted
         elif len(cells) == 3:
             example = re.fullmatch(r"`words ([^`]*)`", cells[2])
             if example:

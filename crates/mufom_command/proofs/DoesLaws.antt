@@ -6,9 +6,9 @@ use Rattle.mufom_words.specs.declared.command.Command.{Command}
 use Rattle.mufom_command.specs.declared.outcome.Outcome.{Outcome}
 use Rattle.mufom_command.specs.declared.outcome.Outcome.TheVariants as outcome
 use Rattle.mufom_groups.specs.Work.{Work, gives, stops}
-use Rattle.mufom_command.specs.Stop.{Stop, words_refused, plan_refused, file_refused, past_limit, link_fact, locate_fact, raw_too_long}
+use Rattle.mufom_command.specs.Stop.{Stop, words_refused, plan_refused, file_refused, past_limit, link_fact, locate_fact, raw_too_long, text_refused}
 use Rattle.mufom_command.specs.Commands.{Output, printed, made}
-use Rattle.mufom_command.specs.InputsRead.{InputsStop, inputs_in}
+use Rattle.mufom_command.specs.InputsRead.{ReadingStops}
 use Rattle.mufom_command.specs.Making.{IsMade, IsMadeAlone, IsPrinted}
 use Rattle.mufom_command.specs.Run.{AnswersFor, BeginsFile, Does, IsOpenedCount, MakesFile, NoneFalls, OpensInputs, PutsOutNothing, inputs_of, stop_outcome}
 use Rattle.mufom_command.specs.WorkEnds.{IsOfModules}
@@ -31,14 +31,16 @@ module _ (c : Command) (work : List NamedFile → Work Stop Output) (old mid : M
 
   -- ---- the inputs were not all read
 
-  module _ (begins : (files : List NamedFile) (s : Stop) → inputs_in files c (stops s) → work files (stops s)) where
-    stopped-answers : (stop : Outcome) → InputsStop c (call_between old mid before between) stop → AnswersFor c work (call_between old mid before between) stop
+  module _ {A : Type 0} (reading : List NamedFile → Work Stop A) (begins : (files : List NamedFile) (s : Stop) → reading files (stops s)
+      → work files (stops s)) where
+    stopped-answers : (stop : Outcome) → ReadingStops reading c (call_between old mid before between) stop
+        → AnswersFor c work (call_between old mid before between) stop
     stopped-answers (outcome.Refused r) why = (
       record {
         stop = why.stop;
         is = why.is;
         of_inputs = why.of_inputs;
-        cause = known-map (λ fs. inputs_in fs c (stops why.stop)) (λ fs. work fs (stops why.stop)) old.files (λ fs comes. begins fs why.stop comes) why.cause;
+        cause = known-map (λ fs. reading fs (stops why.stop)) (λ fs. work fs (stops why.stop)) old.files (λ fs comes. begins fs why.stop comes) why.cause;
       },
       read-nothing,
     )
@@ -48,7 +50,8 @@ module _ (c : Command) (work : List NamedFile → Work Stop Output) (old mid : M
     stopped-answers (outcome.Usage f) why = absurd why
     stopped-answers outcome.WriteFault why = absurd why
 
-    pub stopped-does : (stop : Outcome) → InputsStop c (call_between old mid before between) stop → OpensInputs c (call_between old mid before between) stop
+    pub stopped-does : (stop : Outcome) → ReadingStops reading c (call_between old mid before between) stop
+        → OpensInputs c (call_between old mid before between) stop
         → Does c work (call_between old mid before between) stop
     stopped-does stop why opens = record { answers = stopped-answers stop why; opens = opens; err = read-err; counts = read-counts }
 
@@ -78,6 +81,7 @@ module _ (c : Command) (work : List NamedFile → Work Stop Output) (old mid : M
     ended-answers (link_fact f) is cause = (record { stop = link_fact f; is = refl; of_inputs = tt; cause = cause }, read-nothing)
     ended-answers (locate_fact maus f) is cause = (record { stop = locate_fact maus f; is = refl; of_inputs = tt; cause = cause }, read-nothing)
     ended-answers (raw_too_long count) is cause = (record { stop = raw_too_long count; is = refl; of_inputs = tt; cause = cause }, read-nothing)
+    ended-answers (text_refused r) is cause = (record { stop = text_refused r; is = refl; of_inputs = tt; cause = cause }, read-nothing)
     ended-answers (words_refused s) is cause = absurd is
     ended-answers (plan_refused r) is cause = absurd is
     ended-answers (file_refused n r) is cause = absurd is
@@ -87,6 +91,7 @@ module _ (c : Command) (work : List NamedFile → Work Stop Output) (old mid : M
     ended-count (link_fact f) is = refl
     ended-count (locate_fact maus f) is = refl
     ended-count (raw_too_long count) is = refl
+    ended-count (text_refused r) is = refl
     ended-count (words_refused s) is = absurd is
     ended-count (plan_refused r) is = absurd is
     ended-count (file_refused n r) is = absurd is

@@ -18,3 +18,6 @@ pub mod Determined
 pub mod LocatingDone
 pub mod AddressLaws
 pub mod MakeLaws
+pub mod TextLaws
+pub mod TextRuns
+pub mod WritingLaws

@@ -24,6 +24,7 @@ use Rattle.mufom_meaning.specs.Location.{IsLocation}
 use Rattle.mufom_numbers.specs.declared.limits.TheConstants.{MOST_FILE_BYTES}
 use Rattle.mufom_addr.specs.AddressHit.{hit_at}
 use Rattle.mufom_write.specs.Raw.{raw_image}
+use Rattle.mufom_titxt.specs.Written.{txt_text}
 use Rattle.mufom_command.specs.Text.{hit_text}
 use Rattle.std.proofs.lemmas.Bool.{ltb-true}
 use Rattle.mufom_meaning.specs.Selection.{members_at}
@@ -41,7 +42,7 @@ use Rattle.mufom_command.specs.declared.outcome.Outcome.TheVariants as outcome
 use Rattle.mufom_command.specs.Stop.{Stop, link_fact, raw_too_long}
 use Rattle.mufom_command.specs.Inputs.{AreModules, HaveBytes}
 use Rattle.mufom_command.specs.Commands.{Output, printed, made, writes, plan_in, modules_in, located, located_unless, locating as locating_of}
-use Rattle.mufom_command.specs.Commands.{absolute_file, printed_hit, printed_image, raw_file, unless_too_long, linking, work_of, work_by}
+use Rattle.mufom_command.specs.Commands.{absolute_file, printed_hit, printed_image, raw_file, txt_file, unless_too_long, linking, work_of, work_by}
 use Rattle.mufom_command.specs.Run.{Answers, AnswersBy, Call}
 use Rattle.mufom_command.specs.RunLaws.{Accepts, HasNoFact, IsLocating, IsSameWork, LocatingIsDone, MayPutOut}
 use Rattle.mufom_command.proofs.Determined.{answers-determined}
@@ -92,6 +93,8 @@ no-modules verb.Dump is = refl
 no-modules verb.Make never = absurd never
 no-modules verb.Addr is = refl
 no-modules verb.Bin is = refl
+no-modules verb.Txt is = refl
+no-modules verb.FromTxt never = absurd never
 no-modules verb.Help never = absurd never
 no-modules verb.Version never = absurd never
 
@@ -189,7 +192,9 @@ module _ (files : List NamedFile) (c : Command) (sound : IsSound c) (plan : Plan
     work-done verb.Make same never may = absurd never
     work-done verb.Help same never may = absurd never
     work-done verb.Version same never may = absurd never
+    work-done verb.FromTxt same never may = absurd never
     work-done verb.Locate same is may = put-done absolute_file (λ r there. write-some c.out (written (absolute_of r)) (sound.options.out (ap makes_file same)))
+    work-done verb.Txt same is may = put-done txt_file (λ r there. write-some c.out (txt_text r.runs) (sound.options.out (ap makes_file same)))
     work-done verb.Dump same is may = put-done printed_image (λ r there. (printed (image_text r), refl))
     work-done verb.Addr same is may = put-done printed_hit (λ r there. (printed (hit_text r.maus (hit_at r.debug c.at)), refl))
     work-done verb.Bin same is may = put-done raw_file (λ r there. raw-done (sound.options.out (ap makes_file same)) r (may r there))

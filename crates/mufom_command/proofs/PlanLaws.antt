@@ -45,19 +45,19 @@ pub opened_then_read : (a b c : Meaning) (name : List ℕ) → GrowsBy a.opened 
 opened_then_read a b c name names stays = on_some c.opened (GrowsBy a.opened c.opened (name ∷ [])) (grows-then-read a b c name names stays)
 
 -- what was read is of the file with the name
-pub bytes_of_file : (name bytes : List ℕ) (files : Option (List NamedFile)) (left : Option (List ℕ))
-    → IfSome files (λ fs. (all : List ℕ) × (file_named name fs ≡ Some all) × (left ≡ Some all)) → IfSome left (λ l. IsEnoughOf l bytes)
-    → FileHas name files (λ all. IsEnoughOf all bytes)
-bytes_of_file name bytes None left opened enough = tt
-bytes_of_file name bytes (Some fs) left opened enough =
-    (opened.0, opened.1, subst (λ (o : Option (List ℕ)). IfSome o (λ l. IsEnoughOf l bytes)) opened.2 enough)
+pub bytes_of_file : (name bytes : List ℕ) (limit : ℕ) (files : Option (List NamedFile)) (left : Option (List ℕ))
+    → IfSome files (λ fs. (all : List ℕ) × (file_named name fs ≡ Some all) × (left ≡ Some all)) → IfSome left (λ l. IsEnoughOf limit l bytes)
+    → FileHas name files (λ all. IsEnoughOf limit all bytes)
+bytes_of_file name bytes limit None left opened enough = tt
+bytes_of_file name bytes limit (Some fs) left opened enough =
+    (opened.0, opened.1, subst (λ (o : Option (List ℕ)). IfSome o (λ l. IsEnoughOf limit l bytes)) opened.2 enough)
 
 -- ---- enough of the bytes
 
 too-long : (bytes : List ℕ) → most_plan_bytes < length bytes → plan_of_text bytes ≡ Err TooLong
 too-long bytes long = ap (λ b. unless (not b) TooLong (or_refuse Syntax (document_of bytes) >>= plan_of_document)) (lt-ltb 65536 (length bytes) long)
 
-plan-enough : (all bytes : List ℕ) → IsEnoughOf all bytes → plan_of_text all ≡ plan_of_text bytes
+plan-enough : (all bytes : List ℕ) → IsEnoughOf most_plan_bytes all bytes → plan_of_text all ≡ plan_of_text bytes
 plan-enough all bytes (inl same) = ap plan_of_text same
 plan-enough all bytes (inr (long, (rest, same))) =
     let longer : most_plan_bytes < length all = (let size = ap (λ (l : List ℕ). length l) same in let sum = length-append bytes rest in
@@ -65,25 +65,28 @@ plan-enough all bytes (inr (long, (rest, same))) =
     too-long all longer ∙ sym (too-long bytes long)
 
 module _ (name bytes : List ℕ) where
-  pub plan-read : (files : Option (List NamedFile)) (plan : Plan) → FileHas name files (λ all. IsEnoughOf all bytes) → plan_of_text bytes ≡ Ok plan
+  pub plan-read : (files : Option (List NamedFile)) (plan : Plan) → FileHas name files (λ all. IsEnoughOf most_plan_bytes all bytes)
+      → plan_of_text bytes ≡ Ok plan
       → IfSome files (λ fs. plan_in fs (Some name) (gives plan))
   plan-read None plan has is = tt
   plan-read (Some fs) plan (all, there, enough) is =
       (all, there, subst (λ (r : Result Plan PlanRefusal). plan_by r (gives plan)) (sym (plan-enough all bytes enough ∙ is)) refl)
 
-  plan-refused : (files : Option (List NamedFile)) (r : PlanRefusal) → FileHas name files (λ all. IsEnoughOf all bytes) → plan_of_text bytes ≡ Err r
+  plan-refused : (files : Option (List NamedFile)) (r : PlanRefusal) → FileHas name files (λ all. IsEnoughOf most_plan_bytes all bytes)
+      → plan_of_text bytes ≡ Err r
       → IfSome files (λ fs. plan_in fs (Some name) (stops (plan_refused r)))
   plan-refused None r has is = tt
   plan-refused (Some fs) r (all, there, enough) is =
       inr (all, there, subst (λ (result : Result Plan PlanRefusal). plan_by result (stops (plan_refused r))) (sym (plan-enough all bytes enough ∙ is)) refl)
 
   -- bytes that are no plan end the run
-  pub no-plan : (old new : Meaning) (before now : Faults) → FileHas name old.files (λ all. IsEnoughOf all bytes) → (stop : Outcome)
+  pub no-plan : (old new : Meaning) (before now : Faults) → FileHas name old.files (λ all. IsEnoughOf most_plan_bytes all bytes) → (stop : Outcome)
       → IsPlanAnswer (plan_of_text bytes) stop
       → PlanStops (Some name) (call_between old new before now) stop
   no-plan old new before now has (outcome.Refused (refusal.Plan r)) is = (refl, plan-refused old.files r has is)
   no-plan old new before now has (outcome.Refused (refusal.Read n r)) is = absurd is
   no-plan old new before now has (outcome.Refused (refusal.Bin count)) is = absurd is
+  no-plan old new before now has (outcome.Refused (refusal.Text r)) is = absurd is
   no-plan old new before now has (outcome.Refused (refusal.InputLimit n)) is = absurd is
   no-plan old new before now has (outcome.Refused (refusal.TooManyFiles n)) is = absurd is
   no-plan old new before now has (outcome.Refused (refusal.TooDeep n)) is = absurd is

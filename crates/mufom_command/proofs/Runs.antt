@@ -1,6 +1,6 @@
 -- A run comes to one end at most, since each of its parts does.
-use Rattle.std.proofs.Common.{◌≡◌, ◌⊎◌, ℕ, List, Option, Some, None, Result, Ok, Err, IfSome, not, Bool, cond, false, true, nat_lt, length, unwrap_or}
-use Rattle.std.proofs.Common.{[], refl, sym, ap, subst, ◌∙◌, flat_map, inl, inr}
+use Rattle.std.proofs.Common.{◌≡◌, ◌⊎◌, ℕ, ◌*◌, List, ◌∷◌, Option, Some, None, Result, Ok, Err, IfSome, not, Bool, cond, false, true, nat_lt, length}
+use Rattle.std.proofs.Common.{unwrap_or, [], refl, sym, ap, subst, ◌∙◌, flat_map, inl, inr}
 use Rattle.mufom_host.specs.World.{HoldBytes, NamedFile, file_named}
 use Rattle.mufom_words.specs.declared.command.Command.{Command}
 use Rattle.mufom_words.specs.declared.command.Verb.{Verb}
@@ -30,15 +30,22 @@ use Rattle.mufom_groups.specs.Linked.{joined, linked}
 use Rattle.mufom_groups.specs.Work.{Reached, gives, stops, Work, ◌>>=◌, with_stops, IsSingle}
 use Rattle.mufom_groups.proofs.Singles.{joined-single, linked-single}
 use Rattle.mufom_groups.proofs.Works.{sure-single, stop_at-single, one_with-single, nowhere-single, stops-single, then-single}
-use Rattle.mufom_command.specs.Stop.{Stop, words_refused, plan_refused, file_refused, past_limit, link_fact, locate_fact, raw_too_long}
+use Rattle.mufom_command.specs.Stop.{Stop, words_refused, plan_refused, file_refused, past_limit, link_fact, locate_fact, raw_too_long, text_refused}
 use Rattle.mufom_command.specs.Inputs.{HaveOneVerdict, Verdict, accepted, refused, past_limit as past, ComeTo}
 use Rattle.mufom_command.specs.Text.{Text, check_text, hit_text}
 use Rattle.mufom_numbers.specs.declared.limits.TheConstants.{MOST_FILE_BYTES}
 use Rattle.mufom_addr.specs.AddressHit.{hit_at}
 use Rattle.mufom_write.specs.Raw.{raw_image}
+use Rattle.mufom_meaning.specs.AddressMap.{AreRowsOf}
+use Rattle.mufom_meaning.proofs.locations.CellRows.{rows_are_single}
+use Rattle.mufom_titxt.specs.declared.refusal.TxtRefusal.{TxtRefusal}
+use Rattle.mufom_titxt.specs.TextModules.{text_parts}
+use Rattle.mufom_titxt.specs.Texts.{txt_cells, txt_refusal}
+use Rattle.mufom_titxt.specs.Written.{txt_text}
 use Rattle.mufom_command.specs.Commands.{Output, printed, made, form_of, prints, writes, file_in, plan_by, plan_in, modules_in, maus_of, located}
-use Rattle.mufom_command.specs.Commands.{located_unless, linked_file, locating, absolute_file, printed_hit, printed_image, raw_file, unless_too_long}
-use Rattle.mufom_command.specs.Commands.{listing, linking, work_of, work_by, run_of}
+use Rattle.mufom_command.specs.Commands.{located_unless, linked_file, locating, absolute_file, printed_hit, printed_image, raw_file, reading_text}
+use Rattle.mufom_command.specs.Commands.{runs_of_text, runs_unless, text_in, txt_file, unless_past_limit, unless_too_long, listing, linking, work_of}
+use Rattle.mufom_command.specs.Commands.{work_by, run_of}
 use Rattle.mufom_command.specs.Run.{AnswersBy, AnswersFor, Call, IsForced, outcome_of, stop_outcome, stop_answer}
 use Rattle.mufom_command.proofs.Verdicts.{one_verdict}
 
@@ -62,6 +69,7 @@ by_verdict files c (stops (plan_refused r)) is = absurd is
 by_verdict files c (stops (link_fact f)) is = absurd is
 by_verdict files c (stops (locate_fact maus f)) is = absurd is
 by_verdict files c (stops (raw_too_long count)) is = absurd is
+by_verdict files c (stops (text_refused r)) is = absurd is
 
 -- files come to one verdict
 pub one-verdict : HaveOneVerdict
@@ -80,6 +88,11 @@ writes-single : (name : Option (List ℕ)) (bytes : List ℕ) → IsSingle (writ
 writes-single None bytes = nowhere-single
 writes-single (Some name) bytes = sure-single (made name bytes)
 
+-- ---- a file
+
+one-file : (files : List NamedFile) (name : List ℕ) → IsSingle (file_in files name)
+one-file files name = one_with-single (λ bytes. file_named name files ≡ Some bytes) (λ a b is_a is_b. let same : Some a ≡ Some b = sym is_a ∙ is_b in cc)
+
 -- ---- the plan
 
 plan_by-single : (r : Result Plan PlanRefusal) → IsSingle (plan_by r)
@@ -89,8 +102,7 @@ plan_by-single (Err r) = stop_at-single (plan_refused r)
 pub plan_in-single : (files : List NamedFile) (name : Option (List ℕ)) → IsSingle (plan_in files name)
 plan_in-single files None = sure-single no_regions
 plan_in-single files (Some name) =
-    then-single (file_in files name) (λ bytes. plan_by (plan_of_text bytes))
-    (one_with-single (λ bytes. file_named name files ≡ Some bytes) (λ a b is_a is_b. let same : Some a ≡ Some b = sym is_a ∙ is_b in cc))
+    then-single (file_in files name) (λ bytes. plan_by (plan_of_text bytes)) (one-file files name)
     (λ bytes. plan_by-single (plan_of_text bytes))
 
 -- ---- what is put out of a list
@@ -119,6 +131,31 @@ raw_file-single c r = by (nat_lt MOST_FILE_BYTES (length (raw_image c.fill r.run
   by true = stop_at-single (raw_too_long (length (raw_image c.fill r.runs)))
   by false = writes-single c.out (raw_image c.fill r.runs)
 
+-- ---- a text
+
+text_in-single : (files : List NamedFile) (names : List (List ℕ)) → IsSingle (text_in files names)
+text_in-single files [] = nowhere-single
+text_in-single files (name ∷ names) =
+    then-single (file_in files name) (λ bytes. unless_past_limit (nat_lt MOST_FILE_BYTES (length bytes)) bytes) (one-file files name)
+    (λ bytes. by bytes (nat_lt MOST_FILE_BYTES (length bytes)))
+  where
+    by : (bytes : List ℕ) (b : Bool) → IsSingle (unless_past_limit b bytes)
+    by bytes true = stop_at-single (past_limit 0)
+    by bytes false = sure-single bytes
+
+runs_of_text-single : (maus : ℕ) (text : List ℕ) → IsSingle (runs_of_text maus text)
+runs_of_text-single maus text = by (txt_refusal text (8 * maus)) where
+  by : (o : Option TxtRefusal) → IsSingle (runs_unless o text)
+  by None = one_with-single (AreRowsOf (txt_cells text)) (λ runs other is_one is_other. rows_are_single (txt_cells text) runs other is_one is_other)
+  by (Some r) = stop_at-single (text_refused r)
+
+reading_text-single : (files : List NamedFile) (c : Command) → IsSingle (reading_text files c)
+reading_text-single files c =
+    then-single (text_in files c.files) (λ text. runs_of_text c.maus text >>= λ runs. writes c.out (written (text_parts c.maus runs)))
+    (text_in-single files c.files) λ text.
+    then-single (runs_of_text c.maus text) (λ runs. writes c.out (written (text_parts c.maus runs))) (runs_of_text-single c.maus text) λ runs.
+    writes-single c.out (written (text_parts c.maus runs))
+
 -- ---- the table
 
 module _ (files : List NamedFile) (bytes : HoldBytes files) (c : Command) where
@@ -146,6 +183,8 @@ module _ (files : List NamedFile) (bytes : HoldBytes files) (c : Command) where
   work_of-single verb.Addr = linking-single (locating printed_hit)
       (λ plan flat. locating-single c plan flat printed_hit (λ r. sure-single (printed (hit_text r.maus (hit_at r.debug c.at)))))
   work_of-single verb.Bin = linking-single (locating raw_file) (λ plan flat. locating-single c plan flat raw_file (raw_file-single c))
+  work_of-single verb.Txt = linking-single (locating txt_file) (λ plan flat. locating-single c plan flat txt_file (λ r. writes-single c.out (txt_text r.runs)))
+  work_of-single verb.FromTxt = reading_text-single files c
   work_of-single verb.Help = sure-single (printed (unwrap_or c.help []))
   work_of-single verb.Version = sure-single (printed (unwrap_or c.help []))
   work_of-single verb.Make = then-single (located (made_plan c.count) (made_modules c.count)) (λ r. prints (summary c.count r))

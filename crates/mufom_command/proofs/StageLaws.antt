@@ -19,7 +19,7 @@ use Rattle.mufom_groups.proofs.Singles.{linked-single}
 use Rattle.mufom_groups.proofs.Works.{stops-single}
 use Rattle.mufom_command.specs.Stop.{Stop, link_fact}
 use Rattle.mufom_command.specs.Commands.{Output, writes, plan_in, modules_in, located, linked_file, locating, absolute_file, printed_hit}
-use Rattle.mufom_command.specs.Commands.{printed_image, raw_file, linking, work_of}
+use Rattle.mufom_command.specs.Commands.{printed_image, raw_file, txt_file, linking, work_of}
 use Rattle.mufom_command.specs.RunLaws.{CameByStages, IsLinking, IsSameWork, LeadsTo, PutOutAlike, RunsOfStages, StagesMakeNoDifference, put_out_of}
 use Rattle.mufom_command.proofs.LocatingLaws.{located-back, located-forth}
 use Rattle.mufom_command.proofs.Runs.{modules_in-single, plan_in-single}
@@ -65,6 +65,8 @@ module _ (c : Command) (plan : Plan) (ms leaves : List Parts) (means : MeansTheS
   put_out-alike verb.Make = same-work nowhere
   put_out-alike verb.Addr = of_location printed_hit
   put_out-alike verb.Bin = of_location raw_file
+  put_out-alike verb.Txt = of_location txt_file
+  put_out-alike verb.FromTxt = same-work nowhere
   put_out-alike verb.Help = same-work nowhere
   put_out-alike verb.Version = same-work nowhere
 
@@ -107,6 +109,8 @@ runs-of-stages files c plan flat leaves bytes is_linking leads came = by_verb c.
   by_verb verb.Dump is_one = by_linking (locating printed_image) (alike verb.Dump)
   by_verb verb.Addr is_one = by_linking (locating printed_hit) (alike verb.Addr)
   by_verb verb.Bin is_one = by_linking (locating raw_file) (alike verb.Bin)
+  by_verb verb.Txt is_one = by_linking (locating txt_file) (alike verb.Txt)
+  by_verb verb.FromTxt never = absurd never
   by_verb verb.Help never = absurd never
   by_verb verb.Version never = absurd never
   by_verb verb.Make never = absurd never

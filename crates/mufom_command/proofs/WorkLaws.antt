@@ -16,7 +16,7 @@ use Rattle.mufom_groups.specs.Linked.{linked_module}
 use Rattle.mufom_groups.specs.Work.{Work, gives, stop_at, stops, with_stops}
 use Rattle.mufom_command.specs.Stop.{Stop, link_fact, raw_too_long}
 use Rattle.mufom_command.specs.Commands.{Output, printed, made, writes, plan_in, modules_in, linked_file, locating, absolute_file, printed_hit}
-use Rattle.mufom_command.specs.Commands.{printed_image, raw_file, unless_too_long, listing, linking, work_of}
+use Rattle.mufom_command.specs.Commands.{printed_image, raw_file, txt_file, unless_too_long, listing, linking, work_of}
 use Rattle.mufom_command.specs.InputsRead.{inputs_in}
 use Rattle.mufom_command.specs.Text.{Text}
 use Rattle.mufom_command.specs.WorkEnds.{LocatesTo, location_of}
@@ -139,6 +139,8 @@ locating-begins verb.Locate is c = linking-begins (locating absolute_file) c
 locating-begins verb.Dump is c = linking-begins (locating printed_image) c
 locating-begins verb.Addr is c = linking-begins (locating printed_hit) c
 locating-begins verb.Bin is c = linking-begins (locating raw_file) c
+locating-begins verb.Txt is c = linking-begins (locating txt_file) c
+locating-begins verb.FromTxt never c = absurd never
 
 -- and where the locating does
 pub verb-stops : (v : Verb) → IsLocating v → (c : Command) (plan : Plan) (ms : List Parts) (files : List NamedFile)
@@ -154,3 +156,5 @@ verb-stops verb.Locate is c = locating-stops absolute_file c
 verb-stops verb.Dump is c = locating-stops printed_image c
 verb-stops verb.Addr is c = locating-stops printed_hit c
 verb-stops verb.Bin is c = locating-stops raw_file c
+verb-stops verb.Txt is c = locating-stops txt_file c
+verb-stops verb.FromTxt never c = absurd never

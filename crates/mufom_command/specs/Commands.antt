@@ -1,7 +1,7 @@
 -- The table of commands: what the work of each is, from its inputs to its output. A run comes to what the words and the files state, and
 -- to nothing else.
-use Rattle.std.specs.Prelude.{◌≡◌, ℕ, Bool, true, false, List, [], ◌∷◌, flat_map, length, nat_lt, not, unwrap_or, Option, Some, None, Result, Ok, Err}
-use Rattle.std.specs.Prelude.{if◌then◌else◌}
+use Rattle.std.specs.Prelude.{◌≡◌, ℕ, ◌*◌, Bool, true, false, List, [], ◌∷◌, flat_map, length, nat_lt, not, unwrap_or, Option, Some, None, Result, Ok}
+use Rattle.std.specs.Prelude.{Err, if◌then◌else◌}
 use Rattle.mufom_host.specs.World.{NamedFile, file_named}
 use Rattle.mufom_words.specs.declared.command.Command.{Command}
 use Rattle.mufom_words.specs.declared.command.Verb.{Verb}
@@ -26,10 +26,16 @@ use Rattle.mufom_meaning.specs.Location.{IsLocation}
 use Rattle.mufom_make.specs.Generated.{made_modules, made_plan, summary}
 use Rattle.mufom_groups.specs.Work.{gives, stops, Work, ◌>>=◌, sure, one_with, stop_at, nowhere, with_stops}
 use Rattle.mufom_groups.specs.Linked.{joined, linked}
-use Rattle.mufom_command.specs.Stop.{Stop, words_refused, plan_refused, file_refused, past_limit, link_fact, locate_fact, raw_too_long}
+use Rattle.mufom_command.specs.Stop.{Stop, words_refused, plan_refused, file_refused, past_limit, link_fact, locate_fact, raw_too_long, text_refused}
 use Rattle.mufom_command.specs.Inputs.{ComeTo, accepted, refused, past_limit as past}
 use Rattle.mufom_write.specs.Raw.{raw_image}
 use Rattle.mufom_addr.specs.AddressHit.{hit_at}
+use Rattle.mufom_meaning.specs.declared.located.Run.{Run}
+use Rattle.mufom_titxt.specs.declared.refusal.TxtRefusal.{TxtRefusal}
+use Rattle.mufom_titxt.specs.TextModules.{text_parts}
+use Rattle.mufom_titxt.specs.Texts.{txt_cells, txt_refusal}
+use Rattle.mufom_titxt.specs.Written.{txt_text}
+use Rattle.mufom_meaning.specs.AddressMap.{AreRowsOf}
 use Rattle.mufom_numbers.specs.declared.limits.TheConstants.{MOST_FILE_BYTES}
 use Rattle.mufom_command.specs.Text.{Text, check_text, hit_text}
 
@@ -72,6 +78,18 @@ modules_in files c (gives ms) = ComeTo (not c.no_debug) files c.files (accepted 
 modules_in files c (stops (file_refused n r)) = ComeTo (not c.no_debug) files c.files (refused n r)
 modules_in files c (stops (past_limit n)) = ComeTo (not c.no_debug) files c.files (past n)
 modules_in files c (stops _) = ⊥
+
+-- the bytes of a text, unless they are too many
+abbrev pub unless_past_limit : Bool → List ℕ → Work Stop (List ℕ)
+unless_past_limit true bytes = stop_at (past_limit 0)
+unless_past_limit false bytes = sure bytes
+
+-- the bytes of the first of the files, as a text
+abbrev pub text_in : List NamedFile → List (List ℕ) → Work Stop (List ℕ)
+text_in files [] = nowhere
+text_in files (name ∷ _) = do
+  bytes ← file_in files name
+  unless_past_limit (nat_lt MOST_FILE_BYTES (length bytes)) bytes
 
 -- ---- locating
 
@@ -121,6 +139,10 @@ unless_too_long false out bytes = writes out bytes
 abbrev pub raw_file : Command → LocatedParts → Work Stop Output
 raw_file c r = unless_too_long (nat_lt MOST_FILE_BYTES (length (raw_image c.fill r.runs))) c.out (raw_image c.fill r.runs)
 
+-- the file of the TI-TXT text of its image
+abbrev pub txt_file : Command → LocatedParts → Work Stop Output
+txt_file c r = writes c.out (txt_text r.runs)
+
 -- the lines of the function and the source line at an address
 abbrev pub printed_hit : Command → LocatedParts → Work Stop Output
 printed_hit c r = prints (hit_text r.maus (hit_at r.debug c.at))
@@ -140,6 +162,22 @@ linking output files c = do
   ms ← modules_in files c
   flat ← with_stops link_fact (linked (tree_of c.marks) ms)
   output c plan flat
+
+-- the rows of the bytes that a text gives to addresses, unless something is wrong with it
+abbrev pub runs_unless : Option TxtRefusal → List ℕ → Work Stop (List Run)
+runs_unless None text = one_with (AreRowsOf (txt_cells text))
+runs_unless (Some r) text = stop_at (text_refused r)
+
+-- the same of a text whose addresses have this many bytes
+abbrev pub runs_of_text : ℕ → List ℕ → Work Stop (List Run)
+runs_of_text maus text = runs_unless (txt_refusal text (8 * maus)) text
+
+-- The text is read, and the file of the module of its rows is made.
+abbrev pub reading_text : List NamedFile → Command → Work Stop Output
+reading_text files c = do
+  text ← text_in files c.files
+  runs ← runs_of_text c.maus text
+  writes c.out (written (text_parts c.maus runs))
 
 -- The generated modules are located, and the summary of their location is printed. No file is read.
 abbrev pub making : List NamedFile → Command → Work Stop Output
@@ -168,6 +206,8 @@ work_of verb.Dump = linking (locating printed_image)
 work_of verb.Make = making
 work_of verb.Addr = linking (locating printed_hit)
 work_of verb.Bin = linking (locating raw_file)
+work_of verb.Txt = linking (locating txt_file)
+work_of verb.FromTxt = reading_text
 work_of verb.Help = helping
 work_of verb.Version = helping
 

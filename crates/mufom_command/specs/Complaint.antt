@@ -23,6 +23,8 @@ use Rattle.mufom_command.specs.declared.outcome.Outcome.{Outcome}
 use Rattle.mufom_command.specs.declared.outcome.Outcome.TheVariants as outcome
 use Rattle.mufom_command.specs.declared.outcome.Refusal.{Refusal}
 use Rattle.mufom_command.specs.declared.outcome.Refusal.TheVariants as refusal
+use Rattle.mufom_titxt.specs.declared.refusal.TxtReason.{TxtReason}
+use Rattle.mufom_titxt.specs.declared.refusal.TxtReason.TheVariants as txt
 use Rattle.mufom_words.specs.declared.stop.UsageFault.{UsageFault}
 use Rattle.mufom_words.specs.declared.stop.UsageFault.TheVariants as usage
 use Rattle.mufom_text.specs.Image.{address}
@@ -148,6 +150,15 @@ locate_text maus (locate.LoadedTwice a) = codes "LoadedTwice " ++ address maus a
 locate_text maus (locate.ImageLimit count) = codes "ImageLimit " ++ decimal count
 locate_text maus locate.NoMemory = []
 
+-- what is wrong with a line of a TI-TXT text
+abbrev pub txt_reason_text : TxtReason → Text
+txt_reason_text txt.BadLine = codes "BadLine"
+txt_reason_text txt.NoAddress = codes "NoAddress"
+txt_reason_text txt.Beyond = codes "Beyond"
+txt_reason_text (txt.Twice address) = codes "Twice " ++ decimal address
+txt_reason_text txt.AfterEnd = codes "AfterEnd"
+txt_reason_text txt.NoEnd = codes "NoEnd"
+
 abbrev pub refusal_text : Refusal → Text
 refusal_text (refusal.Read n r) = codes "file " ++ decimal n ++ codes " at " ++ decimal r.place ++ codes ": " ++ reason_text r.reason
 refusal_text (refusal.InputLimit n) = codes "file " ++ decimal n ++ codes ": InputLimit"
@@ -157,6 +168,7 @@ refusal_text (refusal.Plan p) = codes "plan: " ++ plan_text p
 refusal_text (refusal.Link l) = codes "link: " ++ link_text l
 refusal_text (refusal.Locate l maus) = codes "locate: " ++ locate_text maus l
 refusal_text (refusal.Bin count) = codes "bin: TooLong " ++ decimal count
+refusal_text (refusal.Text r) = codes "text line " ++ decimal r.line ++ codes ": " ++ txt_reason_text r.reason
 
 abbrev pub input_text : Input → Text
 input_text input.Plan = codes "plan"

@@ -1,6 +1,8 @@
 -- What printing a text and making a file have done, with the answer of the run.
-use Rattle.std.specs.Prelude.{ℕ, ◌≤◌, List}
+use Rattle.std.specs.Prelude.{ℕ, ◌<◌, ◌≤◌, List, length}
 use Rattle.mufom_host.specs.World.{KeepsAllButFile, KeepsAllButWrites, Rose}
+use Rattle.mufom_meaning.specs.declared.located.Run.{Run}
+use Rattle.mufom_titxt.specs.Written.{run_text}
 use Rattle.mufom_command.specs.declared.outcome.Outcome.{Outcome}
 use Rattle.mufom_command.specs.declared.outcome.Outcome.TheVariants as outcome
 use Rattle.mufom_command.specs.Run.{Call, BeginsFile, BeginsText, MakesFile, PrintsText, PutsOutNothing}
@@ -24,3 +26,11 @@ pub record IsMadeAlone (name bytes : List ℕ) (call : Call) (result : Outcome) 
   pub only : KeepsAllButFile call.old call.new
   pub counts : KeepsAllButWrites call.before call.now
   pub later : call.before.writes ≤ call.now.writes
+
+-- the run has a byte
+abbrev pub HasByte : Run → Type 0
+HasByte run = 0 < length run.bytes
+
+-- its lines in a TI-TXT text
+abbrev pub run_lines : Run → List ℕ
+run_lines run = run_text run.address run.bytes

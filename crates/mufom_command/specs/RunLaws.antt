@@ -28,7 +28,7 @@ use Rattle.mufom_write.specs.Raw.{raw_image}
 use Rattle.mufom_numbers.specs.declared.limits.TheConstants.{MOST_FILE_BYTES}
 use Rattle.mufom_command.specs.Stop.{Stop}
 use Rattle.mufom_command.specs.Commands.{Output, made, plan_in, modules_in, linked_file, locating, absolute_file, printed_hit, printed_image}
-use Rattle.mufom_command.specs.Commands.{raw_file, work_of, run_of}
+use Rattle.mufom_command.specs.Commands.{raw_file, txt_file, work_of, run_of}
 use Rattle.mufom_command.specs.Run.{Call, outcome_of, Answers}
 
 -- ---- the answer of a run
@@ -70,6 +70,7 @@ IsLocating verb.Locate = Unit {0}
 IsLocating verb.Dump = Unit {0}
 IsLocating verb.Addr = Unit {0}
 IsLocating verb.Bin = Unit {0}
+IsLocating verb.Txt = Unit {0}
 IsLocating _ = ⊥
 
 -- what the command puts out of a location may be put out: a raw image has not too many bytes
@@ -104,6 +105,7 @@ IsLinking verb.Locate = Unit {0}
 IsLinking verb.Dump = Unit {0}
 IsLinking verb.Addr = Unit {0}
 IsLinking verb.Bin = Unit {0}
+IsLinking verb.Txt = Unit {0}
 IsLinking _ = ⊥
 
 -- what is put out of a list by a command that links files; nothing by another
@@ -113,6 +115,7 @@ put_out_of verb.Locate = locating absolute_file
 put_out_of verb.Dump = locating printed_image
 put_out_of verb.Addr = locating printed_hit
 put_out_of verb.Bin = locating raw_file
+put_out_of verb.Txt = locating txt_file
 put_out_of _ = λ c plan ms. nowhere
 
 -- what each command puts out of two lists is the same

@@ -3,10 +3,12 @@ use Rattle.std.specs.Prelude.{ℕ}
 use Rattle.mufom_words.specs.declared.stop.WordsStop.{WordsStop}
 use Rattle.mufom_plan.specs.declared.refusal.PlanRefusal.{PlanRefusal}
 use Rattle.mufom_read.specs.declared.refusal.ReadRefusal.{ReadRefusal}
+use Rattle.mufom_titxt.specs.declared.refusal.TxtRefusal.{TxtRefusal}
 use Rattle.mufom_meaning.specs.Facts.{LinkFact, LocateFact}
 
 -- The words; the bytes of the plan's file; a file, by its number, whose bytes are refused, or in which the files have too many bytes; a
--- link fact; a locate fact, with the number of bytes of an address; or a raw image with this many bytes, which are too many.
+-- link fact; a locate fact, with the number of bytes of an address; a raw image with this many bytes, which are too many; or bytes that are
+-- no TI-TXT text.
 pub data Stop : Type 0 where
   words_refused : WordsStop → Stop
   plan_refused : PlanRefusal → Stop
@@ -15,3 +17,4 @@ pub data Stop : Type 0 where
   link_fact : LinkFact → Stop
   locate_fact : ℕ → LocateFact → Stop
   raw_too_long : ℕ → Stop
+  text_refused : TxtRefusal → Stop

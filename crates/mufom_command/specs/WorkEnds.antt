@@ -22,7 +22,7 @@ use Rattle.mufom_command.specs.InputsRead.{inputs_in}
 use Rattle.mufom_command.specs.declared.outcome.Outcome.{Outcome}
 use Rattle.mufom_command.specs.declared.outcome.Outcome.TheVariants as outcome
 use Rattle.mufom_command.specs.declared.outcome.Refusal.TheVariants as refusal
-use Rattle.mufom_command.specs.Stop.{Stop, link_fact, locate_fact, raw_too_long}
+use Rattle.mufom_command.specs.Stop.{Stop, link_fact, locate_fact, raw_too_long, text_refused}
 use Rattle.mufom_command.specs.Run.{stop_outcome}
 
 abbrev pub outcome_of_link : LinkRefusal → Outcome
@@ -52,13 +52,14 @@ location_of c plan ms = do
 abbrev pub LocatesTo : List NamedFile → Command → LocatedParts → Type 0
 LocatesTo files c r = (plan : Plan) × (ms : List Parts) × inputs_in files c (gives (plan, ms)) × location_of c plan ms (gives r)
 
--- the end is a fact about the modules
+-- the end is a fact about the modules, or about the text that was read
 abbrev pub IsOfModules : Stop → Type 0
 IsOfModules (link_fact f) = Unit {0}
 IsOfModules (locate_fact maus f) = Unit {0}
 IsOfModules (raw_too_long count) = Unit {0}
+IsOfModules (text_refused r) = Unit {0}
 IsOfModules _ = ⊥
 
--- the answer is out of memory, or that of a fact about the modules that ends the work
+-- the answer is out of memory, or that of such a fact that ends the work
 abbrev pub EndsAt : {A : Type 0} → Work Stop A → Outcome → Type 0
 EndsAt work result = (result ≡ outcome.NoMemory) ⊎ ((s : Stop) × IsOfModules s × (result ≡ stop_outcome s) × work (stops s))

@@ -8,12 +8,13 @@ ghost use Rattle.mufom_command.specs.Run.{call_of, Answers, Does, DoesWords, IsC
 
 use crate::error_line::print_error_line;
 use crate::help::help;
-use crate::images::{bin, dump, locate_files};
+use crate::images::{bin, dump, locate_files, txt};
 use crate::linking::link;
 use crate::listing::{check, show};
 use crate::making::make;
 use crate::outcome::{Outcome, Refusal};
 use crate::query::addr;
+use crate::texts::fromtxt;
 use mufom_host::Host;
 use mufom_words::{Command, Verb, WordsStop, read_words};
 use std::alloc::Global;
@@ -44,6 +45,8 @@ fn run_command<H: Host>(alloc: Global, command: &Command, host: &mut H) -> Outco
         Verb::Make => make(alloc, command, host),
         Verb::Addr => addr(alloc, command, host),
         Verb::Bin => bin(alloc, command, host),
+        Verb::Txt => txt(alloc, command, host),
+        Verb::FromTxt => fromtxt(alloc, command, host),
         Verb::Help | Verb::Version => help(command, host),
     }
 }
@@ -61,7 +64,7 @@ fn answer<H: Host>(alloc: Global, words: &[String], host: &mut H) -> Outcome
 
 /// Runs the command that the words name: `show FILE`, `check FILE ...`, `link -o OUT FILES`,
 /// `locate -o OUT FILES`, `dump FILES`, `make COUNT`, `addr --at ADDRESS FILES`, `bin -o OUT FILES`,
-/// `help` or `version`, each with its options.
+/// `txt -o OUT FILES`, `fromtxt -o OUT FILE`, `help` or `version`, each with its options.
 ///
 /// `words` are the command line's words without the program's name, fewer than 2^32. The plan is
 /// read first, where one is named, and then the files. Every outcome but `Done` prints one error line;

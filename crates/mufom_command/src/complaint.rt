@@ -3,7 +3,7 @@
 ghost use Rattle.std.specs.Prelude.{◌≡◌, ◌++◌, IfOk, OnOk};
 ghost use Rattle.std.specs.String.{string_bytes};
 ghost use Rattle.mufom_text.specs.Show.{order_letter};
-ghost use Rattle.mufom_command.specs.Complaint.{complaint, field_text, plan_text, reason_text};
+ghost use Rattle.mufom_command.specs.Complaint.{complaint, field_text, plan_text, reason_text, txt_reason_text};
 
 use crate::locate_text::{push_locate, push_region};
 use crate::outcome::{Input, Outcome, Refusal};
@@ -15,6 +15,7 @@ use mufom_numbers::{Bytes, NoMemory, Reason};
 use mufom_plan::{PlanField, PlanRefusal};
 use mufom_read::ReadRefusal;
 use mufom_text::quoted_name;
+use mufom_titxt::{TxtReason, TxtRefusal};
 use mufom_words::UsageFault;
 use std::alloc::Global;
 
@@ -220,6 +221,34 @@ fn raw_line(alloc: Global, count: u128) -> Result<String, NoMemory>
     Ok(format!(in alloc; "refused: bin: TooLong {count}\n")?)
 }
 
+// Adds what is wrong with a line of a text.
+fn push_text_reason(alloc: Global, text: &mut Vec<u8>, reason: TxtReason) -> Result<(), NoMemory>
+    ensures { OnOk result (text.new.items ≡ text.old.items ++ txt_reason_text reason) }
+{
+    match reason {
+        TxtReason::BadLine => text.extend_from_slice(b"BadLine")?,
+        TxtReason::NoAddress => text.extend_from_slice(b"NoAddress")?,
+        TxtReason::Beyond => text.extend_from_slice(b"Beyond")?,
+        TxtReason::Twice(address) => {
+            text.extend_from_slice(format!(in alloc; "Twice {address}")?.as_bytes())?;
+        }
+        TxtReason::AfterEnd => text.extend_from_slice(b"AfterEnd")?,
+        TxtReason::NoEnd => text.extend_from_slice(b"NoEnd")?,
+    }
+    Ok(())
+}
+
+// The line of bytes that are no text.
+fn text_line(alloc: Global, refusal: TxtRefusal) -> Result<Vec<u8>, NoMemory>
+    ensures { IfOk result (λ text. text.items ≡ complaint (Outcome.Refused (Refusal.Text refusal))) }
+{
+    let number = refusal.line;
+    let mut line = format!(in alloc; "refused: text line {number}: ")?.into_bytes();
+    push_text_reason(alloc, &mut line, refusal.reason)?;
+    line.push(b'\n')?;
+    Ok(line)
+}
+
 /// The line of a refusal.
 pub(crate) fn refusal_line(alloc: Global, refusal: &Refusal) -> Result<Vec<u8>, NoMemory>
     ensures { IfOk result (λ text. text.items ≡ complaint (Outcome.Refused refusal.now)) }
@@ -233,6 +262,7 @@ pub(crate) fn refusal_line(alloc: Global, refusal: &Refusal) -> Result<Vec<u8>, 
         Refusal::Link(refusal) => link_line(alloc, refusal),
         Refusal::Locate(refusal, maus) => locate_line(alloc, refusal, *maus),
         Refusal::Bin(count) => Ok(raw_line(alloc, *count)?.into_bytes()),
+        Refusal::Text(refusal) => text_line(alloc, *refusal),
     }
 }
 

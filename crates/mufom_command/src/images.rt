@@ -1,4 +1,4 @@
-//! The commands that put out what files are located as: `locate`, `dump` and `bin`.
+//! The commands that put out what files are located as: `locate`, `dump`, `bin` and `txt`.
 
 ghost use Rattle.std.specs.Prelude.{◌≡◌, ◌<◌, ◌^◌, None, Some, IfErr, IfOk, IsSome, true, ℕ, List as list, length};
 ghost use Rattle.mufom_numbers.specs.declared.limits.TheConstants.{MOST_FILE_BYTES as most};
@@ -6,16 +6,17 @@ ghost use Rattle.mufom_host.specs.World.{OnlyPrints};
 ghost use Rattle.mufom_module.specs.Written.{weight};
 ghost use Rattle.mufom_meaning.specs.Absolute.{absolute_of};
 ghost use Rattle.mufom_text.specs.Image.{image_text};
+ghost use Rattle.mufom_titxt.specs.Written.{txt_text};
 ghost use Rattle.mufom_write.specs.Raw.{raw_image};
 ghost use Rattle.mufom_words.specs.Options.{reads_files};
 ghost use Rattle.mufom_words.specs.Sound.{IsSound};
-ghost use Rattle.mufom_command.specs.Commands.{absolute_file, linking, locating, printed_image, raw_file};
+ghost use Rattle.mufom_command.specs.Commands.{absolute_file, linking, locating, printed_image, raw_file, txt_file};
 ghost use Rattle.mufom_command.specs.Making.{IsMadeAlone, IsPrinted};
 ghost use Rattle.mufom_command.specs.Run.{call_of, Does};
 
 use crate::linking::{locate_inputs, make_output};
 use crate::outcome::{Outcome, Refusal};
-use crate::writing::make_raw_file;
+use crate::writing::{make_raw_file, make_text_file};
 use mufom_host::Host;
 use mufom_image::{Located, absolute};
 use mufom_numbers::limits::MOST_FILE_BYTES;
@@ -45,6 +46,19 @@ fn make_raw<H: Host>(command: &Command, located: &Located, host: &mut H) -> Outc
     let runs = located.parts().runs.as_slice();
     match &command.out {
         Some(name) => make_raw_file(name.as_str(), runs, command.fill, host),
+        None => unreachable!(),
+    }
+}
+
+// Makes the file that the command names, of the TI-TXT text of a location.
+fn make_text<H: Host>(command: &Command, located: &Located, host: &mut H) -> Outcome
+    requires { IsSome command.now.out }
+    ensures { (name : list ℕ) → command.now.out ≡ Some name
+        → IsMadeAlone name (txt_text located.now.runs) (call_of H.meaning H.faults host.old host.new) result }
+{
+    let runs = located.parts().runs.as_slice();
+    match &command.out {
+        Some(name) => make_text_file(name.as_str(), runs, host),
         None => unreachable!(),
     }
 }
@@ -99,4 +113,18 @@ pub(crate) fn bin<H: Host>(alloc: Global, command: &Command, host: &mut H) -> Ou
         return Outcome::Refused(Refusal::Bin(count));
     }
     make_raw(command, &located, host)
+}
+
+/// Locates the files of the command, and makes a file of the TI-TXT text of the image.
+pub(crate) fn txt<H: Host>(alloc: Global, command: &Command, host: &mut H) -> Outcome
+    requires sound { IsSound command.now }
+    requires of_files { reads_files command.now.verb ≡ true }
+    requires unnamed { command.now.name ≡ None }
+    requires file { IsSome command.now.out }
+    ensures { Does command.now (λ files. linking (locating txt_file) files command.now) (call_of H.meaning H.faults host.old host.new) result }
+{
+    match locate_inputs(alloc, command, host) {
+        Ok(located) => make_text(command, &located, host),
+        Err(stop) => stop,
+    }
 }

@@ -4,10 +4,11 @@
 //! `show FILE` prints the text of a module, and `check FILE ...` a line for each module. `link`
 //! makes a file of the module into which modules are linked, with groups and members; `locate` makes a
 //! file of the absolute module of its location by a plan, `dump` prints the image, `bin` makes a file of
-//! its raw bytes, and `addr` prints the function and the source line at an address. `make` generates
-//! modules, locates them and prints a summary. `help` and `version` print texts of the program. The main
-//! clause is the contract of [`run`]: each answer has its cause in the words, the files or the counts of
-//! faults, and what was put out, printed as errors and opened is stated exactly.
+//! its raw bytes and `txt` one of its TI-TXT text, and `addr` prints the function and the source line at
+//! an address. `fromtxt` makes a file of the module of a TI-TXT text. `make` generates modules, locates
+//! them and prints a summary. `help` and `version` print texts of the program. The main clause is the
+//! contract of [`run`]: each answer has its cause in the words, the files or the counts of faults, and
+//! what was put out, printed as errors and opened is stated exactly.
 #![tactic(auto)]
 
 mod command;
@@ -25,6 +26,8 @@ mod making;
 mod outcome;
 mod plan_file;
 mod query;
+mod texts;
+mod whole_file;
 mod writing;
 
 pub use command::run;

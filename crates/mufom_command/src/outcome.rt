@@ -5,6 +5,7 @@ use mufom_image::LocateRefusal;
 use mufom_link::LinkRefusal;
 use mufom_plan::PlanRefusal;
 use mufom_read::ReadRefusal;
+use mufom_titxt::TxtRefusal;
 use mufom_words::UsageFault;
 
 /// An input of a run.
@@ -35,6 +36,8 @@ pub enum Refusal {
     Locate(LocateRefusal, u8),
     /// The raw image would have this many bytes, which are too many.
     Bin(u128),
+    /// The bytes of the file are no TI-TXT text.
+    Text(TxtRefusal),
 }
 
 /// How a run ended.

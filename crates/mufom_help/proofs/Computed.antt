@@ -2,8 +2,8 @@
 use Rattle.std.specs.Prelude.{◌≡◌, true, ◌++◌, ◌&&◌, List, take, drop}
 use Rattle.std.proofs.Common.{refl, ap, ◌∙◌}
 use Rattle.std.proofs.lemmas.List.Folds.{list_all-append}
-use Rattle.mufom_help.specs.Topics.{Topic, commands, records, structure, inputs, linking, locating}
-use Rattle.mufom_help.specs.Topics.{link_errors, module_errors, read_errors, errors, topics}
+use Rattle.mufom_help.specs.Topics.{Topic, commands, records, structure, inputs, texts, linking, locating}
+use Rattle.mufom_help.specs.Topics.{input_errors, link_errors, module_errors, read_errors, errors, topics}
 use Rattle.mufom_help.specs.Pages.{are_pages, is_page, fits_a_screen, have_own_names, piece_lengths, are_ended}
 use Rattle.mufom_help.specs.declared.commands.TheConstants.{LIST}
 
@@ -47,6 +47,10 @@ inputs-pages : are_pages inputs ≡ true
 unfolding piece_lengths are_ended
 inputs-pages = refl
 
+texts-pages : are_pages texts ≡ true
+unfolding piece_lengths are_ended
+texts-pages = refl
+
 linking-pages : are_pages linking ≡ true
 unfolding piece_lengths are_ended
 linking-pages = refl
@@ -58,12 +62,15 @@ locating-pages = refl
 link-pages : are_pages link_errors ≡ true
 link-pages = joined-pages linking locating linking-pages locating-pages
 
+input-pages : are_pages input_errors ≡ true
+input-pages = joined-pages inputs texts inputs-pages texts-pages
+
 module-pages : are_pages module_errors ≡ true
 module-pages = joined-pages records structure records-pages structure-pages
 
 read-pages : are_pages read_errors ≡ true
 unfolding read_errors
-read-pages = joined-pages module_errors inputs module-pages inputs-pages
+read-pages = joined-pages module_errors input_errors module-pages input-pages
 
 error-pages : are_pages errors ≡ true
 unfolding errors

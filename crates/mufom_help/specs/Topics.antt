@@ -9,6 +9,8 @@ use Rattle.mufom_help.specs.declared.commands.TheConstants.{
   LOCATE,
   DUMP,
   BIN,
+  TXT,
+  FROM_TXT,
   ADDR,
   MAKE,
   HELP,
@@ -60,6 +62,7 @@ use Rattle.mufom_help.specs.declared.inputs.TheConstants.{
   SHAPE,
   BEYOND,
 }
+use Rattle.mufom_help.specs.declared.texts.TheConstants.{BAD_LINE, NO_ADDRESS, TWICE, NO_END}
 use Rattle.mufom_help.specs.declared.linking.TheConstants.{MISMATCH, DUPLICATE, DUPLICATE_START}
 use Rattle.mufom_help.specs.declared.locating.TheConstants.{
   UNPLACED,
@@ -91,6 +94,8 @@ commands =
     (codes "locate", LOCATE.now) ∷
     (codes "dump", DUMP.now) ∷
     (codes "bin", BIN.now) ∷
+    (codes "txt", TXT.now) ∷
+    (codes "fromtxt", FROM_TXT.now) ∷
     (codes "addr", ADDR.now) ∷
     (codes "make", MAKE.now) ∷
     (codes "help", HELP.now) ∷
@@ -152,6 +157,15 @@ inputs =
     (codes "Beyond", BEYOND.now) ∷
     []
 
+-- errors in a TI-TXT text
+abbrev pub texts : List Topic
+texts =
+    (codes "BadLine", BAD_LINE.now) ∷
+    (codes "NoAddress", NO_ADDRESS.now) ∷
+    (codes "Twice", TWICE.now) ∷
+    (codes "NoEnd", NO_END.now) ∷
+    []
+
 -- errors in linking
 abbrev pub linking : List Topic
 linking =
@@ -180,13 +194,17 @@ locating =
 abbrev pub module_errors : List Topic
 module_errors = records ++ structure
 
+-- errors in what is no module: the list of input files, the plan and texts
+abbrev pub input_errors : List Topic
+input_errors = inputs ++ texts
+
 -- errors in linking and locating
 abbrev pub link_errors : List Topic
 link_errors = linking ++ locating
 
 -- errors in what a run reads
 unfoldable pub read_errors : List Topic
-read_errors = module_errors ++ inputs
+read_errors = module_errors ++ input_errors
 
 -- all errors
 unfoldable pub errors : List Topic

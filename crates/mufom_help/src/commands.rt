@@ -15,6 +15,8 @@ Commands:
   locate [--no-debug] [--plan PLAN] -o OUT FILES
   dump [--no-debug] [--plan PLAN] FILES
   bin [--no-debug] [--plan PLAN] [--fill BYTE] -o OUT FILES
+  txt [--no-debug] [--plan PLAN] -o OUT FILES
+  fromtxt [--maus N] -o OUT FILE
   addr [--plan PLAN] --at ADDRESS FILES
   make COUNT
   help [COMMAND or NAME]
@@ -200,6 +202,62 @@ Example:
   mufom bin --plan plan.toml --fill FF -o rom.bin program.695 + library.695
 ";
 
+/// The text of `help txt`.
+pub const TXT: &str = "txt: links and locates modules, and writes the image as a TI-TXT text
+
+Usage: mufom txt [--no-debug] [--plan PLAN] -o OUT FILES
+
+Links and locates FILES as `locate` does, and writes the loaded bytes to OUT as
+TI-TXT, which flash programmers read: for each row of loaded addresses a line
+`@` with its first address, then lines of up to 16 bytes, and at the end the
+line `q`. Addresses and bytes are hexadecimal. The start address, the public
+symbols and the debug items are not in it.
+
+FILES are files and groups, then perhaps a + and members:
+  a.695 [ b.695 c.695 ] + library.695
+
+Options:
+  --no-debug    skip the debug parts without reading them
+  --plan PLAN   the file of the memory plan, a TOML document
+  -o OUT        the file to write; required
+  --            end the options; brackets and + keep their meaning
+
+Exit status:
+  0 done, 1 refused, 2 usage, 3 read fault, 4 write fault (a part of OUT may
+  remain), 5 out of memory
+
+Example:
+  mufom txt --plan plan.toml -o rom.txt program.695 + library.695
+";
+
+/// The text of `help fromtxt`.
+pub const FROM_TXT: &str = "fromtxt: makes a module of a TI-TXT text
+
+Usage: mufom fromtxt [--maus N] -o OUT FILE
+
+Reads a TI-TXT text and writes a module to OUT that loads its bytes at its
+addresses: an absolute section for each row of neighbouring addresses, and
+nothing else. The module can be linked, located and dumped like any other.
+
+A line of FILE is `@` and an address of 1 to 16 hexadecimal digits; or bytes of
+two hexadecimal digits with spaces between them; or `q`, which ends the text.
+Blank lines, spaces around a line, and digits of either case are allowed. FILE
+has at most 67,108,864 bytes.
+
+Options:
+  --maus N   the number of bytes in an address of the module, 1 to 8; 4 without
+             this option
+  -o OUT     the file to write; required
+  --         end the options; what follows is the name of a file
+
+Exit status:
+  0 done, 1 refused, 2 usage, 3 read fault, 4 write fault (a part of OUT may
+  remain), 5 out of memory
+
+Example:
+  mufom fromtxt -o rom.695 rom.txt
+";
+
 /// The text of `help addr`.
 pub const ADDR: &str = "addr: prints the function and the source line at an address
 
@@ -296,6 +354,8 @@ pub(crate) fn command_topic(word: &str) -> Option<&'static str>
         "locate" => Some(LOCATE),
         "dump" => Some(DUMP),
         "bin" => Some(BIN),
+        "txt" => Some(TXT),
+        "fromtxt" => Some(FROM_TXT),
         "addr" => Some(ADDR),
         "make" => Some(MAKE),
         "help" => Some(HELP),

@@ -17,7 +17,8 @@ Usual causes:
   - One of the files is not an object module but, say, a disk image.
 
 What to do:
-  - Check the name of file N. Brackets and + are not counted.
+  - Check the name of file N. Brackets and + are not counted. For `fromtxt` it
+    is the text, file 0; cut a long text in two, and link the two modules.
   - Link in stages: `mufom link -o part.695 ..` over some of the files, then
     name part.695 in their place. With --no-debug the result has no debug part.
   - Leave out members that the program does not need.
@@ -111,7 +112,7 @@ What to do:
 ";
 
 /// The text of `help Beyond`.
-pub const BEYOND: &str = "Beyond: a region is above the highest address allowed
+pub const BEYOND: &str = "Beyond: a region or a byte is above the highest address allowed
 
   refused: plan: Beyond region R
     R is the number of a region in the plan, from 0. Its base plus its size is
@@ -119,6 +120,13 @@ pub const BEYOND: &str = "Beyond: a region is above the highest address allowed
     is given as the last address, or has a digit too many. `size` is the number
     of addressable units in the region: a region from 0x1000 to 0x1FFF has the
     base 0x1000 and the size 0x1000.
+
+  refused: text line N: Beyond
+    Line N, counted from 1, has a byte at an address that does not fit in the
+    bytes of an address: 4 bytes, which end at FFFFFFFF, or as many as --maus
+    gives. The usual causes are an address with a digit too many, and a text
+    for a processor with longer addresses. Correct the address line before line
+    N, or give the number of bytes: mufom fromtxt --maus 8.
 ";
 
 /// The text of an error in the input files or the plan, by its name.

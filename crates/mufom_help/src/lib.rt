@@ -15,6 +15,7 @@ pub mod records;
 pub mod structure;
 #[cfg(test)]
 mod tests;
+pub mod texts;
 mod topics;
 mod version;
 

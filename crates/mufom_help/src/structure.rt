@@ -311,7 +311,7 @@ What to do:
 ";
 
 /// The text of `help AfterEnd`.
-pub const AFTER_END: &str = "AfterEnd: something follows the end of a module
+pub const AFTER_END: &str = "AfterEnd: something follows the end of a module or of a text
 
   refused: file N at PLACE: AfterEnd
     In file N, counted from 0, the module ends before offset PLACE, and the
@@ -320,6 +320,11 @@ pub const AFTER_END: &str = "AfterEnd: something follows the end of a module
     two modules in one file. See what follows: xxd -s PLACE FILE. Cut the file
     there: head -c PLACE FILE > NEW. If another module follows, put it into a
     file of its own, and name both files.
+
+  refused: text line N: AfterEnd
+    Line N of the text, counted from 1, is not blank and follows a line `q`,
+    which ends the text. The usual cause is that several texts were joined. Put
+    each into a file of its own, make a module of each, and link the modules.
 ";
 
 /// The text of `help FileLimit`.

@@ -1,7 +1,7 @@
 //! The topics by their names, and the list of commands.
 
 ghost use Rattle.std.specs.Prelude.{◌≡◌, option_map};
-ghost use Rattle.mufom_help.specs.Topics.{errors, link_errors, module_errors, read_errors, topic_in, topics};
+ghost use Rattle.mufom_help.specs.Topics.{errors, input_errors, link_errors, module_errors, read_errors, topic_in, topics};
 ghost use Rattle.mufom_help.specs.declared.commands.TheConstants.{LIST};
 
 use crate::commands::{LIST, command_topic};
@@ -10,6 +10,7 @@ use crate::linking::linking_topic;
 use crate::locating::locating_topic;
 use crate::records::record_topic;
 use crate::structure::structure_topic;
+use crate::texts::text_topic;
 
 /// What `help` alone prints: a line for each command with its form, and how to get more.
 pub fn command_list() -> &'static str
@@ -38,13 +39,19 @@ fn error_topic(word: &str) -> Option<&'static str>
 fn read_error(word: &str) -> Option<&'static str>
     ensures { option_map (λ text. text.now) result ≡ topic_in read_errors word.now }
 {
-    module_error(word).or_else(|| input_topic(word))
+    module_error(word).or_else(|| input_error(word))
 }
 
 fn module_error(word: &str) -> Option<&'static str>
     ensures { option_map (λ text. text.now) result ≡ topic_in module_errors word.now }
 {
     record_topic(word).or_else(|| structure_topic(word))
+}
+
+fn input_error(word: &str) -> Option<&'static str>
+    ensures { option_map (λ text. text.now) result ≡ topic_in input_errors word.now }
+{
+    input_topic(word).or_else(|| text_topic(word))
 }
 
 fn link_error(word: &str) -> Option<&'static str>

@@ -37,6 +37,8 @@ mod runs;
 #[cfg(test)]
 mod show;
 #[cfg(test)]
+mod texts;
+#[cfg(test)]
 mod usage;
 #[cfg(test)]
 mod veiled;

@@ -154,6 +154,23 @@ pub(crate) fn made_of(rt: &impl Abort, alloc: Global, files: &[File], line: &str
     made_bytes(rt, alloc, &host)
 }
 
+/// The bytes of the file that the words of the second line make of these files and of the file `c`, which
+/// those of the first line make.
+pub(crate) fn made_twice(
+    rt: &impl Abort,
+    alloc: Global,
+    files: &[File],
+    first: &str,
+    second: &str,
+) -> Vec<u8> {
+    let bytes = made_of(rt, alloc, files, first);
+    let mut list = listed(rt, alloc, files);
+    add(rt, alloc, &mut list, "c", &bytes);
+    let mut host = host_of(rt, alloc, list);
+    assert_eq!(rt; status_of(rt, alloc, &mut host, second), 0, "{second}");
+    made_bytes(rt, alloc, &host)
+}
+
 // A run that is done prints this text alone.
 fn is_done(rt: &impl Abort, host: &MemHost, text: &str) {
     assert_eq!(rt; host.out(), text.as_bytes());

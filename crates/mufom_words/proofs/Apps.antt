@@ -15,6 +15,8 @@ app_for-simple form.Dump = refl
 app_for-simple form.Make = refl
 app_for-simple form.Addr = refl
 app_for-simple form.Bin = refl
+app_for-simple form.Txt = refl
+app_for-simple form.FromTxt = refl
 
 pub app_for-free : (f : Form) → is_simple_and_free (app_for f) ≡ true
 app_for-free form.Show = refl
@@ -25,3 +27,5 @@ app_for-free form.Dump = refl
 app_for-free form.Make = refl
 app_for-free form.Addr = refl
 app_for-free form.Bin = refl
+app_for-free form.Txt = refl
+app_for-free form.FromTxt = refl

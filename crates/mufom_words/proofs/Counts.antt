@@ -422,6 +422,8 @@ app_for-mild form.Dump = (inl refl, (inl refl, (inr (refl, refl, refl, refl), tt
 app_for-mild form.Make = (inr (refl, refl, refl, refl), tt)
 app_for-mild form.Addr = (inl refl, (inl refl, (inr (refl, refl, refl, refl), tt)))
 app_for-mild form.Bin = (inl refl, (inl refl, (inl refl, (inl refl, (inr (refl, refl, refl, refl), tt)))))
+app_for-mild form.Txt = (inl refl, (inl refl, (inl refl, (inr (refl, refl, refl, refl), tt))))
+app_for-mild form.FromTxt = (inl refl, (inl refl, (inr (refl, refl, refl, refl), tt)))
 
 app_for-words : (f : Form) (words : List Text) → argument_words (app_for f) words ≡ drop 1 words
 app_for-words form.Show words = refl
@@ -432,6 +434,8 @@ app_for-words form.Dump words = refl
 app_for-words form.Make words = refl
 app_for-words form.Addr words = refl
 app_for-words form.Bin words = refl
+app_for-words form.Txt words = refl
+app_for-words form.FromTxt words = refl
 
 pub operands-within : (f : Form) (words : List Text) → length (given f words).operands ≤ length words
 operands-within f words =

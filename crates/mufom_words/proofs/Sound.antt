@@ -30,7 +30,7 @@ use Rattle.std.specs.Str.{bytes_eq}
 use Rattle.mufom_words.specs.declared.command.Verb.{Verb}
 use Rattle.mufom_words.specs.declared.command.Verb.TheVariants as verb
 use Rattle.mufom_words.specs.Help.{own_answer, own_command, own_text, own_verb, printing}
-use Rattle.mufom_words.specs.Values.{byte_of, address_of}
+use Rattle.mufom_words.specs.Values.{byte_of, address_of, maus_of}
 use Rattle.mufom_words.specs.Tree.{tree_of, leaves}
 use Rattle.mufom_words.specs.Answer.{◌or_else◌, most_files, longest_name, given_fault, missing_fault, number_by, options_fault, name_fault}
 use Rattle.mufom_words.specs.Answer.{unless_read, usage_fault, value_fault, limit_stop, limit_stop_by, usage, words_stop, command_by, unless_stopped}
@@ -72,9 +72,9 @@ accepted_by : (u : Usage) (refused : Kinds) (g : Given) → words_stop u refused
 accepted_by u refused g none =
     let rest = (or_else-none (usage (options_fault refused)) (usage (given_fault u g) or_else limit_stop u.operands g.operands) none).1 in
     let parts = or_else-none (usage (given_fault u g)) (limit_stop u.operands g.operands) rest in
-    let tests = (or_else-none (missing_fault u setting.At g.at) (usage_fault u g.out g.name g.operands or_else value_fault g.fill g.at)
+    let tests = (or_else-none (missing_fault u setting.At g.at) (usage_fault u g.out g.name g.operands or_else value_fault g.maus g.fill g.at)
     (usage-none (given_fault u g) parts.0)).1 in
-    let usages = or_else-none (usage_fault u g.out g.name g.operands) (value_fault g.fill g.at) tests in
+    let usages = or_else-none (usage_fault u g.out g.name g.operands) (value_fault g.maus g.fill g.at) tests in
     let first = or_else-none (missing_fault u setting.Out g.out) (operands_fault u.operands g.operands or_else number_fault u.operands g.operands
     or_else name_fault g.name or_else count_fault u.operands g.operands)
     usages.0 in
@@ -196,6 +196,22 @@ count-bounds OneCount (word ∷ words) none same = count-good word (stated (is_n
   stated true is none = absurd cc
   stated false is none = is
 
+-- an address has 1 to 8 bytes
+digit-within : (d : ℕ) (low high : Bool) → nat_le 49 d ≡ low → nat_le d 56 ≡ high
+    → (1 ≤ unwrap_or (cond (low && high) (Some (d - 48)) None) 4) × (unwrap_or (cond (low && high) (Some (d - 48)) None) 4 ≤ 8)
+digit-within d true true low high =
+    let least = leb-true 49 d low in
+    let most = leb-true d 56 high in
+    (omega (arith, least), omega (arith, most))
+digit-within d true false low high = (omega arith, omega arith)
+digit-within d false high_is low high = (omega arith, omega arith)
+
+maus-within : (m : Option Text) → (1 ≤ number_by maus_of 4 m) × (number_by maus_of 4 m ≤ 8)
+maus-within None = (omega arith, omega arith)
+maus-within (Some []) = (omega arith, omega arith)
+maus-within (Some (d ∷ [])) = digit-within d (nat_le 49 d) (nat_le d 56) refl refl
+maus-within (Some (d ∷ e ∷ more)) = (omega arith, omega arith)
+
 -- ---- by the form
 
 takes-out : (f : Form) → takes (usage_of f).settings setting.Out ≡ makes_file (usage_of f).verb
@@ -207,6 +223,8 @@ takes-out form.Dump = refl
 takes-out form.Make = refl
 takes-out form.Addr = refl
 takes-out form.Bin = refl
+takes-out form.Txt = refl
+takes-out form.FromTxt = refl
 
 takes-no-plan : (f : Form) → reads_plan (usage_of f).verb ≡ false → takes (usage_of f).settings setting.Plan ≡ false
 takes-no-plan form.Show e = refl
@@ -217,6 +235,8 @@ takes-no-plan form.Dump e = absurd cc
 takes-no-plan form.Make e = refl
 takes-no-plan form.Addr e = absurd cc
 takes-no-plan form.Bin e = absurd cc
+takes-no-plan form.Txt e = absurd cc
+takes-no-plan form.FromTxt e = refl
 
 takes-no-name : (f : Form) → names_module (usage_of f).verb ≡ false → takes (usage_of f).settings setting.Name ≡ false
 takes-no-name form.Show e = refl
@@ -227,6 +247,8 @@ takes-no-name form.Dump e = refl
 takes-no-name form.Make e = refl
 takes-no-name form.Addr e = refl
 takes-no-name form.Bin e = refl
+takes-no-name form.Txt e = refl
+takes-no-name form.FromTxt e = refl
 
 prints-no-help : (f : Form) → prints_help (usage_of f).verb ≡ false
 prints-no-help form.Show = refl
@@ -237,6 +259,8 @@ prints-no-help form.Dump = refl
 prints-no-help form.Make = refl
 prints-no-help form.Addr = refl
 prints-no-help form.Bin = refl
+prints-no-help form.Txt = refl
+prints-no-help form.FromTxt = refl
 
 takes-files : (f : Form) → reads_files (usage_of f).verb ≡ true → (usage_of f).operands ≢ OneCount
 takes-files form.Show e = λ same. cc
@@ -247,6 +271,8 @@ takes-files form.Dump e = λ same. cc
 takes-files form.Make e = absurd cc
 takes-files form.Addr e = λ same. cc
 takes-files form.Bin e = λ same. cc
+takes-files form.Txt e = λ same. cc
+takes-files form.FromTxt e = λ same. cc
 
 takes-no-files : (f : Form) → reads_files (usage_of f).verb ≡ false → (usage_of f).operands ≡ OneCount
 takes-no-files form.Show e = absurd cc
@@ -257,6 +283,8 @@ takes-no-files form.Dump e = absurd cc
 takes-no-files form.Make e = refl
 takes-no-files form.Addr e = absurd cc
 takes-no-files form.Bin e = absurd cc
+takes-no-files form.Txt e = absurd cc
+takes-no-files form.FromTxt e = absurd cc
 
 takes-count : (f : Form) → makes_modules (usage_of f).verb ≡ true → (usage_of f).operands ≡ OneCount
 takes-count form.Show e = absurd cc
@@ -267,6 +295,8 @@ takes-count form.Dump e = absurd cc
 takes-count form.Make e = refl
 takes-count form.Addr e = absurd cc
 takes-count form.Bin e = absurd cc
+takes-count form.Txt e = absurd cc
+takes-count form.FromTxt e = absurd cc
 
 takes-one : (f : Form) → takes_one_file (usage_of f).verb ≡ true → (usage_of f).operands ≡ OneFile
 takes-one form.Show e = refl
@@ -277,6 +307,8 @@ takes-one form.Dump e = absurd cc
 takes-one form.Make e = absurd cc
 takes-one form.Addr e = absurd cc
 takes-one form.Bin e = absurd cc
+takes-one form.Txt e = absurd cc
+takes-one form.FromTxt e = refl
 
 no-files : (o : Operands) (words : List Text) → o ≡ OneCount → files_of o words ≡ []
 no-files OneFile words same = absurd cc
@@ -312,6 +344,7 @@ sound_by f rows is =
         no_name = λ names. not-taken (takes (usage_of f).settings setting.Name) (first_of (id_of setting.Name) rows) (takes-no-name f names);
         short = name-short (given_by f rows).name is.name;
         count = λ makes. count-bounds o words is.count (takes-count f makes);
+        maus = maus-within (given_by f rows).maus;
         help = λ prints. absurd (true≢false (sym prints ∙ prints-no-help f));
       };
     }
@@ -347,6 +380,7 @@ printing-sound v (Some text) c one is =
           no_plan = λ reads. refl;
           no_name = λ names. refl;
           count = λ makes. absurd cc;
+          maus = (omega arith, omega arith);
           short = tt;
           help = λ prints. refl;
         };
@@ -360,6 +394,7 @@ printing-sound v (Some text) c one is =
           no_plan = λ reads. refl;
           no_name = λ names. refl;
           count = λ makes. absurd cc;
+          maus = (omega arith, omega arith);
           short = tt;
           help = λ prints. refl;
         };

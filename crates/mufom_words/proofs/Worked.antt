@@ -13,7 +13,7 @@ use Rattle.mufom_words.specs.declared.stop.UsageFault.TheVariants as fault
 use Rattle.mufom_words.specs.declared.stop.WordsStop.{WordsStop}
 use Rattle.mufom_words.specs.declared.stop.WordsStop.TheVariants as stop
 use Rattle.mufom_words.specs.Answer.{answer_of, given}
-use Rattle.mufom_words.specs.Values.{address_of, byte_of}
+use Rattle.mufom_words.specs.Values.{address_of, byte_of, maus_of}
 use Rattle.mufom_words.specs.Options.{Given, Text, app_for}
 
 abbrev Answer : Type 0
@@ -38,6 +38,7 @@ of_files v no_debug files = record {
   listing = false;
   fill = 0;
   at = 0;
+  maus = 4;
   help = None;
 }
 
@@ -208,7 +209,7 @@ count_before_limit = refl
 -- ---- options of the other commands
 
 abbrev none_given : Given
-none_given = record { no_debug = false; name = None; plan = None; out = None; listing = false; at = None; fill = None; operands = codes "a" ∷ [] }
+none_given = record { no_debug = false; name = None; plan = None; out = None; listing = false; at = None; fill = None; maus = None; operands = codes "a" ∷ [] }
 
 linked : given form.Link (codes "link" ∷ codes "-oc" ∷ codes "a" ∷ codes "[" ∷ codes "b" ∷ codes "--no-debug" ∷ codes "]" ∷ codes "--" ∷ codes
     "+" ∷ codes "-m" ∷ [])
@@ -270,3 +271,22 @@ no_address = (refl, refl, refl)
 no_at : fault_of (app_for form.Addr) (codes "addr" ∷ codes "a" ∷ []) ≡ kind.MissingRequiredArgument ∷ []
 unfolding clap_on_literals
 no_at = refl
+
+-- ---- the commands of texts
+
+text_made : answer_of (codes "txt" ∷ codes "--plan=p" ∷ codes "-oc" ∷ codes "a" ∷ [])
+    ≡ Ok (record (of_files verb.Txt false (codes "a" ∷ [])) { plan = Some (codes "p"); out = Some (codes "c") })
+unfolding clap_on_literals
+text_made = refl
+
+text_read : answer_of (codes "fromtxt" ∷ codes "--maus" ∷ codes "2" ∷ codes "-oc" ∷ codes "a" ∷ [])
+    ≡ Ok (record (of_files verb.FromTxt false (codes "a" ∷ [])) { maus = 2; out = Some (codes "c") })
+unfolding clap_on_literals
+text_read = refl
+
+two_texts : answer_of (codes "fromtxt" ∷ codes "-oc" ∷ codes "a" ∷ codes "b" ∷ []) ≡ Err (stop.Usage fault.FileCount)
+unfolding clap_on_literals
+two_texts = refl
+
+no_maus : (maus_of (codes "04") ≡ None) × (maus_of (codes "0") ≡ None) × (maus_of (codes "9") ≡ None) × (maus_of [] ≡ None)
+no_maus = (refl, refl, refl, refl)

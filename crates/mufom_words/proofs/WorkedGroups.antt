@@ -29,6 +29,7 @@ dumps = record {
   fill =
       0;
   at = 0;
+  maus = 4;
   help = None;
 }
 

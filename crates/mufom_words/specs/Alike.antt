@@ -27,6 +27,7 @@ pub record AreAlike (c d : Command) : Type 0 where
   pub listing : c.listing ≡ d.listing
   pub fill : c.fill ≡ d.fill
   pub at : c.at ≡ d.at
+  pub maus : c.maus ≡ d.maus
   pub help : c.help ≡ d.help
   pub files : c.files ≡ d.files
   pub roots : roots c ≡ roots d

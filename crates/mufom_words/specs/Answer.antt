@@ -21,7 +21,7 @@ use Rattle.mufom_words.specs.declared.stop.WordsStop.TheVariants as stop
 use Rattle.mufom_words.specs.Options.{Text, Usage, Given, usage_of, app_for, form_of, takes, given_by}
 use Rattle.mufom_words.specs.declared.command.Verb.{Verb}
 use Rattle.mufom_words.specs.Help.{own_answer, own_verb}
-use Rattle.mufom_words.specs.Values.{byte_of, address_of}
+use Rattle.mufom_words.specs.Values.{byte_of, address_of, maus_of}
 use Rattle.mufom_words.specs.Operands.{operands_fault, number_fault, count_fault, files_of, marks_of, depth_of, number_of}
 
 -- the first that there is
@@ -84,8 +84,9 @@ unless_read read f None = None
 unless_read read f (Some text) = if is_none (read text) then Some f else None
 
 -- what is wrong with the numbers that options give
-abbrev pub value_fault : Option Text → Option Text → Option UsageFault
-value_fault fill at = unless_read byte_of fault.BadByte fill
+abbrev pub value_fault : Option Text → Option Text → Option Text → Option UsageFault
+value_fault maus fill at = unless_read maus_of fault.BadCount maus
+    or_else unless_read byte_of fault.BadByte fill
     or_else unless_read address_of fault.BadAddress at
 
 -- too many files, and then too many groups that are open at once
@@ -103,7 +104,7 @@ usage found = option_map (λ f. stop.Usage f) found
 abbrev pub given_fault : Usage → Given → Option UsageFault
 given_fault u g = missing_fault u setting.At g.at
     or_else usage_fault u g.out g.name g.operands
-    or_else value_fault g.fill g.at
+    or_else value_fault g.maus g.fill g.at
 
 -- the first thing that is wrong with what words give
 abbrev pub given_stop : Usage → Given → Option WordsStop
@@ -133,6 +134,7 @@ command_by u g = record {
   listing = g.listing;
   fill = number_by byte_of 0 g.fill;
   at = number_by address_of 0 g.at;
+  maus = number_by maus_of 4 g.maus;
   help = None;
 }
 

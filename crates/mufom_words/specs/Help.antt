@@ -49,6 +49,7 @@ own_command v text = record {
   listing = false;
   fill = 0;
   at = 0;
+  maus = 4;
   help = Some text;
 }
 

@@ -47,10 +47,17 @@ usage_of form.Bin = record {
   settings = setting.NoDebug ∷ setting.Plan ∷ setting.Fill ∷ setting.Out ∷ [];
   operands = operands.GroupedFiles;
 }
+usage_of form.Txt = record {
+  verb = verb.Txt;
+  name = codes "txt";
+  settings = setting.NoDebug ∷ setting.Plan ∷ setting.Out ∷ [];
+  operands = operands.GroupedFiles;
+}
+usage_of form.FromTxt = record { verb = verb.FromTxt; name = codes "fromtxt"; settings = setting.Maus ∷ setting.Out ∷ []; operands = operands.OneFile }
 
 -- all commands whose words `clap` reads
 abbrev pub forms : List Form
-forms = form.Show ∷ form.Check ∷ form.Link ∷ form.Locate ∷ form.Dump ∷ form.Make ∷ form.Addr ∷ form.Bin ∷ []
+forms = form.Show ∷ form.Check ∷ form.Link ∷ form.Locate ∷ form.Dump ∷ form.Make ∷ form.Addr ∷ form.Bin ∷ form.Txt ∷ form.FromTxt ∷ []
 
 -- the one that a word names
 abbrev pub form_of : Text → Option Form
@@ -61,6 +68,8 @@ abbrev pub makes_file : Verb → Bool
 makes_file verb.Link = true
 makes_file verb.Locate = true
 makes_file verb.Bin = true
+makes_file verb.Txt = true
+makes_file verb.FromTxt = true
 makes_file _ = false
 
 -- the command reads a plan, where `--plan` names one
@@ -69,6 +78,7 @@ reads_plan verb.Locate = true
 reads_plan verb.Dump = true
 reads_plan verb.Addr = true
 reads_plan verb.Bin = true
+reads_plan verb.Txt = true
 reads_plan _ = false
 
 -- the command generates modules in place of files
@@ -84,6 +94,7 @@ names_module _ = false
 -- the command is for one file alone
 abbrev pub takes_one_file : Verb → Bool
 takes_one_file verb.Show = true
+takes_one_file verb.FromTxt = true
 takes_one_file _ = false
 
 -- the command reads files
@@ -110,9 +121,10 @@ id_of setting.Out = codes "out"
 id_of setting.Listing = codes "listing"
 id_of setting.At = codes "at"
 id_of setting.Fill = codes "fill"
+id_of setting.Maus = codes "maus"
 
 -- `--no-debug`, `--name NAME`, `--plan PLAN`, `-o OUT`, which must be there, `--listing`, `--at ADDRESS`, which
--- must be there, and `--fill BYTE`
+-- must be there, `--fill BYTE` and `--maus N`
 abbrev pub rule_for : Setting → Rule
 rule_for setting.NoDebug = record (new_rule (id_of setting.NoDebug)) { long = Some (codes "no-debug"); action = Some SetTrue }
 rule_for setting.Name = record (new_rule (id_of setting.Name)) { long = Some (codes "name") }
@@ -121,6 +133,7 @@ rule_for setting.Out = record (new_rule (id_of setting.Out)) { short = Some 111;
 rule_for setting.Listing = record (new_rule (id_of setting.Listing)) { long = Some (codes "listing"); action = Some SetTrue }
 rule_for setting.At = record (new_rule (id_of setting.At)) { long = Some (codes "at"); required = true }
 rule_for setting.Fill = record (new_rule (id_of setting.Fill)) { long = Some (codes "fill") }
+rule_for setting.Maus = record (new_rule (id_of setting.Maus)) { long = Some (codes "maus") }
 
 -- ---- what `clap` makes of the words
 
@@ -166,6 +179,7 @@ pub record Given : Type 0 where
   pub listing : Bool
   pub at : Option Text
   pub fill : Option Text
+  pub maus : Option Text
   -- the words that are no option
   pub operands : List Text
 
@@ -178,5 +192,6 @@ given_by f rows = record {
   listing = is_true (value_in (usage_of f).settings rows setting.Listing);
   at = value_in (usage_of f).settings rows setting.At;
   fill = value_in (usage_of f).settings rows setting.Fill;
+  maus = value_in (usage_of f).settings rows setting.Maus;
   operands = operands_of rows;
 }

@@ -27,14 +27,15 @@ pub record HasFiles (c : Command) : Type 0 where
   pub few : length c.files ≤ most_files
 
 -- The output has a name exactly where the command makes a file; only a command that reads a plan has the name of one, and only one that
--- may name its module gives a name, which is no longer than it may be; a count lies within its bounds; and a command that prints a text of
--- the program has one.
+-- may name its module gives a name, which is no longer than it may be; a count lies within its bounds; an address has 1 to 8 bytes; and a
+-- command that prints a text of the program has one.
 pub record HasOptions (c : Command) : Type 0 where
   pub out : makes_file c.verb ≡ true → IsSome c.out
   pub no_out : makes_file c.verb ≡ false → c.out ≡ None
   pub no_plan : reads_plan c.verb ≡ false → c.plan ≡ None
   pub no_name : names_module c.verb ≡ false → c.name ≡ None
   pub count : makes_modules c.verb ≡ true → (1 ≤ c.count) × (c.count ≤ most_modules)
+  pub maus : (1 ≤ c.maus) × (c.maus ≤ 8)
   pub short : IfSome c.name (λ name. length name ≤ longest_name)
   pub help : prints_help c.verb ≡ true → IsSome c.help
 

@@ -1,5 +1,5 @@
--- The values of options that are numbers: a byte and an address. What is written otherwise is none.
-use Rattle.std.specs.Prelude.{ℕ, Bool, ◌&&◌, nat_le, nat_lt, List, length, Option, Some, None, if◌then◌else◌}
+-- The values of options that are numbers: a byte, an address and a number of bytes in an address. What is written otherwise is none.
+use Rattle.std.specs.Prelude.{ℕ, ◌-◌, Bool, ◌&&◌, nat_le, nat_lt, List, [], ◌∷◌, length, Option, Some, None, if◌then◌else◌}
 use Rattle.std.specs.List.{list_all}
 use Rattle.std.specs.Char.{digit_value}
 use Rattle.std.specs.Str.Parse.{digits_value}
@@ -21,3 +21,9 @@ byte_of word = hexadecimal_of 2 2 word
 -- 1 to 16 hexadecimal digits
 abbrev pub address_of : Text → Option ℕ
 address_of word = hexadecimal_of 1 16 word
+
+-- one decimal digit from 1 to 8
+abbrev pub maus_of : Text → Option ℕ
+maus_of [] = None
+maus_of (digit ∷ []) = if nat_le 49 digit && nat_le digit 56 then Some (digit - 48) else None
+maus_of (_ ∷ _ ∷ _) = None

@@ -20,6 +20,10 @@ pub enum Verb {
     Addr,
     /// Writes the raw bytes of the image that files are located as.
     Bin,
+    /// Writes the image that files are located as, as a TI-TXT text.
+    Txt,
+    /// Writes the module of a TI-TXT text.
+    FromTxt,
     /// Prints a text about the commands or about a refusal.
     Help,
     /// Prints the version of the program.
@@ -93,6 +97,8 @@ pub struct Command {
     pub fill: u8,
     /// The address that is looked up; 0 where `--at` is absent.
     pub at: u64,
+    /// The number of bytes in an address of a module that is made of a text; 4 where `--maus` is absent.
+    pub maus: u8,
     /// What is printed of the program itself, where that is all that the command does.
     pub help: Option<HelpText>,
 }

@@ -30,6 +30,8 @@ pub(crate) enum Form {
     Make,
     Addr,
     Bin,
+    Txt,
+    FromTxt,
 }
 
 impl Form {
@@ -46,6 +48,8 @@ impl Form {
             "make" => Some(Form::Make),
             "addr" => Some(Form::Addr),
             "bin" => Some(Form::Bin),
+            "txt" => Some(Form::Txt),
+            "fromtxt" => Some(Form::FromTxt),
             _ => None,
         }
     }
@@ -63,6 +67,8 @@ impl Form {
             Form::Make => Verb::Make,
             Form::Addr => Verb::Addr,
             Form::Bin => Verb::Bin,
+            Form::Txt => Verb::Txt,
+            Form::FromTxt => Verb::FromTxt,
         }
     }
 
@@ -79,6 +85,8 @@ impl Form {
             Form::Make => "make",
             Form::Addr => "addr",
             Form::Bin => "bin",
+            Form::Txt => "txt",
+            Form::FromTxt => "fromtxt",
         }
     }
 
@@ -95,6 +103,8 @@ impl Form {
             Form::Make => &[],
             Form::Addr => &[Setting::Plan, Setting::At],
             Form::Bin => &[Setting::NoDebug, Setting::Plan, Setting::Fill, Setting::Out],
+            Form::Txt => &[Setting::NoDebug, Setting::Plan, Setting::Out],
+            Form::FromTxt => &[Setting::Maus, Setting::Out],
         }
     }
 
@@ -103,9 +113,9 @@ impl Form {
         ensures { result ≡ (usage_of self).operands }
     {
         match self {
-            Form::Show => Operands::OneFile,
+            Form::Show | Form::FromTxt => Operands::OneFile,
             Form::Check => Operands::SomeFiles,
-            Form::Link | Form::Locate | Form::Dump | Form::Addr | Form::Bin => {
+            Form::Link | Form::Locate | Form::Dump | Form::Addr | Form::Bin | Form::Txt => {
                 Operands::GroupedFiles
             }
             Form::Make => Operands::OneCount,

@@ -69,6 +69,7 @@ fn own_command(alloc: Global, verb: Verb, text: &'static str) -> Command
         listing: false,
         fill: 0,
         at: 0,
+        maus: 4,
         help: Some(HelpText::new(text)),
     }
 }

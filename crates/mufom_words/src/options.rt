@@ -26,6 +26,8 @@ pub(crate) enum Setting {
     At,
     /// `--fill BYTE`
     Fill,
+    /// `--maus N`
+    Maus,
 }
 
 impl Setting {
@@ -41,6 +43,7 @@ impl Setting {
             Setting::Listing => "listing",
             Setting::At => "at",
             Setting::Fill => "fill",
+            Setting::Maus => "maus",
         }
     }
 }
@@ -62,6 +65,7 @@ fn option_of<'a>(alloc: Global, setting: Setting) -> Arg<'a>
             .action(ArgAction::SetTrue),
         Setting::At => Arg::new(alloc, "at").long("at").required(true),
         Setting::Fill => Arg::new(alloc, "fill").long("fill"),
+        Setting::Maus => Arg::new(alloc, "maus").long("maus"),
     }
 }
 

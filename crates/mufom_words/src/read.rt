@@ -10,7 +10,7 @@ ghost use Rattle.mufom_words.specs.Answer.{missing_fault as missing, PrintsHelp,
 ghost use Rattle.mufom_words.specs.Answer.{usage_fault as first_fault};
 ghost use Rattle.mufom_words.specs.Options.{given_by, operands_of, usage_of};
 ghost use Rattle.mufom_words.specs.Sound.{IsSound};
-ghost use Rattle.mufom_words.specs.Values.{address_of as address, byte_of as byte};
+ghost use Rattle.mufom_words.specs.Values.{address_of as address, byte_of as byte, maus_of as maus};
 
 use crate::command::Command;
 use crate::form::{Form, Operands};
@@ -21,7 +21,7 @@ use crate::operands::{
 };
 use crate::options::Setting;
 use crate::stop::{UsageFault, WordsStop};
-use crate::values::{address_of, byte_of, value_fault};
+use crate::values::{address_of, byte_of, maus_of, value_fault};
 use clap::error::ErrorKind;
 use clap::{ArgMatches, Error};
 use mufom_numbers::{Bytes, NoMemory, Text};
@@ -146,6 +146,16 @@ fn address_in(matches: &ArgMatches<'_>, form: Form) -> u64
     }
 }
 
+// The number of bytes in an address that `--maus` gives, or 4.
+fn maus_in(matches: &ArgMatches<'_>, form: Form) -> u8
+    ensures { result ≡ number_by maus 4 (given_by form (rows_of (found_of matches.now))).maus }
+{
+    match value_in(matches, form, Setting::Maus) {
+        Some(text) => maus_of(text).unwrap_or(4),
+        None => 4,
+    }
+}
+
 // The command of words with which nothing is wrong.
 fn command_from(
     alloc: Global,
@@ -175,6 +185,7 @@ fn command_from(
         listing: is_given(matches, form, Setting::Listing),
         fill: fill_in(matches, form),
         at: address_in(matches, form),
+        maus: maus_in(matches, form),
         help: None,
     })
 }
@@ -194,8 +205,9 @@ fn given_fault(form: Form, matches: &ArgMatches<'_>, words: &[&str]) -> Option<U
     if let Some(fault) = usage_fault(form, out, name, words) {
         return Some(fault);
     }
+    let count = value_in(matches, form, Setting::Maus);
     let fill = value_in(matches, form, Setting::Fill);
-    value_fault(fill, at)
+    value_fault(count, fill, at)
 }
 
 // The command of words that `clap` takes.
@@ -247,8 +259,8 @@ pub(crate) fn command_for(alloc: Global, form: Form, words: &[String]) -> Result
 /// names the command, and `clap` reads the others, but for those of `help` and `version`, which are
 /// compared letter by letter. Errors are looked for in this order, and the first is returned: no
 /// command; the options; brackets and `+` from left to right, then those that the end leaves open,
-/// then that there is no file; the number of files; the name; the count; the values of `--fill`
-/// and `--at`; and after all these more than 1,024 files, and more than 64 groups that are open at
+/// then that there is no file; the number of files; the name; the count; the values of `--maus`,
+/// `--fill` and `--at`; and after all these more than 1,024 files, and more than 64 groups that are open at
 /// once.
 pub fn read_words(alloc: Global, words: &[String]) -> Result<Command, WordsStop>
     requires { length words.now < 2 ^ 32 }

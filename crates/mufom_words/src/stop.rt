@@ -19,7 +19,8 @@ pub enum UsageFault {
     BadMembers,
     /// Another number of files, or of counts, than the command is for.
     FileCount,
-    /// A count that is no decimal number from 1 to 65,536.
+    /// A count that is no decimal number from 1 to 65,536, or a value of `--maus` that is not one digit from
+    /// 1 to 8.
     BadCount,
     /// A byte that is not two hexadecimal digits.
     BadByte,

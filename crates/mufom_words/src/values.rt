@@ -3,7 +3,7 @@
 ghost use Rattle.std.specs.Prelude.{◌≡◌, ◌≤◌, ◌<◌, ◌^◌, IfSome, option_map};
 ghost use Rattle.std.specs.List.{list_all};
 ghost use Rattle.mufom_words.specs.Answer.{unless_read, value_fault as wrong_value};
-ghost use Rattle.mufom_words.specs.Values.{address_of as address, byte_of as byte, hexadecimal_of as hexadecimal, is_hexadecimal};
+ghost use Rattle.mufom_words.specs.Values.{address_of as address, byte_of as byte, hexadecimal_of as hexadecimal, is_hexadecimal, maus_of as maus};
 
 use crate::stop::UsageFault;
 
@@ -42,6 +42,26 @@ pub(crate) fn address_of(word: &str) -> Option<u64>
     hexadecimal_of(1, 16, word)
 }
 
+/// The number of bytes in an address: one decimal digit from 1 to 8.
+pub(crate) fn maus_of(word: &str) -> Option<u8>
+    ensures { result ≡ maus word.now }
+{
+    match word.as_bytes() {
+        [digit] if *digit >= b'1' && *digit <= b'8' => Some(*digit - b'0'),
+        _ => None,
+    }
+}
+
+// A number of bytes in an address that is none.
+fn maus_fault(count: Option<&str>) -> Option<UsageFault>
+    ensures { result ≡ unless_read maus UsageFault.BadCount (option_map (λ text. text.now) count.entry) }
+{
+    match count {
+        Some(text) if maus_of(text).is_none() => Some(UsageFault::BadCount),
+        _ => None,
+    }
+}
+
 // A byte that is none.
 fn byte_fault(fill: Option<&str>) -> Option<UsageFault>
     ensures { result ≡ unless_read byte UsageFault.BadByte (option_map (λ text. text.now) fill.entry) }
@@ -62,11 +82,18 @@ fn address_fault(at: Option<&str>) -> Option<UsageFault>
     }
 }
 
-/// What is wrong with the values of `--fill` and `--at`, the first in this order.
-pub(crate) fn value_fault(fill: Option<&str>, at: Option<&str>) -> Option<UsageFault>
+/// What is wrong with the values of `--maus`, `--fill` and `--at`, the first in this order.
+pub(crate) fn value_fault(
+    count: Option<&str>,
+    fill: Option<&str>,
+    at: Option<&str>,
+) -> Option<UsageFault>
     ensures { let given = option_map (λ text. text.now) in
-        result ≡ wrong_value (given fill.entry) (given at.entry) }
+        result ≡ wrong_value (given count.entry) (given fill.entry) (given at.entry) }
 {
+    if let Some(fault) = maus_fault(count) {
+        return Some(fault);
+    }
     if let Some(fault) = byte_fault(fill) {
         return Some(fault);
     }

@@ -15,7 +15,7 @@ returns-in-Err g c =
     let read = c.in-Err.ensures in let command = c.args.command.now in
     stopped-does command (λ files. linking linked_file files command) (g.H.World.meaning c.args.host.now) (g.H.World.meaning c.read_inputs.new.host)
     (g.H.World.faults c.args.host.now) (g.H.World.faults c.read_inputs.new.host) read.only
-    (linking-begins linked_file command) c.in-Err.stop read.stops read.opened
+    (λ fs. inputs_in fs command) (linking-begins linked_file command) c.in-Err.stop read.stops read.opened
 
 pub returns : goal.returns
 returns g c =

@@ -17,7 +17,7 @@ returns-in-Err-clause-stops g c = λ v is.
     let read = c.in-Err.ensures in let command = c.args.command.now in
     stopped-does command (λ files. work_of v files command) (g.H.World.meaning c.args.host.now) (g.H.World.meaning c.read_inputs.new.host)
     (g.H.World.faults c.args.host.now) (g.H.World.faults c.read_inputs.new.host) read.only
-    (locating-begins v is command) c.in-Err.stop read.stops read.opened
+    (λ fs. inputs_in fs command) (locating-begins v is command) c.in-Err.stop read.stops read.opened
 
 pub returns-clause-ok : goal.returns-clause-ok
 returns-clause-ok g c =

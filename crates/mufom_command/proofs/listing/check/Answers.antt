@@ -26,4 +26,4 @@ returns-in-Err g c =
     let read = c.in-Err.ensures in let command = c.args.command.now in
     stopped-does command (λ files. listing check_text files command) (g.H.World.meaning c.args.host.now) (g.H.World.meaning c.read_inputs.new.host)
     (g.H.World.faults c.args.host.now) (g.H.World.faults c.read_inputs.new.host) read.only
-    (listing-begins check_text command c.requires.no_plan) c.in-Err.stop read.stops read.opened
+    (λ fs. inputs_in fs command) (listing-begins check_text command c.requires.no_plan) c.in-Err.stop read.stops read.opened

@@ -31,7 +31,8 @@ returns-in-Err g c =
     let read = c.in-Err.ensures in let command = c.args.command.now in
     stopped-does command (λ files. showing files command) (g.H.World.meaning c.args.host.now) (g.H.World.meaning c.read_inputs.new.host)
     (g.H.World.faults c.args.host.now) (g.H.World.faults c.read_inputs.new.host) read.only
-    (listing-begins (λ ms. flat_map (text_of (form_of command)) ms) command c.requires.no_plan) c.in-Err.stop read.stops read.opened
+    (λ fs. inputs_in fs command) (listing-begins (λ ms. flat_map (text_of (form_of command)) ms) command c.requires.no_plan) c.in-Err.stop read.stops
+    read.opened
 
 pub print_one-requires : goal.print_one-requires
 print_one-requires g c = rw c.as_slice.ensures (c.in-Ok.ensures.count ∙ c.requires.one)

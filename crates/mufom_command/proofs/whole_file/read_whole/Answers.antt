@@ -1,8 +1,8 @@
 use Rattle.mufom_command.proofs.PlanLaws.{bytes_of_file, grows-then-read, opened_then_read}
-use Rattle.mufom_command.proofs.plan_file.load.Goals as goal
+use Rattle.mufom_command.proofs.whole_file.read_whole.Goals as goal
 
 pub returns-in-Ok-read_bytes-clause-bytes : goal.returns-in-Ok-read_bytes-clause-bytes
-returns-in-Ok-read_bytes-clause-bytes g c = bytes_of_file c.args.name.now _ _ _ c.in-Ok.ensures.opens.bytes c.in-Ok-read_bytes.ensures.bytes
+returns-in-Ok-read_bytes-clause-bytes g c = bytes_of_file c.args.name.now _ c.args.limit _ _ c.in-Ok.ensures.opens.bytes c.in-Ok-read_bytes.ensures.bytes
 
 pub returns-in-Ok-read_bytes-clause-opens : goal.returns-in-Ok-read_bytes-clause-opens
 returns-in-Ok-read_bytes-clause-opens g c = grows-then-read (g.H.World.meaning c.args.host.now) (g.H.World.meaning c.open.new.self)

@@ -1,0 +1,104 @@
+//! The command that makes a module of a TI-TXT text: `fromtxt`.
+
+ghost use Rattle.std.specs.Prelude.{◌≡◌, ◌≤◌, ◌∷◌, [], ◌*◌, ℕ, List as list, length, None, IfErr, IfOk, IfSome, IsSome, OnSome, true};
+ghost use Rattle.mufom_host.specs.World.{GrowsBy, OnlyOpens};
+ghost use Rattle.mufom_numbers.specs.declared.limits.TheConstants.{MOST_FILE_BYTES as most};
+ghost use Rattle.mufom_meaning.specs.declared.located.Run.{Run as row};
+ghost use Rattle.mufom_titxt.specs.TextModules.{text_parts, HaveModule};
+ghost use Rattle.mufom_words.specs.Options.{takes_one_file};
+ghost use Rattle.mufom_words.specs.Sound.{IsSound};
+ghost use Rattle.mufom_groups.specs.Work.{gives};
+ghost use Rattle.mufom_command.specs.Commands.{reading_text, runs_of_text, text_in};
+ghost use Rattle.mufom_command.specs.InputsRead.{TextStops};
+ghost use Rattle.mufom_command.specs.Run.{call_of, Does};
+ghost use Rattle.mufom_command.specs.WorkEnds.{EndsAt};
+
+use crate::linking::make_output;
+use crate::outcome::{Input, Outcome, Refusal};
+use crate::whole_file::read_whole;
+use mufom_host::Host;
+use mufom_meaning::Run;
+use mufom_module::Module;
+use mufom_numbers::limits::MOST_FILE_BYTES;
+use mufom_numbers::{List, NoMemory};
+use mufom_titxt::{TxtStop, read_txt, text_module};
+use mufom_words::Command;
+use std::alloc::Global;
+
+// The name of the only file of a command.
+fn only_file(command: &Command) -> &str
+    requires { length command.now.files ≡ 1 }
+    ensures { command.now.files ≡ result.now ∷ [] }
+{
+    command.files.as_slice()[0].as_str()
+}
+
+// The bytes of the text with this name, or the answer of the run where they are not read or too many.
+fn read_text<H: Host>(alloc: Global, name: &str, host: &mut H) -> Result<Vec<u8>, Outcome>
+    ensures text { IfOk result (λ bytes. IfSome (H.meaning host.old).files (λ files. text_in files (name.now ∷ []) (gives bytes.items))) }
+    ensures short { IfOk result (λ bytes. length bytes.items ≤ most) }
+    ensures stops { IfErr result (λ stop. TextStops name.now (call_of H.meaning H.faults host.old host.new) stop) }
+    ensures opens { IfOk result (λ bytes. GrowsBy (H.meaning host.old).opened (H.meaning host.new).opened (name.now ∷ [])) }
+    ensures opened { OnSome (H.meaning host.new).opened (GrowsBy (H.meaning host.old).opened (H.meaning host.new).opened (name.now ∷ [])) }
+    ensures only { OnlyOpens (H.meaning host.old) (H.meaning host.new) (H.faults host.old) (H.faults host.new) }
+{
+    match read_whole(alloc, name, Input::File(0), MOST_FILE_BYTES, host) {
+        Ok(bytes) if bytes.len() > MOST_FILE_BYTES => {
+            Err(Outcome::Refused(Refusal::InputLimit(0)))
+        }
+        Ok(bytes) => Ok(bytes),
+        Err(stop) => Err(stop),
+    }
+}
+
+// The rows of the bytes of a text, or the answer of the run. An address has `maus` units.
+fn runs_of(alloc: Global, text: &[u8], maus: u8) -> Result<List<Run>, Outcome>
+    requires low { 1 ≤ maus }
+    requires high { maus ≤ 8 }
+    requires short { length text.now ≤ most }
+    ensures ok { IfOk result (λ runs. runs_of_text maus text.now (gives runs)) }
+    ensures few { IfOk result (λ runs. HaveModule (8 * maus) runs) }
+    ensures stops { IfErr result (EndsAt (runs_of_text maus text.now)) }
+{
+    match read_txt(alloc, text, maus) {
+        Ok(runs) => Ok(runs),
+        Err(TxtStop::Refused(refusal)) => Err(Outcome::Refused(Refusal::Text(refusal))),
+        Err(TxtStop::NoMemory) => Err(Outcome::NoMemory),
+    }
+}
+
+// The module of a text, or the answer of the run. An address has `maus` units.
+fn module_of(alloc: Global, text: &[u8], maus: u8) -> Result<Module, Outcome>
+    requires low { 1 ≤ maus }
+    requires high { maus ≤ 8 }
+    requires short { length text.now ≤ most }
+    ensures ok { IfOk result (λ object. (runs : list row) × runs_of_text maus text.now (gives runs) × (object ≡ text_parts maus runs)) }
+    ensures stops { IfErr result (EndsAt (runs_of_text maus text.now)) }
+{
+    let runs = match runs_of(alloc, text, maus) {
+        Ok(runs) => runs,
+        Err(stop) => return Err(stop),
+    };
+    match text_module(alloc, runs.as_slice(), maus) {
+        Ok(object) => Ok(object),
+        Err(NoMemory) => Err(Outcome::NoMemory),
+    }
+}
+
+/// Reads the text that the command names, and makes a file of its module.
+pub(crate) fn fromtxt<H: Host>(alloc: Global, command: &Command, host: &mut H) -> Outcome
+    requires sound { IsSound command.now }
+    requires one { takes_one_file command.now.verb ≡ true }
+    requires no_plan { command.now.plan ≡ None }
+    requires file { IsSome command.now.out }
+    ensures { Does command.now (λ files. reading_text files command.now) (call_of H.meaning H.faults host.old host.new) result }
+{
+    let text = match read_text(alloc, only_file(command), host) {
+        Ok(text) => text,
+        Err(stop) => return stop,
+    };
+    match module_of(alloc, text.as_slice(), command.maus) {
+        Ok(object) => make_output(command, &object, host),
+        Err(stop) => stop,
+    }
+}
