@@ -117,7 +117,8 @@ def sections():
     regions = "".join('[[region]]\nname="r%d"\nbase=%d\nsize=65536\nsections=["s%d"]\n' % (r, r << 16, r) for r in range(900))
     parts = [b"\xE6" + number(1 + at) + b"\xC3\xD0" + ident(b"s%d" % (at % 900)) + b"\xE7" + number(1 + at) + b"\x04"
              + b"\xE2\xD3" + number(1 + at) + b"\x04" for at in range(100_000)]
-    return {"m": file_of(b"m", sections=b"".join(parts)), "p": regions.encode()}, [("locate --plan p -o out m", 0), ("locate --plan p -o out m m", 0)]
+    return {"m": file_of(b"m", sections=b"".join(parts)), "p": regions.encode()}, [
+        ("locate --plan p -o out m", 0), ("locate --plan p -o out m m", 0), ("map --plan p m", 0)]
 
 
 def long_expressions():
@@ -215,6 +216,37 @@ def plan_text():
     return plan('a = "' + "\\u0041" * 10_000 + '"'), [("locate --plan p -o out m", 1)]
 
 
+def text_lines_from_the_top():
+    """A million lines of one byte and its address, from the last address to the first; and the same as an image."""
+    lines = b"".join(b"@%X\n%02X\n" % (2 * at, at & 255) for at in range(999_999, -1, -1))
+    return {"t": lines + b"q\n"}, [("fromtxt -o m t", 0), ("txt -o u m", 0, 12)]
+
+
+def text_of_one_line():
+    return {"t": b"@0\n" + b"00 " * 10_000_000 + b"\nq\n"}, [("fromtxt -o m t", 0)]
+
+
+def text_of_empty_lines():
+    return {"t": b"\n" * 30_000_000 + b"q\n", "u": b"\n" * 30_000_000}, [("fromtxt -o m t", 0), ("fromtxt -o m u", 1)]
+
+
+def text_with_two_bytes():
+    """The last line gives a second byte to the first of a million addresses."""
+    lines = b"".join(b"@%X\n00\n" % (2 * at) for at in range(1_000_000))
+    return {"t": lines + b"@0\n00\nq\n"}, [("fromtxt -o m t", 1)]
+
+
+def kept_chain():
+    """Of 100,000 sections each mentions the public in the next, so that keeping the first keeps all."""
+    sections, publics, data = [], [], []
+    for at in range(100_000):
+        sections.append(b"\xE6" + number(1 + at) + b"\xC3\xD0\x01s\xE7" + number(1 + at) + b"\x04\xE2\xD3" + number(1 + at) + b"\x04")
+        publics.append(public(32 + at, b"p%d" % at, b"\xD2" + number(1 + at)))
+        data.append(b"\xE5" + number(1 + at) + b"\xE4\xBE\xC9" + number(32 + (at + 1) % 100_000) + b"\x04\xBF")
+    return {"m": file_of(b"m", sections=b"".join(sections), externals=b"".join(publics), data=b"".join(data)), "p": PLAN.encode()}, [
+        ("locate --plan p --keep p0 -o out m", 0), ("map --plan p --keep p0 m", 0)]
+
+
 def no_files():
     """Commands that read no file."""
     return {}, [("make 65536", 0, 64), ("help Misfit", 0), ("help " + "x" * 100_000, 1)]
@@ -222,5 +254,6 @@ def no_files():
 
 KINDS = [colliding_publics, colliding_references, descending_indexes, scattered_indexes, chain, cycle, cycles_at_the_end,
          members, groups, sections, long_expressions, deep_blocks, long_fields, repeated_bytes, scattered_bytes,
-         an_address_with_two_bytes, bytes_far_apart, debug_lines, plan_names, plan_regions, plan_brackets, plan_tables,
+         an_address_with_two_bytes, bytes_far_apart, debug_lines, text_lines_from_the_top, text_of_one_line,
+         text_of_empty_lines, text_with_two_bytes, kept_chain, plan_names, plan_regions, plan_brackets, plan_tables,
          plan_keys, plan_text, no_files]
