@@ -143,7 +143,7 @@ pub fn map_debug_items<M: ExpressionMap>(
 ) -> Result<List<DebugItem>, NoMemory>
     ensures { IfOk result (λ copies. marks_of copies ≡ mapped (mapped_mark (M.meaning map.now)) (marks_of items.now)) }
 {
-    let mut copies = List::new(alloc);
+    let mut copies = List::with_capacity(alloc, items.len())?;
     for item in items {
         copies.push(map_debug_item(alloc, map, item)?)?;
     }

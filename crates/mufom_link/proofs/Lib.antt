@@ -1,6 +1,7 @@
 pub mod CountLaws
 pub mod JoiningLaws
 pub mod LoopLaws
+pub mod MarkLoops
 pub mod PublicsLaws
 pub mod ReferenceLaws
 pub mod RefusalLaws

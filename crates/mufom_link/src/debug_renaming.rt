@@ -7,8 +7,9 @@ ghost use Rattle.mufom_link.specs.Renaming.{renaming_of, renamed_tree, renamed_h
 use crate::site::Site;
 use mufom_debug::{Block, BlockHead, Boxed, DebugItem};
 use mufom_expr::Postfix;
-use mufom_numbers::{List, NoMemory};
+use mufom_numbers::{Bytes, List, NoMemory};
 use std::alloc::Global;
+use std::mem;
 
 fn renamed_head(site: &Site<'_>, head: BlockHead) -> BlockHead
     ensures { result ≡ renamed_head (renaming_of site.now) head }
@@ -87,7 +88,7 @@ fn renamed_item(alloc: Global, site: &Site<'_>, item: DebugItem) -> Result<Debug
     }
 }
 
-// The items, with their variables, sections and names by the numbers of the link.
+// The items, with their variables, sections and names by the numbers of the link, in their place.
 #[cycle(renaming)]
 pub(crate) fn renamed_items(
     alloc: Global,
@@ -96,11 +97,12 @@ pub(crate) fn renamed_items(
 ) -> Result<List<DebugItem>, NoMemory>
     ensures { IfOk result (λ others. marks_of others ≡ map (renamed_mark (renaming_of site.now)) (marks_of items)) }
 {
-    let mut others = List::with_capacity(alloc, items.len())?;
-    for item in items.into_vec() {
-        others.push(renamed_item(alloc, site, item)?)?;
+    let mut items = items.into_vec();
+    for item in items.iter_mut() {
+        let own = mem::replace(item, DebugItem::Name(Bytes::new(alloc)));
+        *item = renamed_item(alloc, site, own)?;
     }
-    Ok(others)
+    Ok(List::from_vec(items))
 }
 
 // How many debug names are declared after the item, where there are `before` before it.

@@ -1,11 +1,13 @@
-use Rattle.std.proofs.Common.{◌≡◌, ◌++◌, ◌∷◌, [], map, ap, sym, ◌∙◌}
+use denote.Param.Weighed.{most, at_most}
+use Rattle.std.proofs.Common.{◌≡◌, ◌<◌, ◌≤◌, ◌++◌, ◌∷◌, [], length, map, get_or, ap, sym, ◌∙◌, rules, arith}
 use Rattle.std.proofs.lemmas.List.{map-append}
-use Rattle.mufom_copies.proofs.MarkLaws.{marks-push}
 use Rattle.mufom_debug.specs.declared.item.Block.{Block}
 use Rattle.mufom_debug.specs.declared.item.DebugItem.{DebugItem, Block as block_case}
 use Rattle.mufom_debug.specs.Marks.{block_begin, block_end, marks_of, marks_of_item}
 use Rattle.mufom_debug.proofs.MarksLemmas.{marks-Block}
+use Rattle.mufom_debug.proofs.item.DebugItem.TheLaws.{the_size}
 use Rattle.mufom_link.specs.Renaming.{renaming_of, renamed_mark}
+use Rattle.mufom_link.proofs.MarkLoops.{next-same, next-within, marks-more}
 use Rattle.mufom_link.proofs.debug_renaming.+renaming.Goals as goal
 
 pub renamed_item-returns-in_ok-new-in-Block : goal.renamed_item-returns-in_ok-new-in-Block
@@ -23,13 +25,25 @@ renamed_item-returns-in_ok-new-in-Block t c =
     ∙ ap (map f) (marks-Block b)
     ∙ ap (λ ms. f (block_begin b.head b.name) ∷ ms) (map-append f (marks_of b.items) (block_end b.end ∷ [])))
 
+pub renamed_items-renamed_item-requires : goal.renamed_items-renamed_item-requires
+renamed_items-renamed_item-requires t c =
+    let f = renamed_mark (renaming_of c.args.site.now) in
+    let items = c.args.items in
+    let own = c.replace-own.result in
+    let now = c.loop-item.item-items in
+    let i = c.loop-item.item-index in
+    let item = c.item-item.result in
+    let within : i < length now = omega (arith, c.loop-item-test.true, c.loop-item.auto.item-items) in
+    let same : own ≡ get_or items i item = c.replace-own.ensures.value ∙ next-same f items now i item within c.loop-item.invariant in
+    let small : the_size own ≤ most the_size items = rw same (at_most the_size items i item (next-within f items now i item within c.loop-item.invariant)) in
+    (search (rules, small), tt)
+
 pub renamed_items-loop-item-preserved : goal.renamed_items-loop-item-preserved
 renamed_items-loop-item-preserved t c =
     let f = renamed_mark (renaming_of c.args.site.now) in
-    let so_far = c.loop-item.yielded in
-    let item = c.in-Some.item in
-    ap marks_of c.in_ok-push.ensures.ok
-    ∙ marks-push c.loop-item.others c.in_ok-renamed_item.field-0
-    ∙ (λ j. c.loop-item.invariant j ++ c.in_ok-renamed_item.ensures j)
-    ∙ sym (map-append f (marks_of so_far) (marks_of_item item))
-    ∙ ap (map f) (sym (marks-push so_far item))
+    let now = c.loop-item.item-items in
+    let i = c.loop-item.item-index in
+    let item = c.item-item.result in
+    let within : i < length now = omega (arith, c.loop-item-test.true, c.loop-item.auto.item-items) in
+    let made = c.in_ok-item.ensures ∙ ap (λ (x : DebugItem). map f (marks_of_item x)) c.replace-own.ensures.value in
+    marks-more f c.args.items now i item within c.loop-item.invariant c.in_ok-item.field-0 made
