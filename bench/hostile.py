@@ -23,9 +23,9 @@ def ident(text):
     return (bytes([len(text)]) if len(text) < 0x80 else b"\xDE" + bytes([len(text)])) + text
 
 
-def file_of(name, sections=b"", externals=b"", debug=b"", data=b""):
+def file_of(name, sections=b"", externals=b"", debug=b"", data=b"", environment=b""):
     head, offsets = b"\xE0" + ident(b"68000") + ident(name) + b"\xEC\x08\x04\xCD", []
-    parts, place = [b"", b"", sections, externals, debug, data, b""], len(head) + 64
+    parts, place = [b"", environment, sections, externals, debug, data, b""], len(head) + 64
     for part in parts:
         offsets.append(place if part else 0)
         place += len(part)
