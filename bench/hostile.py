@@ -249,7 +249,7 @@ def kept_chain():
 
 def no_files():
     """Commands that read no file."""
-    return {}, [("make 65536", 0, 64), ("help Misfit", 0), ("help " + "x" * 100_000, 1)]
+    return {}, [("make 65536", 0, 64), ("help Misfit", 0), ("help " + "x" * 100_000, 2)]
 
 
 KINDS = [colliding_publics, colliding_references, descending_indexes, scattered_indexes, chain, cycle, cycles_at_the_end,

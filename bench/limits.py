@@ -42,7 +42,7 @@ def main():
             run = subprocess.run([program, *words], cwd=folder, capture_output=True, text=True, check=False)
             good = run.returncode == status and run.stderr == err and (out is None or out == run.stdout or out and out in run.stdout)
             failures += not good
-            print(f"{' '.join(words):28} status {run.returncode} {run.stderr.strip() or run.stdout.strip()[-60:]}{'' if good else '  OTHERWISE'}")
+            print(f"{' '.join(words):28} status {run.returncode} {run.stderr.strip() or ' '.join(run.stdout.split())[-60:]}{'' if good else '  OTHERWISE'}")
     sys.exit(min(failures, 1))
 
 

@@ -24,7 +24,7 @@ import judge
 # What a command on hostile files may take: seconds, and MiB as a fixed part, times its input, and times its image.
 # A debug record can have two bytes, and its item takes over a hundred, so the multiple is large.
 MOST_SECONDS = 3
-MOST_MEMORY = (64, 80, 3)
+MOST_MEMORY = (64, 50, 3)
 
 # Bytes that mean something somewhere in a file.
 MARKS = [*range(13), 0x20, 0x21, 0x7F, 0x80, 0x81, 0x84, 0x88, 0x89, 0x90, *range(0xA0, 0xB4), 0xB9,
@@ -265,7 +265,7 @@ def try_hostile(program):
                 for line, wanted, *image in commands:
                     seconds, memory, status = timed(program, line.split(), folder)
                     most = MOST_MEMORY[0] + MOST_MEMORY[1] * size * max(1, line.split().count("m")) + MOST_MEMORY[2] * sum(image)
-                    bad = seconds > MOST_SECONDS or memory > most or status != wanted
+                    bad = seconds > MOST_SECONDS + sum(image) / 32 or memory > most or status != wanted
                     failures += bad
                     print("%-22s %-26s %6.2f s %6.0f MiB of %6.0f, status %d%s"
                           % (kind.__name__, line[:26], seconds, memory, most, status, "  TOO MUCH OR OTHERWISE" if bad else ""), flush=True)
