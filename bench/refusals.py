@@ -70,6 +70,9 @@ def examples():
             if example and file_of(example.group(1)) is not None:
                 words, wanted = wanted_of(name.group(1), example.group(2))
                 yield words, file_of(example.group(1)), wanted
+            example = re.fullmatch(r"`words ([^`]*)`", cells[3])
+            if example:
+                yield example.group(1).split(), None, "refused: " + name.group(1).replace("NAME", '"z"')
         elif len(cells) == 3:
             example = re.fullmatch(r"`words ([^`]*)`", cells[2])
             if example:

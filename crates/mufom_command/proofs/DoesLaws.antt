@@ -6,7 +6,8 @@ use Rattle.mufom_words.specs.declared.command.Command.{Command}
 use Rattle.mufom_command.specs.declared.outcome.Outcome.{Outcome}
 use Rattle.mufom_command.specs.declared.outcome.Outcome.TheVariants as outcome
 use Rattle.mufom_groups.specs.Work.{Work, gives, stops}
-use Rattle.mufom_command.specs.Stop.{Stop, words_refused, plan_refused, file_refused, past_limit, link_fact, locate_fact, raw_too_long, text_refused}
+use Rattle.mufom_command.specs.Stop.{Stop, words_refused, plan_refused, file_refused, past_limit, link_fact, keep_unknown, locate_fact, raw_too_long}
+use Rattle.mufom_command.specs.Stop.{text_refused}
 use Rattle.mufom_command.specs.Commands.{Output, printed, made}
 use Rattle.mufom_command.specs.InputsRead.{ReadingStops}
 use Rattle.mufom_command.specs.Making.{IsMade, IsMadeAlone, IsPrinted}
@@ -79,6 +80,7 @@ module _ (c : Command) (work : List NamedFile → Work Stop Output) (old mid : M
     ended-answers : (s : Stop) → IsOfModules s → IfSome old.files (λ fs. work fs (stops s))
         → AnswersFor c work (call_between old mid before between) (stop_outcome s)
     ended-answers (link_fact f) is cause = (record { stop = link_fact f; is = refl; of_inputs = tt; cause = cause }, read-nothing)
+    ended-answers (keep_unknown name) is cause = (record { stop = keep_unknown name; is = refl; of_inputs = tt; cause = cause }, read-nothing)
     ended-answers (locate_fact maus f) is cause = (record { stop = locate_fact maus f; is = refl; of_inputs = tt; cause = cause }, read-nothing)
     ended-answers (raw_too_long count) is cause = (record { stop = raw_too_long count; is = refl; of_inputs = tt; cause = cause }, read-nothing)
     ended-answers (text_refused r) is cause = (record { stop = text_refused r; is = refl; of_inputs = tt; cause = cause }, read-nothing)
@@ -89,6 +91,7 @@ module _ (c : Command) (work : List NamedFile → Work Stop Output) (old mid : M
 
     ended-count : (s : Stop) → IsOfModules s → IsOpenedCount c (stop_outcome s) (length (inputs_of c))
     ended-count (link_fact f) is = refl
+    ended-count (keep_unknown name) is = refl
     ended-count (locate_fact maus f) is = refl
     ended-count (raw_too_long count) is = refl
     ended-count (text_refused r) is = refl

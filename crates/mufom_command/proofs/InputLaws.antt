@@ -231,6 +231,7 @@ module _ (reads_debug : Bool) where
         → FilesStop reads_debug names (call_between old new before now) stop
     files_stop outcome.Done split place why = absurd why
     files_stop (outcome.Refused (refusal.Bin count)) split place why = absurd why
+    files_stop (outcome.Refused (refusal.Keep kept)) split place why = absurd why
     files_stop (outcome.Refused (refusal.Text r)) split place why = absurd why
     files_stop (outcome.Refused (refusal.Read i r)) split place why =
         at_file (λ limit bytes. IsRefusedWithin reads_debug limit bytes r.place r.reason) i old.files split place why.0 so_far.files
@@ -257,6 +258,7 @@ module _ (reads_debug : Bool) where
     opened_count : (stop : Outcome) → FileStops reads_debug name number room mid.files between now stop → IsFileCount stop (number + 1)
     opened_count outcome.Done why = absurd why
     opened_count (outcome.Refused (refusal.Bin count)) why = absurd why
+    opened_count (outcome.Refused (refusal.Keep kept)) why = absurd why
     opened_count (outcome.Refused (refusal.Text r)) why = absurd why
     opened_count (outcome.Refused (refusal.Read i r)) why = let is = why.0 in omega (arith, is)
     opened_count (outcome.Refused (refusal.InputLimit i)) why = let is = why.0 in omega (arith, is)

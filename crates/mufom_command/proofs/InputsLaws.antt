@@ -74,6 +74,7 @@ module _ (c : Command) (old mid : Meaning) (before between : Faults) (only : Onl
   }
   plan-stops (outcome.ReadFault input.Plan) (named, rose) = (rose, named)
   plan-stops (outcome.Refused (refusal.Bin count)) why = absurd why
+  plan-stops (outcome.Refused (refusal.Keep kept)) why = absurd why
   plan-stops (outcome.Refused (refusal.Text r)) why = absurd why
   plan-stops (outcome.ReadFault (input.File n)) why = absurd why
   plan-stops (outcome.Refused (refusal.Read n r)) why = absurd why
@@ -96,6 +97,7 @@ module _ (c : Command) (old mid : Meaning) (before between : Faults) (only : Onl
   plan-count (outcome.ReadFault input.Plan) (named, rose) = some-plan c.plan named
   plan-count (outcome.ReadFault (input.File n)) why = absurd why
   plan-count (outcome.Refused (refusal.Bin count)) why = absurd why
+  plan-count (outcome.Refused (refusal.Keep kept)) why = absurd why
   plan-count (outcome.Refused (refusal.Text r)) why = absurd why
   plan-count (outcome.Refused (refusal.Read n r)) why = absurd why
   plan-count (outcome.Refused (refusal.InputLimit n)) why = absurd why
@@ -167,6 +169,7 @@ module _ (c : Command) (old mid : Meaning) (before between : Faults) (only : Onl
     files-stops outcome.WriteFault why opens = absurd why
     files-stops outcome.NoMemory why opens = tt
     files-stops (outcome.Refused (refusal.Bin count)) why opens = absurd why
+    files-stops (outcome.Refused (refusal.Keep kept)) why opens = absurd why
     files-stops (outcome.Refused (refusal.Text r)) why opens = absurd why
 
   files-count : (stop : Outcome) (count : ℕ) → IsFileCount stop count → IsOpenedCount c stop (length (option_to_list c.plan) + count)
@@ -175,6 +178,7 @@ module _ (c : Command) (old mid : Meaning) (before between : Faults) (only : Onl
   files-count (outcome.ReadFault (input.File n)) count is = omega (arith, is)
   files-count (outcome.ReadFault input.Plan) count is = absurd is
   files-count (outcome.Refused (refusal.Bin n)) count is = absurd is
+  files-count (outcome.Refused (refusal.Keep kept)) count is = absurd is
   files-count (outcome.Refused (refusal.Text r)) count is = absurd is
   files-count (outcome.Refused (refusal.Plan r)) count is = absurd is
   files-count (outcome.Refused (refusal.TooManyFiles n)) count is = absurd is

@@ -5,6 +5,7 @@ pub mod PlanLaws
 pub mod InputsLaws
 pub mod DoesLaws
 pub mod WorkLaws
+pub mod KeptLaws
 pub mod LocatingLaws
 pub mod MakingLaws
 pub mod AnswerLaws

@@ -41,11 +41,13 @@ use Rattle.mufom_command.specs.declared.outcome.Outcome.{Outcome}
 use Rattle.mufom_command.specs.declared.outcome.Outcome.TheVariants as outcome
 use Rattle.mufom_command.specs.Stop.{Stop, link_fact, raw_too_long}
 use Rattle.mufom_command.specs.Inputs.{AreModules, HaveBytes}
-use Rattle.mufom_command.specs.Commands.{Output, printed, made, writes, plan_in, modules_in, located, located_unless, locating as locating_of}
-use Rattle.mufom_command.specs.Commands.{absolute_file, printed_hit, printed_image, raw_file, txt_file, unless_too_long, linking, work_of, work_by}
+use Rattle.mufom_command.specs.Commands.{Output, printed, made, writes, kept_of, plan_in, modules_in, located, located_unless}
+use Rattle.mufom_command.specs.Commands.{locating as locating_of, absolute_file, printed_hit, printed_image, raw_file, txt_file, unless_too_long}
+use Rattle.mufom_command.specs.Commands.{linking, work_of, work_by}
 use Rattle.mufom_command.specs.Run.{Answers, AnswersBy, Call}
 use Rattle.mufom_command.specs.RunLaws.{Accepts, HasNoFact, IsLocating, IsSameWork, LocatingIsDone, MayPutOut}
 use Rattle.mufom_command.proofs.Determined.{answers-determined}
+use Rattle.mufom_command.proofs.KeptLaws.{kept-links, kept-some, kept-valid}
 use Rattle.mufom_command.proofs.MadeLaws.{location-of}
 use Rattle.mufom_command.proofs.Runs.{modules_in-single, of-files, plan_in-single}
 use Rattle.mufom_command.proofs.SameWorks.{same-trans, then-known}
@@ -130,23 +132,29 @@ write-some (Some name) bytes some = (made name bytes, refl)
 
 module _ (c : Command) (plan : Plan) (ms flat : List Parts) (is_flat : IsFlatList (tree_of c.marks) ms flat) (some : flat ≢ [])
     (valid : AreValid flat) (put_out : LocatedParts → Work Stop Output) where
-  done-there : IsDone (with_stops link_fact (linked (tree_of c.marks) ms) >>= λ flat. located plan flat >>= put_out) → HasNoFact flat plan
-  done-there (o, (other, is_linked, (r, is_located, is_put))) =
+  done-there : IsDone (with_stops link_fact (linked (tree_of c.marks) ms) >>= λ flat. kept_of c.keep flat >>= λ kept. located plan kept >>= put_out)
+      → HasNoFact c.keep flat plan
+  done-there (o, (other, is_linked, (kept, is_kept, (r, is_located, is_put)))) =
       let there = (linked-flat answers_are_facts link_facts_grow (tree_of c.marks) ms other).0 is_linked in
       let same : other ≡ flat = flat_list-single (tree_of c.marks) ms other flat there.0 is_flat in
       record {
         links = subst (λ (l : List Parts). link_answer l ≡ None) same there.1;
-        locates =
-            subst (λ (l : List Parts). locate_answer l plan ≡ None) same (located-none plan other r is_located);
+        kept = kept;
+        keeps = subst (λ (l : List Parts). kept_of c.keep l (gives kept)) same is_kept;
+        locates = located-none plan kept r is_located;
       }
 
-  done-back : ((r : LocatedParts) → IsLocation flat plan r → IsDone (put_out r)) → HasNoFact flat plan
-      → IsDone (with_stops link_fact (linked (tree_of c.marks) ms) >>= λ flat. located plan flat >>= put_out)
+  done-back : ((kept : List Parts) (r : LocatedParts) → kept_of c.keep flat (gives kept) → IsLocation kept plan r → IsDone (put_out r))
+      → HasNoFact c.keep flat plan
+      → IsDone (with_stops link_fact (linked (tree_of c.marks) ms) >>= λ flat. kept_of c.keep flat >>= λ kept. located plan kept >>= put_out)
   done-back puts none =
-      let (r, is_location) = locations_exist flat plan some valid none.links none.locates in
-      let (o, is_put) = puts r is_location in
-      let there : located plan flat (gives r) = subst (λ (f : Option LocateFact). located_unless f plan flat (gives r)) (sym none.locates) is_location in
-      (o, (flat, (linked-flat answers_are_facts link_facts_grow (tree_of c.marks) ms flat).1 (is_flat, none.links), (r, there, is_put)))
+      let kept = none.kept in
+      let (r, is_location) =
+      locations_exist kept plan (kept-some c.keep flat kept some none.keeps) (kept-valid c.keep flat kept valid none.keeps)
+      (kept-links c.keep flat kept valid none.links none.keeps) none.locates in
+      let (o, is_put) = puts kept r none.keeps is_location in
+      let there : located plan kept (gives r) = subst (λ (f : Option LocateFact). located_unless f plan kept (gives r)) (sym none.locates) is_location in
+      (o, (flat, (linked-flat answers_are_facts link_facts_grow (tree_of c.marks) ms flat).1 (is_flat, none.links), (kept, none.keeps, (r, there, is_put))))
 
 -- ---- the work of a command
 
@@ -168,8 +176,9 @@ module _ (files : List NamedFile) (c : Command) (sound : IsSound c) (plan : Plan
     some : flat ≢ []
     some = flat-some files c sound accepts.modules flat accepts.read accepts.is_flat (no-modules c.verb locating)
 
-    put-done : (output : Command → LocatedParts → Work Stop Output) → ((r : LocatedParts) → IsLocation flat plan r → IsDone (output c r))
-        → IsDone (linking (locating_of output) files c) ↔ HasNoFact flat plan
+    put-done : (output : Command → LocatedParts → Work Stop Output)
+        → ((kept : List Parts) (r : LocatedParts) → kept_of c.keep flat (gives kept) → IsLocation kept plan r → IsDone (output c r))
+        → IsDone (linking (locating_of output) files c) ↔ HasNoFact c.keep flat plan
     put-done output puts = (
       (λ (o, is). done-there c plan accepts.modules flat accepts.is_flat some valid (λ r. output c r) (o, ((tail (locating_of output)) (gives o)).0 is)),
       (λ none. let (o, is) = done-back c plan accepts.modules flat accepts.is_flat some valid (λ r. output c r) puts none in
@@ -184,8 +193,9 @@ module _ (files : List NamedFile) (c : Command) (sound : IsSound c) (plan : Plan
       by true is = absurd (omega (arith, few, ltb-true MOST_FILE_BYTES (length (raw_image c.fill r.runs)) is))
       by false is = write-some c.out (raw_image c.fill r.runs) out
 
-    work-done : (v : Verb) → c.verb ≡ v → IsLocating v → ((r : LocatedParts) → IsLocation flat plan r → MayPutOut v c r) → IsDone (work_of v files c)
-        ↔ HasNoFact flat plan
+    work-done : (v : Verb) → c.verb ≡ v → IsLocating v
+        → ((kept : List Parts) (r : LocatedParts) → kept_of c.keep flat (gives kept) → IsLocation kept plan r → MayPutOut v c r)
+        → IsDone (work_of v files c) ↔ HasNoFact c.keep flat plan
     work-done verb.Show same never may = absurd never
     work-done verb.Check same never may = absurd never
     work-done verb.Link same never may = absurd never
@@ -193,11 +203,12 @@ module _ (files : List NamedFile) (c : Command) (sound : IsSound c) (plan : Plan
     work-done verb.Help same never may = absurd never
     work-done verb.Version same never may = absurd never
     work-done verb.FromTxt same never may = absurd never
-    work-done verb.Locate same is may = put-done absolute_file (λ r there. write-some c.out (written (absolute_of r)) (sound.options.out (ap makes_file same)))
-    work-done verb.Txt same is may = put-done txt_file (λ r there. write-some c.out (txt_text r.runs) (sound.options.out (ap makes_file same)))
-    work-done verb.Dump same is may = put-done printed_image (λ r there. (printed (image_text r), refl))
-    work-done verb.Addr same is may = put-done printed_hit (λ r there. (printed (hit_text r.maus (hit_at r.debug c.at)), refl))
-    work-done verb.Bin same is may = put-done raw_file (λ r there. raw-done (sound.options.out (ap makes_file same)) r (may r there))
+    work-done verb.Locate same is may = put-done absolute_file
+        (λ kept r keeps there. write-some c.out (written (absolute_of r)) (sound.options.out (ap makes_file same)))
+    work-done verb.Txt same is may = put-done txt_file (λ kept r keeps there. write-some c.out (txt_text r.runs) (sound.options.out (ap makes_file same)))
+    work-done verb.Dump same is may = put-done printed_image (λ kept r keeps there. (printed (image_text r), refl))
+    work-done verb.Addr same is may = put-done printed_hit (λ kept r keeps there. (printed (hit_text r.maus (hit_at r.debug c.at)), refl))
+    work-done verb.Bin same is may = put-done raw_file (λ kept r keeps there. raw-done (sound.options.out (ap makes_file same)) r (may kept r keeps there))
 
 -- ---- the answer
 

@@ -27,7 +27,8 @@ use Rattle.mufom_groups.proofs.GroupsAlike.{linked-flat}
 use Rattle.mufom_groups.proofs.LinkWalk.{valid-append, valid-drop, valid-members}
 use Rattle.mufom_command.specs.Stop.{Stop, link_fact, locate_fact}
 use Rattle.mufom_command.specs.Commands.{located, located_unless, maus_of}
-use Rattle.mufom_command.specs.WorkEnds.{location_of}
+use Rattle.mufom_command.specs.WorkEnds.{location_of, own_location}
+use Rattle.mufom_command.proofs.KeptLaws.{IsKeptLocation, rest-located}
 
 -- ---- two lists with the same location
 
@@ -98,24 +99,21 @@ module _ (c : Command) (ms : List Parts) (valid : AreValid ms) where
     named-first : (flat : List Parts) → IsJoined M flat (unwrap_or c.name (first_name flat)) → IsJoined M flat (first_name flat)
     named-first flat joined = subst (λ (name : Option (List ℕ)). IsJoined M flat (unwrap_or name (first_name flat))) unnamed joined
 
-    -- its location is that of the flat list
-    pub link-located : linked_module c ms (gives M) → (r : LocatedParts) → located plan (M ∷ []) (gives r) → location_of c plan ms (gives r)
-    link-located (flat, is, joined) r there = (
-      flat,
-      is,
-      located-forth (M ∷ []) flat plan (link-means M flat sound (flat-valid flat is) (named-first flat joined) (flat-linkable flat is))
-          (gives r) there,
-    )
+    -- the location of what is kept of it is that of what is kept of the flat list
+    own-is : (keep : Option (List ℕ)) (flat : List Parts) → linked (tree_of c.marks) ms (gives flat) → IsJoined M flat (first_name flat)
+        → (x : Reached Stop LocatedParts) → own_location keep plan M x → IsKeptLocation keep flat plan x
+    own-is None flat is joined (gives r) there =
+        (flat, refl, located-forth (M ∷ []) flat plan (link-means M flat sound (flat-valid flat is) joined (flat-linkable flat is)) (gives r) there)
+    own-is None flat is joined (stops s) there =
+        inr (flat, refl, located-forth (M ∷ []) flat plan (link-means M flat sound (flat-valid flat is) joined (flat-linkable flat is)) (stops s) there)
+    own-is (Some name) flat is joined x there = rest-located name M flat plan sound joined (flat-valid flat is) x there
 
-    -- or its locate fact is
-    pub link-unlocated : linked_module c ms (gives M) → (s : Stop) → located plan (M ∷ []) (stops s) → location_of c plan ms (stops s)
-    link-unlocated (flat, is, joined) s there =
-        inr (
-          flat,
-          is,
-          located-forth (M ∷ []) flat plan (link-means M flat sound (flat-valid flat is) (named-first flat joined)
-              (flat-linkable flat is)) (stops s) there,
-        )
+    pub link-located : linked_module c ms (gives M) → (r : LocatedParts) → own_location c.keep plan M (gives r) → location_of c plan ms (gives r)
+    link-located (flat, is, joined) r there = (flat, is, own-is c.keep flat is (named-first flat joined) (gives r) there)
+
+    -- or the fact is that ends it
+    pub link-unlocated : linked_module c ms (gives M) → (s : Stop) → own_location c.keep plan M (stops s) → location_of c plan ms (stops s)
+    link-unlocated (flat, is, joined) s there = inr (flat, is, own-is c.keep flat is (named-first flat joined) (stops s) there)
 
   -- or it is not linked
   pub unlinked-stops : (plan : Plan) (s : Stop) → with_stops link_fact (linked_module c ms) (stops s) → location_of c plan ms (stops s)

@@ -14,6 +14,7 @@ use Rattle.mufom_groups.specs.Linked.{first_name}
 use Rattle.mufom_groups.specs.Work.{gives}
 use Rattle.mufom_command.specs.Commands.{Output, made, located, located_unless, writes}
 use Rattle.mufom_command.specs.RunLaws.{AbsoluteFilesStand, LinkedFilesStand}
+use Rattle.mufom_command.proofs.KeptLaws.{kept-valid}
 
 -- what is written goes into the file that is named
 is-written : (out : Option (List ℕ)) (bytes : List ℕ) (output : Output) → writes out bytes (gives output) → (name : List ℕ) × (out ≡ Some name)
@@ -41,7 +42,16 @@ linked-files-stand c plan flat output valid (M, joined, is) =
     }
 
 pub absolute-files-stand : AbsoluteFilesStand
-absolute-files-stand c plan flat output valid (r, is_located, is) =
+absolute-files-stand c plan flat output valid (kept, is_kept, (r, is_located, is)) =
     let (name, file, bytes) = is-written c.out (written (absolute_of r)) output is in
-    let there = location-of plan flat r is_located in
-    record { location = r; name = name; file = file; bytes = bytes; located = there; itself = absolute_is_located_as_itself flat plan r valid there }
+    let there = location-of plan kept r is_located in
+    record {
+      location = r;
+      name = name;
+      file = file;
+      bytes = bytes;
+      kept = kept;
+      keeps = is_kept;
+      located = there;
+      itself = absolute_is_located_as_itself kept plan r (kept-valid c.keep flat kept valid is_kept) there;
+    }

@@ -86,6 +86,7 @@ module _ (name bytes : List ℕ) where
   no-plan old new before now has (outcome.Refused (refusal.Plan r)) is = (refl, plan-refused old.files r has is)
   no-plan old new before now has (outcome.Refused (refusal.Read n r)) is = absurd is
   no-plan old new before now has (outcome.Refused (refusal.Bin count)) is = absurd is
+  no-plan old new before now has (outcome.Refused (refusal.Keep kept)) is = absurd is
   no-plan old new before now has (outcome.Refused (refusal.Text r)) is = absurd is
   no-plan old new before now has (outcome.Refused (refusal.InputLimit n)) is = absurd is
   no-plan old new before now has (outcome.Refused (refusal.TooManyFiles n)) is = absurd is

@@ -26,11 +26,19 @@ use Rattle.mufom_meaning.proofs.locations.Single.{location_is_single}
 use Rattle.mufom_words.specs.Tree.{tree_of}
 use Rattle.mufom_command.specs.declared.outcome.Outcome.{Outcome}
 use Rattle.mufom_command.specs.declared.outcome.Outcome.TheVariants as outcome
-use Rattle.mufom_groups.specs.Linked.{joined, linked}
-use Rattle.mufom_groups.specs.Work.{Reached, gives, stops, Work, ◌>>=◌, with_stops, IsSingle}
+use Rattle.mufom_groups.specs.Linked.{first_name, joined, linked}
+use Rattle.mufom_meaning.specs.Flat.{public_names}
+use Rattle.mufom_meaning.specs.Joined.{IsJoined}
+use Rattle.mufom_meaning.proofs.staging.JoinedSingle.{joined_is_single}
+use Rattle.mufom_module.specs.Defects.{IsValid}
+use Rattle.mufom_plan.specs.Names.{has_name}
+use Rattle.mufom_prune.specs.Pruned.{IsPruned}
+use Rattle.mufom_prune_laws.proofs.Single.{pruned_is_single}
+use Rattle.mufom_groups.specs.Work.{Reached, gives, stops, Work, ◌>>=◌, one_with, sure, with_stops, IsSingle}
 use Rattle.mufom_groups.proofs.Singles.{joined-single, linked-single}
 use Rattle.mufom_groups.proofs.Works.{sure-single, stop_at-single, one_with-single, nowhere-single, stops-single, then-single}
-use Rattle.mufom_command.specs.Stop.{Stop, words_refused, plan_refused, file_refused, past_limit, link_fact, locate_fact, raw_too_long, text_refused}
+use Rattle.mufom_command.specs.Stop.{Stop, words_refused, plan_refused, file_refused, past_limit, link_fact, keep_unknown, locate_fact, raw_too_long}
+use Rattle.mufom_command.specs.Stop.{text_refused}
 use Rattle.mufom_command.specs.Inputs.{HaveOneVerdict, Verdict, accepted, refused, past_limit as past, ComeTo}
 use Rattle.mufom_command.specs.Text.{Text, check_text, hit_text}
 use Rattle.mufom_numbers.specs.declared.limits.TheConstants.{MOST_FILE_BYTES}
@@ -42,10 +50,10 @@ use Rattle.mufom_titxt.specs.declared.refusal.TxtRefusal.{TxtRefusal}
 use Rattle.mufom_titxt.specs.TextModules.{text_parts}
 use Rattle.mufom_titxt.specs.Texts.{txt_cells, txt_refusal}
 use Rattle.mufom_titxt.specs.Written.{txt_text}
-use Rattle.mufom_command.specs.Commands.{Output, printed, made, form_of, prints, writes, file_in, plan_by, plan_in, modules_in, maus_of, located}
-use Rattle.mufom_command.specs.Commands.{located_unless, linked_file, locating, absolute_file, printed_hit, printed_image, raw_file, reading_text}
-use Rattle.mufom_command.specs.Commands.{runs_of_text, runs_unless, text_in, txt_file, unless_past_limit, unless_too_long, listing, linking, work_of}
-use Rattle.mufom_command.specs.Commands.{work_by, run_of}
+use Rattle.mufom_command.specs.Commands.{Output, printed, made, form_of, prints, writes, file_in, kept_of, kept_unless, plan_by, plan_in, modules_in}
+use Rattle.mufom_command.specs.Commands.{maus_of, located, located_unless, linked_file, locating, absolute_file, printed_hit, printed_image, raw_file}
+use Rattle.mufom_command.specs.Commands.{reading_text, runs_of_text, runs_unless, text_in, txt_file, unless_past_limit, unless_too_long, listing}
+use Rattle.mufom_command.specs.Commands.{linking, work_of, work_by, run_of}
 use Rattle.mufom_command.specs.Run.{AnswersBy, AnswersFor, Call, IsForced, outcome_of, stop_outcome, stop_answer}
 use Rattle.mufom_command.proofs.Verdicts.{one_verdict}
 
@@ -68,6 +76,7 @@ by_verdict files c (stops (words_refused s)) is = absurd is
 by_verdict files c (stops (plan_refused r)) is = absurd is
 by_verdict files c (stops (link_fact f)) is = absurd is
 by_verdict files c (stops (locate_fact maus f)) is = absurd is
+by_verdict files c (stops (keep_unknown name)) is = absurd is
 by_verdict files c (stops (raw_too_long count)) is = absurd is
 by_verdict files c (stops (text_refused r)) is = absurd is
 
@@ -113,6 +122,19 @@ located-single plan ms = by (locate_answer ms plan) where
   by None = one_with-single (IsLocation ms plan) (location_is_single ms plan)
   by (Some f) = stop_at-single (locate_fact (maus_of ms) f)
 
+pub kept_of-single : (keep : Option (List ℕ)) (ms : List Parts) → IsSingle (kept_of keep ms)
+kept_of-single None ms = sure-single ms
+kept_of-single (Some name) ms = by (has_name (public_names ms) name) where
+  by : (b : Bool) → IsSingle (kept_unless b name ms)
+  by false = stop_at-single (keep_unknown name)
+  by true =
+      then-single (one_with (λ M. IsValid M × IsJoined M ms (first_name ms))) (λ M. one_with (λ rest. IsPruned rest M name) >>= λ rest. sure (rest ∷ []))
+      (one_with-single (λ M. IsValid M × IsJoined M ms (first_name ms))
+      (λ M N is_one is_other. joined_is_single M N ms (first_name ms) is_one.1 is_other.1)) λ M.
+      then-single (one_with (λ rest. IsPruned rest M name)) (λ rest. sure (rest ∷ []))
+      (one_with-single (λ rest. IsPruned rest M name) (λ rest other is_one is_other. pruned_is_single rest other M name is_one is_other)) λ rest.
+      sure-single (rest ∷ [])
+
 module _ (c : Command) (plan : Plan) (flat : List Parts) where
   pub linked_file-single : IsSingle (linked_file c plan flat)
   linked_file-single =
@@ -121,7 +143,9 @@ module _ (c : Command) (plan : Plan) (flat : List Parts) where
 
   pub locating-single : (output : Command → LocatedParts → Work Stop Output) → ((r : LocatedParts) → IsSingle (output c r))
       → IsSingle (locating output c plan flat)
-  locating-single output single = then-single (located plan flat) (λ r. output c r) (located-single plan flat) single
+  locating-single output single =
+      then-single (kept_of c.keep flat) (λ kept. located plan kept >>= λ r. output c r) (kept_of-single c.keep flat) λ kept.
+      then-single (located plan kept) (λ r. output c r) (located-single plan kept) single
 
 -- ---- what is put out of a location
 

@@ -11,6 +11,9 @@ same-work work x = ((λ h. h), (λ h. h))
 pub same-trans : {A : Type 0} (u v w : Work Stop A) → IsSameWork u v → IsSameWork v w → IsSameWork u w
 same-trans u v w first second x = ((λ h. (second x).0 ((first x).0 h)), (λ h. (first x).1 ((second x).1 h)))
 
+pub same-sym : {A : Type 0} (u v : Work Stop A) → IsSameWork u v → IsSameWork v u
+same-sym u v same x = ((same x).1, (same x).0)
+
 module _ {A B : Type 0} (first second : Work Stop A) (next other : A → Work Stop B) (same : IsSameWork first second) (each : (a : A)
     → IsSameWork (next a) (other a)) where
   same-there : (x : Reached Stop B) → (first >>= next) x → (second >>= other) x

@@ -1,5 +1,5 @@
 -- A list that was linked in stages is put out as the list that the stages began with.
-use Rattle.std.proofs.Common.{◌≡◌, ◌↔◌, ℕ, List, [], ◌∷◌, Option, Some, None, unwrap_or, refl, sym, ap, subst, ◌∙◌}
+use Rattle.std.proofs.Common.{◌≡◌, ◌↔◌, ℕ, Bool, true, false, inl, inr, map, List, [], ◌∷◌, Option, Some, None, unwrap_or, refl, sym, ap, subst, ◌∙◌}
 use Rattle.mufom_host.specs.World.{HoldBytes, NamedFile}
 use Rattle.mufom_words.specs.declared.command.Command.{Command}
 use Rattle.mufom_words.specs.declared.command.Verb.{Verb}
@@ -11,19 +11,26 @@ use Rattle.mufom_plan.specs.declared.plan.Plan.{Plan}
 use Rattle.mufom_meaning.specs.declared.located.LocatedParts.{LocatedParts}
 use Rattle.mufom_meaning.specs.Joined.{IsJoined}
 use Rattle.mufom_meaning.specs.Location.{Header, first_header}
+use Rattle.mufom_meaning.specs.Bases.{Bases}
+use Rattle.mufom_meaning.specs.Flat.{SitedPublic, public_names}
+use Rattle.mufom_meaning.specs.Readings.{PublicReading, Readings, public_reading, readings}
+use Rattle.mufom_meaning.specs.Values.{Setting, setting}
+use Rattle.mufom_meaning.proofs.Names.{names_of-sited_publics}
+use Rattle.mufom_meaning.proofs.Unfolding.{readings-publics}
+use Rattle.mufom_plan.specs.Names.{has_name}
 use Rattle.mufom_meaning.specs.StagingLaws.{MeansTheSame}
 use Rattle.mufom_meaning.proofs.staging.Stages.{staged_means_the_same}
 use Rattle.mufom_groups.specs.Linked.{first_name, joined, linked}
-use Rattle.mufom_groups.specs.Work.{gives, stops, Work, ◌>>=◌, nowhere, with_stops}
+use Rattle.mufom_groups.specs.Work.{gives, stops, Work, ◌>>=◌, nowhere, stop_at, sure, with_stops}
 use Rattle.mufom_groups.proofs.Singles.{linked-single}
-use Rattle.mufom_groups.proofs.Works.{stops-single}
-use Rattle.mufom_command.specs.Stop.{Stop, link_fact}
-use Rattle.mufom_command.specs.Commands.{Output, writes, plan_in, modules_in, located, linked_file, locating, absolute_file, printed_hit}
-use Rattle.mufom_command.specs.Commands.{printed_image, raw_file, txt_file, linking, work_of}
+use Rattle.mufom_groups.proofs.Works.{stops-single, sure-single}
+use Rattle.mufom_command.specs.Stop.{Stop, keep_unknown, link_fact}
+use Rattle.mufom_command.specs.Commands.{Output, writes, kept_of, kept_unless, plan_in, modules_in, located, rest_of_link, linked_file, locating}
+use Rattle.mufom_command.specs.Commands.{absolute_file, printed_hit, printed_image, raw_file, txt_file, linking, work_of}
 use Rattle.mufom_command.specs.RunLaws.{CameByStages, IsLinking, IsSameWork, LeadsTo, PutOutAlike, RunsOfStages, StagesMakeNoDifference, put_out_of}
 use Rattle.mufom_command.proofs.LocatingLaws.{located-back, located-forth}
 use Rattle.mufom_command.proofs.Runs.{modules_in-single, plan_in-single}
-use Rattle.mufom_command.proofs.SameWorks.{same-trans, same-work, then-known, then-same}
+use Rattle.mufom_command.proofs.SameWorks.{same-sym, same-trans, same-work, then-known, then-same}
 
 -- the name of the first module, by its header
 abbrev name_by : Option Header → List ℕ
@@ -33,6 +40,20 @@ name_by (Some h) = h.1
 first_name-header : (ms : List Parts) → first_name ms ≡ name_by (first_header ms)
 first_name-header [] = refl
 first_name-header (m ∷ ms) = refl
+
+-- the names of the publics, by what they mean wherever the sections stand
+abbrev no_bases : Bases
+no_bases = record { sections = []; commons = λ (name : List ℕ). None }
+
+names-of-readings : (s : Setting) (publics : List SitedPublic) → map (λ (p : PublicReading). p.name) (map (public_reading s) publics)
+    ≡ map (λ (q : SitedPublic). q.entry.name) publics
+names-of-readings s [] = refl
+names-of-readings s (q ∷ publics) = ap (λ (names : List (List ℕ)). q.entry.name ∷ names) (names-of-readings s publics)
+
+names-read : (ms : List Parts) → map (λ (p : PublicReading). p.name) (readings ms no_bases).publics ≡ public_names ms
+names-read ms =
+    ap (map (λ (p : PublicReading). p.name)) (readings-publics ms no_bases)
+    ∙ names-of-readings (setting ms no_bases) (setting ms no_bases).publics ∙ names_of-sited_publics 0 0 0 ms
 
 pub means-same : (ms leaves : List Parts) → CameByStages ms leaves → MeansTheSame ms leaves
 means-same ms leaves came = staged_means_the_same came.descriptor.0 ms leaves came.staged came.valid came.descriptor.1 came.names
@@ -51,8 +72,53 @@ module _ (c : Command) (plan : Plan) (ms leaves : List Parts) (means : MeansTheS
   located-same : IsSameWork (located plan ms) (located plan leaves)
   located-same x = (located-forth ms leaves plan means x, located-back ms leaves plan means x)
 
+  names-same : public_names ms ≡ public_names leaves
+  names-same = sym (names-read ms) ∙ ap (λ (r : Readings). map (λ (p : PublicReading). p.name) r.publics) (means.same_readings no_bases) ∙ names-read leaves
+
+  first-same : first_name ms ≡ first_name leaves
+  first-same = first_name-header ms ∙ ap name_by means.same_first ∙ sym (first_name-header leaves)
+
+  -- the link of one is the link of the other
+  link-same : (M : Parts) → IsJoined M ms (first_name ms) ↔ IsJoined M leaves (first_name leaves)
+  link-same M = subst (λ (name : List ℕ). IsJoined M ms (first_name ms) ↔ IsJoined M leaves name) first-same (means.same_joined M (first_name ms))
+
+  rest-same : (name : List ℕ) → IsSameWork (rest_of_link name ms) (rest_of_link name leaves)
+  rest-same name (gives kept) = (
+    (λ (M, (sound, joined), rest). (M, (sound, (link-same M).0 joined), rest)),
+    (λ (M, (sound, joined), rest). (M, (sound, (link-same M).1 joined), rest)),
+  )
+  rest-same name (stops s) = (
+    (λ ends. absurd (never ms name s ends)),
+    (λ ends. absurd (never leaves name s ends)),
+  ) where
+    never : (list : List Parts) (name : List ℕ) (s : Stop) → rest_of_link name list (stops s) → ⊥
+    never list name s (inl none) = none
+    never list name s (inr (M, is, inl none)) = none
+    never list name s (inr (M, is, inr (rest, pruned, none))) = none
+
+  kept-same : (name : List ℕ) → IsSameWork (kept_of (Some name) ms) (kept_of (Some name) leaves)
+  kept-same name = subst (λ (names : List (List ℕ)). IsSameWork (kept_of (Some name) ms) (kept_unless (has_name names name) name leaves)) names-same
+      (by (has_name (public_names ms) name)) where
+        by : (b : Bool) → IsSameWork (kept_unless b name ms) (kept_unless b name leaves)
+        by false = same-work (stop_at (keep_unknown name))
+        by true = rest-same name
+
+  of_kept : (output : Command → LocatedParts → Work Stop Output) (keep : Option (List ℕ))
+      → IsSameWork (kept_of keep ms >>= λ kept. located plan kept >>= λ r. output c r) (kept_of keep leaves >>= λ kept. located plan kept >>= λ r. output c r)
+  of_kept output None =
+      let next : List Parts → Work Stop Output = λ kept. located plan kept >>= λ r. output c r in
+      let here : IsSameWork (sure ms >>= next) (next ms) = then-known (sure ms) next ms (sure-single ms) refl in
+      let there : IsSameWork (sure leaves >>= next) (next leaves) = then-known (sure leaves) next leaves (sure-single leaves) refl in
+      same-trans (sure ms >>= next) (next ms) (sure leaves >>= next) here
+      (same-trans (next ms) (next leaves) (sure leaves >>= next)
+      (then-same (located plan ms) (located plan leaves) (λ r. output c r) (λ r. output c r) located-same (λ r. same-work (output c r)))
+      (same-sym (sure leaves >>= next) (next leaves) there))
+  of_kept output (Some name) =
+      let next : List Parts → Work Stop Output = λ kept. located plan kept >>= λ r. output c r in
+      then-same (kept_of (Some name) ms) (kept_of (Some name) leaves) next next (kept-same name) (λ kept. same-work (next kept))
+
   of_location : (output : Command → LocatedParts → Work Stop Output) → IsSameWork (locating output c plan ms) (locating output c plan leaves)
-  of_location output = then-same (located plan ms) (located plan leaves) (λ r. output c r) (λ r. output c r) located-same (λ r. same-work (output c r))
+  of_location output = of_kept output c.keep
 
   pub put_out-alike : PutOutAlike c plan ms leaves
   put_out-alike verb.Show = same-work nowhere

@@ -134,6 +134,7 @@ module _ (c : Command) (name : List ℕ) (no_plan : c.plan ≡ None) (one : c.fi
   reading-stops (outcome.Refused (refusal.Link l)) why = absurd why
   reading-stops (outcome.Refused (refusal.Locate l maus)) why = absurd why
   reading-stops (outcome.Refused (refusal.Bin count)) why = absurd why
+  reading-stops (outcome.Refused (refusal.Keep kept)) why = absurd why
   reading-stops (outcome.Refused (refusal.Text r)) why = absurd why
   reading-stops outcome.Done why = absurd why
   reading-stops (outcome.Usage f) why = absurd why
@@ -151,6 +152,7 @@ module _ (c : Command) (name : List ℕ) (no_plan : c.plan ≡ None) (one : c.fi
   text-count (outcome.Refused (refusal.Link l)) why = absurd why
   text-count (outcome.Refused (refusal.Locate l maus)) why = absurd why
   text-count (outcome.Refused (refusal.Bin count)) why = absurd why
+  text-count (outcome.Refused (refusal.Keep kept)) why = absurd why
   text-count (outcome.Refused (refusal.Text r)) why = absurd why
   text-count outcome.Done why = absurd why
   text-count (outcome.Usage f) why = absurd why

@@ -84,19 +84,29 @@ module _ (output : Command → LocatedParts → Work Stop Output) (c : Command) 
   pub locating-stops : (plan : Plan) (ms : List Parts) (files : List NamedFile) → inputs_in files c (gives (plan, ms)) → (s : Stop)
       → location_of c plan ms (stops s) → linking (locating output) files c (stops s)
   locating-stops plan ms files is s (inl ends) = inr (plan, inputs-planned files c plan ms is, inr (ms, inputs-modules files c plan ms is, inl ends))
-  locating-stops plan ms files is s (inr (flat, is_linked, ends)) =
+  locating-stops plan ms files is s (inr (flat, is_linked, inl ends)) =
       inr (plan, inputs-planned files c plan ms is, inr (ms, inputs-modules files c plan ms is, inr (flat, is_linked, inl ends)))
+  locating-stops plan ms files is s (inr (flat, is_linked, inr (kept, is_kept, ends))) =
+      inr (plan, inputs-planned files c plan ms is, inr (ms, inputs-modules files c plan ms is, inr (flat, is_linked, inr (kept, is_kept, inl ends))))
 
   -- what is put out of the location, or why nothing is
   pub output-gives : (r : LocatedParts) (o : Output) → output c r (gives o) → (files : List NamedFile) → LocatesTo files c r
       → linking (locating output) files c (gives o)
-  output-gives r o puts files (plan, ms, is, (flat, is_linked, is_located)) =
-      (plan, inputs-planned files c plan ms is, (ms, inputs-modules files c plan ms is, (flat, is_linked, (r, is_located, puts))))
+  output-gives r o puts files (plan, ms, is, (flat, is_linked, (kept, is_kept, is_located))) =
+      (plan, inputs-planned files c plan ms is, (ms, inputs-modules files c plan ms is, (flat, is_linked, (kept, is_kept, (r, is_located, puts)))))
 
   pub output-stops : (r : LocatedParts) (s : Stop) → output c r (stops s) → (files : List NamedFile) → LocatesTo files c r
       → linking (locating output) files c (stops s)
-  output-stops r s ends files (plan, ms, is, (flat, is_linked, is_located)) =
-      inr (plan, inputs-planned files c plan ms is, inr (ms, inputs-modules files c plan ms is, inr (flat, is_linked, inr (r, is_located, ends))))
+  output-stops r s ends files (plan, ms, is, (flat, is_linked, (kept, is_kept, is_located))) =
+      inr (
+        plan,
+        inputs-planned files c plan ms is,
+        inr (
+          ms,
+          inputs-modules files c plan ms is,
+          inr (flat, is_linked, inr (kept, is_kept, inr (r, is_located, ends))),
+        ),
+      )
 
 -- a file that is named is written
 pub writes-gives : (c : Command) (name bytes : List ℕ) → c.out ≡ Some name → writes c.out bytes (gives (made name bytes))

@@ -25,8 +25,14 @@ use Rattle.mufom_meaning.specs.LocateAnswer.{locate_answer}
 use Rattle.mufom_meaning.specs.Location.{IsLocation}
 use Rattle.mufom_make.specs.Generated.{made_modules, made_plan, summary}
 use Rattle.mufom_groups.specs.Work.{gives, stops, Work, ◌>>=◌, sure, one_with, stop_at, nowhere, with_stops}
-use Rattle.mufom_groups.specs.Linked.{joined, linked}
-use Rattle.mufom_command.specs.Stop.{Stop, words_refused, plan_refused, file_refused, past_limit, link_fact, locate_fact, raw_too_long, text_refused}
+use Rattle.mufom_groups.specs.Linked.{first_name, joined, linked}
+use Rattle.mufom_meaning.specs.Flat.{public_names}
+use Rattle.mufom_meaning.specs.Joined.{IsJoined}
+use Rattle.mufom_module.specs.Defects.{IsValid}
+use Rattle.mufom_plan.specs.Names.{has_name}
+use Rattle.mufom_prune.specs.Pruned.{IsPruned}
+use Rattle.mufom_command.specs.Stop.{Stop, words_refused, plan_refused, file_refused, past_limit, link_fact, keep_unknown, locate_fact, raw_too_long}
+use Rattle.mufom_command.specs.Stop.{text_refused}
 use Rattle.mufom_command.specs.Inputs.{ComeTo, accepted, refused, past_limit as past}
 use Rattle.mufom_write.specs.Raw.{raw_image}
 use Rattle.mufom_addr.specs.AddressHit.{hit_at}
@@ -106,6 +112,26 @@ located_unless (Some f) plan ms = stop_at (locate_fact (maus_of ms) f)
 abbrev pub located : Plan → List Parts → Work Stop LocatedParts
 located plan ms = located_unless (locate_answer ms plan) plan ms
 
+-- ---- what is kept
+
+-- what remains of the partial link of a list for a name; the link is a module without a defect, under the name of the first module
+abbrev pub rest_of_link : List ℕ → List Parts → Work Stop (List Parts)
+rest_of_link name ms = do
+  M ← one_with (λ M. IsValid M × IsJoined M ms (first_name ms))
+  rest ← one_with (λ rest. IsPruned rest M name)
+  sure (rest ∷ [])
+
+-- the same, where a public of the list has the name
+abbrev pub kept_unless : Bool → List ℕ → List Parts → Work Stop (List Parts)
+kept_unless false name ms = stop_at (keep_unknown name)
+kept_unless true name ms = rest_of_link name ms
+
+-- What is located of a list that can be linked: the list or, where a name is given, what remains of its link for the public of that
+-- name.
+abbrev pub kept_of : Option (List ℕ) → List Parts → Work Stop (List Parts)
+kept_of None ms = sure ms
+kept_of (Some name) ms = kept_unless (has_name (public_names ms) name) name ms
+
 -- ---- what is put out of a list of modules that can be linked, by a plan
 
 -- the file of its partial link
@@ -114,10 +140,11 @@ linked_file c plan ms = do
   M ← with_stops link_fact (joined c.name ms)
   writes c.out (written M)
 
--- what is put out of its location
+-- what is put out of the location of what is kept of it
 abbrev pub locating : (Command → LocatedParts → Work Stop Output) → Command → Plan → List Parts → Work Stop Output
 locating output c plan ms = do
-  r ← located plan ms
+  kept ← kept_of c.keep ms
+  r ← located plan kept
   output c r
 
 -- ---- what is put out of a location

@@ -167,6 +167,7 @@ refusal_text (refusal.TooDeep n) = codes "TooDeep " ++ decimal n
 refusal_text (refusal.Plan p) = codes "plan: " ++ plan_text p
 refusal_text (refusal.Link l) = codes "link: " ++ link_text l
 refusal_text (refusal.Locate l maus) = codes "locate: " ++ locate_text maus l
+refusal_text (refusal.Keep name) = codes "keep: Unknown " ++ quoted name
 refusal_text (refusal.Bin count) = codes "bin: TooLong " ++ decimal count
 refusal_text (refusal.Text r) = codes "text line " ++ decimal r.line ++ codes ": " ++ txt_reason_text r.reason
 

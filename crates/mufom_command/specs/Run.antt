@@ -19,7 +19,8 @@ use Rattle.mufom_command.specs.Inputs.{ComeTo, accepted}
 use Rattle.mufom_groups.specs.Refusals.{link_refusal}
 use Rattle.mufom_groups.specs.Work.{Reached, gives, stops, Work}
 use Rattle.mufom_command.specs.LocateRefusals.{locate_refusal}
-use Rattle.mufom_command.specs.Stop.{Stop, words_refused, plan_refused, file_refused, past_limit, link_fact, locate_fact, raw_too_long, text_refused}
+use Rattle.mufom_command.specs.Stop.{Stop, words_refused, plan_refused, file_refused, past_limit, link_fact, keep_unknown, locate_fact, raw_too_long}
+use Rattle.mufom_command.specs.Stop.{text_refused}
 use Rattle.mufom_command.specs.Commands.{Output, printed, made, plan_in, work_of, run_of}
 
 -- What stood outside before a call and after it, and how often calls of the outside had failed.
@@ -48,6 +49,7 @@ stop_outcome (plan_refused r) = outcome.Refused (refusal.Plan r)
 stop_outcome (file_refused n r) = outcome.Refused (refusal.Read n r)
 stop_outcome (past_limit n) = outcome.Refused (refusal.InputLimit n)
 stop_outcome (link_fact f) = outcome.Refused (refusal.Link (link_refusal f))
+stop_outcome (keep_unknown name) = outcome.Refused (refusal.Keep name)
 stop_outcome (locate_fact maus f) = outcome.Refused (refusal.Locate (locate_refusal f) maus)
 stop_outcome (raw_too_long count) = outcome.Refused (refusal.Bin count)
 stop_outcome (text_refused r) = outcome.Refused (refusal.Text r)

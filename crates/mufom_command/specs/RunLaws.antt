@@ -1,7 +1,7 @@
 -- What holds of runs: each comes to one end, which is the answer where no call failed and memory was found; files that were linked in
 -- stages are answered as the list that the stages began with; locating is done where no fact stands; and the files that are made stand
 -- for what they were made of.
-use Rattle.std.specs.Prelude.{◌≡◌, ◌≢◌, ◌↔◌, ◌≤◌, ℕ, length, List, [], ◌∷◌, Some, None, Ok, unwrap_or}
+use Rattle.std.specs.Prelude.{◌≡◌, ◌≢◌, ◌↔◌, ◌≤◌, ℕ, length, List, [], ◌∷◌, Option, Some, None, Ok, unwrap_or}
 use Rattle.mufom_host.specs.World.{NamedFile, HoldBytes, RevealsTogether, Rose}
 use Rattle.mufom_words.specs.declared.command.Command.{Command}
 use Rattle.mufom_words.specs.declared.command.Verb.{Verb}
@@ -27,7 +27,7 @@ use Rattle.mufom_command.specs.declared.outcome.Outcome.TheVariants as outcome
 use Rattle.mufom_write.specs.Raw.{raw_image}
 use Rattle.mufom_numbers.specs.declared.limits.TheConstants.{MOST_FILE_BYTES}
 use Rattle.mufom_command.specs.Stop.{Stop}
-use Rattle.mufom_command.specs.Commands.{Output, made, plan_in, modules_in, linked_file, locating, absolute_file, printed_hit, printed_image}
+use Rattle.mufom_command.specs.Commands.{Output, made, kept_of, plan_in, modules_in, linked_file, locating, absolute_file, printed_hit, printed_image}
 use Rattle.mufom_command.specs.Commands.{raw_file, txt_file, work_of, run_of}
 use Rattle.mufom_command.specs.Run.{Call, outcome_of, Answers}
 
@@ -78,19 +78,22 @@ abbrev pub MayPutOut : Verb → Command → LocatedParts → Type 0
 MayPutOut verb.Bin c r = length (raw_image c.fill r.runs) ≤ MOST_FILE_BYTES
 MayPutOut _ c r = Unit {0}
 
--- no fact stands against the list
-pub record HasNoFact (ms : List Parts) (plan : Plan) : Type 0 where
+-- no fact stands against the list, of which what the public of a name needs may be kept alone: it can be linked, one of its publics has
+-- the name, and no locate fact stands against what is kept
+pub record HasNoFact (keep : Option (List ℕ)) (ms : List Parts) (plan : Plan) : Type 0 where
   pub links : link_answer ms ≡ None
-  pub locates : locate_answer ms plan ≡ None
+  pub kept : List Parts
+  pub keeps : kept_of keep ms (gives kept)
+  pub locates : locate_answer kept plan ≡ None
 
--- Where nothing failed and memory was found, locating accepted files is done exactly where no fact stands against their flat list,
--- wherever the files have their groups. Of a raw image this is so where it has not too many bytes.
+-- Where nothing failed and memory was found, locating accepted files is done exactly where no fact stands against their flat list, or
+-- against what is kept of it, wherever the files have their groups. Of a raw image this is so where it has not too many bytes.
 abbrev pub LocatingIsDone : Type 0
 LocatingIsDone =
     (words : List (List ℕ)) (files : List NamedFile) (call : Call) (result : Outcome) (c : Command) (plan : Plan) (flat : List Parts)
     → Answers words call result → IsUndisturbed files call result → answer_of words ≡ Ok c → IsLocating c.verb → Accepts files c plan flat
-    → ((r : LocatedParts) → IsLocation flat plan r → MayPutOut c.verb c r)
-    → (result ≡ outcome.Done) ↔ HasNoFact flat plan
+    → ((kept : List Parts) (r : LocatedParts) → kept_of c.keep flat (gives kept) → IsLocation kept plan r → MayPutOut c.verb c r)
+    → (result ≡ outcome.Done) ↔ HasNoFact c.keep flat plan
 
 -- ---- stages
 
@@ -164,13 +167,16 @@ LinkedFilesStand =
     (c : Command) (plan : Plan) (flat : List Parts) (output : Output) → AreValid flat → linked_file c plan flat (gives output)
     → IsFileOfLink c flat output
 
--- the output is the file of the absolute module of a location, and that module is located as itself by the plan without regions
+-- the output is the file of the absolute module of the location of what is kept of the list, and that module is located as itself by the
+-- plan without regions
 pub record IsFileOfLocation (c : Command) (plan : Plan) (flat : List Parts) (output : Output) : Type 0 where
   pub location : LocatedParts
   pub name : List ℕ
   pub file : c.out ≡ Some name
   pub bytes : output ≡ made name (written (absolute_of location))
-  pub located : IsLocation flat plan location
+  pub kept : List Parts
+  pub keeps : kept_of c.keep flat (gives kept)
+  pub located : IsLocation kept plan location
   pub itself : IsLocation (absolute_of location ∷ []) no_regions location
 
 -- What is put out by locating is the file of an absolute module that, located alone by the plan without regions, is located as itself.

@@ -1,11 +1,14 @@
 -- The answer where modules are not linked or not located.
-use Rattle.std.specs.Prelude.{◌≡◌, ◌⊎◌, ℕ, ◌≤◌, List, length, true}
+use Rattle.std.specs.Prelude.{◌≡◌, ◌⊎◌, ℕ, ◌≤◌, List, [], ◌∷◌, length, Option, Some, None, Bool, true, false}
 use Rattle.mufom_image.specs.declared.refusal.LocateRefusal.{LocateRefusal}
 use Rattle.mufom_image.specs.declared.refusal.LocateRefusal.TheVariants as locate
 use Rattle.mufom_link.specs.declared.refusal.LinkRefusal.{LinkRefusal}
 use Rattle.mufom_link.specs.declared.refusal.LinkRefusal.TheVariants as link
 use Rattle.mufom_module.specs.declared.module.Parts.{Parts}
 use Rattle.mufom_plan.specs.declared.plan.Plan.{Plan}
+use Rattle.mufom_plan.specs.Names.{has_name}
+use Rattle.mufom_meaning.specs.Flat.{public_names}
+use Rattle.mufom_prune.specs.Pruned.{IsPruned}
 use Rattle.mufom_meaning.specs.declared.located.LocatedParts.{LocatedParts}
 use Rattle.mufom_meaning.specs.Staging.{AreValid}
 use Rattle.mufom_meaning.specs.StagingLaws.{total_weight}
@@ -15,14 +18,14 @@ use Rattle.mufom_words.specs.Sound.{IsSound}
 use Rattle.mufom_words.specs.Tree.{tree_of}
 use Rattle.mufom_groups.specs.Groups.{most_weight}
 use Rattle.mufom_groups.specs.Linked.{linked}
-use Rattle.mufom_groups.specs.Work.{Work, ◌>>=◌, gives, stops, with_stops}
+use Rattle.mufom_groups.specs.Work.{Work, ◌>>=◌, gives, one_with, stop_at, stops, with_stops}
 use Rattle.mufom_host.specs.World.{NamedFile}
-use Rattle.mufom_command.specs.Commands.{located}
+use Rattle.mufom_command.specs.Commands.{kept_of, located}
 use Rattle.mufom_command.specs.InputsRead.{inputs_in}
 use Rattle.mufom_command.specs.declared.outcome.Outcome.{Outcome}
 use Rattle.mufom_command.specs.declared.outcome.Outcome.TheVariants as outcome
 use Rattle.mufom_command.specs.declared.outcome.Refusal.TheVariants as refusal
-use Rattle.mufom_command.specs.Stop.{Stop, link_fact, locate_fact, raw_too_long, text_refused}
+use Rattle.mufom_command.specs.Stop.{Stop, link_fact, keep_unknown, locate_fact, raw_too_long, text_refused}
 use Rattle.mufom_command.specs.Run.{stop_outcome}
 
 abbrev pub outcome_of_link : LinkRefusal → Outcome
@@ -42,11 +45,24 @@ pub record AreLinkable (c : Command) (ms : List Parts) : Type 0 where
   pub valid : AreValid ms
   pub light : total_weight ms ≤ most_weight
 
--- the location, by a plan, of the flat list of the modules of the files
+-- the location of what remains of a module for a name, where one of its publics has it
+abbrev pub rest_location : Bool → List ℕ → Plan → Parts → Work Stop LocatedParts
+rest_location false name plan M = stop_at (keep_unknown name)
+rest_location true name plan M = do
+  rest ← one_with (λ rest. IsPruned rest M name)
+  located plan (rest ∷ [])
+
+-- the location of one module, or of what remains of it for a name
+abbrev pub own_location : Option (List ℕ) → Plan → Parts → Work Stop LocatedParts
+own_location None plan M = located plan (M ∷ [])
+own_location (Some name) plan M = rest_location (has_name (public_names (M ∷ [])) name) name plan M
+
+-- the location, by a plan, of what is kept of the flat list of the modules of the files
 abbrev pub location_of : Command → Plan → List Parts → Work Stop LocatedParts
 location_of c plan ms = do
   flat ← with_stops link_fact (linked (tree_of c.marks) ms)
-  located plan flat
+  kept ← kept_of c.keep flat
+  located plan kept
 
 -- the files come to this location
 abbrev pub LocatesTo : List NamedFile → Command → LocatedParts → Type 0
@@ -55,6 +71,7 @@ LocatesTo files c r = (plan : Plan) × (ms : List Parts) × inputs_in files c (g
 -- the end is a fact about the modules, or about the text that was read
 abbrev pub IsOfModules : Stop → Type 0
 IsOfModules (link_fact f) = Unit {0}
+IsOfModules (keep_unknown name) = Unit {0}
 IsOfModules (locate_fact maus f) = Unit {0}
 IsOfModules (raw_too_long count) = Unit {0}
 IsOfModules (text_refused r) = Unit {0}

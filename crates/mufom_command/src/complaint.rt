@@ -214,6 +214,16 @@ fn locate_line(alloc: Global, refusal: &LocateRefusal, maus: u8) -> Result<Vec<u
     Ok(line)
 }
 
+// The line of a name that is to be kept and that no public symbol has.
+fn keep_line(alloc: Global, name: &Bytes) -> Result<Vec<u8>, NoMemory>
+    ensures { IfOk result (λ text. text.items ≡ complaint (Outcome.Refused (Refusal.Keep name.now))) }
+{
+    let mut line = Vec::from_slice(alloc, b"refused: keep: Unknown ")?;
+    line.extend_from_slice(quoted_name(alloc, name.as_slice())?.as_slice())?;
+    line.push(b'\n')?;
+    Ok(line)
+}
+
 // The line of a raw image with too many bytes.
 fn raw_line(alloc: Global, count: u128) -> Result<String, NoMemory>
     ensures { IfOk result (λ text. string_bytes text ≡ complaint (Outcome.Refused (Refusal.Bin count))) }
@@ -261,6 +271,7 @@ pub(crate) fn refusal_line(alloc: Global, refusal: &Refusal) -> Result<Vec<u8>, 
         Refusal::Plan(refusal) => plan_line(alloc, *refusal),
         Refusal::Link(refusal) => link_line(alloc, refusal),
         Refusal::Locate(refusal, maus) => locate_line(alloc, refusal, *maus),
+        Refusal::Keep(name) => keep_line(alloc, name),
         Refusal::Bin(count) => Ok(raw_line(alloc, *count)?.into_bytes()),
         Refusal::Text(refusal) => text_line(alloc, *refusal),
     }

@@ -21,7 +21,7 @@ ghost use Rattle.mufom_command.specs.Commands.{linked_file, linking, located, wo
 ghost use Rattle.mufom_command.specs.Making.{IsMadeAlone};
 ghost use Rattle.mufom_command.specs.Run.{call_of, Does, inputs_of};
 ghost use Rattle.mufom_command.specs.Stop.{link_fact};
-ghost use Rattle.mufom_command.specs.WorkEnds.{outcome_of_link, outcome_of_locate, AreLinkable, EndsAt, LocatesTo, location_of};
+ghost use Rattle.mufom_command.specs.WorkEnds.{outcome_of_link, outcome_of_locate, own_location, AreLinkable, EndsAt, LocatesTo, location_of};
 
 use crate::inputs::{Inputs, read_inputs};
 use crate::outcome::{Outcome, Refusal};
@@ -33,6 +33,7 @@ use mufom_link::LinkRefusal;
 use mufom_module::Module;
 use mufom_numbers::List;
 use mufom_plan::Plan;
+use mufom_prune::{PruneRefusal, prune};
 use mufom_words::Command;
 use std::alloc::Global;
 
@@ -88,6 +89,48 @@ fn located(alloc: Global, object: &Module, plan: &Plan) -> Result<Located, Outco
     }
 }
 
+// The location of what remains of a module for the public symbol of a name, or the answer of the run.
+fn pruned_location(
+    alloc: Global,
+    object: &Module,
+    name: &[u8],
+    plan: &Plan,
+) -> Result<Located, Outcome>
+    requires names { AreDistinct (names_of object.now.names.publics) }
+    requires plan { IsSoundPlan plan.now }
+    requires light { weight object.now < most_weight + 2 ^ 16 }
+    ensures ok { IfOk result (λ r. own_location (Some name.now) plan.now object.now (gives r)) }
+    ensures light { IfOk result (λ r. weight (absolute_of r) < 2 ^ 32) }
+    ensures stops { IfErr result (EndsAt (own_location (Some name.now) plan.now object.now)) }
+{
+    match prune(alloc, object, name) {
+        Ok(rest) => located(alloc, &rest, plan),
+        Err(PruneRefusal::Unknown(name)) => Err(Outcome::Refused(Refusal::Keep(name))),
+        Err(PruneRefusal::NoMemory) => Err(Outcome::NoMemory),
+    }
+}
+
+// The location of the module into which the files of the command are linked, or of what remains of it
+// where the command names a public symbol to keep; or the answer of the run.
+fn kept_location(
+    alloc: Global,
+    command: &Command,
+    object: &Module,
+    plan: &Plan,
+) -> Result<Located, Outcome>
+    requires names { AreDistinct (names_of object.now.names.publics) }
+    requires plan { IsSoundPlan plan.now }
+    requires light { weight object.now < most_weight + 2 ^ 16 }
+    ensures ok { IfOk result (λ r. own_location command.now.keep plan.now object.now (gives r)) }
+    ensures light { IfOk result (λ r. weight (absolute_of r) < 2 ^ 32) }
+    ensures stops { IfErr result (EndsAt (own_location command.now.keep plan.now object.now)) }
+{
+    match &command.keep {
+        Some(name) => pruned_location(alloc, object, name.as_slice(), plan),
+        None => located(alloc, object, plan),
+    }
+}
+
 // The location of the modules of the command, or the answer of the run.
 fn location(alloc: Global, command: &Command, inputs: Inputs) -> Result<Located, Outcome>
     requires linkable { AreLinkable command.now inputs.modules }
@@ -99,7 +142,7 @@ fn location(alloc: Global, command: &Command, inputs: Inputs) -> Result<Located,
 {
     let Inputs { plan, modules } = inputs;
     match linked(alloc, command, modules) {
-        Ok(object) => located(alloc, &object, &plan),
+        Ok(object) => kept_location(alloc, command, &object, &plan),
         Err(stop) => Err(stop),
     }
 }

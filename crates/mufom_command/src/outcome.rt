@@ -3,6 +3,7 @@ ghost use Rattle.mufom_command.specs.Complaint.{status_of};
 
 use mufom_image::LocateRefusal;
 use mufom_link::LinkRefusal;
+use mufom_numbers::Bytes;
 use mufom_plan::PlanRefusal;
 use mufom_read::ReadRefusal;
 use mufom_titxt::TxtRefusal;
@@ -34,6 +35,8 @@ pub enum Refusal {
     Link(LinkRefusal),
     /// The files can't be located; an address of theirs has this number of units.
     Locate(LocateRefusal, u8),
+    /// No public symbol of the modules that are linked has this name, which is to be kept.
+    Keep(Bytes),
     /// The raw image would have this many bytes, which are too many.
     Bin(u128),
     /// The bytes of the file are no TI-TXT text.

@@ -63,7 +63,7 @@ use Rattle.mufom_help.specs.declared.inputs.TheConstants.{
   BEYOND,
 }
 use Rattle.mufom_help.specs.declared.texts.TheConstants.{BAD_LINE, NO_ADDRESS, TWICE, NO_END}
-use Rattle.mufom_help.specs.declared.linking.TheConstants.{MISMATCH, DUPLICATE, DUPLICATE_START}
+use Rattle.mufom_help.specs.declared.linking.TheConstants.{MISMATCH, DUPLICATE, DUPLICATE_START, UNKNOWN}
 use Rattle.mufom_help.specs.declared.locating.TheConstants.{
   UNPLACED,
   MISFIT,
@@ -166,12 +166,13 @@ texts =
     (codes "NoEnd", NO_END.now) ∷
     []
 
--- errors in linking
+-- errors in linking, and in choosing what is kept
 abbrev pub linking : List Topic
 linking =
     (codes "Mismatch", MISMATCH.now) ∷
     (codes "Duplicate", DUPLICATE.now) ∷
     (codes "DuplicateStart", DUPLICATE_START.now) ∷
+    (codes "Unknown", UNKNOWN.now) ∷
     []
 
 -- errors in locating: places, names, loads and fields

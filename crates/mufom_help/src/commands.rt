@@ -12,10 +12,10 @@ Commands:
   show [--listing] [--no-debug] FILE
   check [--no-debug] FILE ...
   link [--no-debug] [--name NAME] -o OUT FILES
-  locate [--no-debug] [--plan PLAN] -o OUT FILES
-  dump [--no-debug] [--plan PLAN] FILES
-  bin [--no-debug] [--plan PLAN] [--fill BYTE] -o OUT FILES
-  txt [--no-debug] [--plan PLAN] -o OUT FILES
+  locate [--no-debug] [--plan PLAN] [--keep NAME] -o OUT FILES
+  dump [--no-debug] [--plan PLAN] [--keep NAME] FILES
+  bin [--no-debug] [--plan PLAN] [--keep NAME] [--fill BYTE] -o OUT FILES
+  txt [--no-debug] [--plan PLAN] [--keep NAME] -o OUT FILES
   fromtxt [--maus N] -o OUT FILE
   addr [--plan PLAN] --at ADDRESS FILES
   make COUNT
@@ -115,7 +115,7 @@ Example:
 pub const LOCATE: &str =
     "locate: links modules, places their sections, and writes the absolute module
 
-Usage: mufom locate [--no-debug] [--plan PLAN] -o OUT FILES
+Usage: mufom locate [--no-debug] [--plan PLAN] [--keep NAME] -o OUT FILES
 
 Links FILES as `link` does, places the sections by a memory plan, and writes
 the absolute module to OUT: every section has its base address and every
@@ -130,6 +130,9 @@ module needs it.
 Options:
   --no-debug    skip the debug parts without reading them
   --plan PLAN   the file of the memory plan, a TOML document
+  --keep NAME   leave out all that is needed neither by the public symbol NAME,
+                nor by the start address, nor by a section with a base address;
+                debug items too
   -o OUT        the file to write; required
   --            end the options; brackets and + keep their meaning
 
@@ -150,7 +153,7 @@ with this plan.toml:
 /// The text of `help dump`.
 pub const DUMP: &str = "dump: links and locates modules, and prints the image
 
-Usage: mufom dump [--no-debug] [--plan PLAN] FILES
+Usage: mufom dump [--no-debug] [--plan PLAN] [--keep NAME] FILES
 
 Links and locates FILES as `locate` does, and prints the loaded bytes by
 address, then the start address, the public symbols and the debug addresses.
@@ -164,6 +167,9 @@ module needs it.
 Options:
   --no-debug    skip the debug parts without reading them
   --plan PLAN   the file of the memory plan, a TOML document
+  --keep NAME   leave out all that is needed neither by the public symbol NAME,
+                nor by the start address, nor by a section with a base address;
+                debug items too
   --            end the options; brackets and + keep their meaning
 
 Exit status:
@@ -176,7 +182,8 @@ Example:
 /// The text of `help bin`.
 pub const BIN: &str = "bin: links and locates modules, and writes the image as raw bytes
 
-Usage: mufom bin [--no-debug] [--plan PLAN] [--fill BYTE] -o OUT FILES
+Usage: mufom bin [--no-debug] [--plan PLAN] [--keep NAME] [--fill BYTE]
+                 -o OUT FILES
 
 Links and locates FILES as `locate` does. OUT gets one byte for each address
 from the lowest loaded address to the highest: the loaded byte, or BYTE where
@@ -190,6 +197,9 @@ FILES are files and groups, then perhaps a + and members:
 Options:
   --no-debug    skip the debug parts without reading them
   --plan PLAN   the file of the memory plan, a TOML document
+  --keep NAME   leave out all that is needed neither by the public symbol NAME,
+                nor by the start address, nor by a section with a base address;
+                debug items too
   --fill BYTE   two hexadecimal digits, as FF, for the gaps; 00 without it
   -o OUT        the file to write; required
   --            end the options; brackets and + keep their meaning
@@ -205,7 +215,7 @@ Example:
 /// The text of `help txt`.
 pub const TXT: &str = "txt: links and locates modules, and writes the image as a TI-TXT text
 
-Usage: mufom txt [--no-debug] [--plan PLAN] -o OUT FILES
+Usage: mufom txt [--no-debug] [--plan PLAN] [--keep NAME] -o OUT FILES
 
 Links and locates FILES as `locate` does, and writes the loaded bytes to OUT as
 TI-TXT, which flash programmers read: for each row of loaded addresses a line
@@ -219,6 +229,9 @@ FILES are files and groups, then perhaps a + and members:
 Options:
   --no-debug    skip the debug parts without reading them
   --plan PLAN   the file of the memory plan, a TOML document
+  --keep NAME   leave out all that is needed neither by the public symbol NAME,
+                nor by the start address, nor by a section with a base address;
+                debug items too
   -o OUT        the file to write; required
   --            end the options; brackets and + keep their meaning
 

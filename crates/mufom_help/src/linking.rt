@@ -64,6 +64,28 @@ What to do:
     of the assembler's END.
 ";
 
+/// The text of `help Unknown`.
+pub const UNKNOWN: &str = "Unknown: no module has the public symbol that is to be kept
+
+  refused: keep: Unknown NAME
+
+--keep NAME keeps what the public symbol NAME needs, and no module that is
+linked has a public symbol of that name. Upper and lower case differ, and so do
+a name and the same name with an underscore in front.
+
+Usual causes:
+  - The name is misspelled, or is that of the source: many C compilers put an
+    underscore in front of it.
+  - The module that defines NAME is after the + and nothing needs it, so that it
+    is not linked.
+  - NAME is only referred to, and no module defines it.
+
+What to do:
+  - Look for the name: `mufom show FILE` prints a line `public N NAME` for each
+    public symbol of a module.
+  - Name the module that defines NAME before the +.
+";
+
 /// The text of an error in linking, by its name.
 pub(crate) fn linking_topic(word: &str) -> Option<&'static str>
     ensures { option_map (λ text. text.now) result ≡ topic_in linking word.now }
@@ -72,6 +94,7 @@ pub(crate) fn linking_topic(word: &str) -> Option<&'static str>
         "Mismatch" => Some(MISMATCH),
         "Duplicate" => Some(DUPLICATE),
         "DuplicateStart" => Some(DUPLICATE_START),
+        "Unknown" => Some(UNKNOWN),
         _ => None,
     }
 }

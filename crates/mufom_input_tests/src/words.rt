@@ -32,60 +32,60 @@ fn comes_to(rt: &impl Abort, alloc: Global, line: &str, want: &str) {
 }
 
 // Lines and the commands that they give.
-static COMMANDS: [(&str, &str); 20] = [
+static COMMANDS: [(&str, &str); 22] = [
     // Files in their order.
     (
         "show a",
         "Command { verb: Show, no_debug: false, name: None, out: None, plan: None, marks: List { items: [File(0)] }, \
-            files: List { items: [Text { text: \"a\" }] }, count: 0, listing: false, fill: 0, at: 0, maus: 4, help: None }",
+            files: List { items: [Text { text: \"a\" }] }, count: 0, listing: false, fill: 0, at: 0, maus: 4, keep: None, help: None }",
     ),
     (
         "dump a",
         "Command { verb: Dump, no_debug: false, name: None, out: None, plan: None, marks: List { items: [File(0)] }, \
-            files: List { items: [Text { text: \"a\" }] }, count: 0, listing: false, fill: 0, at: 0, maus: 4, help: None }",
+            files: List { items: [Text { text: \"a\" }] }, count: 0, listing: false, fill: 0, at: 0, maus: 4, keep: None, help: None }",
     ),
     (
         "check b a b",
         "Command { verb: Check, no_debug: false, name: None, out: None, plan: None, marks: List { items: [File(0), File(1), File(2)] }, \
             files: List { items: [Text { text: \"b\" }, Text { text: \"a\" }, Text { text: \"b\" }] }, \
-            count: 0, listing: false, fill: 0, at: 0, maus: 4, help: None }",
+            count: 0, listing: false, fill: 0, at: 0, maus: 4, keep: None, help: None }",
     ),
     // An option before, between and after files.
     (
         "show --no-debug a",
         "Command { verb: Show, no_debug: true, name: None, out: None, plan: None, marks: List { items: [File(0)] }, \
-            files: List { items: [Text { text: \"a\" }] }, count: 0, listing: false, fill: 0, at: 0, maus: 4, help: None }",
+            files: List { items: [Text { text: \"a\" }] }, count: 0, listing: false, fill: 0, at: 0, maus: 4, keep: None, help: None }",
     ),
     (
         "check a --no-debug b",
         "Command { verb: Check, no_debug: true, name: None, out: None, plan: None, marks: List { items: [File(0), File(1)] }, \
-            files: List { items: [Text { text: \"a\" }, Text { text: \"b\" }] }, count: 0, listing: false, fill: 0, at: 0, maus: 4, help: None }",
+            files: List { items: [Text { text: \"a\" }, Text { text: \"b\" }] }, count: 0, listing: false, fill: 0, at: 0, maus: 4, keep: None, help: None }",
     ),
     (
         "check a b --no-debug",
         "Command { verb: Check, no_debug: true, name: None, out: None, plan: None, marks: List { items: [File(0), File(1)] }, \
-            files: List { items: [Text { text: \"a\" }, Text { text: \"b\" }] }, count: 0, listing: false, fill: 0, at: 0, maus: 4, help: None }",
+            files: List { items: [Text { text: \"a\" }, Text { text: \"b\" }] }, count: 0, listing: false, fill: 0, at: 0, maus: 4, keep: None, help: None }",
     ),
     // Two dashes end the options, and one dash names a file.
     (
         "check -- --no-debug -x",
         "Command { verb: Check, no_debug: false, name: None, out: None, plan: None, marks: List { items: [File(0), File(1)] }, \
-            files: List { items: [Text { text: \"--no-debug\" }, Text { text: \"-x\" }] }, count: 0, listing: false, fill: 0, at: 0, maus: 4, help: None }",
+            files: List { items: [Text { text: \"--no-debug\" }, Text { text: \"-x\" }] }, count: 0, listing: false, fill: 0, at: 0, maus: 4, keep: None, help: None }",
     ),
     (
         "check - a",
         "Command { verb: Check, no_debug: false, name: None, out: None, plan: None, marks: List { items: [File(0), File(1)] }, \
-            files: List { items: [Text { text: \"-\" }, Text { text: \"a\" }] }, count: 0, listing: false, fill: 0, at: 0, maus: 4, help: None }",
+            files: List { items: [Text { text: \"-\" }, Text { text: \"a\" }] }, count: 0, listing: false, fill: 0, at: 0, maus: 4, keep: None, help: None }",
     ),
     (
         "show help",
         "Command { verb: Show, no_debug: false, name: None, out: None, plan: None, marks: List { items: [File(0)] }, \
-            files: List { items: [Text { text: \"help\" }] }, count: 0, listing: false, fill: 0, at: 0, maus: 4, help: None }",
+            files: List { items: [Text { text: \"help\" }] }, count: 0, listing: false, fill: 0, at: 0, maus: 4, keep: None, help: None }",
     ),
     (
         "show ",
         "Command { verb: Show, no_debug: false, name: None, out: None, plan: None, marks: List { items: [File(0)] }, \
-            files: List { items: [Text { text: \"\" }] }, count: 0, listing: false, fill: 0, at: 0, maus: 4, help: None }",
+            files: List { items: [Text { text: \"\" }] }, count: 0, listing: false, fill: 0, at: 0, maus: 4, keep: None, help: None }",
     ),
     // Groups and members, with a plan.
     (
@@ -93,58 +93,71 @@ static COMMANDS: [(&str, &str); 20] = [
         "Command { verb: Dump, no_debug: false, name: None, out: None, plan: Some(Text { text: \"p\" }), \
             marks: List { items: [Open, Open, File(0), Close, File(1), Close, File(2)] }, \
             files: List { items: [Text { text: \"a\" }, Text { text: \"b\" }, Text { text: \"c\" }, Text { text: \"d\" }] }, \
-            count: 0, listing: false, fill: 0, at: 0, maus: 4, help: None }",
+            count: 0, listing: false, fill: 0, at: 0, maus: 4, keep: None, help: None }",
     ),
     // Options with values.
     (
         "link --name=n -oc a --no-debug",
         "Command { verb: Link, no_debug: true, name: Some(Bytes { held: [110] }), out: Some(Text { text: \"c\" }), plan: None, \
-            marks: List { items: [File(0)] }, files: List { items: [Text { text: \"a\" }] }, count: 0, listing: false, fill: 0, at: 0, maus: 4, help: None }",
+            marks: List { items: [File(0)] }, files: List { items: [Text { text: \"a\" }] }, count: 0, listing: false, fill: 0, at: 0, maus: 4, keep: None, help: None }",
     ),
     (
         "locate -o=c --plan  a",
         "Command { verb: Locate, no_debug: false, name: None, out: Some(Text { text: \"c\" }), plan: Some(Text { text: \"\" }), \
-            marks: List { items: [File(0)] }, files: List { items: [Text { text: \"a\" }] }, count: 0, listing: false, fill: 0, at: 0, maus: 4, help: None }",
+            marks: List { items: [File(0)] }, files: List { items: [Text { text: \"a\" }] }, count: 0, listing: false, fill: 0, at: 0, maus: 4, keep: None, help: None }",
     ),
     (
         "make 0065536",
         "Command { verb: Make, no_debug: false, name: None, out: None, plan: None, marks: List { items: [] }, \
-            files: List { items: [] }, count: 65536, listing: false, fill: 0, at: 0, maus: 4, help: None }",
+            files: List { items: [] }, count: 65536, listing: false, fill: 0, at: 0, maus: 4, keep: None, help: None }",
     ),
     // A flag of one command, and values that are numbers.
     (
         "show --listing a",
         "Command { verb: Show, no_debug: false, name: None, out: None, plan: None, marks: List { items: [File(0)] }, \
-            files: List { items: [Text { text: \"a\" }] }, count: 0, listing: true, fill: 0, at: 0, maus: 4, help: None }",
+            files: List { items: [Text { text: \"a\" }] }, count: 0, listing: true, fill: 0, at: 0, maus: 4, keep: None, help: None }",
     ),
     (
         "bin --fill=fE -oc a",
         "Command { verb: Bin, no_debug: false, name: None, out: Some(Text { text: \"c\" }), plan: None, \
-            marks: List { items: [File(0)] }, files: List { items: [Text { text: \"a\" }] }, count: 0, listing: false, fill: 254, at: 0, maus: 4, \
+            marks: List { items: [File(0)] }, files: List { items: [Text { text: \"a\" }] }, count: 0, listing: false, fill: 254, at: 0, maus: 4, keep: None, \
             help: None }",
     ),
     (
         "addr --at 00FfFFffFFffFFff a",
         "Command { verb: Addr, no_debug: false, name: None, out: None, plan: None, marks: List { items: [File(0)] }, \
-            files: List { items: [Text { text: \"a\" }] }, count: 0, listing: false, fill: 0, at: 72057594037927935, maus: 4, help: None }",
+            files: List { items: [Text { text: \"a\" }] }, count: 0, listing: false, fill: 0, at: 72057594037927935, maus: 4, keep: None, help: None }",
+    ),
+    // A name that is kept, which may be empty.
+    (
+        "dump --keep main a",
+        "Command { verb: Dump, no_debug: false, name: None, out: None, plan: None, marks: List { items: [File(0)] }, \
+            files: List { items: [Text { text: \"a\" }] }, count: 0, listing: false, fill: 0, at: 0, maus: 4, \
+            keep: Some(Bytes { held: [109, 97, 105, 110] }), help: None }",
+    ),
+    (
+        "bin --keep= -oc a",
+        "Command { verb: Bin, no_debug: false, name: None, out: Some(Text { text: \"c\" }), plan: None, \
+            marks: List { items: [File(0)] }, files: List { items: [Text { text: \"a\" }] }, count: 0, listing: false, fill: 0, at: 0, \
+            maus: 4, keep: Some(Bytes { held: [] }), help: None }",
     ),
     // Texts of images.
     (
         "txt a --plan=p --no-debug -o c",
         "Command { verb: Txt, no_debug: true, name: None, out: Some(Text { text: \"c\" }), plan: Some(Text { text: \"p\" }), \
             marks: List { items: [File(0)] }, files: List { items: [Text { text: \"a\" }] }, count: 0, listing: false, fill: 0, at: 0, \
-            maus: 4, help: None }",
+            maus: 4, keep: None, help: None }",
     ),
     (
         "fromtxt --maus 8 -oc a",
         "Command { verb: FromTxt, no_debug: false, name: None, out: Some(Text { text: \"c\" }), plan: None, \
             marks: List { items: [File(0)] }, files: List { items: [Text { text: \"a\" }] }, count: 0, listing: false, fill: 0, at: 0, \
-            maus: 8, help: None }",
+            maus: 8, keep: None, help: None }",
     ),
     (
         "-V",
         "Command { verb: Version, no_debug: false, name: None, out: None, plan: None, marks: List { items: [] }, \
-            files: List { items: [] }, count: 0, listing: false, fill: 0, at: 0, maus: 4, help: Some(HelpText { text: \"mufom 1.0.0\\n\" }) }",
+            files: List { items: [] }, count: 0, listing: false, fill: 0, at: 0, maus: 4, keep: None, help: Some(HelpText { text: \"mufom 1.0.0\\n\" }) }",
     ),
 ];
 
@@ -158,7 +171,7 @@ fn lines_give_commands(rt: HostRuntime) {
 }
 
 // Lines that give none, and the first thing that is wrong with each.
-static FAULTS: [(&str, &str); 59] = [
+static FAULTS: [(&str, &str); 62] = [
     // Without a command.
     ("dmup a", "Usage(NoCommand)"),
     ("-- help", "Usage(NoCommand)"),
@@ -173,6 +186,9 @@ static FAULTS: [(&str, &str); 59] = [
     ("addr --at 0x10 a", "Usage(BadAddress)"),
     ("addr --at 00000000000000001 a", "Usage(BadAddress)"),
     ("addr a", "Usage(BadWords)"),
+    ("dump --keep a --keep b c", "Usage(BadWords)"),
+    ("addr --at 0 --keep a b", "Usage(BadWords)"),
+    ("link --keep a -oc b", "Usage(BadWords)"),
     ("fromtxt --maus 04 -oc a", "Usage(BadCount)"),
     ("fromtxt --maus 0 -oc a", "Usage(BadCount)"),
     ("fromtxt --maus=9 -oc a", "Usage(BadCount)"),

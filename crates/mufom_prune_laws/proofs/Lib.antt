@@ -5,4 +5,4 @@ mod SameValues
 mod LeftSteps
 mod LeftReadings
 mod Meaning
-mod Single
+pub mod Single

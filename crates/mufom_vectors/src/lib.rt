@@ -22,6 +22,8 @@ mod files;
 #[cfg(test)]
 mod images;
 #[cfg(test)]
+mod kept;
+#[cfg(test)]
 mod link;
 #[cfg(test)]
 mod lists;

@@ -22,8 +22,8 @@ use Rattle.mufom_words.specs.declared.options.Setting.TheVariants as setting
 use Rattle.mufom_words.specs.declared.stop.UsageFault.{UsageFault}
 use Rattle.mufom_words.specs.declared.stop.UsageFault.TheVariants as fault
 use Rattle.mufom_words.specs.declared.stop.WordsStop.{WordsStop}
-use Rattle.mufom_words.specs.Options.{Text, Usage, Given, usage_of, app_for, form_of, takes, id_of, given_by, makes_file, makes_modules, names_module}
-use Rattle.mufom_words.specs.Options.{prints_help, reads_files, reads_plan, takes_one_file}
+use Rattle.mufom_words.specs.Options.{Text, Usage, Given, usage_of, app_for, form_of, takes, id_of, given_by, keeps_what_is_needed, makes_file}
+use Rattle.mufom_words.specs.Options.{makes_modules, names_module, prints_help, reads_files, reads_plan, takes_one_file}
 use Rattle.mufom_words.specs.Operands.{word_of, file_words, is_name, names_in, operands_fault, number_fault, count_fault, count_of, is_digit}
 use Rattle.mufom_words.specs.Operands.{decimal_number, most_modules, number_of, files_of, marks_of, depth_of}
 use Rattle.std.specs.Str.{bytes_eq}
@@ -238,6 +238,18 @@ takes-no-plan form.Bin e = absurd cc
 takes-no-plan form.Txt e = absurd cc
 takes-no-plan form.FromTxt e = refl
 
+takes-no-keep : (f : Form) → keeps_what_is_needed (usage_of f).verb ≡ false → takes (usage_of f).settings setting.Keep ≡ false
+takes-no-keep form.Show e = refl
+takes-no-keep form.Check e = refl
+takes-no-keep form.Link e = refl
+takes-no-keep form.Locate e = absurd cc
+takes-no-keep form.Dump e = absurd cc
+takes-no-keep form.Make e = refl
+takes-no-keep form.Addr e = refl
+takes-no-keep form.Bin e = absurd cc
+takes-no-keep form.Txt e = absurd cc
+takes-no-keep form.FromTxt e = refl
+
 takes-no-name : (f : Form) → names_module (usage_of f).verb ≡ false → takes (usage_of f).settings setting.Name ≡ false
 takes-no-name form.Show e = refl
 takes-no-name form.Check e = refl
@@ -342,6 +354,7 @@ sound_by f rows is =
         no_out = λ makes. not-taken (takes (usage_of f).settings setting.Out) (first_of (id_of setting.Out) rows) (takes-out f ∙ makes);
         no_plan = λ reads. not-taken (takes (usage_of f).settings setting.Plan) (first_of (id_of setting.Plan) rows) (takes-no-plan f reads);
         no_name = λ names. not-taken (takes (usage_of f).settings setting.Name) (first_of (id_of setting.Name) rows) (takes-no-name f names);
+        no_keep = λ keeps. not-taken (takes (usage_of f).settings setting.Keep) (first_of (id_of setting.Keep) rows) (takes-no-keep f keeps);
         short = name-short (given_by f rows).name is.name;
         count = λ makes. count-bounds o words is.count (takes-count f makes);
         maus = maus-within (given_by f rows).maus;
@@ -379,6 +392,7 @@ printing-sound v (Some text) c one is =
           no_out = λ makes. refl;
           no_plan = λ reads. refl;
           no_name = λ names. refl;
+          no_keep = λ keeps. refl;
           count = λ makes. absurd cc;
           maus = (omega arith, omega arith);
           short = tt;
@@ -393,6 +407,7 @@ printing-sound v (Some text) c one is =
           no_out = λ makes. refl;
           no_plan = λ reads. refl;
           no_name = λ names. refl;
+          no_keep = λ keeps. refl;
           count = λ makes. absurd cc;
           maus = (omega arith, omega arith);
           short = tt;

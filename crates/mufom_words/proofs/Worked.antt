@@ -39,6 +39,7 @@ of_files v no_debug files = record {
   fill = 0;
   at = 0;
   maus = 4;
+  keep = None;
   help = None;
 }
 
@@ -209,7 +210,18 @@ count_before_limit = refl
 -- ---- options of the other commands
 
 abbrev none_given : Given
-none_given = record { no_debug = false; name = None; plan = None; out = None; listing = false; at = None; fill = None; maus = None; operands = codes "a" ∷ [] }
+none_given = record {
+  no_debug = false;
+  name = None;
+  plan = None;
+  out = None;
+  listing = false;
+  at = None;
+  fill = None;
+  maus = None;
+  keep = None;
+  operands = codes "a" ∷ [];
+}
 
 linked : given form.Link (codes "link" ∷ codes "-oc" ∷ codes "a" ∷ codes "[" ∷ codes "b" ∷ codes "--no-debug" ∷ codes "]" ∷ codes "--" ∷ codes
     "+" ∷ codes "-m" ∷ [])
@@ -290,3 +302,14 @@ two_texts = refl
 
 no_maus : (maus_of (codes "04") ≡ None) × (maus_of (codes "0") ≡ None) × (maus_of (codes "9") ≡ None) × (maus_of [] ≡ None)
 no_maus = (refl, refl, refl, refl)
+
+-- ---- what is kept
+
+kept_name : given form.Dump (codes "dump" ∷ codes "--keep" ∷ codes "main" ∷ codes "a" ∷ []) ≡ record none_given { keep = Some (codes "main") }
+unfolding clap_on_literals
+kept_name = refl
+
+empty_name_is_kept : given form.Bin (codes "bin" ∷ codes "--keep=" ∷ codes "-oc" ∷ codes "a" ∷ [])
+    ≡ record none_given { keep = Some []; out = Some (codes "c") }
+unfolding clap_on_literals
+empty_name_is_kept = refl

@@ -30,6 +30,7 @@ dumps = record {
       0;
   at = 0;
   maus = 4;
+  keep = None;
   help = None;
 }
 

@@ -28,6 +28,7 @@ pub record AreAlike (c d : Command) : Type 0 where
   pub fill : c.fill ≡ d.fill
   pub at : c.at ≡ d.at
   pub maus : c.maus ≡ d.maus
+  pub keep : c.keep ≡ d.keep
   pub help : c.help ≡ d.help
   pub files : c.files ≡ d.files
   pub roots : roots c ≡ roots d

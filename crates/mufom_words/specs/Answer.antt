@@ -135,6 +135,7 @@ command_by u g = record {
   fill = number_by byte_of 0 g.fill;
   at = number_by address_of 0 g.at;
   maus = number_by maus_of 4 g.maus;
+  keep = g.keep;
   help = None;
 }
 

@@ -50,6 +50,7 @@ own_command v text = record {
   fill = 0;
   at = 0;
   maus = 4;
+  keep = None;
   help = Some text;
 }
 

@@ -34,23 +34,27 @@ usage_of form.Link =
 usage_of form.Locate = record {
   verb = verb.Locate;
   name = codes "locate";
-  settings = setting.NoDebug ∷ setting.Plan ∷ setting.Out ∷ [];
+  settings = setting.NoDebug ∷ setting.Plan ∷ setting.Keep ∷ setting.Out ∷ [];
   operands = operands.GroupedFiles;
 }
-usage_of form.Dump =
-    record { verb = verb.Dump; name = codes "dump"; settings = setting.NoDebug ∷ setting.Plan ∷ []; operands = operands.GroupedFiles }
+usage_of form.Dump = record {
+  verb = verb.Dump;
+  name = codes "dump";
+  settings = setting.NoDebug ∷ setting.Plan ∷ setting.Keep ∷ [];
+  operands = operands.GroupedFiles;
+}
 usage_of form.Make = record { verb = verb.Make; name = codes "make"; settings = []; operands = operands.OneCount }
 usage_of form.Addr = record { verb = verb.Addr; name = codes "addr"; settings = setting.Plan ∷ setting.At ∷ []; operands = operands.GroupedFiles }
 usage_of form.Bin = record {
   verb = verb.Bin;
   name = codes "bin";
-  settings = setting.NoDebug ∷ setting.Plan ∷ setting.Fill ∷ setting.Out ∷ [];
+  settings = setting.NoDebug ∷ setting.Plan ∷ setting.Keep ∷ setting.Fill ∷ setting.Out ∷ [];
   operands = operands.GroupedFiles;
 }
 usage_of form.Txt = record {
   verb = verb.Txt;
   name = codes "txt";
-  settings = setting.NoDebug ∷ setting.Plan ∷ setting.Out ∷ [];
+  settings = setting.NoDebug ∷ setting.Plan ∷ setting.Keep ∷ setting.Out ∷ [];
   operands = operands.GroupedFiles;
 }
 usage_of form.FromTxt = record { verb = verb.FromTxt; name = codes "fromtxt"; settings = setting.Maus ∷ setting.Out ∷ []; operands = operands.OneFile }
@@ -91,6 +95,14 @@ abbrev pub names_module : Verb → Bool
 names_module verb.Link = true
 names_module _ = false
 
+-- the command may name a public symbol, of which what it needs is kept
+abbrev pub keeps_what_is_needed : Verb → Bool
+keeps_what_is_needed verb.Locate = true
+keeps_what_is_needed verb.Dump = true
+keeps_what_is_needed verb.Bin = true
+keeps_what_is_needed verb.Txt = true
+keeps_what_is_needed _ = false
+
 -- the command is for one file alone
 abbrev pub takes_one_file : Verb → Bool
 takes_one_file verb.Show = true
@@ -122,9 +134,10 @@ id_of setting.Listing = codes "listing"
 id_of setting.At = codes "at"
 id_of setting.Fill = codes "fill"
 id_of setting.Maus = codes "maus"
+id_of setting.Keep = codes "keep"
 
 -- `--no-debug`, `--name NAME`, `--plan PLAN`, `-o OUT`, which must be there, `--listing`, `--at ADDRESS`, which
--- must be there, `--fill BYTE` and `--maus N`
+-- must be there, `--fill BYTE`, `--maus N` and `--keep NAME`
 abbrev pub rule_for : Setting → Rule
 rule_for setting.NoDebug = record (new_rule (id_of setting.NoDebug)) { long = Some (codes "no-debug"); action = Some SetTrue }
 rule_for setting.Name = record (new_rule (id_of setting.Name)) { long = Some (codes "name") }
@@ -134,6 +147,7 @@ rule_for setting.Listing = record (new_rule (id_of setting.Listing)) { long = So
 rule_for setting.At = record (new_rule (id_of setting.At)) { long = Some (codes "at"); required = true }
 rule_for setting.Fill = record (new_rule (id_of setting.Fill)) { long = Some (codes "fill") }
 rule_for setting.Maus = record (new_rule (id_of setting.Maus)) { long = Some (codes "maus") }
+rule_for setting.Keep = record (new_rule (id_of setting.Keep)) { long = Some (codes "keep") }
 
 -- ---- what `clap` makes of the words
 
@@ -180,6 +194,7 @@ pub record Given : Type 0 where
   pub at : Option Text
   pub fill : Option Text
   pub maus : Option Text
+  pub keep : Option Text
   -- the words that are no option
   pub operands : List Text
 
@@ -193,5 +208,6 @@ given_by f rows = record {
   at = value_in (usage_of f).settings rows setting.At;
   fill = value_in (usage_of f).settings rows setting.Fill;
   maus = value_in (usage_of f).settings rows setting.Maus;
+  keep = value_in (usage_of f).settings rows setting.Keep;
   operands = operands_of rows;
 }

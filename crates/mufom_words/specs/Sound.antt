@@ -2,7 +2,7 @@
 use Rattle.std.specs.Prelude.{◌≡◌, ℕ, zero, suc, ◌≤◌, List, [], ◌∷◌, length, true, false, Some, None, Ok, IfSome, IsSome}
 use Rattle.mufom_words.specs.declared.command.Command.{Command}
 use Rattle.mufom_words.specs.declared.form.Form.{Form}
-use Rattle.mufom_words.specs.Options.{Text, makes_file, makes_modules, names_module, prints_help, reads_files, reads_plan, takes_one_file}
+use Rattle.mufom_words.specs.Options.{Text, keeps_what_is_needed, makes_file, makes_modules, names_module, prints_help, reads_files, reads_plan, takes_one_file}
 use Rattle.mufom_words.specs.Operands.{most_modules}
 use Rattle.mufom_words.specs.Tree.{spelling, tree_of, leaves}
 use Rattle.mufom_words.specs.Answer.{answer_for, most_files, longest_name}
@@ -27,7 +27,8 @@ pub record HasFiles (c : Command) : Type 0 where
   pub few : length c.files ≤ most_files
 
 -- The output has a name exactly where the command makes a file; only a command that reads a plan has the name of one, and only one that
--- may name its module gives a name, which is no longer than it may be; a count lies within its bounds; an address has 1 to 8 bytes; and a
+-- may name its module gives a name, which is no longer than it may be; only one that may keep what a public symbol needs names one; a count
+-- lies within its bounds; an address has 1 to 8 bytes; and a
 -- command that prints a text of the program has one.
 pub record HasOptions (c : Command) : Type 0 where
   pub out : makes_file c.verb ≡ true → IsSome c.out
@@ -35,6 +36,7 @@ pub record HasOptions (c : Command) : Type 0 where
   pub no_plan : reads_plan c.verb ≡ false → c.plan ≡ None
   pub no_name : names_module c.verb ≡ false → c.name ≡ None
   pub count : makes_modules c.verb ≡ true → (1 ≤ c.count) × (c.count ≤ most_modules)
+  pub no_keep : keeps_what_is_needed c.verb ≡ false → c.keep ≡ None
   pub maus : (1 ≤ c.maus) × (c.maus ≤ 8)
   pub short : IfSome c.name (λ name. length name ≤ longest_name)
   pub help : prints_help c.verb ≡ true → IsSome c.help

@@ -99,6 +99,8 @@ pub struct Command {
     pub at: u64,
     /// The number of bytes in an address of a module that is made of a text; 4 where `--maus` is absent.
     pub maus: u8,
+    /// The name of the public symbol of which what it needs is kept and all else left out, where one is given.
+    pub keep: Option<Bytes>,
     /// What is printed of the program itself, where that is all that the command does.
     pub help: Option<HelpText>,
 }

@@ -98,12 +98,18 @@ impl Form {
             Form::Show => &[Setting::NoDebug, Setting::Listing],
             Form::Check => &[Setting::NoDebug],
             Form::Link => &[Setting::NoDebug, Setting::Name, Setting::Out],
-            Form::Locate => &[Setting::NoDebug, Setting::Plan, Setting::Out],
-            Form::Dump => &[Setting::NoDebug, Setting::Plan],
+            Form::Locate => &[Setting::NoDebug, Setting::Plan, Setting::Keep, Setting::Out],
+            Form::Dump => &[Setting::NoDebug, Setting::Plan, Setting::Keep],
             Form::Make => &[],
             Form::Addr => &[Setting::Plan, Setting::At],
-            Form::Bin => &[Setting::NoDebug, Setting::Plan, Setting::Fill, Setting::Out],
-            Form::Txt => &[Setting::NoDebug, Setting::Plan, Setting::Out],
+            Form::Bin => &[
+                Setting::NoDebug,
+                Setting::Plan,
+                Setting::Keep,
+                Setting::Fill,
+                Setting::Out,
+            ],
+            Form::Txt => &[Setting::NoDebug, Setting::Plan, Setting::Keep, Setting::Out],
             Form::FromTxt => &[Setting::Maus, Setting::Out],
         }
     }

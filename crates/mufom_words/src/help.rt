@@ -70,6 +70,7 @@ fn own_command(alloc: Global, verb: Verb, text: &'static str) -> Command
         fill: 0,
         at: 0,
         maus: 4,
+        keep: None,
         help: Some(HelpText::new(text)),
     }
 }

@@ -28,6 +28,8 @@ pub(crate) enum Setting {
     Fill,
     /// `--maus N`
     Maus,
+    /// `--keep NAME`
+    Keep,
 }
 
 impl Setting {
@@ -44,6 +46,7 @@ impl Setting {
             Setting::At => "at",
             Setting::Fill => "fill",
             Setting::Maus => "maus",
+            Setting::Keep => "keep",
         }
     }
 }
@@ -66,6 +69,7 @@ fn option_of<'a>(alloc: Global, setting: Setting) -> Arg<'a>
         Setting::At => Arg::new(alloc, "at").long("at").required(true),
         Setting::Fill => Arg::new(alloc, "fill").long("fill"),
         Setting::Maus => Arg::new(alloc, "maus").long("maus"),
+        Setting::Keep => Arg::new(alloc, "keep").long("keep"),
     }
 }
 

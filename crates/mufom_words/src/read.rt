@@ -169,6 +169,7 @@ fn command_from(
 {
     let operands = form.operands();
     let name = kept_bytes(alloc, value_in(matches, form, Setting::Name))?;
+    let keep = kept_bytes(alloc, value_in(matches, form, Setting::Keep))?;
     let out = kept_text(alloc, value_in(matches, form, Setting::Out))?;
     let plan = kept_text(alloc, value_in(matches, form, Setting::Plan))?;
     let marks = marks_of(alloc, operands, words)?;
@@ -186,6 +187,7 @@ fn command_from(
         fill: fill_in(matches, form),
         at: address_in(matches, form),
         maus: maus_in(matches, form),
+        keep,
         help: None,
     })
 }

@@ -1,32 +1,31 @@
-use Rattle.std.proofs.Common.{[], ◌∷◌}
 use Rattle.mufom_groups.specs.Linked.{linked_module}
 use Rattle.mufom_groups.specs.Work.{gives, with_stops}
-use Rattle.mufom_command.specs.Commands.{located}
 use Rattle.mufom_command.specs.Stop.{link_fact}
-use Rattle.mufom_command.specs.WorkEnds.{EndsAt, location_of}
+use Rattle.mufom_command.specs.WorkEnds.{EndsAt, location_of, own_location}
 use Rattle.mufom_command.proofs.EndLaws.{ends-along, if-err-map, if-ok-map}
 use Rattle.mufom_command.proofs.LocatingLaws.{link-located, link-names, link-unlocated, unlinked-stops}
 use Rattle.mufom_command.proofs.linking.location.Goals as goal
 
-pub located-requires-clause-names : goal.located-requires-clause-names
-located-requires-clause-names c = link-names c.args.command.now c.args.inputs.modules c.requires.linkable.valid c.in-Ok.object c.in-Ok.ensures.ok
+pub kept_location-requires-clause-names : goal.kept_location-requires-clause-names
+kept_location-requires-clause-names c = link-names c.args.command.now c.args.inputs.modules c.requires.linkable.valid c.in-Ok.object c.in-Ok.ensures.ok
 
 pub returns-in-Ok-clause-ok : goal.returns-in-Ok-clause-ok
 returns-in-Ok-clause-ok c =
-    if-ok-map c.located.result (λ r. located c.args.inputs.plan (c.in-Ok.object ∷ []) (gives r))
+    if-ok-map c.kept_location.result (λ r. own_location c.args.command.now.keep c.args.inputs.plan c.in-Ok.object (gives r))
     (λ r. location_of c.args.command.now c.args.inputs.plan c.args.inputs.modules (gives r))
     (λ r there. link-located c.args.command.now c.args.inputs.modules c.requires.linkable.valid c.requires.unnamed c.in-Ok.object
     c.in-Ok.ensures.valid c.args.inputs.plan c.in-Ok.ensures.ok r there)
-    c.located.ensures.ok
+    c.kept_location.ensures.ok
 
 pub returns-in-Ok-clause-stops : goal.returns-in-Ok-clause-stops
 returns-in-Ok-clause-stops c =
-    if-err-map c.located.result (EndsAt (located c.args.inputs.plan (c.in-Ok.object ∷ [])))
+    if-err-map c.kept_location.result (EndsAt (own_location c.args.command.now.keep c.args.inputs.plan c.in-Ok.object))
     (EndsAt (location_of c.args.command.now c.args.inputs.plan c.args.inputs.modules))
-    (λ o ends. ends-along (located c.args.inputs.plan (c.in-Ok.object ∷ [])) (location_of c.args.command.now c.args.inputs.plan c.args.inputs.modules)
+    (λ o ends. ends-along (own_location c.args.command.now.keep c.args.inputs.plan c.in-Ok.object)
+    (location_of c.args.command.now c.args.inputs.plan c.args.inputs.modules)
     (λ s there. link-unlocated c.args.command.now c.args.inputs.modules c.requires.linkable.valid c.requires.unnamed c.in-Ok.object
     c.in-Ok.ensures.valid c.args.inputs.plan c.in-Ok.ensures.ok s there) o ends)
-    c.located.ensures.stops
+    c.kept_location.ensures.stops
 
 pub returns-clause-stops : goal.returns-clause-stops
 returns-clause-stops c =

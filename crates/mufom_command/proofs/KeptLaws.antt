@@ -1,0 +1,161 @@
+-- What is kept of a list: a list without a defect that can be linked, and the location of what remains of the link of the list.
+use Rattle.std.proofs.Common.{◌≡◌, ◌≢◌, ◌⊎◌, ℕ, zero, suc, ◌<◌, Bool, true, false, List, [], ◌∷◌, ◌++◌, length, map, slice_get, Option, Some, None}
+use Rattle.std.proofs.Common.{refl, sym, ap, subst, ◌∙◌, arith, inl, inr}
+use Rattle.std.proofs.lemmas.List.{append-nil}
+use Rattle.mufom_names.specs.declared.name.Public.{Public}
+use Rattle.mufom_names.specs.Names.{AreDistinct, RepeatsAt, names_of}
+use Rattle.mufom_module.specs.declared.module.Parts.{Parts}
+use Rattle.mufom_module.specs.Defects.{IsValid}
+use Rattle.mufom_plan.specs.declared.plan.Plan.{Plan}
+use Rattle.mufom_plan.specs.Names.{has_name}
+use Rattle.mufom_meaning.specs.declared.located.LocatedParts.{LocatedParts}
+use Rattle.mufom_meaning.specs.FactLaws.{IsLinkable}
+use Rattle.mufom_meaning.specs.Flat.{public_names}
+use Rattle.mufom_meaning.specs.Joined.{IsJoined}
+use Rattle.mufom_meaning.specs.LinkAnswer.{link_answer}
+use Rattle.mufom_meaning.specs.Staging.{AreValid}
+use Rattle.mufom_meaning.proofs.facts.Linkable.{no_link_answer_is_linkable}
+use Rattle.mufom_meaning.proofs.staging.Staging.{joined_stands_for}
+use Rattle.mufom_image.proofs.ReadyLaws.{linkable-alone}
+use Rattle.mufom_prune.specs.Pruned.{IsPruned, Remains, new_public, positions_of, remaining, remains}
+use Rattle.mufom_prune.proofs.PrunedValid.{pruned_valid}
+use Rattle.mufom_groups.specs.Linked.{first_name}
+use Rattle.mufom_groups.specs.Work.{Reached, gives, stops}
+use Rattle.mufom_command.specs.Stop.{Stop, keep_unknown}
+use Rattle.mufom_command.specs.Commands.{kept_of, kept_unless, located}
+use Rattle.mufom_command.specs.declared.outcome.Outcome.TheVariants as outcome
+use Rattle.mufom_command.specs.declared.outcome.Refusal.TheVariants as refusal
+use Rattle.mufom_command.specs.WorkEnds.{EndsAt, own_location, rest_location}
+
+-- ---- the names of what remains
+
+module _ {X : Type 0} where
+  -- an element that remains was in the list
+  remaining-place : (marks : List Bool) (xs : List X) (k : ℕ) (x : X) → slice_get (remaining marks xs) k ≡ Some x → (n : ℕ) × (slice_get xs n ≡ Some x)
+  remaining-place [] xs k x there = absurd cc
+  remaining-place (mark ∷ marks) [] k x there = absurd cc
+  remaining-place (true ∷ marks) (y ∷ xs) zero x there = (0, there)
+  remaining-place (true ∷ marks) (y ∷ xs) (suc k) x there = let (n, is) = remaining-place marks xs k x there in (suc n, is)
+  remaining-place (false ∷ marks) (y ∷ xs) k x there = let (n, is) = remaining-place marks xs k x there in (suc n, is)
+
+  -- two of them were there in their order
+  remaining-order : (marks : List Bool) (xs : List X) (k l : ℕ) (x y : X) → k < l → slice_get (remaining marks xs) k ≡ Some x
+      → slice_get (remaining marks xs) l ≡ Some y
+      → (n : ℕ) × (m : ℕ) × (n < m) × (slice_get xs n ≡ Some x) × (slice_get xs m ≡ Some y)
+  remaining-order [] xs k l x y less first second = absurd cc
+  remaining-order (mark ∷ marks) [] k l x y less first second = absurd cc
+  remaining-order (true ∷ marks) (z ∷ xs) k zero x y less first second = absurd (omega (arith, less))
+  remaining-order (true ∷ marks) (z ∷ xs) zero (suc l) x y less first second =
+      let (m, is) = remaining-place marks xs l y second in (0, suc m, omega arith, first, is)
+  remaining-order (true ∷ marks) (z ∷ xs) (suc k) (suc l) x y less first second =
+      let (n, m, before, is, later) = remaining-order marks xs k l x y (omega (arith, less)) first second in (suc n, suc m, omega (arith, before), is, later)
+  remaining-order (false ∷ marks) (z ∷ xs) k l x y less first second =
+      let (n, m, before, is, later) = remaining-order marks xs k l x y less first second in (suc n, suc m, omega (arith, before), is, later)
+
+remaining-distinct : (marks : List Bool) (names : List (List ℕ)) → AreDistinct names → AreDistinct (remaining marks names)
+remaining-distinct marks names distinct k (l, name, less, first, second) =
+    let (n, m, before, is, later) = remaining-order marks names l k name name less first second in
+    distinct m (n, name, before, is, later)
+
+-- renumbering keeps the names
+remaining-names : (c : Remains) (marks : List Bool) (publics : List Public)
+    → names_of (map (new_public (positions_of c)) (remaining marks publics)) ≡ remaining marks (names_of publics)
+remaining-names c [] publics = refl
+remaining-names c (mark ∷ marks) [] = refl
+remaining-names c (true ∷ marks) (p ∷ publics) = ap (λ (names : List (List ℕ)). p.name ∷ names) (remaining-names c marks publics)
+remaining-names c (false ∷ marks) (p ∷ publics) = remaining-names c marks publics
+
+-- no name stands twice among those of what remains
+pub pruned-names : (rest M : Parts) (name : List ℕ) → IsPruned rest M name → AreDistinct (names_of M.names.publics) → AreDistinct (names_of rest.names.publics)
+pruned-names rest M name is distinct =
+    let c = remains M is.marks in
+    subst AreDistinct (sym (ap (λ (m : Parts). names_of m.names.publics) is.is ∙ remaining-names c c.publics M.names.publics))
+    (remaining-distinct c.publics (names_of M.names.publics) distinct)
+
+pruned-valid : (rest M : Parts) (name : List ℕ) → IsPruned rest M name → IsValid M → IsValid rest
+pruned-valid rest M name is valid = subst IsValid (sym is.is) (pruned_valid M name is.marks is.kept valid)
+
+-- ---- the link of a list
+
+joined-names : (M : Parts) (flat : List Parts) → AreValid flat → IsJoined M flat (first_name flat) → public_names (M ∷ []) ≡ public_names flat
+joined-names M flat valid joined = (joined_stands_for M flat (first_name flat) joined valid).2
+
+joined-distinct : (M : Parts) (flat : List Parts) → AreValid flat → link_answer flat ≡ None → IsJoined M flat (first_name flat)
+    → AreDistinct (names_of M.names.publics)
+joined-distinct M flat valid links joined =
+    subst AreDistinct (append-nil (names_of M.names.publics))
+    (subst AreDistinct (sym (joined-names M flat valid joined)) ((no_link_answer_is_linkable flat).0 links).names)
+
+-- ---- what is kept
+
+module _ (name : List ℕ) (flat : List Parts) where
+  kept-rest : (b : Bool) (kept : List Parts) → kept_unless b name flat (gives kept)
+      → (M : Parts) × (rest : Parts) × IsValid M × IsJoined M flat (first_name flat) × IsPruned rest M name × (kept ≡ rest ∷ [])
+  kept-rest false kept is = absurd is
+  kept-rest true kept (M, (valid, joined), (rest, pruned, same)) = (M, rest, valid, joined, pruned, same)
+
+-- it has no defect
+pub kept-valid : (keep : Option (List ℕ)) (flat kept : List Parts) → AreValid flat → kept_of keep flat (gives kept) → AreValid kept
+kept-valid None flat kept valid is = subst AreValid (sym is) valid
+kept-valid (Some name) flat kept valid is =
+    let (M, rest, sound, joined, pruned, same) = kept-rest name flat (has_name (public_names flat) name) kept is in
+    subst AreValid (sym same) (pruned-valid rest M name pruned sound, tt)
+
+-- it is not empty
+pub kept-some : (keep : Option (List ℕ)) (flat kept : List Parts) → flat ≢ [] → kept_of keep flat (gives kept) → kept ≢ []
+kept-some None flat kept some is = subst (λ (l : List Parts). l ≢ []) (sym is) some
+kept-some (Some name) flat kept some is =
+    let (M, rest, sound, joined, pruned, same) = kept-rest name flat (has_name (public_names flat) name) kept is in
+    subst (λ (l : List Parts). l ≢ []) (sym same) (λ none. cc)
+
+-- and it can be linked
+pub kept-links : (keep : Option (List ℕ)) (flat kept : List Parts) → AreValid flat → link_answer flat ≡ None → kept_of keep flat (gives kept)
+    → link_answer kept ≡ None
+kept-links None flat kept valid links is = subst (λ (l : List Parts). link_answer l ≡ None) (sym is) links
+kept-links (Some name) flat kept valid links is =
+    let (M, rest, sound, joined, pruned, same) = kept-rest name flat (has_name (public_names flat) name) kept is in
+    subst (λ (l : List Parts). link_answer l ≡ None) (sym same)
+    (linkable-alone rest (pruned-names rest M name pruned (joined-distinct M flat valid links joined)))
+
+-- ---- the location of what remains of the link
+
+-- what a location of what is kept comes to, by what is kept
+abbrev pub IsKeptLocation : Option (List ℕ) → List Parts → Plan → Reached Stop LocatedParts → Type 0
+IsKeptLocation keep flat plan (gives r) = (kept : List Parts) × kept_of keep flat (gives kept) × located plan kept (gives r)
+IsKeptLocation keep flat plan (stops s) = kept_of keep flat (stops s) ⊎ ((kept : List Parts) × kept_of keep flat (gives kept) × located plan kept (stops s))
+
+module _ (name : List ℕ) (M : Parts) (flat : List Parts) (plan : Plan) (sound : IsValid M) (joined : IsJoined M flat (first_name flat)) where
+  rest-is : (b : Bool) → has_name (public_names flat) name ≡ b → (x : Reached Stop LocatedParts) → rest_location b name plan M x
+      → IsKeptLocation (Some name) flat plan x
+  rest-is false same (gives r) is = absurd is
+  rest-is false same (stops s) is = inl (subst (λ (b : Bool). kept_unless b name flat (stops s)) (sym same) is)
+  rest-is true same (gives r) (rest, pruned, there) =
+      (rest ∷ [], subst (λ (b : Bool). kept_unless b name flat (gives (rest ∷ []))) (sym same) (M, (sound, joined), (rest, pruned, refl)), there)
+  rest-is true same (stops s) (inl never) = absurd never
+  rest-is true same (stops s) (inr (rest, pruned, there)) =
+      inr (rest ∷ [], subst (λ (b : Bool). kept_unless b name flat (gives (rest ∷ []))) (sym same) (M, (sound, joined), (rest, pruned, refl)), there)
+
+  pub rest-located : AreValid flat → (x : Reached Stop LocatedParts) → own_location (Some name) plan M x → IsKeptLocation (Some name) flat plan x
+  rest-located valid x is =
+      let names : public_names (M ∷ []) ≡ public_names flat = joined-names M flat valid joined in
+      rest-is (has_name (public_names flat) name) refl x (subst (λ (ns : List (List ℕ)). rest_location (has_name ns name) name plan M x) names is)
+
+-- what the location of what remains comes to is what the module comes to for the name
+module _ (name : List ℕ) (plan : Plan) (rest M : Parts) (pruned : IsPruned rest M name) (known : has_name (public_names (M ∷ [])) name ≡ true) where
+  pub rest-gives : (r : LocatedParts) → located plan (rest ∷ []) (gives r) → own_location (Some name) plan M (gives r)
+  rest-gives r there = subst (λ (b : Bool). rest_location b name plan M (gives r)) (sym known) (rest, pruned, there)
+
+  pub rest-stops : (s : Stop) → located plan (rest ∷ []) (stops s) → own_location (Some name) plan M (stops s)
+  rest-stops s there = subst (λ (b : Bool). rest_location b name plan M (stops s)) (sym known) (inr (rest, pruned, there))
+
+-- a name that no public has ends it
+pub unknown-ends : (name refused : List ℕ) (plan : Plan) (M : Parts) → (refused ≡ name) × (has_name (public_names (M ∷ [])) name ≡ false)
+    → EndsAt (own_location (Some name) plan M) (outcome.Refused (refusal.Keep refused))
+unknown-ends name refused plan M (same, none) =
+    inr (
+      keep_unknown refused,
+      tt,
+      refl,
+      subst (λ (b : Bool). rest_location b name plan M (stops (keep_unknown refused))) (sym none)
+          (ap (λ n. keep_unknown n) same),
+    )

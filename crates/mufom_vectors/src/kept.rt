@@ -1,0 +1,107 @@
+//! What a public symbol needs is kept, and all else is left out.
+
+use crate::runs::{File, Held, Run, all_come_to, makes};
+
+/// Three sections of four bytes. `main` is in the first, which names the third; the second names `q`, which
+/// nothing defines.
+const MODULE: Held = Held::Section(
+    b"\xE6\x01\xC3\x01a\xE2\xD3\x01\x04\xE6\x02\xC3\x01b\xE2\xD3\x02\x04\xE6\x03\xC3\x01c\xE2\xD3\x03\x04",
+    b"\xE8\x20\x04main\xE2\xC9\x20\xD2\x01\xE8\x21\x01u\xE2\xC9\x21\xD2\x02\xE9\x0B\x01q",
+    b"\xE5\x01\xE4\xBE\xD2\x03\xBF\xE5\x02\xE4\xBE\xD8\x0B\xBF\xE5\x03\xED\x04\x01\x02\x03\x04",
+);
+
+const PLAN: &[u8] = b"[[region]]\nname = \"r\"\nbase = 0\nsize = 16\nsections = [\"*\"]\n";
+
+/// What `main` needs: its section, and the one that this names.
+const IMAGE: &str = "00000000: 00 00 00 04 01 02 03 04\npublic 00000000 \"main\"\n";
+
+/// The module, its plan, and one that is linked only if it is needed.
+const FILES: &[File] = &[
+    ("a", MODULE),
+    ("p", Held::Bytes(PLAN)),
+    ("n", Held::Names(b"\xE8\x20\x01z\xE2\xC9\x20\x07")),
+];
+
+static RUNS: [Run; 10] = [
+    (FILES, "", "dump --plan p --keep main a", 0, IMAGE),
+    (FILES, "", "dump --plan p --keep=main [ a ] + n", 0, IMAGE),
+    (
+        FILES,
+        "link -o c a",
+        "dump --plan p --keep main c",
+        0,
+        IMAGE,
+    ),
+    (
+        FILES,
+        "locate --plan p --keep main -o c a",
+        "dump c",
+        0,
+        IMAGE,
+    ),
+    // All is located where no name is given.
+    (
+        FILES,
+        "",
+        "dump --plan p a",
+        1,
+        "refused: locate: Undefined \"q\"\n",
+    ),
+    // A name that no public of the list has, an empty one, and one of a member that nothing needs.
+    (
+        FILES,
+        "",
+        "dump --plan p --keep q a",
+        1,
+        "refused: keep: Unknown \"q\"\n",
+    ),
+    (
+        FILES,
+        "",
+        "dump --keep= a",
+        1,
+        "refused: keep: Unknown \"\"\n",
+    ),
+    (
+        FILES,
+        "",
+        "dump --plan p --keep z a + n",
+        1,
+        "refused: keep: Unknown \"z\"\n",
+    ),
+    // It is looked for after the link and before the location.
+    (
+        FILES,
+        "",
+        "dump --keep z a a",
+        1,
+        "refused: link: Duplicate \"main\"\n",
+    ),
+    (
+        FILES,
+        "",
+        "dump --keep main a",
+        1,
+        "refused: locate: Unplaced section 0\n",
+    ),
+];
+
+#[test]
+fn what_a_public_needs_is_kept(rt: HostRuntime) {
+    let alloc = rt.alloc();
+    all_come_to(&rt, alloc, &RUNS);
+    makes(
+        &rt,
+        alloc,
+        FILES,
+        "bin --plan p --keep main -o c a",
+        b"\x00\x00\x00\x04\x01\x02\x03\x04",
+    );
+    makes(
+        &rt,
+        alloc,
+        FILES,
+        "txt --plan p --keep main -o c a",
+        b"@0000\n00 00 00 04 01 02 03 04\nq\n",
+    );
+}
