@@ -1,8 +1,10 @@
 -- What a command has done that read its inputs: it was stopped, its work came to an end, or something was put out.
-use Rattle.std.proofs.Common.{◌≡◌, ◌⊎◌, ℕ, ◌≤◌, List, [], ◌∷◌, ◌++◌, length, take, Option, Some, None, IfSome, IsSome, OnSome, refl, sym, ap, subst, ◌∙◌, arith}
+use Rattle.std.proofs.Common.{◌≡◌, ◌⊎◌, ℕ, ◌≤◌, true, List, [], ◌∷◌, ◌++◌, length, take, Option, Some, None, IfSome, IsSome, OnSome, refl, sym, ap}
+use Rattle.std.proofs.Common.{subst, ◌∙◌, arith}
 use Rattle.std.proofs.lemmas.List.{take_all}
 use Rattle.mufom_host.specs.World.{Faults, Meaning, NamedFile, GrowsBy, GrowsByPrefix, KeepsAllButFile, KeepsAllButOut, KeepsAllButWrites, OnlyOpens, Rose}
 use Rattle.mufom_words.specs.declared.command.Command.{Command}
+use Rattle.mufom_words.specs.Options.{reads_files}
 use Rattle.mufom_command.specs.declared.outcome.Outcome.{Outcome}
 use Rattle.mufom_command.specs.declared.outcome.Outcome.TheVariants as outcome
 use Rattle.mufom_groups.specs.Work.{Work, gives, stops}
@@ -11,10 +13,11 @@ use Rattle.mufom_command.specs.Stop.{text_refused}
 use Rattle.mufom_command.specs.Commands.{Output, printed, made}
 use Rattle.mufom_command.specs.InputsRead.{ReadingStops}
 use Rattle.mufom_command.specs.Making.{IsMade, IsMadeAlone, IsPrinted}
-use Rattle.mufom_command.specs.Run.{AnswersFor, BeginsFile, Does, IsOpenedCount, MakesFile, NoneFalls, OpensInputs, PutsOutNothing, inputs_of, stop_outcome}
+use Rattle.mufom_command.specs.Run.{AnswersFor, BeginsFile, Does, IsOpenedCount, MakesFile, NoneFalls, OpensInputs, OverFiles, PutsOutNothing}
+use Rattle.mufom_command.specs.Run.{inputs_of, stop_outcome}
 use Rattle.mufom_command.specs.WorkEnds.{IsOfModules}
 use Rattle.mufom_command.proofs.InputLaws.{call_between}
-use Rattle.mufom_command.proofs.InputsLaws.{known-map}
+use Rattle.mufom_command.proofs.InputsLaws.{over-map}
 
 module _ (c : Command) (work : List NamedFile → Work Stop Output) (old mid : Meaning) (before between : Faults) (only : OnlyOpens old mid before between) where
   read-err : mid.err ≡ old.err
@@ -32,8 +35,8 @@ module _ (c : Command) (work : List NamedFile → Work Stop Output) (old mid : M
 
   -- ---- the inputs were not all read
 
-  module _ {A : Type 0} (reading : List NamedFile → Work Stop A) (begins : (files : List NamedFile) (s : Stop) → reading files (stops s)
-      → work files (stops s)) where
+  module _ (of_files : reads_files c.verb ≡ true) {A : Type 0} (reading : List NamedFile → Work Stop A) (begins : (files : List NamedFile) (s : Stop)
+      → reading files (stops s) → work files (stops s)) where
     stopped-answers : (stop : Outcome) → ReadingStops reading c (call_between old mid before between) stop
         → AnswersFor c work (call_between old mid before between) stop
     stopped-answers (outcome.Refused r) why = (
@@ -41,7 +44,8 @@ module _ (c : Command) (work : List NamedFile → Work Stop Output) (old mid : M
         stop = why.stop;
         is = why.is;
         of_inputs = why.of_inputs;
-        cause = known-map (λ fs. reading fs (stops why.stop)) (λ fs. work fs (stops why.stop)) old.files (λ fs comes. begins fs why.stop comes) why.cause;
+        cause = over-map of_files (λ fs. reading fs (stops why.stop)) (λ fs. work fs (stops why.stop)) old.files
+            (λ fs comes. begins fs why.stop comes) why.cause;
       },
       read-nothing,
     )
@@ -77,11 +81,11 @@ module _ (c : Command) (work : List NamedFile → Work Stop Output) (old mid : M
     pub lacking-does : Does c work (call_between old mid before between) outcome.NoMemory
     lacking-does = record { answers = read-nothing; opens = opens-read mid between outcome.NoMemory refl tt; err = read-err; counts = read-counts }
 
-    ended-answers : (s : Stop) → IsOfModules s → IfSome old.files (λ fs. work fs (stops s))
+    ended-answers : (s : Stop) → IsOfModules s → OverFiles (reads_files c.verb) old.files (λ fs. work fs (stops s))
         → AnswersFor c work (call_between old mid before between) (stop_outcome s)
     ended-answers (link_fact f) is cause = (record { stop = link_fact f; is = refl; of_inputs = tt; cause = cause }, read-nothing)
     ended-answers (keep_unknown name) is cause = (record { stop = keep_unknown name; is = refl; of_inputs = tt; cause = cause }, read-nothing)
-    ended-answers (locate_fact maus f) is cause = (record { stop = locate_fact maus f; is = refl; of_inputs = tt; cause = cause }, read-nothing)
+    ended-answers (locate_fact maus f) is cause = (record { stop = locate_fact maus f; is = refl; of_inputs = is; cause = cause }, read-nothing)
     ended-answers (raw_too_long count) is cause = (record { stop = raw_too_long count; is = refl; of_inputs = tt; cause = cause }, read-nothing)
     ended-answers (text_refused r) is cause = (record { stop = text_refused r; is = refl; of_inputs = tt; cause = cause }, read-nothing)
     ended-answers (words_refused s) is cause = absurd is
@@ -100,7 +104,7 @@ module _ (c : Command) (work : List NamedFile → Work Stop Output) (old mid : M
     ended-count (file_refused n r) is = absurd is
     ended-count (past_limit n) is = absurd is
 
-    pub ended-does : (s : Stop) → IsOfModules s → IfSome old.files (λ fs. work fs (stops s))
+    pub ended-does : (s : Stop) → IsOfModules s → OverFiles (reads_files c.verb) old.files (λ fs. work fs (stops s))
         → Does c work (call_between old mid before between) (stop_outcome s)
     ended-does s is cause = record {
       answers = ended-answers s is cause;
@@ -125,7 +129,7 @@ module _ (c : Command) (work : List NamedFile → Work Stop Output) (old mid : M
 
       -- ---- a text was printed
 
-      module _ (text : List ℕ) (cause : IfSome old.files (λ fs. work fs (gives (printed text)))) (no_file : c.out
+      module _ (text : List ℕ) (cause : OverFiles (reads_files c.verb) old.files (λ fs. work fs (gives (printed text)))) (no_file : c.out
           ≡ None) (prints : KeepsAllButOut mid new) where
         out-same : mid.out ≡ old.out
         out-same = ap (λ (m : Meaning). m.out) only.0
@@ -172,7 +176,7 @@ module _ (c : Command) (work : List NamedFile → Work Stop Output) (old mid : M
 
       -- ---- a file was made
 
-      module _ (name bytes : List ℕ) (cause : IfSome old.files (λ fs. work fs (gives (made name bytes)))) (named : c.out
+      module _ (name bytes : List ℕ) (cause : OverFiles (reads_files c.verb) old.files (λ fs. work fs (gives (made name bytes)))) (named : c.out
           ≡ Some name) (makes : KeepsAllButFile mid new) where
         made-same : mid.made ≡ old.made
         made-same = ap (λ (m : Meaning). m.made) only.0
@@ -243,7 +247,8 @@ module _ (c : Command) (work : List NamedFile → Work Stop Output) (old mid : M
     -- ---- a file was made, of the name that the words give
 
     pub made-does : (new : Meaning) (now : Faults) (bytes : List ℕ)
-        → ((name : List ℕ) → c.out ≡ Some name → IfSome old.files (λ fs. work fs (gives (made name bytes)))) → IsSome c.out → (result : Outcome)
+        → ((name : List ℕ) → c.out ≡ Some name → OverFiles (reads_files c.verb) old.files (λ fs. work fs (gives (made name bytes)))) → IsSome c.out
+        → (result : Outcome)
         → ((name : List ℕ) → c.out ≡ Some name → IsMadeAlone name bytes (call_between mid new between now) result)
         → Does c work (call_between old new before now) result
     made-does new now bytes cause some result makes = by c.out refl some where

@@ -1,6 +1,6 @@
 -- The plan and then the files: what was read, and why not all was.
-use Rattle.std.proofs.Common.{◌≡◌, ℕ, suc, ◌+◌, List, [], ◌∷◌, ◌++◌, length, take, not, Option, Some, None, IfSome, IsSome, OnSome, option_to_list}
-use Rattle.std.proofs.Common.{refl, sym, ap, subst, ◌∙◌, inl, inr, arith}
+use Rattle.std.proofs.Common.{◌≡◌, ℕ, suc, ◌+◌, Bool, true, List, [], ◌∷◌, ◌++◌, length, take, not, Option, Some, None, IfSome, IsSome, OnSome}
+use Rattle.std.proofs.Common.{option_to_list, refl, sym, ap, subst, ◌∙◌, inl, inr, arith}
 use Rattle.std.proofs.lemmas.List.{append-nil, length-append}
 use Rattle.mufom_host.specs.World.{Faults, Meaning, NamedFile, GrowsBy, OnlyOpens}
 use Rattle.mufom_module.specs.declared.module.Parts.{Parts}
@@ -16,7 +16,7 @@ use Rattle.mufom_command.specs.Inputs.{ComeTo, accepted}
 use Rattle.mufom_command.specs.Commands.{modules_in, plan_in}
 use Rattle.mufom_command.specs.FilesRead.{FilesStop, IsFileCount, OpensFiles}
 use Rattle.mufom_command.specs.InputsRead.{InputsStop, PlanStops, inputs_in}
-use Rattle.mufom_command.specs.Run.{IsOpenedCount, OpensInputs, inputs_of}
+use Rattle.mufom_command.specs.Run.{IsOpenedCount, OpensInputs, OverFiles, inputs_of}
 use Rattle.mufom_command.proofs.InputLaws.{call_between, grows_by_both, grows_then}
 
 pub known-map : {A : Type 0} (P Q : A → Type 0) (o : Option A) → ((a : A) → P a → Q a) → IfSome o P → IfSome o Q
@@ -26,6 +26,12 @@ known-map P Q (Some a) step holds = step a holds
 pub known-both : {A : Type 0} (P Q : A → Type 0) (o : Option A) → IfSome o P → IfSome o Q → IfSome o (λ a. P a × Q a)
 known-both P Q None first second = tt
 known-both P Q (Some a) first second = (first, second)
+
+-- what holds of the files that are known, where files are read
+pub over-map : {reads : Bool} → reads ≡ true → (P Q : List NamedFile → Type 0) (files : Option (List NamedFile))
+    → ((fs : List NamedFile) → P fs → Q fs) → IfSome files P
+    → OverFiles reads files Q
+over-map of_files P Q files step holds = subst (λ (b : Bool). OverFiles b files Q) (sym of_files) (known-map P Q files step holds)
 
 take-after : {T : Type 0} (xs ys : List T) (n : ℕ) → take (length xs + n) (xs ++ ys) ≡ xs ++ take n ys
 take-after [] ys n = let none : 0 + n ≡ n = omega arith in ap (λ k. take k ys) none
@@ -66,10 +72,10 @@ module _ (c : Command) (old mid : Meaning) (before between : Faults) (only : Onl
   -- ---- the plan was not read
 
   pub plan-stops : (stop : Outcome) → PlanStops c.plan (call_between old mid before between) stop → InputsStop c (call_between old mid before between) stop
-  plan-stops (outcome.Refused (refusal.Plan r)) (named, why) = record {
+  plan-stops (outcome.Refused (refusal.Plan r)) (named, memory, why) = record {
     stop = plan_refused r;
     is = refl;
-    of_inputs = tt;
+    of_inputs = memory;
     cause = known-map (λ fs. plan_in fs c.plan (stops (plan_refused r))) (λ fs. inputs_in fs c (stops (plan_refused r))) old.files (λ fs is. inl is) why;
   }
   plan-stops (outcome.ReadFault input.Plan) (named, rose) = (rose, named)
@@ -93,7 +99,7 @@ module _ (c : Command) (old mid : Meaning) (before between : Faults) (only : Onl
   some-plan (Some name) some = refl
 
   plan-count : (stop : Outcome) → PlanStops c.plan (call_between old mid before between) stop → IsOpenedCount c stop (length (option_to_list c.plan))
-  plan-count (outcome.Refused (refusal.Plan r)) (named, why) = some-plan c.plan named
+  plan-count (outcome.Refused (refusal.Plan r)) (named, memory, why) = some-plan c.plan named
   plan-count (outcome.ReadFault input.Plan) (named, rose) = some-plan c.plan named
   plan-count (outcome.ReadFault (input.File n)) why = absurd why
   plan-count (outcome.Refused (refusal.Bin count)) why = absurd why

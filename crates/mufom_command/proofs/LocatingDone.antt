@@ -49,7 +49,7 @@ use Rattle.mufom_command.specs.RunLaws.{Accepts, HasNoFact, IsLocating, IsSameWo
 use Rattle.mufom_command.proofs.Determined.{answers-determined}
 use Rattle.mufom_command.proofs.KeptLaws.{kept-links, kept-some, kept-valid}
 use Rattle.mufom_command.proofs.MadeLaws.{location-of}
-use Rattle.mufom_command.proofs.Runs.{modules_in-single, of-files, plan_in-single}
+use Rattle.mufom_command.proofs.Runs.{modules_in-single, of-files, over-files, plan_in-single}
 use Rattle.mufom_command.proofs.SameWorks.{same-trans, then-known}
 
 -- it comes to an output
@@ -216,7 +216,7 @@ done-by : (files : List NamedFile) (call : Call) (known : call.old.files ≡ Som
     → AnswersBy r call outcome.Done → IsDone (work_of c.verb files c)
 done-by files call known r c same is =
     let (output, is_output, puts) = subst (λ (x : Result Command WordsStop). AnswersBy x call outcome.Done) same is in
-    (output, of-files call files known (λ fs. work_of c.verb fs c (gives output)) is_output.cause)
+    (output, over-files call files known (reads_files c.verb) (λ fs. work_of c.verb fs c (gives output)) is_output.cause)
 
 -- Locating is done exactly where no fact stands against the flat list.
 pub locating-done : LocatingIsDone

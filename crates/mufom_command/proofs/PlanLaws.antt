@@ -83,7 +83,7 @@ module _ (name bytes : List ℕ) where
   pub no-plan : (old new : Meaning) (before now : Faults) → FileHas name old.files (λ all. IsEnoughOf most_plan_bytes all bytes) → (stop : Outcome)
       → IsPlanAnswer (plan_of_text bytes) stop
       → PlanStops (Some name) (call_between old new before now) stop
-  no-plan old new before now has (outcome.Refused (refusal.Plan r)) is = (refl, plan-refused old.files r has is)
+  no-plan old new before now has (outcome.Refused (refusal.Plan r)) (is, memory) = (refl, memory, plan-refused old.files r has is)
   no-plan old new before now has (outcome.Refused (refusal.Read n r)) is = absurd is
   no-plan old new before now has (outcome.Refused (refusal.Bin count)) is = absurd is
   no-plan old new before now has (outcome.Refused (refusal.Keep kept)) is = absurd is

@@ -37,6 +37,7 @@ use Rattle.mufom_prune_laws.proofs.Single.{pruned_is_single}
 use Rattle.mufom_groups.specs.Work.{Reached, gives, stops, Work, ◌>>=◌, one_with, sure, with_stops, IsSingle}
 use Rattle.mufom_groups.proofs.Singles.{joined-single, linked-single}
 use Rattle.mufom_groups.proofs.Works.{sure-single, stop_at-single, one_with-single, nowhere-single, stops-single, then-single}
+use Rattle.mufom_words.specs.Options.{reads_files}
 use Rattle.mufom_command.specs.Stop.{Stop, words_refused, plan_refused, file_refused, past_limit, link_fact, keep_unknown, locate_fact, raw_too_long}
 use Rattle.mufom_command.specs.Stop.{text_refused}
 use Rattle.mufom_command.specs.Inputs.{HaveOneVerdict, Verdict, accepted, refused, past_limit as past, ComeTo}
@@ -54,7 +55,7 @@ use Rattle.mufom_command.specs.Commands.{Output, printed, made, form_of, prints,
 use Rattle.mufom_command.specs.Commands.{maus_of, located, located_unless, linked_file, locating, absolute_file, printed_hit, printed_image, raw_file}
 use Rattle.mufom_command.specs.Commands.{reading_text, runs_of_text, runs_unless, text_in, txt_file, unless_past_limit, unless_too_long, listing}
 use Rattle.mufom_command.specs.Commands.{linking, work_of, work_by, run_of}
-use Rattle.mufom_command.specs.Run.{AnswersBy, AnswersFor, Call, IsForced, outcome_of, stop_outcome, stop_answer}
+use Rattle.mufom_command.specs.Run.{AnswersBy, AnswersFor, Call, IsForced, OverFiles, outcome_of, stop_outcome, stop_answer}
 use Rattle.mufom_command.proofs.Verdicts.{one_verdict}
 
 -- ---- the inputs
@@ -227,12 +228,17 @@ module _ (call : Call) (files : List NamedFile) (known : call.old.files ≡ Some
   pub of-files : (P : List NamedFile → Type 0) → IfSome call.old.files P → P files
   of-files P holds = subst (λ (o : Option (List NamedFile)). IfSome o P) known holds
 
+  pub over-files : (reads : Bool) (P : List NamedFile → Type 0) → OverFiles reads call.old.files P → P files
+  over-files true P holds = of-files P holds
+  over-files false P holds = holds files
+
   module _ (c : Command) (work : List NamedFile → Work Stop Output) (single : IsSingle (work files)) (reached : Reached Stop Output)
       (comes : work files reached) where
     complete-for : (result : Outcome) → AnswersFor c work call result → (result ≡ outcome_of reached) ⊎ IsForced call result
-    complete-for outcome.Done (output, is, puts) = inl (ap outcome_of (single (gives output) reached (of-files (λ fs. work fs (gives output)) is.cause) comes))
+    complete-for outcome.Done (output, is, puts) = inl (ap outcome_of
+        (single (gives output) reached (over-files (reads_files c.verb) (λ fs. work fs (gives output)) is.cause) comes))
     complete-for (outcome.Refused r) (is, nothing) = inl (is.is
-        ∙ ap outcome_of (single (stops is.stop) reached (of-files (λ fs. work fs (stops is.stop)) is.cause) comes))
+        ∙ ap outcome_of (single (stops is.stop) reached (over-files (reads_files c.verb) (λ fs. work fs (stops is.stop)) is.cause) comes))
     complete-for (outcome.Usage f) is = absurd is
     complete-for (outcome.ReadFault at) is = inr is.0
     complete-for outcome.WriteFault is = inr is.0

@@ -15,6 +15,7 @@ use Rattle.mufom_titxt.specs.declared.refusal.TxtRefusal.{TxtRefusal}
 use Rattle.mufom_titxt.specs.TextModules.{text_parts}
 use Rattle.mufom_titxt.specs.Texts.{IsTxtOf, txt_cells, txt_refusal}
 use Rattle.mufom_words.specs.declared.command.Command.{Command}
+use Rattle.mufom_words.specs.Options.{reads_files}
 use Rattle.mufom_groups.specs.Work.{Work, gives, stops}
 use Rattle.mufom_command.specs.declared.outcome.Input.TheVariants as input
 use Rattle.mufom_command.specs.declared.outcome.Outcome.{Outcome}
@@ -30,7 +31,7 @@ use Rattle.mufom_command.specs.Run.{Call, Does, IsOpenedCount, OpensInputs, inpu
 use Rattle.mufom_command.specs.WorkEnds.{EndsAt}
 use Rattle.mufom_command.proofs.DoesLaws.{ended-does, lacking-does, made-does, stopped-does}
 use Rattle.mufom_command.proofs.InputLaws.{call_between, none_accepted}
-use Rattle.mufom_command.proofs.InputsLaws.{known-map}
+use Rattle.mufom_command.proofs.InputsLaws.{over-map}
 use Rattle.mufom_command.proofs.WorkLaws.{writes-gives}
 
 -- ---- the bytes of the text
@@ -167,15 +168,16 @@ module _ (c : Command) (name : List ℕ) (no_plan : c.plan ≡ None) (one : c.fi
     opened = subst (λ (l : List (List ℕ)). OnSome mid.opened (GrowsBy old.opened mid.opened (take 1 l))) (sym one-input) opened;
   }
 
-  pub unread-does : (stop : Outcome) → TextStops name call stop → OnSome mid.opened (GrowsBy old.opened mid.opened (name ∷ []))
+  pub unread-does : reads_files c.verb ≡ true → (stop : Outcome) → TextStops name call stop → OnSome mid.opened (GrowsBy old.opened mid.opened (name ∷ []))
       → Does c (λ files. reading_text files c) call stop
-  unread-does stop why opened =
-      stopped-does c (λ files. reading_text files c) old mid before between only (λ fs. text_in fs c.files) (λ fs s ends. inl ends) stop
+  unread-does of_files stop why opened =
+      stopped-does c (λ files. reading_text files c) old mid before between only of_files (λ fs. text_in fs c.files) (λ fs s ends. inl ends) stop
       (reading-stops stop why) (text-opens stop why opened)
 
   -- ---- it was read
 
-  module _ (text : List ℕ) (opened : GrowsBy old.opened mid.opened (name ∷ [])) (read : IfSome old.files (λ fs. text_in fs (name ∷ []) (gives text))) where
+  module _ (of_files : reads_files c.verb ≡ true) (text : List ℕ) (opened : GrowsBy old.opened mid.opened (name ∷ []))
+      (read : IfSome old.files (λ fs. text_in fs (name ∷ []) (gives text))) where
     all-opened : GrowsBy old.opened mid.opened (inputs_of c)
     all-opened = subst (λ (l : List (List ℕ)). GrowsBy old.opened mid.opened l) (sym one-input) opened
 
@@ -189,7 +191,8 @@ module _ (c : Command) (name : List ℕ) (no_plan : c.plan ≡ None) (one : c.fi
     text-ends o (inr (s, of_text, is, ends)) =
         subst (λ (x : Outcome). Does c (λ files. reading_text files c) call x) (sym is)
         (ended-does c (λ files. reading_text files c) old mid before between only all-opened s of_text
-        (known-map (λ fs. text_in fs c.files (gives text)) (λ fs. reading_text fs c (stops s)) old.files (λ fs there. inr (text, there, inl ends)) is-read))
+        (over-map of_files (λ fs. text_in fs c.files (gives text)) (λ fs. reading_text fs c (stops s)) old.files
+        (λ fs there. inr (text, there, inl ends)) is-read))
 
     -- the file of its module was made
     pub text-makes : (new : Meaning) (now : Faults) (object : Parts) → (runs : List Run) × runs_of_text c.maus text (gives runs)
@@ -198,7 +201,7 @@ module _ (c : Command) (name : List ℕ) (no_plan : c.plan ≡ None) (one : c.fi
         → Does c (λ files. reading_text files c) (call_between old new before now) result
     text-makes new now object (runs, rows, same) some result makes =
         made-does c (λ files. reading_text files c) old mid before between only all-opened new now (written object)
-        (λ file named. known-map (λ fs. text_in fs c.files (gives text)) (λ fs. reading_text fs c (gives (made file (written object)))) old.files
+        (λ file named. over-map of_files (λ fs. text_in fs c.files (gives text)) (λ fs. reading_text fs c (gives (made file (written object)))) old.files
         (λ fs there. (
           text,
           there,

@@ -1,9 +1,10 @@
 -- What reading the inputs of a command answers: its plan, and then the modules of its files; or its text.
-use Rattle.std.specs.Prelude.{◌≡◌, ◌⊎◌, ℕ, ◌<◌, List, [], ◌∷◌, ◌++◌, length, Option, Result, Err, IfSome, IsSome}
+use Rattle.std.specs.Prelude.{◌≡◌, ◌≢◌, ◌⊎◌, ℕ, ◌<◌, List, [], ◌∷◌, ◌++◌, length, Option, Result, Err, IfSome, IsSome, true}
 use Rattle.mufom_host.specs.World.{NamedFile, Rose}
 use Rattle.mufom_module.specs.declared.module.Parts.{Parts}
 use Rattle.mufom_plan.specs.declared.plan.Plan.{Plan}
 use Rattle.mufom_plan.specs.declared.refusal.PlanRefusal.{PlanRefusal}
+use Rattle.mufom_plan.specs.declared.refusal.PlanRefusal.TheVariants as plan_refusal
 use Rattle.mufom_words.specs.declared.command.Command.{Command}
 use Rattle.mufom_groups.specs.Work.{Work, stops, ◌>>=◌, sure}
 use Rattle.mufom_command.specs.declared.outcome.Input.TheVariants as input
@@ -31,20 +32,21 @@ inputs_in files c = do
 
 -- the answer to bytes that are no plan, or out of memory
 abbrev pub IsPlanAnswer : Result Plan PlanRefusal → Outcome → Type 0
-IsPlanAnswer plan (outcome.Refused (refusal.Plan r)) = plan ≡ Err r
+IsPlanAnswer plan (outcome.Refused (refusal.Plan r)) = (plan ≡ Err r) × (r ≢ plan_refusal.NoMemory)
 IsPlanAnswer plan outcome.NoMemory = Unit {0}
 IsPlanAnswer plan _ = ⊥
 
 -- Why the plan with this name was not read; none may be named.
 abbrev pub PlanStops : Option (List ℕ) → Call → Outcome → Type 0
-PlanStops name call (outcome.Refused (refusal.Plan r)) = IsSome name × IfSome call.old.files (λ files. plan_in files name (stops (plan_refused r)))
+PlanStops name call (outcome.Refused (refusal.Plan r)) =
+    IsSome name × (r ≢ plan_refusal.NoMemory) × IfSome call.old.files (λ files. plan_in files name (stops (plan_refused r)))
 PlanStops name call (outcome.ReadFault input.Plan) = IsSome name × Rose call.before.reads call.now.reads
 PlanStops name call outcome.NoMemory = Unit {0}
 PlanStops name call _ = ⊥
 
 -- Why not all was read of what a command reads, where reading it is this work.
 abbrev pub ReadingStops : {A : Type 0} → (List NamedFile → Work Stop A) → Command → Call → Outcome → Type 0
-ReadingStops reading c call (outcome.Refused r) = IsStopped reading call.old.files (outcome.Refused r)
+ReadingStops reading c call (outcome.Refused r) = IsStopped true reading call.old.files (outcome.Refused r)
 ReadingStops reading c call (outcome.ReadFault at) = Rose call.before.reads call.now.reads × IsReached call.old.files c at
 ReadingStops reading c call outcome.NoMemory = Unit {0}
 ReadingStops reading c call _ = ⊥

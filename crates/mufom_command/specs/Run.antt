@@ -1,14 +1,18 @@
 -- What the contract of the top call states: the answer and its cause, what was put out, which inputs were opened, and which error line was
 -- printed.
-use Rattle.std.specs.Prelude.{◌≡◌, ◌⊎◌, ℕ, ◌+◌, ◌<◌, ◌≤◌, not, List, [], ◌∷◌, ◌++◌, length, take, Option, Some, None, Result, Ok, Err, IfSome, IsSome}
-use Rattle.std.specs.Prelude.{OnSome, option_to_list}
+use Rattle.std.specs.Prelude.{◌≡◌, ◌≢◌, ◌⊎◌, ℕ, ◌+◌, ◌<◌, ◌≤◌, Bool, true, false, not, List, [], ◌∷◌, ◌++◌, length, take, Option, Some, None, Result}
+use Rattle.std.specs.Prelude.{Ok, Err, IfSome, IsSome, OnSome, option_to_list}
 use Rattle.mufom_host.specs.World.{Meaning, Faults, NamedFile, Rose, GrowsBy, GrowsByPrefix}
 use Rattle.mufom_module.specs.declared.module.Parts.{Parts}
 use Rattle.mufom_words.specs.declared.command.Command.{Command}
 use Rattle.mufom_words.specs.declared.stop.WordsStop.{WordsStop}
 use Rattle.mufom_words.specs.declared.stop.WordsStop.TheVariants as words_stop
 use Rattle.mufom_words.specs.Answer.{answer_of}
+use Rattle.mufom_words.specs.Options.{reads_files}
 use Rattle.mufom_plan.specs.declared.plan.Plan.{Plan}
+use Rattle.mufom_plan.specs.declared.refusal.PlanRefusal.TheVariants as plan_refusal
+use Rattle.mufom_place.specs.declared.refusal.PlaceRefusal.TheVariants as place_refusal
+use Rattle.mufom_meaning.specs.Facts.{placement}
 use Rattle.mufom_command.specs.declared.outcome.Input.{Input}
 use Rattle.mufom_command.specs.declared.outcome.Input.TheVariants as input
 use Rattle.mufom_command.specs.declared.outcome.Outcome.{Outcome}
@@ -60,27 +64,35 @@ outcome_of (stops s) = stop_outcome s
 
 -- ---- causes
 
--- the end is not that of words
+-- Where files are read, the fact holds of those that are known, and nothing is stated where they are not. Where none is read, it holds of
+-- all lists of files.
+abbrev pub OverFiles : Bool → Option (List NamedFile) → (List NamedFile → Type 0) → Type 0
+OverFiles true files P = IfSome files P
+OverFiles false files P = (fs : List NamedFile) → P fs
+
+-- the end is not that of words, and is never for lack of memory
 abbrev pub IsOfInputs : Stop → Type 0
 IsOfInputs (words_refused s) = ⊥
+IsOfInputs (plan_refused r) = r ≢ plan_refusal.NoMemory
+IsOfInputs (locate_fact maus f) = f ≢ placement place_refusal.NoMemory
 IsOfInputs _ = Unit {0}
 
--- The refusal is an end to which the work on the inputs comes. Of files that are not known nothing is stated.
-pub record IsStopped {A : Type 0} (work : List NamedFile → Work Stop A) (files : Option (List NamedFile)) (result : Outcome) : Type 0 where
+-- The refusal is an end to which the work comes, which reads files or reads none.
+pub record IsStopped {A : Type 0} (reads : Bool) (work : List NamedFile → Work Stop A) (files : Option (List NamedFile)) (result : Outcome) : Type 0 where
   pub stop : Stop
   pub is : result ≡ stop_outcome stop
   pub of_inputs : IsOfInputs stop
-  pub cause : IfSome files (λ fs. work fs (stops stop))
+  pub cause : OverFiles reads files (λ fs. work fs (stops stop))
 
 -- the name of the file that is made; none where a text is printed
 abbrev pub file_name : Output → Option (List ℕ)
 file_name (printed text) = None
 file_name (made name bytes) = Some name
 
--- This is the output to which the work comes. A file has the name that the words give.
-pub record IsOutput (out : Option (List ℕ)) (work : List NamedFile → Work Stop Output) (files : Option (List NamedFile)) (output : Output) : Type 0 where
-  pub place : file_name output ≡ out
-  pub cause : IfSome files (λ fs. work fs (gives output))
+-- This is the output to which the work of the command comes. A file has the name that the words give.
+pub record IsOutput (c : Command) (work : List NamedFile → Work Stop Output) (files : Option (List NamedFile)) (output : Output) : Type 0 where
+  pub place : file_name output ≡ c.out
+  pub cause : OverFiles (reads_files c.verb) files (λ fs. work fs (gives output))
 
 -- the input is one of the command, and each that is read before it is accepted
 abbrev pub IsReached : Option (List NamedFile) → Command → Input → Type 0
@@ -144,12 +156,12 @@ PutsOutPrefix (made name bytes) call = BeginsFile name bytes call
 
 -- The answer to a command whose work this is has its cause, and so much was put out.
 abbrev pub AnswersFor : Command → (List NamedFile → Work Stop Output) → Call → Outcome → Type 0
-AnswersFor c work call outcome.Done = (output : Output) × IsOutput c.out work call.old.files output × PutsOut output call
-AnswersFor c work call (outcome.Refused r) = IsStopped work call.old.files (outcome.Refused r) × PutsOutNothing call
+AnswersFor c work call outcome.Done = (output : Output) × IsOutput c work call.old.files output × PutsOut output call
+AnswersFor c work call (outcome.Refused r) = IsStopped (reads_files c.verb) work call.old.files (outcome.Refused r) × PutsOutNothing call
 AnswersFor c work call (outcome.Usage f) = ⊥
 AnswersFor c work call (outcome.ReadFault at) = Rose call.before.reads call.now.reads × IsReached call.old.files c at × PutsOutNothing call
 AnswersFor c work call outcome.WriteFault =
-    Rose call.before.writes call.now.writes × ((output : Output) × IsOutput c.out work call.old.files output × PutsOutPrefix output call)
+    Rose call.before.writes call.now.writes × ((output : Output) × IsOutput c work call.old.files output × PutsOutPrefix output call)
 AnswersFor c work call outcome.NoMemory = PutsOutNothing call
 
 -- words that are no command are answered so, or no memory was found; nothing but the error output was touched
@@ -227,6 +239,13 @@ pub record NoneFalls (call : Call) : Type 0 where
   pub reads : call.before.reads ≤ call.now.reads
   pub writes : call.before.writes ≤ call.now.writes
   pub complaints : call.before.complaints ≤ call.now.complaints
+
+-- these may come where there is no memory at all
+abbrev pub NeedsNoMemory : Outcome → Type 0
+NeedsNoMemory outcome.Done = Unit {0}
+NeedsNoMemory (outcome.Usage f) = Unit {0}
+NeedsNoMemory outcome.WriteFault = Unit {0}
+NeedsNoMemory _ = ⊥
 
 -- ---- parts of a run
 

@@ -1,5 +1,5 @@
 -- The answer where modules are not linked or not located.
-use Rattle.std.specs.Prelude.{◌≡◌, ◌⊎◌, ℕ, ◌≤◌, List, [], ◌∷◌, length, Option, Some, None, Bool, true, false}
+use Rattle.std.specs.Prelude.{◌≡◌, ◌≢◌, ◌⊎◌, ℕ, ◌≤◌, List, [], ◌∷◌, length, Option, Some, None, Bool, true, false}
 use Rattle.mufom_image.specs.declared.refusal.LocateRefusal.{LocateRefusal}
 use Rattle.mufom_image.specs.declared.refusal.LocateRefusal.TheVariants as locate
 use Rattle.mufom_link.specs.declared.refusal.LinkRefusal.{LinkRefusal}
@@ -9,6 +9,8 @@ use Rattle.mufom_plan.specs.declared.plan.Plan.{Plan}
 use Rattle.mufom_plan.specs.Names.{has_name}
 use Rattle.mufom_meaning.specs.Flat.{public_names}
 use Rattle.mufom_prune.specs.Pruned.{IsPruned}
+use Rattle.mufom_place.specs.declared.refusal.PlaceRefusal.TheVariants as place_refusal
+use Rattle.mufom_meaning.specs.Facts.{placement}
 use Rattle.mufom_meaning.specs.declared.located.LocatedParts.{LocatedParts}
 use Rattle.mufom_meaning.specs.Staging.{AreValid}
 use Rattle.mufom_meaning.specs.StagingLaws.{total_weight}
@@ -68,11 +70,11 @@ location_of c plan ms = do
 abbrev pub LocatesTo : List NamedFile → Command → LocatedParts → Type 0
 LocatesTo files c r = (plan : Plan) × (ms : List Parts) × inputs_in files c (gives (plan, ms)) × location_of c plan ms (gives r)
 
--- the end is a fact about the modules, or about the text that was read
+-- the end is a fact about the modules, or about the text that was read, and no lack of memory
 abbrev pub IsOfModules : Stop → Type 0
 IsOfModules (link_fact f) = Unit {0}
 IsOfModules (keep_unknown name) = Unit {0}
-IsOfModules (locate_fact maus f) = Unit {0}
+IsOfModules (locate_fact maus f) = f ≢ placement place_refusal.NoMemory
 IsOfModules (raw_too_long count) = Unit {0}
 IsOfModules (text_refused r) = Unit {0}
 IsOfModules _ = ⊥

@@ -1,10 +1,12 @@
 //! The top call.
 
-ghost use Rattle.std.specs.Prelude.{◌≡◌, ◌<◌, ◌^◌, length, map};
+ghost use Rattle.std.specs.Prelude.{◌≡◌, ◌≢◌, ◌<◌, ◌^◌, length, map, true};
 ghost use Rattle.std.specs.String.{string_bytes};
+ghost use Rattle.mufom_words.specs.Answer.{PrintsHelp};
+ghost use Rattle.mufom_words.specs.Options.{prints_help};
 ghost use Rattle.mufom_words.specs.Sound.{IsSound};
 ghost use Rattle.mufom_command.specs.Commands.{work_of};
-ghost use Rattle.mufom_command.specs.Run.{call_of, Answers, Does, DoesWords, IsComplete, NoneFalls, Opens, PrintsErrorLine, stop_answer};
+ghost use Rattle.mufom_command.specs.Run.{call_of, Answers, Does, DoesWords, IsComplete, NeedsNoMemory, NoneFalls, Opens, PrintsErrorLine, stop_answer};
 
 use crate::error_line::print_error_line;
 use crate::help::help;
@@ -34,7 +36,8 @@ fn outcome_of_stop(stop: WordsStop) -> Outcome
 // The command is done; the answer is whose error line is not printed yet.
 fn run_command<H: Host>(alloc: Global, command: &Command, host: &mut H) -> Outcome
     requires sound { IsSound command.now }
-    ensures { Does command.now (λ files. work_of command.now.verb files command.now) (call_of H.meaning H.faults host.old host.new) result }
+    ensures does { Does command.now (λ files. work_of command.now.verb files command.now) (call_of H.meaning H.faults host.old host.new) result }
+    ensures memory { prints_help command.now.verb ≡ true → NeedsNoMemory result }
 {
     match command.verb {
         Verb::Show => show(alloc, command, host),
@@ -54,7 +57,8 @@ fn run_command<H: Host>(alloc: Global, command: &Command, host: &mut H) -> Outco
 // What the words ask for is done; the answer is whose error line is not printed yet.
 fn answer<H: Host>(alloc: Global, words: &[String], host: &mut H) -> Outcome
     requires { length words.now < 2 ^ 32 }
-    ensures { DoesWords (map (λ word. string_bytes word) words.now) (call_of H.meaning H.faults host.old host.new) result }
+    ensures does { DoesWords (map (λ word. string_bytes word) words.now) (call_of H.meaning H.faults host.old host.new) result }
+    ensures memory { PrintsHelp (map (λ word. string_bytes word) words.now) → NeedsNoMemory result }
 {
     match read_words(alloc, words) {
         Ok(command) => run_command(alloc, &command, host),
@@ -80,6 +84,8 @@ pub fn run<H: Host>(alloc: Global, words: &[String], host: &mut H) -> Outcome
     // Every answer but Done prints its error line.
     ensures line { PrintsErrorLine (call_of H.meaning H.faults host.old host.new) result }
     ensures counts { NoneFalls (call_of H.meaning H.faults host.old host.new) }
+    // The commands that print a text of the program need no memory.
+    ensures memory { PrintsHelp (map (λ word. string_bytes word) words.now) → result ≢ Outcome.NoMemory }
 {
     let outcome = answer(alloc, words, host);
     print_error_line(alloc, outcome, host)

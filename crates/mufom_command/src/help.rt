@@ -1,10 +1,10 @@
 //! The commands that print a text of the program itself: `help` and `version`.
 
-ghost use Rattle.std.specs.Prelude.{◌≡◌, ◌≢◌, [], None, unwrap_or};
+ghost use Rattle.std.specs.Prelude.{◌≡◌, [], None, unwrap_or};
 ghost use Rattle.mufom_host.specs.World.{OnlyPrints};
 ghost use Rattle.mufom_command.specs.Commands.{helping};
 ghost use Rattle.mufom_command.specs.Making.{IsPrinted};
-ghost use Rattle.mufom_command.specs.Run.{call_of, Does};
+ghost use Rattle.mufom_command.specs.Run.{call_of, Does, NeedsNoMemory};
 
 use crate::outcome::Outcome;
 use mufom_host::{Failed, Host};
@@ -24,7 +24,7 @@ fn text_of(command: &Command) -> &'static str
 fn print_text<H: Host>(text: &str, host: &mut H) -> Outcome
     ensures answer { IsPrinted text.now (call_of H.meaning H.faults host.old host.new) result }
     ensures only { OnlyPrints (H.meaning host.old) (H.meaning host.new) (H.faults host.old) (H.faults host.new) }
-    ensures memory { result ≢ Outcome.NoMemory }
+    ensures memory { NeedsNoMemory result }
 {
     match host.print(text.as_bytes()) {
         Ok(()) => Outcome::Done,
@@ -38,7 +38,7 @@ pub(crate) fn help<H: Host>(command: &Command, host: &mut H) -> Outcome
     requires no_files { command.now.files ≡ [] }
     requires no_file { command.now.out ≡ None }
     ensures does { Does command.now (λ files. helping files command.now) (call_of H.meaning H.faults host.old host.new) result }
-    ensures memory { result ≢ Outcome.NoMemory }
+    ensures memory { NeedsNoMemory result }
 {
     print_text(text_of(command), host)
 }

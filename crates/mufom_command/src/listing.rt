@@ -1,8 +1,9 @@
 //! The commands that print a text of the modules as they were read: `show` and `check`.
 
-ghost use Rattle.std.specs.Prelude.{◌≡◌, ◌<◌, ◌^◌, None, length, flat_map};
+ghost use Rattle.std.specs.Prelude.{◌≡◌, ◌<◌, ◌^◌, None, length, flat_map, true};
 ghost use Rattle.mufom_host.specs.World.{OnlyPrints};
 ghost use Rattle.mufom_text.specs.Show.{text_of};
+ghost use Rattle.mufom_words.specs.Options.{reads_files};
 ghost use Rattle.mufom_command.specs.Commands.{form_of as form_by, listing, showing};
 ghost use Rattle.mufom_command.specs.Making.{IsPrinted};
 ghost use Rattle.mufom_command.specs.Run.{call_of, Does};
@@ -58,6 +59,7 @@ fn print_one<H: Host>(alloc: Global, form: TextForm, modules: &[Module], host: &
 /// Reads the files of the command and prints a line for each.
 pub(crate) fn check<H: Host>(alloc: Global, command: &Command, host: &mut H) -> Outcome
     requires few { length command.now.files < 2 ^ 32 }
+    requires of_files { reads_files command.now.verb ≡ true }
     requires no_plan { command.now.plan ≡ None }
     requires no_file { command.now.out ≡ None }
     ensures { Does command.now (λ files. listing check_text files command.now) (call_of H.meaning H.faults host.old host.new) result }
@@ -71,6 +73,7 @@ pub(crate) fn check<H: Host>(alloc: Global, command: &Command, host: &mut H) -> 
 /// Reads the one file of the command and prints its text.
 pub(crate) fn show<H: Host>(alloc: Global, command: &Command, host: &mut H) -> Outcome
     requires one { length command.now.files ≡ 1 }
+    requires of_files { reads_files command.now.verb ≡ true }
     requires no_plan { command.now.plan ≡ None }
     requires no_file { command.now.out ≡ None }
     ensures { Does command.now (λ files. showing files command.now) (call_of H.meaning H.faults host.old host.new) result }

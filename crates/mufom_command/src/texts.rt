@@ -5,7 +5,7 @@ ghost use Rattle.mufom_host.specs.World.{GrowsBy, OnlyOpens};
 ghost use Rattle.mufom_numbers.specs.declared.limits.TheConstants.{MOST_FILE_BYTES as most};
 ghost use Rattle.mufom_meaning.specs.declared.located.Run.{Run as row};
 ghost use Rattle.mufom_titxt.specs.TextModules.{text_parts, HaveModule};
-ghost use Rattle.mufom_words.specs.Options.{takes_one_file};
+ghost use Rattle.mufom_words.specs.Options.{reads_files, takes_one_file};
 ghost use Rattle.mufom_words.specs.Sound.{IsSound};
 ghost use Rattle.mufom_groups.specs.Work.{gives};
 ghost use Rattle.mufom_command.specs.Commands.{reading_text, runs_of_text, text_in};
@@ -88,6 +88,7 @@ fn module_of(alloc: Global, text: &[u8], maus: u8) -> Result<Module, Outcome>
 /// Reads the text that the command names, and makes a file of its module.
 pub(crate) fn fromtxt<H: Host>(alloc: Global, command: &Command, host: &mut H) -> Outcome
     requires sound { IsSound command.now }
+    requires of_files { reads_files command.now.verb ≡ true }
     requires one { takes_one_file command.now.verb ≡ true }
     requires no_plan { command.now.plan ≡ None }
     requires file { IsSome command.now.out }

@@ -8,7 +8,7 @@ use Rattle.mufom_command.specs.Stop.{raw_too_long}
 use Rattle.mufom_command.specs.WorkEnds.{LocatesTo}
 use Rattle.mufom_groups.specs.Work.{gives, stops}
 use Rattle.mufom_command.proofs.DoesLaws.{ended-does, made-does}
-use Rattle.mufom_command.proofs.InputsLaws.{known-map}
+use Rattle.mufom_command.proofs.InputsLaws.{over-map}
 use Rattle.mufom_command.proofs.WorkLaws.{output-gives, output-stops, raw-gives, raw-stops}
 use Rattle.mufom_words.specs.declared.command.Verb.TheVariants as verb
 use Rattle.mufom_command.proofs.images.bin.Goals as goal
@@ -26,7 +26,8 @@ returns-then-count g c =
     = c.raw_length-count.ensures command.fill ∙ ap (λ (l : List Run). length (raw_image command.fill l)) runs in
     ended-does command (λ files. linking (locating raw_file) files command) old mid before between read.only read.all
     (raw_too_long c.raw_length-count.result) tt
-    (known-map (λ fs. LocatesTo fs command r) (λ fs. linking (locating raw_file) fs command (stops (raw_too_long c.raw_length-count.result))) old.files
+    (over-map c.requires.of_files (λ fs. LocatesTo fs command r)
+    (λ fs. linking (locating raw_file) fs command (stops (raw_too_long c.raw_length-count.result))) old.files
     (λ fs is. output-stops raw_file command r (raw_too_long c.raw_length-count.result)
     (raw-stops command r c.raw_length-count.result counted c.if-count.true) fs is) read.ok)
 
@@ -41,7 +42,7 @@ returns g c =
     = c.raw_length-count.ensures command.fill ∙ ap (λ (l : List Run). length (raw_image command.fill l)) runs in
     let few : length (raw_image command.fill r.runs) ≤ MOST_FILE_BYTES = omega (arith, counted, c.if-count.false) in
     made-does command (λ files. linking (locating raw_file) files command) old mid before between read.only read.all new now (raw_image command.fill r.runs)
-    (λ name named. known-map (λ fs. LocatesTo fs command r) (λ fs. linking (locating raw_file) fs command
-    (gives (made name (raw_image command.fill r.runs)))) old.files
+    (λ name named. over-map c.requires.of_files (λ fs. LocatesTo fs command r)
+    (λ fs. linking (locating raw_file) fs command (gives (made name (raw_image command.fill r.runs)))) old.files
     (λ fs is. output-gives raw_file command r (made name (raw_image command.fill r.runs)) (raw-gives command r name few named) fs is) read.ok)
     c.requires.file c.make_raw.result c.make_raw.ensures

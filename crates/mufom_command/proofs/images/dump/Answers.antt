@@ -1,7 +1,7 @@
 use Rattle.mufom_text.specs.Image.{image_text}
 use Rattle.mufom_command.specs.Commands.{linking, locating, printed, printed_image}
 use Rattle.mufom_command.proofs.DoesLaws.{printed-does}
-use Rattle.mufom_command.proofs.InputsLaws.{known-map}
+use Rattle.mufom_command.proofs.InputsLaws.{over-map}
 use Rattle.mufom_command.proofs.WorkLaws.{output-gives}
 use Rattle.mufom_command.specs.WorkEnds.{LocatesTo}
 use Rattle.mufom_groups.specs.Work.{gives}
@@ -21,6 +21,6 @@ returns-in-Ok g c =
     g.H.World.faults c.print_located.new.host in
     printed-does command (λ files. linking (locating printed_image) files command) old mid before between read.only read.all new now put.only.1
     put.only.2 (image_text r)
-    (known-map (λ fs. LocatesTo fs command r) (λ fs. linking (locating printed_image) fs command (gives (printed (image_text r)))) old.files
+    (over-map c.requires.of_files (λ fs. LocatesTo fs command r) (λ fs. linking (locating printed_image) fs command (gives (printed (image_text r)))) old.files
     (λ fs is. output-gives printed_image command r (printed (image_text r)) refl fs is) read.ok)
     c.requires.no_file put.only.0 c.print_located.result put.answer

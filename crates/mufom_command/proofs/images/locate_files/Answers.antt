@@ -5,7 +5,7 @@ use Rattle.mufom_command.specs.Commands.{absolute_file, linking, locating, made}
 use Rattle.mufom_command.specs.WorkEnds.{LocatesTo}
 use Rattle.mufom_groups.specs.Work.{gives}
 use Rattle.mufom_command.proofs.DoesLaws.{lacking-does, made-does}
-use Rattle.mufom_command.proofs.InputsLaws.{known-map}
+use Rattle.mufom_command.proofs.InputsLaws.{over-map}
 use Rattle.mufom_command.proofs.WorkLaws.{output-gives, writes-gives}
 use Rattle.mufom_words.specs.declared.command.Verb.TheVariants as verb
 use Rattle.mufom_command.proofs.images.locate_files.Goals as goal
@@ -26,7 +26,8 @@ returns-in-Ok-absolute g c =
     let before = g.H.World.faults c.args.host.now in let between = g.H.World.faults c.locate_inputs.new.host in let now =
     g.H.World.faults c.make_output.new.host in
     made-does command (λ files. linking (locating absolute_file) files command) old mid before between read.only read.all new now (written object)
-    (λ name named. known-map (λ fs. LocatesTo fs command r) (λ fs. linking (locating absolute_file) fs command (gives (made name (written object)))) old.files
+    (λ name named. over-map c.requires.of_files (λ fs. LocatesTo fs command r)
+    (λ fs. linking (locating absolute_file) fs command (gives (made name (written object)))) old.files
     (λ fs is. subst (λ (m : Parts). linking (locating absolute_file) fs command (gives (made name (written m)))) (sym c.in-Ok-absolute.ensures.absolute)
     (output-gives absolute_file command r (made name _) (writes-gives command name _ named) fs is)) read.ok)
     c.requires.file c.make_output.result c.make_output.ensures

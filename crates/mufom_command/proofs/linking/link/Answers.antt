@@ -7,7 +7,7 @@ use Rattle.mufom_groups.specs.Work.{gives, with_stops}
 use Rattle.mufom_command.specs.InputsRead.{inputs_in}
 use Rattle.mufom_command.proofs.DoesLaws.{made-does, stopped-does}
 use Rattle.mufom_command.proofs.EndLaws.{ends-does}
-use Rattle.mufom_command.proofs.InputsLaws.{known-map}
+use Rattle.mufom_command.proofs.InputsLaws.{over-map}
 use Rattle.mufom_command.proofs.linking.link.Goals as goal
 
 pub returns-in-Err : goal.returns-in-Err
@@ -15,12 +15,12 @@ returns-in-Err g c =
     let read = c.in-Err.ensures in let command = c.args.command.now in
     stopped-does command (λ files. linking linked_file files command) (g.H.World.meaning c.args.host.now) (g.H.World.meaning c.read_inputs.new.host)
     (g.H.World.faults c.args.host.now) (g.H.World.faults c.read_inputs.new.host) read.only
-    (λ fs. inputs_in fs command) (linking-begins linked_file command) c.in-Err.stop read.stops read.opened
+    c.requires.of_files (λ fs. inputs_in fs command) (linking-begins linked_file command) c.in-Err.stop read.stops read.opened
 
 pub returns : goal.returns
 returns g c =
     let read = c.in-Ok.ensures in let command = c.args.command.now in let inputs = c.in-Ok.inputs in
-    ends-does command inputs.plan inputs.modules (λ files. linking linked_file files command)
+    ends-does command c.requires.of_files inputs.plan inputs.modules (λ files. linking linked_file files command)
     (with_stops link_fact (linked_module command inputs.modules)) (g.H.World.meaning c.args.host.now) (g.H.World.meaning c.read_inputs.new.host)
     (g.H.World.faults c.args.host.now) (g.H.World.faults c.read_inputs.new.host)
     read.only read.all read.read (λ fs is s ends. link-stops command inputs.plan inputs.modules fs is s ends) c.in-Err-linked.stop c.in-Err-linked.ensures.stops
@@ -32,7 +32,7 @@ returns-in-Ok-linked g c =
     let before = g.H.World.faults c.args.host.now in let between = g.H.World.faults c.read_inputs.new.host in let now =
     g.H.World.faults c.make_output.new.host in
     made-does command (λ files. linking linked_file files command) old mid before between read.only read.all new now (written c.in-Ok-linked.object)
-    (λ name named. known-map (λ fs. inputs_in fs command (gives (inputs.plan, inputs.modules)))
+    (λ name named. over-map c.requires.of_files (λ fs. inputs_in fs command (gives (inputs.plan, inputs.modules)))
     (λ fs. linking linked_file fs command (gives (made name (written c.in-Ok-linked.object)))) old.files
     (λ fs is. link-gives command inputs.plan inputs.modules fs is c.in-Ok-linked.object name c.in-Ok-linked.ensures.ok named) read.read)
     c.requires.file c.make_output.result c.make_output.ensures

@@ -17,7 +17,7 @@ returns-in-Err-clause-stops g c = λ v is.
     let read = c.in-Err.ensures in let command = c.args.command.now in
     stopped-does command (λ files. work_of v files command) (g.H.World.meaning c.args.host.now) (g.H.World.meaning c.read_inputs.new.host)
     (g.H.World.faults c.args.host.now) (g.H.World.faults c.read_inputs.new.host) read.only
-    (λ fs. inputs_in fs command) (locating-begins v is command) c.in-Err.stop read.stops read.opened
+    c.requires.of_files (λ fs. inputs_in fs command) (locating-begins v is command) c.in-Err.stop read.stops read.opened
 
 pub returns-clause-ok : goal.returns-clause-ok
 returns-clause-ok g c =
@@ -35,7 +35,7 @@ returns-clause-stops g c = λ v is_locating.
     let before = g.H.World.faults c.args.host.now in let between = g.H.World.faults c.read_inputs.new.host in
     if-err-map c.location.result (EndsAt (location_of command inputs.plan inputs.modules))
     (λ (o : Outcome). Does command (λ files. work_of v files command) (call_of g.H.World.meaning g.H.World.faults c.args.host.now c.read_inputs.new.host) o)
-    (λ o ends. ends-does command inputs.plan inputs.modules (λ files. work_of v files command) (location_of command inputs.plan inputs.modules) old
-    mid before between
+    (λ o ends. ends-does command c.requires.of_files inputs.plan inputs.modules (λ files. work_of v files command)
+    (location_of command inputs.plan inputs.modules) old mid before between
     read.only read.all read.read (λ fs is s ends. verb-stops v is_locating command inputs.plan inputs.modules fs is s ends) o ends)
     c.location.ensures.stops

@@ -4,7 +4,7 @@ use Rattle.mufom_command.specs.InputsRead.{inputs_in}
 use Rattle.mufom_groups.specs.Work.{gives}
 use Rattle.mufom_command.specs.Commands.{printed}
 use Rattle.mufom_command.proofs.DoesLaws.{printed-does, stopped-does}
-use Rattle.mufom_command.proofs.InputsLaws.{known-map}
+use Rattle.mufom_command.proofs.InputsLaws.{over-map}
 use Rattle.mufom_command.proofs.WorkLaws.{listing-begins, listing-gives}
 use Rattle.mufom_command.proofs.listing.check.Goals as goal
 
@@ -16,7 +16,7 @@ returns-in-Ok g c =
     g.H.World.faults c.print_lines.new.host in
     printed-does command (λ files. listing check_text files command) old mid before between read.only read.all new now put.only.1 put.only.2
     (check_text inputs.modules)
-    (known-map (λ fs. inputs_in fs command (gives (inputs.plan, inputs.modules)))
+    (over-map c.requires.of_files (λ fs. inputs_in fs command (gives (inputs.plan, inputs.modules)))
     (λ fs. listing check_text fs command (gives (printed (check_text inputs.modules)))) old.files
     (λ fs is. listing-gives command inputs.plan inputs.modules fs is check_text) read.read)
     c.requires.no_file put.only.0 c.print_lines.result (rw c.as_slice.ensures at put.answer)
@@ -26,4 +26,4 @@ returns-in-Err g c =
     let read = c.in-Err.ensures in let command = c.args.command.now in
     stopped-does command (λ files. listing check_text files command) (g.H.World.meaning c.args.host.now) (g.H.World.meaning c.read_inputs.new.host)
     (g.H.World.faults c.args.host.now) (g.H.World.faults c.read_inputs.new.host) read.only
-    (λ fs. inputs_in fs command) (listing-begins check_text command c.requires.no_plan) c.in-Err.stop read.stops read.opened
+    c.requires.of_files (λ fs. inputs_in fs command) (listing-begins check_text command c.requires.no_plan) c.in-Err.stop read.stops read.opened

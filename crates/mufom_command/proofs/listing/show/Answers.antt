@@ -8,7 +8,7 @@ use Rattle.mufom_command.specs.InputsRead.{inputs_in}
 use Rattle.mufom_command.specs.Making.{IsPrinted}
 use Rattle.mufom_command.specs.Run.{call_of}
 use Rattle.mufom_command.proofs.DoesLaws.{printed-does, stopped-does}
-use Rattle.mufom_command.proofs.InputsLaws.{known-map}
+use Rattle.mufom_command.proofs.InputsLaws.{over-map}
 use Rattle.mufom_command.proofs.WorkLaws.{listing-begins, listing-gives}
 use Rattle.mufom_command.proofs.listing.show.Goals as goal
 
@@ -22,7 +22,8 @@ returns-in-Ok g c =
     (call_of g.H.World.meaning g.H.World.faults c.read_inputs.new.host c.print_one.new.host) c.print_one.result)
     c.form_of.ensures (rw c.as_slice.ensures at put.answer) in
     printed-does command (λ files. showing files command) old mid before between read.only read.all new now put.only.1 put.only.2 (text inputs.modules)
-    (known-map (λ fs. inputs_in fs command (gives (inputs.plan, inputs.modules))) (λ fs. showing fs command (gives (printed (text inputs.modules)))) old.files
+    (over-map c.requires.of_files (λ fs. inputs_in fs command (gives (inputs.plan, inputs.modules)))
+    (λ fs. showing fs command (gives (printed (text inputs.modules)))) old.files
     (λ fs is. listing-gives command inputs.plan inputs.modules fs is text) read.read)
     c.requires.no_file put.only.0 c.print_one.result printed_text
 
@@ -31,8 +32,8 @@ returns-in-Err g c =
     let read = c.in-Err.ensures in let command = c.args.command.now in
     stopped-does command (λ files. showing files command) (g.H.World.meaning c.args.host.now) (g.H.World.meaning c.read_inputs.new.host)
     (g.H.World.faults c.args.host.now) (g.H.World.faults c.read_inputs.new.host) read.only
-    (λ fs. inputs_in fs command) (listing-begins (λ ms. flat_map (text_of (form_of command)) ms) command c.requires.no_plan) c.in-Err.stop read.stops
-    read.opened
+    c.requires.of_files (λ fs. inputs_in fs command) (listing-begins (λ ms. flat_map (text_of (form_of command)) ms) command c.requires.no_plan)
+    c.in-Err.stop read.stops read.opened
 
 pub print_one-requires : goal.print_one-requires
 print_one-requires g c = rw c.as_slice.ensures (c.in-Ok.ensures.count ∙ c.requires.one)

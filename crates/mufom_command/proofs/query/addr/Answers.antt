@@ -2,7 +2,7 @@ use Rattle.mufom_addr.specs.AddressHit.{hit_at}
 use Rattle.mufom_command.specs.Text.{hit_text}
 use Rattle.mufom_command.specs.Commands.{linking, locating, printed, printed_hit}
 use Rattle.mufom_command.proofs.DoesLaws.{printed-does}
-use Rattle.mufom_command.proofs.InputsLaws.{known-map}
+use Rattle.mufom_command.proofs.InputsLaws.{over-map}
 use Rattle.mufom_command.proofs.WorkLaws.{output-gives}
 use Rattle.mufom_command.specs.WorkEnds.{LocatesTo}
 use Rattle.mufom_groups.specs.Work.{gives}
@@ -21,7 +21,7 @@ returns-in-Ok g c =
     g.H.World.faults c.print_hit.new.host in
     printed-does command (λ files. linking (locating printed_hit) files command) old mid before between read.only read.all new now put.only.1
     put.only.2 (hit_text r.maus (hit_at r.debug command.at))
-    (known-map (λ fs. LocatesTo fs command r) (λ fs. linking (locating printed_hit) fs command
-    (gives (printed (hit_text r.maus (hit_at r.debug command.at))))) old.files
+    (over-map c.requires.of_files (λ fs. LocatesTo fs command r)
+    (λ fs. linking (locating printed_hit) fs command (gives (printed (hit_text r.maus (hit_at r.debug command.at))))) old.files
     (λ fs is. output-gives printed_hit command r (printed (hit_text r.maus (hit_at r.debug command.at))) refl fs is) read.ok)
     c.requires.no_file put.only.0 c.print_hit.result put.answer
