@@ -13,6 +13,7 @@ pub mod Runs
 pub mod LightLaws
 pub mod EndLaws
 pub mod SameWorks
+pub mod MapLaws
 pub mod StageLaws
 pub mod MadeLaws
 pub mod Determined

@@ -25,6 +25,9 @@ use Rattle.mufom_numbers.specs.declared.limits.TheConstants.{MOST_FILE_BYTES}
 use Rattle.mufom_addr.specs.AddressHit.{hit_at}
 use Rattle.mufom_write.specs.Raw.{raw_image}
 use Rattle.mufom_titxt.specs.Written.{txt_text}
+use Rattle.mufom_map.specs.Mapped.{mapped}
+use Rattle.mufom_map.specs.MapText.{map_text}
+use Rattle.mufom_command.specs.FlatFiles.{files_with}
 use Rattle.mufom_command.specs.Text.{hit_text}
 use Rattle.std.proofs.lemmas.Bool.{ltb-true}
 use Rattle.mufom_meaning.specs.Selection.{members_at}
@@ -42,8 +45,8 @@ use Rattle.mufom_command.specs.declared.outcome.Outcome.TheVariants as outcome
 use Rattle.mufom_command.specs.Stop.{Stop, link_fact, raw_too_long}
 use Rattle.mufom_command.specs.Inputs.{AreModules, HaveBytes}
 use Rattle.mufom_command.specs.Commands.{Output, printed, made, writes, kept_of, plan_in, modules_in, located, located_unless}
-use Rattle.mufom_command.specs.Commands.{locating as locating_of, absolute_file, printed_hit, printed_image, raw_file, txt_file, unless_too_long}
-use Rattle.mufom_command.specs.Commands.{linking, work_of, work_by}
+use Rattle.mufom_command.specs.Commands.{locating as locating_of, absolute_file, printed_hit, printed_image, printed_map, raw_file, txt_file}
+use Rattle.mufom_command.specs.Commands.{unless_too_long, linking, linking_of, mapping, work_of, work_by}
 use Rattle.mufom_command.specs.Run.{Answers, AnswersBy, Call}
 use Rattle.mufom_command.specs.RunLaws.{Accepts, HasNoFact, IsLocating, IsSameWork, LocatingIsDone, MayPutOut}
 use Rattle.mufom_command.proofs.Determined.{answers-determined}
@@ -92,6 +95,7 @@ no-modules verb.Check never = absurd never
 no-modules verb.Link never = absurd never
 no-modules verb.Locate is = refl
 no-modules verb.Dump is = refl
+no-modules verb.Map is = refl
 no-modules verb.Make never = absurd never
 no-modules verb.Addr is = refl
 no-modules verb.Bin is = refl
@@ -160,13 +164,13 @@ module _ (c : Command) (plan : Plan) (ms flat : List Parts) (is_flat : IsFlatLis
 
 module _ (files : List NamedFile) (c : Command) (sound : IsSound c) (plan : Plan) (flat : List Parts) (bytes : HoldBytes files)
     (accepts : Accepts files c plan flat) where
-  tail : (output : Command → Plan → List Parts → Work Stop Output)
-      → IsSameWork (linking output files c) (with_stops link_fact (linked (tree_of c.marks) accepts.modules) >>= λ flat. output c plan flat)
+  tail : (output : List Parts → Command → Plan → List Parts → Work Stop Output)
+      → IsSameWork (linking_of output files c) (with_stops link_fact (linked (tree_of c.marks) accepts.modules) >>= λ flat. output accepts.modules c plan flat)
   tail output =
-      let rest : List Parts → Work Stop Output = λ ms. with_stops link_fact (linked (tree_of c.marks) ms) >>= λ flat. output c plan flat in
-      same-trans (linking output files c) (modules_in files c >>= rest) (rest accepts.modules)
-      (then-known (plan_in files c.plan) (λ plan. modules_in files c >>= λ ms. with_stops link_fact (linked (tree_of c.marks) ms) >>= λ flat. output c
-      plan flat) plan (plan_in-single files c.plan) accepts.planned)
+      let rest : List Parts → Work Stop Output = λ ms. with_stops link_fact (linked (tree_of c.marks) ms) >>= λ flat. output ms c plan flat in
+      same-trans (linking_of output files c) (modules_in files c >>= rest) (rest accepts.modules)
+      (then-known (plan_in files c.plan) (λ plan. modules_in files c >>= λ ms. with_stops link_fact (linked (tree_of c.marks) ms) >>= λ flat. output
+      ms c plan flat) plan (plan_in-single files c.plan) accepts.planned)
       (then-known (modules_in files c) rest accepts.modules (modules_in-single files bytes c) accepts.read)
 
   module _ (locating : IsLocating c.verb) where
@@ -180,10 +184,26 @@ module _ (files : List NamedFile) (c : Command) (sound : IsSound c) (plan : Plan
         → ((kept : List Parts) (r : LocatedParts) → kept_of c.keep flat (gives kept) → IsLocation kept plan r → IsDone (output c r))
         → IsDone (linking (locating_of output) files c) ↔ HasNoFact c.keep flat plan
     put-done output puts = (
-      (λ (o, is). done-there c plan accepts.modules flat accepts.is_flat some valid (λ r. output c r) (o, ((tail (locating_of output)) (gives o)).0 is)),
+      (λ (o, is). done-there c plan accepts.modules flat accepts.is_flat some valid (λ r. output c r) (o, ((tail (λ ms. locating_of output)) (gives o)).0 is)),
       (λ none. let (o, is) = done-back c plan accepts.modules flat accepts.is_flat some valid (λ r. output c r) puts none in
-          (o, ((tail (locating_of output)) (gives o)).1 is)),
+          (o, ((tail (λ ms. locating_of output)) (gives o)).1 is)),
     )
+
+    -- a map is put out
+    map-done : IsDone (mapping files c) ↔ HasNoFact c.keep flat plan
+    map-done =
+        let (chosen, selected, is_list) = accepts.is_flat in
+        let own = files_with (tree_of c.marks) accepts.modules chosen in
+        let puts : (kept : List Parts) (r : LocatedParts) → kept_of c.keep flat (gives kept) → IsLocation kept plan r
+        → IsDone (printed_map accepts.modules plan c r) = λ kept r keeps there.
+        (printed (map_text (mapped own plan r)), (own, (chosen, selected, refl), refl)) in (
+          (λ (o, is). done-there c plan accepts.modules flat accepts.is_flat some valid (λ r. printed_map accepts.modules plan c r) (
+            o,
+            ((tail (λ ms c plan flat. locating_of (printed_map ms plan) c plan flat)) (gives o)).0 is,
+          )),
+          (λ none. let (o, is) = done-back c plan accepts.modules flat accepts.is_flat some valid (λ r. printed_map accepts.modules plan c r) puts none in
+              (o, ((tail (λ ms c plan flat. locating_of (printed_map ms plan) c plan flat)) (gives o)).1 is)),
+        )
 
     -- a raw image that has not too many bytes is put out
     raw-done : IsSome c.out → (r : LocatedParts) → length (raw_image c.fill r.runs) ≤ MOST_FILE_BYTES → IsDone (raw_file c r)
@@ -207,6 +227,7 @@ module _ (files : List NamedFile) (c : Command) (sound : IsSound c) (plan : Plan
         (λ kept r keeps there. write-some c.out (written (absolute_of r)) (sound.options.out (ap makes_file same)))
     work-done verb.Txt same is may = put-done txt_file (λ kept r keeps there. write-some c.out (txt_text r.runs) (sound.options.out (ap makes_file same)))
     work-done verb.Dump same is may = put-done printed_image (λ kept r keeps there. (printed (image_text r), refl))
+    work-done verb.Map same is may = map-done
     work-done verb.Addr same is may = put-done printed_hit (λ kept r keeps there. (printed (hit_text r.maus (hit_at r.debug c.at)), refl))
     work-done verb.Bin same is may = put-done raw_file (λ kept r keeps there. raw-done (sound.options.out (ap makes_file same)) r (may kept r keeps there))
 

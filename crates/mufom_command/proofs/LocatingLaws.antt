@@ -96,7 +96,7 @@ module _ (c : Command) (ms : List Parts) (valid : AreValid ms) where
       subst AreDistinct (append-nil (names_of M.names.publics)) (subst AreDistinct (sym stands.2) (flat-linkable flat is).names)
 
   module _ (unnamed : c.name ≡ None) (M : Parts) (sound : IsValid M) (plan : Plan) where
-    named-first : (flat : List Parts) → IsJoined M flat (unwrap_or c.name (first_name flat)) → IsJoined M flat (first_name flat)
+    pub named-first : (flat : List Parts) → IsJoined M flat (unwrap_or c.name (first_name flat)) → IsJoined M flat (first_name flat)
     named-first flat joined = subst (λ (name : Option (List ℕ)). IsJoined M flat (unwrap_or name (first_name flat))) unnamed joined
 
     -- the location of what is kept of it is that of what is kept of the flat list

@@ -52,10 +52,14 @@ use Rattle.mufom_titxt.specs.TextModules.{text_parts}
 use Rattle.mufom_titxt.specs.Texts.{txt_cells, txt_refusal}
 use Rattle.mufom_titxt.specs.Written.{txt_text}
 use Rattle.mufom_command.specs.Commands.{Output, printed, made, form_of, prints, writes, file_in, kept_of, kept_unless, plan_by, plan_in, modules_in}
-use Rattle.mufom_command.specs.Commands.{maus_of, located, located_unless, linked_file, locating, absolute_file, printed_hit, printed_image, raw_file}
-use Rattle.mufom_command.specs.Commands.{reading_text, runs_of_text, runs_unless, text_in, txt_file, unless_past_limit, unless_too_long, listing}
-use Rattle.mufom_command.specs.Commands.{linking, work_of, work_by, run_of}
+use Rattle.mufom_command.specs.Commands.{maus_of, located, located_unless, linked_file, locating, absolute_file, printed_hit, printed_image}
+use Rattle.mufom_command.specs.Commands.{printed_map, raw_file, reading_text, runs_of_text, runs_unless, text_in, txt_file, unless_past_limit}
+use Rattle.mufom_command.specs.Commands.{unless_too_long, listing, linking, linking_of, work_of, work_by, run_of}
 use Rattle.mufom_command.specs.Run.{AnswersBy, AnswersFor, Call, IsForced, OverFiles, outcome_of, stop_outcome, stop_answer}
+use Rattle.mufom_map.specs.Mapped.{mapped}
+use Rattle.mufom_map.specs.MapText.{map_text}
+use Rattle.mufom_command.specs.FlatFiles.{AreFlatFiles}
+use Rattle.mufom_command.proofs.MapLaws.{flat-files-single}
 use Rattle.mufom_command.proofs.Verdicts.{one_verdict}
 
 -- ---- the inputs
@@ -181,21 +185,31 @@ reading_text-single files c =
     then-single (runs_of_text c.maus text) (λ runs. writes c.out (written (text_parts c.maus runs))) (runs_of_text-single c.maus text) λ runs.
     writes-single c.out (written (text_parts c.maus runs))
 
+printed_map-single : (c : Command) (ms : List Parts) (plan : Plan) (r : LocatedParts) → IsSingle (printed_map ms plan c r)
+printed_map-single c ms plan r =
+    then-single (one_with (AreFlatFiles (tree_of c.marks) ms)) (λ flat. prints (map_text (mapped flat plan r))) (flat-files-single (tree_of c.marks) ms)
+    (λ flat. sure-single (printed (map_text (mapped flat plan r))))
+
 -- ---- the table
 
 module _ (files : List NamedFile) (bytes : HoldBytes files) (c : Command) where
   listing-single : (text : List Parts → Text) → IsSingle (listing text files c)
   listing-single text = then-single (modules_in files c) (λ ms. prints (text ms)) (modules_in-single files bytes c) (λ ms. sure-single (printed (text ms)))
 
+  linking_of-single : (output : List Parts → Command → Plan → List Parts → Work Stop Output)
+      → ((ms : List Parts) (plan : Plan) (flat : List Parts) → IsSingle (output ms c plan flat))
+      → IsSingle (linking_of output files c)
+  linking_of-single output single =
+      then-single (plan_in files c.plan) (λ plan. modules_in files c >>= λ ms. with_stops link_fact (linked (tree_of c.marks) ms) >>= λ flat. output
+      ms c plan flat) (plan_in-single files c.plan) λ plan.
+      then-single (modules_in files c) (λ ms. with_stops link_fact (linked (tree_of c.marks) ms) >>= λ flat. output ms c plan flat)
+      (modules_in-single files bytes c) λ ms.
+      then-single (with_stops link_fact (linked (tree_of c.marks) ms)) (λ flat. output ms c plan flat)
+      (stops-single link_fact (linked (tree_of c.marks) ms) (linked-single (tree_of c.marks) ms)) λ flat. single ms plan flat
+
   linking-single : (output : Command → Plan → List Parts → Work Stop Output) → ((plan : Plan) (flat : List Parts) → IsSingle (output c plan flat))
       → IsSingle (linking output files c)
-  linking-single output single =
-      then-single (plan_in files c.plan) (λ plan. modules_in files c >>= λ ms. with_stops link_fact (linked (tree_of c.marks) ms) >>= λ flat. output c
-      plan flat) (plan_in-single files c.plan) λ plan.
-      then-single (modules_in files c) (λ ms. with_stops link_fact (linked (tree_of c.marks) ms) >>= λ flat. output c plan flat)
-      (modules_in-single files bytes c) λ ms.
-      then-single (with_stops link_fact (linked (tree_of c.marks) ms)) (λ flat. output c plan flat)
-      (stops-single link_fact (linked (tree_of c.marks) ms) (linked-single (tree_of c.marks) ms)) λ flat. single plan flat
+  linking-single output single = linking_of-single (λ ms. output) (λ ms. single)
 
   work_of-single : (v : Verb) → IsSingle (work_of v files c)
   work_of-single verb.Show = listing-single (λ ms. flat_map (text_of (form_of c)) ms)
@@ -205,6 +219,8 @@ module _ (files : List NamedFile) (bytes : HoldBytes files) (c : Command) where
       (λ plan flat. locating-single c plan flat absolute_file (λ r. writes-single c.out (written (absolute_of r))))
   work_of-single verb.Dump = linking-single (locating printed_image)
       (λ plan flat. locating-single c plan flat printed_image (λ r. sure-single (printed (image_text r))))
+  work_of-single verb.Map = linking_of-single (λ ms c plan flat. locating (printed_map ms plan) c plan flat)
+      (λ ms plan flat. locating-single c plan flat (printed_map ms plan) (printed_map-single c ms plan))
   work_of-single verb.Addr = linking-single (locating printed_hit)
       (λ plan flat. locating-single c plan flat printed_hit (λ r. sure-single (printed (hit_text r.maus (hit_at r.debug c.at)))))
   work_of-single verb.Bin = linking-single (locating raw_file) (λ plan flat. locating-single c plan flat raw_file (raw_file-single c))

@@ -21,14 +21,27 @@ use Rattle.mufom_plan.specs.Names.{has_name}
 use Rattle.mufom_meaning.specs.StagingLaws.{MeansTheSame}
 use Rattle.mufom_meaning.proofs.staging.Stages.{staged_means_the_same}
 use Rattle.mufom_groups.specs.Linked.{first_name, joined, linked}
-use Rattle.mufom_groups.specs.Work.{gives, stops, Work, ◌>>=◌, nowhere, stop_at, sure, with_stops}
+use Rattle.mufom_groups.specs.Work.{gives, stops, Work, ◌>>=◌, nowhere, one_with, stop_at, sure, with_stops}
 use Rattle.mufom_groups.proofs.Singles.{linked-single}
 use Rattle.mufom_groups.proofs.Works.{stops-single, sure-single}
 use Rattle.mufom_command.specs.Stop.{Stop, keep_unknown, link_fact}
 use Rattle.mufom_command.specs.Commands.{Output, writes, kept_of, kept_unless, plan_in, modules_in, located, rest_of_link, linked_file, locating}
-use Rattle.mufom_command.specs.Commands.{absolute_file, printed_hit, printed_image, raw_file, txt_file, linking, work_of}
-use Rattle.mufom_command.specs.RunLaws.{CameByStages, IsLinking, IsSameWork, LeadsTo, PutOutAlike, RunsOfStages, StagesMakeNoDifference, put_out_of}
+use Rattle.mufom_command.specs.Commands.{absolute_file, printed_hit, printed_image, raw_file, txt_file, linking, linking_of, mapping, printed_map}
+use Rattle.mufom_command.specs.Commands.{prints, work_of}
+use Rattle.mufom_command.specs.RunLaws.{CameByStages, IsLinking, IsSameWork, LeadsTo, MapsAreAlike, MapsOfStages, PutOutAlike, map_with, RunsOfStages}
+use Rattle.mufom_command.specs.RunLaws.{StagesMakeNoDifference, put_out_of}
 use Rattle.mufom_command.proofs.LocatingLaws.{located-back, located-forth}
+use Rattle.mufom_origins.specs.declared.origins.Origin.{Origin}
+use Rattle.mufom_origins.specs.Origins.{FileModule, origins_of}
+use Rattle.mufom_map.specs.Mapped.{Mapped, mapped, mapped_by}
+use Rattle.mufom_map.specs.MapText.{map_text}
+use Rattle.mufom_meaning.specs.Flat.{flat_sections}
+use Rattle.mufom_meaning.specs.Placed.{placed_commons}
+use Rattle.mufom_meaning.proofs.facts.AllAnswers.{answers_are_facts}
+use Rattle.mufom_meaning.proofs.facts.LinkFacts.{link_facts_grow}
+use Rattle.mufom_groups.proofs.GroupsAlike.{linked-flat}
+use Rattle.mufom_command.specs.FlatFiles.{AreFlatFiles}
+use Rattle.mufom_command.proofs.MapLaws.{flat-files-single, flat-modules, same-map}
 use Rattle.mufom_command.proofs.Runs.{modules_in-single, plan_in-single}
 use Rattle.mufom_command.proofs.SameWorks.{same-sym, same-trans, same-work, then-known, then-same}
 
@@ -129,6 +142,7 @@ module _ (c : Command) (plan : Plan) (ms leaves : List Parts) (means : MeansTheS
   put_out-alike verb.Locate = of_location absolute_file
   put_out-alike verb.Dump = of_location printed_image
   put_out-alike verb.Make = same-work nowhere
+  put_out-alike verb.Map = same-work nowhere
   put_out-alike verb.Addr = of_location printed_hit
   put_out-alike verb.Bin = of_location raw_file
   put_out-alike verb.Txt = of_location txt_file
@@ -141,20 +155,25 @@ pub stages-alike : StagesMakeNoDifference
 stages-alike c plan ms leaves came = put_out-alike c plan ms leaves (means-same ms leaves came)
 
 -- what a command that links files comes to is what is put out of its flat list
+pub linking_of-known : (output : List Parts → Command → Plan → List Parts
+    → Work Stop Output) (files : List NamedFile) (c : Command) (plan : Plan) (flat : List Parts) → HoldBytes files
+    → (leads : LeadsTo files c plan flat) → IsSameWork (linking_of output files c) (output leads.modules c plan flat)
+linking_of-known output files c plan flat bytes leads =
+    let ms : List Parts = leads.modules in
+    let links : List Parts → Work Stop (List Parts) = λ ms. with_stops link_fact (linked (tree_of c.marks) ms) in
+    let tail : List Parts → Work Stop Output = λ ms. links ms >>= λ flat. output ms c plan flat in
+    same-trans (linking_of output files c) (modules_in files c >>= tail) (output ms c plan flat)
+    (then-known (plan_in files c.plan) (λ plan. modules_in files c >>= λ ms. with_stops link_fact (linked (tree_of c.marks) ms) >>= λ flat. output ms
+    c plan flat) plan (plan_in-single files c.plan) leads.planned)
+    (same-trans (modules_in files c >>= tail) (tail ms) (output ms c plan flat)
+    (then-known (modules_in files c) tail ms (modules_in-single files bytes c) leads.read)
+    (then-known (links ms) (λ flat. output ms c plan flat) flat
+    (stops-single link_fact (linked (tree_of c.marks) ms) (linked-single (tree_of c.marks) ms)) leads.linked))
+
 pub linking-known : (output : Command → Plan → List Parts → Work Stop Output) (files : List NamedFile) (c : Command) (plan : Plan) (flat : List Parts)
     → HoldBytes files → LeadsTo files c plan flat
     → IsSameWork (linking output files c) (output c plan flat)
-linking-known output files c plan flat bytes leads =
-    let ms : List Parts = leads.modules in
-    let links : List Parts → Work Stop (List Parts) = λ ms. with_stops link_fact (linked (tree_of c.marks) ms) in
-    let tail : List Parts → Work Stop Output = λ ms. links ms >>= λ flat. output c plan flat in
-    same-trans (linking output files c) (modules_in files c >>= tail) (output c plan flat)
-    (then-known (plan_in files c.plan) (λ plan. modules_in files c >>= λ ms. with_stops link_fact (linked (tree_of c.marks) ms) >>= λ flat. output c
-    plan flat) plan (plan_in-single files c.plan) leads.planned)
-    (same-trans (modules_in files c >>= tail) (tail ms) (output c plan flat)
-    (then-known (modules_in files c) tail ms (modules_in-single files bytes c) leads.read)
-    (then-known (links ms) (λ flat. output c plan flat) flat (stops-single link_fact (linked (tree_of c.marks) ms)
-    (linked-single (tree_of c.marks) ms)) leads.linked))
+linking-known output files c plan flat bytes leads = linking_of-known (λ ms. output) files c plan flat bytes leads
 
 -- A command whose files were linked in stages comes to what is put out of the list that the stages began with.
 pub runs-of-stages : RunsOfStages
@@ -180,3 +199,41 @@ runs-of-stages files c plan flat leaves bytes is_linking leads came = by_verb c.
   by_verb verb.Help never = absurd never
   by_verb verb.Version never = absurd never
   by_verb verb.Make never = absurd never
+  by_verb verb.Map never = absurd never
+
+-- ---- maps
+
+prints-same : (a b : Mapped) → a ≡ b → IsSameWork (prints (map_text a)) (prints (map_text b))
+prints-same a b same = subst (λ (m : Mapped). IsSameWork (prints (map_text a)) (prints (map_text m))) same (same-work (prints (map_text a)))
+
+-- The maps of two such lists are the same, with the same modules.
+pub maps-alike : MapsAreAlike
+maps-alike c plan ms leaves origins came =
+    let means = means-same ms leaves came in
+    then-same (located plan ms) (located plan leaves) (λ r. map_with origins plan ms c r) (λ r. map_with origins plan leaves c r)
+    (λ x. (located-forth ms leaves plan means x, located-back ms leaves plan means x))
+    (λ r. prints-same (mapped_by origins plan (flat_sections ms) (placed_commons ms plan) r)
+    (mapped_by origins plan (flat_sections leaves) (placed_commons leaves plan) r)
+    (same-map ms leaves means origins plan r))
+
+-- The map of the flat list is the map of what the stages began with, with the modules of the flat list.
+pub maps-of-stages : MapsOfStages
+maps-of-stages files c plan flat leaves own bytes is_map leads are came =
+    let ms = leads.modules in
+    let is_flat = ((linked-flat answers_are_facts link_facts_grow (tree_of c.marks) ms flat).0 leads.linked).0 in
+    let same = flat-modules (tree_of c.marks) ms own flat are is_flat in
+    let each : (r : LocatedParts) → IsSameWork (printed_map ms plan c r) (map_with (origins_of own) plan flat c r) = λ r.
+    same-trans (printed_map ms plan c r) (prints (map_text (mapped own plan r))) (map_with (origins_of own) plan flat c r)
+    (then-known (one_with (AreFlatFiles (tree_of c.marks) ms)) (λ files. prints (map_text (mapped files plan r))) own
+    (flat-files-single (tree_of c.marks) ms) are)
+    (prints-same (mapped own plan r) (mapped_by (origins_of own) plan (flat_sections flat) (placed_commons flat plan) r)
+    (ap (λ (xs : List Parts). mapped_by (origins_of own) plan (flat_sections xs) (placed_commons xs plan) r) same)) in
+    let there : IsSameWork (mapping files c) (locating (map_with (origins_of own) plan leaves) c plan leaves) =
+    same-trans (mapping files c) (locating (printed_map ms plan) c plan flat) (locating (map_with (origins_of own) plan leaves) c plan leaves)
+    (linking_of-known (λ ms c plan flat. locating (printed_map ms plan) c plan flat) files c plan flat bytes leads)
+    (same-trans (locating (printed_map ms plan) c plan flat) (locating (map_with (origins_of own) plan flat) c plan flat)
+    (locating (map_with (origins_of own) plan leaves) c plan leaves)
+    (then-same (located plan flat) (located plan flat) (λ r. printed_map ms plan c r) (λ r. map_with (origins_of own) plan flat c r)
+    (same-work (located plan flat)) each)
+    (maps-alike c plan flat leaves (origins_of own) came)) in
+    subst (λ (v : Verb). IsSameWork (work_of v files c) (locating (map_with (origins_of own) plan leaves) c plan leaves)) (sym is_map) there

@@ -16,18 +16,23 @@ use Rattle.mufom_groups.specs.Linked.{linked_module}
 use Rattle.mufom_groups.specs.Work.{Work, gives, stop_at, stops, with_stops}
 use Rattle.mufom_command.specs.Stop.{Stop, link_fact, raw_too_long}
 use Rattle.mufom_command.specs.Commands.{Output, printed, made, writes, plan_in, modules_in, linked_file, locating, absolute_file, printed_hit}
-use Rattle.mufom_command.specs.Commands.{printed_image, raw_file, txt_file, unless_too_long, listing, linking, work_of}
+use Rattle.mufom_command.specs.Commands.{printed_image, printed_map, raw_file, txt_file, unless_too_long, listing, linking, linking_of, work_of}
 use Rattle.mufom_command.specs.InputsRead.{inputs_in}
 use Rattle.mufom_command.specs.Text.{Text}
 use Rattle.mufom_command.specs.WorkEnds.{LocatesTo, location_of}
 
 -- ---- the inputs end the work
 
+pub linking_of-begins : (output : List Parts → Command → Plan → List Parts → Work Stop Output) (c : Command) (files : List NamedFile) (s : Stop)
+    → inputs_in files c (stops s)
+    → linking_of output files c (stops s)
+linking_of-begins output c files s (inl is) = inl is
+linking_of-begins output c files s (inr (plan, planned, inl is)) = inr (plan, planned, inl is)
+linking_of-begins output c files s (inr (plan, planned, inr (ms, read, never))) = absurd never
+
 pub linking-begins : (output : Command → Plan → List Parts → Work Stop Output) (c : Command) (files : List NamedFile) (s : Stop)
     → inputs_in files c (stops s) → linking output files c (stops s)
-linking-begins output c files s (inl is) = inl is
-linking-begins output c files s (inr (plan, planned, inl is)) = inr (plan, planned, inl is)
-linking-begins output c files s (inr (plan, planned, inr (ms, read, never))) = absurd never
+linking-begins output = linking_of-begins (λ ms. output)
 
 no-plan-stops : (files : List NamedFile) (name : Option (List ℕ)) (s : Stop) → name ≡ None → plan_in files name (stops s) → ⊥
 no-plan-stops files None s none is = is
@@ -108,6 +113,22 @@ module _ (output : Command → LocatedParts → Work Stop Output) (c : Command) 
         ),
       )
 
+module _ (output : List Parts → Plan → Command → LocatedParts
+    → Work Stop Output) (c : Command) (plan : Plan) (ms : List Parts) (files : List NamedFile) (is : inputs_in files c (gives (plan, ms))) where
+  abbrev of_modules : List NamedFile → Command → Work Stop Output
+  of_modules files c = linking_of (λ ms c plan flat. locating (output ms plan) c plan flat) files c
+
+  -- the fact that ends the locating, where what is put out depends on the modules too
+  pub locating_of-stops : (s : Stop) → location_of c plan ms (stops s) → of_modules files c (stops s)
+  locating_of-stops s (inl ends) = inr (plan, inputs-planned files c plan ms is, inr (ms, inputs-modules files c plan ms is, inl ends))
+  locating_of-stops s (inr (flat, is_linked, ends)) =
+      inr (plan, inputs-planned files c plan ms is, inr (ms, inputs-modules files c plan ms is, inr (flat, is_linked, inl ends)))
+
+  -- what is put out of the location and the modules
+  pub locating_of-gives : (r : LocatedParts) (o : Output) → location_of c plan ms (gives r) → output ms plan c r (gives o) → of_modules files c (gives o)
+  locating_of-gives r o (flat, is_linked, is_located) puts =
+      (plan, inputs-planned files c plan ms is, (ms, inputs-modules files c plan ms is, (flat, is_linked, (r, is_located, puts))))
+
 -- a file that is named is written
 pub writes-gives : (c : Command) (name bytes : List ℕ) → c.out ≡ Some name → writes c.out bytes (gives (made name bytes))
 writes-gives c name bytes named = writes-named name c.out bytes named
@@ -147,6 +168,7 @@ locating-begins verb.Help never c = absurd never
 locating-begins verb.Version never c = absurd never
 locating-begins verb.Locate is c = linking-begins (locating absolute_file) c
 locating-begins verb.Dump is c = linking-begins (locating printed_image) c
+locating-begins verb.Map is c = linking_of-begins (λ ms c plan flat. locating (printed_map ms plan) c plan flat) c
 locating-begins verb.Addr is c = linking-begins (locating printed_hit) c
 locating-begins verb.Bin is c = linking-begins (locating raw_file) c
 locating-begins verb.Txt is c = linking-begins (locating txt_file) c
@@ -164,6 +186,7 @@ verb-stops verb.Help never c = absurd never
 verb-stops verb.Version never c = absurd never
 verb-stops verb.Locate is c = locating-stops absolute_file c
 verb-stops verb.Dump is c = locating-stops printed_image c
+verb-stops verb.Map is c = λ plan ms files there. locating_of-stops printed_map c plan ms files there
 verb-stops verb.Addr is c = locating-stops printed_hit c
 verb-stops verb.Bin is c = locating-stops raw_file c
 verb-stops verb.Txt is c = locating-stops txt_file c

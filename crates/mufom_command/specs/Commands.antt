@@ -33,9 +33,12 @@ use Rattle.mufom_plan.specs.Names.{has_name}
 use Rattle.mufom_prune.specs.Pruned.{IsPruned}
 use Rattle.mufom_command.specs.Stop.{Stop, words_refused, plan_refused, file_refused, past_limit, link_fact, keep_unknown, locate_fact, raw_too_long}
 use Rattle.mufom_command.specs.Stop.{text_refused}
+use Rattle.mufom_command.specs.FlatFiles.{AreFlatFiles}
 use Rattle.mufom_command.specs.Inputs.{ComeTo, accepted, refused, past_limit as past}
 use Rattle.mufom_write.specs.Raw.{raw_image}
 use Rattle.mufom_addr.specs.AddressHit.{hit_at}
+use Rattle.mufom_map.specs.Mapped.{mapped}
+use Rattle.mufom_map.specs.MapText.{map_text}
 use Rattle.mufom_meaning.specs.declared.located.Run.{Run}
 use Rattle.mufom_titxt.specs.declared.refusal.TxtRefusal.{TxtRefusal}
 use Rattle.mufom_titxt.specs.TextModules.{text_parts}
@@ -170,6 +173,12 @@ raw_file c r = unless_too_long (nat_lt MOST_FILE_BYTES (length (raw_image c.fill
 abbrev pub txt_file : Command → LocatedParts → Work Stop Output
 txt_file c r = writes c.out (txt_text r.runs)
 
+-- The map of the flat list with the files of its modules, which are these in the order of the files.
+abbrev pub printed_map : List Parts → Plan → Command → LocatedParts → Work Stop Output
+printed_map ms plan c r = do
+  flat ← one_with (AreFlatFiles (tree_of c.marks) ms)
+  prints (map_text (mapped flat plan r))
+
 -- the lines of the function and the source line at an address
 abbrev pub printed_hit : Command → LocatedParts → Work Stop Output
 printed_hit c r = prints (hit_text r.maus (hit_at r.debug c.at))
@@ -182,13 +191,22 @@ listing text files c = do
   ms ← modules_in files c
   prints (text ms)
 
--- The plan is read, where one is named, and the files; the flat list of their modules is linked; and this is put out of it.
-abbrev pub linking : (Command → Plan → List Parts → Work Stop Output) → List NamedFile → Command → Work Stop Output
-linking output files c = do
+-- The plan is read, where one is named, and the files; the flat list of their modules is linked; and this is put out of the modules
+-- and the flat list.
+abbrev pub linking_of : (List Parts → Command → Plan → List Parts → Work Stop Output) → List NamedFile → Command → Work Stop Output
+linking_of output files c = do
   plan ← plan_in files c.plan
   ms ← modules_in files c
   flat ← with_stops link_fact (linked (tree_of c.marks) ms)
-  output c plan flat
+  output ms c plan flat
+
+-- The same, where what is put out depends on the flat list alone.
+abbrev pub linking : (Command → Plan → List Parts → Work Stop Output) → List NamedFile → Command → Work Stop Output
+linking output files c = linking_of (λ ms. output) files c
+
+-- What is put out of the location of the flat list, and of the modules of the files.
+abbrev pub mapping : List NamedFile → Command → Work Stop Output
+mapping files c = linking_of (λ ms c plan flat. locating (printed_map ms plan) c plan flat) files c
 
 -- the rows of the bytes that a text gives to addresses, unless something is wrong with it
 abbrev pub runs_unless : Option TxtRefusal → List ℕ → Work Stop (List Run)
@@ -230,6 +248,7 @@ work_of verb.Check = listing check_text
 work_of verb.Link = linking linked_file
 work_of verb.Locate = linking (locating absolute_file)
 work_of verb.Dump = linking (locating printed_image)
+work_of verb.Map = mapping
 work_of verb.Make = making
 work_of verb.Addr = linking (locating printed_hit)
 work_of verb.Bin = linking (locating raw_file)

@@ -3,6 +3,7 @@ pub mod Complaint
 pub mod Inputs
 pub mod Stop
 pub mod LocateRefusals
+pub mod FlatFiles
 pub mod Commands
 pub mod Run
 pub mod RunLaws
@@ -10,3 +11,4 @@ pub mod FilesRead
 pub mod InputsRead
 pub mod WorkEnds
 pub mod Making
+pub mod MapInputs

@@ -14,11 +14,12 @@ use Rattle.mufom_module.specs.Written.{written}
 use Rattle.mufom_plan.specs.declared.plan.Plan.{Plan}
 use Rattle.mufom_meaning.specs.declared.located.LocatedParts.{LocatedParts}
 use Rattle.mufom_meaning.specs.Absolute.{absolute_of, no_regions}
-use Rattle.mufom_meaning.specs.Flat.{public_names}
+use Rattle.mufom_meaning.specs.Flat.{flat_sections, public_names}
 use Rattle.mufom_meaning.specs.Joined.{IsJoined}
 use Rattle.mufom_meaning.specs.LinkAnswer.{link_answer}
 use Rattle.mufom_meaning.specs.LocateAnswer.{locate_answer}
 use Rattle.mufom_meaning.specs.Location.{IsLocation}
+use Rattle.mufom_meaning.specs.Placed.{placed_commons}
 use Rattle.mufom_meaning.specs.Staging.{AreValid, HaveDescriptor, IsStaged, StandsFor}
 use Rattle.mufom_groups.specs.Linked.{IsFlatList, first_name, linked}
 use Rattle.mufom_groups.specs.Work.{Reached, gives, Work, nowhere, IsSingle}
@@ -26,9 +27,14 @@ use Rattle.mufom_command.specs.declared.outcome.Outcome.{Outcome}
 use Rattle.mufom_command.specs.declared.outcome.Outcome.TheVariants as outcome
 use Rattle.mufom_write.specs.Raw.{raw_image}
 use Rattle.mufom_numbers.specs.declared.limits.TheConstants.{MOST_FILE_BYTES}
+use Rattle.mufom_origins.specs.declared.origins.Origin.{Origin}
+use Rattle.mufom_origins.specs.Origins.{FileModule, origins_of}
+use Rattle.mufom_map.specs.Mapped.{mapped_by}
+use Rattle.mufom_map.specs.MapText.{map_text}
+use Rattle.mufom_command.specs.FlatFiles.{AreFlatFiles}
 use Rattle.mufom_command.specs.Stop.{Stop}
-use Rattle.mufom_command.specs.Commands.{Output, made, kept_of, plan_in, modules_in, linked_file, locating, absolute_file, printed_hit, printed_image}
-use Rattle.mufom_command.specs.Commands.{raw_file, txt_file, work_of, run_of}
+use Rattle.mufom_command.specs.Commands.{Output, made, prints, kept_of, plan_in, modules_in, linked_file, locating, absolute_file, printed_hit}
+use Rattle.mufom_command.specs.Commands.{printed_image, raw_file, txt_file, work_of, run_of}
 use Rattle.mufom_command.specs.Run.{Call, outcome_of, Answers}
 
 -- ---- the answer of a run
@@ -68,6 +74,7 @@ pub record Accepts (files : List NamedFile) (c : Command) (plan : Plan) (flat : 
 abbrev pub IsLocating : Verb → Type 0
 IsLocating verb.Locate = Unit {0}
 IsLocating verb.Dump = Unit {0}
+IsLocating verb.Map = Unit {0}
 IsLocating verb.Addr = Unit {0}
 IsLocating verb.Bin = Unit {0}
 IsLocating verb.Txt = Unit {0}
@@ -101,7 +108,7 @@ LocatingIsDone =
 abbrev pub IsSameWork : {A : Type 0} → Work Stop A → Work Stop A → Type 0
 IsSameWork {A = A} first second = (reached : Reached Stop A) → first reached ↔ second reached
 
--- the command links files
+-- the command links files, and what it puts out depends on their flat list alone
 abbrev pub IsLinking : Verb → Type 0
 IsLinking verb.Link = Unit {0}
 IsLinking verb.Locate = Unit {0}
@@ -111,7 +118,7 @@ IsLinking verb.Bin = Unit {0}
 IsLinking verb.Txt = Unit {0}
 IsLinking _ = ⊥
 
--- what is put out of a list by a command that links files; nothing by another
+-- what is put out of a list by such a command; nothing by another
 abbrev pub put_out_of : Verb → Command → Plan → List Parts → Work Stop Output
 put_out_of verb.Link = linked_file
 put_out_of verb.Locate = locating absolute_file
@@ -149,6 +156,27 @@ RunsOfStages =
     (files : List NamedFile) (c : Command) (plan : Plan) (flat leaves : List Parts)
     → HoldBytes files → IsLinking c.verb → LeadsTo files c plan flat → CameByStages flat leaves
     → IsSameWork (work_of c.verb files c) (put_out_of c.verb c plan leaves)
+
+-- ---- stages and maps
+
+-- the map of a list, where its modules have these origins
+abbrev pub map_with : List Origin → Plan → List Parts → Command → LocatedParts → Work Stop Output
+map_with origins plan ms c r = prints (map_text (mapped_by origins plan (flat_sections ms) (placed_commons ms plan) r))
+
+-- The map of a list that earlier runs linked in stages is that of the list that the stages began with, but that the modules are those of
+-- the first list. The map names modules and files, and a partial link forgets those that it is made of.
+abbrev pub MapsAreAlike : Type 0
+MapsAreAlike =
+    (c : Command) (plan : Plan) (ms leaves : List Parts) (origins : List Origin) → CameByStages ms leaves
+    → IsSameWork (locating (map_with origins plan ms) c plan ms) (locating (map_with origins plan leaves) c plan leaves)
+
+-- So `map` over files that were linked in stages comes to the map of the list that the stages began with, with the modules of the files.
+abbrev pub MapsOfStages : Type 0
+MapsOfStages =
+    (files : List NamedFile) (c : Command) (plan : Plan) (flat leaves : List Parts) (own : List FileModule)
+    → HoldBytes files → c.verb ≡ verb.Map → (leads : LeadsTo files c plan flat) → AreFlatFiles (tree_of c.marks) leads.modules own
+    → CameByStages flat leaves
+    → IsSameWork (work_of c.verb files c) (locating (map_with (origins_of own) plan leaves) c plan leaves)
 
 -- ---- files that are made
 

@@ -14,6 +14,7 @@ use crate::images::{bin, dump, locate_files, txt};
 use crate::linking::link;
 use crate::listing::{check, show};
 use crate::making::make;
+use crate::maps::map;
 use crate::outcome::{Outcome, Refusal};
 use crate::query::addr;
 use crate::texts::fromtxt;
@@ -45,6 +46,7 @@ fn run_command<H: Host>(alloc: Global, command: &Command, host: &mut H) -> Outco
         Verb::Link => link(alloc, command, host),
         Verb::Locate => locate_files(alloc, command, host),
         Verb::Dump => dump(alloc, command, host),
+        Verb::Map => map(alloc, command, host),
         Verb::Make => make(alloc, command, host),
         Verb::Addr => addr(alloc, command, host),
         Verb::Bin => bin(alloc, command, host),
@@ -67,7 +69,7 @@ fn answer<H: Host>(alloc: Global, words: &[String], host: &mut H) -> Outcome
 }
 
 /// Runs the command that the words name: `show FILE`, `check FILE ...`, `link -o OUT FILES`,
-/// `locate -o OUT FILES`, `dump FILES`, `make COUNT`, `addr --at ADDRESS FILES`, `bin -o OUT FILES`,
+/// `locate -o OUT FILES`, `dump FILES`, `map FILES`, `make COUNT`, `addr --at ADDRESS FILES`, `bin -o OUT FILES`,
 /// `txt -o OUT FILES`, `fromtxt -o OUT FILE`, `help` or `version`, each with its options.
 ///
 /// `words` are the command line's words without the program's name, fewer than 2^32. The plan is

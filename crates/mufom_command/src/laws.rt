@@ -1,8 +1,8 @@
 //! Laws of runs, each the contract of a function that does nothing.
 
 ghost use Rattle.mufom_command.specs.Inputs.{HaveOneVerdict};
-ghost use Rattle.mufom_command.specs.RunLaws.{AbsoluteFilesStand, AnswersAreDetermined, LinkedFilesStand, LocatingIsDone, RunsAreSingle};
-ghost use Rattle.mufom_command.specs.RunLaws.{RunsOfStages, StagesMakeNoDifference};
+ghost use Rattle.mufom_command.specs.RunLaws.{AbsoluteFilesStand, AnswersAreDetermined, LinkedFilesStand, LocatingIsDone, MapsAreAlike, MapsOfStages};
+ghost use Rattle.mufom_command.specs.RunLaws.{RunsAreSingle, RunsOfStages, StagesMakeNoDifference};
 
 /// Files that are read in order come to one verdict, where they hold bytes.
 pub fn files_have_one_verdict()
@@ -36,6 +36,18 @@ pub fn stages_make_no_difference()
 /// began with.
 pub fn runs_of_stages()
     ensures { RunsOfStages }
+{}
+
+/// The map of a list that earlier runs linked in stages is that of the list that the stages began with,
+/// but that the modules and files that it names are those of the first list.
+pub fn maps_are_alike()
+    ensures { MapsAreAlike }
+{}
+
+/// `map` over files that were linked in stages comes to the map of the list that the stages began with,
+/// with the modules of the files.
+pub fn maps_of_stages()
+    ensures { MapsOfStages }
 {}
 
 /// What a link puts out is the file of a module that stands for the flat list, in every context.

@@ -4,8 +4,8 @@
 //! `show FILE` prints the text of a module, and `check FILE ...` a line for each module. `link`
 //! makes a file of the module into which modules are linked, with groups and members; `locate` makes a
 //! file of the absolute module of its location by a plan, `dump` prints the image, `bin` makes a file of
-//! its raw bytes and `txt` one of its TI-TXT text, and `addr` prints the function and the source line at
-//! an address. `fromtxt` makes a file of the module of a TI-TXT text. `make` generates modules, locates
+//! its raw bytes and `txt` one of its TI-TXT text, `map` prints what is at which address, and `addr` the
+//! function and the source line at an address. `fromtxt` makes a file of the module of a TI-TXT text. `make` generates modules, locates
 //! them and prints a summary. `help` and `version` print texts of the program. The main clause is the
 //! contract of [`run`]: each answer has its cause in the words, the files or the counts of faults, and
 //! what was put out, printed as errors and opened is stated exactly.
@@ -23,6 +23,7 @@ mod linking;
 mod listing;
 mod locate_text;
 mod making;
+mod maps;
 mod outcome;
 mod plan_file;
 mod query;
@@ -33,6 +34,7 @@ mod writing;
 pub use command::run;
 pub use laws::{
     absolute_files_stand, answers_are_determined, files_have_one_verdict, linked_files_stand,
-    locating_is_done, runs_are_single, runs_of_stages, stages_make_no_difference,
+    locating_is_done, maps_are_alike, maps_of_stages, runs_are_single, runs_of_stages,
+    stages_make_no_difference,
 };
 pub use outcome::{Input, Outcome, Refusal};

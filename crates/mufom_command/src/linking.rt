@@ -37,8 +37,8 @@ use mufom_prune::{PruneRefusal, prune};
 use mufom_words::Command;
 use std::alloc::Global;
 
-// The answer where modules are not linked.
-fn outcome_of_link(refusal: LinkRefusal) -> Outcome
+/// The answer where modules are not linked.
+pub(crate) fn outcome_of_link(refusal: LinkRefusal) -> Outcome
     ensures { result ≡ outcome_of_link refusal }
 {
     match refusal {
@@ -74,8 +74,8 @@ fn linked(alloc: Global, command: &Command, modules: List<Module>) -> Result<Mod
     }
 }
 
-// The location of a module by a plan, or the answer of the run.
-fn located(alloc: Global, object: &Module, plan: &Plan) -> Result<Located, Outcome>
+/// The location of a module by a plan, or the answer of the run.
+pub(crate) fn located(alloc: Global, object: &Module, plan: &Plan) -> Result<Located, Outcome>
     requires names { AreDistinct (names_of object.now.names.publics) }
     requires plan { IsSoundPlan plan.now }
     requires light { weight object.now < most_weight + 2 ^ 16 }

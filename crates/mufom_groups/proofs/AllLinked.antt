@@ -7,7 +7,7 @@ use Rattle.mufom_link.specs.declared.refusal.LinkRefusal.{LinkRefusal}
 use Rattle.mufom_link.specs.Refusals.{IsRefusalOf}
 use Rattle.mufom_meaning.specs.Joined.{IsJoined}
 use Rattle.mufom_meaning.specs.LinkAnswer.{link_answer}
-use Rattle.mufom_meaning.specs.Selection.{members_at}
+use Rattle.mufom_meaning.specs.Selection.{IsSelected, members_at}
 use Rattle.mufom_meaning.specs.Staging.{AreValid}
 use Rattle.mufom_meaning.specs.StagingLaws.{total_weight}
 use Rattle.mufom_words.specs.declared.command.Command.{Command}
@@ -15,10 +15,10 @@ use Rattle.mufom_words.specs.declared.command.Mark.{Mark}
 use Rattle.mufom_words.specs.Sound.{HasTree, numbers_from}
 use Rattle.mufom_words.specs.Tree.{leaves, tree_of}
 use Rattle.mufom_groups.specs.Groups.{AreRootsLinked, BeginsWithLink, HasSelected, IsOwnLink, StopsWork, most_weight}
-use Rattle.mufom_groups.specs.Linked.{first_name, linked_module, links, members, tree_links}
+use Rattle.mufom_groups.specs.Linked.{first_name, linked_module, links, members, roots, tree_links}
 use Rattle.mufom_groups.specs.Work.{gives}
 use Rattle.mufom_groups.proofs.LinkWalk.{weight-append, weight-split}
-use Rattle.mufom_groups.proofs.WholeLink.{first-refused, flat-linked, flat-refused}
+use Rattle.mufom_groups.proofs.WholeLink.{first-refused, flat-linked, flat-refused, selected-flat}
 
 module _ (c : Command) (tree : HasTree c) (ms : List Parts) (valid : AreValid ms) (k : ℕ) (count : k ≡ length (leaves (tree_of c.marks))) where
   numbered : leaves (tree_of c.marks) ≡ numbers_from 0 k
@@ -47,6 +47,13 @@ module _ (c : Command) (tree : HasTree c) (ms : List Parts) (valid : AreValid ms
         flat-linked c ms valid k numbered two flat own-first own-has M (ap link_answer (sym same)
         ∙ none) (subst (λ (l : List Parts). IsJoined M l (unwrap_or c.name (first_name l))) same j)
     all-linked (Err e) j none = tt
+
+    -- the members at these positions are the ones that the roots need
+    pub chosen-there : (chosen : List ℕ) → has.chosen ≡ chosen → IsSelected (roots (tree_of c.marks) ms) (members (tree_of c.marks) ms) chosen
+    chosen-there chosen is =
+        let there = subst (λ (l : List ℕ). IsSelected two others l) is has.selected in
+        let own = subst (λ (n : ℕ). IsSelected two (drop n ms) chosen) count (subst (λ (l : List Parts). IsSelected two l chosen) is_members there) in
+        selected-flat c ms valid k numbered two flat own-first own-has chosen own
 
     pub all-refused : (result : Result Parts LinkRefusal) → IfErr result (λ e. IsRefusalOf read e) → IfErr result (λ e. StopsWork (linked_module c ms) e)
     all-refused (Ok M) refused = tt

@@ -10,7 +10,7 @@ use Rattle.std.proofs.lemmas.List.{drop-drop}
 use Rattle.mufom_module.specs.declared.module.Parts.{Parts}
 use Rattle.mufom_meaning.specs.Selection.{IsSelected, member_at, members_at}
 use Rattle.mufom_meaning.specs.StagingLaws.{total_weight}
-use Rattle.mufom_groups.specs.Groups.{HasSelected, IsNextOf}
+use Rattle.mufom_groups.specs.Groups.{HasChosen, HasSelected, IsNextOf}
 use Rattle.mufom_groups.proofs.LinkWalk.{weight-append}
 
 -- positions that rise, none of them before this one
@@ -104,6 +104,15 @@ adding-ends roots members chosen flat rest passed i is selected all = record {
   selected = selected;
   flat_list = is.flat_list ∙ ap (λ (l : List ℕ). roots ++ members_at members l) all;
   light = let light = is.light in omega (arith, light);
+}
+
+pub adding-chosen : (roots members : List Parts) (chosen : List ℕ) (flat rest : List Parts) (passed i : ℕ)
+    → IsAdding roots members chosen i flat rest passed → IsSelected roots members chosen
+    → take i chosen ≡ chosen → HasChosen roots members chosen flat
+unfolding adding-ends
+adding-chosen roots members chosen flat rest passed i is selected all = record {
+  has = adding-ends roots members chosen flat rest passed i is selected all;
+  same = refl;
 }
 
 -- ---- one module after another

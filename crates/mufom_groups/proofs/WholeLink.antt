@@ -129,11 +129,16 @@ module _ (c : Command) (ms : List Parts) (valid : AreValid ms) (k : ℕ) (number
         (valid-append (roots (tree_of c.marks) ms) (members_at (members (tree_of c.marks) ms) has.chosen)
         (valid-members ms (leaves (tree_of c.marks)) valid) members-valid)
 
+    -- what is selected for the link of the roots is selected for the roots
+    pub selected-flat : (chosen : List ℕ) → IsSelected two (members (tree_of c.marks) ms) chosen
+        → IsSelected (roots (tree_of c.marks) ms) (members (tree_of c.marks) ms) chosen
+    selected-flat chosen selected = selected-there first.link (roots (tree_of c.marks) ms) (members (tree_of c.marks) ms) chosen roots-link.link
+        (subst (λ (l : List Parts). IsSelected l (members (tree_of c.marks) ms) chosen) first.new_list selected)
+
     is-flat : IsFlatList (tree_of c.marks) ms (roots (tree_of c.marks) ms ++ members_at (members (tree_of c.marks) ms) has.chosen)
     is-flat = (
       has.chosen,
-      selected-there first.link (roots (tree_of c.marks) ms) (members (tree_of c.marks) ms) has.chosen roots-link.link
-          (subst (λ (l : List Parts). IsSelected l (members (tree_of c.marks) ms) has.chosen) first.new_list has.selected),
+      selected-flat has.chosen has.selected,
       refl,
     )
 

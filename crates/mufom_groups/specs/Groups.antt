@@ -128,6 +128,11 @@ pub record HasSelected (roots members flat : List Parts) : Type 0 where
   pub flat_list : flat ≡ roots ++ members_at members chosen
   pub light : total_weight flat ≤ total_weight roots + total_weight members
 
+-- The roots are followed by the members at these positions, which are the ones that are selected for them.
+pub record HasChosen (roots members : List Parts) (chosen : List ℕ) (flat : List Parts) : Type 0 where
+  pub has : HasSelected roots members flat
+  pub same : has.chosen ≡ chosen
+
 -- ---- refusals
 
 -- the link fact that a refusal names ends the work; out of memory has no cause

@@ -12,4 +12,4 @@ pub use laws::{
     groups_make_no_difference, link_facts_stand, linked_is_flat, links_are_single,
     links_stand_for_flat_lists,
 };
-pub use linking::link_modules;
+pub use linking::{LinkedModules, link_modules, link_with_members};

@@ -8,15 +8,15 @@ ghost use Rattle.mufom_module.specs.Written.{weight};
 ghost use Rattle.mufom_place.specs.Facts.{first_some};
 ghost use Rattle.mufom_meaning.specs.Joined.{IsJoined};
 ghost use Rattle.mufom_meaning.specs.LinkAnswer.{link_answer};
-ghost use Rattle.mufom_meaning.specs.Selection.{member_at, members_at};
+ghost use Rattle.mufom_meaning.specs.Selection.{IsSelected, member_at, members_at};
 ghost use Rattle.mufom_meaning.specs.Staging.{AreValid};
 ghost use Rattle.mufom_meaning.specs.StagingLaws.{total_weight};
 ghost use Rattle.mufom_link.specs.Refusals.{IsRefusalOf};
 ghost use Rattle.mufom_words.specs.Sound.{numbers_from, HasTree};
 ghost use Rattle.mufom_words.specs.Tree.{groups, leaves, spelling, tree_of};
-ghost use Rattle.mufom_groups.specs.Linked.{first_name, linked_module, links, tree_links};
+ghost use Rattle.mufom_groups.specs.Linked.{first_name, linked_module, links, members, roots, tree_links};
 ghost use Rattle.mufom_groups.specs.Work.{gives};
-ghost use Rattle.mufom_groups.specs.Groups.{elements, files_of, last_of, most_weight, AreInPlaceOf, AreRootsLinked, BeginsWithLink, HasSelected, StopsWork};
+ghost use Rattle.mufom_groups.specs.Groups.{elements, files_of, last_of, most_weight, AreInPlaceOf, AreRootsLinked, BeginsWithLink, HasChosen, StopsWork};
 ghost use Rattle.mufom_groups.specs.Groups.{HasRoot, IsClosed, IsLinkedFrom, IsNextOf, IsRefusedMark, IsTaken};
 
 use mufom_link::{LinkRefusal, link_owned};
@@ -214,15 +214,16 @@ fn file_count(marks: &[Mark]) -> usize
     count
 }
 
-// Adds to the roots, which are one module, the members that are selected for them.
+// Adds to the roots, which are one module, the members that are selected for them, and returns their
+// positions.
 fn add_members(
     alloc: Global,
     roots: &mut Vec<Module>,
     members: Vec<Module>,
-) -> Result<(), LinkRefusal>
+) -> Result<List<u32>, LinkRefusal>
     requires one { length roots.old.items ≡ 1 }
     requires few { length members.items < 2 ^ 32 }
-    ensures ok { OnOk result (HasSelected roots.old.items members.items roots.new.items) }
+    ensures ok { IfOk result (λ chosen. HasChosen roots.old.items members.items chosen roots.new.items) }
     ensures err { IfErr result (λ e. e ≡ LinkRefusal.NoMemory) }
 {
     let chosen = select(alloc, &roots[0], &members)?;
@@ -234,7 +235,7 @@ fn add_members(
         add_optional(roots, module_after(&mut rest, position - passed))?;
         passed = position + 1;
     }
-    Ok(())
+    Ok(chosen)
 }
 
 // The one module of a list.
@@ -295,9 +296,58 @@ fn link_roots(alloc: Global, marks: &[Mark], roots: Vec<Module>) -> Result<Vec<M
     Ok(linked)
 }
 
+/// The module into which the modules of a command are linked, and the members that it contains.
+#[derive(Drop)]
+pub struct LinkedModules {
+    /// The link.
+    pub module: Module,
+    /// The number of modules of the tree.
+    pub roots: usize,
+    /// The positions of the members that were selected, among the modules after those of the tree.
+    pub chosen: List<u32>,
+}
+
 /// The module into which a command links its modules: those of the tree, with each group linked first,
 /// and the members that are selected for them. It has the name that the command gives, or that of the
-/// first module.
+/// first module. The members are returned with it.
+pub fn link_with_members(
+    alloc: Global,
+    command: &Command,
+    modules: List<Module>,
+) -> Result<LinkedModules, LinkRefusal>
+    requires tree { HasTree command.now }
+    requires some { 1 ≤ length (leaves (tree_of command.now.marks)) }
+    requires count { length modules ≡ length command.now.files }
+    requires few { length command.now.files < 2 ^ 32 }
+    requires short { IfSome command.now.name (λ name. length name < 2 ^ 16) }
+    requires valid { AreValid modules }
+    requires light { total_weight modules ≤ most_weight }
+    ensures ok { IfOk result (λ linked. linked_module command.now modules (gives linked.«module»)) }
+    ensures count { IfOk result (λ linked. linked.roots ≡ length (leaves (tree_of command.now.marks))) }
+    // The members are the ones that the modules of the tree need.
+    ensures chosen { IfOk result (λ linked. IsSelected (roots (tree_of command.now.marks) modules)
+        (members (tree_of command.now.marks) modules) linked.chosen) }
+    // It weighs little more than the modules of a run do together at most.
+    ensures light { IfOk result (λ linked. weight linked.«module» < most_weight + 2 ^ 16) }
+    ensures refused { IfErr result (λ e. StopsWork (linked_module command.now modules) e) }
+{
+    let marks = command.marks.as_slice();
+    let roots = file_count(marks);
+    let mut modules = modules.into_vec();
+    let Ok(members) = modules.split_off(roots) else {
+        return Err(LinkRefusal::NoMemory);
+    };
+    let mut linked = link_roots(alloc, marks, modules)?;
+    let chosen = add_members(alloc, &mut linked, members)?;
+    let module = link_flat(alloc, command, linked)?;
+    Ok(LinkedModules {
+        module,
+        roots,
+        chosen,
+    })
+}
+
+/// The module into which a command links its modules, as [`link_with_members`] makes it.
 pub fn link_modules(
     alloc: Global,
     command: &Command,
@@ -315,12 +365,8 @@ pub fn link_modules(
     ensures light { IfOk result (λ M. weight M < most_weight + 2 ^ 16) }
     ensures refused { IfErr result (λ e. StopsWork (linked_module command.now modules) e) }
 {
-    let marks = command.marks.as_slice();
-    let mut modules = modules.into_vec();
-    let Ok(members) = modules.split_off(file_count(marks)) else {
-        return Err(LinkRefusal::NoMemory);
-    };
-    let mut linked = link_roots(alloc, marks, modules)?;
-    add_members(alloc, &mut linked, members)?;
-    link_flat(alloc, command, linked)
+    match link_with_members(alloc, command, modules) {
+        Ok(linked) => Ok(linked.module),
+        Err(refusal) => Err(refusal),
+    }
 }

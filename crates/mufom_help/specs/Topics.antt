@@ -8,6 +8,7 @@ use Rattle.mufom_help.specs.declared.commands.TheConstants.{
   LINK,
   LOCATE,
   DUMP,
+  MAP,
   BIN,
   TXT,
   FROM_TXT,
@@ -93,6 +94,7 @@ commands =
     (codes "link", LINK.now) ∷
     (codes "locate", LOCATE.now) ∷
     (codes "dump", DUMP.now) ∷
+    (codes "map", MAP.now) ∷
     (codes "bin", BIN.now) ∷
     (codes "txt", TXT.now) ∷
     (codes "fromtxt", FROM_TXT.now) ∷

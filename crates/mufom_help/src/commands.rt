@@ -14,6 +14,7 @@ Commands:
   link [--no-debug] [--name NAME] -o OUT FILES
   locate [--no-debug] [--plan PLAN] [--keep NAME] -o OUT FILES
   dump [--no-debug] [--plan PLAN] [--keep NAME] FILES
+  map [--no-debug] [--plan PLAN] FILES
   bin [--no-debug] [--plan PLAN] [--keep NAME] [--fill BYTE] -o OUT FILES
   txt [--no-debug] [--plan PLAN] [--keep NAME] -o OUT FILES
   fromtxt [--maus N] -o OUT FILE
@@ -177,6 +178,40 @@ Exit status:
 
 Example:
   mufom dump --plan plan.toml program.695 + library.695
+";
+
+/// The text of `help map`.
+pub const MAP: &str = "map: links and locates modules, and prints what is at which address
+
+Usage: mufom map [--no-debug] [--plan PLAN] FILES
+
+Links and locates FILES as `locate` does, and prints these lines:
+  module J NAME file N         each module that was linked, and its file
+  region K NAME at ADDRESS size S used U free F [BAR]
+                               each region of the plan; the bar has 32 cells:
+                               # full, + partly used, . empty
+  section I ADDRESS size S align A NAME module J region K
+  common I ADDRESS size S align 8 NAME region K
+                               by address; I is the number that errors name;
+                               no region for a section with its own base
+  public ADDRESS NAME module J by address
+  start ADDRESS module J       the start address, if there is one
+  sections N bytes T loaded L  totals
+Addresses are hexadecimal, other numbers decimal. No file is written.
+
+FILES are files and groups, then perhaps a + and members:
+  a.695 [ b.695 c.695 ] + library.695
+
+Options:
+  --no-debug    skip the debug parts without reading them
+  --plan PLAN   the file of the memory plan, a TOML document
+  --            end the options; brackets and + keep their meaning
+
+Exit status:
+  0 done, 1 refused, 2 usage, 3 read fault, 4 write fault, 5 out of memory
+
+Example:
+  mufom map --plan plan.toml program.695 + library.695
 ";
 
 /// The text of `help bin`.
@@ -366,6 +401,7 @@ pub(crate) fn command_topic(word: &str) -> Option<&'static str>
         "link" => Some(LINK),
         "locate" => Some(LOCATE),
         "dump" => Some(DUMP),
+        "map" => Some(MAP),
         "bin" => Some(BIN),
         "txt" => Some(TXT),
         "fromtxt" => Some(FROM_TXT),

@@ -313,3 +313,14 @@ empty_name_is_kept : given form.Bin (codes "bin" ∷ codes "--keep=" ∷ codes "
     ≡ record none_given { keep = Some []; out = Some (codes "c") }
 unfolding clap_on_literals
 empty_name_is_kept = refl
+
+-- ---- the map
+
+map_printed : answer_of (codes "map" ∷ codes "--plan=p" ∷ codes "a" ∷ codes "--no-debug" ∷ [])
+    ≡ Ok (record (of_files verb.Map true (codes "a" ∷ [])) { plan = Some (codes "p") })
+unfolding clap_on_literals
+map_printed = refl
+
+no_file_of_a_map : answer_of (codes "map" ∷ codes "-oc" ∷ codes "a" ∷ []) ≡ Err (stop.Usage fault.BadWords)
+unfolding clap_on_literals
+no_file_of_a_map = refl

@@ -43,6 +43,8 @@ usage_of form.Dump = record {
   settings = setting.NoDebug ∷ setting.Plan ∷ setting.Keep ∷ [];
   operands = operands.GroupedFiles;
 }
+usage_of form.Map =
+    record { verb = verb.Map; name = codes "map"; settings = setting.NoDebug ∷ setting.Plan ∷ []; operands = operands.GroupedFiles }
 usage_of form.Make = record { verb = verb.Make; name = codes "make"; settings = []; operands = operands.OneCount }
 usage_of form.Addr = record { verb = verb.Addr; name = codes "addr"; settings = setting.Plan ∷ setting.At ∷ []; operands = operands.GroupedFiles }
 usage_of form.Bin = record {
@@ -61,7 +63,7 @@ usage_of form.FromTxt = record { verb = verb.FromTxt; name = codes "fromtxt"; se
 
 -- all commands whose words `clap` reads
 abbrev pub forms : List Form
-forms = form.Show ∷ form.Check ∷ form.Link ∷ form.Locate ∷ form.Dump ∷ form.Make ∷ form.Addr ∷ form.Bin ∷ form.Txt ∷ form.FromTxt ∷ []
+forms = form.Show ∷ form.Check ∷ form.Link ∷ form.Locate ∷ form.Dump ∷ form.Map ∷ form.Make ∷ form.Addr ∷ form.Bin ∷ form.Txt ∷ form.FromTxt ∷ []
 
 -- the one that a word names
 abbrev pub form_of : Text → Option Form
@@ -80,6 +82,7 @@ makes_file _ = false
 abbrev pub reads_plan : Verb → Bool
 reads_plan verb.Locate = true
 reads_plan verb.Dump = true
+reads_plan verb.Map = true
 reads_plan verb.Addr = true
 reads_plan verb.Bin = true
 reads_plan verb.Txt = true

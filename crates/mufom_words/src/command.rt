@@ -14,6 +14,8 @@ pub enum Verb {
     Locate,
     /// Prints the image that files are located as.
     Dump,
+    /// Prints the map of the program that files are located as.
+    Map,
     /// Generates modules, links and locates them, and prints a summary.
     Make,
     /// Prints the function and the line at an address of a located program.

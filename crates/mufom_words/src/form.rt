@@ -27,6 +27,7 @@ pub(crate) enum Form {
     Link,
     Locate,
     Dump,
+    Map,
     Make,
     Addr,
     Bin,
@@ -45,6 +46,7 @@ impl Form {
             "link" => Some(Form::Link),
             "locate" => Some(Form::Locate),
             "dump" => Some(Form::Dump),
+            "map" => Some(Form::Map),
             "make" => Some(Form::Make),
             "addr" => Some(Form::Addr),
             "bin" => Some(Form::Bin),
@@ -64,6 +66,7 @@ impl Form {
             Form::Link => Verb::Link,
             Form::Locate => Verb::Locate,
             Form::Dump => Verb::Dump,
+            Form::Map => Verb::Map,
             Form::Make => Verb::Make,
             Form::Addr => Verb::Addr,
             Form::Bin => Verb::Bin,
@@ -82,6 +85,7 @@ impl Form {
             Form::Link => "link",
             Form::Locate => "locate",
             Form::Dump => "dump",
+            Form::Map => "map",
             Form::Make => "make",
             Form::Addr => "addr",
             Form::Bin => "bin",
@@ -100,6 +104,7 @@ impl Form {
             Form::Link => &[Setting::NoDebug, Setting::Name, Setting::Out],
             Form::Locate => &[Setting::NoDebug, Setting::Plan, Setting::Keep, Setting::Out],
             Form::Dump => &[Setting::NoDebug, Setting::Plan, Setting::Keep],
+            Form::Map => &[Setting::NoDebug, Setting::Plan],
             Form::Make => &[],
             Form::Addr => &[Setting::Plan, Setting::At],
             Form::Bin => &[
@@ -121,9 +126,13 @@ impl Form {
         match self {
             Form::Show | Form::FromTxt => Operands::OneFile,
             Form::Check => Operands::SomeFiles,
-            Form::Link | Form::Locate | Form::Dump | Form::Addr | Form::Bin | Form::Txt => {
-                Operands::GroupedFiles
-            }
+            Form::Link
+            | Form::Locate
+            | Form::Dump
+            | Form::Map
+            | Form::Addr
+            | Form::Bin
+            | Form::Txt => Operands::GroupedFiles,
             Form::Make => Operands::OneCount,
         }
     }

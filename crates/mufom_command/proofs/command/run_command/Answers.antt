@@ -24,3 +24,8 @@ returns-in-Help-clause-does g c =
     let by_verb : (v : Verb) → Type 0 = λ v. Does c.args.command.now (λ files. work_of v files c.args.command.now)
     (call_of g.H.World.meaning g.H.World.faults c.args.host.now c.help.new.host) c.help.result in
     elim c.in-Help.is [ inl is ↦ subst by_verb (sym is) c.help.ensures.does | inr is ↦ subst by_verb (sym is) c.help.ensures.does ]
+
+pub returns-in-Map-clause-does : goal.returns-in-Map-clause-does
+returns-in-Map-clause-does g c =
+    subst (λ (v : Verb). Does c.args.command.now (λ files. work_of v files c.args.command.now)
+    (call_of g.H.World.meaning g.H.World.faults c.args.host.now c.map.new.host) c.map.result) (sym c.in-Map.is) c.map.ensures

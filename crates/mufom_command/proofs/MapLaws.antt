@@ -1,0 +1,112 @@
+-- The flat list with its files, and the map of lists that mean the same.
+use Rattle.std.proofs.Common.{◌≡◌, ℕ, zero, suc, List, [], ◌∷◌, ◌++◌, length, map, take, drop, option_to_list, None, refl, sym, ap, subst, ◌∙◌, unwrap_or}
+use Rattle.std.specs.Prelude.{slice_get}
+use Rattle.std.proofs.lemmas.List.{drop-map, map-append}
+use Rattle.mufom_module.specs.declared.module.Parts.{Parts}
+use Rattle.mufom_module.specs.Defects.{IsValid}
+use Rattle.mufom_plan.specs.declared.plan.Plan.{Plan}
+use Rattle.mufom_meaning.specs.declared.located.LocatedParts.{LocatedParts}
+use Rattle.mufom_meaning.specs.Flat.{flat_sections}
+use Rattle.mufom_meaning.specs.Placed.{placed_commons, planned_bases}
+use Rattle.mufom_meaning.specs.Readings.{Readings, readings}
+use Rattle.mufom_meaning.specs.Selection.{members_at}
+use Rattle.mufom_meaning.specs.Staging.{AreValid}
+use Rattle.mufom_meaning.specs.StagingLaws.{MeansTheSame}
+use Rattle.mufom_meaning.proofs.Placed.{same_placed_commons}
+use Rattle.mufom_meaning.proofs.facts.AllAnswers.{answers_are_facts}
+use Rattle.mufom_meaning.proofs.facts.LinkFacts.{link_facts_grow}
+use Rattle.mufom_meaning.proofs.locations.SelectionSingle.{selection_is_single}
+use Rattle.mufom_words.specs.declared.command.Command.{Command}
+use Rattle.mufom_words.specs.Sound.{HasTree, numbers_from}
+use Rattle.mufom_words.specs.Tree.{Forest, leaves, tree_of}
+use Rattle.mufom_groups.specs.Linked.{IsFlatList, linked, linked_module, members, roots}
+use Rattle.mufom_groups.specs.Work.{gives, IsSingle, one_with}
+use Rattle.mufom_groups.proofs.GroupsAlike.{linked-flat}
+use Rattle.mufom_groups.proofs.Singles.{flat_list-single}
+use Rattle.mufom_groups.proofs.Works.{one_with-single}
+use Rattle.mufom_origins.specs.declared.origins.Origin.{Origin}
+use Rattle.mufom_origins.specs.Origins.{FileModule, modules_of, numbered, origin_of, origins_of}
+use Rattle.mufom_origins.specs.Places.{at_positions, with_chosen}
+use Rattle.mufom_origins.proofs.FlatLaws.{chosen-map, members-chosen, modules-numbered}
+use Rattle.mufom_map.specs.Mapped.{Mapped, mapped, mapped_by}
+use Rattle.mufom_command.specs.FlatFiles.{AreFlatFiles, files_with}
+use Rattle.mufom_command.specs.Stop.{Stop}
+use Rattle.mufom_command.proofs.LocatingLaws.{flat-linkable, flat-valid, link-means, named-first}
+
+-- ---- the flat list with its files
+
+positions-of : (files : List FileModule) (positions : List ℕ) → modules_of (at_positions files positions) ≡ members_at (modules_of files) positions
+positions-of files positions = chosen-map (λ (f : FileModule). f.1) 0 positions files ∙ members-chosen (modules_of files) positions
+
+-- without the files it is the flat list
+pub modules-with : (tree : Forest) (ms : List Parts) (chosen : List ℕ)
+    → modules_of (files_with tree ms chosen) ≡ roots tree ms ++ members_at (members tree ms) chosen
+modules-with tree ms chosen =
+    let all = modules-numbered 0 ms in
+    let first = positions-of (numbered ms) (leaves tree) ∙ ap (λ (xs : List Parts). members_at xs (leaves tree)) all in
+    let rest = positions-of (drop (length (leaves tree)) (numbered ms)) chosen
+    ∙ ap (λ (xs : List Parts). members_at xs chosen) (sym (drop-map (λ (f : FileModule). f.1) (length (leaves tree)) (numbered ms))
+    ∙ ap (drop (length (leaves tree))) all) in
+    map-append (λ (f : FileModule). f.1) (at_positions (numbered ms) (leaves tree)) (at_positions (drop (length (leaves tree)) (numbered ms)) chosen)
+    ∙ (λ i. first i ++ rest i)
+
+pub flat-modules : (tree : Forest) (ms : List Parts) (own : List FileModule) (flat : List Parts) → AreFlatFiles tree ms own → IsFlatList tree ms flat
+    → modules_of own ≡ flat
+flat-modules tree ms own flat (chosen, selected, is) is_flat =
+    flat_list-single tree ms (modules_of own) flat (chosen, selected, ap modules_of is ∙ modules-with tree ms chosen) is_flat
+
+-- there is one
+pub flat-files-single : (tree : Forest) (ms : List Parts) → IsSingle {S = Stop} (one_with (AreFlatFiles tree ms))
+flat-files-single tree ms = one_with-single (AreFlatFiles tree ms) (λ a b is_a is_b.
+    is_a.2 ∙ ap (files_with tree ms) (selection_is_single (roots tree ms) (members tree ms) is_a.0 is_b.0 is_a.1 is_b.1) ∙ sym is_b.2)
+
+-- ---- a tree whose files are the first ones in their order
+
+none-at : {X : Type 0} (ns : List ℕ) → at_positions {X = X} [] ns ≡ []
+none-at [] = refl
+none-at (zero ∷ ns) = none-at ns
+none-at (suc n ∷ ns) = none-at ns
+
+take-none : {X : Type 0} (k : ℕ) → take {A = X} k [] ≡ []
+take-none zero = refl
+take-none (suc k) = refl
+
+later-at : {X : Type 0} (x : X) (xs : List X) (n k : ℕ) → at_positions (x ∷ xs) (numbers_from (suc n) k) ≡ at_positions xs (numbers_from n k)
+later-at x xs n zero = refl
+later-at x xs n (suc k) = ap (λ more. option_to_list (slice_get xs n) ++ more) (later-at x xs (suc n) k)
+
+first-at : {X : Type 0} (k : ℕ) (xs : List X) → at_positions xs (numbers_from 0 k) ≡ take k xs
+first-at k [] = none-at (numbers_from 0 k) ∙ sym (take-none k)
+first-at zero (x ∷ xs) = refl
+first-at (suc k) (x ∷ xs) = ap (λ more. x ∷ more) (later-at x xs 0 k ∙ first-at k xs)
+
+pub origins-with : (c : Command) → HasTree c → (ms : List Parts) (chosen : List ℕ)
+    → with_chosen (length (leaves (tree_of c.marks))) chosen (origins_of (numbered ms)) ≡ origins_of (files_with (tree_of c.marks) ms chosen)
+origins-with c tree ms chosen =
+    let ns = leaves (tree_of c.marks) in
+    sym (chosen-map origin_of (length ns) chosen (numbered ms))
+    ∙ ap (λ first. origins_of (first ++ at_positions (drop (length ns) (numbered ms)) chosen))
+    (sym (ap (at_positions (numbered ms)) tree.numbered ∙ first-at (length ns) (numbered ms)))
+
+-- ---- lists that mean the same
+
+pub same-map : (ms leaves : List Parts) → MeansTheSame ms leaves → (origins : List Origin) (plan : Plan) (r : LocatedParts)
+    → mapped_by origins plan (flat_sections ms) (placed_commons ms plan) r ≡ mapped_by origins plan (flat_sections leaves) (placed_commons leaves plan) r
+unfolding readings
+same-map ms leaves same origins plan r =
+    let all = same.same_readings (planned_bases ms plan) in
+    let sections : flat_sections ms ≡ flat_sections leaves = ap (λ (x : Readings). x.sections) all in
+    let asked = same_placed_commons ms leaves sections (ap (λ (x : Readings). x.commons) all) plan in
+    λ i. mapped_by origins plan (sections i) (asked i) r
+
+-- the map that is shown of the link of a command's modules is that of their flat list with its files
+module _ (c : Command) (ms : List Parts) (valid : AreValid ms) (unnamed : c.name ≡ None) (M : Parts) (sound : IsValid M) (plan : Plan) (r : LocatedParts) where
+  pub link-shows : (own : List FileModule) → AreFlatFiles (tree_of c.marks) ms own → linked_module c ms (gives M)
+      → mapped_by (origins_of own) plan (flat_sections (M ∷ [])) (placed_commons (M ∷ []) plan) r ≡ mapped own plan r
+  link-shows own are (flat, is, joined) =
+      let is_flat = ((linked-flat answers_are_facts link_facts_grow (tree_of c.marks) ms flat).0 is).0 in
+      let means = link-means M flat sound (flat-valid c ms valid flat is) (named-first c ms valid unnamed M sound plan flat joined)
+      (flat-linkable c ms valid flat is) in
+      let same = flat-modules (tree_of c.marks) ms own flat are is_flat in
+      same-map (M ∷ []) flat means (origins_of own) plan r
+      ∙ ap (λ (xs : List Parts). mapped_by (origins_of own) plan (flat_sections xs) (placed_commons xs plan) r) (sym same)

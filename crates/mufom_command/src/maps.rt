@@ -1,0 +1,178 @@
+//! The command that tells what is at which address: `map`.
+
+ghost use Rattle.std.specs.Prelude.{◌≡◌, ◌≤◌, ◌<◌, ◌+◌, ◌^◌, None, length, true, IfErr, IfOk, List as list};
+ghost use Rattle.mufom_host.specs.World.{OnlyPrints};
+ghost use Rattle.mufom_image.specs.Placements.{IsSoundPlan};
+ghost use Rattle.mufom_module.specs.Defects.{IsValid};
+ghost use Rattle.mufom_module.specs.Written.{weight};
+ghost use Rattle.mufom_meaning.specs.Selection.{IsSelected};
+ghost use Rattle.mufom_words.specs.Options.{reads_files};
+ghost use Rattle.mufom_words.specs.Sound.{IsSound};
+ghost use Rattle.mufom_words.specs.Tree.{leaves, tree_of};
+ghost use Rattle.mufom_groups.specs.Groups.{most_weight};
+ghost use Rattle.mufom_groups.specs.Linked.{linked_module, members, roots};
+ghost use Rattle.mufom_groups.specs.Work.{gives, with_stops};
+ghost use Rattle.mufom_origins.specs.Origins.{numbered, origins_of};
+ghost use Rattle.mufom_origins.specs.Places.{with_chosen};
+ghost use Rattle.mufom_map.specs.MapText.{map_text};
+ghost use Rattle.mufom_command.specs.Commands.{mapping};
+ghost use Rattle.mufom_command.specs.Making.{IsPrinted};
+ghost use Rattle.mufom_command.specs.MapInputs.{AreLocated, AreMapped, shown_of};
+ghost use Rattle.mufom_command.specs.Run.{call_of, Does};
+ghost use Rattle.mufom_command.specs.Stop.{link_fact};
+ghost use Rattle.mufom_command.specs.WorkEnds.{AreLinkable, EndsAt, location_of};
+
+use crate::inputs::{Inputs, read_inputs};
+use crate::linking::{located, outcome_of_link};
+use crate::outcome::Outcome;
+use mufom_groups::{LinkedModules, link_with_members};
+use mufom_host::Host;
+use mufom_image::Located;
+use mufom_map::print_map;
+use mufom_module::Module;
+use mufom_numbers::{List, NoMemory};
+use mufom_origins::Origins;
+use mufom_plan::Plan;
+use mufom_text::PrintStop;
+use mufom_words::Command;
+use std::alloc::Global;
+
+/// What a map is printed from.
+#[derive(Drop)]
+struct MapInputs {
+    /// The modules of the flat list, with their files.
+    origins: Origins,
+    /// Their link.
+    object: Module,
+    plan: Plan,
+    located: Located,
+}
+
+// The module into which the modules of the command are linked, with the members that it contains, or the
+// answer of the run.
+fn linked_members(
+    alloc: Global,
+    command: &Command,
+    modules: List<Module>,
+) -> Result<LinkedModules, Outcome>
+    requires { AreLinkable command.now modules }
+    ensures ok { IfOk result (λ linked. linked_module command.now modules (gives linked.«module»)) }
+    ensures count { IfOk result (λ linked. linked.roots ≡ length (leaves (tree_of command.now.marks))) }
+    ensures chosen { IfOk result (λ linked. IsSelected (roots (tree_of command.now.marks) modules)
+        (members (tree_of command.now.marks) modules) linked.chosen) }
+    ensures valid { IfOk result (λ linked. IsValid linked.«module») }
+    ensures light { IfOk result (λ linked. weight linked.«module» < most_weight + 2 ^ 16) }
+    ensures stops { IfErr result (EndsAt (with_stops link_fact (linked_module command.now modules))) }
+{
+    match link_with_members(alloc, command, modules) {
+        Ok(linked) => {
+            let _ = linked.module.parts();
+            Ok(linked)
+        }
+        Err(refusal) => Err(outcome_of_link(refusal)),
+    }
+}
+
+// The origins of those modules that are linked.
+fn flat_origins(
+    alloc: Global,
+    origins: &Origins,
+    linked: &LinkedModules,
+) -> Result<Origins, Outcome>
+    ensures ok { IfOk result (λ flat. flat ≡ with_chosen linked.now.roots linked.now.chosen origins.now) }
+    ensures err { IfErr result (λ stop. stop ≡ Outcome.NoMemory) }
+{
+    match origins.selected(alloc, linked.roots, linked.chosen.as_slice()) {
+        Ok(flat) => Ok(flat),
+        Err(NoMemory) => Err(Outcome::NoMemory),
+    }
+}
+
+// What the map of the modules of the command is printed from, whose origins are these; or the answer of
+// the run.
+fn located_map(
+    alloc: Global,
+    command: &Command,
+    origins: &Origins,
+    inputs: Inputs,
+) -> Result<MapInputs, Outcome>
+    requires linkable { AreLinkable command.now inputs.modules }
+    requires unnamed { command.now.name ≡ None }
+    requires plan { IsSoundPlan inputs.plan }
+    requires origins { origins.now ≡ origins_of (numbered inputs.modules) }
+    ensures ok { IfOk result (AreMapped command.now inputs.plan inputs.modules) }
+    ensures stops { IfErr result (EndsAt (location_of command.now inputs.plan inputs.modules)) }
+{
+    let Inputs { plan, modules } = inputs;
+    let linked = match linked_members(alloc, command, modules) {
+        Ok(linked) => linked,
+        Err(stop) => return Err(stop),
+    };
+    let origins = match flat_origins(alloc, origins, &linked) {
+        Ok(origins) => origins,
+        Err(stop) => return Err(stop),
+    };
+    let object = linked.module;
+    match located(alloc, &object, &plan) {
+        Ok(located) => Ok(MapInputs {
+            origins,
+            object,
+            plan,
+            located,
+        }),
+        Err(stop) => Err(stop),
+    }
+}
+
+// The same, with the origins of the modules.
+fn map_inputs(alloc: Global, command: &Command, inputs: Inputs) -> Result<MapInputs, Outcome>
+    requires linkable { AreLinkable command.now inputs.modules }
+    requires unnamed { command.now.name ≡ None }
+    requires plan { IsSoundPlan inputs.plan }
+    requires few { length inputs.modules < 2 ^ 32 }
+    ensures ok { IfOk result (AreMapped command.now inputs.plan inputs.modules) }
+    ensures stops { IfErr result (EndsAt (location_of command.now inputs.plan inputs.modules)) }
+{
+    match Origins::of(alloc, inputs.modules.as_slice()) {
+        Ok(origins) => located_map(alloc, command, &origins, inputs),
+        Err(NoMemory) => Err(Outcome::NoMemory),
+    }
+}
+
+// Prints a map; the answer is whose error line is not printed yet.
+fn print_mapped<H: Host>(alloc: Global, inputs: &MapInputs, host: &mut H) -> Outcome
+    requires { AreLocated inputs.now }
+    ensures answer { IsPrinted (map_text (shown_of inputs.now)) (call_of H.meaning H.faults host.old host.new) result }
+    ensures only { OnlyPrints (H.meaning host.old) (H.meaning host.new) (H.faults host.old) (H.faults host.new) }
+{
+    let MapInputs {
+        origins,
+        object,
+        plan,
+        located,
+    } = inputs;
+    match print_map(alloc, host, origins, object, plan, located) {
+        Ok(()) => Outcome::Done,
+        Err(PrintStop::Fault) => Outcome::WriteFault,
+        Err(PrintStop::NoMemory) => Outcome::NoMemory,
+    }
+}
+
+/// Locates the files of the command, and prints the map: the modules with their files, the regions of the
+/// plan, and what is at which address.
+pub(crate) fn map<H: Host>(alloc: Global, command: &Command, host: &mut H) -> Outcome
+    requires sound { IsSound command.now }
+    requires of_files { reads_files command.now.verb ≡ true }
+    requires unnamed { command.now.name ≡ None }
+    requires no_file { command.now.out ≡ None }
+    ensures { Does command.now (λ files. mapping files command.now) (call_of H.meaning H.faults host.old host.new) result }
+{
+    let inputs = match read_inputs(alloc, command, host) {
+        Ok(inputs) => inputs,
+        Err(stop) => return stop,
+    };
+    match map_inputs(alloc, command, inputs) {
+        Ok(inputs) => print_mapped(alloc, &inputs, host),
+        Err(stop) => stop,
+    }
+}
