@@ -130,7 +130,7 @@ module _ (c : Command) (plan : Plan) (ms leaves : List Parts) (means : MeansTheS
       let next : List Parts → Work Stop Output = λ kept. located plan kept >>= λ r. output c r in
       then-same (kept_of (Some name) ms) (kept_of (Some name) leaves) next next (kept-same name) (λ kept. same-work (next kept))
 
-  of_location : (output : Command → LocatedParts → Work Stop Output) → IsSameWork (locating output c plan ms) (locating output c plan leaves)
+  pub of_location : (output : Command → LocatedParts → Work Stop Output) → IsSameWork (locating output c plan ms) (locating output c plan leaves)
   of_location output = of_kept output c.keep
 
   pub put_out-alike : PutOutAlike c plan ms leaves
@@ -206,15 +206,24 @@ runs-of-stages files c plan flat leaves bytes is_linking leads came = by_verb c.
 prints-same : (a b : Mapped) → a ≡ b → IsSameWork (prints (map_text a)) (prints (map_text b))
 prints-same a b same = subst (λ (m : Mapped). IsSameWork (prints (map_text a)) (prints (map_text m))) same (same-work (prints (map_text a)))
 
+-- what is put out of a location is the same where it is for each location
+locating-each : (c : Command) (plan : Plan) (ms : List Parts) (output other : Command → LocatedParts → Work Stop Output)
+    → ((r : LocatedParts) → IsSameWork (output c r) (other c r)) → IsSameWork (locating output c plan ms) (locating other c plan ms)
+locating-each c plan ms output other each =
+    then-same (kept_of c.keep ms) (kept_of c.keep ms) (λ kept. located plan kept >>= λ r. output c r) (λ kept. located plan kept >>= λ r. other c r)
+    (same-work (kept_of c.keep ms))
+    (λ kept. then-same (located plan kept) (located plan kept) (λ r. output c r) (λ r. other c r) (same-work (located plan kept)) each)
+
 -- The maps of two such lists are the same, with the same modules.
 pub maps-alike : MapsAreAlike
 maps-alike c plan ms leaves origins came =
     let means = means-same ms leaves came in
-    then-same (located plan ms) (located plan leaves) (λ r. map_with origins plan ms c r) (λ r. map_with origins plan leaves c r)
-    (λ x. (located-forth ms leaves plan means x, located-back ms leaves plan means x))
+    same-trans (locating (map_with origins plan ms) c plan ms) (locating (map_with origins plan leaves) c plan ms)
+    (locating (map_with origins plan leaves) c plan leaves)
+    (locating-each c plan ms (map_with origins plan ms) (map_with origins plan leaves)
     (λ r. prints-same (mapped_by origins plan (flat_sections ms) (placed_commons ms plan) r)
-    (mapped_by origins plan (flat_sections leaves) (placed_commons leaves plan) r)
-    (same-map ms leaves means origins plan r))
+    (mapped_by origins plan (flat_sections leaves) (placed_commons leaves plan) r) (same-map ms leaves means origins plan r)))
+    (of_location c plan ms leaves means (map_with origins plan leaves))
 
 -- The map of the flat list is the map of what the stages began with, with the modules of the flat list.
 pub maps-of-stages : MapsOfStages
@@ -233,7 +242,6 @@ maps-of-stages files c plan flat leaves own bytes is_map leads are came =
     (linking_of-known (λ ms c plan flat. locating (printed_map ms plan) c plan flat) files c plan flat bytes leads)
     (same-trans (locating (printed_map ms plan) c plan flat) (locating (map_with (origins_of own) plan flat) c plan flat)
     (locating (map_with (origins_of own) plan leaves) c plan leaves)
-    (then-same (located plan flat) (located plan flat) (λ r. printed_map ms plan c r) (λ r. map_with (origins_of own) plan flat c r)
-    (same-work (located plan flat)) each)
+    (locating-each c plan flat (printed_map ms plan) (map_with (origins_of own) plan flat) each)
     (maps-alike c plan flat leaves (origins_of own) came)) in
     subst (λ (v : Verb). IsSameWork (work_of v files c) (locating (map_with (origins_of own) plan leaves) c plan leaves)) (sym is_map) there

@@ -121,13 +121,15 @@ module _ (output : List Parts → Plan → Command → LocatedParts
   -- the fact that ends the locating, where what is put out depends on the modules too
   pub locating_of-stops : (s : Stop) → location_of c plan ms (stops s) → of_modules files c (stops s)
   locating_of-stops s (inl ends) = inr (plan, inputs-planned files c plan ms is, inr (ms, inputs-modules files c plan ms is, inl ends))
-  locating_of-stops s (inr (flat, is_linked, ends)) =
+  locating_of-stops s (inr (flat, is_linked, inl ends)) =
       inr (plan, inputs-planned files c plan ms is, inr (ms, inputs-modules files c plan ms is, inr (flat, is_linked, inl ends)))
+  locating_of-stops s (inr (flat, is_linked, inr (kept, is_kept, ends))) =
+      inr (plan, inputs-planned files c plan ms is, inr (ms, inputs-modules files c plan ms is, inr (flat, is_linked, inr (kept, is_kept, inl ends))))
 
   -- what is put out of the location and the modules
   pub locating_of-gives : (r : LocatedParts) (o : Output) → location_of c plan ms (gives r) → output ms plan c r (gives o) → of_modules files c (gives o)
-  locating_of-gives r o (flat, is_linked, is_located) puts =
-      (plan, inputs-planned files c plan ms is, (ms, inputs-modules files c plan ms is, (flat, is_linked, (r, is_located, puts))))
+  locating_of-gives r o (flat, is_linked, (kept, is_kept, is_located)) puts =
+      (plan, inputs-planned files c plan ms is, (ms, inputs-modules files c plan ms is, (flat, is_linked, (kept, is_kept, (r, is_located, puts)))))
 
 -- a file that is named is written
 pub writes-gives : (c : Command) (name bytes : List ℕ) → c.out ≡ Some name → writes c.out bytes (gives (made name bytes))

@@ -173,7 +173,8 @@ raw_file c r = unless_too_long (nat_lt MOST_FILE_BYTES (length (raw_image c.fill
 abbrev pub txt_file : Command → LocatedParts → Work Stop Output
 txt_file c r = writes c.out (txt_text r.runs)
 
--- The map of the flat list with the files of its modules, which are these in the order of the files.
+-- The map of the flat list with the files of its modules, which are these in the order of the files. (All of the flat list is located:
+-- `map` has no `--keep`.)
 abbrev pub printed_map : List Parts → Plan → Command → LocatedParts → Work Stop Output
 printed_map ms plan c r = do
   flat ← one_with (AreFlatFiles (tree_of c.marks) ms)

@@ -98,6 +98,7 @@ fn located_map(
 ) -> Result<MapInputs, Outcome>
     requires linkable { AreLinkable command.now inputs.modules }
     requires unnamed { command.now.name ≡ None }
+    requires whole { command.now.keep ≡ None }
     requires plan { IsSoundPlan inputs.plan }
     requires origins { origins.now ≡ origins_of (numbered inputs.modules) }
     ensures ok { IfOk result (AreMapped command.now inputs.plan inputs.modules) }
@@ -128,6 +129,7 @@ fn located_map(
 fn map_inputs(alloc: Global, command: &Command, inputs: Inputs) -> Result<MapInputs, Outcome>
     requires linkable { AreLinkable command.now inputs.modules }
     requires unnamed { command.now.name ≡ None }
+    requires whole { command.now.keep ≡ None }
     requires plan { IsSoundPlan inputs.plan }
     requires few { length inputs.modules < 2 ^ 32 }
     ensures ok { IfOk result (AreMapped command.now inputs.plan inputs.modules) }
@@ -164,6 +166,7 @@ pub(crate) fn map<H: Host>(alloc: Global, command: &Command, host: &mut H) -> Ou
     requires sound { IsSound command.now }
     requires of_files { reads_files command.now.verb ≡ true }
     requires unnamed { command.now.name ≡ None }
+    requires whole { command.now.keep ≡ None }
     requires no_file { command.now.out ≡ None }
     ensures { Does command.now (λ files. mapping files command.now) (call_of H.meaning H.faults host.old host.new) result }
 {

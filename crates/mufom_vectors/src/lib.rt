@@ -30,6 +30,8 @@ mod lists;
 #[cfg(test)]
 mod locate;
 #[cfg(test)]
+mod maps;
+#[cfg(test)]
 mod raw;
 mod round_trip;
 #[cfg(test)]

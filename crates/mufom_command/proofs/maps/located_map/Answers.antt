@@ -1,4 +1,5 @@
-use Rattle.std.proofs.Common.{[], ◌∷◌, refl, ap, ◌∙◌}
+use Rattle.std.proofs.Common.{ℕ, List, [], ◌∷◌, Option, refl, sym, subst, ◌∙◌}
+use Rattle.mufom_groups.specs.Work.{gives, stops}
 use Rattle.mufom_meaning.specs.Flat.{flat_sections}
 use Rattle.mufom_meaning.specs.Placed.{placed_commons}
 use Rattle.mufom_words.specs.Tree.{tree_of}
@@ -6,7 +7,7 @@ use Rattle.mufom_origins.specs.Places.{with_chosen}
 use Rattle.mufom_map.specs.Mapped.{mapped_by}
 use Rattle.mufom_command.specs.FlatFiles.{files_with}
 use Rattle.mufom_command.specs.Commands.{located}
-use Rattle.mufom_command.specs.WorkEnds.{location_of}
+use Rattle.mufom_command.specs.WorkEnds.{location_of, own_location}
 use Rattle.mufom_command.proofs.EndLaws.{ends-along}
 use Rattle.mufom_command.proofs.LocatingLaws.{link-located, link-names, link-unlocated}
 use Rattle.mufom_command.proofs.MadeLaws.{location-of}
@@ -26,7 +27,8 @@ returns-in-Ok-located-clause-ok c =
     ∙ origins-with command linkable.sound.tree ms chosen in
     record {
       are_located = record { sound = c.requires.plan; located = location-of plan (M ∷ []) r there };
-      location = link-located command ms linkable.valid c.requires.unnamed M c.in-Ok.ensures.valid plan c.in-Ok.ensures.ok r there;
+      location = link-located command ms linkable.valid c.requires.unnamed M c.in-Ok.ensures.valid plan c.in-Ok.ensures.ok r
+          (subst (λ (keep : Option (List ℕ)). own_location keep plan M (gives r)) (sym c.requires.whole) there);
       flat = own;
       files = (chosen, c.in-Ok.ensures.chosen, refl);
       shows = (λ i. mapped_by (origins i) plan (flat_sections (M ∷ [])) (placed_commons (M ∷ []) plan) r)
@@ -39,5 +41,6 @@ returns-in-Err-located-clause-stops c =
     let command = c.args.command.now in let plan = c.args.inputs.plan in let ms = c.args.inputs.modules in
     let M = c.in-Ok.linked.«module» in let linkable = c.requires.linkable in
     ends-along (located plan (M ∷ [])) (location_of command plan ms)
-    (λ s there. link-unlocated command ms linkable.valid c.requires.unnamed M c.in-Ok.ensures.valid plan c.in-Ok.ensures.ok s there)
+    (λ s there. link-unlocated command ms linkable.valid c.requires.unnamed M c.in-Ok.ensures.valid plan c.in-Ok.ensures.ok s
+    (subst (λ (keep : Option (List ℕ)). own_location keep plan M (stops s)) (sym c.requires.whole) there))
     c.in-Err-located.stop c.in-Err-located.ensures.stops

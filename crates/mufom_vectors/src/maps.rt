@@ -1,0 +1,104 @@
+//! What is at which address, and which modules and files it comes from.
+
+use crate::drafts::{REFERENCE, SECTION};
+use crate::runs::{File, Held, Run, all_come_to};
+
+const RAM: &[u8] =
+    b"[[region]]\nname = \"ram\"\nbase = 256\nsize = 64\nsections = [\"t\"]\ncommon = true\n";
+
+/// Two modules that ask 4 and 6 bytes for `c`, the second with a public after its section, and a plan.
+const FILES: &[File] = &[
+    (
+        "a",
+        Held::Section(SECTION, b"\xE9\x0B\x01c\xF4\x0B\x04", REFERENCE),
+    ),
+    (
+        "b",
+        Held::Section(
+            SECTION,
+            b"\xE8\x20\x03end\xE2\xC9\x20\xD2\x01\x04\xA5\xE9\x0B\x01c\xF4\x0B\x06",
+            REFERENCE,
+        ),
+    ),
+    ("p", Held::Bytes(RAM)),
+];
+
+const TEXT: &str = "module 0 \"m\" file 0\n\
+        module 1 \"m\" file 1\n\
+        region 0 \"ram\" at 00000100 size 64 used 14 free 50 [#######.........................]\n\
+        section 0 00000100 size 4 align 1 \"t\" module 0 region 0\n\
+        section 1 00000104 size 4 align 1 \"t\" module 1 region 0\n\
+        common 2 00000108 size 6 align 8 \"c\" region 0\n\
+        public 00000108 \"end\" module 1\n\
+        sections 3 bytes 14 loaded 8\n";
+
+/// A root that needs `g`, a member that defines `h`, and one that defines `g`.
+const MEMBERS: &[File] = &[
+    (
+        "r",
+        Held::Names(b"\xE8\x20\x01f\xE2\xC9\x20\x00\xE9\x0B\x01g"),
+    ),
+    ("m0", Held::Names(b"\xE8\x20\x01h\xE2\xC9\x20\x00")),
+    ("m1", Held::Names(b"\xE8\x20\x01g\xE2\xC9\x20\x00")),
+];
+
+static RUNS: [Run; 8] = [
+    (
+        &[("a", Held::Absolute)],
+        "",
+        "map a",
+        0,
+        "module 0 \"A\" file 0\n\
+            section 0 00001000 size 4 align 2 \"code\" module 0\n\
+            start 00001000 module 0\n\
+            sections 1 bytes 4 loaded 4\n",
+    ),
+    (FILES, "", "map --plan p a b", 0, TEXT),
+    (FILES, "", "map --plan p --no-debug [ a b ]", 0, TEXT),
+    // Of a partial link the map knows one module.
+    (
+        FILES,
+        "link -o c a b",
+        "map --plan p c",
+        0,
+        "module 0 \"m\" file 0\n\
+            region 0 \"ram\" at 00000100 size 64 used 14 free 50 [#######.........................]\n\
+            section 0 00000100 size 4 align 1 \"t\" module 0 region 0\n\
+            section 1 00000104 size 4 align 1 \"t\" module 0 region 0\n\
+            common 2 00000108 size 6 align 8 \"c\" region 0\n\
+            public 00000108 \"end\" module 0\n\
+            sections 3 bytes 14 loaded 8\n",
+    ),
+    // A member has the number of its file.
+    (
+        MEMBERS,
+        "",
+        "map r + m0 m1",
+        0,
+        "module 0 \"m\" file 0\n\
+            module 1 \"m\" file 2\n\
+            public 00000000 \"f\" module 0\n\
+            public 00000000 \"g\" module 1\n\
+            sections 0 bytes 0 loaded 0\n",
+    ),
+    (
+        FILES,
+        "",
+        "map b",
+        1,
+        "refused: locate: Unplaced section 0\n",
+    ),
+    (
+        MEMBERS,
+        "",
+        "map r r",
+        1,
+        "refused: link: Duplicate \"f\"\n",
+    ),
+    (FILES, "", "map -o c a", 2, "usage: bad words\n"),
+];
+
+#[test]
+fn maps_tell_modules_and_addresses(rt: HostRuntime) {
+    all_come_to(&rt, rt.alloc(), &RUNS);
+}
