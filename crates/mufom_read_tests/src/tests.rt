@@ -64,19 +64,20 @@ const BLOCKS: &[u8; 74] = b"\
 // What these state.
 const BLOCKS_TEXT: &str =
     "List { items: [Name(Bytes { held: [120] }), Note { name: 0, note: Note { type_index: \
-    15, attribute: 7, numbers: [1] } }, Block(Block { head: Module, name: Bytes { held: \
-    [109] }, items: List { items: [Block(Block { head: Source { numbers: [1, 2] }, name: \
-    Bytes { held: [115] }, items: List { items: [Block(Block { head: Global { stack: 0, \
-    type_index: 15, offset: Postfix { tokens: [Var(R, 0)] } }, name: Bytes { held: [102] \
-    }, items: List { items: [Block(Block { head: Local { stack: 2, type_index: 0, \
-    offset: Postfix { tokens: [Var(R, 0), Number(4), Fun(Plus)] } }, name: Bytes { held: \
-    [103] }, items: List { items: [Value { name: 0, value: Postfix { tokens: [Var(R, 0)] \
-    } }] }, end: Some(Postfix { tokens: [Var(R, 0), Number(8), Fun(Plus)] }) })] }, end: \
-    Some(Postfix { tokens: [Var(R, 0), Number(12), Fun(Plus)] }) })] }, end: None }), \
-    Block(Block { head: Section { section_type: 1, section: 0, offset: Postfix { tokens: \
-    [Var(R, 0)] } }, name: Bytes { held: [99] }, items: List { items: [] }, end: \
-    Some(Postfix { tokens: [Number(16)] }) })] }, end: None }), Value { name: 0, value: \
-    Postfix { tokens: [Number(1)] } }] }";
+    15, attribute: 7, numbers: [1] } }, Block(Boxed { inner: Block { head: Module, name: \
+    Bytes { held: [109] }, items: List { items: [Block(Boxed { inner: Block { head: \
+    Source { numbers: [1, 2] }, name: Bytes { held: [115] }, items: List { items: \
+    [Block(Boxed { inner: Block { head: Global { stack: 0, type_index: 15, offset: \
+    Postfix { tokens: [Var(R, 0)] } }, name: Bytes { held: [102] }, items: List { items: \
+    [Block(Boxed { inner: Block { head: Local { stack: 2, type_index: 0, offset: Postfix \
+    { tokens: [Var(R, 0), Number(4), Fun(Plus)] } }, name: Bytes { held: [103] }, items: \
+    List { items: [Value { name: 0, value: Postfix { tokens: [Var(R, 0)] } }] }, end: \
+    Some(Postfix { tokens: [Var(R, 0), Number(8), Fun(Plus)] }) } })] }, end: \
+    Some(Postfix { tokens: [Var(R, 0), Number(12), Fun(Plus)] }) } })] }, end: None } \
+    }), Block(Boxed { inner: Block { head: Section { section_type: 1, section: 0, \
+    offset: Postfix { tokens: [Var(R, 0)] } }, name: Bytes { held: [99] }, items: List { \
+    items: [] }, end: Some(Postfix { tokens: [Number(16)] }) } })] }, end: None } }), \
+    Value { name: 0, value: Postfix { tokens: [Number(1)] } }] }";
 
 // ---- streams
 
