@@ -32,7 +32,7 @@ fn comes_to(rt: &impl Abort, alloc: Global, line: &str, want: &str) {
 }
 
 // Lines and the commands that they give.
-static COMMANDS: [(&str, &str); 22] = [
+static COMMANDS: [(&str, &str); 23] = [
     // Files in their order.
     (
         "show a",
@@ -128,6 +128,13 @@ static COMMANDS: [(&str, &str); 22] = [
         "Command { verb: Addr, no_debug: false, name: None, out: None, plan: None, marks: List { items: [File(0)] }, \
             files: List { items: [Text { text: \"a\" }] }, count: 0, listing: false, fill: 0, at: 72057594037927935, maus: 4, keep: None, help: None }",
     ),
+    // Members of a map.
+    (
+        "map a --plan p + b",
+        "Command { verb: Map, no_debug: false, name: None, out: None, plan: Some(Text { text: \"p\" }), \
+            marks: List { items: [File(0)] }, files: List { items: [Text { text: \"a\" }, Text { text: \"b\" }] }, count: 0, \
+            listing: false, fill: 0, at: 0, maus: 4, keep: None, help: None }",
+    ),
     // A name that is kept, which may be empty.
     (
         "dump --keep main a",
@@ -171,7 +178,7 @@ fn lines_give_commands(rt: HostRuntime) {
 }
 
 // Lines that give none, and the first thing that is wrong with each.
-static FAULTS: [(&str, &str); 62] = [
+static FAULTS: [(&str, &str); 64] = [
     // Without a command.
     ("dmup a", "Usage(NoCommand)"),
     ("-- help", "Usage(NoCommand)"),
@@ -189,6 +196,8 @@ static FAULTS: [(&str, &str); 62] = [
     ("dump --keep a --keep b c", "Usage(BadWords)"),
     ("addr --at 0 --keep a b", "Usage(BadWords)"),
     ("link --keep a -oc b", "Usage(BadWords)"),
+    ("map --keep a b", "Usage(BadWords)"),
+    ("map -oc a", "Usage(BadWords)"),
     ("fromtxt --maus 04 -oc a", "Usage(BadCount)"),
     ("fromtxt --maus 0 -oc a", "Usage(BadCount)"),
     ("fromtxt --maus=9 -oc a", "Usage(BadCount)"),
