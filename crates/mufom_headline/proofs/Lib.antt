@@ -1,0 +1,7 @@
+mod Calm
+mod Accepted
+pub mod Staged
+pub mod Linking
+pub mod LinkedFiles
+pub mod Headline
+pub mod ReadBack

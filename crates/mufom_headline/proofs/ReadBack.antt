@@ -1,0 +1,65 @@
+-- A later run reads a module from the file that it was written to.
+use Rattle.std.proofs.Common.{◌≡◌, ◌≤◌, ℕ, zero, suc, Bool, true, false, not, List, [], ◌∷◌, length, Option, Some}
+use Rattle.std.proofs.Common.{sym, ap, subst, ◌∙◌, arith}
+use Rattle.std.specs.Prelude.{slice_get}
+use Rattle.std.proofs.lemmas.List.Sums.{sum_by-cons}
+use Rattle.mufom_numbers.specs.declared.limits.TheConstants.{MOST_FILE_BYTES}
+use Rattle.mufom_host.specs.World.{NamedFile, file_named}
+use Rattle.mufom_words.specs.declared.command.Command.{Command}
+use Rattle.mufom_module.specs.declared.module.Parts.{Parts}
+use Rattle.mufom_module.specs.Written.{written}
+use Rattle.mufom_module.proofs.OneModule.{one_module}
+use Rattle.mufom_write.proofs.Stated.{stated}
+use Rattle.mufom_read.specs.Judging.{IsModule}
+use Rattle.mufom_groups.specs.Work.{gives}
+use Rattle.mufom_command.specs.Inputs.{AreAccepted, AreModules, ComeTo, HaveBytes, accepted}
+use Rattle.mufom_command.specs.Commands.{modules_in}
+use Rattle.mufom_headline.specs.ReadBack.{IsReadBack, WrittenFilesAreReadBack}
+
+module _ (m : Parts) (is : IsModule true (written m) m) (few : length (written m) ≤ MOST_FILE_BYTES) where
+  only : (n : Parts) → IsModule true (written m) n → n ≡ m
+  only n other = one_module n m (written m) true other is
+
+  -- the module at the place of the file
+  module-at : (files : List NamedFile) (names contents : List (List ℕ)) (ms : List Parts) (k : ℕ) (name : List ℕ) → file_named name files ≡ Some (written m)
+      → HaveBytes files names contents → AreModules true contents ms → slice_get names k ≡ Some name → slice_get ms k ≡ Some m
+  module-at files [] contents ms k name there have are here = absurd cc
+  module-at files (first ∷ names) [] ms k name there have are here = absurd cc
+  module-at files (first ∷ names) (bytes ∷ contents) [] k name there have are here = absurd are
+  module-at files (first ∷ names) (bytes ∷ contents) (n ∷ ms) zero name there have are here =
+      let same : first ≡ name = cc in
+      let found : file_named first files ≡ Some bytes = cc in
+      let both : Some (written m) ≡ Some bytes = sym there ∙ (ap (λ (l : List ℕ). file_named l files) (sym same) ∙ found) in
+      let own : bytes ≡ written m = cc in
+      ap (λ (x : Parts). Some x) (only n (subst (λ (l : List ℕ). IsModule true l n) own are.0))
+  module-at files (first ∷ names) (bytes ∷ contents) (n ∷ ms) (suc k) name there have are here =
+      let more : HaveBytes files names contents = cc in module-at files names contents ms k name there more are.1 here
+
+  in-place : (files : List NamedFile) (c : Command) (ms : List Parts) (k : ℕ) (name : List ℕ) → file_named name files ≡ Some (written m)
+      → c.no_debug ≡ false → slice_get c.files k ≡ Some name → modules_in files c (gives ms) → slice_get ms k ≡ Some m
+  in-place files c ms k name there debug here (contents, all) =
+      module-at files c.files contents ms k name there all.bytes
+      (subst (λ (b : Bool). AreModules (not b) contents ms) debug all.modules) here
+
+  -- the file alone is accepted
+  alone : (files : List NamedFile) (c : Command) (name : List ℕ) → file_named name files ≡ Some (written m) → c.no_debug ≡ false → c.files ≡ name ∷ []
+      → modules_in files c (gives (m ∷ []))
+  alone files c name there debug names =
+      subst (λ (b : Bool). ComeTo (not b) files c.files (accepted (m ∷ []))) (sym debug)
+      (subst (λ (l : List (List ℕ)). ComeTo true files l (accepted (m ∷ []))) (sym names) (written m ∷ [], all)) where
+        all : AreAccepted true files (name ∷ []) (written m ∷ []) (m ∷ [])
+        all = record {
+          bytes = ap (λ (o : Option (List ℕ)). o ∷ []) there;
+          modules = (is, tt);
+          within = let total = sum_by-cons length (written m) [] in omega (arith, few, total);
+        }
+
+  read-back : IsReadBack m
+  read-back = record {
+    file = λ n. (only n, (λ same. subst (λ (x : Parts). IsModule true (written m) x) (sym same) is));
+    place = in-place;
+    alone = alone;
+  }
+
+pub written-files-are-read-back : WrittenFilesAreReadBack
+written-files-are-read-back m valid made few = read-back m (stated m valid made few) few

@@ -1,0 +1,157 @@
+-- A command whose files were linked in stages comes to what it comes to of the list that the stages began with.
+use Rattle.std.proofs.Common.{◌≡◌, List, [], ◌∷◌, Option, Some, None, refl, sym, ap, subst, ◌∙◌, inl, inr}
+use Rattle.mufom_words.specs.declared.command.Command.{Command}
+use Rattle.mufom_words.specs.declared.command.Verb.{Verb}
+use Rattle.mufom_words.specs.declared.command.Verb.TheVariants as verb
+use Rattle.mufom_words.specs.Tree.{tree_of}
+use Rattle.mufom_module.specs.declared.module.Parts.{Parts}
+use Rattle.mufom_place.specs.Facts.{first_some, ◌or_else◌}
+use Rattle.mufom_plan.specs.declared.plan.Plan.{Plan}
+use Rattle.mufom_meaning.specs.Absolute.{no_regions}
+use Rattle.mufom_meaning.specs.Facts.{LinkFact, mismatch, duplicate, duplicate_start}
+use Rattle.mufom_meaning.specs.LinkAnswer.{link_answer}
+use Rattle.mufom_meaning.specs.Stands.{LinkFactStands}
+use Rattle.mufom_meaning.specs.StagingLaws.{MeansTheSame}
+use Rattle.mufom_meaning.proofs.facts.AllAnswers.{answers_are_facts}
+use Rattle.mufom_meaning.proofs.facts.LinkFacts.{link_facts_grow, one_descriptor}
+use Rattle.mufom_groups.specs.Linked.{IsFlatList, linked, links, tree_links, unless_fact}
+use Rattle.mufom_groups.specs.Work.{Reached, gives, stops, Work, ◌>>=◌, with_stops}
+use Rattle.mufom_groups.proofs.GroupsAlike.{linked-flat, links-stand}
+use Rattle.mufom_groups.proofs.LinkWalk.{links-give, links-stop}
+use Rattle.mufom_groups.proofs.Singles.{flat_list-single}
+use Rattle.mufom_command.specs.Stop.{Stop, link_fact}
+use Rattle.mufom_command.specs.Commands.{Output, absolute_file, linked_file, linking, locating, printed_hit, printed_image, raw_file, txt_file, work_of}
+use Rattle.mufom_command.specs.RunLaws.{CameByStages, IsLinking, IsSameWork, put_out_of}
+use Rattle.mufom_command.proofs.SameWorks.{same-trans}
+use Rattle.mufom_command.proofs.StageLaws.{means-same, put_out-alike}
+use Rattle.mufom_headline.specs.Linking.{StagedRunsAreFlat}
+use Rattle.mufom_headline.proofs.Accepted.{after-inputs}
+
+-- ---- the link facts of a list of one descriptor with distinct names
+
+only-starts : (ms leaves : List Parts) → CameByStages ms leaves → (f : LinkFact) → LinkFactStands leaves f → f ≡ duplicate_start
+only-starts ms leaves came (mismatch d e) stands = absurd (one_descriptor came.descriptor.0 leaves came.descriptor.1 d e stands)
+only-starts ms leaves came (duplicate name) stands = absurd (came.names stands.0 stands.2)
+only-starts ms leaves came duplicate_start stands = refl
+
+answer-stands : (ms : List Parts) (f : LinkFact) → link_answer ms ≡ Some f → LinkFactStands ms f
+answer-stands ms f same = (answers_are_facts ms no_regions).link_sound f same
+
+-- ---- one list alone
+
+alone-none : (ms : List Parts) → link_answer ms ≡ None → first_some link_answer (ms ∷ []) ≡ None
+alone-none ms none = ap (λ (o : Option LinkFact). o or_else None) none
+
+alone-some : (ms : List Parts) (f : LinkFact) → link_answer ms ≡ Some f → first_some link_answer (ms ∷ []) ≡ Some f
+alone-some ms f some = ap (λ (o : Option LinkFact). o or_else None) some
+
+none-alone : (ms : List Parts) → links (ms ∷ []) (gives tt) → link_answer ms ≡ None
+none-alone ms is = by (link_answer ms) is where
+  by : (o : Option LinkFact) → unless_fact (o or_else None) (gives tt) → o ≡ None
+  by None is = refl
+  by (Some f) is = absurd is
+
+some-alone : (ms : List Parts) (f : LinkFact) → links (ms ∷ []) (stops f) → link_answer ms ≡ Some f
+some-alone ms f is = by (link_answer ms) is where
+  by : (o : Option LinkFact) → unless_fact (o or_else None) (stops f) → o ≡ Some f
+  by None is = absurd is
+  by (Some g) is = ap (λ (h : LinkFact). Some h) (sym is)
+
+-- ---- the links
+
+-- what is put out of one list, where it can be linked
+abbrev of_list : (Command → Plan → List Parts → Work Stop Output) → Command → Plan → List Parts → Work Stop Output
+of_list output c plan ms = with_stops link_fact (links (ms ∷ [])) >>= λ _. output c plan ms
+
+module _ (c : Command) (ms flat leaves : List Parts) (is_flat : IsFlatList (tree_of c.marks) ms flat) (came : CameByStages flat leaves) where
+  means : MeansTheSame flat leaves
+  means = means-same flat leaves came
+
+  -- a fact that ends the links is the one that is answered for the leaves
+  fact-there : (f : LinkFact) → linked (tree_of c.marks) ms (stops f) → link_answer leaves ≡ Some f
+  fact-there f is = by (link_answer leaves) refl where
+    stands : LinkFactStands leaves f
+    stands = (means.same_link_facts f).0 (links-stand answers_are_facts link_facts_grow (tree_of c.marks) ms flat f is_flat is)
+
+    by : (o : Option LinkFact) → link_answer leaves ≡ o → link_answer leaves ≡ Some f
+    by None none = absurd ((answers_are_facts leaves no_regions).link_complete none f stands)
+    by (Some g) some =
+        some ∙ ap (λ (h : LinkFact). Some h) (only-starts flat leaves came g (answer-stands leaves g some) ∙ sym (only-starts flat leaves came f stands))
+
+  -- and the other way round
+  fact-back : (f : LinkFact) → link_answer leaves ≡ Some f → linked (tree_of c.marks) ms (stops f)
+  fact-back f some = by (first_some link_answer (tree_links (tree_of c.marks) ms)) refl where
+    by : (o : Option LinkFact) → first_some link_answer (tree_links (tree_of c.marks) ms) ≡ o → linked (tree_of c.marks) ms (stops f)
+    by None none =
+        let last : links (flat ∷ []) (stops f) = links-stop (flat ∷ []) f (alone-some flat f (means.same_link ∙ some)) in
+        inr (tt, links-give (tree_links (tree_of c.marks) ms) none, inr (flat, is_flat, inl last))
+    by (Some g) found =
+        let ends : linked (tree_of c.marks) ms (stops g) = inl (links-stop (tree_links (tree_of c.marks) ms) g found) in
+        let same : Some g ≡ Some f = sym (fact-there g ends) ∙ some in
+        let is : g ≡ f = cc in
+        subst (λ (h : LinkFact). linked (tree_of c.marks) ms (stops h)) is ends
+
+  module _ (plan : Plan) (output : Command → Plan → List Parts → Work Stop Output)
+      (alike : IsSameWork (output c plan flat) (output c plan leaves)) where
+    abbrev after-links : Work Stop Output
+    after-links = with_stops link_fact (linked (tree_of c.marks) ms) >>= λ flat. output c plan flat
+
+    there : (x : Reached Stop Output) → after-links x → of_list output c plan leaves x
+    there (gives o) (list, is_linked, puts) =
+        let (is_list, none) = (linked-flat answers_are_facts link_facts_grow (tree_of c.marks) ms list).0 is_linked in
+        let same : list ≡ flat = flat_list-single (tree_of c.marks) ms list flat is_list is_flat in
+        let linkable : link_answer flat ≡ None = subst (λ (l : List Parts). link_answer l ≡ None) same none in (
+          tt,
+          links-give (leaves ∷ []) (alone-none leaves (sym means.same_link ∙ linkable)),
+          (alike (gives o)).0 (subst (λ (l : List Parts). output c plan l (gives o)) same puts),
+        )
+    there (stops s) (inl (f, ends, same)) = inl (f, links-stop (leaves ∷ []) f (alone-some leaves f (fact-there f ends)), same)
+    there (stops s) (inr (list, is_linked, ends)) =
+        let (is_list, none) = (linked-flat answers_are_facts link_facts_grow (tree_of c.marks) ms list).0 is_linked in
+        let same : list ≡ flat = flat_list-single (tree_of c.marks) ms list flat is_list is_flat in
+        let linkable : link_answer flat ≡ None = subst (λ (l : List Parts). link_answer l ≡ None) same none in
+        inr (
+          tt,
+          links-give (leaves ∷ []) (alone-none leaves (sym means.same_link ∙ linkable)),
+          (alike (stops s)).0 (subst (λ (l : List Parts). output c plan l (stops s)) same ends),
+        )
+
+    back : (x : Reached Stop Output) → of_list output c plan leaves x → after-links x
+    back (gives o) (u, is_linked, puts) =
+        let linkable : link_answer flat ≡ None = means.same_link ∙ none-alone leaves is_linked in
+        (flat, (linked-flat answers_are_facts link_facts_grow (tree_of c.marks) ms flat).1 (is_flat, linkable), (alike (gives o)).1 puts)
+    back (stops s) (inl (f, ends, same)) = inl (f, fact-back f (some-alone leaves f ends), same)
+    back (stops s) (inr (u, is_linked, ends)) =
+        let linkable : link_answer flat ≡ None = means.same_link ∙ none-alone leaves is_linked in
+        inr (flat, (linked-flat answers_are_facts link_facts_grow (tree_of c.marks) ms flat).1 (is_flat, linkable), (alike (stops s)).1 ends)
+
+    links-same : IsSameWork after-links (of_list output c plan leaves)
+    links-same x = (there x, back x)
+
+-- ---- the work of a command
+
+pub staged-runs-are-flat : StagedRunsAreFlat
+staged-runs-are-flat files c plan flat leaves bytes is_linking accepts came = by_verb c.verb is_linking where
+  by_linking : (output : Command → Plan → List Parts → Work Stop Output) → IsSameWork (output c plan flat) (output c plan leaves)
+      → IsSameWork (linking output files c) (of_list output c plan leaves)
+  by_linking output same =
+      same-trans (linking output files c) (with_stops link_fact (linked (tree_of c.marks) accepts.modules) >>= λ flat. output c plan flat)
+      (of_list output c plan leaves)
+      (after-inputs files c plan flat bytes accepts output) (links-same c accepts.modules flat leaves accepts.is_flat came plan output same)
+
+  alike : (v : Verb) → IsSameWork (put_out_of v c plan flat) (put_out_of v c plan leaves)
+  alike = put_out-alike c plan flat leaves (means-same flat leaves came)
+
+  by_verb : (v : Verb) → IsLinking v → IsSameWork (work_of v files c) (of_list (put_out_of v) c plan leaves)
+  by_verb verb.Show never = absurd never
+  by_verb verb.Check never = absurd never
+  by_verb verb.Link is_one = by_linking linked_file (alike verb.Link)
+  by_verb verb.Locate is_one = by_linking (locating absolute_file) (alike verb.Locate)
+  by_verb verb.Dump is_one = by_linking (locating printed_image) (alike verb.Dump)
+  by_verb verb.Addr is_one = by_linking (locating printed_hit) (alike verb.Addr)
+  by_verb verb.Bin is_one = by_linking (locating raw_file) (alike verb.Bin)
+  by_verb verb.Txt is_one = by_linking (locating txt_file) (alike verb.Txt)
+  by_verb verb.FromTxt never = absurd never
+  by_verb verb.Help never = absurd never
+  by_verb verb.Version never = absurd never
+  by_verb verb.Make never = absurd never

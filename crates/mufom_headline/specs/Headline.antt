@@ -1,0 +1,71 @@
+-- What a run of `locate` or `dump` results in: the main law of the program. It can be read alone, with the definitions that it names.
+use Rattle.std.specs.Prelude.{◌≡◌, ◌↔◌, ◌⊎◌, ℕ, List, [], ◌∷◌, Some, None, Ok}
+use Rattle.mufom_host.specs.World.{NamedFile}
+use Rattle.mufom_words.specs.declared.command.Command.{Command}
+use Rattle.mufom_words.specs.declared.command.Verb.{Verb}
+use Rattle.mufom_words.specs.declared.command.Verb.TheVariants as verb
+use Rattle.mufom_words.specs.Answer.{answer_of}
+use Rattle.mufom_module.specs.declared.module.Parts.{Parts}
+use Rattle.mufom_module.specs.Written.{written}
+use Rattle.mufom_plan.specs.declared.plan.Plan.{Plan}
+use Rattle.mufom_text.specs.Image.{image_text}
+use Rattle.mufom_meaning.specs.declared.located.LocatedParts.{LocatedParts}
+use Rattle.mufom_meaning.specs.Absolute.{absolute_of, no_regions}
+use Rattle.mufom_meaning.specs.Facts.{LocateFact}
+use Rattle.mufom_meaning.specs.LinkAnswer.{link_answer}
+use Rattle.mufom_meaning.specs.LocateAnswer.{locate_answer}
+use Rattle.mufom_meaning.specs.Location.{IsLocation}
+use Rattle.mufom_groups.specs.Work.{gives}
+use Rattle.mufom_command.specs.declared.outcome.Outcome.{Outcome}
+use Rattle.mufom_command.specs.declared.outcome.Outcome.TheVariants as outcome
+use Rattle.mufom_command.specs.declared.outcome.Refusal.TheVariants as refusal
+use Rattle.mufom_command.specs.LocateRefusals.{locate_refusal}
+use Rattle.mufom_command.specs.Commands.{kept_of, maus_of}
+use Rattle.mufom_command.specs.Run.{Call, Answers, MakesFile, PrintsText}
+use Rattle.mufom_command.specs.RunLaws.{Accepts, CameByStages, HasNoFact, IsUndisturbed}
+
+-- The output of a run is this location and nothing else. `locate` makes one file, named by `-o`, with the bytes of the location's absolute
+-- module; `dump` prints the text of its image.
+abbrev pub PutsOutLocation : Verb → Command → LocatedParts → Call → Type 0
+PutsOutLocation verb.Locate c r call = (name : List ℕ) × (c.out ≡ Some name) × MakesFile name (written (absolute_of r)) call
+PutsOutLocation verb.Dump c r call = PrintsText (image_text r) call
+PutsOutLocation _ c r call = ⊥
+
+-- The output of a run over a list of modules is a location by the plan. Without `--keep`, `kept` is the list itself; with it, `kept` is the
+-- part of the list's link that the named public symbol needs.
+--
+-- `IsLocation` defines the location: each public, the start and each debug expression has the value of its expression at the planned bases
+-- of sections and commons; each loaded address holds the byte of the literal or field that is loaded there; nothing else is loaded.
+--
+-- Located alone, by a plan without regions, the absolute module of the location gives the same location.
+pub record IsPutOut (c : Command) (plan : Plan) (list : List Parts) (call : Call) : Type 0 where
+  pub kept : List Parts
+  pub keeps : kept_of c.keep list (gives kept)
+  pub location : LocatedParts
+  pub is_location : IsLocation kept plan location
+  pub itself : IsLocation (absolute_of location ∷ []) no_regions location
+  pub puts_out : PutsOutLocation c.verb c location call
+
+-- The result of the run is that of locating this list. It is `Done` if and only if the list can be linked and what is kept of it can be
+-- located; the output is then the location. A list that can be linked, and of which what is kept cannot be located, is refused with the
+-- first error of locating it.
+pub record HasLocated (c : Command) (plan : Plan) (call : Call) (result : Outcome) (list : List Parts) : Type 0 where
+  pub done : (result ≡ outcome.Done) ↔ HasNoFact c.keep list plan
+  pub output : result ≡ outcome.Done → IsPutOut c plan list call
+  pub refused : (kept : List Parts) (f : LocateFact) → link_answer list ≡ None → kept_of c.keep list (gives kept)
+      → locate_answer kept plan ≡ Some f → result ≡ outcome.Refused (refusal.Locate (locate_refusal f) (maus_of kept))
+
+-- The result of the run is that of locating the flat list of its modules. If earlier runs made these modules from another list by partial
+-- links, in any number of stages, it is also the result of locating that list.
+pub record LocatesAll (c : Command) (plan : Plan) (call : Call) (result : Outcome) (flat : List Parts) : Type 0 where
+  pub located : HasLocated c plan call result flat
+  pub staged : (leaves : List Parts) → CameByStages flat leaves → HasLocated c plan call result leaves
+
+-- For all arguments, files and plans: if no I/O call failed, the run did not run out of memory, and the plan and the files were accepted,
+-- then `locate` and `dump` locate the flat list of the modules, and each list from which that was linked in stages.
+abbrev pub TheHeadline : Type 0
+TheHeadline =
+    (words : List (List ℕ)) (files : List NamedFile) (call : Call) (result : Outcome) (c : Command) (plan : Plan) (flat : List Parts)
+    → Answers words call result → IsUndisturbed files call result
+    → answer_of words ≡ Ok c → (c.verb ≡ verb.Locate) ⊎ (c.verb ≡ verb.Dump) → Accepts files c plan flat
+    → LocatesAll c plan call result flat

@@ -1,0 +1,70 @@
+-- What a run of `link` results in, and what the work of a command is whose files were linked in stages.
+use Rattle.std.specs.Prelude.{◌≡◌, ◌↔◌, ℕ, List, [], ◌∷◌, Some, None, Ok, unwrap_or}
+use Rattle.mufom_host.specs.World.{NamedFile, HoldBytes}
+use Rattle.mufom_words.specs.declared.command.Command.{Command}
+use Rattle.mufom_words.specs.declared.command.Verb.TheVariants as verb
+use Rattle.mufom_words.specs.Answer.{answer_of}
+use Rattle.mufom_module.specs.declared.module.Parts.{Parts}
+use Rattle.mufom_module.specs.Written.{written}
+use Rattle.mufom_plan.specs.declared.plan.Plan.{Plan}
+use Rattle.mufom_meaning.specs.Joined.{IsJoined}
+use Rattle.mufom_meaning.specs.LinkAnswer.{link_answer}
+use Rattle.mufom_meaning.specs.Staging.{StandsFor}
+use Rattle.mufom_groups.specs.Linked.{first_name, links}
+use Rattle.mufom_groups.specs.Work.{Work, ◌>>=◌, with_stops}
+use Rattle.mufom_command.specs.declared.outcome.Outcome.{Outcome}
+use Rattle.mufom_command.specs.declared.outcome.Outcome.TheVariants as outcome
+use Rattle.mufom_command.specs.Stop.{Stop, link_fact}
+use Rattle.mufom_command.specs.Commands.{Output, work_of}
+use Rattle.mufom_command.specs.Run.{Call, Answers, MakesFile}
+use Rattle.mufom_command.specs.RunLaws.{Accepts, CameByStages, IsLinking, IsSameWork, IsUndisturbed, put_out_of}
+
+-- If no I/O call failed, the run did not run out of memory and its files were accepted, `link` is `Done` if and only if the flat list of the
+-- modules can be linked, whatever the groups are.
+abbrev pub LinkingIsDone : Type 0
+LinkingIsDone =
+    (words : List (List ℕ)) (files : List NamedFile) (call : Call) (result : Outcome) (c : Command) (plan : Plan) (flat : List Parts)
+    → Answers words call result → IsUndisturbed files call result → answer_of words ≡ Ok c → c.verb ≡ verb.Link → Accepts files c plan flat
+    → (result ≡ outcome.Done) ↔ (link_answer flat ≡ None)
+
+-- The output of a run over a list of modules is one file, named by `-o`, and nothing else. It has the bytes of the module into which the list
+-- is linked, whose name is that of `--name` or that of the first module. In every context this module means what the list means.
+pub record IsLinkPutOut (c : Command) (list : List Parts) (call : Call) : Type 0 where
+  pub link : Parts
+  pub joined : IsJoined link list (unwrap_or c.name (first_name list))
+  pub stands : StandsFor link list
+  pub name : List ℕ
+  pub file : c.out ≡ Some name
+  pub puts_out : MakesFile name (written link) call
+
+-- The result of the run is that of linking this list: it is `Done` if and only if the list can be linked, and the output is then the link.
+pub record HasLinked (c : Command) (call : Call) (result : Outcome) (list : List Parts) : Type 0 where
+  pub done : (result ≡ outcome.Done) ↔ (link_answer list ≡ None)
+  pub output : result ≡ outcome.Done → IsLinkPutOut c list call
+
+-- The result is that of linking the flat list, and of linking each list from which earlier runs made its modules in stages.
+pub record LinksAll (c : Command) (call : Call) (result : Outcome) (flat : List Parts) : Type 0 where
+  pub linked : HasLinked c call result flat
+  pub staged : (leaves : List Parts) → CameByStages flat leaves → HasLinked c call result leaves
+
+-- If no I/O call failed, the run did not run out of memory and its files were accepted, `link` links the flat list of the modules.
+abbrev pub LinksArePutOut : Type 0
+LinksArePutOut =
+    (words : List (List ℕ)) (files : List NamedFile) (call : Call) (result : Outcome) (c : Command) (plan : Plan) (flat : List Parts)
+    → Answers words call result → IsUndisturbed files call result → answer_of words ≡ Ok c → c.verb ≡ verb.Link → Accepts files c plan flat
+    → LinksAll c call result flat
+
+-- The work of a command over one list of modules, without groups and members: the list is linked, which may end the work with a link error,
+-- and its output follows.
+abbrev pub work_of_list : Command → Plan → List Parts → Work Stop Output
+work_of_list c plan ms = do
+  _ ← with_stops link_fact (links (ms ∷ []))
+  put_out_of c.verb c plan ms
+
+-- The work of a command whose files were linked in stages is its work over the list that the stages began with, whether or not that list can
+-- be linked.
+abbrev pub StagedRunsAreFlat : Type 0
+StagedRunsAreFlat =
+    (files : List NamedFile) (c : Command) (plan : Plan) (flat leaves : List Parts)
+    → HoldBytes files → IsLinking c.verb → Accepts files c plan flat → CameByStages flat leaves
+    → IsSameWork (work_of c.verb files c) (work_of_list c plan leaves)

@@ -1,0 +1,35 @@
+//! Laws of whole runs, each the contract of a function that does nothing.
+
+ghost use Rattle.mufom_headline.specs.Headline.{TheHeadline};
+ghost use Rattle.mufom_headline.specs.Linking.{LinkingIsDone, LinksArePutOut, StagedRunsAreFlat};
+ghost use Rattle.mufom_headline.specs.ReadBack.{WrittenFilesAreReadBack};
+
+/// `locate` and `dump` are `Done` if and only if the flat list of the modules can be linked and located.
+/// The output is then the location, and nothing else. If earlier runs made the modules from another list
+/// in stages, the same holds of that list.
+pub fn the_headline()
+    ensures { TheHeadline }
+{}
+
+/// `link` is `Done` if and only if the flat list of the modules can be linked, whatever the groups are.
+pub fn linking_is_done()
+    ensures { LinkingIsDone }
+{}
+
+/// The output of `link` is the file of the module into which the flat list is linked, and that module
+/// means what the list means. If earlier runs made the modules from another list in stages, the same
+/// holds of that list.
+pub fn links_are_put_out()
+    ensures { LinksArePutOut }
+{}
+
+/// The work of a command whose files were linked in stages is its work over the list that the stages
+/// began with, whether or not that list can be linked.
+pub fn staged_runs_are_flat()
+    ensures { StagedRunsAreFlat }
+{}
+
+/// A later run reads from the file of a module that module, and no other, if the file is not too long.
+pub fn written_files_are_read_back()
+    ensures { WrittenFilesAreReadBack }
+{}

@@ -1,0 +1,14 @@
+//! Laws of whole runs of the program.
+//!
+//! Each law is the contract of a function that does nothing. The laws are about runs as `mufom_command`
+//! specifies them. Begin with [`the_headline`].
+#![tactic(auto)]
+
+mod laws;
+mod read_back;
+
+pub use laws::{
+    linking_is_done, links_are_put_out, staged_runs_are_flat, the_headline,
+    written_files_are_read_back,
+};
+pub use read_back::written_module_is_read_back;
