@@ -13,7 +13,7 @@ import os, re, sys
 
 COMMAND = "mufom_command/src/"
 # The functions whose clauses are what there is to trust: file of the crate, and name (None: each in the file).
-ROOTS = [(COMMAND + "command.rt", "run"), (COMMAND + "laws.rt", None), ("mufom_groups/src/laws.rt", None)]
+ROOTS = [("mufom_headline/src/laws.rt", None), (COMMAND + "command.rt", "run"), (COMMAND + "laws.rt", None), ("mufom_groups/src/laws.rt", None)]
 # What an auditor reads beside them: the clauses of the outside, the status, and how contracts see these types.
 BESIDE = ["mufom_host/src/world.rt", COMMAND + "outcome.rt", "mufom_numbers/src/text.rt", "mufom_numbers/src/bytes.rt",
           "mufom_numbers/src/list.rt", "mufom_expr/src/postfix.rt", "mufom_module/src/module.rt"]
