@@ -51,8 +51,8 @@ written = found (lines_in exact (listing_lines small) untidy) refl
 
 -- the listing with a first line, a position of its section and a count of its bytes
 abbrev changed : Text → Text → Text → Text
-changed first position count = first ++ (codes " \"A\" processor \"68000\" maus 4 order M\nsection " ++ (position
-    ++ (codes " \"code\" ASP size 4 align 2 base 4096\nselect 0\ncounter 0 = 4096\nbytes " ++ (count ++ codes " 4E714E75\nstart = 4096\n"))))
+changed word place length = word ++ (codes " \"A\" processor \"68000\" maus 4 order M\nsection " ++ (place
+    ++ (codes " \"code\" ASP size 4 align 2 base 4096\nselect 0\ncounter 0 = 4096\nbytes " ++ (length ++ codes " 4E714E75\nstart = 4096\n"))))
 
 -- another position, and another count of bytes, leave the shape of a listing, and are no listing of the module
 misnumbered : SpellsLines loose (listing_lines small) (changed (codes "module") (codes "1") (codes "3"))
