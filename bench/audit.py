@@ -312,8 +312,8 @@ def page_text():
     library = [tuple(it.rsplit(".", 1)) for it in reached.library | beside.library if "." in it]
     return "\n".join([
         "# What there is to trust", "",
-        "The definitions that the contract of `run` and its public laws reach, and nothing else: somebody who reads these, and trusts"
-        " the toolchain, knows what is proved. `python3 bench/audit.py` writes this page; with `--check` it says whether the page is up to"
+        "All definitions that are reached from the laws of `mufom_headline`, the contract of `run`, and the public laws of `mufom_command`"
+        " and `mufom_groups`. Anyone who reads them and trusts the toolchain knows what is proved. `python3 bench/audit.py` writes this page; with `--check` it says whether the page is up to"
         " date.", "",
         "## The clauses", "", "| function | lines | file |", "|---|---|---|",
         *[f"| `{name}` | {lines} | `crates/{path}` |" for path, name, lines, _ in functions], "",

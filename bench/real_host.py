@@ -2,7 +2,7 @@
 
     python3 bench/real_host.py PROGRAM
 
-Each row of the table in docs/COMMANDS.md ("The real host") is a row here: what is tried, the status, the line on standard error,
+Each row of the table in docs/COMMANDS.md ("Files, pipes and full disks") is a row here: what is tried, the status, the line on standard error,
 and whether OUT stands afterwards. Rows that this machine cannot try are named. The status is 0 where all others hold.
 """
 

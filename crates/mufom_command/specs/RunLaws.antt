@@ -132,7 +132,8 @@ put_out_of _ = λ c plan ms. nowhere
 abbrev pub PutOutAlike : Command → Plan → (ms leaves : List Parts) → Type 0
 PutOutAlike c plan ms leaves = (v : Verb) → IsSameWork (put_out_of v c plan ms) (put_out_of v c plan leaves)
 
--- the lists are the first and the last of stages of partial links, and the last is of modules without a defect that can be linked
+-- the lists are the first and the last of stages of partial links, and the last is of modules without a defect, with one
+-- descriptor and no public name twice
 pub record CameByStages (ms leaves : List Parts) : Type 0 where
   pub staged : IsStaged ms leaves
   pub valid : AreValid leaves

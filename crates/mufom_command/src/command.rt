@@ -72,9 +72,9 @@ fn answer<H: Host>(alloc: Global, words: &[String], host: &mut H) -> Outcome
 /// `locate -o OUT FILES`, `dump FILES`, `map FILES`, `make COUNT`, `addr --at ADDRESS FILES`, `bin -o OUT FILES`,
 /// `txt -o OUT FILES`, `fromtxt -o OUT FILE`, `help` or `version`, each with its options.
 ///
-/// `words` are the command line's words without the program's name, fewer than 2^32. The plan is
-/// read first, where one is named, and then the files. Every outcome but `Done` prints one error line;
-/// where that fails the outcome stays. A file is made only after all that goes into it is there.
+/// `words` are the command line's words without the program's name, fewer than 2^32. If a plan is
+/// named, it is read first, and then the files. Every outcome except `Done` prints one error line; if
+/// printing fails, the outcome stays the same. A file is created only after its whole contents are known.
 pub fn run<H: Host>(alloc: Global, words: &[String], host: &mut H) -> Outcome
     requires { length words.now < 2 ^ 32 }
     // Each answer has its cause in the words, the files or the faults of this call, and so much was put out.

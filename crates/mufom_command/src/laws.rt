@@ -20,8 +20,9 @@ pub fn answers_are_determined()
     ensures { AnswersAreDetermined }
 {}
 
-/// Where no call failed and memory was found, locating accepted files is done exactly where no fact
-/// stands against their flat list, by any plan and wherever the files have their groups.
+/// If no call failed and memory sufficed, a command that locates accepted files is `Done` if and only if
+/// their flat list can be linked and what is kept of it can be located, whatever the plan and the groups
+/// are. For `bin`, this assumes that the raw image is not too long.
 pub fn locating_is_done()
     ensures { LocatingIsDone }
 {}

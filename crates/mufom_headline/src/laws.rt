@@ -4,14 +4,16 @@ ghost use Rattle.mufom_headline.specs.Headline.{TheHeadline};
 ghost use Rattle.mufom_headline.specs.Linking.{LinkingIsDone, LinksArePutOut, StagedRunsAreFlat};
 ghost use Rattle.mufom_headline.specs.ReadBack.{WrittenFilesAreReadBack};
 
-/// `locate` and `dump` are `Done` if and only if the flat list of the modules can be linked and located.
-/// The output is then the location, and nothing else. If earlier runs made the modules from another list
-/// in stages, the same holds of that list.
+/// If no I/O call failed, the run did not run out of memory, and the plan and the files were accepted,
+/// `locate` and `dump` are `Done` if and only if the flat list of the modules can be linked and what is
+/// kept of it can be located. The output is then that location, and nothing else. If earlier runs made
+/// the modules from another list in stages, the same holds of that list.
 pub fn the_headline()
     ensures { TheHeadline }
 {}
 
-/// `link` is `Done` if and only if the flat list of the modules can be linked, whatever the groups are.
+/// Under the same conditions, `link` is `Done` if and only if the flat list of the modules can be linked,
+/// whatever the groups are.
 pub fn linking_is_done()
     ensures { LinkingIsDone }
 {}

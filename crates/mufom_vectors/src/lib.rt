@@ -1,8 +1,8 @@
 //! Worked runs of the program as tests, each named by what it shows: the files and texts were not made
 //! by the program. They state nothing that a contract states.
 //!
-//! It stands on the reader, the writer and the top call, and so has the one law that joins reading and
-//! writing: what is written of a module is read back ([`read_back`]).
+//! It depends on the reader, the writer and the top call, and so it also has [`read_back`]: a reader
+//! returns the module that was written. `mufom_headline` states the same of a later run.
 #![tactic(auto)]
 
 #[cfg(test)]
