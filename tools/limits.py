@@ -32,6 +32,8 @@ SIZES = {"most": LIMIT, "more": LIMIT + 1, "half": LIMIT // 2, "half+": LIMIT //
 
 
 def main():
+    if len(sys.argv) < 2:
+        sys.exit(__doc__.strip())
     program, failures = os.path.abspath(sys.argv[1]), 0
     with tempfile.TemporaryDirectory(prefix="mufom-") as folder:
         for name, length in SIZES.items():

@@ -1,7 +1,7 @@
 """Tries the program on module files made at random, against judge.py.
 
-    python3 bench/try_files.py PROGRAM SEED COUNT
-    python3 bench/try_files.py PROGRAM --hostile
+    python3 tools/try_files.py PROGRAM SEED COUNT
+    python3 tools/try_files.py PROGRAM --hostile
 
 Each file is checked with its debug part read, or passed over. A file that the program and the judge
 answer differently is kept beside the others in the folder for temporary files, and named; the last
@@ -273,6 +273,8 @@ def try_hostile(program):
 
 
 def main():
+    if sys.argv[2:] != ["--hostile"] and len(sys.argv) < 4:
+        sys.exit(__doc__.strip())
     if sys.argv[2:] == ["--hostile"]:
         return try_hostile(sys.argv[1])
     program, seed, count = sys.argv[1], int(sys.argv[2]), int(sys.argv[3])

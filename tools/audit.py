@@ -313,7 +313,7 @@ def page_text():
     return "\n".join([
         "# What there is to trust", "",
         "All definitions that are reached from the laws of `mufom_headline`, the contract of `run`, and the public laws of `mufom_command`"
-        " and `mufom_groups`. Anyone who reads them and trusts the toolchain knows what is proved. `python3 bench/audit.py` writes this page; with `--check` it says whether the page is up to"
+        " and `mufom_groups`. Anyone who reads them and trusts the toolchain knows what is proved. `python3 tools/audit.py` writes this page; with `--check` it says whether the page is up to"
         " date.", "",
         "## The clauses", "", "| function | lines | file |", "|---|---|---|",
         *[f"| `{name}` | {lines} | `crates/{path}` |" for path, name, lines, _ in functions], "",
@@ -335,7 +335,7 @@ def main():
     text = page_text()
     if "--check" in sys.argv:
         same = os.path.isfile(PAGE) and read(PAGE) == text
-        print("up to date" if same else f"{PAGE} is stale: run bench/audit.py")
+        print("up to date" if same else f"{PAGE} is stale: run tools/audit.py")
         sys.exit(0 if same else 1)
     with open(PAGE, "w", encoding="utf-8") as file:
         file.write(text)

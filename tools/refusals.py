@@ -1,6 +1,6 @@
 """Tries the examples of docs/REFUSALS.md that are written in one of the forms of that page.
 
-    python3 bench/refusals.py PROGRAM
+    python3 tools/refusals.py PROGRAM
 
 Makes each of them, gives it to the program, and compares the line on standard error with the row.
 Examples that are told in words are passed over. The last line has the number of examples that hold
@@ -80,6 +80,8 @@ def examples():
 
 
 def main():
+    if len(sys.argv) < 2:
+        sys.exit(__doc__.strip())
     program = os.path.abspath(sys.argv[1])
     passed = failed = 0
     with tempfile.TemporaryDirectory() as folder:

@@ -1,6 +1,6 @@
 """Tries the program on the real host: odd files, full disks, closed outputs.
 
-    python3 bench/real_host.py PROGRAM
+    python3 tools/real_host.py PROGRAM
 
 Each row of the table in docs/COMMANDS.md ("Files, pipes and full disks") is a row here: what is tried, the status, the line on standard error,
 and whether OUT stands afterwards. Rows that this machine cannot try are named. The status is 0 where all others hold.
@@ -86,6 +86,8 @@ def tries(t):
 
 
 def main():
+    if len(sys.argv) < 2:
+        sys.exit(__doc__.strip())
     program = os.path.abspath(sys.argv[1])
     folder = tempfile.mkdtemp(prefix="mufom-")
     copy = os.path.join(folder, "mufom")

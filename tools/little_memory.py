@@ -1,6 +1,6 @@
 """Runs a large link with less and less memory.
 
-    python3 bench/little_memory.py PROGRAM
+    python3 tools/little_memory.py PROGRAM
 
 Links files with COUNT public symbols each under a limit of address space that falls in steps, down to what the program cannot begin
 with. Each run must end with status 0, or with status 5 and the one line `out of memory`, and make no file then; it must never end by
@@ -52,6 +52,8 @@ def run(words, folder, limit):
 
 
 def main():
+    if len(sys.argv) < 2:
+        sys.exit(__doc__.strip())
     program = os.path.abspath(sys.argv[1])
     folder = tempfile.mkdtemp(prefix="mufom-")
     for letter in (b"a", b"b"):

@@ -73,7 +73,7 @@ def calls(crate, of_memory):
 def main():
     crates = re.findall(r"^([a-z_0-9]+):", read("crates.txt"), re.M)
     page = ["# Public calls", "",
-            "Every public call, from the crate roots, written by `python3 bench/public_calls.py`. Each is proved to return if its conditions hold.",
+            "Every public call, from the crate roots, written by `python3 tools/public_calls.py`. Each is proved to return if its conditions hold.",
             "*Conditions* and *clauses* count the `requires` and `ensures` of its contract. A call with *memory* may run out of memory, and then changes",
             "nothing that its clauses do not name. A call with *host* does I/O through the host that it is given, and returns an I/O error only if an error",
             "counter increased.", ""]
@@ -90,7 +90,7 @@ def main():
     text = "\n".join(page)
     if "--check" in sys.argv:
         same = os.path.isfile(PAGE) and read(PAGE) == text
-        print("up to date" if same else f"{PAGE} is stale: run bench/public_calls.py")
+        print("up to date" if same else f"{PAGE} is stale: run tools/public_calls.py")
         sys.exit(0 if same else 1)
     with open(PAGE, "w", encoding="utf-8") as file:
         file.write(text)

@@ -1,6 +1,6 @@
 """Checks that `help` and docs/REFUSALS.md know every name that an error line can have.
 
-    python3 bench/help_topics.py
+    python3 tools/help_topics.py
 
 The names come from the definition of the error lines, crates/mufom_command/specs/Complaint.antt, and
 from the enums of errors; the commands come from crates/mufom_words/specs/Options.antt. Each name must

@@ -1,7 +1,7 @@
 """Refuses each growth of memory in turn, and looks at what the program does then.
 
-    python3 bench/refused_growths.py PROGRAM
-    python3 bench/refused_growths.py --work PROGRAM
+    python3 tools/refused_growths.py PROGRAM
+    python3 tools/refused_growths.py --work PROGRAM
 
 A growth is a call of `malloc` or `realloc`; they are counted from 0. The program runs under a library that refuses one of them, which
 is compiled for it (`cc`, on Linux). Each run must give its own answer, as without a refusal, or end with status 5 and `out of memory`,
