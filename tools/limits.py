@@ -25,6 +25,8 @@ RUNS = [
     (["check", "more"], 1, "", "refused: file 0: InputLimit\n"),
     (["check", "half", "half", "none"], 1, "", "refused: file 2 at 0: Truncated\n"),
     (["check", "half", "half+"], 1, "", "refused: file 1: InputLimit\n"),
+    (["fromtxt", "-o", "made", "text"], 0, "", ""),
+    (["fromtxt", "-o", "made", "text+"], 1, "", "refused: file 0: InputLimit\n"),
     (["make", "65536"], 0, "67641324", ""),
     (["make", "65537"], 2, "", "usage: bad count\n"),
 ]
@@ -40,6 +42,9 @@ def main():
             with open(os.path.join(folder, name), "wb") as file:
                 file.write(padded(length))
         open(os.path.join(folder, "none"), "wb").close()
+        for name, length in (("text", LIMIT), ("text+", LIMIT + 1)):
+            with open(os.path.join(folder, name), "wb") as file:
+                file.write(b"\n" * (length - 2) + b"q\n")
         for words, status, out, err in RUNS:
             run = subprocess.run([program, *words], cwd=folder, capture_output=True, text=True, check=False)
             good = run.returncode == status and run.stderr == err and (out is None or out == run.stdout or out and out in run.stdout)
