@@ -5,3 +5,5 @@ pub mod Linking
 pub mod LinkedFiles
 pub mod Headline
 pub mod ReadBack
+mod TextMade
+pub mod Texts

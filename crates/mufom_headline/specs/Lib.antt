@@ -1,3 +1,4 @@
 pub mod Linking
 pub mod Headline
 pub mod ReadBack
+pub mod Texts

@@ -3,6 +3,7 @@
 ghost use Rattle.mufom_headline.specs.Headline.{TheHeadline};
 ghost use Rattle.mufom_headline.specs.Linking.{LinkingIsDone, LinksArePutOut, StagedRunsAreFlat};
 ghost use Rattle.mufom_headline.specs.ReadBack.{WrittenFilesAreReadBack};
+ghost use Rattle.mufom_headline.specs.Texts.{TextsComeBack};
 
 /// If no I/O call failed, the run did not run out of memory, and the plan and the files were accepted,
 /// `locate` and `dump` are `Done` if and only if the flat list of the modules can be linked and what is
@@ -34,4 +35,11 @@ pub fn staged_runs_are_flat()
 /// A later run reads from the file of a module that module, and no other, if the file is not too long.
 pub fn written_files_are_read_back()
     ensures { WrittenFilesAreReadBack }
+{}
+
+/// `fromtxt` and then `txt` make the text of the first text's map: `fromtxt` makes the file of the module
+/// of the text's runs, and `txt` over this file alone makes the text of these runs. This holds if the
+/// text and the module file are not too long.
+pub fn texts_come_back()
+    ensures { TextsComeBack }
 {}

@@ -1,0 +1,153 @@
+-- A text comes back from the file that is made of it.
+use Rattle.std.proofs.Common.{◌≡◌, ◌≤◌, ℕ, ◌*◌, Bool, not, nat_lt, List, [], ◌∷◌, length, Option, Some, Result, Ok, refl, sym, subst, arith}
+use Rattle.mufom_numbers.specs.declared.limits.TheConstants.{MOST_FILE_BYTES}
+use Rattle.mufom_host.specs.World.{HoldBytes, NamedFile, file_named}
+use Rattle.mufom_words.specs.declared.command.Command.{Command}
+use Rattle.mufom_words.specs.declared.command.Verb.{Verb}
+use Rattle.mufom_words.specs.declared.stop.WordsStop.{WordsStop}
+use Rattle.mufom_words.specs.Answer.{answer_of}
+use Rattle.mufom_words.specs.Tree.{Forest, empty, file, tree_of}
+use Rattle.mufom_module.specs.declared.module.Parts.{Parts}
+use Rattle.mufom_module.specs.Written.{written}
+use Rattle.mufom_meaning.specs.declared.located.LocatedParts.{LocatedParts}
+use Rattle.mufom_meaning.specs.declared.located.Run.{Run}
+use Rattle.mufom_meaning.specs.Absolute.{no_regions}
+use Rattle.mufom_meaning.specs.Facts.{LocateFact}
+use Rattle.mufom_meaning.specs.Location.{IsLocation}
+use Rattle.mufom_meaning.proofs.Choices.{not_lt}
+use Rattle.mufom_titxt.specs.TextModules.{HaveModule, HaveText, text_parts}
+use Rattle.mufom_titxt.specs.Texts.{IsTxtOf}
+use Rattle.mufom_titxt.specs.Written.{txt_text}
+use Rattle.mufom_titxt.proofs.BackLaws.{written_is_read}
+use Rattle.mufom_titxt.proofs.NoFactLaws.{text_located}
+use Rattle.mufom_titxt.proofs.ReadLaws.{have-module, have-text}
+use Rattle.mufom_meaning.specs.Selection.{IsSelected}
+use Rattle.mufom_groups.specs.Linked.{IsFlatList, linked, links}
+use Rattle.mufom_groups.specs.Work.{gives}
+use Rattle.mufom_groups.proofs.Works.{value-same}
+use Rattle.mufom_command.specs.Inputs.{ComeTo, accepted}
+use Rattle.mufom_command.specs.Commands.{modules_in, Output, run_of, work_by, kept_of, located, located_unless, locating, made, plan_in, runs_of_text}
+use Rattle.mufom_command.specs.Commands.{text_in, txt_file, unless_past_limit, work_of, writes}
+use Rattle.mufom_command.specs.declared.outcome.Outcome.{Outcome}
+use Rattle.mufom_command.specs.declared.outcome.Outcome.TheVariants as outcome
+use Rattle.mufom_command.specs.Run.{Answers, Call, MakesFile, PutsOut}
+use Rattle.mufom_command.specs.RunLaws.{IsUndisturbed}
+use Rattle.mufom_command.proofs.Determined.{answers-determined}
+use Rattle.mufom_command.proofs.Runs.{of-files, run_of-single}
+use Rattle.mufom_command.proofs.TextRuns.{text-rows}
+use Rattle.mufom_command.proofs.WorkLaws.{writes-gives}
+use Rattle.mufom_headline.specs.Texts.{IsFromTxt, IsTxtAlone, Makes, TextsComeBack}
+use Rattle.mufom_headline.proofs.Calm.{answers-for, done-comes}
+use Rattle.mufom_headline.proofs.TextMade.{text-accepted}
+
+module _ (text : List ℕ) (maus : ℕ) (runs : List Run) (low : 1 ≤ maus) (high : maus ≤ 8) (short : length text ≤ MOST_FILE_BYTES)
+    (is : IsTxtOf text (8 * maus) runs) (few : length (written (text_parts maus runs)) ≤ MOST_FILE_BYTES) where
+  abbrev m : Parts
+  m = text_parts maus runs
+
+  abbrev bytes : List ℕ
+  bytes = written (text_parts maus runs)
+
+  has-module : HaveModule (8 * maus) runs
+  has-module = have-module text (8 * maus) runs is short
+
+  has-text : HaveText (8 * maus) runs
+  has-text = have-text text (8 * maus) runs is (omega (arith, high))
+
+  -- ---- `fromtxt`
+
+  module _ (files : List NamedFile) (c : Command) (name out : List ℕ) (does : IsFromTxt c maus name out) (there : file_named name files ≡ Some text) where
+    is-read : text_in files c.files (gives text)
+    is-read =
+        let kept : unless_past_limit (nat_lt MOST_FILE_BYTES (length text)) text (gives text)
+        = subst (λ (b : Bool). unless_past_limit b text (gives text)) (sym (not_lt MOST_FILE_BYTES (length text) short)) refl in
+        subst (λ (names : List (List ℕ)). text_in files names (gives text)) (sym does.files) (text, there, kept)
+
+    has-rows : runs_of_text c.maus text (gives runs)
+    has-rows = subst (λ (k : ℕ). runs_of_text k text (gives runs)) (sym does.maus) (text-rows maus text runs is)
+
+    puts-out : writes c.out (written (text_parts c.maus runs)) (gives (made out bytes))
+    puts-out = subst (λ (k : ℕ). writes c.out (written (text_parts k runs)) (gives (made out bytes))) (sym does.maus) (writes-gives c out bytes does.puts_out)
+
+    module-file : work_of c.verb files c (gives (made out bytes))
+    module-file = subst (λ (v : Verb). work_of v files c (gives (made out bytes))) (sym does.does) (text, is-read, (runs, has-rows, puts-out))
+
+  -- ---- `txt`
+
+  -- the module needs nothing, so no member is selected for it
+  is-flat : IsFlatList (file 0 empty) (text_parts maus runs ∷ []) (text_parts maus runs ∷ [])
+  is-flat = ([], chosen, refl) where
+    chosen : IsSelected (text_parts maus runs ∷ []) [] []
+    chosen = record {
+      increasing = λ k less. omega (arith, less);
+      closed = refl;
+      least = λ other all n here. let less = here.1 in absurd (omega (arith, less));
+    }
+
+  module _ (r : LocatedParts) (is_location : IsLocation (text_parts maus runs ∷ []) no_regions r) where
+    one-links : links ((text_parts maus runs ∷ []) ∷ []) (gives tt)
+    one-links = refl
+
+    is-linked : linked (file 0 empty) (text_parts maus runs ∷ []) (gives (text_parts maus runs ∷ []))
+    is-linked = (tt, one-links, (text_parts maus runs ∷ [], is-flat, (tt, one-links, refl)))
+
+    is-located : located no_regions (text_parts maus runs ∷ []) (gives r)
+    is-located = subst (λ (o : Option LocateFact). located_unless o no_regions (text_parts maus runs ∷ []) (gives r)) (sym is_location.locates) is_location
+
+    module _ (files : List NamedFile) (c : Command) (name out : List ℕ) (does : IsTxtAlone c name out) (there : file_named name files ≡ Some bytes) where
+      is-planned : plan_in files c.plan (gives no_regions)
+      is-planned = subst (λ (o : Option (List ℕ)). plan_in files o (gives no_regions)) (sym does.plan) refl
+
+      is-kept : kept_of c.keep (text_parts maus runs ∷ []) (gives (text_parts maus runs ∷ []))
+      is-kept = subst (λ (o : Option (List ℕ)). kept_of o (text_parts maus runs ∷ []) (gives (text_parts maus runs ∷ []))) (sym does.keep) refl
+
+      is-in : modules_in files c (gives (text_parts maus runs ∷ []))
+      is-in = subst (λ (names : List (List ℕ)). ComeTo (not c.no_debug) files names (accepted (text_parts maus runs ∷ []))) (sym does.files)
+          (text-accepted maus runs low high has-module has-text few (not c.no_debug) files name there)
+
+      text-file : r.runs ≡ runs → work_of c.verb files c (gives (made out (txt_text runs)))
+      text-file same =
+          let linked-here : linked (tree_of c.marks) (text_parts maus runs ∷ []) (gives (text_parts maus runs ∷ []))
+          = subst (λ (tree : Forest). linked tree (text_parts maus runs ∷ []) (gives (text_parts maus runs ∷ []))) (sym does.marks) is-linked in
+          let puts : writes c.out (txt_text r.runs) (gives (made out (txt_text runs)))
+          = subst (λ (rows : List Run). writes c.out (txt_text rows) (gives (made out (txt_text runs)))) (sym same)
+          (writes-gives c out (txt_text runs) does.puts_out) in
+          let put-out : locating txt_file c no_regions (text_parts maus runs ∷ []) (gives (made out (txt_text runs)))
+          = (text_parts maus runs ∷ [], is-kept, (r, is-located, puts)) in
+          subst (λ (v : Verb). work_of v files c (gives (made out (txt_text runs)))) (sym does.does)
+          (no_regions, is-planned, (text_parts maus runs ∷ [], is-in, (text_parts maus runs ∷ [], linked-here, put-out)))
+
+-- ---- runs
+
+module _ (files : List NamedFile) (c : Command) (name bytes : List ℕ) (works : work_of c.verb files c (gives (made name bytes))) where
+  module _ (words : List (List ℕ)) (named : answer_of words ≡ Ok c) where
+    of-run : (o : Output) → work_of c.verb files c (gives o) → run_of words files (gives o)
+    of-run o is = subst (λ (r : Result Command WordsStop). work_by r files (gives o)) (sym named) is
+
+    module _ (call : Call) (result : Outcome) (is : Answers words call result) (calm : IsUndisturbed files call result) where
+      is-done : result ≡ outcome.Done
+      is-done = answers-determined words files call result (gives (made name bytes)) is calm (of-run (made name bytes) works)
+
+      makes-file : MakesFile name bytes call
+      makes-file =
+          let came = done-comes files call c result (answers-for files call c words result is named) calm is-done in
+          let hold : HoldBytes files = of-files call files calm.known HoldBytes calm.revealed.bytes in
+          let same : came.output ≡ made name bytes = value-same came.output (made name bytes)
+          (run_of-single words files hold (gives came.output) (gives (made name bytes)) (of-run came.output came.comes) (of-run (made name bytes) works)) in
+          subst (λ (o : Output). PutsOut o call) same came.puts_out
+
+  makes : Makes files c name bytes
+  makes = record {
+    work = works;
+    run = λ words call result is calm named. (is-done words named call result is calm, makes-file words named call result is calm);
+  }
+
+pub texts-come-back : TextsComeBack
+texts-come-back text maus runs low high short is few = record {
+  module_file = λ files c name out does there.
+      makes files c out (written (text_parts maus runs)) (module-file text maus runs low high short is few files c name out does there);
+  text_file = λ files c name out does there.
+      let (r, is_location, same) = text_located maus runs (has-module text maus runs low high short is few) low high in
+      makes files c out (txt_text runs) (text-file text maus runs low high short is few r is_location files c name out does there same);
+  same_runs = written_is_read (8 * maus) runs (has-text text maus runs low high short is few);
+}

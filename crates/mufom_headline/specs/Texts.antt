@@ -1,0 +1,57 @@
+-- What `fromtxt` makes of a TI-TXT text, and `txt` of the file that `fromtxt` made.
+use Rattle.std.specs.Prelude.{◌≡◌, ◌≤◌, ℕ, ◌*◌, List, [], ◌∷◌, length, Some, None, Ok}
+use Rattle.mufom_numbers.specs.declared.limits.TheConstants.{MOST_FILE_BYTES}
+use Rattle.mufom_host.specs.World.{NamedFile, file_named}
+use Rattle.mufom_words.specs.declared.command.Command.{Command}
+use Rattle.mufom_words.specs.declared.command.Verb.TheVariants as verb
+use Rattle.mufom_words.specs.Answer.{answer_of}
+use Rattle.mufom_words.specs.Tree.{empty, file, tree_of}
+use Rattle.mufom_module.specs.Written.{written}
+use Rattle.mufom_meaning.specs.declared.located.Run.{Run}
+use Rattle.mufom_titxt.specs.TextModules.{text_parts}
+use Rattle.mufom_titxt.specs.Texts.{IsTxtOf}
+use Rattle.mufom_titxt.specs.Written.{txt_text}
+use Rattle.mufom_groups.specs.Work.{gives}
+use Rattle.mufom_command.specs.declared.outcome.Outcome.{Outcome}
+use Rattle.mufom_command.specs.declared.outcome.Outcome.TheVariants as outcome
+use Rattle.mufom_command.specs.Commands.{made, work_of}
+use Rattle.mufom_command.specs.Run.{Answers, Call, MakesFile}
+use Rattle.mufom_command.specs.RunLaws.{IsUndisturbed}
+
+-- `fromtxt` over the file with this name, with this many addressable units to an address, and this name after `-o`
+pub record IsFromTxt (c : Command) (units : ℕ) (name out : List ℕ) : Type 0 where
+  pub does : c.verb ≡ verb.FromTxt
+  pub files : c.files ≡ name ∷ []
+  pub maus : c.maus ≡ units
+  pub puts_out : c.out ≡ Some out
+
+-- `txt` over the file with this name alone, with this name after `-o`, and without `--plan` and `--keep`
+pub record IsTxtAlone (c : Command) (name out : List ℕ) : Type 0 where
+  pub does : c.verb ≡ verb.Txt
+  pub files : c.files ≡ name ∷ []
+  pub marks : tree_of c.marks ≡ file 0 empty
+  pub plan : c.plan ≡ None
+  pub keep : c.keep ≡ None
+  pub puts_out : c.out ≡ Some out
+
+-- The work of the command over these files gives a file with this name and these bytes. A run of the command is `Done`, and makes this file
+-- and nothing else, if no I/O call failed and it did not run out of memory.
+pub record Makes (files : List NamedFile) (c : Command) (name bytes : List ℕ) : Type 0 where
+  pub work : work_of c.verb files c (gives (made name bytes))
+  pub run : (words : List (List ℕ)) (call : Call) (result : Outcome) → Answers words call result → IsUndisturbed files call result
+      → answer_of words ≡ Ok c → (result ≡ outcome.Done) × MakesFile name bytes call
+
+-- `fromtxt` over the text makes the file of the module of the runs. `txt` over this file makes the text of the runs, which is again a text of
+-- them.
+pub record ComesBack (text : List ℕ) (maus : ℕ) (runs : List Run) : Type 0 where
+  pub module_file : (files : List NamedFile) (c : Command) (name out : List ℕ) → IsFromTxt c maus name out
+      → file_named name files ≡ Some text → Makes files c out (written (text_parts maus runs))
+  pub text_file : (files : List NamedFile) (c : Command) (name out : List ℕ) → IsTxtAlone c name out
+      → file_named name files ≡ Some (written (text_parts maus runs)) → Makes files c out (txt_text runs)
+  pub same_runs : IsTxtOf (txt_text runs) (8 * maus) runs
+
+-- A text with which nothing is wrong comes back, if it and the file of its module are not too long.
+abbrev pub TextsComeBack : Type 0
+TextsComeBack =
+    (text : List ℕ) (maus : ℕ) (runs : List Run) → 1 ≤ maus → maus ≤ 8 → length text ≤ MOST_FILE_BYTES → IsTxtOf text (8 * maus) runs
+    → length (written (text_parts maus runs)) ≤ MOST_FILE_BYTES → ComesBack text maus runs
