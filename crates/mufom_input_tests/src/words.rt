@@ -59,23 +59,27 @@ static COMMANDS: [(&str, &str); 23] = [
     (
         "check a --no-debug b",
         "Command { verb: Check, no_debug: true, name: None, out: None, plan: None, marks: List { items: [File(0), File(1)] }, \
-            files: List { items: [Text { text: \"a\" }, Text { text: \"b\" }] }, count: 0, listing: false, fill: 0, at: 0, maus: 4, keep: None, help: None }",
+            files: List { items: [Text { text: \"a\" }, Text { text: \"b\" }] }, \
+            count: 0, listing: false, fill: 0, at: 0, maus: 4, keep: None, help: None }",
     ),
     (
         "check a b --no-debug",
         "Command { verb: Check, no_debug: true, name: None, out: None, plan: None, marks: List { items: [File(0), File(1)] }, \
-            files: List { items: [Text { text: \"a\" }, Text { text: \"b\" }] }, count: 0, listing: false, fill: 0, at: 0, maus: 4, keep: None, help: None }",
+            files: List { items: [Text { text: \"a\" }, Text { text: \"b\" }] }, \
+            count: 0, listing: false, fill: 0, at: 0, maus: 4, keep: None, help: None }",
     ),
     // Two dashes end the options, and one dash names a file.
     (
         "check -- --no-debug -x",
         "Command { verb: Check, no_debug: false, name: None, out: None, plan: None, marks: List { items: [File(0), File(1)] }, \
-            files: List { items: [Text { text: \"--no-debug\" }, Text { text: \"-x\" }] }, count: 0, listing: false, fill: 0, at: 0, maus: 4, keep: None, help: None }",
+            files: List { items: [Text { text: \"--no-debug\" }, Text { text: \"-x\" }] }, \
+            count: 0, listing: false, fill: 0, at: 0, maus: 4, keep: None, help: None }",
     ),
     (
         "check - a",
         "Command { verb: Check, no_debug: false, name: None, out: None, plan: None, marks: List { items: [File(0), File(1)] }, \
-            files: List { items: [Text { text: \"-\" }, Text { text: \"a\" }] }, count: 0, listing: false, fill: 0, at: 0, maus: 4, keep: None, help: None }",
+            files: List { items: [Text { text: \"-\" }, Text { text: \"a\" }] }, \
+            count: 0, listing: false, fill: 0, at: 0, maus: 4, keep: None, help: None }",
     ),
     (
         "show help",
@@ -99,12 +103,14 @@ static COMMANDS: [(&str, &str); 23] = [
     (
         "link --name=n -oc a --no-debug",
         "Command { verb: Link, no_debug: true, name: Some(Bytes { held: [110] }), out: Some(Text { text: \"c\" }), plan: None, \
-            marks: List { items: [File(0)] }, files: List { items: [Text { text: \"a\" }] }, count: 0, listing: false, fill: 0, at: 0, maus: 4, keep: None, help: None }",
+            marks: List { items: [File(0)] }, files: List { items: [Text { text: \"a\" }] }, \
+            count: 0, listing: false, fill: 0, at: 0, maus: 4, keep: None, help: None }",
     ),
     (
         "locate -o=c --plan  a",
         "Command { verb: Locate, no_debug: false, name: None, out: Some(Text { text: \"c\" }), plan: Some(Text { text: \"\" }), \
-            marks: List { items: [File(0)] }, files: List { items: [Text { text: \"a\" }] }, count: 0, listing: false, fill: 0, at: 0, maus: 4, keep: None, help: None }",
+            marks: List { items: [File(0)] }, files: List { items: [Text { text: \"a\" }] }, \
+            count: 0, listing: false, fill: 0, at: 0, maus: 4, keep: None, help: None }",
     ),
     (
         "make 0065536",
@@ -120,13 +126,15 @@ static COMMANDS: [(&str, &str); 23] = [
     (
         "bin --fill=fE -oc a",
         "Command { verb: Bin, no_debug: false, name: None, out: Some(Text { text: \"c\" }), plan: None, \
-            marks: List { items: [File(0)] }, files: List { items: [Text { text: \"a\" }] }, count: 0, listing: false, fill: 254, at: 0, maus: 4, keep: None, \
+            marks: List { items: [File(0)] }, files: List { items: [Text { text: \"a\" }] }, \
+            count: 0, listing: false, fill: 254, at: 0, maus: 4, keep: None, \
             help: None }",
     ),
     (
         "addr --at 00FfFFffFFffFFff a",
         "Command { verb: Addr, no_debug: false, name: None, out: None, plan: None, marks: List { items: [File(0)] }, \
-            files: List { items: [Text { text: \"a\" }] }, count: 0, listing: false, fill: 0, at: 72057594037927935, maus: 4, keep: None, help: None }",
+            files: List { items: [Text { text: \"a\" }] }, \
+            count: 0, listing: false, fill: 0, at: 72057594037927935, maus: 4, keep: None, help: None }",
     ),
     // Members of a map.
     (
@@ -164,7 +172,8 @@ static COMMANDS: [(&str, &str); 23] = [
     (
         "-V",
         "Command { verb: Version, no_debug: false, name: None, out: None, plan: None, marks: List { items: [] }, \
-            files: List { items: [] }, count: 0, listing: false, fill: 0, at: 0, maus: 4, keep: None, help: Some(HelpText { text: \"mufom 1.0.0\\n\" }) }",
+            files: List { items: [] }, \
+            count: 0, listing: false, fill: 0, at: 0, maus: 4, keep: None, help: Some(HelpText { text: \"mufom 1.0.0\\n\" }) }",
     ),
 ];
 
