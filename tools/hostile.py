@@ -242,9 +242,9 @@ def kept_chain():
     for at in range(100_000):
         sections.append(b"\xE6" + number(1 + at) + b"\xC3\xD0\x01s\xE7" + number(1 + at) + b"\x04\xE2\xD3" + number(1 + at) + b"\x04")
         publics.append(public(32 + at, b"p%d" % at, b"\xD2" + number(1 + at)))
-        data.append(b"\xE5" + number(1 + at) + b"\xE4\xBE\xC9" + number(32 + (at + 1) % 100_000) + b"\x04\xBF")
+        data.append(b"\xE5" + number(1 + at) + b"\xE4\xBE\xC9" + number(32 + (at + 1) % 100_000) + b"\xBF")
     return {"m": file_of(b"m", sections=b"".join(sections), externals=b"".join(publics), data=b"".join(data)), "p": PLAN.encode()}, [
-        ("locate --plan p --keep p0 -o out m", 0), ("map --plan p --keep p0 m", 0)]
+        ("locate --plan p --keep p0 -o out m", 0), ("map --plan p m", 0)]
 
 
 def no_files():
