@@ -226,7 +226,7 @@ def clauses_of(path, wanted):
     uses = names_of_use(text)
     for found in re.finditer(r"pub fn (\w+)[^{]*?\n((?:\s+(?:requires|ensures|//)[^\n]*\n|\s+[^\n{]*\}\n)+)\{", text):
         if wanted in (None, found[1]):
-            words = {it.split(".")[0] for it in tokens_of(found[2])}
+            words = sorted({it.split(".")[0] for it in tokens_of(found[2])})
             yield found[1], found[2].strip().count("\n") + 1, [uses[it] for it in words if it in uses]
 
 
