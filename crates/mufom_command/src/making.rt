@@ -3,7 +3,7 @@
 ghost use Rattle.std.specs.Prelude.{◌≡◌, ◌≤◌, None, false, true, IfErr, IfOk};
 ghost use Rattle.mufom_host.specs.World.{OnlyPrints};
 ghost use Rattle.mufom_make.specs.Generated.{made_modules, made_plan, summary};
-ghost use Rattle.mufom_make.specs.declared.generated.TheConstants.{MOST_MODULES};
+ghost use Rattle.mufom_numbers.specs.declared.limits.TheConstants.{MOST_MODULES};
 ghost use Rattle.mufom_words.specs.Options.{makes_modules, reads_files};
 ghost use Rattle.mufom_words.specs.Sound.{IsSound};
 ghost use Rattle.mufom_groups.specs.Work.{gives};

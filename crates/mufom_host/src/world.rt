@@ -3,8 +3,11 @@ ghost use Rattle.mufom_host.specs.World.{Meaning, Faults, RevealsTogether, HasCa
 ghost use Rattle.mufom_host.specs.World.{WritesAll, KeepsAllButLeft, KeepsAllButOpened, KeepsAllButMaking, KeepsAllButCreated, KeepsAllButMade};
 ghost use Rattle.mufom_host.specs.World.{KeepsAllButOut, KeepsAllButErr, KeepsAllButReads, KeepsAllButWrites, KeepsAllButComplaints};
 
+use thiserror::Error;
+
 /// A call of the outside failed, and its count of faults rose.
-#[derive(Clone, Copy, Debug, PartialEq, Eq)]
+#[derive(Clone, Copy, Debug, PartialEq, Eq, Error)]
+#[error("the operation failed")]
 pub struct Failed;
 
 /// What stands outside, each part of it known or not, and how often calls failed.

@@ -1,12 +1,15 @@
 use crate::stop::Stop;
 use mufom_numbers::NoMemory;
+use thiserror::Error;
 
 /// Why the loads of a module make no image.
-#[derive(Debug, Drop)]
+#[derive(Debug, Drop, Error)]
 pub enum ImageRefusal {
     /// What ends the walk over the loads.
+    #[error(transparent)]
     Stopped(Stop),
     /// Out of memory.
+    #[error("out of memory")]
     NoMemory,
 }
 

@@ -1,16 +1,21 @@
 use mufom_meaning::Descriptor;
 use mufom_numbers::{Bytes, NoMemory};
+use thiserror::Error;
 
 /// Why a list of modules isn't linked.
-#[derive(Debug, Drop)]
+#[derive(Debug, Drop, Error)]
 pub enum LinkRefusal {
     /// The descriptor of the first module, and the first one that differs from it.
+    #[error("the modules have different address units")]
     Mismatch(Descriptor, Descriptor),
     /// The name of the first public symbol that has the name of an earlier one.
+    #[error("duplicate public symbol")]
     Duplicate(Bytes),
     /// More than one module has a start.
+    #[error("more than one module has a start address")]
     DuplicateStart,
     /// Out of memory.
+    #[error("out of memory")]
     NoMemory,
 }
 

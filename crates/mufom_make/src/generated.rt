@@ -6,7 +6,7 @@ ghost use Rattle.mufom_loads.specs.declared.load.Item.TheVariants.{Literal, Fiel
 ghost use Rattle.mufom_expr.specs.declared.token.FieldKind.TheVariants.{Either};
 ghost use Rattle.mufom_module.specs.declared.module.Order.TheVariants.{Most};
 ghost use Rattle.mufom_module.specs.Bare.{bare_parts};
-ghost use Rattle.mufom_make.specs.declared.generated.TheConstants.{MOST_MODULES};
+ghost use Rattle.mufom_numbers.specs.declared.limits.TheConstants.{MOST_MODULES};
 ghost use Rattle.mufom_make.specs.Generated.{code_section, entry_at, loads_at, made_plan, module_at, name_at, next_value, references_at};
 
 use itoa::Buffer;
@@ -19,9 +19,6 @@ use mufom_plan::{Plan, Region};
 use mufom_sections::{Purpose, Section};
 use smallvec::SmallVec;
 use std::alloc::Global;
-
-/// How many modules can be generated.
-pub const MOST_MODULES: u32 = 65_536;
 
 // How many units the section of a module has.
 const SECTION_SIZE: u64 = 16;

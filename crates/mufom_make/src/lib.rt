@@ -12,6 +12,5 @@ mod linking;
 mod making;
 mod summary;
 
-pub use generated::MOST_MODULES;
 pub use making::made;
 pub use summary::summary_text;

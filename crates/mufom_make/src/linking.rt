@@ -7,7 +7,7 @@ ghost use Rattle.mufom_meaning.specs.Joined.{IsJoined};
 ghost use Rattle.mufom_meaning.specs.LinkAnswer.{link_answer};
 ghost use Rattle.mufom_meaning.specs.Staging.{IsStaged, NameStays};
 ghost use Rattle.mufom_meaning.specs.StagingLaws.{total_weight};
-ghost use Rattle.mufom_make.specs.declared.generated.TheConstants.{MOST_MODULES};
+ghost use Rattle.mufom_numbers.specs.declared.limits.TheConstants.{MOST_MODULES};
 ghost use Rattle.mufom_make.specs.Generated.{made_modules, modules_from};
 ghost use Rattle.mufom_make.specs.Links.{IsLinkOf, most_weight};
 

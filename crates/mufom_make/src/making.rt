@@ -3,7 +3,7 @@ ghost use Rattle.mufom_meaning.specs.Location.{IsLocation};
 ghost use Rattle.mufom_meaning.specs.LocateAnswer.{locate_answer};
 ghost use Rattle.mufom_image.specs.Refusals.{IsMet};
 ghost use Rattle.mufom_make.specs.Generated.{made_modules, made_plan};
-ghost use Rattle.mufom_make.specs.declared.generated.TheConstants.{MOST_MODULES};
+ghost use Rattle.mufom_numbers.specs.declared.limits.TheConstants.{MOST_MODULES};
 
 use crate::generated::made_plan;
 use crate::linking::linked_modules;
@@ -13,7 +13,7 @@ use std::alloc::Global;
 /// Builds `count` generated modules, links them in pairs and the results into one module, and locates
 /// that.
 ///
-/// There are 1 to [`MOST_MODULES`](crate::MOST_MODULES) of them. Each has one section of 16 units and
+/// There are 1 to [`MOST_MODULES`](mufom_numbers::limits::MOST_MODULES) of them. Each has one section of 16 units and
 /// a public in it, and loads the address of the public of the next module. The modules of a pair are
 /// let go as soon as they are linked.
 pub fn made(alloc: Global, count: u32) -> Result<Located, LocateRefusal>

@@ -14,6 +14,7 @@ use mufom_numbers::{Bytes, List};
 use mufom_sections::Section;
 use std::alloc::Global;
 use std::marker::Model;
+use thiserror::Error;
 
 /// The order of the bytes of a field and of an address.
 #[derive(Clone, Copy, Debug, PartialEq, Eq)]
@@ -70,34 +71,47 @@ impl Parts {
 }
 
 /// What keeps parts from being a module, in the order in which it is looked for.
-#[derive(Clone, Copy, Debug, PartialEq, Eq)]
+#[derive(Clone, Copy, Debug, PartialEq, Eq, Error)]
 pub enum Defect {
     /// More than 32 debug blocks are open at once.
+    #[error("debug blocks are nested too deeply")]
     Depth,
     /// A string of more than 65,535 bytes.
+    #[error("a string is longer than 65,535 bytes")]
     LongId,
     /// An address has no addressable unit, or more than 8.
+    #[error("an address does not have 1 to 8 addressable units")]
     BadMaus,
     /// An alignment of 0, or of more than 2^31.
+    #[error("invalid alignment")]
     BadAlign,
     /// No base for a section with the letters of an absolute one.
+    #[error("an absolute section has no base")]
     MissingBase,
     /// Something names an entry that is not in its list, or a debug name ahead of its declaration.
+    #[error("an entry refers to a position outside its list")]
     Position,
     /// The program counter of a section is named where no load goes to it or sets it: by a public, the
     /// start or a debug item, or by a load of another section.
+    #[error("misplaced program counter")]
     MisplacedP,
     /// A load comes while no section is set yet.
+    #[error("no section is set")]
     NoSection,
     /// A literal of more than 65,535 bytes.
+    #[error("a run of bytes is longer than 65,535")]
     LongRun,
     /// Another size of a field than 1 to 8 bytes.
+    #[error("the size of a field is not 1 to 8")]
     FieldSize,
     /// A debug note with an attribute that is not known.
+    #[error("unsupported attribute of a debug record")]
     Attribute,
     /// An expression at the end of a module block or a source block.
+    #[error("unbalanced debug blocks")]
     Nesting,
     /// A weight that 32 bits cannot hold.
+    #[error("the module is too large")]
     Weight,
 }
 

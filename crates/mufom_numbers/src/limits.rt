@@ -2,7 +2,9 @@
 
 /// The greatest alignment of a section, in addressable units.
 pub const MOST_ALIGNMENT: u64 = 2_147_483_648;
-/// The most bytes that a module's file has, and the most that all files of one command have together.
+/// The greatest length of a module's file, and of all input files of a command together, in bytes.
 pub const MOST_FILE_BYTES: usize = 67_108_864;
-/// The most bytes that the loads of an image have.
+/// The greatest number of bytes that are loaded into an image.
 pub const MOST_IMAGE_BYTES: u64 = 67_108_864;
+/// The greatest number of modules that the command `make` generates and links.
+pub const MOST_MODULES: u32 = 65_536;

@@ -1,73 +1,109 @@
-/// Why bytes are no object module. A reason's number orders it: of two faults at one byte the one
-/// with the lower number is named.
-#[derive(Clone, Copy, Debug, PartialEq, Eq)]
+use thiserror::Error;
+
+/// Why a file is not an object module. The number of a reason is its rank: of two errors at one byte, the one with the
+/// lower number is reported.
+#[derive(Clone, Copy, Debug, PartialEq, Eq, Error)]
 pub enum Reason {
-    /// A number must stand and the byte begins none, or an index is 2^32 or more.
+    /// A number is expected and the byte begins none, or an index is 2^32 or more.
+    #[error("invalid number")]
     BadNumber = 1,
-    /// A string must stand and the byte is no string's lead.
+    /// A string is expected and the byte does not begin one.
+    #[error("invalid string")]
     BadId,
-    /// A byte, or two, that begin no record.
+    /// One byte, or two, that do not begin a record.
+    #[error("invalid record")]
     BadRecord,
     /// A record of the standard that this profile leaves out.
+    #[error("unsupported record")]
     UnsupportedRecord,
     /// A function of the standard that this profile leaves out.
+    #[error("unsupported function")]
     UnsupportedFunction,
     /// A variable of the standard that this profile leaves out.
+    #[error("unsupported variable")]
     UnsupportedVariable,
-    /// A function finds fewer terms before it than it has operands.
+    /// A function has fewer terms before it than it takes operands.
+    #[error("too few operands for the function")]
     Underflow,
     /// An expression ends with more than one term.
+    #[error("the expression leaves more than one term")]
     SurplusTerms,
-    /// An expression must stand and has no token.
+    /// An expression is expected and has no token.
+    #[error("empty expression")]
     Empty,
-    /// A 256th token of an expression.
+    /// An expression has a 256th token.
+    #[error("the expression has more than 255 tokens")]
     TooLong,
     /// A run of literal bytes is longer than 65,535.
+    #[error("the run of bytes is longer than 65,535")]
     LongRun,
     /// A field's size is not 1 to 8.
+    #[error("the size of a field is not 1 to 8")]
     BadFieldSize,
-    /// The byte where a bracket must close is not its partner.
+    /// The byte where a bracket has to close is not its partner.
+    #[error("mismatched bracket")]
     BracketMismatch,
     /// A section's letters are neither `C` nor `A S`.
+    #[error("invalid section type")]
     BadSectionType,
     /// A kind of debug block that this profile leaves out.
+    #[error("unsupported kind of debug block")]
     UnsupportedBlock,
     /// An attribute of a debug note that this profile leaves out.
+    #[error("unsupported attribute of a debug record")]
     UnsupportedAttribute,
-    /// The stream ends before the module does.
+    /// The file ends before the module does.
+    #[error("unexpected end of the file")]
     Truncated,
-    /// The header has another record than must stand there.
+    /// The header contains an unexpected record.
+    #[error("invalid header")]
     BadHeader,
     /// The addressable units are not of this profile.
+    #[error("unsupported addressable units")]
     BadDescriptor,
     /// The offsets of the parts decrease, or that of the end is 0.
+    #[error("the offsets of the parts are out of order")]
     OffsetOrder,
-    /// A record crosses its part's end, or the parts do not begin after the offsets.
+    /// A record crosses the end of its part, or the parts do not begin after the offsets.
+    #[error("a record crosses the boundary of its part")]
     PartGap,
-    /// A record stands in a part that it does not belong to.
+    /// A record is in a part to which it does not belong.
+    #[error("the record does not belong to this part")]
     WrongPart,
     /// An index is declared twice.
+    #[error("duplicate index")]
     DuplicateIndex,
     /// An index is used that is not declared.
+    #[error("undeclared index")]
     UnknownIndex,
     /// A value is given twice.
+    #[error("duplicate value")]
     DuplicateValue,
     /// A public name has no value.
+    #[error("a public symbol has no value")]
     MissingValue,
     /// An absolute section has no base.
+    #[error("an absolute section has no base")]
     MissingBase,
     /// An alignment is 0 or above 2^31.
+    #[error("invalid alignment")]
     BadAlignment,
-    /// A load stands before a section is set.
+    /// A load comes before a section is set.
+    #[error("no section is set")]
     NoSection,
-    /// The program counter stands where none is meant.
+    /// The program counter is used where no section is meant.
+    #[error("misplaced program counter")]
     BadP,
-    /// A debug block's end without its begin, with a value that it cannot have, or missing.
+    /// The end of a debug block has no beginning, has a value that it cannot have, or is missing.
+    #[error("unbalanced debug blocks")]
     BlockNesting,
     /// A 33rd open debug block.
+    #[error("debug blocks are nested too deeply")]
     Depth,
-    /// A byte stands after the module's end.
+    /// A byte follows the end of the module.
+    #[error("data after the end of the module")]
     AfterEnd,
-    /// The stream is longer than 67,108,864 bytes.
+    /// The file is longer than 67,108,864 bytes.
+    #[error("the file is longer than 67,108,864 bytes")]
     FileLimit,
 }

@@ -1,11 +1,14 @@
 use mufom_numbers::{Bytes, NoMemory};
+use thiserror::Error;
 
 /// Why a module isn't pruned.
-#[derive(Debug, Drop)]
+#[derive(Debug, Drop, Error)]
 pub enum PruneRefusal {
     /// No public has this name.
+    #[error("no public symbol has the name to keep")]
     Unknown(Bytes),
     /// Out of memory.
+    #[error("out of memory")]
     NoMemory,
 }
 

@@ -24,17 +24,22 @@ use crate::refusal::{ReadRefusal, ReadStop};
 use mufom_host::{Failed, Source};
 use mufom_module::Module;
 use std::alloc::Global;
+use thiserror::Error;
 
 // How many bytes are asked for at once.
 const BUFFER: usize = 65_536;
 
 /// Why a source gives no module.
-#[derive(Clone, Copy, Debug, PartialEq, Eq)]
+#[derive(Clone, Copy, Debug, PartialEq, Eq, Error)]
 pub enum SourceStop {
+    #[error(transparent)]
     Refused(ReadRefusal),
     /// The source has more bytes than may be read, of which the first are not refused.
+    #[error("the file is too long")]
     Limit,
+    #[error("the file cannot be read")]
     Fault,
+    #[error("out of memory")]
     NoMemory,
 }
 

@@ -1,24 +1,32 @@
 use mufom_numbers::NoMemory;
+use thiserror::Error;
 
 /// What is wrong with a line of a TI-TXT text, or with its end.
-#[derive(Clone, Copy, Debug, PartialEq, Eq)]
+#[derive(Clone, Copy, Debug, PartialEq, Eq, Error)]
 pub enum TxtReason {
     /// The line is neither blank, nor an address, nor bytes, nor `q`.
+    #[error("invalid line")]
     BadLine,
     /// Bytes come before any address.
+    #[error("bytes before any address")]
     NoAddress,
     /// A byte is not below the end of the address space.
+    #[error("a byte lies beyond the address space")]
     Beyond,
     /// This address has a byte already.
+    #[error("address {0} has a second byte")]
     Twice(u64),
     /// The line is not blank, and follows `q`.
+    #[error("text after the end line")]
     AfterEnd,
     /// No line is `q`.
+    #[error("the end line is missing")]
     NoEnd,
 }
 
 /// Why a TI-TXT text is refused.
-#[derive(Clone, Copy, Debug, PartialEq, Eq)]
+#[derive(Clone, Copy, Debug, PartialEq, Eq, Error)]
+#[error("line {line}: {reason}")]
 pub struct TxtRefusal {
     /// The first line with an error, counted from 1. For [`NoEnd`](TxtReason::NoEnd) it is the last line.
     pub line: u32,
@@ -26,11 +34,13 @@ pub struct TxtRefusal {
 }
 
 /// Why no runs are read from a TI-TXT text.
-#[derive(Clone, Copy, Debug, PartialEq, Eq)]
+#[derive(Clone, Copy, Debug, PartialEq, Eq, Error)]
 pub enum TxtStop {
     /// The text is not one.
+    #[error(transparent)]
     Refused(TxtRefusal),
     /// Out of memory.
+    #[error("out of memory")]
     NoMemory,
 }
 

@@ -25,7 +25,8 @@ use Rattle.mufom_words.specs.declared.stop.WordsStop.{WordsStop}
 use Rattle.mufom_words.specs.Options.{Text, Usage, Given, usage_of, app_for, form_of, takes, id_of, given_by, keeps_what_is_needed, makes_file}
 use Rattle.mufom_words.specs.Options.{makes_modules, names_module, prints_help, reads_files, reads_plan, takes_one_file}
 use Rattle.mufom_words.specs.Operands.{word_of, file_words, is_name, names_in, operands_fault, number_fault, count_fault, count_of, is_digit}
-use Rattle.mufom_words.specs.Operands.{decimal_number, most_modules, number_of, files_of, marks_of, depth_of}
+use Rattle.mufom_words.specs.Operands.{decimal_number, number_of, files_of, marks_of, depth_of}
+use Rattle.mufom_numbers.specs.declared.limits.TheConstants.{MOST_MODULES}
 use Rattle.std.specs.Str.{bytes_eq}
 use Rattle.mufom_words.specs.declared.command.Verb.{Verb}
 use Rattle.mufom_words.specs.declared.command.Verb.TheVariants as verb
@@ -173,20 +174,20 @@ not-taken false value same = refl
 not-taken true value same = absurd cc
 
 -- a count that words state lies within its bounds
-count-good : (word : Text) → is_none (count_of word) ≡ false → (1 ≤ unwrap_or (count_of word) 0) × (unwrap_or (count_of word) 0 ≤ most_modules)
-count-good word stated = bounds (not (length word == 0)) (list_all is_digit word) (nat_le 1 n) (nat_le n most_modules) refl refl stated where
+count-good : (word : Text) → is_none (count_of word) ≡ false → (1 ≤ unwrap_or (count_of word) 0) × (unwrap_or (count_of word) 0 ≤ MOST_MODULES)
+count-good word stated = bounds (not (length word == 0)) (list_all is_digit word) (nat_le 1 n) (nat_le n MOST_MODULES) refl refl stated where
   n : ℕ
   n = decimal_number word
 
-  bounds : (a b c d : Bool) → nat_le 1 n ≡ c → nat_le n most_modules ≡ d → is_none (cond (a && (b && (c && d))) (Some n) None) ≡ false
-      → (1 ≤ unwrap_or (cond (a && (b && (c && d))) (Some n) None) 0) × (unwrap_or (cond (a && (b && (c && d))) (Some n) None) 0 ≤ most_modules)
-  bounds true true true true least most stated = (leb-true 1 n least, leb-true n most_modules most)
+  bounds : (a b c d : Bool) → nat_le 1 n ≡ c → nat_le n MOST_MODULES ≡ d → is_none (cond (a && (b && (c && d))) (Some n) None) ≡ false
+      → (1 ≤ unwrap_or (cond (a && (b && (c && d))) (Some n) None) 0) × (unwrap_or (cond (a && (b && (c && d))) (Some n) None) 0 ≤ MOST_MODULES)
+  bounds true true true true least most stated = (leb-true 1 n least, leb-true n MOST_MODULES most)
   bounds false b c d least most stated = absurd cc
   bounds true false c d least most stated = absurd cc
   bounds true true false d least most stated = absurd cc
   bounds true true true false least most stated = absurd cc
 
-count-bounds : (o : Operands) (words : List Text) → count_fault o words ≡ None → o ≡ OneCount → (1 ≤ number_of o words) × (number_of o words ≤ most_modules)
+count-bounds : (o : Operands) (words : List Text) → count_fault o words ≡ None → o ≡ OneCount → (1 ≤ number_of o words) × (number_of o words ≤ MOST_MODULES)
 count-bounds OneFile words none same = absurd cc
 count-bounds SomeFiles words none same = absurd cc
 count-bounds GroupedFiles words none same = absurd cc

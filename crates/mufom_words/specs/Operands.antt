@@ -5,6 +5,7 @@ use Rattle.std.specs.Prelude.{Some, None, Result, Ok, Err, codes, unwrap_or, is_
 use Rattle.std.specs.List.{list_all}
 use Rattle.std.specs.Str.{bytes_eq}
 use Rattle.std.specs.Int.Digits.{number_from_digits}
+use Rattle.mufom_numbers.specs.declared.limits.TheConstants.{MOST_MODULES}
 use Rattle.mufom_words.specs.declared.command.Mark.{Mark}
 use Rattle.mufom_words.specs.declared.command.Mark.TheVariants.{Open, Close, File}
 use Rattle.mufom_words.specs.declared.form.Operands.{Operands}
@@ -109,12 +110,8 @@ is_digit b = nat_le 48 b && nat_le b 57
 abbrev pub decimal_number : List ℕ → ℕ
 decimal_number digits = number_from_digits 10 (map (λ b. b - 48) digits)
 
--- how many modules are generated at most
-abbrev pub most_modules : ℕ
-most_modules = 65536
-
 abbrev pub is_count : ℕ → Bool
-is_count n = nat_le 1 n && nat_le n most_modules
+is_count n = nat_le 1 n && nat_le n MOST_MODULES
 
 -- plain decimal digits for 1 to 65,536; leading zeros are allowed
 abbrev pub count_of : Text → Option ℕ

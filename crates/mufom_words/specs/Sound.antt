@@ -3,7 +3,7 @@ use Rattle.std.specs.Prelude.{◌≡◌, ℕ, zero, suc, ◌≤◌, List, [], �
 use Rattle.mufom_words.specs.declared.command.Command.{Command}
 use Rattle.mufom_words.specs.declared.form.Form.{Form}
 use Rattle.mufom_words.specs.Options.{Text, keeps_what_is_needed, makes_file, makes_modules, names_module, prints_help, reads_files, reads_plan, takes_one_file}
-use Rattle.mufom_words.specs.Operands.{most_modules}
+use Rattle.mufom_numbers.specs.declared.limits.TheConstants.{MOST_MODULES}
 use Rattle.mufom_words.specs.Tree.{spelling, tree_of, leaves}
 use Rattle.mufom_words.specs.Answer.{answer_for, most_files, longest_name}
 
@@ -35,7 +35,7 @@ pub record HasOptions (c : Command) : Type 0 where
   pub no_out : makes_file c.verb ≡ false → c.out ≡ None
   pub no_plan : reads_plan c.verb ≡ false → c.plan ≡ None
   pub no_name : names_module c.verb ≡ false → c.name ≡ None
-  pub count : makes_modules c.verb ≡ true → (1 ≤ c.count) × (c.count ≤ most_modules)
+  pub count : makes_modules c.verb ≡ true → (1 ≤ c.count) × (c.count ≤ MOST_MODULES)
   pub no_keep : keeps_what_is_needed c.verb ≡ false → c.keep ≡ None
   pub maus : (1 ≤ c.maus) × (c.maus ≤ 8)
   pub short : IfSome c.name (λ name. length name ≤ longest_name)

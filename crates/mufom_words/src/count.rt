@@ -2,10 +2,10 @@
 
 ghost use Rattle.std.specs.Prelude.{◌≡◌, ◌≤◌, ◌+◌, min};
 ghost use Rattle.std.specs.List.{list_all};
-ghost use Rattle.mufom_words.specs.Operands.{count_of as counted, decimal_number, is_digit, most_modules};
+ghost use Rattle.mufom_words.specs.Operands.{count_of as counted, decimal_number, is_digit};
+ghost use Rattle.mufom_numbers.specs.declared.limits.TheConstants.{MOST_MODULES};
 
-/// How many modules are generated at most.
-const MOST_MODULES: u32 = 65_536;
+use mufom_numbers::limits::MOST_MODULES;
 
 fn are_digits(bytes: &[u8]) -> bool
     ensures { result ≡ list_all is_digit bytes.now }
@@ -15,7 +15,7 @@ fn are_digits(bytes: &[u8]) -> bool
 
 // The number that digits state, or the first one that is no count where it is more than that.
 fn capped_number(digits: &[u8]) -> u32
-    ensures { result ≡ min (most_modules + 1) (decimal_number digits.now) }
+    ensures { result ≡ min (MOST_MODULES + 1) (decimal_number digits.now) }
 {
     let mut number: u32 = 0;
     for digit in digits {
