@@ -12,7 +12,7 @@ use Rattle.mufom_meaning.proofs.Unfolding.{locate_answer-order}
 use Rattle.mufom_image.specs.declared.refusal.LocateRefusal.{LocateRefusal}
 use Rattle.mufom_image.specs.declared.refusal.LocateRefusal.TheVariants as refusals
 use Rattle.mufom_image.specs.Refusals.{IsMet}
-use Rattle.mufom_image.specs.Stages.{unplaced, unmet, roomless, circular, oversized, judged, IsJudged}
+use Rattle.mufom_image.specs.Stages.{unplaced, unresolved, roomless, circular, oversized, judged, IsJudged}
 
 -- what is met is met before all else
 pub met-first : (met other : Option LocateFact) (refusal : LocateRefusal) → IsMet met refusal → IsMet (met or_else other) refusal
@@ -48,14 +48,14 @@ module _ (m : Parts) (plan : Plan) where
   stages =
       locate_answer-order (m ∷ []) plan
       ∙ ap (λ o. unplaced m plan or_else o)
-      (sym (grouped (unmet m) (roomless m plan or_else (circular m or_else oversized m)) walk
-      ∙ ap (λ o. unmet m or_else o)
+      (sym (grouped (unresolved m) (roomless m plan or_else (circular m or_else oversized m)) walk
+      ∙ ap (λ o. unresolved m or_else o)
       (grouped (roomless m plan) (circular m or_else oversized m) walk
       ∙ ap (λ o. roomless m plan or_else o) (grouped (circular m) (oversized m) walk))))
 
   nothing-judged : IsJudged m plan → judged m plan ≡ None
   nothing-judged clear =
-      none-met (unmet m) (roomless m plan or_else (circular m or_else oversized m)) clear.undefined
+      none-met (unresolved m) (roomless m plan or_else (circular m or_else oversized m)) clear.undefined
       (none-met (roomless m plan) (circular m or_else oversized m) clear.commons (none-met (circular m) (oversized m) clear.acyclic clear.limit))
 
   pub unplaced-answered : (refusal : LocateRefusal) → IsMet (unplaced m plan) refusal → IsMet (locate_answer (m ∷ []) plan) refusal

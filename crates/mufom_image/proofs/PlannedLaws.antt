@@ -14,10 +14,10 @@ use Rattle.mufom_meaning.specs.Location.{IsLocation, placed_sections, located_se
 use Rattle.mufom_meaning.specs.Placed.{base_list, planned_bases}
 use Rattle.mufom_meaning.specs.Values.{setting}
 use Rattle.mufom_meaning.specs.Walk.{walk_answer}
-use Rattle.mufom_image_values.specs.declared.meetings.Meeting.{Meeting}
+use Rattle.mufom_image_values.specs.declared.resolutions.Resolution.{Resolution}
 use Rattle.mufom_image_values.specs.declared.values.PlacedModule.{PlacedModule}
 use Rattle.mufom_image_values.specs.Evaluated.{setting_of, IsGraph, IsPlaced, AreValues}
-use Rattle.mufom_image_values.specs.Meetings.{meetings_of}
+use Rattle.mufom_image_values.specs.Resolutions.{resolutions_of}
 use Rattle.mufom_image_entries.specs.declared.valued.ValuedModule.{ValuedModule}
 use Rattle.mufom_image_entries.specs.Valued.{parts_of, IsValued}
 use Rattle.mufom_image.specs.declared.refusal.LocateRefusal.{LocateRefusal}
@@ -34,17 +34,17 @@ pub placed-there : (m : Parts) (plan : Plan) (sections : List Section) (bases al
     → ArePlaced m plan sections all
 placed-there m plan sections bases all there same = subst (ArePlaced m plan sections) (sym same) there
 
-module _ (m : Parts) (met : List Meeting) (bases : List ℕ) (placed : PlacedModule) (at : StandsAt m met bases placed)
+module _ (m : Parts) (met : List Resolution) (bases : List ℕ) (placed : PlacedModule) (at : StandsAt m met bases placed)
     (names : AreDistinct (names_of m.names.publics)) where
   own-names : AreDistinct (names_of placed.graph.parts.now.names.publics)
   own-names = subst (λ (x : Parts). AreDistinct (names_of x.names.publics)) (sym at.parts) names
 
   -- its graph is that of the module
-  pub graph-placed : met ≡ meetings_of m → IsGraph placed.graph
+  pub graph-placed : met ≡ resolutions_of m → IsGraph placed.graph
   graph-placed same = record {
     valid = at.valid;
     distinct = own-names;
-    meetings = at.meetings ∙ same ∙ ap meetings_of (sym at.parts);
+    resolutions = at.resolutions ∙ same ∙ ap resolutions_of (sym at.parts);
   }
 
   module _ (plan : Plan) (sections : List Section) (there : ArePlaced m plan sections bases) where
@@ -65,7 +65,7 @@ module _ (m : Parts) (met : List Meeting) (bases : List ℕ) (placed : PlacedMod
         ∙ (let own = at.parts in λ i. walk_answer (own i ∷ []) (setting (own i ∷ []) (planned_bases (own i ∷ []) plan)))
 
     module _ (clear : IsJudged m plan) where
-      pub placed-acyclic : met ≡ meetings_of m → IsPlaced placed
+      pub placed-acyclic : met ≡ resolutions_of m → IsPlaced placed
       placed-acyclic same = record {
         graph = graph-placed same;
         acyclic = subst (λ (x : Parts). circular x ≡ None) (sym at.parts) clear.acyclic;
@@ -76,16 +76,16 @@ module _ (m : Parts) (met : List Meeting) (bases : List ℕ) (placed : PlacedMod
       walk-met refusal h = walk-answered m plan nothing-unplaced clear refusal (subst (λ o. IsMet o refusal) walk-same h)
 
 -- its publics have values
-pub valued-where-placed : (m : Parts) (met : List Meeting) (bases : List ℕ) (valued : ValuedModule) → StandsAt m met bases valued.placed.now
+pub valued-where-placed : (m : Parts) (met : List Resolution) (bases : List ℕ) (valued : ValuedModule) → StandsAt m met bases valued.placed.now
     → AreDistinct (names_of m.names.publics) → (plan : Plan) (sections : List Section) → ArePlaced m plan sections bases → IsJudged m plan
-    → met ≡ meetings_of m → AreValues valued.placed.now valued.values.now → IsValued valued
+    → met ≡ resolutions_of m → AreValues valued.placed.now valued.values.now → IsValued valued
 valued-where-placed m met bases valued at names plan sections there clear same values = record {
   placed = placed-acyclic m met bases valued.placed.now at names plan sections there clear same;
   values = values;
 }
 
 -- its loads may be walked over
-pub walked-where-placed : (m : Parts) (met : List Meeting) (bases : List ℕ) (valued : ValuedModule) → StandsAt m met bases valued.placed.now
+pub walked-where-placed : (m : Parts) (met : List Resolution) (bases : List ℕ) (valued : ValuedModule) → StandsAt m met bases valued.placed.now
     → AreDistinct (names_of m.names.publics) → (plan : Plan) (sections : List Section) → ArePlaced m plan sections bases → IsJudged m plan
     → IsValued valued → MayBeWalked valued
 walked-where-placed m met bases valued at names plan sections there clear v =
@@ -96,7 +96,8 @@ walked-where-placed m met bases valued at names plan sections there clear v =
     (planned-by m met bases valued.placed.now at names plan sections there)
 
 -- its parts with their values are the location
-pub located-where-placed : (m : Parts) (met : List Meeting) (bases : List ℕ) (valued : ValuedModule) (own : List Section) (runs : List Run) (r : LocatedParts)
+pub located-where-placed : (m : Parts) (met : List Resolution) (bases : List ℕ) (valued : ValuedModule) (own : List Section) (runs : List Run)
+    (r : LocatedParts)
     → HasEntries valued own runs r → StandsAt m met bases valued.placed.now → AreDistinct (names_of m.names.publics)
     → (plan : Plan) (sections : List Section) → ArePlaced m plan sections bases → own ≡ placed_sections bases sections → IsJudged m plan
     → walk_answer (parts_of valued ∷ []) (setting_of valued.placed.now) ≡ None → AreRuns valued runs → IsLocation (m ∷ []) plan r

@@ -31,11 +31,11 @@ use Rattle.mufom_image_values.specs.Evaluated.{bases_by}
 use Rattle.mufom_image_values.proofs.DivisionLaws.{value-is}
 use Rattle.mufom_image_values.proofs.PlannedLaws.{planned}
 use Rattle.mufom_image_bytes.specs.Modules.{home_of, IsReady}
-use Rattle.mufom_image_bytes.specs.Outcomes.{WorthAt}
+use Rattle.mufom_image_bytes.specs.Outcomes.{ValuationAt}
 use Rattle.mufom_image_entries.specs.declared.valued.ValuedModule.{ValuedModule}
 use Rattle.mufom_image_entries.specs.Valued.{parts_of, IsValued}
 use Rattle.mufom_image.specs.Placements.{placing_refusal, ArePlaced}
-use Rattle.mufom_image.specs.Stages.{IsJudged, IsPlannedBy, public_division, bases_of, worth_of, MayBeWalked}
+use Rattle.mufom_image.specs.Stages.{IsJudged, IsPlannedBy, public_division, bases_of, valuation_of, MayBeWalked}
 
 -- a module alone may be linked, where none of its publics has the name of another
 pub linkable-alone : (m : Parts) → AreDistinct (names_of m.names.publics) → link_answer (m ∷ []) ≡ None
@@ -88,9 +88,9 @@ module _ (m : Parts) (plan : Plan) (names : AreDistinct (names_of m.names.public
     by_region true e = common_has_base ms plan e name common none
     by_region false e = before (common_unplaced name) (e, common_there ms name common)
 
-  ready : (worth : WorthAt) → ((counter : ℕ) (t : Tree) → worth counter t ≡ value s (home_of m) (Some counter) t) → public_division s ≡ None
-      → IsReady m at at.sections worth
-  ready worth is none = record {
+  ready : (valuation : ValuationAt) → ((counter : ℕ) (t : Tree) → valuation counter t ≡ value s (home_of m) (Some counter) t) → public_division s ≡ None
+      → IsReady m at at.sections valuation
+  ready valuation is none = record {
     at_bases = refl;
     count = planned_count ms plan ∙ ap length (append-nil m.sections);
     inside = inside;
@@ -120,10 +120,10 @@ same-bases plan placed by =
 pub may-be-walked : (plan : Plan) (valued : ValuedModule) → IsValued valued → AreDistinct (names_of (parts_of valued).names.publics)
     → placing_refusal (parts_of valued) plan ≡ None
     → IsJudged (parts_of valued) plan → IsPlannedBy plan valued.placed.now → MayBeWalked valued
-may-be-walked plan valued v names none clear by = let m = parts_of valued in let worth = worth_of valued in record {
-  ready = subst (λ (b : Bases). ((counter : ℕ) (t : Tree) → worth counter t ≡ value (setting (m ∷ []) b) (home_of m) (Some counter) t)
-      → public_division (setting (m ∷ []) b) ≡ None → IsReady m b b.sections worth)
+may-be-walked plan valued v names none clear by = let m = parts_of valued in let valuation = valuation_of valued in record {
+  ready = subst (λ (b : Bases). ((counter : ℕ) (t : Tree) → valuation counter t ≡ value (setting (m ∷ []) b) (home_of m) (Some counter) t)
+      → public_division (setting (m ∷ []) b) ≡ None → IsReady m b b.sections valuation)
       (sym (same-bases plan valued.placed.now by))
-      (ready m plan names none clear worth)
+      (ready m plan names none clear valuation)
       (λ counter t. value-is valued.placed.now v.placed valued.values.now v.values (Some counter) t);
 }

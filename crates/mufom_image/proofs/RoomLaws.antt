@@ -13,15 +13,15 @@ use Rattle.mufom_names.specs.Names.{names_of}
 use Rattle.mufom_names.specs.Index.{Entry, numbered_from}
 use Rattle.mufom_module.specs.declared.module.Parts.{Parts}
 use Rattle.mufom_plan.specs.Names.{has_name}
-use Rattle.mufom_meaning.specs.Flat.{distinct, is_common, common_size, public_names, unmet_references, commons}
+use Rattle.mufom_meaning.specs.Flat.{distinct, is_common, common_size, public_names, unresolved_references, commons}
 use Rattle.mufom_meaning.specs.Placed.{greatest_size, common_section, common_sections}
 use Rattle.mufom_meaning.proofs.Choices.{some_same}
 use Rattle.mufom_meaning.proofs.Distinct.{filter-append, IsDistinct-distinct}
-use Rattle.mufom_image_values.specs.declared.meetings.Meeting.TheVariants as meetings
+use Rattle.mufom_image_values.specs.declared.resolutions.Resolution.TheVariants as resolutions
 use Rattle.mufom_image_values.specs.Names.{place_in, with_name, asks}
-use Rattle.mufom_image_values.specs.Meetings.{meeting_by, common_list, meeting_of}
+use Rattle.mufom_image_values.specs.Resolutions.{resolution_by, common_list, resolution_of}
 use Rattle.mufom_image_values.proofs.NameLaws.{filter-both, filter-same, has-place, place-some, asked-names, names_after-distinct}
-use Rattle.mufom_image_values.proofs.MeetingLaws.{asked-commons, distinct-has}
+use Rattle.mufom_image_values.proofs.ResolutionLaws.{asked-commons, distinct-has}
 use Rattle.mufom_image.specs.declared.commons.Room.{Room}
 use Rattle.mufom_image.specs.Rooms.{room_of, common_of, raised, with_room_at, with_room, with_asked}
 use Rattle.mufom_image.proofs.SizeLaws.{Asked, names_in, greatest-push, greatest-none, greatest-distinct}
@@ -111,7 +111,7 @@ room-push commons asked room name e past =
 -- ---- what a reference stands for and asks
 
 -- what stands for a common and is of a positive size asks for room there
-room-asks : (o u : Option ℕ) (weak : Option Weak) (room : Room) → room_of (meeting_by o u weak) weak ≡ Some room
+room-asks : (o u : Option ℕ) (weak : Option Weak) (room : Room) → room_of (resolution_by o u weak) weak ≡ Some room
     → (o ≡ None) × (u ≡ Some room.common) × (common_size weak ≡ room.size) × (not (common_size weak == 0) ≡ true)
 room-asks (Some n) u None room e = absurd cc
 room-asks (Some n) u (Some weak) room e = absurd cc
@@ -126,14 +126,14 @@ room-asks None (Some n) (Some weak) room e = by_size (weak.size == 0) refl e whe
       (refl, ap (λ (r : Room). Some r.common) same, ap (λ (r : Room). r.size) same, ap not f)
 room-asks None None None room e = absurd cc
 room-asks None None (Some weak) room e = by_size (weak.size == 0) e where
-  by_size : (b : Bool) → room_of (if b then meetings.Default weak.default else meetings.Nothing) (Some weak) ≡ Some room
+  by_size : (b : Bool) → room_of (if b then resolutions.Default weak.default else resolutions.Nothing) (Some weak) ≡ Some room
       → (◌≡◌ {A = Option ℕ} None None) × (◌≡◌ {A = Option ℕ} None (Some room.common)) × (weak.size ≡ room.size) × (not (weak.size == 0) ≡ true)
   by_size true f = absurd cc
   by_size false f = absurd cc
 
 -- and what asks is given room
 asks-room : (o u : Option ℕ) (n : ℕ) (weak : Option Weak) → o ≡ None → u ≡ Some n → not (common_size weak == 0) ≡ true
-    → room_of (meeting_by o u weak) weak ≡ None → ⊥
+    → room_of (resolution_by o u weak) weak ≡ None → ⊥
 asks-room (Some k) u n weak f g h e = cc
 asks-room None None n weak f g h e = cc
 asks-room None (Some k) n None f g h e = cc
@@ -212,7 +212,7 @@ module _ (m : Parts) where
     common_place = place_in (common_list m) r.name
 
     -- a reference that asks for room is given it
-    room-given : (room : Room) → room_of (meeting_of m r) r.weak ≡ Some room → with_room (sections_for (asked_by before)) room r.name
+    room-given : (room : Room) → room_of (resolution_of m r) r.weak ≡ Some room → with_room (sections_for (asked_by before)) room r.name
         ≡ sections_for (asked_by (before ++ r ∷ []))
     room-given room given =
         let asks_for = room-asks public_place common_place r.weak room given in
@@ -227,7 +227,7 @@ module _ (m : Parts) where
         ∙ ap sections_for (sym one)
 
     -- one that asks for none changes nothing
-    none-given : room_of (meeting_of m r) r.weak ≡ None → sections_for (asked_by before) ≡ sections_for (asked_by (before ++ r ∷ []))
+    none-given : room_of (resolution_of m r) r.weak ≡ None → sections_for (asked_by before) ≡ sections_for (asked_by (before ++ r ∷ []))
     none-given none = by_case (asks publics r) refl where
       there : (o : Option ℕ) → is_none o ≡ false → (n : ℕ) × (o ≡ Some n)
       there None f = absurd cc
@@ -254,16 +254,16 @@ module _ (m : Parts) where
           absurd (asks-room public_place common_place place.0 r.weak (lacks public_place two.1) place.1 two.0 none)
 
     -- one reference more
-    pub room-asked : with_asked (sections_for (asked_by before)) (room_of (meeting_of m r) r.weak) r.name ≡ sections_for (asked_by (before ++ r ∷ []))
-    room-asked = by_room (room_of (meeting_of m r) r.weak) refl where
-      by_room : (o : Option Room) → room_of (meeting_of m r) r.weak ≡ o → with_asked (sections_for (asked_by before)) o r.name
+    pub room-asked : with_asked (sections_for (asked_by before)) (room_of (resolution_of m r) r.weak) r.name ≡ sections_for (asked_by (before ++ r ∷ []))
+    room-asked = by_room (room_of (resolution_of m r) r.weak) refl where
+      by_room : (o : Option Room) → room_of (resolution_of m r) r.weak ≡ o → with_asked (sections_for (asked_by before)) o r.name
           ≡ sections_for (asked_by (before ++ r ∷ []))
       by_room None e = none-given e
       by_room (Some room) e = room-given room e
 
   -- the next of the references
   pub asked-step : (k : ℕ) (r : Reference) → k < length m.names.references → get_or m.names.references k r ≡ r
-      → with_asked (sections_for (asked_by (take k m.names.references))) (room_of (meeting_of m r) r.weak) r.name
+      → with_asked (sections_for (asked_by (take k m.names.references))) (room_of (resolution_of m r) r.weak) r.name
       ≡ sections_for (asked_by (take (k + 1) m.names.references))
   asked-step k r inside is =
       let all = m.names.references in
@@ -280,21 +280,21 @@ module _ (m : Parts) where
   turned false true = refl
   turned false false = refl
 
-  abbrev unmet : Reference → Bool
-  unmet r = not (has_name (public_names (m ∷ [])) r.name)
+  abbrev unresolved : Reference → Bool
+  unresolved r = not (has_name (public_names (m ∷ [])) r.name)
 
-  asks-is : (r : Reference) → asks publics r ≡ (unmet r && is_common r)
+  asks-is : (r : Reference) → asks publics r ≡ (unresolved r && is_common r)
   asks-is r =
       turned (is_common r) (is_none (place_in (names_of m.names.publics) r.name))
       ∙ ap (λ b. b && is_common r) (has-place 0 (names_of m.names.publics) r.name
       ∙ ap (λ names. not (has_name names r.name)) (sym (append-nil (names_of m.names.publics))))
 
-  all-asked : asked_by m.names.references ≡ map pair_of (filter is_common (unmet_references (m ∷ [])))
+  all-asked : asked_by m.names.references ≡ map pair_of (filter is_common (unresolved_references (m ∷ [])))
   all-asked =
       ap (map pair_of)
-      (filter-same (asks publics) (λ r. unmet r && is_common r) asks-is m.names.references
-      ∙ sym (filter-both is_common unmet m.names.references)
-      ∙ ap (λ (rs : List Reference). filter is_common (filter unmet rs)) (sym (append-nil m.names.references)))
+      (filter-same (asks publics) (λ r. unresolved r && is_common r) asks-is m.names.references
+      ∙ sym (filter-both is_common unresolved m.names.references)
+      ∙ ap (λ (rs : List Reference). filter is_common (filter unresolved rs)) (sym (append-nil m.names.references)))
 
   each : (f g : List ℕ → Section) → ((name : List ℕ) → f name ≡ g name) → (xs : List (List ℕ)) → map f xs ≡ map g xs
   each f g same [] = refl
@@ -305,6 +305,6 @@ module _ (m : Parts) where
   all-sections =
       each (common_section (asked_by m.names.references)) (common_section (commons (m ∷ [])))
       (λ name. ap (common_of name) (ap (λ (asked : List Asked). greatest_size asked name) all-asked
-      ∙ sym (greatest-distinct (map pair_of (filter is_common (unmet_references (m ∷ [])))) name)))
+      ∙ sym (greatest-distinct (map pair_of (filter is_common (unresolved_references (m ∷ [])))) name)))
       (distinct bytes_eq (names_in (asked_by m.names.references)))
       ∙ ap (map (common_section (commons (m ∷ [])))) (sym all-names)

@@ -10,7 +10,7 @@ use Rattle.mufom_place.specs.declared.refusal.PlaceRefusal.{PlaceRefusal}
 use Rattle.mufom_place.specs.Facts.{place_refusal}
 use Rattle.mufom_meaning.specs.Flat.{flat_sections, width}
 use Rattle.mufom_meaning.specs.Placed.{placed_commons, extended_sections, base_list}
-use Rattle.mufom_image_values.specs.declared.meetings.Meeting.{Meeting}
+use Rattle.mufom_image_values.specs.declared.resolutions.Resolution.{Resolution}
 use Rattle.mufom_image_values.specs.declared.values.PlacedModule.{PlacedModule}
 
 -- what every plan that is read has: no section name stands twice, fewer than 2^32 regions, at most one of them for the commons
@@ -31,9 +31,9 @@ pub record ArePlaced (m : Parts) (plan : Plan) (placed : List Section) (at : Lis
 
 -- a module without a defect, with what its references stand for: the first of the bases are those of its sections, the others those of
 -- its commons
-pub record StandsAt (m : Parts) (met : List Meeting) (all : List ℕ) (placed : PlacedModule) : Type 0 where
+pub record StandsAt (m : Parts) (met : List Resolution) (all : List ℕ) (placed : PlacedModule) : Type 0 where
   pub valid : IsValid placed.graph.parts.now
   pub parts : placed.graph.parts.now ≡ m
-  pub meetings : placed.graph.meetings.now ≡ met
+  pub resolutions : placed.graph.resolutions.now ≡ met
   pub bases : placed.bases.now ≡ take (length m.sections) all
   pub commons : placed.commons.now ≡ drop (length m.sections) all

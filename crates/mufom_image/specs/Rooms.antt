@@ -2,14 +2,14 @@
 use Rattle.std.specs.Prelude.{ℕ, ◌==◌, List, [], ◌∷◌, ◌++◌, max, Option, Some, None, slice_get, slice_set, false, if◌then◌else◌}
 use Rattle.mufom_sections.specs.declared.section.Section.{Section}
 use Rattle.mufom_names.specs.declared.name.Weak.{Weak}
-use Rattle.mufom_image_values.specs.declared.meetings.Meeting.{Meeting}
-use Rattle.mufom_image_values.specs.declared.meetings.Meeting.TheVariants as meetings
+use Rattle.mufom_image_values.specs.declared.resolutions.Resolution.{Resolution}
+use Rattle.mufom_image_values.specs.declared.resolutions.Resolution.TheVariants as resolutions
 use Rattle.mufom_image.specs.declared.commons.Room.{Room}
 
 -- the room that a reference asks for, by what it stands for: it is weak, its size is not 0, and it stands for a common
-abbrev pub room_of : Meeting → Option Weak → Option Room
-room_of (meetings.Common n) (Some weak) = if weak.size == 0 then None else Some (record { common = n; size = weak.size })
-room_of meeting weak = None
+abbrev pub room_of : Resolution → Option Weak → Option Room
+room_of (resolutions.Common n) (Some weak) = if weak.size == 0 then None else Some (record { common = n; size = weak.size })
+room_of resolution weak = None
 
 -- a common of this name and size as a section
 abbrev pub common_of : List ℕ → ℕ → Section

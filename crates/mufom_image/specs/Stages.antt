@@ -18,7 +18,7 @@ use Rattle.mufom_meaning.specs.Walk.{public_fact, start_fact, start_trees, debug
 use Rattle.mufom_image_values.specs.declared.values.PlacedModule.{PlacedModule}
 use Rattle.mufom_image_values.specs.Evaluated.{bases_by, environment_of, setting_of}
 use Rattle.mufom_image_bytes.specs.Modules.{IsReady}
-use Rattle.mufom_image_bytes.specs.Outcomes.{WorthAt}
+use Rattle.mufom_image_bytes.specs.Outcomes.{ValuationAt}
 use Rattle.mufom_image_entries.specs.declared.valued.ValuedModule.{ValuedModule}
 use Rattle.mufom_image_entries.specs.Valued.{parts_of}
 use Rattle.mufom_image.specs.Placements.{placing_refusal}
@@ -28,8 +28,8 @@ abbrev pub unplaced : Parts → Plan → Option LocateFact
 unplaced m plan = option_map placement (placing_refusal m plan)
 
 -- a strong reference has no meaning
-abbrev pub unmet : Parts → Option LocateFact
-unmet m = option_map undefined (first_undefined (m ∷ []))
+abbrev pub unresolved : Parts → Option LocateFact
+unresolved m = option_map undefined (first_undefined (m ∷ []))
 
 -- a common has no room
 abbrev pub roomless : Parts → Plan → Option LocateFact
@@ -45,11 +45,11 @@ oversized m = image_limit_at (loaded_total (m ∷ []))
 
 -- what is met once the module is placed and before its expressions are walked over, in this order
 abbrev pub judged : Parts → Plan → Option LocateFact
-judged m plan = unmet m or_else (roomless m plan or_else (circular m or_else oversized m))
+judged m plan = unresolved m or_else (roomless m plan or_else (circular m or_else oversized m))
 
 -- nothing of it is met
 pub record IsJudged (m : Parts) (plan : Plan) : Type 0 where
-  pub undefined : unmet m ≡ None
+  pub undefined : unresolved m ≡ None
   pub commons : roomless m plan ≡ None
   pub acyclic : circular m ≡ None
   pub limit : oversized m ≡ None
@@ -75,14 +75,14 @@ pub record IsPlannedBy (plan : Plan) (placed : PlacedModule) : Type 0 where
 abbrev pub bases_of : PlacedModule → Bases
 bases_of placed = bases_by placed.graph.parts.now placed.bases.now placed.commons.now
 
--- what an expression of the module is worth at a program counter
-abbrev pub worth_of : ValuedModule → WorthAt
-worth_of valued counter t = value_at (2 ^ (8 * (parts_of valued).maus)) (environment_of valued.placed.now valued.values.now (Some counter)) t
+-- the value of an expression of the module at a program counter
+abbrev pub valuation_of : ValuedModule → ValuationAt
+valuation_of valued counter t = value_at (2 ^ (8 * (parts_of valued).maus)) (environment_of valued.placed.now valued.values.now (Some counter)) t
 
 -- the loads of the module may be walked over, unless a public divides by 0
 pub record MayBeWalked (valued : ValuedModule) : Type 0 where
   pub ready : public_division (setting_of valued.placed.now) ≡ None
-      → IsReady (parts_of valued) (bases_of valued.placed.now) valued.placed.now.bases.now (worth_of valued)
+      → IsReady (parts_of valued) (bases_of valued.placed.now) valued.placed.now.bases.now (valuation_of valued)
 
 -- The most that the module of a location weighs: what the located module weighs, and 31 more for each section, 31 for each loaded
 -- byte and 42 for each weak reference of a size above 0.

@@ -3,11 +3,11 @@
 ghost use Rattle.std.specs.Prelude.{◌≡◌, ◌∷◌, [], IfOk, OnOk};
 ghost use Rattle.mufom_plan.specs.Commons.{has_common as takes_commons};
 ghost use Rattle.mufom_meaning.specs.Placed.{common_sections, placed_commons};
-ghost use Rattle.mufom_image_values.specs.Meetings.{meetings_of};
+ghost use Rattle.mufom_image_values.specs.Resolutions.{resolutions_of};
 ghost use Rattle.mufom_image.specs.Rooms.{room_of, common_of, raised, with_asked};
 
 use mufom_copies::copy_bytes;
-use mufom_image_values::Meeting;
+use mufom_image_values::Resolution;
 use mufom_module::Module;
 use mufom_names::{Reference, Weak};
 use mufom_numbers::{Bytes, List, NoMemory};
@@ -32,11 +32,11 @@ pub(crate) fn has_common(regions: &[Region]) -> bool
     regions.iter().any(|region| region.common)
 }
 
-fn room_asked(meeting: Meeting, weak: Option<Weak>) -> Option<Room>
-    ensures { result ≡ room_of meeting weak }
+fn room_asked(resolution: Resolution, weak: Option<Weak>) -> Option<Room>
+    ensures { result ≡ room_of resolution weak }
 {
-    match (meeting, weak) {
-        (Meeting::Common(common), Some(weak)) if weak.size != 0 => Some(Room {
+    match (resolution, weak) {
+        (Resolution::Common(common), Some(weak)) if weak.size != 0 => Some(Room {
             common,
             size: weak.size,
         }),
@@ -68,12 +68,12 @@ fn raise(common: &mut Section, size: u64)
 fn make_room(
     alloc: Global,
     commons: &mut Vec<Section>,
-    meeting: Meeting,
+    resolution: Resolution,
     reference: &Reference,
 ) -> Result<(), NoMemory>
-    ensures { OnOk result (commons.new.items ≡ with_asked commons.old.items (room_of meeting reference.now.weak) reference.now.name) }
+    ensures { OnOk result (commons.new.items ≡ with_asked commons.old.items (room_of resolution reference.now.weak) reference.now.name) }
 {
-    let Some(room) = room_asked(meeting, reference.weak) else {
+    let Some(room) = room_asked(resolution, reference.weak) else {
         return Ok(());
     };
     let place = room.common as usize;
@@ -89,15 +89,15 @@ fn make_room(
 fn all_commons(
     alloc: Global,
     module: &Module,
-    meetings: &[Meeting],
+    resolutions: &[Resolution],
 ) -> Result<List<Section>, NoMemory>
-    requires { meetings.now ≡ meetings_of «module».now }
+    requires { resolutions.now ≡ resolutions_of «module».now }
     ensures { IfOk result (λ commons. commons ≡ common_sections («module».now ∷ [])) }
 {
     let references = module.parts().names.references.as_slice();
     let mut commons = Vec::new(alloc);
     for place in 0..references.len() {
-        make_room(alloc, &mut commons, meetings[place], &references[place])?;
+        make_room(alloc, &mut commons, resolutions[place], &references[place])?;
     }
     Ok(List::from_vec(commons))
 }
@@ -107,14 +107,14 @@ fn all_commons(
 pub(crate) fn planned_commons(
     alloc: Global,
     module: &Module,
-    meetings: &[Meeting],
+    resolutions: &[Resolution],
     plan: &Plan,
 ) -> Result<List<Section>, NoMemory>
-    requires { meetings.now ≡ meetings_of «module».now }
+    requires { resolutions.now ≡ resolutions_of «module».now }
     ensures { IfOk result (λ commons. commons ≡ placed_commons («module».now ∷ []) plan.now) }
 {
     if has_common(plan.regions.as_slice()) {
-        Ok(all_commons(alloc, module, meetings)?)
+        Ok(all_commons(alloc, module, resolutions)?)
     } else {
         Ok(List::new(alloc))
     }

@@ -10,8 +10,8 @@
 #![tactic(auto)]
 
 mod commons;
+mod counter_values;
 mod entries;
-mod ground;
 mod locating;
 mod names;
 mod placing;

@@ -6,7 +6,7 @@ ghost use Rattle.mufom_module.specs.Written.{weight};
 ghost use Rattle.mufom_meaning.specs.Absolute.{absolute_of};
 ghost use Rattle.mufom_meaning.specs.LocateAnswer.{locate_answer};
 ghost use Rattle.mufom_meaning.specs.Location.{IsLocation};
-ghost use Rattle.mufom_image_values.specs.Meetings.{meetings_of};
+ghost use Rattle.mufom_image_values.specs.Resolutions.{resolutions_of};
 ghost use Rattle.mufom_located.specs.Located.{IsLocated};
 ghost use Rattle.mufom_image.specs.Placements.{IsSoundPlan, StandsAt};
 ghost use Rattle.mufom_image.specs.Refusals.{IsMet};
@@ -18,7 +18,7 @@ use crate::placing::{Placement, placed_sections, placing};
 use crate::refusal::LocateRefusal;
 use crate::walk::walked;
 use mufom_image_entries::ValuedModule;
-use mufom_image_values::{Graph, Meeting, PlacedModule, resolve_references};
+use mufom_image_values::{Graph, PlacedModule, Resolution, resolve_references};
 use mufom_located::Located;
 use mufom_meaning::{LocatedParts, absolute_weighs};
 use mufom_module::Module;
@@ -28,16 +28,16 @@ use std::alloc::Global;
 // The module with the bases of its sections, after which the bases of its commons stand.
 fn placed_module<'a>(
     module: &'a Module,
-    meetings: &'a [Meeting],
+    resolutions: &'a [Resolution],
     bases: &'a [u64],
 ) -> PlacedModule<'a>
     requires { length «module».now.sections ≤ length bases.now }
-    ensures { StandsAt «module».now meetings.now bases.now result }
+    ensures { StandsAt «module».now resolutions.now bases.now result }
 {
     let parts = module.parts();
     let (bases, commons) = bases.split_at(parts.sections.len());
     PlacedModule {
-        graph: Graph { parts, meetings },
+        graph: Graph { parts, resolutions },
         bases,
         commons,
     }
@@ -47,10 +47,10 @@ fn placed_module<'a>(
 fn located(
     alloc: Global,
     module: &Module,
-    meetings: &[Meeting],
+    resolutions: &[Resolution],
     plan: &Plan,
 ) -> Result<LocatedParts, LocateRefusal>
-    requires met { meetings.now ≡ meetings_of «module».now }
+    requires met { resolutions.now ≡ resolutions_of «module».now }
     requires names { AreDistinct (names_of «module».now.names.publics) }
     requires plan { IsSoundPlan plan.now }
     ensures sound { IfOk result IsLocated }
@@ -59,10 +59,10 @@ fn located(
     ensures refused { IfErr result (IsMet (locate_answer («module».now ∷ []) plan.now)) }
 {
     absolute_weighs();
-    let Placement { sections, bases } = placing(alloc, module, meetings, plan)?;
-    let placed = placed_module(module, meetings, bases.as_slice());
+    let Placement { sections, bases } = placing(alloc, module, resolutions, plan)?;
+    let placed = placed_module(module, resolutions, bases.as_slice());
     let components = judged(alloc, module, &placed.graph, plan)?;
-    let values = placed.settled(alloc, &components)?;
+    let values = placed.public_values(alloc, &components)?;
     let valued = ValuedModule {
         placed: &placed,
         values: values.as_slice(),
@@ -93,7 +93,7 @@ pub fn locate(alloc: Global, module: &Module, plan: &Plan) -> Result<Located, Lo
     // A refusal is the first thing that keeps the module from being located, or there was no memory.
     ensures refused { IfErr result (IsMet (locate_answer («module».now ∷ []) plan.now)) }
 {
-    let meetings = resolve_references(alloc, module)?;
-    let parts = located(alloc, module, meetings.as_slice(), plan)?;
+    let resolutions = resolve_references(alloc, module)?;
+    let parts = located(alloc, module, resolutions.as_slice(), plan)?;
     Ok(Located::sound(parts))
 }

@@ -2,15 +2,15 @@
 
 ghost use Rattle.std.specs.Prelude.{◌≡◌, ◌∷◌, [], None, IfErr, OnOk};
 ghost use Rattle.mufom_image_values.specs.Evaluated.{IsGraph};
-ghost use Rattle.mufom_image_values.specs.Meetings.{meetings_of};
+ghost use Rattle.mufom_image_values.specs.Resolutions.{resolutions_of};
 ghost use Rattle.mufom_image.specs.Refusals.{IsMet};
-ghost use Rattle.mufom_image.specs.Stages.{unmet, roomless, circular, oversized, judged as judgment, IsJudged};
+ghost use Rattle.mufom_image.specs.Stages.{unresolved, roomless, circular, oversized, judged as judgment, IsJudged};
 
 use crate::commons::has_common;
 use crate::refusal::LocateRefusal;
 use mufom_copies::copy_bytes;
 use mufom_image_values::{
-    Components, Graph, Meeting, first_common, first_on_cycle, first_undefined, groups_of,
+    Components, Graph, Resolution, first_common, first_on_cycle, first_undefined, groups_of,
 };
 use mufom_loads::loaded_bytes;
 use mufom_module::{Module, items_are_within_the_weight};
@@ -22,13 +22,13 @@ use std::alloc::Global;
 fn check_undefined(
     alloc: Global,
     module: &Module,
-    meetings: &[Meeting],
+    resolutions: &[Resolution],
 ) -> Result<(), LocateRefusal>
-    requires { meetings.now ≡ meetings_of «module».now }
-    ensures ok { OnOk result (unmet «module».now ≡ None) }
-    ensures refused { IfErr result (IsMet (unmet «module».now)) }
+    requires { resolutions.now ≡ resolutions_of «module».now }
+    ensures ok { OnOk result (unresolved «module».now ≡ None) }
+    ensures refused { IfErr result (IsMet (unresolved «module».now)) }
 {
-    match first_undefined(module, meetings) {
+    match first_undefined(module, resolutions) {
         Some(reference) => Err(LocateRefusal::Undefined(copy_bytes(alloc, &reference.name)?)),
         None => Ok(()),
     }
@@ -38,17 +38,17 @@ fn check_undefined(
 fn check_commons(
     alloc: Global,
     module: &Module,
-    meetings: &[Meeting],
+    resolutions: &[Resolution],
     plan: &Plan,
 ) -> Result<(), LocateRefusal>
-    requires { meetings.now ≡ meetings_of «module».now }
+    requires { resolutions.now ≡ resolutions_of «module».now }
     ensures ok { OnOk result (roomless «module».now plan.now ≡ None) }
     ensures refused { IfErr result (IsMet (roomless «module».now plan.now)) }
 {
     if has_common(plan.regions.as_slice()) {
         return Ok(());
     }
-    match first_common(module, meetings) {
+    match first_common(module, resolutions) {
         Some(reference) => Err(LocateRefusal::CommonUnplaced(copy_bytes(alloc, &reference.name)?)),
         None => Ok(()),
     }
@@ -95,8 +95,8 @@ pub(crate) fn judged(
     ensures ok { OnOk result (IsJudged «module».now plan.now) }
     ensures refused { IfErr result (IsMet (judgment «module».now plan.now)) }
 {
-    check_undefined(alloc, module, graph.meetings)?;
-    check_commons(alloc, module, graph.meetings, plan)?;
+    check_undefined(alloc, module, graph.resolutions)?;
+    check_commons(alloc, module, graph.resolutions, plan)?;
     let components = acyclic_groups(alloc, graph)?;
     check_limit(module)?;
     Ok(components)

@@ -4,14 +4,14 @@ ghost use Rattle.std.specs.Prelude.{◌≡◌, ◌++◌, Option, option_map, sli
 ghost use Rattle.mufom_place.specs.Facts.{IsAnswer};
 ghost use Rattle.mufom_meaning.specs.Facts.{placement};
 ghost use Rattle.mufom_meaning.specs.Location.{placed_sections};
-ghost use Rattle.mufom_image_values.specs.Meetings.{meetings_of};
+ghost use Rattle.mufom_image_values.specs.Resolutions.{resolutions_of};
 ghost use Rattle.mufom_image.specs.Placements.{ArePlaced, IsSoundPlan, placing_refusal};
 ghost use Rattle.mufom_image.specs.Refusals.{IsMet};
 
 use crate::commons::planned_commons;
 use crate::refusal::LocateRefusal;
 use mufom_copies::copy_section;
-use mufom_image_values::Meeting;
+use mufom_image_values::Resolution;
 use mufom_meaning::modules_may_be_placed;
 use mufom_module::Module;
 use mufom_numbers::{List, NoMemory};
@@ -62,17 +62,17 @@ fn refused(refusal: PlaceRefusal) -> LocateRefusal
 pub(crate) fn placing(
     alloc: Global,
     module: &Module,
-    meetings: &[Meeting],
+    resolutions: &[Resolution],
     plan: &Plan,
 ) -> Result<Placement, LocateRefusal>
-    requires met { meetings.now ≡ meetings_of «module».now }
+    requires met { resolutions.now ≡ resolutions_of «module».now }
     requires plan { IsSoundPlan plan.now }
     ensures placed { IfOk result (λ placement. ArePlaced «module».now plan.now placement.sections placement.bases) }
     ensures refused { IfErr result (IsMet (option_map placement (placing_refusal «module».now plan.now))) }
 {
     modules_may_be_placed();
     let parts = module.parts();
-    let commons = planned_commons(alloc, module, meetings, plan)?;
+    let commons = planned_commons(alloc, module, resolutions, plan)?;
     let count = commons.len() as u32;
     let sections = extended(alloc, parts.sections.as_slice(), commons)?;
     let width = 8 * u32::from(parts.maus);

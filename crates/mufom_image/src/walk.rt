@@ -9,9 +9,9 @@ ghost use Rattle.mufom_image_values.specs.Evaluated.{setting_of};
 ghost use Rattle.mufom_image_entries.specs.Valued.{IsValued, parts_of};
 ghost use Rattle.mufom_image.specs.Entries.{AreRuns};
 ghost use Rattle.mufom_image.specs.Refusals.{IsMet};
-ghost use Rattle.mufom_image.specs.Stages.{public_division, start_division, debug_division, bases_of, worth_of, MayBeWalked};
+ghost use Rattle.mufom_image.specs.Stages.{public_division, start_division, debug_division, bases_of, valuation_of, MayBeWalked};
 
-use crate::ground::AtCounter;
+use crate::counter_values::AtCounter;
 use crate::refusal::LocateRefusal;
 use mufom_copies::copy_bytes;
 use mufom_image_bytes::{ImageRefusal, Stop, image_of_module};
@@ -65,7 +65,7 @@ fn refusal_of(stop: Stop) -> LocateRefusal
 // The rows of the bytes that the module loads, or what is met first on the walk over its loads.
 fn runs_of(alloc: Global, valued: &ValuedModule<'_>) -> Result<List<Run>, LocateRefusal>
     requires valued { IsValued valued.now }
-    requires ready { IsReady (parts_of valued.now) (bases_of valued.now.placed.now) valued.now.placed.now.bases.now (worth_of valued.now) }
+    requires ready { IsReady (parts_of valued.now) (bases_of valued.now.placed.now) valued.now.placed.now.bases.now (valuation_of valued.now) }
     ensures passed { OnOk result (steps_fact (setting_of valued.now.placed.now) [] (steps (parts_of valued.now ∷ [])) ≡ None) }
     ensures rows { IfOk result (AreRuns valued.now) }
     ensures refused { IfErr result (IsMet (steps_fact (setting_of valued.now.placed.now) [] (steps (parts_of valued.now ∷ [])))) }

@@ -27,7 +27,7 @@ use Rattle.mufom_image_bytes.specs.Stops.{fact_of}
 use Rattle.mufom_image_bytes.specs.Chunks.{cells_of_chunks, cell_addresses, addresses_of, AreConsecutive}
 use Rattle.mufom_image_bytes.specs.Shared.{shares_from, EndsFirst}
 use Rattle.mufom_image_bytes.specs.Spread.{AreSpread, IsAmong}
-use Rattle.mufom_image_bytes.specs.Outcomes.{WorthAt, Outcome, loads_outcome, progress_at_first}
+use Rattle.mufom_image_bytes.specs.Outcomes.{ValuationAt, Outcome, loads_outcome, progress_at_first}
 use Rattle.mufom_image_bytes.specs.Walked.{AreWalked}
 use Rattle.mufom_image_bytes.specs.Walks.{first_counters}
 use Rattle.mufom_image_bytes.specs.Images.{AreLow, IsImage, IsRefusal, IsImageOf, IsRefusalOf}
@@ -94,11 +94,11 @@ get_mapped f [] n less = absurd (omega (arith, less))
 get_mapped f (x ∷ xs) zero less = refl
 get_mapped f (x ∷ xs) (suc n) less = get_mapped f xs n (omega (arith, less))
 
-module _ (layout : Layout) (worth : WorthAt) (loads : List Load) (high : layout.width ≤ 64) where
+module _ (layout : Layout) (valuation : ValuationAt) (loads : List Load) (high : layout.width ≤ 64) where
   abbrev outcome : Outcome
-  outcome = loads_outcome layout worth None loads (progress_at_first (first_counters layout))
+  outcome = loads_outcome layout valuation None loads (progress_at_first (first_counters layout))
 
-  module _ (s : Setting) (site : Sited) (h : AreWalked s site layout worth loads) where
+  module _ (s : Setting) (site : Sited) (h : AreWalked s site layout valuation loads) where
     positive : 0 < s.modulus
     positive = let same = h.laid_out.modulus in let two : 0 < 2 = omega arith in let low : 0 ≤ layout.width = omega arith in
         let some : 2 ^ 0 ≤ 2 ^ layout.width = pow-le-pow_right two low in omega (arith, same, some)
@@ -115,7 +115,7 @@ module _ (layout : Layout) (worth : WorthAt) (loads : List Load) (high : layout.
     walk : (steps_fact s [] (steps_of site None loads) ≡ (first_twice [] (cell_addresses outcome.0.cells) or_else outcome.1))
         × (outcome.1 ≡ None → outcome.0.cells ≡ address_map layout.order s.modulus (readings_after s [] (steps_of site None loads)))
         × ((a : ℕ) → In a (cell_addresses outcome.0.cells) → a < s.modulus)
-    walk = walked s site layout worth loads (first_counters layout) h positive first
+    walk = walked s site layout valuation loads (first_counters layout) h positive first
 
     low : AreLow outcome.0.cells
     low a there =
@@ -126,7 +126,7 @@ module _ (layout : Layout) (worth : WorthAt) (loads : List Load) (high : layout.
         omega (arith, under, same, most)
 
   pub image_there : (cells : List Cell) (stop : Option LocateFact) (runs : List Run) → cells ≡ outcome.0.cells → stop ≡ outcome.1
-      → IsImage cells stop runs → IsImageOf layout worth loads runs
+      → IsImage cells stop runs → IsImageOf layout valuation loads runs
   image_there cells stop runs e f i = λ s site h.
       let w = walk s site h in
       let lowest = subst AreLow (sym e) (low s site h) in
@@ -136,7 +136,7 @@ module _ (layout : Layout) (worth : WorthAt) (loads : List Load) (high : layout.
       )
 
   pub refusal_there : (cells : List Cell) (stop : Option LocateFact) (refusal : ImageRefusal) → cells ≡ outcome.0.cells → stop ≡ outcome.1
-      → IsRefusal cells stop refusal → IsRefusalOf layout worth loads refusal
+      → IsRefusal cells stop refusal → IsRefusalOf layout valuation loads refusal
   refusal_there cells stop refusals.NoMemory e f i = tt {0}
   refusal_there cells stop (refusals.Stopped other) e f i = λ s site h.
       (walk s site h).0

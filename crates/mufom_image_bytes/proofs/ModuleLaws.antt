@@ -41,8 +41,8 @@ use Rattle.mufom_image_bytes.specs.declared.refusal.ImageRefusal.{ImageRefusal}
 use Rattle.mufom_image_bytes.specs.declared.refusal.ImageRefusal.TheVariants as refusals
 use Rattle.mufom_image_bytes.specs.Images.{IsImageOf, IsRefusalOf}
 use Rattle.mufom_image_bytes.specs.Modules.{home_of, IsReady, IsImageOfModule, IsRefusalOfModule}
-use Rattle.mufom_image_bytes.specs.Outcomes.{WorthAt}
-use Rattle.mufom_image_bytes.specs.Walked.{HasWorth, IsPlainStep, AreWalked}
+use Rattle.mufom_image_bytes.specs.Outcomes.{ValuationAt}
+use Rattle.mufom_image_bytes.specs.Walked.{HasValuation, IsPlainStep, AreWalked}
 use Rattle.mufom_image_bytes.specs.Walks.{IsNarrow, HasNarrowItems}
 
 -- ---- sizes of fields
@@ -165,7 +165,7 @@ below_length [] n h = absurd (h refl)
 below_length (x ∷ xs) zero h = omega arith
 below_length (x ∷ xs) (suc n) h = let later = below_length xs n h in omega (arith, later)
 
-module _ (m : Parts) (valid : IsValid m) (placed : Bases) (bases : List ℕ) (worth : WorthAt) (h : IsReady m placed bases worth) where
+module _ (m : Parts) (valid : IsValid m) (placed : Bases) (bases : List ℕ) (valuation : ValuationAt) (h : IsReady m placed bases valuation) where
   abbrev ms : List Parts
   ms = m ∷ []
 
@@ -182,8 +182,8 @@ module _ (m : Parts) (valid : IsValid m) (placed : Bases) (bases : List ℕ) (wo
   clear q there = chosen_none (has_zero_divisor s q.site None q.entry.value) (zero_divisor (sites.Public q.entry.name))
       (first_some_none (public_fact s) s.publics h.publics q there.0 there.1)
 
-  has_worth : (t : Tree) → IsWellNamed s (home_of m) t → HasWorth s worth (home_of m) t
-  has_worth t well = record {
+  has_valuation : (t : Tree) → IsWellNamed s (home_of m) t → HasValuation s valuation (home_of m) t
+  has_valuation t well = record {
     is_value = λ at. h.is_value at t;
     residue = λ at v e. value_below ms placed (width_positive m [] are_valid) (home_of m) (Some at) t v e;
     divides = λ at e. by_cause at (why ms s named (home_of m) (Some at) t well e);
@@ -194,18 +194,18 @@ module _ (m : Parts) (valid : IsValid m) (placed : Bases) (bases : List ℕ) (wo
       by_cause at (inr (inl q)) = absurd (public_clear s clear None q.0.site q.0.entry.value q.2 refl q.0 (mentioned-among s (home_of m) t q.0 q.1) refl refl)
       by_cause at (inr (inr zero_there)) = zero_there
 
-  plain_step : (step : Step) → IsOwn (home_of m) step → IsWellStep s step → IsPlainStep s worth step
+  plain_step : (step : Step) → IsOwn (home_of m) step → IsWellStep s step → IsPlainStep s valuation step
   plain_step (counter_step site section t) own well =
-      (below_length s.bases section well.0, subst (λ x. IsWellNamed s x t → HasWorth s worth x t) (sym own) (has_worth t) well.1)
+      (below_length s.bases section well.0, subst (λ x. IsWellNamed s x t → HasValuation s valuation x t) (sym own) (has_valuation t) well.1)
   plain_step (item_step site section (Literal bytes)) own well = (below_length s.bases section well, tt {0})
   plain_step (item_step site section (Field kind t size)) own well =
-      (below_length s.bases section well.0, (own.1, subst (λ x. IsWellNamed s x t → HasWorth s worth x t) (sym own.0) (has_worth t) well.1))
+      (below_length s.bases section well.0, (own.1, subst (λ x. IsWellNamed s x t → HasValuation s valuation x t) (sym own.0) (has_valuation t) well.1))
 
   all_steps : steps ms ≡ steps_of (home_of m) None m.loads
   all_steps = append-nil (steps_of (home_of m) None m.loads)
 
   walked_so : (layout : Layout) → layout.width ≡ 8 * m.maus → layout.bases.now ≡ bases → layout.sections.now ≡ m.sections
-      → AreWalked s (home_of m) layout worth m.loads
+      → AreWalked s (home_of m) layout valuation m.loads
   walked_so layout wide based sectioned = record {
     laid_out = record {
       modulus = ap (λ n. 2 ^ n) (sym wide);
@@ -220,13 +220,13 @@ module _ (m : Parts) (valid : IsValid m) (placed : Bases) (bases : List ℕ) (wo
         (named.loads step (subst (In step) (sym all_steps) in_steps));
   }
 
-pub module_image : (m : Parts) → IsValid m → (layout : Layout) (bases : List ℕ) (worth : WorthAt) → layout.width ≡ 8 * m.maus → layout.bases.now
+pub module_image : (m : Parts) → IsValid m → (layout : Layout) (bases : List ℕ) (valuation : ValuationAt) → layout.width ≡ 8 * m.maus → layout.bases.now
     ≡ bases → layout.sections.now ≡ m.sections → layout.order ≡ m.order
-    → (runs : List Run) → IsImageOf layout worth m.loads runs → IsImageOfModule m bases worth runs
-module_image m valid layout bases worth wide based sectioned ordered runs image = λ placed h.
+    → (runs : List Run) → IsImageOf layout valuation m.loads runs → IsImageOfModule m bases valuation runs
+module_image m valid layout bases valuation wide based sectioned ordered runs image = λ placed h.
     let s = setting (m ∷ []) placed in
-    let there = image s (home_of m) (walked_so m valid placed bases worth h layout wide based sectioned) in
-    let same = all_steps m valid placed bases worth h in (
+    let there = image s (home_of m) (walked_so m valid placed bases valuation h layout wide based sectioned) in
+    let same = all_steps m valid placed bases valuation h in (
       ap (steps_fact s []) same ∙ there.0,
       subst (λ cells. AreRowsOf cells runs)
           (ap (λ order. address_map order s.modulus (step_readings s (steps_of (home_of m) None m.loads))) ordered
@@ -235,10 +235,10 @@ module_image m valid layout bases worth wide based sectioned ordered runs image 
           there.1,
     )
 
-pub module_refusal : (m : Parts) → IsValid m → (layout : Layout) (bases : List ℕ) (worth : WorthAt) → layout.width ≡ 8 * m.maus → layout.bases.now
+pub module_refusal : (m : Parts) → IsValid m → (layout : Layout) (bases : List ℕ) (valuation : ValuationAt) → layout.width ≡ 8 * m.maus → layout.bases.now
     ≡ bases → layout.sections.now ≡ m.sections
-    → (refusal : ImageRefusal) → IsRefusalOf layout worth m.loads refusal → IsRefusalOfModule m bases worth refusal
-module_refusal m valid layout bases worth wide based sectioned refusals.NoMemory there = tt {0}
-module_refusal m valid layout bases worth wide based sectioned (refusals.Stopped stop) there = λ placed h.
-    ap (steps_fact (setting (m ∷ []) placed) []) (all_steps m valid placed bases worth h)
-    ∙ there (setting (m ∷ []) placed) (home_of m) (walked_so m valid placed bases worth h layout wide based sectioned)
+    → (refusal : ImageRefusal) → IsRefusalOf layout valuation m.loads refusal → IsRefusalOfModule m bases valuation refusal
+module_refusal m valid layout bases valuation wide based sectioned refusals.NoMemory there = tt {0}
+module_refusal m valid layout bases valuation wide based sectioned (refusals.Stopped stop) there = λ placed h.
+    ap (steps_fact (setting (m ∷ []) placed) []) (all_steps m valid placed bases valuation h)
+    ∙ there (setting (m ∷ []) placed) (home_of m) (walked_so m valid placed bases valuation h layout wide based sectioned)

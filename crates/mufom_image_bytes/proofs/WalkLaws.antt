@@ -18,15 +18,15 @@ use Rattle.mufom_meaning.proofs.Members.{In}
 use Rattle.mufom_meaning.proofs.Unfolding.{counter-none}
 use Rattle.mufom_image_bytes.specs.declared.layout.Layout.{Layout}
 use Rattle.mufom_image_bytes.specs.Chunks.{cell_addresses as addresses}
-use Rattle.mufom_image_bytes.specs.Outcomes.{WorthAt, Progress, Outcome, continued, item_outcome, items_outcome, current_outcome, counter_outcome}
+use Rattle.mufom_image_bytes.specs.Outcomes.{ValuationAt, Progress, Outcome, continued, item_outcome, items_outcome, current_outcome, counter_outcome}
 use Rattle.mufom_image_bytes.specs.Outcomes.{loads_outcome, progress_at_first}
 use Rattle.mufom_image_bytes.specs.Walked.{IsLaidOut, IsPlainStep, AreWalked}
 use Rattle.mufom_image_bytes.proofs.WalkSteps.{Agrees, IsTaken, counter_taken, item_taken}
 
-module _ (s : Setting) (layout : Layout) (worth : WorthAt) (laid : IsLaidOut s layout) where
+module _ (s : Setting) (layout : Layout) (valuation : ValuationAt) (laid : IsLaidOut s layout) where
   abbrev step_outcome : Step → Progress → Outcome
-  step_outcome (counter_step site section t) p = counter_outcome section (worth (get_or p.counters section 0) t) p
-  step_outcome (item_step site section item) p = item_outcome layout worth section item p
+  step_outcome (counter_step site section t) p = counter_outcome section (valuation (get_or p.counters section 0) t) p
+  step_outcome (item_step site section item) p = item_outcome layout valuation section item p
 
   abbrev steps_outcome : List Step → Progress → Outcome
   steps_outcome [] p = (p, None)
@@ -34,12 +34,12 @@ module _ (s : Setting) (layout : Layout) (worth : WorthAt) (laid : IsLaidOut s l
 
   abbrev ArePlain : List Step → Type 0
   ArePlain [] = Unit {0}
-  ArePlain (step ∷ steps) = IsPlainStep s worth step × ArePlain steps
+  ArePlain (step ∷ steps) = IsPlainStep s valuation step × ArePlain steps
 
-  step_taken : (earlier : List Step) (p : Progress) → Agrees s layout worth laid earlier p → (step : Step) → IsPlainStep s worth step
-      → IsTaken s layout worth laid earlier step p (step_outcome step p)
-  step_taken earlier p h (counter_step site section t) w = counter_taken s layout worth laid earlier p h site section w.0 t w.1
-  step_taken earlier p h (item_step site section item) w = item_taken s layout worth laid earlier p h site section w.0 item w.1
+  step_taken : (earlier : List Step) (p : Progress) → Agrees s layout valuation laid earlier p → (step : Step) → IsPlainStep s valuation step
+      → IsTaken s layout valuation laid earlier step p (step_outcome step p)
+  step_taken earlier p h (counter_step site section t) w = counter_taken s layout valuation laid earlier p h site section w.0 t w.1
+  step_taken earlier p h (item_step site section item) w = item_taken s layout valuation laid earlier p h site section w.0 item w.1
 
   -- what the walk of some steps answers
   record IsWalk (earlier steps : List Step) (p : Progress) (o : Outcome) : Type 0 where
@@ -47,14 +47,15 @@ module _ (s : Setting) (layout : Layout) (worth : WorthAt) (laid : IsLaidOut s l
     cells : o.1 ≡ None → o.0.cells ≡ p.cells ++ address_map layout.order s.modulus (readings_after s earlier steps)
     low : ((a : ℕ) → In a (addresses p.cells) → a < s.modulus) → (a : ℕ) → In a (addresses o.0.cells) → a < s.modulus
 
-  walk_is : (earlier steps : List Step) (p : Progress) → Agrees s layout worth laid earlier p → ArePlain steps → IsWalk earlier steps p (steps_outcome steps p)
+  walk_is : (earlier steps : List Step) (p : Progress) → Agrees s layout valuation laid earlier p → ArePlain steps
+      → IsWalk earlier steps p (steps_outcome steps p)
   walk_is earlier [] p h w = record { facts = refl; cells = λ none. sym (append-nil p.cells); low = λ h. h }
   walk_is earlier (step ∷ steps) p h w = by_step (step_outcome step p) (step_taken earlier p h step w.0) (λ q k. walk_is (step ∷ earlier) steps q k w.1) where
-    by_step : (o : Outcome) → IsTaken s layout worth laid earlier step p o
-        → ((q : Progress) → Agrees s layout worth laid (step ∷ earlier) q → IsWalk (step ∷ earlier) steps q (steps_outcome steps q))
+    by_step : (o : Outcome) → IsTaken s layout valuation laid earlier step p o
+        → ((q : Progress) → Agrees s layout valuation laid (step ∷ earlier) q → IsWalk (step ∷ earlier) steps q (steps_outcome steps q))
         → IsWalk earlier (step ∷ steps) p (continued o.0 o.1 (λ q. steps_outcome steps q))
     by_step o taken later = by_fact o.0 o.1 taken where
-      by_fact : (q : Progress) (f : Option LocateFact) → IsTaken s layout worth laid earlier step p (q, f)
+      by_fact : (q : Progress) (f : Option LocateFact) → IsTaken s layout valuation laid earlier step p (q, f)
           → IsWalk earlier (step ∷ steps) p (continued q f (λ q. steps_outcome steps q))
       by_fact q None taken =
           let rest = later q (taken.agrees refl) in record {
@@ -84,7 +85,7 @@ module _ (s : Setting) (layout : Layout) (worth : WorthAt) (laid : IsLaidOut s l
     by_fact q None later = later q
     by_fact q (Some fact) later = refl
 
-  plain_steps : (steps : List Step) → ((step : Step) → StandsIn step steps → IsPlainStep s worth step) → ArePlain steps
+  plain_steps : (steps : List Step) → ((step : Step) → StandsIn step steps → IsPlainStep s valuation step) → ArePlain steps
   plain_steps [] h = tt {0}
   plain_steps (step ∷ steps) h = (h step (0, refl), plain_steps steps (λ other there. h other (suc there.0, there.1)))
 
@@ -93,20 +94,21 @@ module _ (s : Setting) (layout : Layout) (worth : WorthAt) (laid : IsLaidOut s l
     at_home n = omega (arith, home)
 
     items_as_steps : (section : ℕ) (items : List Item) (p : Progress) → steps_outcome (item_steps site (Some section) items) p
-        ≡ items_outcome layout worth section items p
+        ≡ items_outcome layout valuation section items p
     items_as_steps section [] p = refl
     items_as_steps section (item ∷ items) p =
-        ap (λ n. let first = item_outcome layout worth n item p in
+        ap (λ n. let first = item_outcome layout valuation n item p in
         continued first.0 first.1 (λ q. steps_outcome (item_steps site (Some section) items) q)) (at_home section)
-        ∙ by_fact (item_outcome layout worth section item p).0 (item_outcome layout worth section item p).1 (λ q. items_as_steps section items q) where
+        ∙ by_fact (item_outcome layout valuation section item p).0 (item_outcome layout valuation section item p).1 (λ q. items_as_steps section items q) where
           by_fact : (q : Progress) (f : Option LocateFact) → ((q : Progress) → steps_outcome (item_steps site (Some section) items) q
-              ≡ items_outcome layout worth section items q)
-              → continued q f (λ q. steps_outcome (item_steps site (Some section) items) q) ≡ continued q f (λ q. items_outcome layout worth section items q)
+              ≡ items_outcome layout valuation section items q)
+              → continued q f (λ q. steps_outcome (item_steps site (Some section) items) q)
+              ≡ continued q f (λ q. items_outcome layout valuation section items q)
           by_fact q None later = later q
           by_fact q (Some fact) later = refl
 
     current_as_steps : (current : Option ℕ) (items : List Item) (p : Progress) → steps_outcome (item_steps site current items) p
-        ≡ current_outcome layout worth current items p
+        ≡ current_outcome layout valuation current items p
     current_as_steps None items p = refl
     current_as_steps (Some section) items p = items_as_steps section items p
 
@@ -132,26 +134,29 @@ module _ (s : Setting) (layout : Layout) (worth : WorthAt) (laid : IsLaidOut s l
 
     items_then : (current : Option ℕ) (items : List Item) (more : List Step) (next : Progress → Outcome) (p : Progress)
         → ((q : Progress) → steps_outcome more q ≡ next q)
-        → steps_outcome (item_steps site current items ++ more) p ≡ (let first = current_outcome layout worth current items p in continued first.0 first.1 next)
+        → steps_outcome (item_steps site current items ++ more) p ≡ (let first = current_outcome layout valuation current items p in continued first.0 first.1
+        next)
     items_then current items more next p same =
         steps_outcome-append (item_steps site current items) more p
         ∙ ap (λ (first : Outcome). continued first.0 first.1 (λ q. steps_outcome more q)) (current_as_steps current items p)
-        ∙ same_after (current_outcome layout worth current items p).0 (current_outcome layout worth current items p).1 (λ q. steps_outcome more q) next same
+        ∙ same_after (current_outcome layout valuation current items p).0 (current_outcome layout valuation current items p).1
+        (λ q. steps_outcome more q) next same
 
     loads_as_steps : (current : Option ℕ) (loads : List Load) (p : Progress) → steps_outcome (steps_of site current loads) p
-        ≡ loads_outcome layout worth current loads p
+        ≡ loads_outcome layout valuation current loads p
     loads_as_steps current [] p = refl
     loads_as_steps current (SetSection section ∷ loads) p = loads_as_steps (Some section) loads p
     loads_as_steps current (SetPc section t ∷ loads) p =
-        ap (λ n. let first = counter_outcome n (worth (get_or p.counters n 0) t) p in
+        ap (λ n. let first = counter_outcome n (valuation (get_or p.counters n 0) t) p in
         continued first.0 first.1 (λ q. steps_outcome (steps_of site current loads) q)) (at_home section)
-        ∙ same_after (counter_outcome section (worth (get_or p.counters section 0) t) p).0 (counter_outcome section (worth (get_or p.counters section 0) t) p).1
-        (λ q. steps_outcome (steps_of site current loads) q) (λ q. loads_outcome layout worth current loads q) (λ q. loads_as_steps current loads q)
+        ∙ same_after (counter_outcome section (valuation (get_or p.counters section 0) t) p).0
+        (counter_outcome section (valuation (get_or p.counters section 0) t) p).1
+        (λ q. steps_outcome (steps_of site current loads) q) (λ q. loads_outcome layout valuation current loads q) (λ q. loads_as_steps current loads q)
     loads_as_steps current (One item ∷ loads) p = items_then current (item ∷ []) (steps_of site current loads)
-        (λ q. loads_outcome layout worth current loads q) p (λ q. loads_as_steps current loads q)
+        (λ q. loads_outcome layout valuation current loads q) p (λ q. loads_as_steps current loads q)
     loads_as_steps current (Repeat count items ∷ loads) p =
         ap (λ steps. steps_outcome (steps ++ steps_of site current loads) p) (repeated_steps current count items)
-        ∙ items_then current (repeated count items) (steps_of site current loads) (λ q. loads_outcome layout worth current loads q) p
+        ∙ items_then current (repeated count items) (steps_of site current loads) (λ q. loads_outcome layout valuation current loads q) p
         (λ q. loads_as_steps current loads q)
 
 -- ---- the whole walk
@@ -166,28 +171,28 @@ slice_there [] n less = absurd (omega (arith, less))
 slice_there (x ∷ xs) zero less = refl
 slice_there (x ∷ xs) (suc n) less = slice_there xs n (omega (arith, less))
 
-pub first_agrees : (s : Setting) (layout : Layout) (worth : WorthAt) (laid : IsLaidOut s layout) (counters : List ℕ) → 0 < s.modulus
+pub first_agrees : (s : Setting) (layout : Layout) (valuation : ValuationAt) (laid : IsLaidOut s layout) (counters : List ℕ) → 0 < s.modulus
     → AreFirstCounters s counters
-    → Agrees s layout worth laid [] (progress_at_first counters)
-first_agrees s layout worth laid counters positive h = record {
+    → Agrees s layout valuation laid [] (progress_at_first counters)
+first_agrees s layout valuation laid counters positive h = record {
   count = h.count;
   counters = λ n less. counter-none s n ∙ ap (option_map (λ base. base % s.modulus)) (slice_there s.bases n less) ∙ ap Some (sym (h.residues n less));
   below = λ n less. let same = h.residues n less in let low : get_or s.bases n 0 % s.modulus < s.modulus = omega (arith, positive) in omega (arith, same, low);
   members = λ a. refl;
 }
 
-pub walked : (s : Setting) (site : Sited) (layout : Layout) (worth : WorthAt) (loads : List Load) (counters : List ℕ)
-    → AreWalked s site layout worth loads → 0 < s.modulus → AreFirstCounters s counters
-    → let o = loads_outcome layout worth None loads (progress_at_first counters) in let steps = steps_of site None loads in
+pub walked : (s : Setting) (site : Sited) (layout : Layout) (valuation : ValuationAt) (loads : List Load) (counters : List ℕ)
+    → AreWalked s site layout valuation loads → 0 < s.modulus → AreFirstCounters s counters
+    → let o = loads_outcome layout valuation None loads (progress_at_first counters) in let steps = steps_of site None loads in
     (steps_fact s [] steps ≡ (first_twice [] (addresses o.0.cells) or_else o.1))
     × (o.1 ≡ None → o.0.cells ≡ address_map layout.order s.modulus (readings_after s [] steps))
     × ((a : ℕ) → In a (addresses o.0.cells) → a < s.modulus)
-walked s site layout worth loads counters h positive first =
+walked s site layout valuation loads counters h positive first =
     let laid = h.laid_out in
     let steps = steps_of site None loads in
-    let walk = walk_is s layout worth laid [] steps (progress_at_first counters) (first_agrees s layout worth laid counters positive first)
-    (plain_steps s layout worth laid steps h.plain) in
-    let same = loads_as_steps s layout worth laid site h.at_first None loads (progress_at_first counters) in (
+    let walk = walk_is s layout valuation laid [] steps (progress_at_first counters) (first_agrees s layout valuation laid counters positive first)
+    (plain_steps s layout valuation laid steps h.plain) in
+    let same = loads_as_steps s layout valuation laid site h.at_first None loads (progress_at_first counters) in (
       walk.facts ∙ ap (λ (o : Outcome). first_twice [] (addresses o.0.cells) or_else o.1) same,
       λ none. sym (ap (λ (o : Outcome). o.0.cells) same) ∙ walk.cells (ap (λ (o : Outcome). o.1) same ∙ none),
       λ a there. walk.low (λ b none. absurd none) a (subst (λ (o : Outcome). In a (addresses o.0.cells)) (sym same) there),

@@ -29,9 +29,9 @@ use Rattle.mufom_meaning.proofs.locations.OwnAddresses.{length-number_bytes, len
 use Rattle.mufom_meaning.proofs.values.Causes.{zero_divisor-none}
 use Rattle.mufom_image_bytes.specs.declared.layout.Layout.{Layout}
 use Rattle.mufom_image_bytes.specs.Chunks.{cell_addresses as addresses}
-use Rattle.mufom_image_bytes.specs.Outcomes.{WorthAt, Progress, Outcome, base_in, size_in, outside_in, field_outcome, item_bytes, placed_outcome}
+use Rattle.mufom_image_bytes.specs.Outcomes.{ValuationAt, Progress, Outcome, base_in, size_in, outside_in, field_outcome, item_bytes, placed_outcome}
 use Rattle.mufom_image_bytes.specs.Outcomes.{item_outcome, counter_outcome}
-use Rattle.mufom_image_bytes.specs.Walked.{IsLaidOut, HasWorth, IsPlainItem}
+use Rattle.mufom_image_bytes.specs.Walked.{IsLaidOut, HasValuation, IsPlainItem}
 use Rattle.mufom_image_bytes.proofs.TwiceLaws.{passed, twice-append, twice-same}
 
 -- ---- addresses
@@ -119,8 +119,8 @@ twice_later before more loaded late rest same =
 abbrev chosen : ℕ → ℕ → ℕ → FieldKind → ℕ → ℕ → Bool → ℕ × Option LocateFact
 chosen modulus section at kind size v b = if b then (field_number modulus kind size v, None) else (0, Some (overflow section at kind size v))
 
-module _ (s : Setting) (layout : Layout) (worth : WorthAt) (laid : IsLaidOut s layout) where
-  field_facts : (site : Sited) (section at : ℕ) (kind : FieldKind) (t : Tree) (size : ℕ) → HasWorth s worth site t
+module _ (s : Setting) (layout : Layout) (valuation : ValuationAt) (laid : IsLaidOut s layout) where
+  field_facts : (site : Sited) (section at : ℕ) (kind : FieldKind) (t : Tree) (size : ℕ) → HasValuation s valuation site t
       → (v : Option ℕ) → value s site (Some at) t ≡ v
       → (field_outcome s.modulus section at kind size v).1 ≡ (zero_divisor_at s site (Some at) t (sites.Field section at)
       or_else overflow_at s.modulus section at kind size v)
@@ -141,27 +141,28 @@ module _ (s : Setting) (layout : Layout) (worth : WorthAt) (laid : IsLaidOut s l
         fitting false = refl
 
   -- what is met at the bytes of an item is what the definitions meet at its field
-  item_facts : (site : Sited) (section at : ℕ) (item : Item) → IsPlainItem s worth site item → (item_bytes layout worth section at item).1
+  item_facts : (site : Sited) (section at : ℕ) (item : Item) → IsPlainItem s valuation site item → (item_bytes layout valuation section at item).1
       ≡ field_fact s site section at item
   item_facts site section at (Literal bytes) h = refl
   item_facts site section at (Field kind t size) h =
-      ap (λ m. (field_outcome m section at kind size (worth at t)).1) (sym laid.modulus)
+      ap (λ m. (field_outcome m section at kind size (valuation at t)).1) (sym laid.modulus)
       ∙ ap (λ o. (field_outcome s.modulus section at kind size o).1) (h.1.is_value at)
       ∙ field_facts site section at kind t size h.1 (value s site (Some at) t) refl
 
   -- an item has as many bytes as it loads
-  item_count : (section at : ℕ) (item : Item) → length (item_bytes layout worth section at item).0 ≡ byte_count item
+  item_count : (section at : ℕ) (item : Item) → length (item_bytes layout valuation section at item).0 ≡ byte_count item
   item_count section at (Literal bytes) = refl
   item_count section at (Field kind t size) =
-      let found = field_outcome (2 ^ layout.width) section at kind size (worth at t) in
+      let found = field_outcome (2 ^ layout.width) section at kind size (valuation at t) in
       length-in_byte_order layout.order (number_bytes size found.0) ∙ length-number_bytes size found.0
 
   -- where nothing is met the bytes are those of the definitions
-  item_cells : (site : Sited) (section at : ℕ) (item : Item) → IsPlainItem s worth site item → (item_bytes layout worth section at item).1 ≡ None
-      → cells_from at (item_bytes layout worth section at item).0 ≡ step_cells layout.order s.modulus (item_reading s site section (Some at) item)
+  item_cells : (site : Sited) (section at : ℕ) (item : Item) → IsPlainItem s valuation site item → (item_bytes layout valuation section at item).1 ≡ None
+      → cells_from at (item_bytes layout valuation section at item).0 ≡ step_cells layout.order s.modulus (item_reading s site section (Some at) item)
   item_cells site section at (Literal bytes) h e = refl
   item_cells site section at (Field kind t size) h e =
-      by_value (worth at t) (value s site (Some at) t) (h.1.is_value at) (ap (λ m. (field_outcome m section at kind size (worth at t)).1) laid.modulus ∙ e)
+      by_value (valuation at t) (value s site (Some at) t) (h.1.is_value at)
+      (ap (λ m. (field_outcome m section at kind size (valuation at t)).1) laid.modulus ∙ e)
       ∙ ap (λ m. step_cells layout.order m (item_reading s site section (Some at) (Field kind t size))) (sym laid.modulus) where
         by_value : (w v : Option ℕ) → w ≡ v → (field_outcome s.modulus section at kind size w).1 ≡ None
             → cells_from at (in_byte_order layout.order (number_bytes size (field_outcome (2 ^ layout.width) section at kind size w).0))
@@ -214,9 +215,9 @@ module _ (s : Setting) (layout : Layout) (worth : WorthAt) (laid : IsLaidOut s l
     in_counters : section < length p.counters
     in_counters = omega (arith, h.count)
 
-    pub counter_taken : (t : Tree) → HasWorth s worth site t
-        → IsTaken earlier (counter_step site section t) p (counter_outcome section (worth (get_or p.counters section 0) t) p)
-    counter_taken t w = by_value (worth (get_or p.counters section 0) t) (w.is_value (get_or p.counters section 0)) where
+    pub counter_taken : (t : Tree) → HasValuation s valuation site t
+        → IsTaken earlier (counter_step site section t) p (counter_outcome section (valuation (get_or p.counters section 0) t) p)
+    counter_taken t w = by_value (valuation (get_or p.counters section 0) t) (w.is_value (get_or p.counters section 0)) where
       at : ℕ
       at = get_or p.counters section 0
 
@@ -269,7 +270,7 @@ module _ (s : Setting) (layout : Layout) (worth : WorthAt) (laid : IsLaidOut s l
     item_step_facts item = ap (λ c. item_fact s earlier site section c item) counter_is
 
     -- an item without bytes changes nothing
-    empty_taken : (item : Item) → IsPlainItem s worth site item → byte_count item ≡ 0 → IsTaken earlier (item_step site section item) p (p, None)
+    empty_taken : (item : Item) → IsPlainItem s valuation site item → byte_count item ≡ 0 → IsTaken earlier (item_step site section item) p (p, None)
     empty_taken (Field kind t size) w none = absurd (let some = w.0 in omega (arith, some, none))
     empty_taken (Literal (byte ∷ bytes)) w none = absurd (omega (arith, none))
     empty_taken (Literal []) w none = record {
@@ -320,9 +321,9 @@ module _ (s : Setting) (layout : Layout) (worth : WorthAt) (laid : IsLaidOut s l
       at = get_or p.counters section 0
 
     -- an item whose bytes lie inside
-    inside_taken : (item : Item) → IsPlainItem s worth site item → (k : ℕ) → byte_count item ≡ suc k
+    inside_taken : (item : Item) → IsPlainItem s valuation site item → (k : ℕ) → byte_count item ≡ suc k
         → outside_in layout section (get_or p.counters section 0) (byte_count item) ≡ None
-        → IsTaken earlier (item_step site section item) p (placed_outcome layout worth section (get_or p.counters section 0) item None p)
+        → IsTaken earlier (item_step site section item) p (placed_outcome layout valuation section (get_or p.counters section 0) item None p)
     inside_taken item w k counted e = record {
       agrees = λ none. record {
         count = length-set p.counters section next ∙ h.count;
@@ -352,7 +353,7 @@ module _ (s : Setting) (layout : Layout) (worth : WorthAt) (laid : IsLaidOut s l
       next = (at + byte_count item) % 2 ^ layout.width
 
       found : List ℕ × Option LocateFact
-      found = item_bytes layout worth section at item
+      found = item_bytes layout valuation section at item
 
       clear : first_some (outside_at s.modulus section (base_number s section) (size_at s section)) (counted_from (byte_count item) at) ≡ None
       clear = sym (outside_same at (byte_count item)) ∙ e
@@ -410,25 +411,26 @@ module _ (s : Setting) (layout : Layout) (worth : WorthAt) (laid : IsLaidOut s l
       under n less true f = let same = other_counter p.counters section n next in_counters true f in let low = next_low in omega (arith, same, low)
       under n less false f = let same = other_counter p.counters section n next in_counters false f in let low = h.below n less in omega (arith, same, low)
 
-    placed_taken : (item : Item) → IsPlainItem s worth site item → (k : ℕ) → byte_count item ≡ suc k
+    placed_taken : (item : Item) → IsPlainItem s valuation site item → (k : ℕ) → byte_count item ≡ suc k
         → (o : Option LocateFact) → outside_in layout section (get_or p.counters section 0) (byte_count item) ≡ o
-        → IsTaken earlier (item_step site section item) p (placed_outcome layout worth section (get_or p.counters section 0) item o p)
+        → IsTaken earlier (item_step site section item) p (placed_outcome layout valuation section (get_or p.counters section 0) item o p)
     placed_taken item w k counted None e = inside_taken item w k counted e
     placed_taken item w k counted (Some fact) e = outside_taken item fact e
 
-    counted_taken : (item : Item) → IsPlainItem s worth site item → (count : ℕ) → byte_count item ≡ count
+    counted_taken : (item : Item) → IsPlainItem s valuation site item → (count : ℕ) → byte_count item ≡ count
         → IsTaken earlier (item_step site section item) p
-        (if count == 0 then (p, None) else placed_outcome layout worth section (get_or p.counters section 0) item
+        (if count == 0 then (p, None) else placed_outcome layout valuation section (get_or p.counters section 0) item
         (outside_in layout section (get_or p.counters section 0) (byte_count item)) p)
     counted_taken item w zero e = empty_taken item w e
     counted_taken item w (suc k) e =
         subst (λ b. IsTaken earlier (item_step site section item) p
-        (if b then (p, None) else placed_outcome layout worth section (get_or p.counters section 0) item
+        (if b then (p, None) else placed_outcome layout valuation section (get_or p.counters section 0) item
         (outside_in layout section (get_or p.counters section 0) (byte_count item)) p)) (sym (some k))
         (placed_taken item w k e (outside_in layout section (get_or p.counters section 0) (byte_count item)) refl) where
           some : (k : ℕ) → (suc k == 0) ≡ false
           some k = grind arith
 
-    pub item_taken : (item : Item) → IsPlainItem s worth site item → IsTaken earlier (item_step site section item) p (item_outcome layout worth section item p)
+    pub item_taken : (item : Item) → IsPlainItem s valuation site item → IsTaken earlier (item_step site section item) p
+        (item_outcome layout valuation section item p)
     unfolding item_outcome
     item_taken item w = counted_taken item w (byte_count item) refl

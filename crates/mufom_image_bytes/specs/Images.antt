@@ -14,7 +14,7 @@ use Rattle.mufom_image_bytes.specs.declared.refusal.ImageRefusal.{ImageRefusal}
 use Rattle.mufom_image_bytes.specs.declared.refusal.ImageRefusal.TheVariants as refusals
 use Rattle.mufom_image_bytes.specs.Stops.{fact_of}
 use Rattle.mufom_image_bytes.specs.Chunks.{cell_addresses}
-use Rattle.mufom_image_bytes.specs.Outcomes.{WorthAt}
+use Rattle.mufom_image_bytes.specs.Outcomes.{ValuationAt}
 use Rattle.mufom_image_bytes.specs.Walked.{AreWalked}
 
 -- the addresses of cells fit 64 bits
@@ -33,13 +33,13 @@ IsRefusal cells stop (refusals.Stopped other) = AreLow cells → (first_twice []
 IsRefusal cells stop refusals.NoMemory = Unit {0}
 
 -- where the loads are walked so, nothing is met, and the runs are the rows of what they load
-abbrev pub IsImageOf : Layout → WorthAt → List Load → List Run → Type 0
-IsImageOf layout worth loads runs =
-    (s : Setting) (site : Sited) → AreWalked s site layout worth loads → let steps = steps_of site None loads in
+abbrev pub IsImageOf : Layout → ValuationAt → List Load → List Run → Type 0
+IsImageOf layout valuation loads runs =
+    (s : Setting) (site : Sited) → AreWalked s site layout valuation loads → let steps = steps_of site None loads in
     (steps_fact s [] steps ≡ None) × AreRowsOf (address_map layout.order s.modulus (step_readings s steps)) runs
 
 -- where the loads are walked so, this is met first
-abbrev pub IsRefusalOf : Layout → WorthAt → List Load → ImageRefusal → Type 0
-IsRefusalOf layout worth loads (refusals.Stopped stop) =
-    (s : Setting) (site : Sited) → AreWalked s site layout worth loads → steps_fact s [] (steps_of site None loads) ≡ Some (fact_of stop)
-IsRefusalOf layout worth loads refusals.NoMemory = Unit {0}
+abbrev pub IsRefusalOf : Layout → ValuationAt → List Load → ImageRefusal → Type 0
+IsRefusalOf layout valuation loads (refusals.Stopped stop) =
+    (s : Setting) (site : Sited) → AreWalked s site layout valuation loads → steps_fact s [] (steps_of site None loads) ≡ Some (fact_of stop)
+IsRefusalOf layout valuation loads refusals.NoMemory = Unit {0}

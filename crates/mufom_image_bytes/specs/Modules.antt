@@ -18,14 +18,14 @@ use Rattle.mufom_meaning.specs.Walk.{base_number, size_at, public_fact, steps_fa
 use Rattle.mufom_image_bytes.specs.declared.refusal.ImageRefusal.{ImageRefusal}
 use Rattle.mufom_image_bytes.specs.declared.refusal.ImageRefusal.TheVariants as refusals
 use Rattle.mufom_image_bytes.specs.Stops.{fact_of}
-use Rattle.mufom_image_bytes.specs.Outcomes.{WorthAt}
+use Rattle.mufom_image_bytes.specs.Outcomes.{ValuationAt}
 
 -- the module alone in a list
 abbrev pub home_of : Parts → Sited
 home_of m = record { parts = m; first_section = 0; first_public = 0; first_name = 0 }
 
--- No fact stands that needs no walk, no public divides by 0, and at each counter an expression is worth its value.
-pub record IsReady (m : Parts) (placed : Bases) (bases : List ℕ) (worth : WorthAt) : Type 0 where
+-- No fact stands that needs no walk, no public divides by 0, and at each counter the code computes the value of an expression.
+pub record IsReady (m : Parts) (placed : Bases) (bases : List ℕ) (valuation : ValuationAt) : Type 0 where
   pub at_bases : placed.sections ≡ bases
   pub count : length placed.sections ≡ length m.sections
   pub inside : (n : ℕ) → base_number (setting (m ∷ []) placed) n + size_at (setting (m ∷ []) placed) n ≤ (setting (m ∷ []) placed).modulus
@@ -34,16 +34,16 @@ pub record IsReady (m : Parts) (placed : Bases) (bases : List ℕ) (worth : Wort
   pub commons : (name : List ℕ) → has_name (common_names (m ∷ [])) name ≡ true → placed.commons name ≡ None → ⊥
   pub acyclic : (name : List ℕ) → ¬ IsOnCycle (m ∷ []) name
   pub publics : first_some (public_fact (setting (m ∷ []) placed)) (setting (m ∷ []) placed).publics ≡ None
-  pub is_value : (at : ℕ) (t : Tree) → worth at t ≡ value (setting (m ∷ []) placed) (home_of m) (Some at) t
+  pub is_value : (at : ℕ) (t : Tree) → valuation at t ≡ value (setting (m ∷ []) placed) (home_of m) (Some at) t
 
 -- where the module is ready, nothing is met at its steps, and the runs are the rows of what they load
-abbrev pub IsImageOfModule : Parts → List ℕ → WorthAt → List Run → Type 0
-IsImageOfModule m bases worth runs =
-    (placed : Bases) → IsReady m placed bases worth → let s = setting (m ∷ []) placed in
+abbrev pub IsImageOfModule : Parts → List ℕ → ValuationAt → List Run → Type 0
+IsImageOfModule m bases valuation runs =
+    (placed : Bases) → IsReady m placed bases valuation → let s = setting (m ∷ []) placed in
     (steps_fact s [] (steps (m ∷ [])) ≡ None) × AreRowsOf (address_map m.order s.modulus (readings (m ∷ []) placed).steps) runs
 
 -- where the module is ready, this is met first at its steps
-abbrev pub IsRefusalOfModule : Parts → List ℕ → WorthAt → ImageRefusal → Type 0
-IsRefusalOfModule m bases worth (refusals.Stopped stop) =
-    (placed : Bases) → IsReady m placed bases worth → steps_fact (setting (m ∷ []) placed) [] (steps (m ∷ [])) ≡ Some (fact_of stop)
-IsRefusalOfModule m bases worth refusals.NoMemory = Unit {0}
+abbrev pub IsRefusalOfModule : Parts → List ℕ → ValuationAt → ImageRefusal → Type 0
+IsRefusalOfModule m bases valuation (refusals.Stopped stop) =
+    (placed : Bases) → IsReady m placed bases valuation → steps_fact (setting (m ∷ []) placed) [] (steps (m ∷ [])) ≡ Some (fact_of stop)
+IsRefusalOfModule m bases valuation refusals.NoMemory = Unit {0}

@@ -17,9 +17,9 @@ use Rattle.mufom_meaning.specs.Fields.{fits, field_number, number_bytes, in_byte
 use Rattle.mufom_meaning.specs.Walk.{counted_from, outside_at}
 use Rattle.mufom_image_bytes.specs.declared.layout.Layout.{Layout}
 
--- what an expression is worth at a program counter
-abbrev pub WorthAt : Type 0
-WorthAt = ℕ → Tree → Option ℕ
+-- the value of an expression at a program counter
+abbrev pub ValuationAt : Type 0
+ValuationAt = ℕ → Tree → Option ℕ
 
 -- the counter of each section, and the bytes that were loaded, in the order of the loads
 pub record Progress : Type 0 where
@@ -61,10 +61,10 @@ field_outcome modulus section at kind size (Some v) =
     if fits modulus kind size v then (field_number modulus kind size v, None) else (0, Some (overflow section at kind size v))
 
 -- the bytes of an item at a counter, and what is met at them
-abbrev pub item_bytes : Layout → WorthAt → ℕ → ℕ → Item → List ℕ × Option LocateFact
-item_bytes layout worth section at (Literal bytes) = (bytes, None)
-item_bytes layout worth section at (Field kind t size) =
-    let found = field_outcome (2 ^ layout.width) section at kind size (worth at t) in
+abbrev pub item_bytes : Layout → ValuationAt → ℕ → ℕ → Item → List ℕ × Option LocateFact
+item_bytes layout valuation section at (Literal bytes) = (bytes, None)
+item_bytes layout valuation section at (Field kind t size) =
+    let found = field_outcome (2 ^ layout.width) section at kind size (valuation at t) in
     (in_byte_order layout.order (number_bytes size found.0), found.1)
 
 -- bytes are put at a counter, and the counter of the section moves on
@@ -73,27 +73,27 @@ with_bytes layout section at bytes count p =
     record { counters = slice_set p.counters section ((at + count) % 2 ^ layout.width); cells = p.cells ++ cells_from at bytes }
 
 -- the bytes of an item are put, where none lies outside
-abbrev pub placed_outcome : Layout → WorthAt → ℕ → ℕ → Item → Option LocateFact → Progress → Outcome
-placed_outcome layout worth section at item (Some fact) p = (p, Some fact)
-placed_outcome layout worth section at item None p =
-    let found = item_bytes layout worth section at item in (with_bytes layout section at found.0 (byte_count item) p, found.1)
+abbrev pub placed_outcome : Layout → ValuationAt → ℕ → ℕ → Item → Option LocateFact → Progress → Outcome
+placed_outcome layout valuation section at item (Some fact) p = (p, Some fact)
+placed_outcome layout valuation section at item None p =
+    let found = item_bytes layout valuation section at item in (with_bytes layout section at found.0 (byte_count item) p, found.1)
 
 -- an item is loaded at the counter of a section
-unfoldable pub item_outcome : Layout → WorthAt → ℕ → Item → Progress → Outcome
-item_outcome layout worth section item p =
+unfoldable pub item_outcome : Layout → ValuationAt → ℕ → Item → Progress → Outcome
+item_outcome layout valuation section item p =
     if byte_count item == 0 then (p, None)
-    else (let at = slice_index p.counters section in placed_outcome layout worth section at item (outside_in layout section at (byte_count item)) p)
+    else (let at = slice_index p.counters section in placed_outcome layout valuation section at item (outside_in layout section at (byte_count item)) p)
 
 -- items are loaded, one after another
-abbrev pub items_outcome : Layout → WorthAt → ℕ → List Item → Progress → Outcome
-items_outcome layout worth section [] p = (p, None)
-items_outcome layout worth section (item ∷ items) p =
-    let first = item_outcome layout worth section item p in continued first.0 first.1 (λ q. items_outcome layout worth section items q)
+abbrev pub items_outcome : Layout → ValuationAt → ℕ → List Item → Progress → Outcome
+items_outcome layout valuation section [] p = (p, None)
+items_outcome layout valuation section (item ∷ items) p =
+    let first = item_outcome layout valuation section item p in continued first.0 first.1 (λ q. items_outcome layout valuation section items q)
 
 -- the same in the current section, where there is one
-abbrev pub current_outcome : Layout → WorthAt → Option ℕ → List Item → Progress → Outcome
-current_outcome layout worth None items p = (p, None)
-current_outcome layout worth (Some section) items p = items_outcome layout worth section items p
+abbrev pub current_outcome : Layout → ValuationAt → Option ℕ → List Item → Progress → Outcome
+current_outcome layout valuation None items p = (p, None)
+current_outcome layout valuation (Some section) items p = items_outcome layout valuation section items p
 
 -- the counter of a section is set
 abbrev pub counter_outcome : ℕ → Option ℕ → Progress → Outcome
@@ -101,18 +101,18 @@ counter_outcome section None p = (p, Some (zero_divisor (sites.Counter section))
 counter_outcome section (Some v) p = (record { counters = slice_set p.counters section v; cells = p.cells }, None)
 
 -- one load
-abbrev pub load_outcome : Layout → WorthAt → Option ℕ → Load → Progress → Outcome
-load_outcome layout worth current (SetSection section) p = (p, None)
-load_outcome layout worth current (SetPc section value) p = counter_outcome section (worth (slice_index p.counters section) value) p
-load_outcome layout worth current (One item) p = current_outcome layout worth current (item ∷ []) p
-load_outcome layout worth current (Repeat count items) p = current_outcome layout worth current (repeated count items) p
+abbrev pub load_outcome : Layout → ValuationAt → Option ℕ → Load → Progress → Outcome
+load_outcome layout valuation current (SetSection section) p = (p, None)
+load_outcome layout valuation current (SetPc section value) p = counter_outcome section (valuation (slice_index p.counters section) value) p
+load_outcome layout valuation current (One item) p = current_outcome layout valuation current (item ∷ []) p
+load_outcome layout valuation current (Repeat count items) p = current_outcome layout valuation current (repeated count items) p
 
 -- the loads, one after another
-abbrev pub loads_outcome : Layout → WorthAt → Option ℕ → List Load → Progress → Outcome
-loads_outcome layout worth current [] p = (p, None)
-loads_outcome layout worth current (load ∷ loads) p =
-    let first = load_outcome layout worth current load p in
-    continued first.0 first.1 (λ q. loads_outcome layout worth (current_after current load) loads q)
+abbrev pub loads_outcome : Layout → ValuationAt → Option ℕ → List Load → Progress → Outcome
+loads_outcome layout valuation current [] p = (p, None)
+loads_outcome layout valuation current (load ∷ loads) p =
+    let first = load_outcome layout valuation current load p in
+    continued first.0 first.1 (λ q. loads_outcome layout valuation (current_after current load) loads q)
 
 -- before all loads each counter is the base of its section
 abbrev pub progress_at_first : List ℕ → Progress

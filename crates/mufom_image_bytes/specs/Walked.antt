@@ -10,7 +10,7 @@ use Rattle.mufom_meaning.specs.Flat.{Sited}
 use Rattle.mufom_meaning.specs.Values.{Setting, value, has_zero_divisor}
 use Rattle.mufom_meaning.specs.Walk.{base_number, size_at}
 use Rattle.mufom_image_bytes.specs.declared.layout.Layout.{Layout}
-use Rattle.mufom_image_bytes.specs.Outcomes.{WorthAt}
+use Rattle.mufom_image_bytes.specs.Outcomes.{ValuationAt}
 
 -- the layout is that of the setting, in whose address space each section lies
 pub record IsLaidOut (s : Setting) (layout : Layout) : Type 0 where
@@ -19,24 +19,24 @@ pub record IsLaidOut (s : Setting) (layout : Layout) : Type 0 where
   pub sections : s.sections ≡ layout.sections.now
   pub inside : (n : ℕ) → base_number s n + size_at s n ≤ s.modulus
 
--- At each counter the expression is worth its value, a residue, and where it has none it divides by 0 itself.
-pub record HasWorth (s : Setting) (worth : WorthAt) (site : Sited) (t : Tree) : Type 0 where
-  pub is_value : (at : ℕ) → worth at t ≡ value s site (Some at) t
+-- At each counter the code computes the value of the expression, a residue, and where it has none the expression itself divides by 0.
+pub record HasValuation (s : Setting) (valuation : ValuationAt) (site : Sited) (t : Tree) : Type 0 where
+  pub is_value : (at : ℕ) → valuation at t ≡ value s site (Some at) t
   pub residue : (at v : ℕ) → value s site (Some at) t ≡ Some v → v < s.modulus
   pub divides : (at : ℕ) → value s site (Some at) t ≡ None → has_zero_divisor s site (Some at) t ≡ true
 
--- a field has a byte, and its expression its worth
-abbrev pub IsPlainItem : Setting → WorthAt → Sited → Item → Type 0
-IsPlainItem s worth site (Literal bytes) = Unit {0}
-IsPlainItem s worth site (Field kind t size) = (0 < size) × HasWorth s worth site t
+-- a field has a byte, and its expression is computed
+abbrev pub IsPlainItem : Setting → ValuationAt → Sited → Item → Type 0
+IsPlainItem s valuation site (Literal bytes) = Unit {0}
+IsPlainItem s valuation site (Field kind t size) = (0 < size) × HasValuation s valuation site t
 
--- a step is one of a section, and its expression has its worth
-abbrev pub IsPlainStep : Setting → WorthAt → Step → Type 0
-IsPlainStep s worth (counter_step site section t) = (section < length s.bases) × HasWorth s worth site t
-IsPlainStep s worth (item_step site section item) = (section < length s.bases) × IsPlainItem s worth site item
+-- a step is one of a section, and its expression is computed
+abbrev pub IsPlainStep : Setting → ValuationAt → Step → Type 0
+IsPlainStep s valuation (counter_step site section t) = (section < length s.bases) × HasValuation s valuation site t
+IsPlainStep s valuation (item_step site section item) = (section < length s.bases) × IsPlainItem s valuation site item
 
 -- the loads of the first module of a list are walked with this layout and these values
-pub record AreWalked (s : Setting) (site : Sited) (layout : Layout) (worth : WorthAt) (loads : List Load) : Type 0 where
+pub record AreWalked (s : Setting) (site : Sited) (layout : Layout) (valuation : ValuationAt) (loads : List Load) : Type 0 where
   pub laid_out : IsLaidOut s layout
   pub at_first : site.first_section ≡ 0
-  pub plain : (step : Step) → StandsIn step (steps_of site None loads) → IsPlainStep s worth step
+  pub plain : (step : Step) → StandsIn step (steps_of site None loads) → IsPlainStep s valuation step

@@ -11,7 +11,7 @@ use Rattle.mufom_image_bytes.specs.declared.walk.Walk.{Walk}
 use Rattle.mufom_image_bytes.specs.Loaded.{loaded_cells}
 use Rattle.mufom_image_bytes.specs.declared.stop.Stop.{Stop}
 use Rattle.mufom_image_bytes.specs.Stops.{fact_of}
-use Rattle.mufom_image_bytes.specs.Outcomes.{WorthAt, Progress, Outcome, placed_outcome, item_outcome, items_outcome}
+use Rattle.mufom_image_bytes.specs.Outcomes.{ValuationAt, Progress, Outcome, placed_outcome, item_outcome, items_outcome}
 use Rattle.mufom_image_bytes.specs.Outcomes.{load_outcome, loads_outcome, progress_at_first}
 
 -- the counters and the cells of a walk
@@ -23,25 +23,25 @@ abbrev pub Reaches : Walk → Option Stop → Outcome → Type 0
 Reaches walk stop outcome = ◌≡◌ {A = Outcome} (progress_of walk, option_map fact_of stop) outcome
 
 -- the same of an item
-abbrev pub LoadsItem : Layout → WorthAt → ℕ → Item → Walk → Walk → Option Stop → Type 0
-LoadsItem layout worth section item before after stop = Reaches after stop (item_outcome layout worth section item (progress_of before))
+abbrev pub LoadsItem : Layout → ValuationAt → ℕ → Item → Walk → Walk → Option Stop → Type 0
+LoadsItem layout valuation section item before after stop = Reaches after stop (item_outcome layout valuation section item (progress_of before))
 
 -- the same of items, one after another, where there was memory
-abbrev pub LoadsItems : {E : Type 0} → Layout → WorthAt → ℕ → List Item → Walk → Walk → Result (Option Stop) E → Type 0
-LoadsItems layout worth section items before after result =
-    IfOk result (λ stop. Reaches after stop (items_outcome layout worth section items (progress_of before)))
+abbrev pub LoadsItems : {E : Type 0} → Layout → ValuationAt → ℕ → List Item → Walk → Walk → Result (Option Stop) E → Type 0
+LoadsItems layout valuation section items before after result =
+    IfOk result (λ stop. Reaches after stop (items_outcome layout valuation section items (progress_of before)))
 
 -- the same of copies of items
-abbrev pub Copies : {E : Type 0} → Layout → WorthAt → ℕ → ℕ → List Item → Walk → Walk → Result (Option Stop) E → Type 0
-Copies layout worth section count items before after result = LoadsItems layout worth section (repeated count items) before after result
+abbrev pub Copies : {E : Type 0} → Layout → ValuationAt → ℕ → ℕ → List Item → Walk → Walk → Result (Option Stop) E → Type 0
+Copies layout valuation section count items before after result = LoadsItems layout valuation section (repeated count items) before after result
 
 -- the same of an item of which no byte lies outside its section
-abbrev pub PutsItem : Layout → WorthAt → ℕ → ℕ → Item → Walk → Walk → Option Stop → Type 0
-PutsItem layout worth section at item before after stop = Reaches after stop (placed_outcome layout worth section at item None (progress_of before))
+abbrev pub PutsItem : Layout → ValuationAt → ℕ → ℕ → Item → Walk → Walk → Option Stop → Type 0
+PutsItem layout valuation section at item before after stop = Reaches after stop (placed_outcome layout valuation section at item None (progress_of before))
 
 -- the same of one load, where this section is the current one
-abbrev pub LoadsOne : Layout → WorthAt → Option ℕ → Load → Walk → Walk → Option Stop → Type 0
-LoadsOne layout worth current load before after stop = Reaches after stop (load_outcome layout worth current load (progress_of before))
+abbrev pub LoadsOne : Layout → ValuationAt → Option ℕ → Load → Walk → Walk → Option Stop → Type 0
+LoadsOne layout valuation current load before after stop = Reaches after stop (load_outcome layout valuation current load (progress_of before))
 
 -- a field has at most eight bytes
 abbrev pub IsNarrow : Item → Type 0
@@ -64,5 +64,5 @@ abbrev pub first_counters : Layout → List ℕ
 first_counters layout = map (λ base. base % 2 ^ layout.width) layout.bases.now
 
 -- all loads were walked from the first on
-abbrev pub LoadsAll : Layout → WorthAt → List Load → Walk → Option Stop → Type 0
-LoadsAll layout worth loads after stop = Reaches after stop (loads_outcome layout worth None loads (progress_at_first (first_counters layout)))
+abbrev pub LoadsAll : Layout → ValuationAt → List Load → Walk → Option Stop → Type 0
+LoadsAll layout valuation loads after stop = Reaches after stop (loads_outcome layout valuation None loads (progress_at_first (first_counters layout)))

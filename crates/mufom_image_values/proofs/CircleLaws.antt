@@ -27,7 +27,7 @@ use Rattle.mufom_meaning.proofs.Tests.{either}
 use Rattle.mufom_meaning.proofs.facts.Answers.{first_some_none, find_at}
 use Rattle.mufom_meaning.proofs.facts.Chains.{cycles_are_short}
 use Rattle.mufom_image_values.specs.Names.{place_in}
-use Rattle.mufom_image_values.specs.Meetings.{meetings_of}
+use Rattle.mufom_image_values.specs.Resolutions.{resolutions_of}
 use Rattle.mufom_image_values.specs.Graph.{edges, mentions_of, IsClosed}
 use Rattle.mufom_image_values.specs.declared.graph.Graph.{Graph}
 use Rattle.mufom_image_values.specs.Circles.{Leads, IsOnCircle, IsFirstOnCircle}
@@ -107,15 +107,15 @@ module _ (m : Parts) (valid : IsValid m) where
   s = setting (m ∷ []) no_bases
 
   abbrev steps : ℕ → List ℕ
-  steps = edges (meetings_of m) m.names.publics
+  steps = edges (resolutions_of m) m.names.publics
 
-  edge-in : (a c : ℕ) (p : Public) → slice_get m.names.publics a ≡ Some p → Contains (steps a) c → In c (mentions_of (meetings_of m) (tokens_of p.value))
-  edge-in a c p e h = subst (λ (xs : List ℕ). In c xs) (edges-at (meetings_of m) m.names.publics a p e) (Contains-In c (steps a) h)
+  edge-in : (a c : ℕ) (p : Public) → slice_get m.names.publics a ≡ Some p → Contains (steps a) c → In c (mentions_of (resolutions_of m) (tokens_of p.value))
+  edge-in a c p e h = subst (λ (xs : List ℕ). In c xs) (edges-at (resolutions_of m) m.names.publics a p e) (Contains-In c (steps a) h)
 
-  in-edge : (a c : ℕ) (p : Public) → slice_get m.names.publics a ≡ Some p → In c (mentions_of (meetings_of m) (tokens_of p.value)) → Contains (steps a) c
-  in-edge a c p e h = In-Contains c (steps a) (subst (λ (xs : List ℕ). In c xs) (sym (edges-at (meetings_of m) m.names.publics a p e)) h)
+  in-edge : (a c : ℕ) (p : Public) → slice_get m.names.publics a ≡ Some p → In c (mentions_of (resolutions_of m) (tokens_of p.value)) → Contains (steps a) c
+  in-edge a c p e h = In-Contains c (steps a) (subst (λ (xs : List ℕ). In c xs) (sym (edges-at (resolutions_of m) m.names.publics a p e)) h)
 
-  passes : (k : ℕ) (name : List ℕ) (p q : Public) (c : ℕ) → slice_get m.names.publics c ≡ Some q → In c (mentions_of (meetings_of m) (tokens_of p.value))
+  passes : (k : ℕ) (name : List ℕ) (p q : Public) (c : ℕ) → slice_get m.names.publics c ≡ Some q → In c (mentions_of (resolutions_of m) (tokens_of p.value))
       → (bytes_eq q.name name || leads_within s k name (alone m) q.value) ≡ true → leads_within s (suc k) name (alone m) p.value ≡ true
   passes k name p q c e h test =
       let v = edge-mentions m s (flat-alone m) p.value c q e h in
@@ -165,7 +165,7 @@ module _ (m : Parts) (valid : IsValid m) where
 
 module _ (m : Parts) (valid : IsValid m) (distinct : AreDistinct (names_of m.names.publics)) where
   abbrev at_edges : ℕ → List ℕ
-  at_edges = edges (meetings_of m) m.names.publics
+  at_edges = edges (resolutions_of m) m.names.publics
 
   first-alone : (a : ℕ) (p : Public) → slice_get m.names.publics a ≡ Some p → first_named (s m valid).publics p.name ≡ Some (sit m p)
   first-alone a p e = ap (λ (qs : List SitedPublic). first_named qs p.name) (flat-alone m) ∙ first-is m distinct a p e
@@ -235,20 +235,20 @@ no_cycle m none name h = by_first (first_named (setting (m ∷ []) no_bases).pub
 
 -- the first position on a circle, if there is one, has the public whose cycle is named
 pub named-first : (graph : Graph) → IsGraph graph → (first : Option ℕ)
-    → IsFirstOnCircle (edges graph.meetings.now graph.parts.now.names.publics) (length graph.parts.now.names.publics) first
+    → IsFirstOnCircle (edges graph.resolutions.now graph.parts.now.names.publics) (length graph.parts.now.names.publics) first
     → first_some (cycle_at (graph.parts.now ∷ [])) (public_names (graph.parts.now ∷ []))
     ≡ option_map (λ (p : Public). cycle p.name) (option_and_then (slice_get graph.parts.now.names.publics) first)
 named-first graph h None none =
     first-cycle-none graph.parts.now h.valid h.distinct
-    (λ n less. subst (λ met. ¬ IsOnCircle (edges met graph.parts.now.names.publics) n) h.meetings (none n less))
+    (λ n less. subst (λ met. ¬ IsOnCircle (edges met graph.parts.now.names.publics) n) h.resolutions (none n less))
 named-first graph h (Some a) first =
     let p = there_is graph.parts.now.names.publics a first.0 in
     first-cycle-some graph.parts.now h.valid h.distinct a p.0 p.1
-    (subst (λ met. IsOnCircle (edges met graph.parts.now.names.publics) a) h.meetings first.1)
-    (λ n less. subst (λ met. ¬ IsOnCircle (edges met graph.parts.now.names.publics) n) h.meetings (first.2 n less))
+    (subst (λ met. IsOnCircle (edges met graph.parts.now.names.publics) a) h.resolutions first.1)
+    (λ n less. subst (λ met. ¬ IsOnCircle (edges met graph.parts.now.names.publics) n) h.resolutions (first.2 n less))
     ∙ sym (ap (option_map (λ (p : Public). cycle p.name)) p.1)
 
 -- all positions that the graph leads to are those of publics
-pub graph-closed : (graph : Graph) → IsGraph graph → IsClosed (edges graph.meetings.now graph.parts.now.names.publics) (length graph.parts.now.names.publics)
-graph-closed graph h = subst (λ met. IsClosed (edges met graph.parts.now.names.publics) (length graph.parts.now.names.publics)) (sym h.meetings)
+pub graph-closed : (graph : Graph) → IsGraph graph → IsClosed (edges graph.resolutions.now graph.parts.now.names.publics) (length graph.parts.now.names.publics)
+graph-closed graph h = subst (λ met. IsClosed (edges met graph.parts.now.names.publics) (length graph.parts.now.names.publics)) (sym h.resolutions)
     (closed graph.parts.now h.valid)

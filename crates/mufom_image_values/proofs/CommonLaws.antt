@@ -11,14 +11,14 @@ use Rattle.mufom_names.specs.Names.{names_of}
 use Rattle.mufom_names.specs.Index.{position_of, numbered_from}
 use Rattle.mufom_module.specs.declared.module.Parts.{Parts}
 use Rattle.mufom_plan.specs.Names.{has_name}
-use Rattle.mufom_meaning.specs.Flat.{distinct, is_common, common_size, same_common, public_names, flat_references, unmet_references, commons, common_names}
+use Rattle.mufom_meaning.specs.Flat.{distinct, is_common, common_size, same_common, public_names, flat_references, unresolved_references, commons, common_names}
 use Rattle.mufom_meaning.proofs.Choices.{equal_numbers}
 use Rattle.mufom_meaning.proofs.Members.{In, In-at, at-In, map-In, distinct-In, filter-In}
 use Rattle.mufom_meaning.proofs.facts.Answers.{find_at, find_none}
-use Rattle.mufom_image_values.specs.declared.meetings.Meeting.{Meeting}
-use Rattle.mufom_image_values.specs.declared.meetings.Meeting.TheVariants as meetings
+use Rattle.mufom_image_values.specs.declared.resolutions.Resolution.{Resolution}
+use Rattle.mufom_image_values.specs.declared.resolutions.Resolution.TheVariants as resolutions
 use Rattle.mufom_image_values.specs.Names.{place_in}
-use Rattle.mufom_image_values.specs.Meetings.{meeting_by, common_list, meeting_of, meetings_of, is_first_common}
+use Rattle.mufom_image_values.specs.Resolutions.{resolution_by, common_list, resolution_of, resolutions_of, is_first_common}
 use Rattle.mufom_image_values.proofs.NameLaws.{has-place, place-some}
 
 -- ---- the first that passes
@@ -60,35 +60,35 @@ first-place (x ∷ names) name e =
     ap (λ b. if b then Some 0 else position_of (numbered_from 1 names) name) ((bytes_eq-Decides name x).1 (sym same))
 
 -- a reference stands for the first common where no public and the first common have its name
-stands-first : (o u : Option ℕ) (weak : Option Weak) → o ≡ None → u ≡ Some 0 → is_first_common (meeting_by o u weak) ≡ true
+stands-first : (o u : Option ℕ) (weak : Option Weak) → o ≡ None → u ≡ Some 0 → is_first_common (resolution_by o u weak) ≡ true
 stands-first (Some n) u weak e f = absurd cc
 stands-first None None weak e f = absurd cc
 stands-first None (Some zero) weak e f = refl
 stands-first None (Some (suc n)) weak e f = absurd cc
 
-first-stands : (o u : Option ℕ) (weak : Option Weak) → is_first_common (meeting_by o u weak) ≡ true → u ≡ Some 0
+first-stands : (o u : Option ℕ) (weak : Option Weak) → is_first_common (resolution_by o u weak) ≡ true → u ≡ Some 0
 first-stands (Some n) u weak e = absurd cc
 first-stands None (Some n) weak e = ap Some (equal_numbers n 0 e)
 first-stands None None None e = absurd cc
 first-stands None None (Some weak) e = by_size (weak.size == 0) e where
-  by_size : (b : Bool) → is_first_common (if b then meetings.Default weak.default else meetings.Nothing) ≡ true → ◌≡◌ {A = Option ℕ} None (Some 0)
+  by_size : (b : Bool) → is_first_common (if b then resolutions.Default weak.default else resolutions.Nothing) ≡ true → ◌≡◌ {A = Option ℕ} None (Some 0)
   by_size true e = absurd cc
   by_size false e = absurd cc
 
 module _ (m : Parts) where
   abbrev pub stands : Reference → Bool
-  stands r = is_first_common (meeting_of m r)
+  stands r = is_first_common (resolution_of m r)
 
   -- where there is a common, a reference stands for it
   asked-for : (name : List ℕ) → slice_get (common_names (m ∷ [])) 0 ≡ Some name → (r : Reference) × In r m.names.references × (stands r ≡ true)
   asked-for name e =
       let pair = map-In (λ (common : List ℕ × ℕ). common.0) name (commons (m ∷ [])) (In-at name (common_names (m ∷ [])) 0 e) in
-      let asking = filter is_common (unmet_references (m ∷ [])) in
+      let asking = filter is_common (unresolved_references (m ∷ [])) in
       let made = distinct-In same_common pair.0 (map (λ r. (r.name, common_size r.weak)) asking) pair.1 in
       let r = map-In (λ (r : Reference). (r.name, common_size r.weak)) pair.0 asking made in
-      let unmet = filter-In is_common r.0 (unmet_references (m ∷ [])) r.1 in
-      let free = filter-passes (λ (r : Reference). not (has_name (public_names (m ∷ [])) r.name)) r.0 (flat_references (m ∷ [])) unmet in
-      let there = filter-In (λ (r : Reference). not (has_name (public_names (m ∷ [])) r.name)) r.0 (flat_references (m ∷ [])) unmet in
+      let unresolved = filter-In is_common r.0 (unresolved_references (m ∷ [])) r.1 in
+      let free = filter-passes (λ (r : Reference). not (has_name (public_names (m ∷ [])) r.name)) r.0 (flat_references (m ∷ [])) unresolved in
+      let there = filter-In (λ (r : Reference). not (has_name (public_names (m ∷ [])) r.name)) r.0 (flat_references (m ∷ [])) unresolved in
       let named : r.0.name ≡ name = ap (λ (common : List ℕ × ℕ). common.0) r.2 ∙ pair.2 in
       let own : not (has_name (names_of m.names.publics) r.0.name) ≡ true =
       ap (λ names. not (has_name names r.0.name)) (sym (append-nil (names_of m.names.publics))) ∙ free in
@@ -127,8 +127,8 @@ module _ (m : Parts) where
         absurd (let passes : stands r.0 ≡ true = r.2 in cc)
 
 -- what a reference stands for stands at its position
-pub meeting-at : (m : Parts) (met : List Meeting) (i : ℕ) (d : Meeting) (r : Reference) → met ≡ meetings_of m → slice_get m.names.references i
-    ≡ Some r → get_or met i d ≡ meeting_of m r
-meeting-at m met i d r same e =
-    get_or_from_slice_get met i (meeting_of m r) d
-    (ap (λ (ms : List Meeting). slice_get ms i) same ∙ slice_get-map (meeting_of m) m.names.references i ∙ ap (option_map (meeting_of m)) e)
+pub resolution-at : (m : Parts) (met : List Resolution) (i : ℕ) (d : Resolution) (r : Reference) → met ≡ resolutions_of m → slice_get m.names.references i
+    ≡ Some r → get_or met i d ≡ resolution_of m r
+resolution-at m met i d r same e =
+    get_or_from_slice_get met i (resolution_of m r) d
+    (ap (λ (ms : List Resolution). slice_get ms i) same ∙ slice_get-map (resolution_of m) m.names.references i ∙ ap (option_map (resolution_of m)) e)

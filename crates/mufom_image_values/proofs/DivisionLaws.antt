@@ -16,18 +16,18 @@ use Rattle.mufom_meaning.proofs.values.Causes.{zero_divisor-none}
 use Rattle.mufom_image_values.specs.declared.surroundings.Evaluation.{Evaluation}
 use Rattle.mufom_image_values.specs.declared.surroundings.Evaluation.TheVariants as evaluations
 use Rattle.mufom_image_values.specs.declared.values.PlacedModule.{PlacedModule}
-use Rattle.mufom_image_values.specs.Evaluated.{alone, public_value, IsRight, IsPlaced, worth_at, AreValues}
+use Rattle.mufom_image_values.specs.Evaluated.{alone, public_value, IsRight, IsPlaced, valuation_at, AreValues}
 use Rattle.mufom_image_values.proofs.PublicLaws.{at_site}
 use Rattle.mufom_image_values.proofs.MentionLaws.{sit, flat-alone}
 use Rattle.mufom_image_values.proofs.CircleLaws.{none_first, one_first}
-use Rattle.mufom_image_values.proofs.Settled.{m, s, known-at, worth_at-is, values-right}
+use Rattle.mufom_image_values.proofs.Settled.{m, s, known-at, valuation_at-is, values-right}
 
 module _ (placed : PlacedModule) (h : IsPlaced placed) (values : List Evaluation) (v : AreValues placed values) where
-  -- an expression is worth its value
-  pub value-is : (counter : Option ℕ) (t : Tree) → worth_at placed values counter t ≡ value (s placed h) (alone (m placed h)) counter t
-  value-is counter t = worth_at-is placed h values counter t (λ c k. known-at placed h values counter (values-right placed values v) c (v.evaluated c))
+  -- an expression has its value
+  pub value-is : (counter : Option ℕ) (t : Tree) → valuation_at placed values counter t ≡ value (s placed h) (alone (m placed h)) counter t
+  value-is counter t = valuation_at-is placed h values counter t (λ c k. known-at placed h values counter (values-right placed values v) c (v.evaluated c))
 
-  pub divides-is : (counter : Option ℕ) (t : Tree) → divides_by_zero (worth_at placed values counter) t
+  pub divides-is : (counter : Option ℕ) (t : Tree) → divides_by_zero (valuation_at placed values counter) t
       ≡ has_zero_divisor (s placed h) (alone (m placed h)) counter t
   divides-is counter t = λ i. divides_by_zero (λ part. value-is counter part i) t
 

@@ -1,6 +1,6 @@
 pub mod GraphLaws
 pub mod NameLaws
-pub mod MeetingLaws
+pub mod ResolutionLaws
 pub mod PublicLaws
 pub mod MentionLaws
 pub mod CircleLaws

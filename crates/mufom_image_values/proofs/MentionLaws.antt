@@ -24,10 +24,10 @@ use Rattle.mufom_meaning.specs.Cycles.{mentioned, mentioned_reference}
 use Rattle.mufom_meaning.proofs.Members.{In, In-at, Contains-In, In-flat_map, flat_map-In}
 use Rattle.mufom_meaning.proofs.Choices.{mapped_some}
 use Rattle.mufom_meaning.proofs.WithoutDefect.{public_inside}
-use Rattle.mufom_image_values.specs.declared.meetings.Meeting.{Meeting}
-use Rattle.mufom_image_values.specs.declared.meetings.Meeting.TheVariants as meetings
+use Rattle.mufom_image_values.specs.declared.resolutions.Resolution.{Resolution}
+use Rattle.mufom_image_values.specs.declared.resolutions.Resolution.TheVariants as resolutions
 use Rattle.mufom_image_values.specs.Names.{place_in}
-use Rattle.mufom_image_values.specs.Meetings.{meeting_by, common_list, meeting_of, meetings_of}
+use Rattle.mufom_image_values.specs.Resolutions.{resolution_by, common_list, resolution_of, resolutions_of}
 use Rattle.mufom_image_values.specs.Graph.{public_met, public_named, mentions_of, tokens_of_public, edges, IsClosed}
 use Rattle.mufom_image_values.specs.Evaluated.{alone}
 use Rattle.mufom_image_values.proofs.NameLaws.{place-some}
@@ -35,7 +35,7 @@ use Rattle.mufom_image_values.proofs.PublicLaws.{at_site, first-some, first-none
 
 -- ---- what tokens mention
 
-module _ (met : List Meeting) where
+module _ (met : List Resolution) where
   -- the mentions of tokens go by their variables
   mentions-variables : (tokens : List Token) → mentions_of met tokens ≡ flat_map (λ v. option_to_list (public_named met v.0 v.1)) (variables_in tokens)
   mentions-variables [] = refl
@@ -97,33 +97,33 @@ named-public m name = by_place (place_in (names_of m.names.publics) name) refl w
       there.2.1 ∙ sym there.2.2 ∙ ap (slice_get (at_site (alone m) m.names.publics)) place
 
 -- a reference stands for the public at the position of its name
-pub met-public : (m : Parts) (r : Reference) → public_met (Some (meeting_of m r)) ≡ place_in (names_of m.names.publics) r.name
+pub met-public : (m : Parts) (r : Reference) → public_met (Some (resolution_of m r)) ≡ place_in (names_of m.names.publics) r.name
 met-public m r = by_place (place_in (names_of m.names.publics) r.name) (place_in (common_list m) r.name) r.weak where
-  by_size : (b : Bool) (weak : Weak) → public_met (Some (if b then meetings.Default weak.default else meetings.Nothing)) ≡ None
+  by_size : (b : Bool) (weak : Weak) → public_met (Some (if b then resolutions.Default weak.default else resolutions.Nothing)) ≡ None
   by_size true weak = refl
   by_size false weak = refl
 
-  by_place : (o u : Option ℕ) (weak : Option Weak) → public_met (Some (meeting_by o u weak)) ≡ o
+  by_place : (o u : Option ℕ) (weak : Option Weak) → public_met (Some (resolution_by o u weak)) ≡ o
   by_place (Some n) u weak = refl
   by_place None (Some n) weak = refl
   by_place None None None = refl
   by_place None None (Some weak) = by_size (weak.size == 0) weak
 
 module _ (m : Parts) (s : Setting) (all : s.publics ≡ at_site (alone m) m.names.publics) where
-  by_reference : (o : Option Reference) → mentioned_reference s o ≡ option_and_then (slice_get s.publics) (public_met (option_map (meeting_of m) o))
+  by_reference : (o : Option Reference) → mentioned_reference s o ≡ option_and_then (slice_get s.publics) (public_met (option_map (resolution_of m) o))
   by_reference None = refl
   by_reference (Some r) =
       ap (λ (qs : List SitedPublic). first_named qs r.name) all
       ∙ named-public m r.name
       ∙ ap (option_and_then (slice_get (at_site (alone m) m.names.publics))) (sym (met-public m r))
-      ∙ ap (λ (qs : List SitedPublic). option_and_then (slice_get qs) (public_met (Some (meeting_of m r)))) (sym all)
+      ∙ ap (λ (qs : List SitedPublic). option_and_then (slice_get qs) (public_met (Some (resolution_of m r)))) (sym all)
 
   -- a variable mentions the public at the position that it names
-  pub mention-is : (l : Letter) (n : ℕ) → mentioned s (alone m) l n ≡ option_and_then (slice_get s.publics) (public_named (meetings_of m) l n)
+  pub mention-is : (l : Letter) (n : ℕ) → mentioned s (alone m) l n ≡ option_and_then (slice_get s.publics) (public_named (resolutions_of m) l n)
   mention-is letters.I n = ap (slice_get s.publics) (zero-add n)
   mention-is letters.X n =
       by_reference (slice_get m.names.references n)
-      ∙ ap (λ o. option_and_then (slice_get s.publics) (public_met o)) (sym (slice_get-map (meeting_of m) m.names.references n))
+      ∙ ap (λ o. option_and_then (slice_get s.publics) (public_met o)) (sym (slice_get-map (resolution_of m) m.names.references n))
   mention-is letters.L n = refl
   mention-is letters.P n = refl
   mention-is letters.R n = refl
@@ -139,28 +139,29 @@ module _ (m : Parts) (s : Setting) (all : s.publics ≡ at_site (alone m) m.name
       (sym (slice_get-map (sit m) m.names.publics c) ∙ ap (λ (qs : List SitedPublic). slice_get qs c) (sym all) ∙ e)
 
   -- what a position leads to is mentioned by its public
-  pub edge-mentions : (t : Tree) (c : ℕ) (q : Public) → slice_get m.names.publics c ≡ Some q → In c (mentions_of (meetings_of m) (tokens_of t))
+  pub edge-mentions : (t : Tree) (c : ℕ) (q : Public) → slice_get m.names.publics c ≡ Some q → In c (mentions_of (resolutions_of m) (tokens_of t))
       → (v : Letter × ℕ) × In v (variables_of t) × (mentioned s (alone m) v.0 v.1 ≡ Some (sit m q))
   edge-mentions t c q e h =
-      let there = mention-variable (meetings_of m) t c h in
+      let there = mention-variable (resolutions_of m) t c h in
       (there.0, there.1, mention-is there.0.0 there.0.1 ∙ ap (option_and_then (slice_get s.publics)) there.2 ∙ at-place c q e)
 
   -- and the other way round
   pub mention-edge : (t : Tree) (v : Letter × ℕ) (q : SitedPublic) → In v (variables_of t) → mentioned s (alone m) v.0 v.1 ≡ Some q
-      → (c : ℕ) × (r : Public) × In c (mentions_of (meetings_of m) (tokens_of t)) × (slice_get m.names.publics c ≡ Some r) × (sit m r ≡ q)
-  mention-edge t v q h e = by_name (public_named (meetings_of m) v.0 v.1) refl (sym (mention-is v.0 v.1) ∙ e) where
-    by_name : (o : Option ℕ) → public_named (meetings_of m) v.0 v.1 ≡ o → option_and_then (slice_get s.publics) o ≡ Some q
-        → (c : ℕ) × (r : Public) × In c (mentions_of (meetings_of m) (tokens_of t)) × (slice_get m.names.publics c ≡ Some r) × (sit m r ≡ q)
+      → (c : ℕ) × (r : Public) × In c (mentions_of (resolutions_of m) (tokens_of t)) × (slice_get m.names.publics c ≡ Some r) × (sit m r ≡ q)
+  mention-edge t v q h e = by_name (public_named (resolutions_of m) v.0 v.1) refl (sym (mention-is v.0 v.1) ∙ e) where
+    by_name : (o : Option ℕ) → public_named (resolutions_of m) v.0 v.1 ≡ o → option_and_then (slice_get s.publics) o ≡ Some q
+        → (c : ℕ) × (r : Public) × In c (mentions_of (resolutions_of m) (tokens_of t)) × (slice_get m.names.publics c ≡ Some r) × (sit m r ≡ q)
     by_name None f g = absurd cc
-    by_name (Some c) f g = let there = place-at c q g in (c, there.0, variable-mention (meetings_of m) t v c h f, there.1, there.2)
+    by_name (Some c) f g = let there = place-at c q g in (c, there.0, variable-mention (resolutions_of m) t v c h f, there.1, there.2)
 
 -- ---- all positions are those of publics
 
 module _ (m : Parts) (valid : IsValid m) where
-  named_below : (p : Public) → In p m.names.publics → (v : Letter × ℕ) → In v (variables_of p.value) → (c : ℕ) → public_named (meetings_of m) v.0 v.1 ≡ Some c
+  named_below : (p : Public) → In p m.names.publics → (v : Letter × ℕ) → In v (variables_of p.value) → (c : ℕ) → public_named (resolutions_of m) v.0 v.1
+      ≡ Some c
       → c < length m.names.publics
   named_below p h v k c e = by_letter v.0 v.1 (public_inside m valid p h v k) e where
-    by_reference : (o : Option Reference) → public_met (option_map (meeting_of m) o) ≡ Some c → c < length m.names.publics
+    by_reference : (o : Option Reference) → public_met (option_map (resolution_of m) o) ≡ Some c → c < length m.names.publics
     by_reference None e = absurd cc
     by_reference (Some r) e =
         let there = place-some 0 (names_of m.names.publics) r.name c (sym (met-public m r) ∙ e) in
@@ -169,18 +170,19 @@ module _ (m : Parts) (valid : IsValid m) where
         let inside = slice_get_within m.names.publics there.0 found.0 found.1 in
         omega (arith, inside, there.1)
 
-    by_letter : (l : Letter) (n : ℕ) → n < count_for (counts_of m) l → public_named (meetings_of m) l n ≡ Some c → c < length m.names.publics
+    by_letter : (l : Letter) (n : ℕ) → n < count_for (counts_of m) l → public_named (resolutions_of m) l n ≡ Some c → c < length m.names.publics
     by_letter letters.I n inside e = let same : n ≡ c = cc in omega (arith, inside, same)
-    by_letter letters.X n inside e = by_reference (slice_get m.names.references n) (ap public_met (sym (slice_get-map (meeting_of m) m.names.references n)) ∙ e)
+    by_letter letters.X n inside e = by_reference (slice_get m.names.references n)
+        (ap public_met (sym (slice_get-map (resolution_of m) m.names.references n)) ∙ e)
     by_letter letters.L n inside e = absurd cc
     by_letter letters.P n inside e = absurd cc
     by_letter letters.R n inside e = absurd cc
     by_letter letters.S n inside e = absurd cc
 
-  pub closed : IsClosed (edges (meetings_of m) m.names.publics) (length m.names.publics)
-  closed a c h = by_public (slice_get m.names.publics a) refl (Contains-In c (edges (meetings_of m) m.names.publics a) h) where
-    by_public : (o : Option Public) → slice_get m.names.publics a ≡ o → In c (mentions_of (meetings_of m) (tokens_of_public o)) → c < length m.names.publics
+  pub closed : IsClosed (edges (resolutions_of m) m.names.publics) (length m.names.publics)
+  closed a c h = by_public (slice_get m.names.publics a) refl (Contains-In c (edges (resolutions_of m) m.names.publics a) h) where
+    by_public : (o : Option Public) → slice_get m.names.publics a ≡ o → In c (mentions_of (resolutions_of m) (tokens_of_public o)) → c < length m.names.publics
     by_public None e k = absurd k
     by_public (Some p) e k =
-        let there = mention-variable (meetings_of m) p.value c k in
+        let there = mention-variable (resolutions_of m) p.value c k in
         named_below p (In-at p m.names.publics a e) there.0 there.1 c there.2

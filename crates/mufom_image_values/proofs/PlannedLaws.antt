@@ -16,7 +16,7 @@ use Rattle.mufom_meaning.proofs.Names.{has_name-turned}
 use Rattle.mufom_meaning.proofs.Placed.{bases_by_position, bases_count}
 use Rattle.mufom_meaning.proofs.Tests.{either_false}
 use Rattle.mufom_image_values.specs.Names.{place_in}
-use Rattle.mufom_image_values.specs.Meetings.{common_list}
+use Rattle.mufom_image_values.specs.Resolutions.{common_list}
 use Rattle.mufom_image_values.specs.Evaluated.{bases_by, setting_by}
 use Rattle.mufom_image_values.proofs.NameLaws.{place-some, place-none}
 

@@ -11,7 +11,7 @@ use Rattle.mufom_names.specs.declared.name.Public.{Public}
 use Rattle.mufom_names.specs.Names.{names_of, RepeatsAt}
 use Rattle.mufom_module.specs.declared.module.Parts.{Parts}
 use Rattle.mufom_meaning.specs.Flat.{Sited, SitedPublic, flat_publics, first_named}
-use Rattle.mufom_meaning.specs.Values.{Setting, Worth, worth_of, value}
+use Rattle.mufom_meaning.specs.Values.{Setting, Valuation, valuation_of, value}
 use Rattle.mufom_meaning.specs.Facts.{duplicate}
 use Rattle.mufom_meaning.specs.Stands.{LinkFactStands}
 use Rattle.mufom_meaning.specs.Valued.{IsMentionedIn}
@@ -22,11 +22,11 @@ use Rattle.mufom_meaning.proofs.values.Named.{single_name, leads_from-bases}
 use Rattle.mufom_image_values.specs.declared.surroundings.Evaluation.{Evaluation}
 use Rattle.mufom_image_values.specs.declared.surroundings.Evaluation.TheVariants as evaluations
 use Rattle.mufom_image_values.specs.declared.values.PlacedModule.{PlacedModule}
-use Rattle.mufom_image_values.specs.Meetings.{meetings_of}
+use Rattle.mufom_image_values.specs.Resolutions.{resolutions_of}
 use Rattle.mufom_image_values.specs.Graph.{edges, mentions_of}
-use Rattle.mufom_image_values.specs.Surroundings.{known, known_of, worth_by}
+use Rattle.mufom_image_values.specs.Surroundings.{known, known_of, valuation_by}
 use Rattle.mufom_image_values.specs.Evaluated.{alone, bases_by, graph_edges, setting_of, public_value, IsRight, AreRight, IsEvaluated, AreEvaluated}
-use Rattle.mufom_image_values.specs.Evaluated.{AreKept, IsRound, IsPlaced, worth_at, AreValues}
+use Rattle.mufom_image_values.specs.Evaluated.{AreKept, IsRound, IsPlaced, valuation_at, AreValues}
 use Rattle.mufom_image_values.proofs.MentionLaws.{sit, flat-alone, edges-at, edge-mentions, closed}
 use Rattle.mufom_image_values.proofs.CircleLaws.{there_is, no_cycle}
 use Rattle.mufom_image_values.proofs.Around.{IsKnown, value_by-is}
@@ -72,35 +72,35 @@ module _ (placed : PlacedModule) (h : IsPlaced placed) where
   s = setting_of placed
 
   -- the value of the expression of a public
-  abbrev worth : Worth
-  worth = λ x y. value s x None y
+  abbrev valuation : Valuation
+  valuation = λ x y. value s x None y
 
   once : (name : List ℕ) → ¬ LinkFactStands (m ∷ []) (duplicate name)
   once name f = h.graph.distinct f.0 (subst (λ (names : List (List ℕ)). RepeatsAt names f.0) (append-nil (names_of m.names.publics)) f.2)
 
-  -- an expression is worth its value, where what it mentions is known
-  pub worth_at-is : (values : List Evaluation) (counter : Option ℕ) (t : Tree)
-      → ((c : ℕ) → In c (mentions_of (meetings_of m) (tokens_of t)) → IsKnown m placed.bases.now placed.commons.now worth values counter c)
-      → worth_at placed values counter t ≡ value s (alone m) counter t
-  worth_at-is values counter t knows =
-      ap (λ met. value_at s.modulus (worth_by m.sections placed.bases.now placed.commons.now values met counter) t) h.graph.meetings
-      ∙ value_by-is m placed.bases.now placed.commons.now worth values counter t knows
+  -- an expression has its value, where what it mentions is known
+  pub valuation_at-is : (values : List Evaluation) (counter : Option ℕ) (t : Tree)
+      → ((c : ℕ) → In c (mentions_of (resolutions_of m) (tokens_of t)) → IsKnown m placed.bases.now placed.commons.now valuation values counter c)
+      → valuation_at placed values counter t ≡ value s (alone m) counter t
+  valuation_at-is values counter t knows =
+      ap (λ met. value_at s.modulus (valuation_by m.sections placed.bases.now placed.commons.now values met counter) t) h.graph.resolutions
+      ∙ value_by-is m placed.bases.now placed.commons.now valuation values counter t knows
       ∙ sym (value_from_values (m ∷ []) (bases_by m placed.bases.now placed.commons.now) once (no_cycle m h.acyclic) (alone m) counter t)
 
   -- a public that was evaluated is known
   pub known-at : (values : List Evaluation) (counter : Option ℕ) → AreRight placed values → (c : ℕ) → IsEvaluated values c
-      → IsKnown m placed.bases.now placed.commons.now worth values counter c
+      → IsKnown m placed.bases.now placed.commons.now valuation values counter c
   known-at values counter r c evaluated = by_public (slice_get m.names.publics c) refl (slice_get values c) refl where
     publics : (o : Option Public) → slice_get m.names.publics c ≡ o → slice_get (flat_publics (m ∷ [])) c ≡ option_map (sit m) o
     publics o e = ap (λ (qs : List SitedPublic). slice_get qs c) (flat-alone m) ∙ slice_get-map (sit m) m.names.publics c ∙ ap (option_map (sit m)) e
 
     by_public : (o : Option Public) → slice_get m.names.publics c ≡ o → (u : Option Evaluation) → slice_get values c ≡ u
-        → known_of (slice_get values c) ≡ worth_of worth (slice_get (flat_publics (m ∷ [])) c)
-    by_public None e None f = ap known_of f ∙ sym (ap (worth_of worth) (publics None e))
+        → known_of (slice_get values c) ≡ valuation_of valuation (slice_get (flat_publics (m ∷ [])) c)
+    by_public None e None f = ap known_of f ∙ sym (ap (valuation_of valuation) (publics None e))
     by_public (Some p) e (Some evaluation) f =
         ap known_of f
         ∙ right-known (public_value placed p) evaluation (r.right c p evaluation e f) (λ waits. evaluated (f ∙ ap Some waits))
-        ∙ sym (ap (worth_of worth) (publics (Some p) e))
+        ∙ sym (ap (valuation_of valuation) (publics (Some p) e))
     by_public None e (Some evaluation) f =
         let inside = slice_get_within values c evaluation f in
         let count = r.count in
@@ -112,30 +112,30 @@ module _ (placed : PlacedModule) (h : IsPlaced placed) where
         let there = there_is values c (omega (arith, inside, count)) in
         absurd (let clash : Some there.0 ≡ None = sym there.1 ∙ f in cc)
 
-  edges-are : (n : ℕ) → graph_edges placed.graph n ≡ edges (meetings_of m) m.names.publics n
-  edges-are n = ap (λ met. edges met m.names.publics n) h.graph.meetings
+  edges-are : (n : ℕ) → graph_edges placed.graph n ≡ edges (resolutions_of m) m.names.publics n
+  edges-are n = ap (λ met. edges met m.names.publics n) h.graph.resolutions
 
-  mention-edge : (n c : ℕ) (p : Public) → slice_get m.names.publics n ≡ Some p → In c (mentions_of (meetings_of m) (tokens_of p.value))
+  mention-edge : (n c : ℕ) (p : Public) → slice_get m.names.publics n ≡ Some p → In c (mentions_of (resolutions_of m) (tokens_of p.value))
       → Contains (graph_edges placed.graph n) c
   mention-edge n c p e k =
-      In-Contains c (graph_edges placed.graph n) (subst (λ (xs : List ℕ). In c xs) (sym (edges-are n ∙ edges-at (meetings_of m) m.names.publics n p e)) k)
+      In-Contains c (graph_edges placed.graph n) (subst (λ (xs : List ℕ). In c xs) (sym (edges-are n ∙ edges-at (resolutions_of m) m.names.publics n p e)) k)
 
   edge-mention : (n c : ℕ) (p : Public) → slice_get m.names.publics n ≡ Some p → Contains (graph_edges placed.graph n) c
-      → In c (mentions_of (meetings_of m) (tokens_of p.value))
+      → In c (mentions_of (resolutions_of m) (tokens_of p.value))
   edge-mention n c p e k =
-      subst (λ (xs : List ℕ). In c xs) (edges-are n ∙ edges-at (meetings_of m) m.names.publics n p e) (Contains-In c (graph_edges placed.graph n) k)
+      subst (λ (xs : List ℕ). In c xs) (edges-are n ∙ edges-at (resolutions_of m) m.names.publics n p e) (Contains-In c (graph_edges placed.graph n) k)
 
-  -- a public all of whose mentions are evaluated is worth its value
-  pub public-worth : (values : List Evaluation) → AreRight placed values → (n : ℕ) (p : Public) → slice_get m.names.publics n ≡ Some p
+  -- a public all of whose mentions are evaluated has its value
+  pub public-valuation : (values : List Evaluation) → AreRight placed values → (n : ℕ) (p : Public) → slice_get m.names.publics n ≡ Some p
       → AreEvaluated values (graph_edges placed.graph n)
-      → worth_at placed values None p.value ≡ public_value placed p
-  public-worth values r n p e evaluated =
-      worth_at-is values None p.value (λ c k. known-at values None r c (evaluated c (mention-edge n c p e k)))
+      → valuation_at placed values None p.value ≡ public_value placed p
+  public-valuation values r n p e evaluated =
+      valuation_at-is values None p.value (λ c k. known-at values None r c (evaluated c (mention-edge n c p e k)))
 
   -- and may be set to it
   pub set-right : (values : List Evaluation) → AreRight placed values → (n : ℕ) (p : Public) → slice_get m.names.publics n ≡ Some p
       → AreEvaluated values (graph_edges placed.graph n)
-      → (evaluation : Evaluation) → known evaluation ≡ worth_at placed values None p.value → AreRight placed (set values n evaluation)
+      → (evaluation : Evaluation) → known evaluation ≡ valuation_at placed values None p.value → AreRight placed (set values n evaluation)
   set-right values r n p e evaluated evaluation is = record {
     count = set-length values n evaluation ∙ r.count;
     right = λ k q found at f. by_place k q found at f (nat_choice k n);
@@ -153,7 +153,7 @@ module _ (placed : PlacedModule) (h : IsPlaced placed) where
           let its : evaluation ≡ found = cc in
           let own : ◌≡◌ {A = Option Public} (Some p) (Some q) = sym e ∙ ap (slice_get m.names.publics) (sym same) ∙ at in
           let public : p ≡ q = cc in
-          known-right (public_value placed q) found (sym (ap known its) ∙ is ∙ public-worth values r n p e evaluated ∙ ap (public_value placed) public)
+          known-right (public_value placed q) found (sym (ap known its) ∙ is ∙ public-valuation values r n p e evaluated ∙ ap (public_value placed) public)
 
   pub set-evaluated : (values : List Evaluation) (n : ℕ) (evaluation : Evaluation) → evaluation ≢ evaluations.Waiting → IsEvaluated (set values n evaluation) n
   set-evaluated values n evaluation other e =

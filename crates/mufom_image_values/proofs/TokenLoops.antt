@@ -9,7 +9,7 @@ use Rattle.mufom_expr.specs.declared.token.Token.{Token}
 use Rattle.mufom_meaning.proofs.Members.{In, In-Contains, Contains-In, In-left, In-right}
 use Rattle.mufom_meaning.proofs.Choices.{some_same, of_lt}
 use Rattle.mufom_meaning.proofs.facts.Answers.{both}
-use Rattle.mufom_image_values.specs.declared.meetings.Meeting.{Meeting}
+use Rattle.mufom_image_values.specs.declared.resolutions.Resolution.{Resolution}
 use Rattle.mufom_image_values.specs.declared.surroundings.Evaluation.{Evaluation}
 use Rattle.mufom_image_values.specs.declared.surroundings.Evaluation.TheVariants as evaluations
 use Rattle.mufom_image_values.specs.Graph.{mentioned_in, mentions_of}
@@ -18,7 +18,7 @@ use Rattle.mufom_image_values.proofs.SearchLaws.{followed-append}
 use Rattle.mufom_image_values.specs.Evaluated.{is_waiting, is_ready, AreEvaluated}
 
 -- a test that passes where nothing is mentioned passes all tokens where it passes all that they mention
-pub all-mentions : (met : List Meeting) (q : Option ℕ → Bool) → q None ≡ true → (tokens : List Token)
+pub all-mentions : (met : List Resolution) (q : Option ℕ → Bool) → q None ≡ true → (tokens : List Token)
     → list_all (λ t. q (mentioned_in met t)) tokens ≡ list_all (λ n. q (Some n)) (mentions_of met tokens)
 all-mentions met q none [] = refl
 all-mentions met q none (t ∷ tokens) = by_case (mentioned_in met t) (all-mentions met q none tokens) where
@@ -63,11 +63,11 @@ evaluated-ready values positions holds = In-all (λ n. is_ready values (Some n))
 
 -- ---- what tokens mention, one after another
 
-mentions-append : (met : List Meeting) (xs ys : List Token) → mentions_of met (xs ++ ys) ≡ mentions_of met xs ++ mentions_of met ys
+mentions-append : (met : List Resolution) (xs ys : List Token) → mentions_of met (xs ++ ys) ≡ mentions_of met xs ++ mentions_of met ys
 mentions-append met xs ys = flat_map-append (λ token. option_to_list (mentioned_in met token)) xs ys
 
 -- a search follows what one token more mentions
-pub follow-step : (met : List Meeting) (tokens : List Token) (i : ℕ) (d : Token) (s : Search) (o : Option ℕ) → i < length tokens
+pub follow-step : (met : List Resolution) (tokens : List Token) (i : ℕ) (d : Token) (s : Search) (o : Option ℕ) → i < length tokens
     → o ≡ mentioned_in met (get_or tokens i d)
     → followed (mentions_of met (take (i + 1) tokens)) s ≡ followed (option_to_list o) (followed (mentions_of met (take i tokens)) s)
 follow-step met tokens i d s o inside found =
@@ -78,7 +78,7 @@ follow-step met tokens i d s o inside found =
     ∙ ap option_to_list (sym found))
 
 -- what a token mentions is among what all mention
-pub mention-at : (met : List Meeting) (tokens : List Token) (i : ℕ) (d : Token) (n : ℕ) → i < length tokens → Some n ≡ mentioned_in met (get_or tokens i d)
+pub mention-at : (met : List Resolution) (tokens : List Token) (i : ℕ) (d : Token) (n : ℕ) → i < length tokens → Some n ≡ mentioned_in met (get_or tokens i d)
     → Contains (mentions_of met tokens) n
 mention-at met tokens i d n inside found = In-Contains n (mentions_of met tokens) (at tokens i inside found) where
   at : (tokens : List Token) (i : ℕ) → i < length tokens → Some n ≡ mentioned_in met (get_or tokens i d) → In n (mentions_of met tokens)

@@ -18,9 +18,9 @@ use Rattle.mufom_image_values.specs.declared.surroundings.Evaluation.{Evaluation
 use Rattle.mufom_image_values.specs.declared.surroundings.Evaluation.TheVariants as evaluations
 use Rattle.mufom_image_values.specs.declared.values.PlacedModule.{PlacedModule}
 use Rattle.mufom_image_values.specs.Names.{place_in}
-use Rattle.mufom_image_values.specs.Meetings.{common_list, meetings_of}
+use Rattle.mufom_image_values.specs.Resolutions.{common_list, resolutions_of}
 use Rattle.mufom_image_values.specs.Graph.{edges}
-use Rattle.mufom_image_values.specs.Surroundings.{known, worth_by}
+use Rattle.mufom_image_values.specs.Surroundings.{known, valuation_by}
 
 -- the module alone in a list
 abbrev pub alone : Parts → Sited
@@ -38,11 +38,11 @@ setting_by m sections commons = setting (m ∷ []) (bases_by m sections commons)
 pub record IsGraph (graph : Graph) : Type 0 where
   pub valid : IsValid graph.parts.now
   pub distinct : AreDistinct (names_of graph.parts.now.names.publics)
-  pub meetings : graph.meetings.now ≡ meetings_of graph.parts.now
+  pub resolutions : graph.resolutions.now ≡ resolutions_of graph.parts.now
 
 -- the positions that each position of the graph leads to
 abbrev pub graph_edges : Graph → ℕ → List ℕ
-graph_edges graph n = edges graph.meetings.now graph.parts.now.names.publics n
+graph_edges graph n = edges graph.resolutions.now graph.parts.now.names.publics n
 
 -- how many publics it has
 abbrev pub public_count : Graph → ℕ
@@ -52,7 +52,7 @@ public_count graph = length graph.parts.now.names.publics
 abbrev pub setting_of : PlacedModule → Setting
 setting_of placed = setting_by placed.graph.parts.now placed.bases.now placed.commons.now
 
--- what a public is worth
+-- the value of a public
 abbrev pub public_value : PlacedModule → Public → Option ℕ
 public_value placed public = value (setting_of placed) (alone placed.graph.parts.now) None public.value
 
@@ -112,17 +112,17 @@ pub record AreSurroundings (placed : PlacedModule) (values : List Evaluation) (c
   pub bases : s.bases.now ≡ placed.bases.now
   pub commons : s.commons.now ≡ placed.commons.now
   pub known : s.values.now ≡ values
-  pub meetings : s.meetings.now ≡ placed.graph.meetings.now
+  pub resolutions : s.resolutions.now ≡ placed.graph.resolutions.now
   pub pc : s.counter ≡ counter
 
--- what variables are worth in them
+-- the values of variables in them
 abbrev pub environment_of : PlacedModule → List Evaluation → Option ℕ → Environment
 environment_of placed values counter =
-    worth_by placed.graph.parts.now.sections placed.bases.now placed.commons.now values placed.graph.meetings.now counter
+    valuation_by placed.graph.parts.now.sections placed.bases.now placed.commons.now values placed.graph.resolutions.now counter
 
--- what an expression is worth in them
-abbrev pub worth_at : PlacedModule → List Evaluation → Option ℕ → Tree → Option ℕ
-worth_at placed values counter t = value_at (2 ^ (8 * placed.graph.parts.now.maus)) (environment_of placed values counter) t
+-- the value of an expression in them
+abbrev pub valuation_at : PlacedModule → List Evaluation → Option ℕ → Tree → Option ℕ
+valuation_at placed values counter t = value_at (2 ^ (8 * placed.graph.parts.now.maus)) (environment_of placed values counter) t
 
 -- the values of all publics, in order
 pub record AreValues (placed : PlacedModule) (all : List Evaluation) : Type 0 where

@@ -6,19 +6,19 @@ use Rattle.mufom_expr.specs.declared.token.Token.{Token}
 use Rattle.mufom_expr.specs.declared.token.Token.TheVariants.{Number, Var, Fun}
 use Rattle.mufom_expr.specs.Tree.{tokens_of}
 use Rattle.mufom_names.specs.declared.name.Public.{Public}
-use Rattle.mufom_image_values.specs.declared.meetings.Meeting.{Meeting}
-use Rattle.mufom_image_values.specs.declared.meetings.Meeting.TheVariants as meetings
+use Rattle.mufom_image_values.specs.declared.resolutions.Resolution.{Resolution}
+use Rattle.mufom_image_values.specs.declared.resolutions.Resolution.TheVariants as resolutions
 
 -- the public that a reference stands for
-abbrev pub public_met : Option Meeting → Option ℕ
+abbrev pub public_met : Option Resolution → Option ℕ
 public_met None = None
-public_met (Some (meetings.Public n)) = Some n
-public_met (Some (meetings.Common n)) = None
-public_met (Some (meetings.Default v)) = None
-public_met (Some meetings.Nothing) = None
+public_met (Some (resolutions.Public n)) = Some n
+public_met (Some (resolutions.Common n)) = None
+public_met (Some (resolutions.Default v)) = None
+public_met (Some resolutions.Nothing) = None
 
 -- the public that a variable mentions
-abbrev pub public_named : List Meeting → Letter → ℕ → Option ℕ
+abbrev pub public_named : List Resolution → Letter → ℕ → Option ℕ
 public_named met letters.I n = Some n
 public_named met letters.X n = public_met (slice_get met n)
 public_named met letters.L n = None
@@ -27,13 +27,13 @@ public_named met letters.R n = None
 public_named met letters.S n = None
 
 -- the public that a token mentions
-abbrev pub mentioned_in : List Meeting → Token → Option ℕ
+abbrev pub mentioned_in : List Resolution → Token → Option ℕ
 mentioned_in met (Number n) = None
 mentioned_in met (Var letter n) = public_named met letter n
 mentioned_in met (Fun f) = None
 
 -- the publics that tokens mention, in order
-abbrev pub mentions_of : List Meeting → List Token → List ℕ
+abbrev pub mentions_of : List Resolution → List Token → List ℕ
 mentions_of met tokens = flat_map (λ token. option_to_list (mentioned_in met token)) tokens
 
 -- the tokens of a public, where there is one
@@ -46,7 +46,7 @@ abbrev pub tokens_at : List Public → ℕ → List Token
 tokens_at publics n = tokens_of_public (slice_get publics n)
 
 -- the positions that the public at a position mentions
-abbrev pub edges : List Meeting → List Public → ℕ → List ℕ
+abbrev pub edges : List Resolution → List Public → ℕ → List ℕ
 edges met publics n = mentions_of met (tokens_at publics n)
 
 -- all positions are below this number

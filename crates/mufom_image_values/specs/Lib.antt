@@ -1,5 +1,5 @@
 pub mod Names
-pub mod Meetings
+pub mod Resolutions
 pub mod Graph
 pub mod Circles
 pub mod Surroundings

@@ -26,7 +26,7 @@ fn number_of(numbers: &[u32], position: u32) -> u32
 
 // Whether the mention leads down: to a lesser number, or where not `strictly` to the same one.
 fn is_down(graph: &Graph<'_>, numbers: &[u32], own: u32, strictly: bool, token: Token) -> bool
-    ensures { result ≡ is_down (number_at numbers.now) own strictly (mentioned_in graph.now.meetings.now token) }
+    ensures { result ≡ is_down (number_at numbers.now) own strictly (mentioned_in graph.now.resolutions.now token) }
 {
     match graph.mentioned(token) {
         Some(next) if strictly => number_of(numbers, next) < own,
@@ -38,7 +38,7 @@ fn is_down(graph: &Graph<'_>, numbers: &[u32], own: u32, strictly: bool, token: 
 // Whether all mentions of the tokens lead down.
 fn all_down(graph: &Graph<'_>, numbers: &[u32], own: u32, strictly: bool, tokens: &[Token]) -> bool
     ensures { result
-        ≡ list_all (λ token. is_down (number_at numbers.now) own strictly (mentioned_in graph.now.meetings.now token)) tokens.now }
+        ≡ list_all (λ token. is_down (number_at numbers.now) own strictly (mentioned_in graph.now.resolutions.now token)) tokens.now }
 {
     tokens
         .iter()
@@ -86,9 +86,9 @@ fn follow(
     marks: &mut Vec<bool>,
     pending: &mut Vec<u32>,
 ) -> Result<(), NoMemory>
-    requires { AreWithin (mentions_of graph.now.meetings.now tokens.now) (length marks.old.items) }
+    requires { AreWithin (mentions_of graph.now.resolutions.now tokens.now) (length marks.old.items) }
     ensures { OnOk result (search_of marks.new.items pending.new.items
-        ≡ followed (mentions_of graph.now.meetings.now tokens.now) (search_of marks.old.items pending.old.items)) }
+        ≡ followed (mentions_of graph.now.resolutions.now tokens.now) (search_of marks.old.items pending.old.items)) }
 {
     for token in tokens {
         if let Some(next) = graph.mentioned(*token) {

@@ -3,7 +3,7 @@
 ghost use Rattle.std.specs.Prelude.{◌≡◌, ◌≤◌, length};
 ghost use Rattle.mufom_image_values.specs.Graph.{public_met, public_named, mentioned_in, tokens_at};
 
-use crate::meetings::Meeting;
+use crate::resolutions::Resolution;
 use mufom_expr::{Letter, Token};
 use mufom_module::Parts;
 use mufom_names::Public;
@@ -13,15 +13,15 @@ use mufom_names::Public;
 pub struct Graph<'a> {
     pub parts: &'a Parts,
     /// What each reference of the module stands for.
-    pub meetings: &'a [Meeting],
+    pub resolutions: &'a [Resolution],
 }
 
 // The public that a reference stands for.
-fn public_met(meeting: Option<Meeting>) -> Option<u32>
-    ensures { result ≡ public_met meeting }
+fn public_met(resolution: Option<Resolution>) -> Option<u32>
+    ensures { result ≡ public_met resolution }
 {
-    match meeting {
-        Some(Meeting::Public(position)) => Some(position),
+    match resolution {
+        Some(Resolution::Public(position)) => Some(position),
         _ => None,
     }
 }
@@ -36,18 +36,18 @@ impl<'a> Graph<'a> {
     // The position of the public that a variable mentions: I its own, X that which the reference stands
     // for.
     fn named(&self, letter: Letter, position: u32) -> Option<u32>
-        ensures { result ≡ public_named self.now.meetings.now letter position }
+        ensures { result ≡ public_named self.now.resolutions.now letter position }
     {
         match letter {
             Letter::I => Some(position),
-            Letter::X => public_met(self.meetings.get(position as usize).copied()),
+            Letter::X => public_met(self.resolutions.get(position as usize).copied()),
             Letter::L | Letter::P | Letter::R | Letter::S => None,
         }
     }
 
     /// The position of the public that a token mentions.
     pub(crate) fn mentioned(&self, token: Token) -> Option<u32>
-        ensures { result ≡ mentioned_in self.now.meetings.now token }
+        ensures { result ≡ mentioned_in self.now.resolutions.now token }
     {
         match token {
             Token::Var(letter, position) => self.named(letter, position),

@@ -2,7 +2,7 @@
 //!
 //! [`resolve_references`] answers what each reference stands for. [`first_undefined`], [`first_common`] and
 //! [`first_on_cycle`] find the first name that keeps a module from being located, and
-//! [`PlacedModule::settled`] the value of each public, each evaluated once. Their time is linear in the
+//! [`PlacedModule::public_values`] the value of each public, each evaluated once. Their time is linear in the
 //! names and the tokens of their expressions, expected where names are hashed. The crate stands on `mufom_expr`, `mufom_names`,
 //! `mufom_module` and `mufom_meaning`, whose definitions its contracts cite.
 #![tactic(auto)]
@@ -10,14 +10,14 @@
 mod components;
 mod cycles;
 mod graph;
-mod meetings;
 mod names;
+mod resolutions;
 mod surroundings;
 mod values;
 
 pub use components::{Components, groups_of};
 pub use cycles::first_on_cycle;
 pub use graph::Graph;
-pub use meetings::{Meeting, first_common, first_undefined, resolve_references};
+pub use resolutions::{Resolution, first_common, first_undefined, resolve_references};
 pub use surroundings::{Evaluation, Surroundings};
 pub use values::PlacedModule;

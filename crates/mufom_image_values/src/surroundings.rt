@@ -1,9 +1,9 @@
-//! What the variables of an expression are worth.
+//! The values of the variables of an expression.
 
 ghost use Rattle.std.specs.Prelude.{◌≡◌, slice_get};
-ghost use Rattle.mufom_image_values.specs.Surroundings.{known_of, worth_met};
+ghost use Rattle.mufom_image_values.specs.Surroundings.{known_of, valuation_met};
 
-use crate::meetings::Meeting;
+use crate::resolutions::Resolution;
 use mufom_expr::{Env, Letter};
 use mufom_sections::Section;
 
@@ -28,15 +28,15 @@ pub struct Surroundings<'a> {
     /// The value of each public.
     pub values: &'a [Evaluation],
     /// What each reference stands for.
-    pub meetings: &'a [Meeting],
+    pub resolutions: &'a [Resolution],
     /// The program counter, where the expression finds one.
     pub counter: Option<u64>,
 }
 
-fn value_of(worth: Option<Evaluation>) -> Option<u64>
-    ensures { result ≡ known_of worth }
+fn value_of(valuation: Option<Evaluation>) -> Option<u64>
+    ensures { result ≡ known_of valuation }
 {
-    match worth {
+    match valuation {
         Some(Evaluation::Value(value)) => Some(value),
         _ => None,
     }
@@ -48,21 +48,25 @@ fn value_at(values: &[Evaluation], position: u32) -> Option<u64>
     value_of(values.get(position as usize).copied())
 }
 
-fn worth_met(meeting: Option<Meeting>, values: &[Evaluation], commons: &[u64]) -> Option<u64>
-    ensures { result ≡ worth_met values.now commons.now meeting }
+fn valuation_met(
+    resolution: Option<Resolution>,
+    values: &[Evaluation],
+    commons: &[u64],
+) -> Option<u64>
+    ensures { result ≡ valuation_met values.now commons.now resolution }
 {
-    match meeting {
-        Some(Meeting::Public(position)) => value_at(values, position),
-        Some(Meeting::Common(position)) => commons.get(position as usize).copied(),
-        Some(Meeting::Default(value)) => Some(value),
+    match resolution {
+        Some(Resolution::Public(position)) => value_at(values, position),
+        Some(Resolution::Common(position)) => commons.get(position as usize).copied(),
+        Some(Resolution::Default(value)) => Some(value),
         _ => None,
     }
 }
 
 impl<'a> Env for Surroundings<'a> {
-    ghost use Rattle.mufom_image_values.specs.Surroundings.{worth_in};
+    ghost use Rattle.mufom_image_values.specs.Surroundings.{valuation_in};
 
-    ghost meaning = { worth_in };
+    ghost meaning = { valuation_in };
 
     fn lookup(&self, letter: Letter, index: u32) -> Option<u64> {
         match letter {
@@ -73,8 +77,8 @@ impl<'a> Env for Surroundings<'a> {
                 .map(|section| section.size),
             Letter::P => self.counter,
             Letter::I => value_at(self.values, index),
-            Letter::X => worth_met(
-                self.meetings.get(index as usize).copied(),
+            Letter::X => valuation_met(
+                self.resolutions.get(index as usize).copied(),
                 self.values,
                 self.commons,
             ),

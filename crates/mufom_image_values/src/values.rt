@@ -10,7 +10,7 @@ ghost use Rattle.mufom_meaning.specs.Values.{value, has_zero_divisor};
 ghost use Rattle.mufom_meaning.specs.Walk.{public_fact};
 ghost use Rattle.mufom_image_values.specs.Graph.{mentioned_in};
 ghost use Rattle.mufom_image_values.specs.Surroundings.{known};
-ghost use Rattle.mufom_image_values.specs.Evaluated.{alone, graph_edges, public_count, setting_of, worth_at, IsPlaced, AreSurroundings};
+ghost use Rattle.mufom_image_values.specs.Evaluated.{alone, graph_edges, public_count, setting_of, valuation_at, IsPlaced, AreSurroundings};
 ghost use Rattle.mufom_image_values.specs.Evaluated.{is_waiting, is_ready, AllEvaluated, IsEvaluated, AreEvaluated};
 ghost use Rattle.mufom_image_values.specs.Evaluated.{AreRight, AreKept, IsRound, AreValues};
 
@@ -80,14 +80,14 @@ impl<'a> PlacedModule<'a> {
             bases: self.bases,
             commons: self.commons,
             values,
-            meetings: self.graph.meetings,
+            resolutions: self.graph.resolutions,
             counter,
         }
     }
 
     // Whether the public that a token mentions is evaluated, if it mentions one.
     fn is_ready(&self, values: &[Evaluation], token: Token) -> bool
-        ensures { result ≡ is_ready values.now (mentioned_in self.now.graph.meetings.now token) }
+        ensures { result ≡ is_ready values.now (mentioned_in self.now.graph.resolutions.now token) }
     {
         match self.graph.mentioned(token) {
             Some(position) => !is_waiting(values.get(position as usize).copied()),
@@ -97,23 +97,23 @@ impl<'a> PlacedModule<'a> {
 
     // The same of all tokens.
     fn all_ready(&self, values: &[Evaluation], tokens: &[Token]) -> bool
-        ensures { result ≡ list_all (λ token. is_ready values.now (mentioned_in self.now.graph.meetings.now token)) tokens.now }
+        ensures { result ≡ list_all (λ token. is_ready values.now (mentioned_in self.now.graph.resolutions.now token)) tokens.now }
     {
         tokens.iter().all(|token| self.is_ready(values, *token))
     }
 
     // Whether all publics that the one at a position mentions are evaluated.
-    fn can_settle(&self, values: &[Evaluation], position: u32) -> bool
+    fn can_evaluate(&self, values: &[Evaluation], position: u32) -> bool
         ensures { IsTrue result ↔ AreEvaluated values.now (graph_edges self.now.graph position) }
     {
         self.all_ready(values, self.graph.tokens(position))
     }
 
     // The value of an expression, where all that it mentions is evaluated.
-    fn worth(&self, values: &[Evaluation], value: &Postfix) -> Evaluation
+    fn valuation(&self, values: &[Evaluation], value: &Postfix) -> Evaluation
         requires low { 1 ≤ self.now.graph.parts.now.maus }
         requires high { self.now.graph.parts.now.maus ≤ 8 }
-        ensures value { known result ≡ worth_at self.now values.now None value.now }
+        ensures value { known result ≡ valuation_at self.now values.now None value.now }
         ensures evaluated { result ≢ Evaluation.Waiting }
     {
         match value.value(&self.surroundings(values, None), self.width()) {
@@ -123,7 +123,7 @@ impl<'a> PlacedModule<'a> {
     }
 
     // Evaluates the public at a position, where all that it mentions is evaluated.
-    fn settle(&self, values: &mut Vec<Evaluation>, position: u32)
+    fn evaluate(&self, values: &mut Vec<Evaluation>, position: u32)
         requires placed { IsPlaced self.now }
         requires right { AreRight self.now values.old.items }
         ensures right { AreRight self.now values.new.items }
@@ -136,36 +136,36 @@ impl<'a> PlacedModule<'a> {
             return;
         }
         let public = &publics[position as usize];
-        if self.can_settle(values, position) {
-            values[position as usize] = self.worth(values, &public.value);
+        if self.can_evaluate(values, position) {
+            values[position as usize] = self.valuation(values, &public.value);
         }
     }
 
     // Evaluates those publics that can be, in this order.
-    fn settle_in_order(&self, values: &mut Vec<Evaluation>, order: &[u32])
+    fn evaluate_in_order(&self, values: &mut Vec<Evaluation>, order: &[u32])
         requires placed { IsPlaced self.now }
         requires right { AreRight self.now values.old.items }
         ensures { AreRight self.now values.new.items }
     {
         for position in order {
-            self.settle(values, *position);
+            self.evaluate(values, *position);
         }
     }
 
     // The same in the order of the publics.
-    fn settle_all(&self, values: &mut Vec<Evaluation>)
+    fn evaluate_all(&self, values: &mut Vec<Evaluation>)
         requires placed { IsPlaced self.now }
         requires right { AreRight self.now values.old.items }
         ensures right { AreRight self.now values.new.items }
         ensures round { IsRound self.now values.old.items values.new.items }
     {
         for position in 0..self.graph.publics().len() {
-            self.settle(values, position as u32);
+            self.evaluate(values, position as u32);
         }
     }
 
     // Evaluates all publics, in rounds over those that wait.
-    fn settle_rounds(&self, values: &mut Vec<Evaluation>)
+    fn evaluate_in_rounds(&self, values: &mut Vec<Evaluation>)
         requires placed { IsPlaced self.now }
         requires right { AreRight self.now values.old.items }
         ensures right { AreRight self.now values.new.items }
@@ -175,13 +175,13 @@ impl<'a> PlacedModule<'a> {
             if none_waits(values) {
                 return;
             }
-            self.settle_all(values);
+            self.evaluate_all(values);
         }
     }
 
     /// The values of the publics, which must lead in no circle. All components give the same values;
     /// with those of the graph one round over the publics finds all.
-    pub fn settled(
+    pub fn public_values(
         &self,
         alloc: Global,
         components: &Components,
@@ -191,8 +191,8 @@ impl<'a> PlacedModule<'a> {
     {
         let count = self.graph.publics().len();
         let mut values = vec![in alloc; Evaluation::Waiting; count]?;
-        self.settle_in_order(&mut values, components.order.as_slice());
-        self.settle_rounds(&mut values);
+        self.evaluate_in_order(&mut values, components.order.as_slice());
+        self.evaluate_in_rounds(&mut values);
         Ok(values)
     }
 
@@ -228,7 +228,7 @@ impl<'a> PlacedModule<'a> {
     fn divides(&self, values: &[Evaluation], counter: Option<u64>, expression: &Postfix) -> bool
         requires low { 1 ≤ self.now.graph.parts.now.maus }
         requires high { self.now.graph.parts.now.maus ≤ 8 }
-        ensures { result ≡ divides_by_zero (worth_at self.now values.now counter) expression.now }
+        ensures { result ≡ divides_by_zero (valuation_at self.now values.now counter) expression.now }
     {
         expression.divides_by_zero(&self.surroundings(values, counter), self.width())
     }

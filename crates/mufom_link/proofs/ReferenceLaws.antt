@@ -135,8 +135,8 @@ filter-all [] = refl
 filter-all (x ∷ xs) = ap (λ more. x ∷ more) (filter-all xs)
 
 module _ (names : List (List ℕ)) where
-  abbrev unmet : Reference → Bool
-  unmet r = not (has_name names r.name)
+  abbrev unresolved : Reference → Bool
+  unresolved r = not (has_name names r.name)
 
   abbrev new_for : List Reference → Reference → Bool
   new_for kept q = not (is_kept kept q)
@@ -156,35 +156,35 @@ module _ (names : List (List ℕ)) where
         by_cases false false = refl
 
   -- kept are, in order, the references that no public meets and no earlier one equals
-  kept-is : (kept rs : List Reference) → kept_after names kept rs ≡ kept ++ filter (new_for kept) (distinct same_reference (filter unmet rs))
+  kept-is : (kept rs : List Reference) → kept_after names kept rs ≡ kept ++ filter (new_for kept) (distinct same_reference (filter unresolved rs))
   kept-is kept [] = sym (append-nil kept)
   kept-is kept (r ∷ rs) = by_case (has_name names r.name) (is_kept kept r) refl (kept-is kept rs) (kept-is (kept ++ r ∷ []) rs) where
     others : List Reference
-    others = distinct same_reference (filter unmet rs)
+    others = distinct same_reference (filter unresolved rs)
 
     by_case : (b c : Bool) → is_kept kept r ≡ c
-        → kept_after names kept rs ≡ kept ++ filter (new_for kept) (distinct same_reference (filter unmet rs))
-        → kept_after names (kept ++ r ∷ []) rs ≡ (kept ++ r ∷ []) ++ filter (new_for (kept ++ r ∷ [])) (distinct same_reference (filter unmet rs))
+        → kept_after names kept rs ≡ kept ++ filter (new_for kept) (distinct same_reference (filter unresolved rs))
+        → kept_after names (kept ++ r ∷ []) rs ≡ (kept ++ r ∷ []) ++ filter (new_for (kept ++ r ∷ [])) (distinct same_reference (filter unresolved rs))
         → kept_after names (if b then kept else (if c then kept else kept ++ r ∷ [])) rs
-        ≡ kept ++ filter (new_for kept) (distinct same_reference (cond (not b) (r ∷ filter unmet rs) (filter unmet rs)))
+        ≡ kept ++ filter (new_for kept) (distinct same_reference (cond (not b) (r ∷ filter unresolved rs) (filter unresolved rs)))
     by_case true c e old more = old
     by_case false true e old more =
-        let rest = distinct same_reference (filter unmet rs) in
+        let rest = distinct same_reference (filter unresolved rs) in
         old
         ∙ ap (λ all. kept ++ all) (sym (filter-weaker (new_for kept) (λ q. not (same_reference r q))
         (differs same_reference same_reference-decides (new_for kept) r (ap not e)) rest))
         ∙ sym (ap (λ b. kept ++ cond (not b) (r ∷ filter (new_for kept) (filter (λ q. not (same_reference r q)) rest))
         (filter (new_for kept) (filter (λ q. not (same_reference r q)) rest))) e)
     by_case false false e old more =
-        let rest = distinct same_reference (filter unmet rs) in
+        let rest = distinct same_reference (filter unresolved rs) in
         more
         ∙ append_assoc kept (r ∷ []) (filter (new_for (kept ++ r ∷ [])) rest)
         ∙ ap (λ all. kept ++ r ∷ all) (sym (filter-two (new_for kept) (λ q. not (same_reference r q)) (new_for (kept ++ r ∷ [])) (new-push kept r) rest))
         ∙ sym (ap (λ b. kept ++ cond (not b) (r ∷ filter (new_for kept) (filter (λ q. not (same_reference r q)) rest))
         (filter (new_for kept) (filter (λ q. not (same_reference r q)) rest))) e)
 
-  pub kept-all : (rs : List Reference) → kept_after names [] rs ≡ distinct same_reference (filter unmet rs)
-  kept-all rs = kept-is [] rs ∙ filter-all (distinct same_reference (filter unmet rs))
+  pub kept-all : (rs : List Reference) → kept_after names [] rs ≡ distinct same_reference (filter unresolved rs)
+  kept-all rs = kept-is [] rs ∙ filter-all (distinct same_reference (filter unresolved rs))
 
   -- ---- one reference, by what the index of publics answers
 
@@ -203,9 +203,9 @@ module _ (names : List (List ℕ)) where
     by_case false h = absurd cc
 
   -- none has
-  pub target-unmet : (kept : List Reference) (r : Reference) → position_of (numbered_from 0 names) r.name ≡ None
+  pub target-unresolved : (kept : List Reference) (r : Reference) → position_of (numbered_from 0 names) r.name ≡ None
       → (◌≡◌ {A = Letter × ℕ} (letters.X, place_of (same_reference r) kept) (target_in names kept r)) × (merged_with kept r ≡ kept_with names kept r)
-  target-unmet kept r e = by_case (has_name names r.name) (sym (position-numbered 0 names r.name) ∙ e) where
+  target-unresolved kept r e = by_case (has_name names r.name) (sym (position-numbered 0 names r.name) ∙ e) where
     by_case : (b : Bool) → (if b then Some (0 + place_of (bytes_eq r.name) names) else None) ≡ None
         → (◌≡◌ {A = Letter × ℕ} (letters.X, place_of (same_reference r) kept)
         (cond b (letters.I, place_of (λ name. bytes_eq name r.name) names) (letters.X, place_of (same_reference r) kept)))

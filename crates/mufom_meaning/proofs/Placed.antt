@@ -17,7 +17,7 @@ use Rattle.mufom_plan.specs.declared.plan.Plan.{Plan}
 use Rattle.mufom_plan.specs.Commons.{has_common}
 use Rattle.mufom_plan.specs.Names.{has_name}
 use Rattle.mufom_place.specs.Bases.{numbered, bases, site_of}
-use Rattle.mufom_meaning.specs.Flat.{distinct, flat_sections, flat_references, unmet_references, public_names, is_common, common_size, same_common}
+use Rattle.mufom_meaning.specs.Flat.{distinct, flat_sections, flat_references, unresolved_references, public_names, is_common, common_size, same_common}
 use Rattle.mufom_meaning.specs.Flat.{commons, common_names}
 use Rattle.mufom_meaning.specs.Placed.{common_section, common_sections, placed_commons, extended_sections, base_list, base_named, planned_bases}
 use Rattle.mufom_meaning.specs.Location.{placed_section, located_sections}
@@ -156,11 +156,11 @@ common_reference ms plan section h = by_region (has_common plan.regions) h where
   by_region true h =
       let name = map-In (common_section (commons ms)) section (distinct bytes_eq (common_names ms)) h in
       let pair = map-In (λ common. common.0) name.0 (commons ms) (distinct-In bytes_eq name.0 (common_names ms) name.1) in
-      let own = map-In (λ reference. (reference.name, common_size reference.weak)) pair.0 (filter is_common (unmet_references ms))
-      (distinct-In same_common pair.0 (map (λ reference. (reference.name, common_size reference.weak)) (filter is_common (unmet_references ms))) pair.1) in
-      let unmet = filter-In is_common own.0 (unmet_references ms) own.1 in
+      let own = map-In (λ reference. (reference.name, common_size reference.weak)) pair.0 (filter is_common (unresolved_references ms))
+      (distinct-In same_common pair.0 (map (λ reference. (reference.name, common_size reference.weak)) (filter is_common (unresolved_references ms))) pair.1) in
+      let unresolved = filter-In is_common own.0 (unresolved_references ms) own.1 in
       let named : name.0 ≡ own.0.name = sym pair.2 ∙ sym (ap (λ (p : List ℕ × ℕ). p.0) own.2) in (
         own.0,
-        filter-In (λ reference. not (has_name (public_names ms) reference.name)) own.0 (flat_references ms) unmet,
+        filter-In (λ reference. not (has_name (public_names ms) reference.name)) own.0 (flat_references ms) unresolved,
         sym name.2 ∙ ap (common_section (commons ms)) named,
       )

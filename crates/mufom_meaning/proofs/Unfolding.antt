@@ -26,7 +26,7 @@ pub value_within-zero : (s : Setting) (site : Sited) (pc : Option ℕ) (t : Tree
 unfolding value_within
 value_within-zero s site pc t = refl
 
--- a public is worth what its expression is worth with one step less
+-- the value of a public is that of its expression with one step less
 pub value_within-suc : (s : Setting) (k : ℕ) (site : Sited) (pc : Option ℕ) (t : Tree)
     → value_within s (suc k) site pc t ≡ value_at s.modulus (environment s (λ site' t'. value_within s k site' None t') site pc) t
 unfolding value_within

@@ -87,12 +87,12 @@ common_size None = 0
 common_size (Some weak) = weak.size
 
 -- the references that no public of the list meets
-abbrev pub unmet_references : List Parts → List Reference
-unmet_references ms = filter (λ reference. not (has_name (public_names ms) reference.name)) (flat_references ms)
+abbrev pub unresolved_references : List Parts → List Reference
+unresolved_references ms = filter (λ reference. not (has_name (public_names ms) reference.name)) (flat_references ms)
 
 -- the names that strong references need and no public has, each once
 abbrev pub needs : List Parts → List (List ℕ)
-needs ms = distinct bytes_eq (map (λ reference. reference.name) (filter is_strong (unmet_references ms)))
+needs ms = distinct bytes_eq (map (λ reference. reference.name) (filter is_strong (unresolved_references ms)))
 
 -- a weak reference whose size is not 0 asks for room
 abbrev pub is_common : Reference → Bool
@@ -104,7 +104,7 @@ same_common c d = bytes_eq c.0 d.0 && (c.1 == d.1)
 
 -- the names and sizes that weak references ask room for and no public has, each pair once
 abbrev pub commons : List Parts → List (List ℕ × ℕ)
-commons ms = distinct same_common (map (λ reference. (reference.name, common_size reference.weak)) (filter is_common (unmet_references ms)))
+commons ms = distinct same_common (map (λ reference. (reference.name, common_size reference.weak)) (filter is_common (unresolved_references ms)))
 
 -- the names of the commons, one for each pair
 abbrev pub common_names : List Parts → List (List ℕ)

@@ -20,7 +20,7 @@ use Rattle.mufom_debug.specs.declared.item.BlockHead.TheVariants as heads
 use Rattle.mufom_debug.specs.Marks.{DebugMark, block_begin, block_end, name_mark, note_mark, value_mark, marks_of}
 use Rattle.mufom_module.specs.declared.module.Parts.{Parts}
 use Rattle.mufom_plan.specs.Names.{has_name}
-use Rattle.mufom_meaning.specs.Flat.{Sited, sited, flat_sections, public_names, unmet_references, distinct}
+use Rattle.mufom_meaning.specs.Flat.{Sited, sited, flat_sections, public_names, unresolved_references, distinct}
 
 -- two weak parts are the same where size and default are
 abbrev pub same_weak : Option Weak → Option Weak → Bool
@@ -39,7 +39,7 @@ same_reference r q = bytes_eq r.name q.name && same_weak r.weak q.weak && pointw
 
 -- what is left of the references: those that no public of the list meets, each once
 abbrev pub kept_references : List Parts → List Reference
-kept_references ms = distinct same_reference (unmet_references ms)
+kept_references ms = distinct same_reference (unresolved_references ms)
 
 -- the position of the first element that passes, and the length where none does
 abbrev pub position_of : {A : Type 0} → (A → Bool) → List A → ℕ

@@ -43,7 +43,7 @@ StandsFor M ms =
 -- no two references are the same, and none has the name of one of the module's own publics
 pub record HasSettledReferences (M : Parts) : Type 0 where
   pub apart : IsDistinct same_reference M.names.references
-  pub unmet : IsTrue (list_all (λ reference. not (has_name (public_names (M ∷ [])) reference.name)) M.names.references)
+  pub unresolved : IsTrue (list_all (λ reference. not (has_name (public_names (M ∷ [])) reference.name)) M.names.references)
 
 -- what a context of a group has to keep for the outer link to give the same module: a group at the beginning gives its name
 abbrev pub NameStays : List Parts → Parts → List Parts → Type 0

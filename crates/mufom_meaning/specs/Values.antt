@@ -33,46 +33,46 @@ setting ms bases = record {
   common_base = bases.commons;
 }
 
--- what the expression of a public is worth in its module
-abbrev pub Worth : Type 0
-Worth = Sited → Tree → Option ℕ
+-- the value of the expression of a public in its module
+abbrev pub Valuation : Type 0
+Valuation = Sited → Tree → Option ℕ
 
--- what a public is worth, where there is one
-abbrev pub worth_of : Worth → Option SitedPublic → Option ℕ
-worth_of worth None = None
-worth_of worth (Some q) = worth q.site q.entry.value
+-- the value of a public, where there is one
+abbrev pub valuation_of : Valuation → Option SitedPublic → Option ℕ
+valuation_of valuation None = None
+valuation_of valuation (Some q) = valuation q.site q.entry.value
 
 -- a weak reference of size 0 has its default
 abbrev pub default_of : Option Weak → Option ℕ
 default_of None = None
 default_of (Some weak) = if weak.size == 0 then Some weak.default else None
 
--- What a reference is worth whose name no public has: the base of the common of this name, whatever the reference itself asks for,
+-- The value of a reference whose name no public has: the base of the common of this name, whatever the reference itself asks for,
 -- and where there is no such common its default.
-abbrev pub unmet_value : Setting → Reference → Option ℕ
-unmet_value s reference = if has_name s.commons reference.name then s.common_base reference.name else default_of reference.weak
+abbrev pub unresolved_value : Setting → Reference → Option ℕ
+unresolved_value s reference = if has_name s.commons reference.name then s.common_base reference.name else default_of reference.weak
 
--- a reference has the value of the first public of its name, and where there is none what it is worth without one
-abbrev pub reference_value : Worth → Option SitedPublic → Option ℕ → Option ℕ
-reference_value worth (Some q) unmet = worth q.site q.entry.value
-reference_value worth None unmet = unmet
+-- a reference has the value of the first public of its name, and where there is none its value without one
+abbrev pub reference_value : Valuation → Option SitedPublic → Option ℕ → Option ℕ
+reference_value valuation (Some q) unresolved = valuation q.site q.entry.value
+reference_value valuation None unresolved = unresolved
 
--- what a reference is worth, where there is one
-abbrev pub worth_of_reference : Setting → Worth → Option Reference → Option ℕ
-worth_of_reference s worth None = None
-worth_of_reference s worth (Some reference) = reference_value worth (first_named s.publics reference.name) (unmet_value s reference)
+-- the value of a reference, where there is one
+abbrev pub valuation_of_reference : Setting → Valuation → Option Reference → Option ℕ
+valuation_of_reference s valuation None = None
+valuation_of_reference s valuation (Some reference) = reference_value valuation (first_named s.publics reference.name) (unresolved_value s reference)
 
--- What the variables are worth in a module, where the program counter is pc: R and L the base of a section, S its size, P
+-- The values of the variables in a module, where the program counter is pc: R and L the base of a section, S its size, P
 -- the counter, I the value of a public, X that of a reference. Sections and publics go by their flat numbers, so a position
 -- past the module's own, which no valid module names, would be read from the next one. All numbers are taken modulo the
 -- address space where they are used.
-abbrev pub environment : Setting → Worth → Sited → Option ℕ → Environment
-environment s worth site pc letters.R n = slice_get s.bases (site.first_section + n)
-environment s worth site pc letters.L n = slice_get s.bases (site.first_section + n)
-environment s worth site pc letters.S n = option_map (λ section. section.size) (slice_get s.sections (site.first_section + n))
-environment s worth site pc letters.P n = pc
-environment s worth site pc letters.I n = worth_of worth (slice_get s.publics (site.first_public + n))
-environment s worth site pc letters.X n = worth_of_reference s worth (slice_get site.parts.names.references n)
+abbrev pub environment : Setting → Valuation → Sited → Option ℕ → Environment
+environment s valuation site pc letters.R n = slice_get s.bases (site.first_section + n)
+environment s valuation site pc letters.L n = slice_get s.bases (site.first_section + n)
+environment s valuation site pc letters.S n = option_map (λ section. section.size) (slice_get s.sections (site.first_section + n))
+environment s valuation site pc letters.P n = pc
+environment s valuation site pc letters.I n = valuation_of valuation (slice_get s.publics (site.first_public + n))
+environment s valuation site pc letters.X n = valuation_of_reference s valuation (slice_get site.parts.names.references n)
 
 -- The value of an expression in a module, going through at most `k` names on any way down. With no
 -- step left a public has no value.

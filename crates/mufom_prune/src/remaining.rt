@@ -5,7 +5,8 @@ ghost use Rattle.mufom_names.specs.Index.{position_of};
 ghost use Rattle.mufom_module.specs.Contents.{placed_from};
 ghost use Rattle.mufom_meaning.specs.Flat.{is_common};
 ghost use Rattle.mufom_prune.specs.Kept.{home};
-ghost use Rattle.mufom_prune.specs.Pruned.{remaining, remaining_names, remaining_loads, with_commons, new_tree, new_public, new_item, new_load, is_left, stays};
+ghost use Rattle.mufom_prune.specs.Pruned.{remaining, remaining_names, remaining_loads, with_commons, new_tree};
+ghost use Rattle.mufom_prune.specs.Pruned.{new_public, new_item, new_load, is_left, stays};
 ghost use Rattle.mufom_prune.specs.Steps.{with_remaining};
 
 use crate::needs::{current_after, home};

@@ -8,7 +8,7 @@ use Rattle.std.proofs.lemmas.Slice.Eq.{bytes_eq-Decides}
 use Rattle.mufom_names.specs.declared.name.Reference.{Reference}
 use Rattle.mufom_module.specs.declared.module.Parts.{Parts}
 use Rattle.mufom_plan.specs.Names.{has_name}
-use Rattle.mufom_meaning.specs.Flat.{is_common, common_size, same_common, commons, common_names, unmet_references, public_names}
+use Rattle.mufom_meaning.specs.Flat.{is_common, common_size, same_common, commons, common_names, unresolved_references, public_names}
 use Rattle.mufom_meaning.proofs.Members.{In, In-map, map-In, In-filter, filter-In, distinct-In, In-distinct, passes-In}
 use Rattle.mufom_prune.specs.Pruned.{remaining, with_commons}
 use Rattle.mufom_prune.proofs.PrunedValid.{filter-passes}
@@ -30,7 +30,7 @@ pub record HasCommon (references : List Reference) (names : List (List ℕ)) (na
   pub reference : Reference
   pub there : In reference references
   pub common : is_common reference ≡ true
-  pub unmet : has_name names reference.name ≡ false
+  pub unresolved : has_name names reference.name ≡ false
   pub same : name ≡ reference.name
 
 and_true : (a b : Bool) → (a && b) ≡ true → (a ≡ true) × (b ≡ true)
@@ -55,26 +55,26 @@ module _ (m : Parts) (name : List ℕ) where
   to_common e =
       let found = any-In (bytes_eq name) (common_names (m ∷ [])) e in
       let pair = map-In (λ (c : List ℕ × ℕ). c.0) found.0 (commons (m ∷ [])) found.1 in
-      let all = filter is_common (unmet_references (m ∷ [])) in
+      let all = filter is_common (unresolved_references (m ∷ [])) in
       let its = map-In (λ (r : Reference). (r.name, common_size r.weak)) pair.0 all
       (distinct-In same_common pair.0 (map (λ (r : Reference). (r.name, common_size r.weak)) all) pair.1) in
-      let unmet = filter-In is_common its.0 (unmet_references (m ∷ [])) its.1 in
+      let unresolved = filter-In is_common its.0 (unresolved_references (m ∷ [])) its.1 in
       record {
         reference = its.0;
-        there = filter-In (λ (r : Reference). not (has_name (public_names (m ∷ [])) r.name)) its.0 references unmet;
-        common = filter-passes is_common its.0 (unmet_references (m ∷ [])) its.1;
-        unmet = flip (has_name (public_names (m ∷ [])) its.0.name)
-            (filter-passes (λ (r : Reference). not (has_name (public_names (m ∷ [])) r.name)) its.0 references unmet);
+        there = filter-In (λ (r : Reference). not (has_name (public_names (m ∷ [])) r.name)) its.0 references unresolved;
+        common = filter-passes is_common its.0 (unresolved_references (m ∷ [])) its.1;
+        unresolved = flip (has_name (public_names (m ∷ [])) its.0.name)
+            (filter-passes (λ (r : Reference). not (has_name (public_names (m ∷ [])) r.name)) its.0 references unresolved);
         same = (bytes_eq-Decides name found.0).0 found.2 ∙ sym (ap (λ (c : List ℕ × ℕ). c.0) its.2 ∙ pair.2);
       }
 
   pub from_common : HasCommon references (public_names (m ∷ [])) name → has_name (common_names (m ∷ [])) name ≡ true
   from_common h =
-      let unmet = In-filter (λ (r : Reference). not (has_name (public_names (m ∷ [])) r.name)) h.reference (ap not h.unmet) references h.there in
-      let own = In-filter is_common h.reference h.common (unmet_references (m ∷ [])) unmet in
-      let pair = In-map (λ (r : Reference). (r.name, common_size r.weak)) h.reference (filter is_common (unmet_references (m ∷ []))) own in
+      let unresolved = In-filter (λ (r : Reference). not (has_name (public_names (m ∷ [])) r.name)) h.reference (ap not h.unresolved) references h.there in
+      let own = In-filter is_common h.reference h.common (unresolved_references (m ∷ [])) unresolved in
+      let pair = In-map (λ (r : Reference). (r.name, common_size r.weak)) h.reference (filter is_common (unresolved_references (m ∷ []))) own in
       let one = In-distinct same_common same_common-same (h.reference.name, common_size h.reference.weak)
-      (map (λ (r : Reference). (r.name, common_size r.weak)) (filter is_common (unmet_references (m ∷ [])))) pair in
+      (map (λ (r : Reference). (r.name, common_size r.weak)) (filter is_common (unresolved_references (m ∷ [])))) pair in
       passes-In (bytes_eq name) (common_names (m ∷ [])) h.reference.name
       (In-map (λ (c : List ℕ × ℕ). c.0) (h.reference.name, common_size h.reference.weak) (commons (m ∷ [])) one)
       ((bytes_eq-Decides name h.reference.name).1 h.same)
@@ -131,7 +131,7 @@ same_commons m M names marks name sized is kept none none' = same_truth _ _ back
         there = subst (In h.reference) (sym (append-nil m.names.references))
             (remaining-In (with_commons names marks m.names.references) m.names.references h.reference there);
         common = h.common;
-        unmet = ap (has_name (public_names (m ∷ []))) (sym h.same) ∙ none;
+        unresolved = ap (has_name (public_names (m ∷ []))) (sym h.same) ∙ none;
         same = h.same;
       })
 
@@ -144,6 +144,6 @@ same_commons m M names marks name sized is kept none none' = same_truth _ _ back
         there = subst (In h.reference) (sym (append-nil M.names.references ∙ is))
             (common-remains names marks m.names.references h.reference sized there h.common (ap (has_name names) (sym h.same) ∙ kept));
         common = h.common;
-        unmet = ap (has_name (public_names (M ∷ []))) (sym h.same) ∙ none';
+        unresolved = ap (has_name (public_names (M ∷ []))) (sym h.same) ∙ none';
         same = h.same;
       })

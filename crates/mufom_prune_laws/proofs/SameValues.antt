@@ -20,11 +20,12 @@ use Rattle.mufom_select.specs.Choice.{is_marked}
 use Rattle.mufom_plan.specs.Names.{has_name}
 use Rattle.mufom_meaning.specs.Bases.{Bases}
 use Rattle.mufom_meaning.specs.Flat.{Sited, SitedPublic}
-use Rattle.mufom_meaning.specs.Values.{Setting, setting, Worth, worth_of, default_of, unmet_value, reference_value, worth_of_reference, environment}
+use Rattle.mufom_meaning.specs.Values.{Setting, setting, Valuation, valuation_of}
+use Rattle.mufom_meaning.specs.Values.{default_of, unresolved_value, reference_value, valuation_of_reference, environment}
 use Rattle.mufom_meaning.specs.Values.{value_within, value}
 use Rattle.mufom_meaning.proofs.Members.{In, In-at, In-map, passes-In, get_some}
 use Rattle.mufom_meaning.proofs.Tests.{either_false}
-use Rattle.mufom_meaning.proofs.values.Causes.{worth_below, within_is}
+use Rattle.mufom_meaning.proofs.values.Causes.{valuation_below, within_is}
 use Rattle.mufom_meaning.proofs.values.Enough.{value_at-agrees_on_variables}
 use Rattle.mufom_prune.specs.Reached.{HasAll}
 use Rattle.mufom_prune.specs.Kept.{first_for, named, IsKept}
@@ -130,12 +131,12 @@ module _ (m : Parts) (keep : List ℕ) (marks : List Bool) (kept : IsKept m keep
   abbrev pub IsWhole : Tree → Type 0
   IsWhole t = (v : Letter × ℕ) → In v (variables_of t) → (v.1 < count_for (counts_of m) v.0) × (is_marked marks (first_for m v.0 + v.1) ≡ true)
 
-  -- what publics that remain are worth is the same
-  abbrev Same : Worth → Worth → Type 0
-  Same worth worth' = (n : ℕ) (p : Public) → slice_get m.names.publics n ≡ Some p → is_marked (remains m marks).publics n ≡ true
-      → worth' site' (new p.value) ≡ worth site p.value
+  -- the values of publics that remain is the same
+  abbrev Same : Valuation → Valuation → Type 0
+  Same valuation valuation' = (n : ℕ) (p : Public) → slice_get m.names.publics n ≡ Some p → is_marked (remains m marks).publics n ≡ true
+      → valuation' site' (new p.value) ≡ valuation site p.value
 
-  module _ (worth worth' : Worth) (same : Same worth worth') where
+  module _ (valuation valuation' : Valuation) (same : Same valuation valuation') where
     same_section : (n : ℕ) → n < length m.sections → is_marked marks (0 + n) ≡ true → is_marked (remains m marks).sections n ≡ true
     same_section n low h = let from : n ≡ 0 + n = omega arith in section_kept m keep marks kept n low (ap (is_marked marks) from ∙ h)
 
@@ -155,7 +156,8 @@ module _ (m : Parts) (keep : List ℕ) (marks : List Bool) (kept : IsKept m keep
 
     -- a public at its position
     same_public : (n : ℕ) → n < length m.names.publics → is_marked marks (length m.sections + n) ≡ true
-        → worth_of worth' (slice_get s'.publics (0 + get_or (new_positions 0 (remains m marks).publics) n 0)) ≡ worth_of worth (slice_get s.publics (0 + n))
+        → valuation_of valuation' (slice_get s'.publics (0 + get_or (new_positions 0 (remains m marks).publics) n 0))
+        ≡ valuation_of valuation (slice_get s.publics (0 + n))
     same_public n low h = by_case (slice_get m.names.publics n) refl where
       marked : is_marked (remains m marks).publics n ≡ true
       marked = public_kept m keep marks kept n low h
@@ -187,16 +189,17 @@ module _ (m : Parts) (keep : List ℕ) (marks : List Bool) (kept : IsKept m keep
             twice (Some p) = refl
 
       by_case : (o : Option Public) → slice_get m.names.publics n ≡ o
-          → worth_of worth' (slice_get s'.publics (0 + get_or (new_positions 0 (remains m marks).publics) n 0)) ≡ worth_of worth (slice_get s.publics (0 + n))
-      by_case None e = ap (worth_of worth') (now None e) ∙ ap (worth_of worth) (sym (old None e))
-      by_case (Some p) e = ap (worth_of worth') (now (Some p) e) ∙ same n p e marked ∙ ap (worth_of worth) (sym (old (Some p) e))
+          → valuation_of valuation' (slice_get s'.publics (0 + get_or (new_positions 0 (remains m marks).publics) n 0))
+          ≡ valuation_of valuation (slice_get s.publics (0 + n))
+      by_case None e = ap (valuation_of valuation') (now None e) ∙ ap (valuation_of valuation) (sym (old None e))
+      by_case (Some p) e = ap (valuation_of valuation') (now (Some p) e) ∙ same n p e marked ∙ ap (valuation_of valuation) (sym (old (Some p) e))
 
     -- a reference by its name
     same_named : (n : ℕ) (r : Reference) → slice_get m.names.references n ≡ Some r → is_marked marks (length m.sections + length m.names.publics + n) ≡ true
-        → worth_of_reference s' worth' (Some r) ≡ worth_of_reference s worth (Some r)
+        → valuation_of_reference s' valuation' (Some r) ≡ valuation_of_reference s valuation (Some r)
     same_named n r e h = by_case (named m r.name) refl (reference_names m keep marks kept n r e h) where
-      by_case : (o : Option ℕ) → named m r.name ≡ o → HasAll (is_marked marks) (option_to_list o) → worth_of_reference s' worth' (Some r)
-          ≡ worth_of_reference s worth (Some r)
+      by_case : (o : Option ℕ) → named m r.name ≡ o → HasAll (is_marked marks) (option_to_list o) → valuation_of_reference s' valuation' (Some r)
+          ≡ valuation_of_reference s valuation (Some r)
       by_case None none all =
           let f = new_public (positions_of (remains m marks)) in
           let c = remains m marks in
@@ -207,22 +210,22 @@ module _ (m : Parts) (keep : List ℕ) (marks : List Bool) (kept : IsKept m keep
           let theirs = names_left f (λ p. refl) c.publics m.names.publics r.name own in
           let commons = same_commons m rest (remaining_names marks' m.names.references) marks' r.name (mentioned_sized m keep marks kept) refl known
           own theirs in
-          ap (λ o. reference_value worth' o (unmet_value s' r)) both.1
+          ap (λ o. reference_value valuation' o (unresolved_value s' r)) both.1
           ∙ ap (λ b. if b then bases.commons r.name else default_of r.weak) commons
-          ∙ sym (ap (λ o. reference_value worth o (unmet_value s r)) both.0)
+          ∙ sym (ap (λ o. reference_value valuation o (unresolved_value s r)) both.0)
       by_case (Some k) is all =
           let f = new_public (positions_of (remains m marks)) in
           let c = remains m marks in
           let there = one_named site site' f (λ p. refl) r.name (length m.sections) k m.names.publics c.publics is in
           let low = within m.names.publics there.place there.entry there.at in
           let marked = public_kept m keep marks kept there.place low (ap (is_marked marks) (sym there.is) ∙ all.0) in
-          ap (λ o. reference_value worth' o (unmet_value s' r)) (there.after marked)
+          ap (λ o. reference_value valuation' o (unresolved_value s' r)) (there.after marked)
           ∙ same there.place there.entry there.at marked
-          ∙ sym (ap (λ o. reference_value worth o (unmet_value s r)) there.before)
+          ∙ sym (ap (λ o. reference_value valuation o (unresolved_value s r)) there.before)
 
     same_reference : (n : ℕ) → n < length m.names.references → is_marked marks (length m.sections + length m.names.publics + n) ≡ true
-        → worth_of_reference s' worth' (slice_get rest.names.references (get_or (new_positions 0 (remains m marks).references) n 0))
-        ≡ worth_of_reference s worth (slice_get m.names.references n)
+        → valuation_of_reference s' valuation' (slice_get rest.names.references (get_or (new_positions 0 (remains m marks).references) n 0))
+        ≡ valuation_of_reference s valuation (slice_get m.names.references n)
     same_reference n low h = by_case (slice_get m.names.references n) refl where
       now : slice_get rest.names.references (get_or (new_positions 0 (remains m marks).references) n 0) ≡ slice_get m.names.references n
       now =
@@ -231,13 +234,13 @@ module _ (m : Parts) (keep : List ℕ) (marks : List Bool) (kept : IsKept m keep
           ap (slice_get (remaining (remains m marks).references m.names.references)) from ∙ there.same
 
       by_case : (o : Option Reference) → slice_get m.names.references n ≡ o
-          → worth_of_reference s' worth' (slice_get rest.names.references (get_or (new_positions 0 (remains m marks).references) n 0))
-          ≡ worth_of_reference s worth (slice_get m.names.references n)
+          → valuation_of_reference s' valuation' (slice_get rest.names.references (get_or (new_positions 0 (remains m marks).references) n 0))
+          ≡ valuation_of_reference s valuation (slice_get m.names.references n)
       by_case None e = absurd (get_some m.names.references n low e)
-      by_case (Some r) e = ap (worth_of_reference s' worth') (now ∙ e) ∙ same_named n r e h ∙ ap (worth_of_reference s worth) (sym e)
+      by_case (Some r) e = ap (valuation_of_reference s' valuation') (now ∙ e) ∙ same_named n r e h ∙ ap (valuation_of_reference s valuation) (sym e)
 
     same_variable : (pc : Option ℕ) (v : Letter × ℕ) → v.1 < count_for (counts_of m) v.0 → is_marked marks (first_for m v.0 + v.1) ≡ true
-        → value_through (new_variable (positions_of (remains m marks))) (environment s' worth' site' pc) v.0 v.1 ≡ environment s worth site pc v.0 v.1
+        → value_through (new_variable (positions_of (remains m marks))) (environment s' valuation' site' pc) v.0 v.1 ≡ environment s valuation site pc v.0 v.1
     same_variable pc (letters.R, n) low h = same_base n low h
     same_variable pc (letters.L, n) low h = same_base n low h
     same_variable pc (letters.S, n) low h = same_size n low h
@@ -245,25 +248,25 @@ module _ (m : Parts) (keep : List ℕ) (marks : List Bool) (kept : IsKept m keep
     same_variable pc (letters.I, n) low h = same_public n low h
     same_variable pc (letters.X, n) low h = same_reference n low h
 
-    same_step : (pc : Option ℕ) (t : Tree) → IsWhole t → value_at s'.modulus (environment s' worth' site' pc) (new t)
-        ≡ value_at s.modulus (environment s worth site pc) t
+    same_step : (pc : Option ℕ) (t : Tree) → IsWhole t → value_at s'.modulus (environment s' valuation' site' pc) (new t)
+        ≡ value_at s.modulus (environment s valuation site pc) t
     same_step pc t whole =
-        value_at-renamed s'.modulus (environment s' worth' site' pc) (new_variable (positions_of (remains m marks))) t
-        ∙ value_at-agrees_on_variables s.modulus _ (environment s worth site pc) t (λ v h. same_variable pc v (whole v h).0 (whole v h).1)
+        value_at-renamed s'.modulus (environment s' valuation' site' pc) (new_variable (positions_of (remains m marks))) t
+        ∙ value_at-agrees_on_variables s.modulus _ (environment s valuation site pc) t (λ v h. same_variable pc v (whole v h).0 (whole v h).1)
 
   -- the publics that remain have whole values
   module _ (publics_whole : (n : ℕ) (p : Public) → slice_get m.names.publics n ≡ Some p → is_marked (remains m marks).publics n ≡ true → IsWhole p.value) where
-    same_worth : (k : ℕ) → Same (worth_below s k) (worth_below s' k)
-    same_worth zero n p e h = refl
-    same_worth (suc k) n p e h =
+    same_valuation : (k : ℕ) → Same (valuation_below s k) (valuation_below s' k)
+    same_valuation zero n p e h = refl
+    same_valuation (suc k) n p e h =
         within_is s' k site' None (new p.value)
-        ∙ same_step (worth_below s k) (worth_below s' k) (same_worth k) None p.value (publics_whole n p e h)
+        ∙ same_step (valuation_below s k) (valuation_below s' k) (same_valuation k) None p.value (publics_whole n p e h)
         ∙ sym (within_is s k site None p.value)
 
     same_within : (k : ℕ) (pc : Option ℕ) (t : Tree) → IsWhole t → value_within s' k site' pc (new t) ≡ value_within s k site pc t
     same_within k pc t whole =
         within_is s' k site' pc (new t)
-        ∙ same_step (worth_below s k) (worth_below s' k) (same_worth k) pc t whole
+        ∙ same_step (valuation_below s k) (valuation_below s' k) (same_valuation k) pc t whole
         ∙ sym (within_is s k site pc t)
 
     few : length s'.publics ≤ length s.publics

@@ -8,10 +8,10 @@ use Rattle.mufom_expr.specs.Tree.{Tree}
 use Rattle.mufom_expr.specs.Value.{value_at}
 use Rattle.mufom_names.specs.declared.name.Reference.{Reference}
 use Rattle.mufom_meaning.specs.Flat.{Sited, SitedPublic, first_named}
-use Rattle.mufom_meaning.specs.Values.{Setting, Worth, worth_of, unmet_value, reference_value, worth_of_reference, environment, value_within}
+use Rattle.mufom_meaning.specs.Values.{Setting, Valuation, valuation_of, unresolved_value, reference_value, valuation_of_reference, environment, value_within}
 use Rattle.mufom_meaning.proofs.facts.Answers.{find_at}
 use Rattle.mufom_meaning.proofs.staging.Renamed.{value_at-agrees}
-use Rattle.mufom_meaning.proofs.values.Causes.{worth_below, within_is}
+use Rattle.mufom_meaning.proofs.values.Causes.{valuation_below, within_is}
 use Rattle.mufom_meaning.proofs.values.Monotone.{value_within-more}
 
 -- how many elements pass
@@ -49,25 +49,25 @@ agree_or_more p q keeps (x ∷ xs) = let rest = agree_or_more p q keeps xs in by
   by_case false e false f (inr h) le = (inr h, le)
 
 module _ (s : Setting) where
-  -- what the publics of the setting are worth by both
-  abbrev Agree : Worth → Worth → Type 0
-  Agree worth other = (q : SitedPublic) (i : ℕ) → slice_get s.publics i ≡ Some q → worth q.site q.entry.value ≡ other q.site q.entry.value
+  -- the values of the publics of the setting by both
+  abbrev Agree : Valuation → Valuation → Type 0
+  Agree valuation other = (q : SitedPublic) (i : ℕ) → slice_get s.publics i ≡ Some q → valuation q.site q.entry.value ≡ other q.site q.entry.value
 
-  module _ (worth other : Worth) (agree : Agree worth other) where
-    same_public : (i : ℕ) (o : Option SitedPublic) → slice_get s.publics i ≡ o → worth_of worth o ≡ worth_of other o
+  module _ (valuation other : Valuation) (agree : Agree valuation other) where
+    same_public : (i : ℕ) (o : Option SitedPublic) → slice_get s.publics i ≡ o → valuation_of valuation o ≡ valuation_of other o
     same_public i None e = refl
     same_public i (Some q) e = agree q i e
 
-    same_named : (name : List ℕ) (unmet : Option ℕ) (o : Option SitedPublic) → first_named s.publics name ≡ o → reference_value worth o unmet
-        ≡ reference_value other o unmet
-    same_named name unmet None e = refl
-    same_named name unmet (Some q) e = let there = (find_at _ s.publics q e).0 in agree q there.0 there.1
+    same_named : (name : List ℕ) (unresolved : Option ℕ) (o : Option SitedPublic) → first_named s.publics name ≡ o → reference_value valuation o unresolved
+        ≡ reference_value other o unresolved
+    same_named name unresolved None e = refl
+    same_named name unresolved (Some q) e = let there = (find_at _ s.publics q e).0 in agree q there.0 there.1
 
-    same_reference : (o : Option Reference) → worth_of_reference s worth o ≡ worth_of_reference s other o
+    same_reference : (o : Option Reference) → valuation_of_reference s valuation o ≡ valuation_of_reference s other o
     same_reference None = refl
-    same_reference (Some r) = same_named r.name (unmet_value s r) (first_named s.publics r.name) refl
+    same_reference (Some r) = same_named r.name (unresolved_value s r) (first_named s.publics r.name) refl
 
-    same_environment : (site : Sited) (pc : Option ℕ) (l : Letter) (n : ℕ) → environment s worth site pc l n ≡ environment s other site pc l n
+    same_environment : (site : Sited) (pc : Option ℕ) (l : Letter) (n : ℕ) → environment s valuation site pc l n ≡ environment s other site pc l n
     same_environment site pc letters.R n = refl
     same_environment site pc letters.L n = refl
     same_environment site pc letters.S n = refl
@@ -75,16 +75,17 @@ module _ (s : Setting) where
     same_environment site pc letters.I n = same_public (site.first_public + n) (slice_get s.publics (site.first_public + n)) refl
     same_environment site pc letters.X n = same_reference (slice_get site.parts.names.references n)
 
-    same_value : (site : Sited) (pc : Option ℕ) (t : Tree) → value_at s.modulus (environment s worth site pc) t
+    same_value : (site : Sited) (pc : Option ℕ) (t : Tree) → value_at s.modulus (environment s valuation site pc) t
         ≡ value_at s.modulus (environment s other site pc) t
-    same_value site pc t = value_at-agrees s.modulus (environment s worth site pc) (environment s other site pc) (same_environment site pc) t
+    same_value site pc t = value_at-agrees s.modulus (environment s valuation site pc) (environment s other site pc) (same_environment site pc) t
 
   -- one step more changes no public
   abbrev IsStable : ℕ → Type 0
-  IsStable k = Agree (worth_below s k) (worth_below s (suc k))
+  IsStable k = Agree (valuation_below s k) (valuation_below s (suc k))
 
   stable_step : (k : ℕ) → IsStable k → (site : Sited) (pc : Option ℕ) (t : Tree) → value_within s k site pc t ≡ value_within s (suc k) site pc t
-  stable_step k h site pc t = within_is s k site pc t ∙ same_value (worth_below s k) (worth_below s (suc k)) h site pc t ∙ sym (within_is s (suc k) site pc t)
+  stable_step k h site pc t = within_is s k site pc t ∙ same_value (valuation_below s k) (valuation_below s (suc k)) h site pc t
+      ∙ sym (within_is s (suc k) site pc t)
 
   stays_stable : (d k : ℕ) → IsStable k → IsStable (d + k)
   stays_stable zero k h = let same : k ≡ 0 + k = omega arith in subst IsStable same h
@@ -95,25 +96,25 @@ module _ (s : Setting) where
 
   -- the public has a value with fewer than so many steps
   abbrev has : ℕ → SitedPublic → Bool
-  has k q = is_some (worth_below s k q.site q.entry.value)
+  has k q = is_some (valuation_below s k q.site q.entry.value)
 
-  worth-more : (k : ℕ) (site : Sited) (t : Tree) (v : ℕ) → worth_below s k site t ≡ Some v → worth_below s (suc k) site t ≡ Some v
-  worth-more zero site t v e = absurd cc
-  worth-more (suc k) site t v e = value_within-more s k site None t v e
+  valuation-more : (k : ℕ) (site : Sited) (t : Tree) (v : ℕ) → valuation_below s k site t ≡ Some v → valuation_below s (suc k) site t ≡ Some v
+  valuation-more zero site t v e = absurd cc
+  valuation-more (suc k) site t v e = value_within-more s k site None t v e
 
   keeps : (k : ℕ) (q : SitedPublic) → has k q ≡ true → has (suc k) q ≡ true
-  keeps k q h = by_case (worth_below s k q.site q.entry.value) refl h where
-    by_case : (o : Option ℕ) → worth_below s k q.site q.entry.value ≡ o → is_some o ≡ true → has (suc k) q ≡ true
+  keeps k q h = by_case (valuation_below s k q.site q.entry.value) refl h where
+    by_case : (o : Option ℕ) → valuation_below s k q.site q.entry.value ≡ o → is_some o ≡ true → has (suc k) q ≡ true
     by_case None e h = absurd (true≢false (sym h))
-    by_case (Some v) e h = ap is_some (worth-more k q.site q.entry.value v e)
+    by_case (Some v) e h = ap is_some (valuation-more k q.site q.entry.value v e)
 
-  agreed : (k : ℕ) (q : SitedPublic) → has k q ≡ has (suc k) q → worth_below s k q.site q.entry.value ≡ worth_below s (suc k) q.site q.entry.value
-  agreed k q h = by_case (worth_below s k q.site q.entry.value) refl (worth_below s (suc k) q.site q.entry.value) refl h where
-    by_case : (o : Option ℕ) → worth_below s k q.site q.entry.value ≡ o → (u : Option ℕ) → worth_below s (suc k) q.site q.entry.value ≡ u → is_some o
+  agreed : (k : ℕ) (q : SitedPublic) → has k q ≡ has (suc k) q → valuation_below s k q.site q.entry.value ≡ valuation_below s (suc k) q.site q.entry.value
+  agreed k q h = by_case (valuation_below s k q.site q.entry.value) refl (valuation_below s (suc k) q.site q.entry.value) refl h where
+    by_case : (o : Option ℕ) → valuation_below s k q.site q.entry.value ≡ o → (u : Option ℕ) → valuation_below s (suc k) q.site q.entry.value ≡ u → is_some o
         ≡ is_some u → o ≡ u
     by_case None e None f h = refl
     by_case None e (Some w) f h = absurd (true≢false (sym h))
-    by_case (Some v) e u f h = sym (worth-more k q.site q.entry.value v e) ∙ f
+    by_case (Some v) e u f h = sym (valuation-more k q.site q.entry.value v e) ∙ f
 
   stable_or_many : (k : ℕ) → ((j : ℕ) × (j < k) × IsStable j) ⊎ (k ≤ passing (has k) s.publics)
   stable_or_many zero = inr (omega arith)

@@ -21,7 +21,7 @@ use Rattle.mufom_meaning.specs.Staging.{AreValid}
 use Rattle.mufom_meaning.proofs.Choices.{some_same}
 use Rattle.mufom_meaning.proofs.Members.{In}
 use Rattle.mufom_meaning.proofs.NoDefects.{no_defect}
-use Rattle.mufom_meaning.proofs.values.Causes.{worth_below, within_is}
+use Rattle.mufom_meaning.proofs.values.Causes.{valuation_below, within_is}
 
 -- an address of valid modules has at least one bit
 pub width_positive : (m : Parts) (more : List Parts) → AreValid (m ∷ more) → 1 ≤ width (m ∷ more)
@@ -35,8 +35,8 @@ pub value_below : (ms : List Parts) (bs : Bases) → 1 ≤ width ms → (site : 
     ≡ Some v → v < 2 ^ width ms
 value_below ms bs low site pc t v e =
     let s = setting ms bs in
-    let small = value_small (width ms) low (environment s (worth_below s (length s.publics)) site pc) t in
-    let there : value_at (2 ^ width ms) (environment s (worth_below s (length s.publics)) site pc) t ≡ Some v =
+    let small = value_small (width ms) low (environment s (valuation_below s (length s.publics)) site pc) t in
+    let there : value_at (2 ^ width ms) (environment s (valuation_below s (length s.publics)) site pc) t ≡ Some v =
     sym (within_is s (length s.publics) site pc t) ∙ e in
     subst (λ o. IfSome o (λ v. v < 2 ^ width ms)) there small
 

@@ -18,7 +18,7 @@ use Rattle.mufom_plan.specs.declared.plan.Plan.{Plan}
 use Rattle.mufom_plan.specs.Commons.{has_common}
 use Rattle.mufom_plan.specs.Names.{has_name}
 use Rattle.mufom_meaning.specs.declared.located.LocatedParts.{LocatedParts}
-use Rattle.mufom_meaning.specs.Flat.{SitedPublic, sited, distinct, flat_sections, flat_publics, flat_references, unmet_references, public_names}
+use Rattle.mufom_meaning.specs.Flat.{SitedPublic, sited, distinct, flat_sections, flat_publics, flat_references, unresolved_references, public_names}
 use Rattle.mufom_meaning.specs.Flat.{is_common, common_size, same_common, commons, common_names}
 use Rattle.mufom_meaning.specs.Values.{Setting, setting, value}
 use Rattle.mufom_meaning.specs.Counts.{loaded_total}
@@ -82,12 +82,12 @@ module _ (ms : List Parts) (plan : Plan) where
   -- what goes by the names of the commons comes to no more than for all these references
   pub names-lighter : (w : List ℕ → ℕ) → sum_by w (distinct bytes_eq (common_names ms)) ≤ sum_by (λ (r : Reference). w r.name) asking
   names-lighter w =
-      let pairs = map (λ (reference : Reference). (reference.name, common_size reference.weak)) (filter is_common (unmet_references ms)) in
+      let pairs = map (λ (reference : Reference). (reference.name, common_size reference.weak)) (filter is_common (unresolved_references ms)) in
       let a = distinct-lighter w bytes_eq (common_names ms) in
       let b = lighter-map w (λ (pair : List ℕ × ℕ). w pair.0) (λ pair. pair.0) (λ pair. omega arith) (commons ms) in
       let c = distinct-lighter (λ (pair : List ℕ × ℕ). w pair.0) same_common pairs in
       let d = lighter-map (λ (pair : List ℕ × ℕ). w pair.0) (λ (r : Reference). w r.name) (λ reference. (reference.name, common_size reference.weak))
-      (λ r. omega arith) (filter is_common (unmet_references ms)) in
+      (λ r. omega arith) (filter is_common (unresolved_references ms)) in
       let e = two-filters (λ (r : Reference). w r.name) is_common (λ reference. not (has_name (public_names ms) reference.name)) (flat_references ms) in
       omega (arith, a, b, c, d, e)
 

@@ -1,4 +1,4 @@
--- Commons of concrete modules: where they are placed, what their references are worth, and what is answered where they are not placed.
+-- Commons of concrete modules: where they are placed, the values of their references, and the error where they are not placed.
 use Rattle.std.proofs.Common.{◌≡◌, ℕ, List, [], ◌∷◌, length, Some, None, true, false, refl, ap, arith}
 use Rattle.std.specs.Prelude.{codes}
 use Rattle.mufom_expr.specs.declared.token.FieldKind.TheVariants.{Either}

@@ -85,11 +85,11 @@ unmoved_does_not_stand stands =
     (alone crossed_a (crossed_b ∷ []) (sections_at (256 ∷ 260 ∷ [])) refl refl)) in omega (arith, e)
 
 -- References to the list's own publics are left.
-abbrev unmet : Parts
-unmet = record crossed_link { names = record { publics = crossed_link.names.publics; references = strong (codes "g") ∷ strong (codes "f") ∷ [] } }
+abbrev unresolved : Parts
+unresolved = record crossed_link { names = record { publics = crossed_link.names.publics; references = strong (codes "g") ∷ strong (codes "f") ∷ [] } }
 
-unmet_is_not_joined : ¬ IsJoined unmet (crossed_a ∷ crossed_b ∷ []) (codes "a")
-unmet_is_not_joined j = absurd (let e : strong (codes "g") ∷ strong (codes "f") ∷ [] ≡ [] = j.references in cc)
+unresolved_is_not_joined : ¬ IsJoined unresolved (crossed_a ∷ crossed_b ∷ []) (codes "a")
+unresolved_is_not_joined j = absurd (let e : strong (codes "g") ∷ strong (codes "f") ∷ [] ≡ [] = j.references in cc)
 
 -- References are merged by name alone, and a default is lost.
 abbrev defaults : List Parts

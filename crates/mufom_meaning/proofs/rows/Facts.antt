@@ -121,7 +121,7 @@ eight_units_misfit : locate_answer (eight_units 5) (plan_of []) ≡ Some (placem
 unfolding locate_answer
 eight_units_misfit = refl
 
--- A repeated field is worth what the counter is at each copy.
+-- The value of a repeated field is the counter at each copy.
 abbrev repeated_counter : List Parts
 repeated_counter = a_module (absolute_at 16 6 ∷ []) [] [] (SetSection 0 ∷ Repeat 3 (Field Either (variable P 0) 2 ∷ []) ∷ []) ∷ []
 

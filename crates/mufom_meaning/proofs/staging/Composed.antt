@@ -21,7 +21,7 @@ use Rattle.mufom_debug.specs.declared.item.BlockHead.TheVariants as heads
 use Rattle.mufom_debug.specs.Marks.{DebugMark, block_begin, block_end, name_mark, note_mark, value_mark, marks_of}
 use Rattle.mufom_module.specs.declared.module.Parts.{Parts}
 use Rattle.mufom_plan.specs.Names.{has_name}
-use Rattle.mufom_meaning.specs.Flat.{Sited, sited, flat_sections, flat_publics, flat_references, unmet_references, public_names, distinct}
+use Rattle.mufom_meaning.specs.Flat.{Sited, sited, flat_sections, flat_publics, flat_references, unresolved_references, public_names, distinct}
 use Rattle.mufom_meaning.specs.Joined.{IsJoined, HasHeaderOf, HasFirstHeader, position_of, same_reference, kept_references, joined_reference}
 use Rattle.mufom_meaning.specs.Joined.{joined_variable, joined_tree, joined_public, joined_item, joined_load, joined_head, joined_mark}
 use Rattle.mufom_meaning.specs.StagingLaws.{JoinedComposes}
@@ -32,7 +32,7 @@ use Rattle.mufom_meaning.proofs.Sites.{next_public, next_public-length}
 use Rattle.mufom_meaning.proofs.Names.{has_name-turned, names_of-sited_publics, absent_before, has_name-append_left, has_name-append_right}
 use Rattle.mufom_meaning.proofs.staging.Groups.{paired_joined, are_of_group, home_of, paired_sites}
 use Rattle.mufom_meaning.proofs.staging.Settings.{same_sections}
-use Rattle.mufom_meaning.proofs.staging.Needs.{unmet_by, kept_unmet, among_all, group_references, link_unmet, same_names}
+use Rattle.mufom_meaning.proofs.staging.Needs.{unresolved_by, kept_unresolved, among_all, group_references, link_unresolved, same_names}
 use Rattle.mufom_meaning.proofs.Distinct.{filter-append, distinct-distinct, distinct-between}
 use Rattle.mufom_meaning.proofs.staging.Staging.{equal_lists, equal_maps}
 
@@ -86,25 +86,26 @@ module _ (M : Parts) (ms : List Parts) (name : List ℕ) (j : IsJoined M ms name
   split_names : public_names flat ≡ public_names before ++ (public_names ms ++ public_names after)
   split_names = flat_map-append _ before (ms ++ after) ∙ ap (λ more. public_names before ++ more) (flat_map-append _ ms after)
 
-  abbrev unmet : Reference → Bool
-  unmet = unmet_by (public_names flat)
+  abbrev unresolved : Reference → Bool
+  unresolved = unresolved_by (public_names flat)
 
-  unmet_around : (rs : List Reference) → filter unmet (flat_references before ++ (rs ++ flat_references after))
-      ≡ filter unmet (flat_references before) ++ (filter unmet rs ++ filter unmet (flat_references after))
-  unmet_around rs =
-      filter-append unmet (flat_references before) (rs ++ flat_references after)
-      ∙ ap (λ more. filter unmet (flat_references before) ++ more) (filter-append unmet rs (flat_references after))
+  unresolved_around : (rs : List Reference) → filter unresolved (flat_references before ++ (rs ++ flat_references after))
+      ≡ filter unresolved (flat_references before) ++ (filter unresolved rs ++ filter unresolved (flat_references after))
+  unresolved_around rs =
+      filter-append unresolved (flat_references before) (rs ++ flat_references after)
+      ∙ ap (λ more. filter unresolved (flat_references before) ++ more) (filter-append unresolved rs (flat_references after))
 
   -- the same references are left
   same_kept : kept_references linked ≡ kept_references flat
   same_kept =
-      let group : distinct same_reference (filter unmet (kept_references ms)) ≡ distinct same_reference (filter unmet (flat_references ms))
-      = ap (distinct same_reference) (kept_unmet ms (public_names flat) (among_all M ms name j before after) (flat_references before) (flat_references after))
-      ∙ distinct-distinct same_reference same_reference-decides (filter unmet (flat_references ms)) in
-      ap (distinct same_reference) (link_unmet M ms name j before after ∙ unmet_around (kept_references ms))
-      ∙ distinct-between same_reference same_reference-decides (filter unmet (flat_references before)) (filter unmet (kept_references ms))
-      (filter unmet (flat_references ms)) (filter unmet (flat_references after)) group
-      ∙ ap (distinct same_reference) (sym (unmet_around (flat_references ms)) ∙ ap (filter unmet) (sym (group_references M ms name j before after)))
+      let group : distinct same_reference (filter unresolved (kept_references ms)) ≡ distinct same_reference (filter unresolved (flat_references ms))
+      = ap (distinct same_reference) (kept_unresolved ms (public_names flat) (among_all M ms name j before after) (flat_references before)
+      (flat_references after))
+      ∙ distinct-distinct same_reference same_reference-decides (filter unresolved (flat_references ms)) in
+      ap (distinct same_reference) (link_unresolved M ms name j before after ∙ unresolved_around (kept_references ms))
+      ∙ distinct-between same_reference same_reference-decides (filter unresolved (flat_references before)) (filter unresolved (kept_references ms))
+      (filter unresolved (flat_references ms)) (filter unresolved (flat_references after)) group
+      ∙ ap (distinct same_reference) (sym (unresolved_around (flat_references ms)) ∙ ap (filter unresolved) (sym (group_references M ms name j before after)))
 
   count_before : next_public 0 before ≡ length (public_names before)
   count_before =
@@ -151,9 +152,9 @@ module _ (M : Parts) (ms : List Parts) (name : List ℕ) (j : IsJoined M ms name
       × (slice_get M.names.references (position_of (same_reference r) (kept_references ms)) ≡ Some q) × (r ≡ q)
   kept_reference site within n r e fails =
       let there : Among r (flat_references ms) = within n r e in
-      let left : Among r (unmet_references ms) =
+      let left : Among r (unresolved_references ms) =
       Among-filter (λ reference. not (has_name (public_names ms) reference.name)) r (ap not fails) (flat_references ms) there.0 there.1 in
-      let kept : Among r (kept_references ms) = Among-distinct same_reference same_reference-decides r (unmet_references ms) left.0 left.1 in
+      let kept : Among r (kept_references ms) = Among-distinct same_reference same_reference-decides r (unresolved_references ms) left.0 left.1 in
       let found = get-position_of (same_reference r) r ((same_reference-decides r r).1 refl) (kept_references ms) kept.0 kept.1 in (
         found.0,
         ap (λ rs. slice_get rs (position_of (same_reference r) (kept_references ms))) j.references

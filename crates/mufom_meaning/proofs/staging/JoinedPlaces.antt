@@ -22,7 +22,7 @@ use Rattle.mufom_module.specs.Contents.{any_of, any_expression, load_any, item_a
 use Rattle.mufom_module.specs.Defects.{counts_of, is_outside, names_outside, names_no_section, has_bad_place, names_bad_section, begins_badly}
 use Rattle.mufom_module.specs.Defects.{has_bad_mark, declared_after, is_this, is_other_counter, has_other_counter, misplaces_counter, loads_nowhere}
 use Rattle.mufom_plan.specs.Names.{has_name}
-use Rattle.mufom_meaning.specs.Flat.{Sited, sited, flat_references, public_names, unmet_references, name_count}
+use Rattle.mufom_meaning.specs.Flat.{Sited, sited, flat_references, public_names, unresolved_references, name_count}
 use Rattle.mufom_meaning.specs.Joined.{position_of, same_reference, kept_references, joined_reference, joined_variable, joined_tree, joined_item}
 use Rattle.mufom_meaning.specs.Joined.{joined_load, joined_head, joined_mark}
 use Rattle.mufom_meaning.proofs.Members.{In, In-at, at-In, In-filter, In-flat_map, none-In, fails-In, get_some}
@@ -88,9 +88,10 @@ module _ (M : Parts) (ms : List Parts) (site : Sited) (fits : Fits M ms site) wh
     by_case true e = let less = name-within (public_names ms) r.name e in
         not_outside (length M.names.publics) (position_of (λ name. bytes_eq name r.name) (public_names ms)) (omega (arith, less, fits.names))
     by_case false e =
-        let unmet : In r (unmet_references ms) = In-filter (λ reference. not (has_name (public_names ms) reference.name)) r (ap not e) (flat_references ms) h in
-        let there = at-In r (unmet_references ms) unmet in
-        let kept = Among-distinct same_reference same_reference-decides r (unmet_references ms) there.0 there.1 in
+        let unresolved : In r (unresolved_references ms) = In-filter (λ reference. not (has_name (public_names ms) reference.name)) r (ap not e)
+        (flat_references ms) h in
+        let there = at-In r (unresolved_references ms) unresolved in
+        let kept = Among-distinct same_reference same_reference-decides r (unresolved_references ms) there.0 there.1 in
         let itself : same_reference r r ≡ true = (same_reference-decides r r).1 refl in
         let less = position_of-within (same_reference r) r (kept_references ms) (In-at r (kept_references ms) kept.0 kept.1) itself in
         not_outside (length M.names.references) (position_of (same_reference r) (kept_references ms)) (omega (arith, less, fits.references))

@@ -20,7 +20,7 @@ use Rattle.mufom_module.specs.Defects.{IsValid, has_defect, defects, is_long, ha
 use Rattle.mufom_module.specs.Defects.{is_long_literal, has_bad_size, counts_of, names_outside, has_bad_place, has_bad_mark, declared_after}
 use Rattle.mufom_module.specs.Defects.{has_other_counter, misplaces_counter, loads_nowhere, has_unknown_attribute, ends_plainly, has_bad_end}
 use Rattle.mufom_plan.specs.Names.{has_name}
-use Rattle.mufom_meaning.specs.Flat.{Sited, sited_from, sited, flat_sections, flat_references, flat_publics, public_names, unmet_references, name_count}
+use Rattle.mufom_meaning.specs.Flat.{Sited, sited_from, sited, flat_sections, flat_references, flat_publics, public_names, unresolved_references, name_count}
 use Rattle.mufom_meaning.specs.Joined.{joined_tree, joined_public, joined_load, joined_head, joined_mark, kept_references, same_reference}
 use Rattle.mufom_meaning.specs.Joined.{HasFirstHeader, IsJoined}
 use Rattle.mufom_meaning.specs.Staging.{AreValid}
@@ -217,7 +217,7 @@ module _ (M : Parts) (ms : List Parts) (name : List ℕ) (j : IsJoined M ms name
       ap (list_any test) j.references
       ∙ none-In test (kept_references ms) (λ r k. fails-In test (flat_references ms) all r
       (filter-In (λ reference. not (has_name (public_names ms) reference.name)) r (flat_references ms)
-      (distinct-In same_reference r (unmet_references ms) k)))
+      (distinct-In same_reference r (unresolved_references ms) k)))
 
   -- the first module's header
   first_valid : (xs : List Parts) → HasFirstHeader M xs → AreValid xs → (is_unit_count M.maus ≡ true) × (is_long M.processor ≡ false)

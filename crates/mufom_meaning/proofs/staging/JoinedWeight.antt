@@ -23,7 +23,7 @@ use Rattle.mufom_module.specs.Written.{weight}
 use Rattle.mufom_module.specs.Weights.{token_weight, expression_weight, section_weight, public_weight, notes_weight, reference_weight, head_weight}
 use Rattle.mufom_module.specs.Weights.{mark_weight, item_weight, load_weight, start_weight, frame_weight}
 use Rattle.mufom_module.proofs.WeightLaws.{weight-sum}
-use Rattle.mufom_meaning.specs.Flat.{Sited, sited_from, name_count, flat_references, unmet_references, public_names, distinct}
+use Rattle.mufom_meaning.specs.Flat.{Sited, sited_from, name_count, flat_references, unresolved_references, public_names, distinct}
 use Rattle.mufom_meaning.specs.Joined.{joined_variable, joined_tree, joined_public, joined_item, joined_load, joined_head, joined_mark}
 use Rattle.mufom_meaning.specs.Joined.{kept_references, same_reference, HasHeaderOf, HasFirstHeader, IsJoined}
 use Rattle.mufom_meaning.specs.StagingLaws.{total_weight, first_name_length}
@@ -114,7 +114,7 @@ distinct-lighter w same (x ∷ xs) =
 
 kept-lighter : (ms : List Parts) → sum_by reference_weight (kept_references ms) ≤ sum_by (λ m. sum_by reference_weight m.names.references) ms
 kept-lighter ms =
-    let a = distinct-lighter reference_weight same_reference (unmet_references ms) in
+    let a = distinct-lighter reference_weight same_reference (unresolved_references ms) in
     let b = filter-lighter reference_weight (λ reference. not (has_name (public_names ms) reference.name)) (flat_references ms) in
     let c = sum-flat reference_weight (λ m. m.names.references) ms in
     omega (arith, a, b, c)

@@ -9,8 +9,8 @@ use Rattle.mufom_expr.specs.Value.{value_at, is_division, is_zero}
 use Rattle.mufom_names.specs.declared.name.Reference.{Reference}
 use Rattle.mufom_module.specs.declared.module.Parts.{Parts}
 use Rattle.mufom_plan.specs.Names.{has_name}
-use Rattle.mufom_meaning.specs.Flat.{Sited, SitedPublic, public_names, first_named, flat_references, unmet_references}
-use Rattle.mufom_meaning.specs.Values.{Setting, Worth, worth_of, default_of, unmet_value, reference_value, worth_of_reference, environment}
+use Rattle.mufom_meaning.specs.Flat.{Sited, SitedPublic, public_names, first_named, flat_references, unresolved_references}
+use Rattle.mufom_meaning.specs.Values.{Setting, Valuation, valuation_of, default_of, unresolved_value, reference_value, valuation_of_reference, environment}
 use Rattle.mufom_meaning.specs.Values.{value_within, value, has_zero_divisor}
 use Rattle.mufom_meaning.specs.Joined.{joined_tree, joined_variable, joined_reference, kept_references, position_of, same_reference}
 use Rattle.mufom_meaning.proofs.Paired.{Paired, PairedOption, Paired-get, Paired-find, Paired-length}
@@ -56,20 +56,20 @@ pub record AreSettings (ms : List Parts) (home : Sited) (s other : Setting) : Ty
       × (slice_get other.publics (home.first_public + position_of (λ public. bytes_eq public name) (public_names ms)) ≡ Some q)
       × (first_named other.publics name ≡ Some q)
 
-module _ (ms : List Parts) (home : Sited) (s other : Setting) (h : AreSettings ms home s other) (w v : Worth)
+module _ (ms : List Parts) (home : Sited) (s other : Setting) (h : AreSettings ms home s other) (w v : Valuation)
     (agree : (site : Sited) (t : Tree) (site' : Sited) (t' : Tree) → MovedTree ms home site t site' t' → w site t ≡ v site' t') where
-  agree_of : (p q : Option SitedPublic) → PairedOption (MovedPublic ms home) p q → worth_of w p ≡ worth_of v q
+  agree_of : (p q : Option SitedPublic) → PairedOption (MovedPublic ms home) p q → valuation_of w p ≡ valuation_of v q
   agree_of None None m = refl
   agree_of (Some p) (Some q) m = agree p.site p.entry.value q.site q.entry.value m.tree
   agree_of None (Some q) m = absurd m
   agree_of (Some p) None m = absurd m
 
-  same_public : (n : ℕ) → worth_of w (slice_get s.publics n) ≡ worth_of v (slice_get other.publics n)
+  same_public : (n : ℕ) → valuation_of w (slice_get s.publics n) ≡ valuation_of v (slice_get other.publics n)
   same_public n = agree_of _ _ (Paired-get (MovedPublic ms home) s.publics other.publics n h.publics)
 
-  -- without a public a reference is worth the same in both lists
-  same_unmet_value : (r : Reference) → unmet_value s r ≡ unmet_value other r
-  same_unmet_value r = let names = h.commons in let bases = h.common_base in λ i. if has_name (names i) r.name then bases i r.name else default_of r.weak
+  -- without a public a reference has the same value in both lists
+  same_unresolved_value : (r : Reference) → unresolved_value s r ≡ unresolved_value other r
+  same_unresolved_value r = let names = h.commons in let bases = h.common_base in λ i. if has_name (names i) r.name then bases i r.name else default_of r.weak
 
   agree_reference : (a b : Option ℕ) → a ≡ b → (p q : Option SitedPublic) → PairedOption (MovedPublic ms home) p q → reference_value w p a
       ≡ reference_value v q b
@@ -82,9 +82,9 @@ module _ (ms : List Parts) (home : Sited) (s other : Setting) (h : AreSettings m
   same_first name = Paired-find (MovedPublic ms home) (λ q. bytes_eq q.entry.name name) (λ q. bytes_eq q.entry.name name)
       (λ p q m. ap (λ found. bytes_eq found name) m.name) s.publics other.publics h.publics
 
-  same_reference_value : (r : Option Reference) → worth_of_reference s w r ≡ worth_of_reference other v r
+  same_reference_value : (r : Option Reference) → valuation_of_reference s w r ≡ valuation_of_reference other v r
   same_reference_value None = refl
-  same_reference_value (Some r) = agree_reference (unmet_value s r) (unmet_value other r) (same_unmet_value r) _ _ (same_first r.name)
+  same_reference_value (Some r) = agree_reference (unresolved_value s r) (unresolved_value other r) (same_unresolved_value r) _ _ (same_first r.name)
 
   -- outside the group each variable has the value that it had
   same_outside : (site : Sited) (pc : Option ℕ) (letter : Letter) (n : ℕ) → environment s w site pc letter n ≡ environment other v site pc letter n
@@ -99,11 +99,11 @@ module _ (ms : List Parts) (home : Sited) (s other : Setting) (h : AreSettings m
   pub kept_reference : (site : Sited) → IsOfGroup ms site → (n : ℕ) (r : Reference) → slice_get site.parts.names.references n ≡ Some r
       → has_name (public_names ms) r.name ≡ false
       → (q : Reference) × (slice_get home.parts.names.references (position_of (same_reference r) (kept_references ms)) ≡ Some q) × (r ≡ q)
-  kept_reference site within n r e unmet =
+  kept_reference site within n r e unresolved =
       let there : Among r (flat_references ms) = within n r e in
-      let left : Among r (unmet_references ms) =
-      Among-filter (λ reference. not (has_name (public_names ms) reference.name)) r (ap not unmet) (flat_references ms) there.0 there.1 in
-      let kept : Among r (kept_references ms) = Among-distinct same_reference same_reference-decides r (unmet_references ms) left.0 left.1 in
+      let left : Among r (unresolved_references ms) =
+      Among-filter (λ reference. not (has_name (public_names ms) reference.name)) r (ap not unresolved) (flat_references ms) there.0 there.1 in
+      let kept : Among r (kept_references ms) = Among-distinct same_reference same_reference-decides r (unresolved_references ms) left.0 left.1 in
       let found = get-position_of (same_reference r) r ((same_reference-decides r r).1 refl) (kept_references ms) kept.0 kept.1 in (
         found.0,
         ap (λ rs. slice_get rs (position_of (same_reference r) (kept_references ms))) h.references
@@ -113,17 +113,17 @@ module _ (ms : List Parts) (home : Sited) (s other : Setting) (h : AreSettings m
 
   -- a reference to a public of the group has the value of the public that the link names
   same_met : (r : Reference) → has_name (public_names ms) r.name ≡ true
-      → worth_of w (slice_get s.publics (home.first_public + position_of (λ public. bytes_eq public r.name) (public_names ms)))
-      ≡ worth_of_reference other v (Some r)
+      → valuation_of w (slice_get s.publics (home.first_public + position_of (λ public. bytes_eq public r.name) (public_names ms)))
+      ≡ valuation_of_reference other v (Some r)
   same_met r met =
       let q = h.first r.name met in
-      same_public _ ∙ ap (worth_of v) q.1 ∙ sym (ap (λ o. reference_value v o (unmet_value other r)) q.2)
+      same_public _ ∙ ap (valuation_of v) q.1 ∙ sym (ap (λ o. reference_value v o (unresolved_value other r)) q.2)
 
   -- any other reference of the group has the value of the same reference among those kept
-  same_unmet : (r : Reference) (q : Option Reference) → (k : Reference) × (q ≡ Some k) × (r ≡ k) → worth_of_reference s w q
-      ≡ worth_of_reference other v (Some r)
-  same_unmet r q found =
-      ap (worth_of_reference s w) (found.1 ∙ ap Some (sym found.2)) ∙ same_reference_value (Some r)
+  same_unresolved : (r : Reference) (q : Option Reference) → (k : Reference) × (q ≡ Some k) × (r ≡ k) → valuation_of_reference s w q
+      ≡ valuation_of_reference other v (Some r)
+  same_unresolved r q found =
+      ap (valuation_of_reference s w) (found.1 ∙ ap Some (sym found.2)) ∙ same_reference_value (Some r)
 
   -- a variable as the link has it
   abbrev linked : Option ℕ → Letter × ℕ → Option ℕ
@@ -133,15 +133,15 @@ module _ (ms : List Parts) (home : Sited) (s other : Setting) (h : AreSettings m
       → (b : Bool) → has_name (public_names ms) r.name ≡ b
       → linked pc (if b then (letters.I, position_of (λ public. bytes_eq public r.name) (public_names ms))
       else (letters.X, position_of (same_reference r) (kept_references ms)))
-      ≡ worth_of_reference other v (Some r)
+      ≡ valuation_of_reference other v (Some r)
   same_named site within pc n r e true met = same_met r met
-  same_named site within pc n r e false unmet = same_unmet r _ (kept_reference site within n r e unmet)
+  same_named site within pc n r e false unresolved = same_unresolved r _ (kept_reference site within n r e unresolved)
 
   same_reference_variable : (site : Sited) → IsOfGroup ms site → (pc : Option ℕ) (n : ℕ) (r : Option Reference) → slice_get site.parts.names.references n ≡ r
-      → linked pc (joined_reference ms r) ≡ worth_of_reference other v r
+      → linked pc (joined_reference ms r) ≡ valuation_of_reference other v r
   same_reference_variable site within pc n None e =
-      ap (λ rs. worth_of_reference s w (slice_get rs (length (kept_references ms)))) h.references
-      ∙ ap (worth_of_reference s w) (get-length (kept_references ms))
+      ap (λ rs. valuation_of_reference s w (slice_get rs (length (kept_references ms)))) h.references
+      ∙ ap (valuation_of_reference s w) (get-length (kept_references ms))
   same_reference_variable site within pc n (Some r) e = same_named site within pc n r e (has_name (public_names ms) r.name) refl
 
   -- in the group each variable, as the link has it, has the value that it had
@@ -158,7 +158,7 @@ module _ (ms : List Parts) (home : Sited) (s other : Setting) (h : AreSettings m
       ∙ ap (λ sections. option_map (λ section. section.size) (slice_get sections ((home.first_section + site.first_section) + n))) h.sections
   same_inside site within pc letters.P n = refl
   same_inside site within pc letters.I n =
-      ap (λ place. worth_of w (slice_get s.publics place)) (sym (add_assoc home.first_public site.first_public n)) ∙ same_public _
+      ap (λ place. valuation_of w (slice_get s.publics place)) (sym (add_assoc home.first_public site.first_public n)) ∙ same_public _
   same_inside site within pc letters.X n = same_reference_variable site within pc n (slice_get site.parts.names.references n) refl
 
   -- one step of names: where the publics agree, the expressions do

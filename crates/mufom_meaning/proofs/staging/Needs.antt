@@ -13,7 +13,7 @@ use Rattle.mufom_names.specs.declared.name.Reference.{Reference}
 use Rattle.mufom_debug.specs.Marks.{marks_of}
 use Rattle.mufom_module.specs.declared.module.Parts.{Parts}
 use Rattle.mufom_plan.specs.Names.{has_name}
-use Rattle.mufom_meaning.specs.Flat.{Sited, sited_from, name_count, public_names, flat_references, unmet_references, distinct, needs, commons}
+use Rattle.mufom_meaning.specs.Flat.{Sited, sited_from, name_count, public_names, flat_references, unresolved_references, distinct, needs, commons}
 use Rattle.mufom_meaning.specs.Flat.{is_strong, is_common, common_size, same_common}
 use Rattle.mufom_meaning.specs.Joined.{IsJoined, joined_public, kept_references, same_reference}
 use Rattle.std.specs.List.{IsDistinct}
@@ -36,12 +36,12 @@ joined_names ms s p d (x ∷ xs) =
       here site (e ∷ es) = ap (λ names. e.name ∷ names) (here site es)
 
 -- what passes
-abbrev pub unmet_by : List (List ℕ) → Reference → Bool
-unmet_by names reference = not (has_name names reference.name)
+abbrev pub unresolved_by : List (List ℕ) → Reference → Bool
+unresolved_by names reference = not (has_name names reference.name)
 
 -- a name that many lack, some lack
-lacks : (few many : List (List ℕ)) → ((name : List ℕ) → has_name few name ≡ true → has_name many name ≡ true) → (r : Reference) → unmet_by many r
-    ≡ true → unmet_by few r ≡ true
+lacks : (few many : List (List ℕ)) → ((name : List ℕ) → has_name few name ≡ true → has_name many name ≡ true) → (r : Reference) → unresolved_by many r
+    ≡ true → unresolved_by few r ≡ true
 lacks few many within r h = by_case (has_name few r.name) refl where
   by_case : (b : Bool) → has_name few r.name ≡ b → not b ≡ true
   by_case true e = absurd (let there : has_name many r.name ≡ true = within r.name e in let clash : not (has_name many r.name) ≡ false = ap not there in cc)
@@ -68,20 +68,21 @@ same_common-decides c d = (there, back) where
 
 module _ (ms : List Parts) (names : List (List ℕ)) (within : (name : List ℕ) → has_name (public_names ms) name ≡ true → has_name names name
     ≡ true) (prefix back : List Reference) where
-  pub kept_unmet : filter (unmet_by names) (kept_references ms) ≡ distinct same_reference (filter (unmet_by names) (flat_references ms))
-  kept_unmet =
-      filter-distinct same_reference same_reference-decides (unmet_by names) (unmet_references ms)
-      ∙ ap (distinct same_reference) (filter-weaker (unmet_by names) (unmet_by (public_names ms)) (lacks (public_names ms) names within) (flat_references ms))
+  pub kept_unresolved : filter (unresolved_by names) (kept_references ms) ≡ distinct same_reference (filter (unresolved_by names) (flat_references ms))
+  kept_unresolved =
+      filter-distinct same_reference same_reference-decides (unresolved_by names) (unresolved_references ms)
+      ∙ ap (distinct same_reference) (filter-weaker (unresolved_by names) (unresolved_by (public_names ms)) (lacks (public_names ms) names within)
+      (flat_references ms))
 
   module _ {B : Type 0} (alike : B → B → Bool) (reveals : (x y : B) → Decides (alike x y) (x ≡ y)) (keep : Reference → Bool) (f : Reference → B) where
     abbrev made : List Reference → List B
-    made rs = map f (filter keep (filter (unmet_by names) rs))
+    made rs = map f (filter keep (filter (unresolved_by names) rs))
 
     made-append : (xs ys : List Reference) → made (xs ++ ys) ≡ made xs ++ made ys
     made-append xs ys =
-        ap (λ rs. map f (filter keep rs)) (filter-append (unmet_by names) xs ys)
-        ∙ ap (map f) (filter-append keep (filter (unmet_by names) xs) (filter (unmet_by names) ys))
-        ∙ map-append f (filter keep (filter (unmet_by names) xs)) (filter keep (filter (unmet_by names) ys))
+        ap (λ rs. map f (filter keep rs)) (filter-append (unresolved_by names) xs ys)
+        ∙ ap (map f) (filter-append keep (filter (unresolved_by names) xs) (filter (unresolved_by names) ys))
+        ∙ map-append f (filter keep (filter (unresolved_by names) xs)) (filter keep (filter (unresolved_by names) ys))
 
     made_around : (xs : List Reference) → made (prefix ++ (xs ++ back)) ≡ made prefix ++ (made xs ++ made back)
     made_around xs = made-append prefix (xs ++ back) ∙ ap (λ more. made prefix ++ more) (made-append xs back)
@@ -89,8 +90,8 @@ module _ (ms : List Parts) (names : List (List ℕ)) (within : (name : List ℕ)
     pub same_made : distinct alike (made (prefix ++ (kept_references ms ++ back))) ≡ distinct alike (made (prefix ++ (flat_references ms ++ back)))
     same_made =
         let group : distinct alike (made (kept_references ms)) ≡ distinct alike (made (flat_references ms))
-        = ap (λ rs. distinct alike (map f (filter keep rs))) kept_unmet
-        ∙ distinct-made same_reference same_reference-decides alike reveals keep f (filter (unmet_by names) (flat_references ms)) in
+        = ap (λ rs. distinct alike (map f (filter keep rs))) kept_unresolved
+        ∙ distinct-made same_reference same_reference-decides alike reveals keep f (filter (unresolved_by names) (flat_references ms)) in
         ap (distinct alike) (made_around (kept_references ms))
         ∙ distinct-between alike reveals (made prefix) (made (kept_references ms)) (made (flat_references ms)) (made back) group
         ∙ ap (distinct alike) (sym (made_around (flat_references ms)))
@@ -120,37 +121,38 @@ module _ (M : Parts) (ms : List Parts) (name : List ℕ) (j : IsJoined M ms name
     pub group_references : flat_references (before ++ (ms ++ after)) ≡ flat_references before ++ (flat_references ms ++ flat_references after)
     group_references = flat_map-append _ before (ms ++ after) ∙ ap (λ more. flat_references before ++ more) (flat_map-append _ ms after)
 
-    pub link_unmet : unmet_references (before ++ (M ∷ after)) ≡ filter (unmet_by all_names) (flat_references before
+    pub link_unresolved : unresolved_references (before ++ (M ∷ after)) ≡ filter (unresolved_by all_names) (flat_references before
         ++ (kept_references ms ++ flat_references after))
-    link_unmet =
-        ap (λ names. filter (unmet_by names) (flat_references (before ++ (M ∷ after)))) (same_names before after)
-        ∙ ap (filter (unmet_by all_names)) link_references
+    link_unresolved =
+        ap (λ names. filter (unresolved_by names) (flat_references (before ++ (M ∷ after)))) (same_names before after)
+        ∙ ap (filter (unresolved_by all_names)) link_references
 
     pub same_needs : needs (before ++ (M ∷ after)) ≡ needs (before ++ (ms ++ after))
     same_needs =
-        ap (λ rs. distinct bytes_eq (map (λ r. r.name) (filter is_strong rs))) link_unmet
+        ap (λ rs. distinct bytes_eq (map (λ r. r.name) (filter is_strong rs))) link_unresolved
         ∙ same_made ms all_names among_all (flat_references before) (flat_references after) bytes_eq bytes_eq-Decides is_strong (λ r. r.name)
-        ∙ ap (λ rs. distinct bytes_eq (map (λ r. r.name) (filter is_strong (filter (unmet_by all_names) rs)))) (sym group_references)
+        ∙ ap (λ rs. distinct bytes_eq (map (λ r. r.name) (filter is_strong (filter (unresolved_by all_names) rs)))) (sym group_references)
 
     pub same_commons : commons (before ++ (M ∷ after)) ≡ commons (before ++ (ms ++ after))
     same_commons =
-        ap (λ rs. distinct same_common (map (λ r. (r.name, common_size r.weak)) (filter is_common rs))) link_unmet
+        ap (λ rs. distinct same_common (map (λ r. (r.name, common_size r.weak)) (filter is_common rs))) link_unresolved
         ∙ same_made ms all_names among_all (flat_references before) (flat_references after) same_common same_common-decides is_common
         (λ r. (r.name, common_size r.weak))
-        ∙ ap (λ rs. distinct same_common (map (λ r. (r.name, common_size r.weak)) (filter is_common (filter (unmet_by all_names) rs)))) (sym group_references)
+        ∙ ap (λ rs. distinct same_common (map (λ r. (r.name, common_size r.weak)) (filter is_common (filter (unresolved_by all_names) rs))))
+        (sym group_references)
 
   -- what is left of the references is settled
-  pub settled_unmet : list_all (unmet_by (public_names (M ∷ []))) M.names.references ≡ true
-  settled_unmet =
+  pub settled_unresolved : list_all (unresolved_by (public_names (M ∷ []))) M.names.references ≡ true
+  settled_unresolved =
       let names : public_names (M ∷ []) ≡ public_names ms = append-nil _ ∙ own_names in
-      let all : filter (unmet_by (public_names ms)) (kept_references ms) ≡ kept_references ms
-      = filter-distinct same_reference same_reference-decides (unmet_by (public_names ms)) (unmet_references ms)
-      ∙ ap (distinct same_reference) (filter-weaker (unmet_by (public_names ms)) (unmet_by (public_names ms)) (λ y h. h) (flat_references ms)) in
-      ap (λ found. list_all (unmet_by found) M.names.references) names
-      ∙ ap (list_all (unmet_by (public_names ms))) (j.references ∙ sym all) ∙ list_all-filter (unmet_by (public_names ms)) (kept_references ms)
+      let all : filter (unresolved_by (public_names ms)) (kept_references ms) ≡ kept_references ms
+      = filter-distinct same_reference same_reference-decides (unresolved_by (public_names ms)) (unresolved_references ms)
+      ∙ ap (distinct same_reference) (filter-weaker (unresolved_by (public_names ms)) (unresolved_by (public_names ms)) (λ y h. h) (flat_references ms)) in
+      ap (λ found. list_all (unresolved_by found) M.names.references) names
+      ∙ ap (list_all (unresolved_by (public_names ms))) (j.references ∙ sym all) ∙ list_all-filter (unresolved_by (public_names ms)) (kept_references ms)
 
   pub settled_apart : IsDistinct same_reference M.names.references
-  settled_apart = subst (IsDistinct same_reference) (sym j.references) (IsDistinct-distinct same_reference (unmet_references ms))
+  settled_apart = subst (IsDistinct same_reference) (sym j.references) (IsDistinct-distinct same_reference (unresolved_references ms))
 
   pub same_own_names : public_names (M ∷ []) ≡ public_names ms
   same_own_names = append-nil _ ∙ own_names

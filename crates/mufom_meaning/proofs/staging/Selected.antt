@@ -7,7 +7,7 @@ use Rattle.std.proofs.lemmas.List.{map-append}
 use Rattle.mufom_names.specs.declared.name.Reference.{Reference}
 use Rattle.mufom_module.specs.declared.module.Parts.{Parts}
 use Rattle.mufom_plan.specs.Names.{has_name}
-use Rattle.mufom_meaning.specs.Flat.{public_names, flat_references, unmet_references, distinct, is_strong}
+use Rattle.mufom_meaning.specs.Flat.{public_names, flat_references, unresolved_references, distinct, is_strong}
 use Rattle.mufom_meaning.specs.Joined.{IsJoined, kept_references, same_reference}
 use Rattle.mufom_meaning.specs.Selection.{strong_names, provider, is_among, is_provided, is_closed, members_at}
 use Rattle.mufom_meaning.specs.StagingLaws.{SelectionAgrees}
@@ -100,7 +100,7 @@ module _ (M : Parts) (ms before after : List Parts) (name : List ℕ) (j : IsJoi
 
     group_held : held (kept_references ms) ≡ held (flat_references ms)
     group_held =
-        tested-distinct P (λ r. r.name) is_strong same_reference same_reference-decides (unmet_references ms)
+        tested-distinct P (λ r. r.name) is_strong same_reference same_reference-decides (unresolved_references ms)
         ∙ tested-filter P (λ r. r.name) is_strong (λ r. not (has_name (public_names ms) r.name)) passes_met (flat_references ms)
 
     same_held : held (flat_references linked) ≡ held (flat_references flat)

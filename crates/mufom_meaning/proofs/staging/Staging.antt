@@ -22,7 +22,7 @@ use Rattle.mufom_meaning.proofs.staging.MovedSteps.{same_readings}
 use Rattle.mufom_meaning.proofs.staging.LinkedLoads.{paired_steps}
 use Rattle.mufom_meaning.proofs.staging.Groups.{paired_joined, are_of_group, home_of, paired_sites}
 use Rattle.mufom_meaning.proofs.staging.Settings.{are_settings, same_sections}
-use Rattle.mufom_meaning.proofs.staging.Needs.{same_needs, same_commons, settled_unmet, settled_apart, same_own_names}
+use Rattle.mufom_meaning.proofs.staging.Needs.{same_needs, same_commons, settled_unresolved, settled_apart, same_own_names}
 
 -- lists whose elements are equal one by one are equal
 pub equal_lists : {A : Type 0} (xs ys : List A) → Paired (λ x y. x ≡ y) xs ys → xs ≡ ys
@@ -151,5 +151,5 @@ joined_stands_for M ms name j v = (
   λ before after bases context. same_readings_there M ms name j v before after context.names bases,
   j.sections,
   same_own_names M ms name j,
-  record { apart = settled_apart M ms name j; unmet = settled_unmet M ms name j },
+  record { apart = settled_apart M ms name j; unresolved = settled_unresolved M ms name j },
 )

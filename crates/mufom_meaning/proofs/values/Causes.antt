@@ -8,20 +8,21 @@ use Rattle.mufom_expr.specs.Value.{Environment, value_at, variables_of, divides_
 use Rattle.mufom_expr.proofs.ValueLaws.{none-lost, lost-none}
 use Rattle.mufom_names.specs.declared.name.Reference.{Reference}
 use Rattle.mufom_meaning.specs.Flat.{Sited, SitedPublic, first_named}
-use Rattle.mufom_meaning.specs.Values.{Setting, Worth, worth_of, unmet_value, reference_value, worth_of_reference, environment, value_within, value}
+use Rattle.mufom_meaning.specs.Values.{Setting, Valuation, valuation_of, unresolved_value}
+use Rattle.mufom_meaning.specs.Values.{reference_value, valuation_of_reference, environment, value_within, value}
 use Rattle.mufom_meaning.specs.Values.{has_zero_divisor}
 use Rattle.mufom_meaning.specs.Valued.{IsMentionedIn}
 use Rattle.mufom_meaning.proofs.Members.{In, In-left, In-right, In-append, In-Contains, Contains-In}
 use Rattle.mufom_meaning.proofs.values.Monotone.{value_within-more}
 use Rattle.mufom_meaning.specs.Cycles.{mentioned, mentioned_reference}
 
--- what a public is worth with k steps of names left
-abbrev pub worth_below : Setting → ℕ → Worth
-worth_below s zero = λ site t. None
-worth_below s (suc k) = λ site t. value_within s k site None t
+-- the value of a public with k steps of names left
+abbrev pub valuation_below : Setting → ℕ → Valuation
+valuation_below s zero = λ site t. None
+valuation_below s (suc k) = λ site t. value_within s k site None t
 
 pub within_is : (s : Setting) (k : ℕ) (site : Sited) (pc : Option ℕ) (t : Tree) → value_within s k site pc t
-    ≡ value_at s.modulus (environment s (worth_below s k) site pc) t
+    ≡ value_at s.modulus (environment s (valuation_below s k) site pc) t
 unfolding value_within
 within_is s zero site pc t = refl
 within_is s (suc k) site pc t = refl
@@ -99,34 +100,34 @@ pub record IsWellNamed (s : Setting) (site : Sited) (t : Tree) : Type 0 where
   pub sectioned : (n : ℕ) → In (letters.S, n) (variables_of t) → slice_get s.sections (site.first_section + n) ≡ None → ⊥
   pub named : (n : ℕ) → In (letters.I, n) (variables_of t) → slice_get s.publics (site.first_public + n) ≡ None → ⊥
   pub referred : (n : ℕ) → In (letters.X, n) (variables_of t) → slice_get site.parts.names.references n ≡ None → ⊥
-  pub met : (n : ℕ) (r : Reference) → slice_get site.parts.names.references n ≡ Some r → first_named s.publics r.name ≡ None → unmet_value s r ≡ None → ⊥
+  pub met : (n : ℕ) (r : Reference) → slice_get site.parts.names.references n ≡ Some r → first_named s.publics r.name ≡ None → unresolved_value s r ≡ None → ⊥
 
 -- the program counter, which the expression names, has no value, or a public that it mentions has none
-abbrev pub IsNoneBy : Setting → Worth → Sited → Option ℕ → Tree → Type 0
-IsNoneBy s worth site pc t =
-    ((n : ℕ) × In (letters.P, n) (variables_of t) × (pc ≡ None)) ⊎ ((q : SitedPublic) × IsMentionedIn s site t q × (worth q.site q.entry.value ≡ None))
+abbrev pub IsNoneBy : Setting → Valuation → Sited → Option ℕ → Tree → Type 0
+IsNoneBy s valuation site pc t =
+    ((n : ℕ) × In (letters.P, n) (variables_of t) × (pc ≡ None)) ⊎ ((q : SitedPublic) × IsMentionedIn s site t q × (valuation q.site q.entry.value ≡ None))
 
-module _ (s : Setting) (worth : Worth) (site : Sited) (pc : Option ℕ) (t : Tree) (w : IsWellNamed s site t) where
+module _ (s : Setting) (valuation : Valuation) (site : Sited) (pc : Option ℕ) (t : Tree) (w : IsWellNamed s site t) where
   mapped : {A B : Type 0} (f : A → B) (o : Option A) → option_map f o ≡ None → o ≡ None
   mapped f None e = refl
   mapped f (Some x) e = absurd cc
 
   by_public : (n : ℕ) → In (letters.I, n) (variables_of t) → (o : Option SitedPublic) → slice_get s.publics (site.first_public + n) ≡ o
-      → worth_of worth o ≡ None → IsNoneBy s worth site pc t
+      → valuation_of valuation o ≡ None → IsNoneBy s valuation site pc t
   by_public n m None h e = absurd (w.named n m h)
   by_public n m (Some q) h e = inr (q, ((letters.I, n), In-Contains (letters.I, n) (variables_of t) m, h), e)
 
   by_name : (n : ℕ) → In (letters.X, n) (variables_of t) → (r : Reference) → slice_get site.parts.names.references n ≡ Some r
-      → (o : Option SitedPublic) → first_named s.publics r.name ≡ o → reference_value worth o (unmet_value s r) ≡ None → IsNoneBy s worth site pc t
+      → (o : Option SitedPublic) → first_named s.publics r.name ≡ o → reference_value valuation o (unresolved_value s r) ≡ None → IsNoneBy s valuation site pc t
   by_name n m r h None f e = absurd (w.met n r h f e)
   by_name n m r h (Some q) f e = inr (q, ((letters.X, n), In-Contains (letters.X, n) (variables_of t) m, ap (mentioned_reference s) h ∙ f), e)
 
   by_reference : (n : ℕ) → In (letters.X, n) (variables_of t) → (o : Option Reference) → slice_get site.parts.names.references n ≡ o
-      → worth_of_reference s worth o ≡ None → IsNoneBy s worth site pc t
+      → valuation_of_reference s valuation o ≡ None → IsNoneBy s valuation site pc t
   by_reference n m None h e = absurd (w.referred n m h)
   by_reference n m (Some r) h e = by_name n m r h (first_named s.publics r.name) refl e
 
-  by_variable : (l : Letter) (n : ℕ) → In (l, n) (variables_of t) → environment s worth site pc l n ≡ None → IsNoneBy s worth site pc t
+  by_variable : (l : Letter) (n : ℕ) → In (l, n) (variables_of t) → environment s valuation site pc l n ≡ None → IsNoneBy s valuation site pc t
   by_variable letters.R n m e = absurd (w.based n (inl m) e)
   by_variable letters.L n m e = absurd (w.based n (inr m) e)
   by_variable letters.S n m e = absurd (w.sectioned n m (mapped _ (slice_get s.sections (site.first_section + n)) e))
@@ -136,13 +137,14 @@ module _ (s : Setting) (worth : Worth) (site : Sited) (pc : Option ℕ) (t : Tre
 
 -- with some steps left an expression has no value only for these causes
 pub none_cause : (s : Setting) (k : ℕ) (site : Sited) (pc : Option ℕ) (t : Tree) → IsWellNamed s site t → value_within s k site pc t ≡ None
-    → IsNoneBy s (worth_below s k) site pc t ⊎ (divides_by_zero (value_within s k site pc) t ≡ true)
-none_cause s k site pc t w e = by_case (none-lost s.modulus (environment s (worth_below s k) site pc) t (sym (within_is s k site pc t) ∙ e)) where
-  by_case : LacksAValue (environment s (worth_below s k) site pc) t ⊎ (divides_by_zero (value_at s.modulus (environment s (worth_below s k) site pc)) t ≡ true)
-      → IsNoneBy s (worth_below s k) site pc t ⊎ (divides_by_zero (value_within s k site pc) t ≡ true)
-  by_case (inl h) = let there = lacking (environment s (worth_below s k) site pc) t h in
-      inl (by_variable s (worth_below s k) site pc t w there.0.0 there.0.1 there.1 there.2)
-  by_case (inr h) = inr (divides_by_zero-same (value_at s.modulus (environment s (worth_below s k) site pc)) (value_within s k site pc)
+    → IsNoneBy s (valuation_below s k) site pc t ⊎ (divides_by_zero (value_within s k site pc) t ≡ true)
+none_cause s k site pc t w e = by_case (none-lost s.modulus (environment s (valuation_below s k) site pc) t (sym (within_is s k site pc t) ∙ e)) where
+  by_case : LacksAValue (environment s (valuation_below s k) site pc) t ⊎
+      (divides_by_zero (value_at s.modulus (environment s (valuation_below s k) site pc)) t ≡ true)
+      → IsNoneBy s (valuation_below s k) site pc t ⊎ (divides_by_zero (value_within s k site pc) t ≡ true)
+  by_case (inl h) = let there = lacking (environment s (valuation_below s k) site pc) t h in
+      inl (by_variable s (valuation_below s k) site pc t w there.0.0 there.0.1 there.1 there.2)
+  by_case (inr h) = inr (divides_by_zero-same (value_at s.modulus (environment s (valuation_below s k) site pc)) (value_within s k site pc)
       (λ part. sym (within_is s k site pc part)) t h)
 
 -- a zero divisor at fewer steps is one at all
@@ -157,12 +159,12 @@ zero_divisor-le s k le site pc = divides_by_zero-keeps (value_within s k site pc
 pub zero_divisor-none : (s : Setting) (site : Sited) (pc : Option ℕ) (t : Tree) → has_zero_divisor s site pc t ≡ true → value s site pc t ≡ None
 zero_divisor-none s site pc t h =
     within_is s (length s.publics) site pc t
-    ∙ lost-none s.modulus (environment s (worth_below s (length s.publics)) site pc) t
+    ∙ lost-none s.modulus (environment s (valuation_below s (length s.publics)) site pc) t
     (inr (divides_by_zero-same (value_within s (length s.publics) site pc)
-    (value_at s.modulus (environment s (worth_below s (length s.publics)) site pc)) (within_is s (length s.publics) site pc) t h))
+    (value_at s.modulus (environment s (valuation_below s (length s.publics)) site pc)) (within_is s (length s.publics) site pc) t h))
 
 -- a value of a public that there is with fewer steps is there with all
-below_none : (s : Setting) (k : ℕ) → k ≤ length s.publics → (site : Sited) (t : Tree) → value s site None t ≡ None → worth_below s k site t ≡ None
+below_none : (s : Setting) (k : ℕ) → k ≤ length s.publics → (site : Sited) (t : Tree) → value s site None t ≡ None → valuation_below s k site t ≡ None
 below_none s zero le site t e = refl
 below_none s (suc k) le site t e = by_case (value_within s k site None t) refl where
   by_case : (o : Option ℕ) → value_within s k site None t ≡ o → o ≡ None
@@ -170,22 +172,22 @@ below_none s (suc k) le site t e = by_case (value_within s k site None t) refl w
   by_case (Some v) h = absurd (let there : value s site None t ≡ Some v = value_within-le s k (length s.publics) (omega (arith, le)) site None t v h in cc)
 
 variable-none : (s : Setting) (site : Sited) (pc : Option ℕ) (t : Tree) (v : Letter × ℕ) → In v (variables_of t)
-    → environment s (worth_below s (length s.publics)) site pc v.0 v.1 ≡ None → value s site pc t ≡ None
+    → environment s (valuation_below s (length s.publics)) site pc v.0 v.1 ≡ None → value s site pc t ≡ None
 variable-none s site pc t v m e =
-    within_is s (length s.publics) site pc t ∙ lost-none s.modulus (environment s (worth_below s (length s.publics)) site pc) t
-    (inl (lacks (environment s (worth_below s (length s.publics)) site pc) t v m e))
+    within_is s (length s.publics) site pc t ∙ lost-none s.modulus (environment s (valuation_below s (length s.publics)) site pc) t
+    (inl (lacks (environment s (valuation_below s (length s.publics)) site pc) t v m e))
 
-module _ (s : Setting) (worth : Worth) (site : Sited) (pc : Option ℕ) (q : SitedPublic) (e : worth q.site q.entry.value ≡ None) where
-  reference-none : (r : Option Reference) → mentioned_reference s r ≡ Some q → worth_of_reference s worth r ≡ None
+module _ (s : Setting) (valuation : Valuation) (site : Sited) (pc : Option ℕ) (q : SitedPublic) (e : valuation q.site q.entry.value ≡ None) where
+  reference-none : (r : Option Reference) → mentioned_reference s r ≡ Some q → valuation_of_reference s valuation r ≡ None
   reference-none None h = refl
-  reference-none (Some r) h = ap (λ o. reference_value worth o (unmet_value s r)) h ∙ e
+  reference-none (Some r) h = ap (λ o. reference_value valuation o (unresolved_value s r)) h ∙ e
 
-  mention-none : (l : Letter) (n : ℕ) → mentioned s site l n ≡ Some q → environment s worth site pc l n ≡ None
+  mention-none : (l : Letter) (n : ℕ) → mentioned s site l n ≡ Some q → environment s valuation site pc l n ≡ None
   mention-none letters.R n h = absurd cc
   mention-none letters.L n h = absurd cc
   mention-none letters.S n h = absurd cc
   mention-none letters.P n h = absurd cc
-  mention-none letters.I n h = ap (worth_of worth) h ∙ e
+  mention-none letters.I n h = ap (valuation_of valuation) h ∙ e
   mention-none letters.X n h = reference-none (slice_get site.parts.names.references n) h
 
 -- an expression that mentions a public without a value has none
@@ -194,7 +196,7 @@ pub mentioned-none : (s : Setting) (site : Sited) (pc : Option ℕ) (t : Tree) (
 mentioned-none s site pc t q m e =
     let least : length s.publics ≤ length s.publics = omega arith in
     variable-none s site pc t m.0 (Contains-In m.0 (variables_of t) m.1)
-    (mention-none s (worth_below s (length s.publics)) site pc q (below_none s (length s.publics) least q.site q.entry.value e) m.0.0 m.0.1 m.2)
+    (mention-none s (valuation_below s (length s.publics)) site pc q (below_none s (length s.publics) least q.site q.entry.value e) m.0.0 m.0.1 m.2)
 
 -- an expression that names a counter without a value has none
 pub counter-none : (s : Setting) (site : Sited) (pc : Option ℕ) (t : Tree) (n : ℕ) → Contains (variables_of t) (letters.P, n) → pc ≡ None

@@ -15,7 +15,8 @@ use Rattle.mufom_meaning.specs.Valued.{CounterPlace, counter_there, IsMentionedI
 use Rattle.mufom_meaning.proofs.Choices.{some_same, mapped_none}
 use Rattle.mufom_meaning.proofs.Members.{In, In-Contains}
 use Rattle.mufom_meaning.proofs.values.Ends.{EndsWithin, all_end, mentioned-among}
-use Rattle.mufom_meaning.proofs.values.Causes.{worth_below, IsWellNamed, IsNoneBy, none_cause, zero_divisor-le, zero_divisor-none, mentioned-none, counter-none}
+use Rattle.mufom_meaning.proofs.values.Causes.{valuation_below, IsWellNamed, IsNoneBy, none_cause}
+use Rattle.mufom_meaning.proofs.values.Causes.{zero_divisor-le, zero_divisor-none, mentioned-none, counter-none}
 use Rattle.mufom_meaning.specs.Cycles.{leads_from}
 use Rattle.mufom_loads.specs.Lengths.{byte_count}
 use Rattle.mufom_meaning.specs.Walk.{SitedTree, start_trees, debug_trees}
@@ -56,14 +57,15 @@ module _ (ms : List Parts) (s : Setting) (h : HasAllNamed ms s) where
       → value_within s k q.site None q.entry.value ≡ None
       → MeetsZeroDivisor s None q.site q.entry.value
   publics_meet zero le q a ends e = by_cause (none_cause s zero q.site None q.entry.value (h.publics q a).well e) where
-    by_cause : IsNoneBy s (worth_below s zero) q.site None q.entry.value ⊎ (divides_by_zero (value_within s zero q.site None) q.entry.value ≡ true)
+    by_cause : IsNoneBy s (valuation_below s zero) q.site None q.entry.value ⊎ (divides_by_zero (value_within s zero q.site None) q.entry.value ≡ true)
         → MeetsZeroDivisor s None q.site q.entry.value
     by_cause (inl (inl p)) = absurd ((h.publics q a).free p.0 p.1)
     by_cause (inl (inr m)) = absurd (ends m.0 m.1)
     by_cause (inr d) = itself None q.site q.entry.value (zero_divisor-le s zero le q.site None q.entry.value d)
   publics_meet (suc k) le q a ends e = by_cause (none_cause s (suc k) q.site None q.entry.value (h.publics q a).well e)
       (λ p m none. publics_meet k (omega (arith, le)) p (mentioned-among s q.site q.entry.value p m) (ends p m) none) where
-        by_cause : IsNoneBy s (worth_below s (suc k)) q.site None q.entry.value ⊎ (divides_by_zero (value_within s (suc k) q.site None) q.entry.value ≡ true)
+        by_cause : IsNoneBy s (valuation_below s (suc k)) q.site None q.entry.value
+            ⊎ (divides_by_zero (value_within s (suc k) q.site None) q.entry.value ≡ true)
             → ((p : SitedPublic) → IsMentionedIn s q.site q.entry.value p → value_within s k p.site None p.entry.value ≡ None
             → MeetsZeroDivisor s None p.site p.entry.value)
             → MeetsZeroDivisor s None q.site q.entry.value
@@ -80,12 +82,12 @@ module _ (ms : List Parts) (s : Setting) (h : HasAllNamed ms s) where
   why_with : (k : ℕ) → k ≤ length s.publics → (site : Sited) (pc : Option ℕ) (t : Tree) → IsWellNamed s site t → EndsWithin s k site t
       → value_within s k site pc t ≡ None → Why site pc t
   why_with zero le site pc t w ends e = by_cause (none_cause s zero site pc t w e) where
-    by_cause : IsNoneBy s (worth_below s zero) site pc t ⊎ (divides_by_zero (value_within s zero site pc) t ≡ true) → Why site pc t
+    by_cause : IsNoneBy s (valuation_below s zero) site pc t ⊎ (divides_by_zero (value_within s zero site pc) t ≡ true) → Why site pc t
     by_cause (inl (inl p)) = inl p
     by_cause (inl (inr m)) = absurd (ends m.0 m.1)
     by_cause (inr d) = inr (inr (zero_divisor-le s zero le site pc t d))
   why_with (suc k) le site pc t w ends e = by_cause (none_cause s (suc k) site pc t w e) where
-    by_cause : IsNoneBy s (worth_below s (suc k)) site pc t ⊎ (divides_by_zero (value_within s (suc k) site pc) t ≡ true) → Why site pc t
+    by_cause : IsNoneBy s (valuation_below s (suc k)) site pc t ⊎ (divides_by_zero (value_within s (suc k) site pc) t ≡ true) → Why site pc t
     by_cause (inl (inl p)) = inl p
     by_cause (inl (inr m)) = inr (inl (m.0, m.1, publics_meet k (omega (arith, le)) m.0 (mentioned-among s site t m.0 m.1) (ends m.0 m.1) m.2))
     by_cause (inr d) = inr (inr (zero_divisor-le s (suc k) le site pc t d))

@@ -7,7 +7,7 @@ use Rattle.mufom_expr.specs.Tree.{Tree, number, variable, one, two}
 use Rattle.mufom_expr.specs.Value.{Environment, value_at, both, one_value, two_value}
 use Rattle.mufom_names.specs.declared.name.Reference.{Reference}
 use Rattle.mufom_meaning.specs.Flat.{Sited, SitedPublic, first_named}
-use Rattle.mufom_meaning.specs.Values.{Setting, Worth, worth_of, unmet_value, reference_value, worth_of_reference, environment, value_within}
+use Rattle.mufom_meaning.specs.Values.{Setting, Valuation, valuation_of, unresolved_value, reference_value, valuation_of_reference, environment, value_within}
 
 -- what has a value has it in the other too
 abbrev Keeps : Option ℕ → Option ℕ → Type 0
@@ -31,18 +31,18 @@ value_at-keeps m env other k (two f a b) =
     keeps_both (two_value m f) (value_at m env a) (value_at m other a) (value_at m env b) (value_at m other b) (value_at-keeps m env other k a)
     (value_at-keeps m env other k b)
 
-module _ (s : Setting) (w v : Worth) (k : (site : Sited) (t : Tree) → Keeps (w site t) (v site t)) where
-  keeps_public : (q : Option SitedPublic) → Keeps (worth_of w q) (worth_of v q)
+module _ (s : Setting) (w v : Valuation) (k : (site : Sited) (t : Tree) → Keeps (w site t) (v site t)) where
+  keeps_public : (q : Option SitedPublic) → Keeps (valuation_of w q) (valuation_of v q)
   keeps_public None = λ x e. e
   keeps_public (Some q) = k q.site q.entry.value
 
-  keeps_named : (q : Option SitedPublic) (unmet : Option ℕ) → Keeps (reference_value w q unmet) (reference_value v q unmet)
-  keeps_named None unmet = λ x e. e
-  keeps_named (Some q) unmet = k q.site q.entry.value
+  keeps_named : (q : Option SitedPublic) (unresolved : Option ℕ) → Keeps (reference_value w q unresolved) (reference_value v q unresolved)
+  keeps_named None unresolved = λ x e. e
+  keeps_named (Some q) unresolved = k q.site q.entry.value
 
-  keeps_reference : (r : Option Reference) → Keeps (worth_of_reference s w r) (worth_of_reference s v r)
+  keeps_reference : (r : Option Reference) → Keeps (valuation_of_reference s w r) (valuation_of_reference s v r)
   keeps_reference None = λ x e. e
-  keeps_reference (Some r) = keeps_named (first_named s.publics r.name) (unmet_value s r)
+  keeps_reference (Some r) = keeps_named (first_named s.publics r.name) (unresolved_value s r)
 
   environment-keeps : (site : Sited) (pc : Option ℕ) (l : Letter) (n : ℕ) → Keeps (environment s w site pc l n) (environment s v site pc l n)
   environment-keeps site pc letters.R n = λ x e. e

@@ -25,9 +25,9 @@ use Rattle.mufom_module.specs.Defects.{IsValid, counts_of, names_outside, has_ba
 use Rattle.mufom_plan.specs.Names.{has_name}
 use Rattle.mufom_meaning.specs.Bases.{Bases, no_bases}
 use Rattle.mufom_meaning.specs.Flat.{Sited, sited_from, sited, SitedPublic, sited_publics, flat_sections, flat_publics, flat_references, public_names}
-use Rattle.mufom_meaning.specs.Flat.{first_named, name_count, is_strong, is_common, common_size, same_common, unmet_references, needs, commons}
+use Rattle.mufom_meaning.specs.Flat.{first_named, name_count, is_strong, is_common, common_size, same_common, unresolved_references, needs, commons}
 use Rattle.mufom_meaning.specs.Flat.{common_names}
-use Rattle.mufom_meaning.specs.Values.{Setting, setting, default_of, unmet_value}
+use Rattle.mufom_meaning.specs.Values.{Setting, setting, default_of, unresolved_value}
 use Rattle.mufom_meaning.specs.Cycles.{mentioned, mentioned_reference, is_or_leads, leads_within, leads_from, IsOnCycle}
 use Rattle.mufom_meaning.specs.Steps.{Step, counter_step, item_step, item_steps, steps_of, steps}
 use Rattle.mufom_meaning.specs.Walk.{SitedTree, start_trees, debug_trees}
@@ -164,10 +164,10 @@ same_common-decides c d e =
 -- A reference that no public meets has the base of its common or a default, where nothing is undefined and each common has a base.
 met_or_default : (ms : List Parts) (bs : Bases) → ((name : List ℕ) → ¬ (StandsIn name (needs ms) × (has_name (common_names ms) name ≡ false)))
     → ((name : List ℕ) → has_name (common_names ms) name ≡ true → bs.commons name ≡ None → ⊥)
-    → (r : Reference) → In r (flat_references ms) → first_named (flat_publics ms) r.name ≡ None → unmet_value (setting ms bs) r ≡ None → ⊥
+    → (r : Reference) → In r (flat_references ms) → first_named (flat_publics ms) r.name ≡ None → unresolved_value (setting ms bs) r ≡ None → ⊥
 met_or_default ms bs defined placed r h e = by_common (has_name (common_names ms) r.name) refl where
-  unmet : In r (unmet_references ms)
-  unmet = In-filter (λ reference. not (has_name (public_names ms) reference.name)) r (ap not (unnamed ms r.name e)) (flat_references ms) h
+  unresolved : In r (unresolved_references ms)
+  unresolved = In-filter (λ reference. not (has_name (public_names ms) reference.name)) r (ap not (unnamed ms r.name e)) (flat_references ms) h
 
   by_size : has_name (common_names ms) r.name ≡ false → (weak : Weak) → r.weak ≡ Some weak → (b : Bool) → (weak.size == 0) ≡ b
       → (if b then Some weak.default else None) ≡ None → ⊥
@@ -175,9 +175,9 @@ met_or_default ms bs defined placed r h e = by_common (has_name (common_names ms
   by_size none weak f false g n =
       let common : is_common r ≡ true = ap (λ w. not (common_size w == 0)) f ∙ ap not g in
       let there = In-distinct same_common same_common-decides (r.name, common_size r.weak)
-      (map (λ reference. (reference.name, common_size reference.weak)) (filter is_common (unmet_references ms)))
-      (In-map (λ reference. (reference.name, common_size reference.weak)) r (filter is_common (unmet_references ms))
-      (In-filter is_common r common (unmet_references ms) unmet)) in
+      (map (λ reference. (reference.name, common_size reference.weak)) (filter is_common (unresolved_references ms)))
+      (In-map (λ reference. (reference.name, common_size reference.weak)) r (filter is_common (unresolved_references ms))
+      (In-filter is_common r common (unresolved_references ms) unresolved)) in
       let named : has_name (common_names ms) r.name ≡ true
       = passes-In (bytes_eq r.name) (common_names ms) r.name (In-map (λ common. common.0) (r.name, common_size r.weak) (commons ms) there)
       ((bytes_eq-Decides r.name r.name).1 refl) in cc
@@ -185,8 +185,10 @@ met_or_default ms bs defined placed r h e = by_common (has_name (common_names ms
   by_weak : has_name (common_names ms) r.name ≡ false → (o : Option Weak) → r.weak ≡ o → default_of o ≡ None → ⊥
   by_weak none None f n =
       let strong : is_strong r ≡ true = ap (λ (o : Option Weak). is_none o) f in
-      let there = In-distinct bytes_eq (λ x y. (bytes_eq-Decides x y).0) r.name (map (λ reference. reference.name) (filter is_strong (unmet_references ms)))
-      (In-map (λ reference. reference.name) r (filter is_strong (unmet_references ms)) (In-filter is_strong r strong (unmet_references ms) unmet)) in
+      let there = In-distinct bytes_eq (λ x y. (bytes_eq-Decides x y).0) r.name
+      (map (λ reference. reference.name) (filter is_strong (unresolved_references ms)))
+      (In-map (λ reference. reference.name) r (filter is_strong (unresolved_references ms))
+      (In-filter is_strong r strong (unresolved_references ms) unresolved)) in
       defined r.name (at-In r.name (needs ms) there, none)
   by_weak none (Some weak) f n = by_size none weak f (weak.size == 0) refl n
 

@@ -2,9 +2,9 @@ use Rattle.std.proofs.Common.{◌≡◌, ◌∙◌, ◌<◌, List, ap, sym, leng
 use Rattle.mufom_sections.specs.declared.section.Section.{Section}
 use Rattle.mufom_names.specs.declared.name.Reference.{Reference}
 use Rattle.mufom_module.specs.declared.module.Parts.{Parts}
-use Rattle.mufom_image_values.specs.declared.meetings.Meeting.{Meeting}
-use Rattle.mufom_image_values.specs.Meetings.{meeting_of}
-use Rattle.mufom_image_values.proofs.CommonLaws.{meeting-at}
+use Rattle.mufom_image_values.specs.declared.resolutions.Resolution.{Resolution}
+use Rattle.mufom_image_values.specs.Resolutions.{resolution_of}
+use Rattle.mufom_image_values.proofs.CommonLaws.{resolution-at}
 use Rattle.std.proofs.lemmas.List.{take_all}
 use Rattle.std.proofs.lemmas.Option.{slice_get-get_or}
 use Rattle.mufom_image.specs.Rooms.{room_of, with_asked}
@@ -22,8 +22,8 @@ loop-place-preserved c =
     let is : get_or m.names.references k r ≡ r = ap (λ (rs : List Reference). get_or rs k r) (sym all) ∙ sym c.index-references-place.is in
     let at = slice_get-get_or m.names.references k r inside ∙ ap Some is in
     c.in_ok-make_room.ensures
-    ∙ ap (λ (met : Meeting). with_asked c.loop-place.commons.items (room_of met r.weak) r.name) (meeting-at m c.args.meetings.now k _ r c.requires at)
-    ∙ ap (λ (sections : List Section). with_asked sections (room_of (meeting_of m r) r.weak) r.name) c.loop-place.invariant
+    ∙ ap (λ (met : Resolution). with_asked c.loop-place.commons.items (room_of met r.weak) r.name) (resolution-at m c.args.resolutions.now k _ r c.requires at)
+    ∙ ap (λ (sections : List Section). with_asked sections (room_of (resolution_of m r) r.weak) r.name) c.loop-place.invariant
     ∙ asked-step m k r inside is
 
 pub returns : goal.returns

@@ -32,8 +32,8 @@ returns-in_err-components-clause-refused c =
     let p = err_from_is_err_and c.from_residual-in_err-components.result c.from_residual-in_err-components.ensures.1 in
     rw (p.1, p.2) (judged-answered c.args.module.now c.args.plan.now none c.in_err-components.field-0.0 c.in_err-components.ensures.refused)
 
-pub settled-requires : goal.settled-requires
-settled-requires c =
+pub public_values-requires : goal.public_values-requires
+public_values-requires c =
     let there = placed-there _ _ _ _ _ c.in_ok-sections.ensures.placed c.as_slice.ensures in
     placed-acyclic _ _ _ _ c.placed_module-placed.ensures c.requires.names _ _ there c.in_ok-components.ensures.ok c.requires.met
 

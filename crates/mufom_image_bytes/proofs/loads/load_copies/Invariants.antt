@@ -6,8 +6,8 @@ use Rattle.mufom_image_bytes.specs.Walks.{progress_of}
 use Rattle.mufom_image_bytes.proofs.loads.load_copies.Given as goal
 
 abbrev pub invariant-loop : goal.invariant-loop
-invariant-loop g l = let worth = g.V.Values.meaning l.values l.layout.width in record {
+invariant-loop g l = let valuation = g.V.Values.meaning l.values l.layout.width in record {
   tiled : IsTiled l.walk.loaded;
-  outcome : items_outcome l.layout worth l.section (repeated l.count (map (λ item. item.now) l.items)) (progress_of l.fn.walk)
-      ≡ items_outcome l.layout worth l.section (repeated (l.count - l.counter) (map (λ item. item.now) l.items)) (progress_of l.walk);
+  outcome : items_outcome l.layout valuation l.section (repeated l.count (map (λ item. item.now) l.items)) (progress_of l.fn.walk)
+      ≡ items_outcome l.layout valuation l.section (repeated (l.count - l.counter) (map (λ item. item.now) l.items)) (progress_of l.walk);
 }

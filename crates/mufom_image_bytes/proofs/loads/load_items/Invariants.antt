@@ -5,8 +5,8 @@ use Rattle.mufom_image_bytes.specs.Walks.{progress_of}
 use Rattle.mufom_image_bytes.proofs.loads.load_items.Given as goal
 
 abbrev pub invariant-loop-item : goal.invariant-loop-item
-invariant-loop-item g l = let worth = g.V.Values.meaning l.values l.layout.width in record {
+invariant-loop-item g l = let valuation = g.V.Values.meaning l.values l.layout.width in record {
   tiled : IsTiled l.walk.loaded;
-  outcome : items_outcome l.layout worth l.section (map (λ item. item.now) l.items) (progress_of l.fn.walk)
-      ≡ items_outcome l.layout worth l.section (map (λ item. item.now) (drop l.item-index l.items)) (progress_of l.walk);
+  outcome : items_outcome l.layout valuation l.section (map (λ item. item.now) l.items) (progress_of l.fn.walk)
+      ≡ items_outcome l.layout valuation l.section (map (λ item. item.now) (drop l.item-index l.items)) (progress_of l.walk);
 }

@@ -5,8 +5,8 @@ use Rattle.mufom_image_bytes.specs.Walks.{progress_of, first_counters}
 use Rattle.mufom_image_bytes.proofs.loads.walked.Given as goal
 
 abbrev pub invariant-loop-load : goal.invariant-loop-load
-invariant-loop-load g l = let worth = g.V.Values.meaning l.values l.layout.width in record {
+invariant-loop-load g l = let valuation = g.V.Values.meaning l.values l.layout.width in record {
   tiled : IsTiled l.walk.loaded;
-  outcome : loads_outcome l.layout worth None l.loads (progress_at_first (first_counters l.layout))
-      ≡ loads_outcome l.layout worth l.current (drop l.load-index l.loads) (progress_of l.walk);
+  outcome : loads_outcome l.layout valuation None l.loads (progress_at_first (first_counters l.layout))
+      ≡ loads_outcome l.layout valuation l.current (drop l.load-index l.loads) (progress_of l.walk);
 }

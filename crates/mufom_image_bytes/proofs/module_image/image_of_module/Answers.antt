@@ -16,24 +16,24 @@ pub returns-clause-image : goal.returns-clause-image
 returns-clause-image g c =
     let m = c.args.parts.now in
     let bases = c.args.bases.now in
-    let worth = g.V.Values.meaning c.args.values.now in
+    let valuation = g.V.Values.meaning c.args.values.now in
     let layout : Layout = record { sections = c.as_slice.result; bases = c.args.bases; width = 8 * c.from.result; order = m.order } in
     let wide : 8 * c.from.result ≡ 8 * m.maus = ap (λ n. 8 * n) c.from.ensures in
     let loads = c.as_slice-2.ensures in
     IfOk-weaker c.image_of.result _ _
-    (λ runs image. module_image m c.requires layout bases (worth (8 * m.maus)) wide refl c.as_slice.ensures refl runs
-    (subst (λ (x : ℕ × List Load). IsImageOf layout (worth x.0) x.1 runs) (λ i. (wide i, loads i)) image))
+    (λ runs image. module_image m c.requires layout bases (valuation (8 * m.maus)) wide refl c.as_slice.ensures refl runs
+    (subst (λ (x : ℕ × List Load). IsImageOf layout (valuation x.0) x.1 runs) (λ i. (wide i, loads i)) image))
     c.image_of.ensures.image
 
 pub returns-clause-refusal : goal.returns-clause-refusal
 returns-clause-refusal g c =
     let m = c.args.parts.now in
     let bases = c.args.bases.now in
-    let worth = g.V.Values.meaning c.args.values.now in
+    let valuation = g.V.Values.meaning c.args.values.now in
     let layout : Layout = record { sections = c.as_slice.result; bases = c.args.bases; width = 8 * c.from.result; order = m.order } in
     let wide : 8 * c.from.result ≡ 8 * m.maus = ap (λ n. 8 * n) c.from.ensures in
     let loads = c.as_slice-2.ensures in
     IfErr-weaker c.image_of.result _ _
-    (λ refusal there. module_refusal m c.requires layout bases (worth (8 * m.maus)) wide refl c.as_slice.ensures refusal
-    (subst (λ (x : ℕ × List Load). IsRefusalOf layout (worth x.0) x.1 refusal) (λ i. (wide i, loads i)) there))
+    (λ refusal there. module_refusal m c.requires layout bases (valuation (8 * m.maus)) wide refl c.as_slice.ensures refusal
+    (subst (λ (x : ℕ × List Load). IsRefusalOf layout (valuation x.0) x.1 refusal) (λ i. (wide i, loads i)) there))
     c.image_of.ensures.refusal

@@ -7,7 +7,7 @@ use Rattle.mufom_image_values.proofs.cycles.first_on_circle.Goals as goal
 
 pub loop-position-preserved-then-leads_down : goal.loop-position-preserved-then-leads_down
 loop-position-preserved-then-leads_down c =
-    let steps = edges c.args.graph.now.meetings.now c.args.graph.now.parts.now.names.publics in
+    let steps = edges c.args.graph.now.resolutions.now c.args.graph.now.parts.now.names.publics in
     let number = number_at c.as_slice-numbers.result.now in
     let position = c.loop-position.position in
     let falls = c.never_rises-falling.ensures c.if-falling.true in
@@ -16,7 +16,7 @@ loop-position-preserved-then-leads_down c =
 
 pub loop-position-preserved : goal.loop-position-preserved
 loop-position-preserved c =
-    let steps = edges c.args.graph.now.meetings.now c.args.graph.now.parts.now.names.publics in
+    let steps = edges c.args.graph.now.resolutions.now c.args.graph.now.parts.now.names.publics in
     let back = c.in_ok-leads_back.ensures in
     let fails = c.if-branch.false in
     below_more (λ n. ¬ IsOnCircle steps n) c.loop-position.position c.loop-position.invariant

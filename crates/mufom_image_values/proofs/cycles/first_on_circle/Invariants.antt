@@ -5,4 +5,4 @@ use Rattle.mufom_image_values.proofs.cycles.first_on_circle.Given as goal
 
 -- no position so far lies on a circle
 abbrev pub invariant-loop-position : goal.invariant-loop-position
-invariant-loop-position l = (n : ℕ) → n < l.position → ¬ IsOnCircle (edges l.graph.meetings.now l.graph.parts.now.names.publics) n
+invariant-loop-position l = (n : ℕ) → n < l.position → ¬ IsOnCircle (edges l.graph.resolutions.now l.graph.parts.now.names.publics) n

@@ -18,7 +18,7 @@ first_on_circle-requires-clause-closed c = graph-closed c.args.graph.now c.requi
 pub returns-in-Some : goal.returns-in-Some
 returns-in-Some c =
     let publics = c.args.graph.now.parts.now.names.publics in
-    let steps = edges c.args.graph.now.meetings.now publics in
+    let steps = edges c.args.graph.now.resolutions.now publics in
     let n = c.in-Some.position in
     let p = c.index-publics-position.result in
     let first = subst (IsFirstOnCircle steps (length publics)) c.in-Some.is c.in_ok-position.ensures in

@@ -8,13 +8,13 @@ use Rattle.mufom_image_values.proofs.cycles.follow.Goals as goal
 
 pub mark-requires : goal.mark-requires
 mark-requires c =
-    let inside = c.requires c.in-Some.next (mention-at c.args.graph.now.meetings.now c.args.tokens.now c.loop-token.token-index _ c.in-Some.next
+    let inside = c.requires c.in-Some.next (mention-at c.args.graph.now.resolutions.now c.args.tokens.now c.loop-token.token-index _ c.in-Some.next
     c.loop-token-test.true (sym c.in-Some.is ∙ c.mentioned.ensures)) in
     omega (arith, inside, c.loop-token.invariant.1)
 
 pub loop-token-preserved : goal.loop-token-preserved
 loop-token-preserved c =
-    let met = c.args.graph.now.meetings.now in
+    let met = c.args.graph.now.resolutions.now in
     let tokens = c.args.tokens.now in
     let i = c.loop-token.token-index in
     let begun = search_of c.args.marks.now.items c.args.pending.now.items in

@@ -9,13 +9,13 @@ use Rattle.mufom_image_values.proofs.cycles.leads_back.Goals as goal
 
 pub follow-requires : goal.follow-requires
 follow-requires c n h =
-    let met = c.args.graph.now.meetings.now in
+    let met = c.args.graph.now.resolutions.now in
     let inside = c.requires.closed c.args.position n (subst (λ (ts : List Token). Contains (mentions_of met ts) n) c.tokens.ensures.tokens h) in
     omega (arith, inside, c.in_ok-marks.ensures.len, ap length c.publics.ensures)
 
 pub loop-public-init : goal.loop-public-init
 loop-public-init c =
-    let met = c.args.graph.now.meetings.now in
+    let met = c.args.graph.now.resolutions.now in
     let publics = c.args.graph.now.parts.now.names.publics in
     let count = length publics in
     let origin = c.args.position in
@@ -29,13 +29,13 @@ loop-public-init c =
 
 pub follow-requires-in-Some : goal.follow-requires-in-Some
 follow-requires-in-Some c n h =
-    let met = c.args.graph.now.meetings.now in
+    let met = c.args.graph.now.resolutions.now in
     let inside = c.requires.closed c.in-Some.public n (subst (λ (ts : List Token). Contains (mentions_of met ts) n) c.tokens-in-Some.ensures.tokens h) in
     omega (arith, inside, c.loop-public.invariant.size)
 
 pub loop-public-smaller : goal.loop-public-smaller
 loop-public-smaller c =
-    let met = c.args.graph.now.meetings.now in
+    let met = c.args.graph.now.resolutions.now in
     let publics = c.args.graph.now.parts.now.names.publics in
     let count = length publics in
     let marks = c.loop-public.marks.items in
@@ -51,7 +51,7 @@ loop-public-smaller c =
 
 pub loop-public-preserved : goal.loop-public-preserved
 loop-public-preserved c =
-    let met = c.args.graph.now.meetings.now in
+    let met = c.args.graph.now.resolutions.now in
     let publics = c.args.graph.now.parts.now.names.publics in
     let count = length publics in
     let marks = c.loop-public.marks.items in
@@ -65,7 +65,7 @@ loop-public-preserved c =
 
 pub returns : goal.returns
 returns c =
-    let met = c.args.graph.now.meetings.now in
+    let met = c.args.graph.now.resolutions.now in
     let publics = c.args.graph.now.parts.now.names.publics in
     let s = search_of c.loop-public.marks.items c.loop-public.pending.items in
     let empty : c.loop-public.pending.items ≡ [] = nil_from_length _ (omega (arith, c.in_default.ensures.cases.0)) in

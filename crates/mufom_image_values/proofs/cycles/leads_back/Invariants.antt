@@ -7,7 +7,7 @@ use Rattle.mufom_image_values.proofs.cycles.leads_back.Given as goal
 -- the marks and what is still to be followed are those of a search from the position
 abbrev pub invariant-loop-public : goal.invariant-loop-public
 invariant-loop-public l =
-    IsSearching (edges l.graph.meetings.now l.graph.parts.now.names.publics) (length l.graph.parts.now.names.publics) l.position
+    IsSearching (edges l.graph.resolutions.now l.graph.parts.now.names.publics) (length l.graph.parts.now.names.publics) l.position
     (search_of l.marks.items l.pending.items)
 
 -- each turn leaves less to do

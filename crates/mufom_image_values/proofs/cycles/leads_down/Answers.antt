@@ -8,7 +8,7 @@ use Rattle.mufom_image_values.proofs.cycles.leads_down.Goals as goal
 
 pub returns : goal.returns
 returns c =
-    let met = c.args.graph.now.meetings.now in
+    let met = c.args.graph.now.resolutions.now in
     let number = number_at c.args.numbers.now in
     let down = λ (own : ℕ) (token : Token). is_down number own c.args.strictly (mentioned_in met token) in
     c.all_down.ensures
