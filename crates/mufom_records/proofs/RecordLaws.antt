@@ -1,5 +1,5 @@
 -- Records are read exactly, and a longer input changes no answer but More.
-use Rattle.std.proofs.Common.{◌≡◌, ℕ, ◌+◌, ◌≤◌, List, [], ◌∷◌, ◌++◌, length, take, drop, None, Ok, Err, refl, sym, ap, subst, ◌∙◌, arith, append_assoc}
+use Rattle.std.proofs.Common.{◌≡◌, ℕ, ◌+◌, ◌≤◌, List, [], ◌∷◌, ◌++◌, length, take, drop, None, Ok, Err, IfOk, refl, sym, ap, subst, ◌∙◌, arith, append_assoc}
 use Rattle.std.proofs.lemmas.List.{length-append, length-take, take-append-drop, take_at}
 use Rattle.mufom_numbers.specs.declared.reason.Reason.{Reason}
 use Rattle.mufom_numbers.specs.declared.taken.Taken.{Taken}
@@ -111,6 +111,38 @@ stated_more mode input answer (states_bad offset reason has) same = let wrong : 
 
 pub more-record_at : (mode : Mode) (input : List ℕ) → AreBytes input → record_at mode input ≡ taken.More → IsCutOffRecord mode input
 more-record_at mode input fits e = stated_more mode input (record_at mode input) (states mode input fits) e
+
+-- ---- the same of what was read, before it is an answer
+
+got_ok : (P : Record → ℕ → Type 0) (answer : Reading Record) → IfGot (as_taken answer) P → IfOk answer (λ r. P r.0 r.1)
+got_ok P (Ok (row, used)) has = has
+got_ok P (Err More) has = tt
+got_ok P (Err (Bad offset reason)) has = tt
+
+pub read_at-whole : (mode : Mode) (input : List ℕ) → AreBytes input → IfOk (read (layout_of mode) input 0)
+    (λ r. (r.1 ≤ length input) × IsWholeRecord mode r.0 (take r.1 input) (first_of (drop r.1 input) None))
+read_at-whole mode input fits =
+    got_ok (λ row used. (used ≤ length input) × IsWholeRecord mode row (take used input) (first_of (drop used input) None)) (read (layout_of mode) input 0)
+    (record_at-got mode input fits)
+
+pub read_at-only : (mode : Mode) (input : List ℕ) (row : Record) (text rest : List ℕ) → IsWholeRecord mode row text (first_of rest None) → input
+    ≡ text ++ rest → read (layout_of mode) input 0 ≡ Ok (row, length text)
+read_at-only mode input row text rest is split = let none : 0 + length text ≡ length text = omega arith in
+    rw (read-only exact (layout_of mode) input 0 row text rest is split, none) refl
+
+pub bad-read_at : (mode : Mode) (input : List ℕ) → AreBytes input → (offset : ℕ) (reason : Reason)
+    → read (layout_of mode) input 0 ≡ Err (Bad offset reason) → IsFaulty mode input offset reason
+bad-read_at mode input fits offset reason e = bad-record_at mode input fits offset reason (ap (λ a. as_taken a) e)
+
+pub read_at-bad : (mode : Mode) (input : List ℕ) (offset : ℕ) (reason : Reason) → IsFaulty mode input offset reason
+    → read (layout_of mode) input 0 ≡ Err (Bad offset reason)
+read_at-bad mode input offset reason has = read-fault exact (layout_of mode) input 0 offset reason has
+
+pub more-read_at : (mode : Mode) (input : List ℕ) → AreBytes input → read (layout_of mode) input 0 ≡ Err More → IsCutOffRecord mode input
+more-read_at mode input fits e = more-record_at mode input fits (ap (λ a. as_taken a) e)
+
+pub read_at-more : (mode : Mode) (input : List ℕ) → IsCutOffRecord mode input → read (layout_of mode) input 0 ≡ Err More
+read_at-more mode input ends = read-ends exact (layout_of mode) input 0 ends
 
 -- ---- laws
 

@@ -20,6 +20,7 @@ pub use laws::{
     bytes_determine_the_record, incomplete_inputs_are_short, longer_inputs_answer_the_same,
     whole_records_at_one_place_are_one,
 };
-pub use next::next_record;
+pub use next::{next_record, read_record};
 pub use postfix::postfix_of;
 pub use record::{BlockTail, Mode, Record};
+pub use stop::Stop;

@@ -1,6 +1,6 @@
 //! The record that stands next, by its code.
 
-ghost use Rattle.std.specs.Prelude.{◌≡◌, ◌↔◌, ◌≤◌, ℕ, List, ◌++◌, length, take, drop, None, IfOk};
+ghost use Rattle.std.specs.Prelude.{◌≡◌, ◌↔◌, ◌≤◌, ℕ, List, ◌++◌, length, take, drop, None, Ok, Err, IfOk};
 ghost use Rattle.mufom_numbers.specs.declared.codes.TheConstants.{ASSIGNMENT, DESCRIPTOR, LETTER_W, MODULE_BEGIN};
 ghost use Rattle.mufom_numbers.specs.declared.reason.Reason.{Reason};
 ghost use Rattle.mufom_numbers.specs.Spelling.{IfGot};
@@ -160,11 +160,32 @@ fn record(input: &[u8], mode: Mode) -> Read
     }
 }
 
+/// Reads the record at the start of the input that is expected in this mode, and returns it with its length in bytes.
+/// Does not allocate.
+///
+/// This is [`next_record`] with a `Result`, for callers that go on with the record at once. An error is that the input
+/// ends too early, or the first error from the left with its offset.
+pub fn read_record(input: &[u8], mode: Mode) -> Result<(Record, usize), Stop>
+    // The bytes that were read are a prefix of the input, and a whole record before the byte that follows.
+    ensures whole { IfOk result (λ r. (r.1 ≤ length input.now)
+        × IsWholeRecord mode r.0 (take r.1 input.now) (first_of (drop r.1 input.now) None)) }
+    // An input that begins with a whole record results in it.
+    ensures only { (row : Record) (text rest : List ℕ) → IsWholeRecord mode row text (first_of rest None) → input.now ≡ text ++ rest
+        → result ≡ Ok (row, length text) }
+    ensures bad { (offset : ℕ) (reason : Reason) → (result ≡ Err (Stop.Bad offset reason)) ↔ IsFaulty mode input.now offset reason }
+    ensures more { (result ≡ Err Stop.More) ↔ IsCutOffRecord mode input.now }
+    // What the record names by its position is within the input, and its expressions are expressions.
+    ensures parts { IfOk result (λ r. HasParts input.now r.0) }
+    ensures exact { result ≡ read (layouts.layout_of mode) input.now 0 }
+{
+    record(input, mode)
+}
+
 fn next(input: &[u8], mode: Mode) -> Taken<Record>
     ensures exact { result ≡ record_at mode input.now }
     ensures parts { IfGot result (λ row used. HasParts input.now row) }
 {
-    match record(input, mode) {
+    match read_record(input, mode) {
         Ok((record, used)) => Taken::Got(record, used),
         Err(Stop::More) => Taken::More,
         Err(Stop::Bad { offset, reason }) => Taken::Bad { offset, reason },

@@ -1,10 +1,10 @@
 use mufom_numbers::Reason;
 
-/// Why no value was read.
+/// Why no record was read: `More` of the prefix of a record without an error, and `Bad` of any other input.
 #[derive(Clone, Copy, Debug, PartialEq, Eq)]
-pub(crate) enum Stop {
+pub enum Stop {
     /// The input ends too early.
     More,
-    /// A fault at this position.
+    /// The first error, and the offset of the byte at which it is reported.
     Bad { offset: usize, reason: Reason },
 }
