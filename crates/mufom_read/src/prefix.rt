@@ -27,8 +27,8 @@ use crate::seen::SeenRecord;
 use crate::tables::Tables;
 use crate::whole::whole_fault;
 use mufom_expr::Postfix;
-use mufom_numbers::{List, NoMemory, Reason, Taken, codes};
-use mufom_records::{Mode, Record, next_record};
+use mufom_numbers::{List, NoMemory, Reason, codes};
+use mufom_records::{Mode, Record, Stop, read_record};
 use std::alloc::Global;
 
 // The record of the header after which no further one comes.
@@ -427,8 +427,8 @@ impl Prefix {
             (prefixes.as_step (prefixes.size_of prefix) rest.now
             (record_at (mode_at prefix (as_location place) rest.now) rest.now)) rest.now self.new next) }
     {
-        match next_record(rest, self.mode(place, rest)) {
-            Taken::Got(row, used) => {
+        match read_record(rest, self.mode(place, rest)) {
+            Ok((row, used)) => {
                 let next = SeenRecord {
                     start: self.size,
                     row: &row,
@@ -436,8 +436,8 @@ impl Prefix {
                 };
                 self.take(alloc, place, &next)
             }
-            Taken::More => Ok(Next::More),
-            Taken::Bad { offset, reason } => Ok(Next::Refused(ReadRefusal {
+            Err(Stop::More) => Ok(Next::More),
+            Err(Stop::Bad { offset, reason }) => Ok(Next::Refused(ReadRefusal {
                 place: self.size + offset as u64,
                 reason,
             })),

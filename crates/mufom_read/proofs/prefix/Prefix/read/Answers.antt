@@ -1,9 +1,10 @@
-use Rattle.std.proofs.Common.{ℕ, List, ◌+◌, ◌∙◌, ap, refl, sym, subst, arith, take, drop, None, Some, ◌<◌}
+use Rattle.std.proofs.Common.{ℕ, List, ◌+◌, ◌∙◌, ap, sym, subst, arith, take, drop, None, Some, Err, ◌<◌}
 use Rattle.mufom_records.specs.declared.record.Mode.{Mode}
+use Rattle.mufom_records.specs.declared.stop.Stop.{Stop}
 use Rattle.mufom_records.specs.Fields.{first_of}
 use Rattle.mufom_records.specs.Layouts.{IsWholeRecord}
 use Rattle.mufom_records.specs.Parts.{HasParts}
-use Rattle.mufom_records.specs.Reading.{record_at}
+use Rattle.mufom_records.specs.Reading.{as_taken, record_at}
 use Rattle.mufom_read.specs.Prefixes.{size_of, as_step}
 use Rattle.mufom_read.specs.Faults.{step_fault}
 use Rattle.mufom_read.specs.Kept.{as_record}
@@ -15,40 +16,45 @@ use Rattle.mufom_read.proofs.stepping.Judge.{taken-judged, taken_length}
 use Rattle.mufom_read.proofs.prefix.Prefix.read.Goals as goal
 
 pub take-requires-clause-own : goal.take-requires-clause-own
-take-requires-clause-own c = subst (λ (b : List ℕ). HasParts b c.in-Got.row) (sym c.prefix_of.ensures) (got-own _ _ _ _ c.in-Got.ensures.got.1)
+take-requires-clause-own c = subst (λ (b : List ℕ). HasParts b c.in-Ok.row) (sym c.prefix_of.ensures) (got-own _ _ _ _ c.in-Ok.ensures.whole.1)
 
 pub take-requires-clause-placed : goal.take-requires-clause-placed
 take-requires-clause-placed c =
     let prefix = c.requires.known.0 in
     let rest = c.args.rest.now in
     got-placed prefix c.args.place rest _ _ _
-    (subst (λ (m : Mode). IsWholeRecord m c.in-Got.row (take c.in-Got.used rest) (first_of (drop c.in-Got.used rest) None))
-    (c.mode.ensures prefix c.requires.known.1) c.in-Got.ensures.got.1)
+    (subst (λ (m : Mode). IsWholeRecord m c.in-Ok.row (take c.in-Ok.used rest) (first_of (drop c.in-Ok.used rest) None))
+    (c.mode.ensures prefix c.requires.known.1) c.in-Ok.ensures.whole.1)
 
 pub overflow_add-result : goal.overflow_add-result
-overflow_add-result c = let within = bad-within c.mode.result c.args.rest.now c.in-Bad.offset c.in-Bad.reason
-    ((c.in-Bad.ensures.bad c.in-Bad.offset c.in-Bad.reason).0 refl) in omega (arith, within, c.requires.fits)
+overflow_add-result c = let within = bad-within c.mode.result c.args.rest.now c.in-Err-Bad.offset c.in-Err-Bad.reason
+    ((c.in-Err-Bad.ensures.bad c.in-Err-Bad.offset c.in-Err-Bad.reason).0 (ap (λ (stop : Stop). Err stop) c.in-Err-Bad.field-0-is)) in omega (arith, within, c.requires.fits)
 
-pub returns-in-Got : goal.returns-in-Got
-returns-in-Got c = if_ok _ _ c.take.result (λ done taken. λ prefix is at.
+pub returns-in-Ok : goal.returns-in-Ok
+returns-in-Ok c = if_ok _ _ c.take.result (λ done taken. λ prefix is at.
     let rest = c.args.rest.now in
-    let within = c.in-Got.ensures.got.0 in
-    taken-judged prefix rest (record_at (mode_at prefix (as_location c.args.place) rest) rest) c.in-Got.row c.in-Got.used c.args.self.now.size _ _ done
-    (sym (c.in-Got.ensures.exact ∙ ap (λ (m : Mode). record_at m rest) (c.mode.ensures prefix is)))
+    let within = c.in-Ok.ensures.whole.0 in
+    taken-judged prefix rest (record_at (mode_at prefix (as_location c.args.place) rest) rest) c.in-Ok.row c.in-Ok.used c.args.self.now.size _ _ done
+    (sym (ap (λ r. as_taken r) c.in-Ok.ensures.exact ∙ ap (λ (m : Mode). record_at m rest) (c.mode.ensures prefix is)))
     within
-    (subst (λ k. 0 < k) (taken_length c.in-Got.used rest within) (got-some _ _ _ _ c.in-Got.ensures.got.1))
+    (subst (λ k. 0 < k) (taken_length c.in-Ok.used rest within) (got-some _ _ _ _ c.in-Ok.ensures.whole.1))
     is.size
-    (ap (λ b. as_record c.in-Got.row b) c.prefix_of.ensures)
+    (ap (λ b. as_record c.in-Ok.row b) c.prefix_of.ensures)
     (taken prefix is at)) c.take.ensures
 
-pub returns-in-More : goal.returns-in-More
-returns-in-More c = λ prefix is at.
-    let rest = c.args.rest.now in
-    (is, ap (as_step (size_of prefix) rest) (sym (c.in-More.ensures.exact ∙ ap (λ (m : Mode). record_at m rest) (c.mode.ensures prefix is))))
+pub returns-in-Err-More : goal.returns-in-Err-More
+returns-in-Err-More c = λ prefix is at.
+    let rest = c.args.rest.now in (
+      is,
+      ap (as_step (size_of prefix) rest)
+          (sym (ap (λ r. as_taken r) c.in-Err-More.ensures.exact ∙ ap (λ (m : Mode). record_at m rest) (c.mode.ensures prefix is)))
+          ∙ ap (λ (stop : Stop). as_step (size_of prefix) rest (as_taken (Err stop))) c.in-Err-More.field-0-is,
+    )
 
-pub returns-in-Bad : goal.returns-in-Bad
-returns-in-Bad c = λ prefix is at.
+pub returns-in-Err-Bad : goal.returns-in-Err-Bad
+returns-in-Err-Bad c = λ prefix is at.
     let rest = c.args.rest.now in
     ap (λ a. step_fault prefix (as_step (size_of prefix) rest a))
-    (sym (c.in-Bad.ensures.exact ∙ ap (λ (m : Mode). record_at m rest) (c.mode.ensures prefix is)))
-    ∙ ap (λ n. Some (n + c.in-Bad.offset, c.in-Bad.reason)) (sym is.size)
+    (sym (ap (λ r. as_taken r) c.in-Err-Bad.ensures.exact ∙ ap (λ (m : Mode). record_at m rest) (c.mode.ensures prefix is)))
+    ∙ ap (λ (stop : Stop). step_fault prefix (as_step (size_of prefix) rest (as_taken (Err stop)))) c.in-Err-Bad.field-0-is
+    ∙ (λ k. Some (sym is.size k + sym c.in-Err-Bad.offset-is k, sym c.in-Err-Bad.reason-is k))
