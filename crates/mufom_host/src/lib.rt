@@ -7,12 +7,15 @@
 //! all else stays.
 #![tactic(auto)]
 
+mod block;
 mod counts;
 mod laws;
+mod making;
 mod memory;
 mod real;
 mod world;
 
+pub use block::Block;
 pub use laws::modest_calls_never_fail;
 pub use memory::MemHost;
 pub use real::RealHost;

@@ -1,6 +1,7 @@
 ghost use Rattle.std.specs.Prelude.{◌≡◌};
 
 use crate::counts::Counts;
+use crate::making::{Making, NotWritten};
 use crate::{Failed, Host, Sink, Source, World};
 use std::fs;
 use std::fs::File;
@@ -9,15 +10,18 @@ use std::marker::Model;
 
 /// The files and the standard streams of the process: the trusted edge. It reveals no content.
 ///
-/// [`write`](Sink::write), [`print`](Host::print) and [`complain`](Host::complain) hand all that
-/// they are given to the system before they answer, so that nothing is left to write when the program
-/// ends: hand them large chunks. A call of the system that fails is a counted fault. Of this host only
-/// the causes are proved; that files and streams hold what was written is tested.
+/// [`print`](Host::print) and [`complain`](Host::complain) pass all that they are given on to the system
+/// before they return, so that nothing is left to print when the program ends: give them large chunks.
+/// [`write`](Sink::write) gathers bytes and passes them on in blocks of up to 65,536 bytes, and
+/// [`finish`](Host::finish) passes on the last one. So the failure of a block is reported by a later call than
+/// the one that wrote its bytes, at the latest by `finish`; the file then keeps a prefix of what was
+/// written, and can't be finished any more. A call of the system that fails is a counted fault. Of this
+/// host only the causes are proved; that files and streams hold what was written is tested.
 #[derive(Drop)]
 pub struct RealHost {
     rt: HostRuntime,
     input: Option<File>,
-    output: Option<File>,
+    output: Option<Making>,
     counts: Counts,
 }
 
@@ -73,12 +77,12 @@ impl Source for RealHost {
 
 impl Sink for RealHost {
     fn write(&mut self, chunk: &[u8]) -> Result<usize, Failed> {
-        let Some(file) = &mut self.output else {
+        let Some(making) = &mut self.output else {
             return Ok(chunk.len());
         };
-        match file.write_all(chunk) {
+        match making.write(chunk) {
             Ok(()) => Ok(chunk.len()),
-            Err(_) => Err(self.counts.write_failed()),
+            Err(NotWritten) => Err(self.counts.write_failed()),
         }
     }
 }
@@ -99,11 +103,17 @@ impl Host for RealHost {
         let Ok(file) = fs::create(&self.rt, name) else {
             return Err(self.counts.write_failed());
         };
-        self.output = Some(file);
+        self.output = Some(Making::new(file));
         Ok(())
     }
 
     fn finish(&mut self) -> Result<(), Failed> {
+        let Some(making) = &mut self.output else {
+            return Ok(());
+        };
+        if making.flush().is_err() {
+            return Err(self.counts.write_failed());
+        }
         self.output = None;
         Ok(())
     }

@@ -38,6 +38,35 @@ fn a_file_is_written_and_read_back(rt: HostRuntime) -> Result<(), Fail> {
     Ok(())
 }
 
+/// More bytes than the host gathers of a file, and fewer than two blocks.
+const LONG: usize = 100_000;
+
+// Whether a file is read back that is written by a short chunk, one that is longer than a block, and a
+// short one again.
+fn returns_all(host: &mut RealHost, long: &[u8]) -> bool {
+    let mut first = [0u8; 1];
+    let mut rest = [0u8; LONG];
+    host.create(NAME).is_ok()
+        && host.write(b"a") == Ok(1)
+        && host.write(long) == Ok(LONG)
+        && host.write(b"z") == Ok(1)
+        && host.finish().is_ok()
+        && reads(host, &mut first) == Ok(1)
+        && host.read(&mut rest) == Ok(LONG)
+        && rest.as_slice() == long
+        && host.read(&mut first) == Ok(1)
+        && first == *b"z"
+        && host.read(&mut first) == Ok(0)
+}
+
+#[test]
+fn a_file_of_several_blocks_is_written(rt: HostRuntime) -> Result<(), Fail> {
+    let mut host = RealHost::new(rt.clone()?);
+    assert!(rt; returns_all(&mut host, &[b'x'; LONG]));
+    fs::remove_file(&rt, NAME)?;
+    Ok(())
+}
+
 #[test]
 fn texts_are_printed(rt: HostRuntime) -> Result<(), Fail> {
     let mut host = RealHost::new(rt.clone()?);

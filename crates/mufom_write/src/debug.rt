@@ -78,7 +78,7 @@ fn end_expression<K: Output>(out: &mut K, end: &Option<Postfix>) -> Result<(), F
 fn block_end<K: Output>(out: &mut K, end: &Option<Postfix>) -> Result<(), Failed>
     ensures { (n : ℕ) → K.takes out.old out.new (written.debug_record shortest n (block_end end.now)) result }
 {
-    out.put(&[codes::BLOCK_END])?;
+    out.record(&[codes::BLOCK_END])?;
     end_expression(out, end)
 }
 

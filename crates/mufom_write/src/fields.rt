@@ -1,6 +1,6 @@
 //! Numbers, strings and expressions.
 
-ghost use Rattle.std.specs.Prelude.{◌≡◌, ◌++◌, false};
+ghost use Rattle.std.specs.Prelude.{◌≡◌, ◌∷◌, ◌++◌, false};
 ghost use Rattle.mufom_expr.specs.Codes.{letter_byte, function_byte};
 ghost use Rattle.mufom_records.specs.Layouts.{opening, closing};
 ghost use Rattle.mufom_module.specs.Written as written;
@@ -31,11 +31,19 @@ pub(crate) fn number<K: Output>(out: &mut K, value: u64) -> Result<(), Failed>
     out.number(value)
 }
 
-/// The bytes of a command, and a number after them.
+/// The start of a record: the bytes of its command, and a number after them.
 pub(crate) fn numbered<K: Output>(out: &mut K, command: &[u8], value: u64) -> Result<(), Failed>
     ensures { K.takes out.old out.new (command.now ++ written.number shortest value) result }
 {
-    out.put(command)?;
+    out.record(command)?;
+    number(out, value)
+}
+
+/// A byte within a record, and a number after it.
+pub(crate) fn prefixed<K: Output>(out: &mut K, byte: u8, value: u64) -> Result<(), Failed>
+    ensures { K.takes out.old out.new (byte ∷ written.number shortest value) result }
+{
+    out.put(&[byte])?;
     number(out, value)
 }
 
@@ -124,7 +132,7 @@ fn token<K: Output>(out: &mut K, token: Token) -> Result<(), Failed>
     match token {
         Token::Number(value) => number(out, value),
         Token::Var(letter, position) => {
-            numbered(out, &[letter_byte(letter)], index_of(letter, position))
+            prefixed(out, letter_byte(letter), index_of(letter, position))
         }
         Token::Fun(function) => out.put(&[function_byte(function)]),
     }

@@ -1,4 +1,4 @@
-//! Bytes of a file that are held, and written in large chunks.
+//! Bytes of a file that are held, and written together.
 
 ghost use Rattle.std.specs.Prelude.{◌≡◌, [], Ok};
 ghost use Rattle.mufom_write.specs.Holding.{Holds};
@@ -6,15 +6,15 @@ ghost use Rattle.std.proofs.Common.{refl, ◌∙◌};
 ghost use Rattle.mufom_write.specs.HoldingChains.{Holds-nothing, Holds-then, Holds-stopped};
 
 use crate::output::Output;
-use crate::room::Room;
-use mufom_host::{Failed, Sink, write_all};
+use mufom_host::{Block, Failed, Sink, write_all};
 use mufom_numbers::number_spelling;
 
-/// Bytes on their way to a sink: some of them are held, and are written once there is no room for more.
+/// Bytes on their way to a sink: some of them are held, and are written once there is no room for more
+/// or the next record begins.
 #[derive(Drop)]
 pub(crate) struct Held<'a, K: Sink> {
     sink: &'a mut K,
-    room: Room,
+    block: Block,
 }
 
 impl<'a, K: Sink> Held<'a, K> {
@@ -22,34 +22,34 @@ impl<'a, K: Sink> Held<'a, K> {
     pub(crate) fn new(sink: &'a mut K) -> Held<'a, K>
         ensures same { result.sink.ghost_name ≡ sink.entry.ghost_name }
         ensures sink { result.sink.now ≡ sink.old }
-        ensures empty { result.room ≡ [] }
+        ensures empty { result.block ≡ [] }
     {
         Held {
             sink,
-            room: Room::new(),
+            block: Block::new(),
         }
     }
 
     /// Writes what is held.
     pub(crate) fn flush(&mut self) -> Result<(), Failed>
         ensures same { self.new.sink.ghost_name ≡ self.old.sink.ghost_name }
-        ensures empty { result ≡ Ok tt → self.new.room ≡ [] }
+        ensures empty { result ≡ Ok tt → self.new.block ≡ [] }
         ensures holds { Holds (K.meaning self.old.sink.now) (K.meaning self.new.sink.now) (K.faults self.old.sink.now)
-            (K.faults self.new.sink.now) self.old.room self.new.room [] result }
+            (K.faults self.new.sink.now) self.old.block self.new.block [] result }
     {
-        write_all(self.sink, self.room.as_slice())?;
-        self.room.clear();
+        write_all(self.sink, self.block.as_slice())?;
+        self.block.clear();
         Ok(())
     }
 
     // Takes bytes where nothing is held.
     fn begin(&mut self, bytes: &[u8]) -> Result<(), Failed>
-        requires { self.old.room ≡ [] }
+        requires { self.old.block ≡ [] }
         ensures same { self.new.sink.ghost_name ≡ self.old.sink.ghost_name }
         ensures holds { Holds (K.meaning self.old.sink.now) (K.meaning self.new.sink.now) (K.faults self.old.sink.now)
-            (K.faults self.new.sink.now) self.old.room self.new.room bytes.now result }
+            (K.faults self.new.sink.now) self.old.block self.new.block bytes.now result }
     {
-        if self.room.hold(bytes) {
+        if self.block.hold(bytes) {
             return Ok(());
         }
         write_all(self.sink, bytes)
@@ -59,7 +59,7 @@ impl<'a, K: Sink> Held<'a, K> {
     fn turn(&mut self, bytes: &[u8]) -> Result<(), Failed>
         ensures same { self.new.sink.ghost_name ≡ self.old.sink.ghost_name }
         ensures holds { Holds (K.meaning self.old.sink.now) (K.meaning self.new.sink.now) (K.faults self.old.sink.now)
-            (K.faults self.new.sink.now) self.old.room self.new.room bytes.now result }
+            (K.faults self.new.sink.now) self.old.block self.new.block bytes.now result }
     {
         self.flush()?;
         self.begin(bytes)
@@ -69,9 +69,9 @@ impl<'a, K: Sink> Held<'a, K> {
     fn add(&mut self, bytes: &[u8]) -> Result<(), Failed>
         ensures same { self.new.sink.ghost_name ≡ self.old.sink.ghost_name }
         ensures holds { Holds (K.meaning self.old.sink.now) (K.meaning self.new.sink.now) (K.faults self.old.sink.now)
-            (K.faults self.new.sink.now) self.old.room self.new.room bytes.now result }
+            (K.faults self.new.sink.now) self.old.block self.new.block bytes.now result }
     {
-        if self.room.hold(bytes) {
+        if self.block.hold(bytes) {
             return Ok(());
         }
         self.turn(bytes)
@@ -89,24 +89,28 @@ impl<'a, K: Sink> Held<'a, K> {
 
 impl<'a, K: Sink> Output for Held<'a, K> {
     ghost takes = { λ a b xs r. (b.sink.ghost_name ≡ a.sink.ghost_name)
-        × Holds (K.meaning a.sink.now) (K.meaning b.sink.now) (K.faults a.sink.now) (K.faults b.sink.now) a.room b.room xs r };
+        × Holds (K.meaning a.sink.now) (K.meaning b.sink.now) (K.faults a.sink.now) (K.faults b.sink.now) a.block b.block xs r };
 
-    ghost nothing = { λ a. (refl, Holds-nothing (K.meaning a.sink.now) (K.faults a.sink.now) a.room) };
+    ghost nothing = { λ a. (refl, Holds-nothing (K.meaning a.sink.now) (K.faults a.sink.now) a.block) };
 
     ghost joins = { λ a b c xs ys all r p q same. (
       q.0 ∙ p.0,
       Holds-then (K.meaning a.sink.now) (K.meaning b.sink.now) (K.meaning c.sink.now) (K.faults a.sink.now) (K.faults b.sink.now)
-          (K.faults c.sink.now) a.room b.room c.room xs ys all r p.1 q.1 same,
+          (K.faults c.sink.now) a.block b.block c.block xs ys all r p.1 q.1 same,
     ) };
 
     ghost stops = { λ a b xs ys all e r p failed same. (
       p.0,
-      Holds-stopped (K.meaning a.sink.now) (K.meaning b.sink.now) (K.faults a.sink.now) (K.faults b.sink.now) a.room b.room
+      Holds-stopped (K.meaning a.sink.now) (K.meaning b.sink.now) (K.faults a.sink.now) (K.faults b.sink.now) a.block b.block
           xs ys all e r p.1 failed same,
     ) };
 
     fn put(&mut self, bytes: &[u8]) -> Result<(), Failed> {
         self.add(bytes)
+    }
+
+    fn record(&mut self, command: &[u8]) -> Result<(), Failed> {
+        self.turn(command)
     }
 
     fn number(&mut self, value: u64) -> Result<(), Failed> {

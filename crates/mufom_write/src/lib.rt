@@ -2,7 +2,7 @@
 //!
 //! It depends on the crates of a module's entries, `mufom_module`, `mufom_meaning` for raw images,
 //! `mufom_host`, `thiserror` and, in its proofs, `arrayvec`. It allocates nothing. All records are written by functions
-//! over one trait, whose two implementations pass bytes to a sink in large chunks, and count bytes. The
+//! over one trait, whose two implementations pass bytes to a sink record by record, and count bytes. The
 //! main clause is that of [`write_module`]: the file being made grows by exactly the written form, or a
 //! write failed, its error counter increased, and the file grew by a prefix of that form; and the form,
 //! if it is no longer than a file may be, is a file of the module. [`layout`] returns where the parts of
@@ -19,7 +19,6 @@ mod output;
 mod parts;
 mod places;
 mod raw;
-mod room;
 mod sections;
 mod write;
 

@@ -6,7 +6,7 @@ ghost use Rattle.mufom_records.specs.Layouts.{comma, closing};
 ghost use Rattle.mufom_module.specs.Written as written;
 ghost use Rattle.mufom_module.specs.Written.{shortest, each};
 
-use crate::fields::{FIRST_SECTION, closing, counted, expression, number, numbered, opening};
+use crate::fields::{FIRST_SECTION, closing, counted, expression, numbered, opening, prefixed};
 use crate::output::Output;
 use mufom_expr::{FieldKind, Postfix};
 use mufom_host::Failed;
@@ -17,7 +17,7 @@ use mufom_numbers::{Bytes, codes};
 fn field_end<K: Output>(out: &mut K, kind: FieldKind, size: u8) -> Result<(), Failed>
     ensures { K.takes out.old out.new (comma ∷ (written.number shortest size ++ closing kind ∷ [])) result }
 {
-    numbered(out, &[codes::COMMA], size as u64)?;
+    prefixed(out, codes::COMMA, size as u64)?;
     out.put(&[closing(kind)])
 }
 
@@ -52,7 +52,7 @@ fn items<K: Output>(out: &mut K, items: &[Item]) -> Result<(), Failed>
 fn literal_record<K: Output>(out: &mut K, bytes: &Bytes) -> Result<(), Failed>
     ensures { K.takes out.old out.new (CONSTANT ∷ written.counted shortest bytes.now) result }
 {
-    out.put(&[codes::CONSTANT])?;
+    out.record(&[codes::CONSTANT])?;
     counted(out, bytes)
 }
 
@@ -65,7 +65,7 @@ fn field_record<K: Output>(
 ) -> Result<(), Failed>
     ensures { K.takes out.old out.new (RELOCATE ∷ written.field shortest kind value.now size) result }
 {
-    out.put(&[codes::RELOCATE])?;
+    out.record(&[codes::RELOCATE])?;
     field(out, kind, value, size)
 }
 
@@ -83,7 +83,7 @@ fn single<K: Output>(out: &mut K, item: &Item) -> Result<(), Failed>
 fn items_record<K: Output>(out: &mut K, list: &[Item]) -> Result<(), Failed>
     ensures { K.takes out.old out.new (RELOCATE ∷ each (λ _. written.item shortest) list.now) result }
 {
-    out.put(&[codes::RELOCATE])?;
+    out.record(&[codes::RELOCATE])?;
     items(out, list)
 }
 
@@ -147,7 +147,7 @@ pub(crate) fn loads<K: Output>(out: &mut K, loads: &[Load]) -> Result<(), Failed
 fn start_record<K: Output>(out: &mut K, value: &Postfix) -> Result<(), Failed>
     ensures { K.takes out.old out.new (written.start shortest (Some value.now)) result }
 {
-    out.put(&[codes::ASSIGNMENT, codes::LETTER_G, codes::OPEN_EITHER])?;
+    out.record(&[codes::ASSIGNMENT, codes::LETTER_G, codes::OPEN_EITHER])?;
     expression(out, value)?;
     out.put(&[codes::CLOSE_EITHER])
 }

@@ -16,6 +16,11 @@ pub(crate) trait Output {
     fn put(&mut self, bytes: &[u8]) -> Result<(), Failed>
         ensures { takes self.old self.new bytes.now result };
 
+    /// Begins a record with the bytes of its command, as [`put`](Output::put) adds them. What was put before
+    /// is passed on first, so that records arrive one by one.
+    fn record(&mut self, command: &[u8]) -> Result<(), Failed>
+        ensures { takes self.old self.new command.now result };
+
     /// Adds the shortest spelling of a number, or on a failure a prefix of it.
     fn number(&mut self, value: u64) -> Result<(), Failed>
         ensures { takes self.old self.new (shortest_number value) result };
@@ -47,6 +52,10 @@ impl Output for Counter {
     fn put(&mut self, bytes: &[u8]) -> Result<(), Failed> {
         self.bytes = self.bytes.saturating_add(bytes.len() as u64);
         Ok(())
+    }
+
+    fn record(&mut self, command: &[u8]) -> Result<(), Failed> {
+        self.put(command)
     }
 
     fn number(&mut self, value: u64) -> Result<(), Failed> {

@@ -33,7 +33,7 @@ fn begin_record<K: Output>(out: &mut K, parts: &Parts) -> Result<(), Failed>
     requires { IsValid parts.now }
     ensures { K.takes out.old out.new (MODULE_BEGIN ∷ written.string shortest parts.now.processor ++ written.string shortest parts.now.name) result }
 {
-    out.put(&[codes::MODULE_BEGIN])?;
+    out.record(&[codes::MODULE_BEGIN])?;
     string(out, &parts.processor)?;
     string(out, &parts.name)
 }
@@ -96,8 +96,8 @@ pub(crate) fn part<K: Output>(out: &mut K, parts: &Parts, number: usize) -> Resu
     ensures { K.takes out.old out.new (get_or (written.parts shortest parts.now) number []) result }
 {
     match number {
-        0 => out.put(parts.ext.as_slice()),
-        1 => out.put(parts.env.as_slice()),
+        0 => out.record(parts.ext.as_slice()),
+        1 => out.record(parts.env.as_slice()),
         2 => sections(out, parts.sections.as_slice()),
         3 => external(out, parts),
         4 => debug_items(out, parts.debug.as_slice(), &mut 0),

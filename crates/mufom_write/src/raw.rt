@@ -74,7 +74,7 @@ fn rows<K: Output>(out: &mut K, fill: u8, runs: &[Run]) -> Result<(), Failed>
 
 // All bytes of the image, where nothing was held; nothing of it is held then.
 fn write_through<K: Sink>(held: &mut Held<K>, fill: u8, runs: &[Run]) -> Result<(), Failed>
-    requires { held.old.room ≡ [] }
+    requires { held.old.block ≡ [] }
     ensures same { held.new.sink.ghost_name ≡ held.old.sink.ghost_name }
     ensures writes { Writes (K.meaning held.old.sink.now) (K.meaning held.new.sink.now) (K.faults held.old.sink.now)
         (K.faults held.new.sink.now) (raw_image fill runs.now) result }

@@ -48,7 +48,7 @@ fn section_record<K: Output>(out: &mut K, index: u64, section: &Section) -> Resu
 fn setting<K: Output>(out: &mut K, command: &[u8], index: u64, value: u64) -> Result<(), Failed>
     ensures { K.takes out.old out.new (command.now ++ (written.number shortest index ++ written.number shortest value)) result }
 {
-    out.put(command)?;
+    out.record(command)?;
     number(out, index)?;
     number(out, value)
 }

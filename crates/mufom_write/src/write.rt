@@ -31,13 +31,13 @@ fn write_form<K: Output>(out: &mut K, parts: &Parts) -> Result<(), Failed>
     module_begin(out, parts)?;
     offset_records(out, &layout.offsets)?;
     all_parts(out, parts)?;
-    out.put(&[codes::MODULE_END])
+    out.record(&[codes::MODULE_END])
 }
 
 // The whole file, where nothing was held; nothing of it is held then.
 fn write_through<K: Sink>(held: &mut Held<K>, parts: &Parts) -> Result<(), Failed>
     requires valid { IsValid parts.now }
-    requires empty { held.old.room ≡ [] }
+    requires empty { held.old.block ≡ [] }
     ensures same { held.new.sink.ghost_name ≡ held.old.sink.ghost_name }
     ensures writes { Writes (K.meaning held.old.sink.now) (K.meaning held.new.sink.now) (K.faults held.old.sink.now)
         (K.faults held.new.sink.now) (written parts.now) result }
@@ -46,7 +46,7 @@ fn write_through<K: Sink>(held: &mut Held<K>, parts: &Parts) -> Result<(), Faile
     held.flush()
 }
 
-// The whole file, in large chunks.
+// The whole file, record by record.
 fn write_held<K: Sink>(sink: &mut K, parts: &Parts) -> Result<(), Failed>
     requires { IsValid parts.now }
     ensures { Writes (K.meaning sink.old) (K.meaning sink.new) (K.faults sink.old) (K.faults sink.new) (written parts.now) result }
@@ -59,7 +59,8 @@ fn write_held<K: Sink>(sink: &mut K, parts: &Parts) -> Result<(), Failed>
 
 /// Writes the written form of the module to the file being made. Takes no memory.
 ///
-/// The sink gets large chunks, about 65,536 bytes each; no clause counts writes.
+/// The sink gets each record in a write of its own, or in several if the record is longer than 65,536
+/// bytes; no clause counts writes.
 ///
 /// The written form, where it is no longer than a file may be, is a file of this module. `Fault` comes
 /// only where a write failed and the count of such faults rose; a prefix of the written form may then be

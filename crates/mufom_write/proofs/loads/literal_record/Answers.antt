@@ -1,8 +1,8 @@
 use Rattle.std.proofs.Common.{refl}
 use Rattle.mufom_write.proofs.loads.literal_record.Goals as goal
 
-pub returns-in_err-put : goal.returns-in_err-put
-returns-in_err-put g c = let l = g.met.K.Output in l.stops _ _ _ _ _ _ _ c.in_err-put.ensures c.from_residual.ensures.0 refl
+pub returns-in_err-record : goal.returns-in_err-record
+returns-in_err-record g c = let l = g.met.K.Output in l.stops _ _ _ _ _ _ _ c.in_err-record.ensures c.from_residual.ensures.0 refl
 
 pub returns : goal.returns
-returns g c = let l = g.met.K.Output in l.joins _ _ _ _ _ _ _ c.in_ok-put.ensures (c.counted.ensures) refl
+returns g c = let l = g.met.K.Output in l.joins _ _ _ _ _ _ _ c.in_ok-record.ensures (c.counted.ensures) refl

@@ -1,12 +1,12 @@
 use Rattle.std.proofs.Common.{refl}
 use Rattle.mufom_write.proofs.parts.begin_record.Goals as goal
 
-pub returns-in_err-put : goal.returns-in_err-put
-returns-in_err-put g c = let l = g.met.K.Output in l.stops _ _ _ _ _ _ _ c.in_err-put.ensures c.from_residual.ensures.0 refl
+pub returns-in_err-record : goal.returns-in_err-record
+returns-in_err-record g c = let l = g.met.K.Output in l.stops _ _ _ _ _ _ _ c.in_err-record.ensures c.from_residual.ensures.0 refl
 
 pub returns-in_err-string : goal.returns-in_err-string
-returns-in_err-string g c = let l = g.met.K.Output in l.joins _ _ _ _ _ _ _ c.in_ok-put.ensures
+returns-in_err-string g c = let l = g.met.K.Output in l.joins _ _ _ _ _ _ _ c.in_ok-record.ensures
     (l.stops _ _ _ _ _ _ _ c.in_err-string.ensures c.from_residual-in_err-string.ensures.0 refl) refl
 
 pub returns : goal.returns
-returns g c = let l = g.met.K.Output in l.joins _ _ _ _ _ _ _ c.in_ok-put.ensures (l.joins _ _ _ _ _ _ _ c.in_ok-string.ensures (c.string-2.ensures) refl) refl
+returns g c = let l = g.met.K.Output in l.joins _ _ _ _ _ _ _ c.in_ok-record.ensures (l.joins _ _ _ _ _ _ _ c.in_ok-string.ensures (c.string-2.ensures) refl) refl

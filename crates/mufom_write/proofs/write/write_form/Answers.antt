@@ -17,4 +17,4 @@ returns-in_err-all_parts g c = let l = g.met.K.Output in l.joins _ _ _ _ _ _ _ c
 pub returns : goal.returns
 returns g c = let l = g.met.K.Output in l.joins _ _ _ _ _ _ _ c.in_ok-module_begin.ensures
     (l.joins _ _ _ _ _ _ _ (rw c.layout_of-layout.ensures.offsets at c.in_ok-offset_records.ensures)
-    (l.joins _ _ _ _ _ _ _ c.in_ok-all_parts.ensures (c.put.ensures) refl) refl) refl
+    (l.joins _ _ _ _ _ _ _ c.in_ok-all_parts.ensures (c.record.ensures) refl) refl) refl

@@ -1,55 +1,58 @@
+//! Bytes that are gathered before they are passed on.
+
 use std::marker::Model;
 
 // How many bytes there is room for.
 const SIZE: usize = 65_536;
 
-/// Room for bytes. Contracts see the bytes that it holds.
+/// A block of at most 65,536 bytes, gathered to be passed on at once. Contracts see the bytes. It
+/// allocates nothing.
 #[derive(Drop)]
-pub(crate) struct Room {
+pub struct Block {
     bytes: [u8; SIZE],
     used: usize,
 }
 
-impl Model for Room {
+impl Model for Block {
     ghost use Rattle.std.specs.Prelude.{List, ℕ, ◌≤◌, take};
-    ghost use Rattle.mufom_write.specs.declared.room.TheConstants.{SIZE};
+    ghost use Rattle.mufom_host.specs.declared.block.TheConstants.{SIZE};
 
     ghost Value = { List ℕ };
 
-    ghost view = { λ room. take room.used room.bytes };
+    ghost view = { λ block. take block.used block.bytes };
 
-    ghost invariant = { λ room. room.used ≤ SIZE };
+    ghost invariant = { λ block. block.used ≤ SIZE };
 }
 
-impl Room {
+impl Block {
     ghost use Rattle.std.specs.Prelude.{◌≡◌, [], ◌++◌, true, false};
 
-    /// Holds nothing.
-    pub(crate) fn new() -> Room
+    /// A block without bytes.
+    pub fn new() -> Block
         ensures { result ≡ [] }
     {
-        Room {
+        Block {
             bytes: [0; SIZE],
             used: 0,
         }
     }
 
-    /// The bytes that are held.
-    pub(crate) fn as_slice(&self) -> &[u8]
+    /// The bytes of the block.
+    pub fn as_slice(&self) -> &[u8]
         ensures { result.now ≡ self.now }
     {
         &self.bytes[..self.used]
     }
 
-    /// Adds bytes where there is room for them, and answers whether there was.
-    pub(crate) fn hold(&mut self, bytes: &[u8]) -> bool
+    /// Adds bytes if there is room for all of them, and returns whether there was.
+    pub fn hold(&mut self, bytes: &[u8]) -> bool
         ensures held { result ≡ true → self.new ≡ self.old ++ bytes.now }
         ensures full { result ≡ false → self.new ≡ self.old }
     {
         if bytes.len() > SIZE - self.used {
             return false;
         }
-        // Most puts are of one byte, for which a copy of a slice would take longer.
+        // Often it is one byte, for which a copy of a slice would take longer.
         if let [byte] = bytes {
             self.bytes[self.used] = *byte;
             self.used += 1;
@@ -61,8 +64,8 @@ impl Room {
         true
     }
 
-    /// Holds nothing any more.
-    pub(crate) fn clear(&mut self)
+    /// Removes all bytes.
+    pub fn clear(&mut self)
         ensures { self.new ≡ [] }
     {
         self.used = 0;
