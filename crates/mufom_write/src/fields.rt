@@ -1,6 +1,6 @@
 //! Numbers, strings and expressions.
 
-ghost use Rattle.std.specs.Prelude.{◌≡◌, ◌∷◌, ◌++◌, false};
+ghost use Rattle.std.specs.Prelude.{◌≡◌, ◌++◌, false};
 ghost use Rattle.mufom_expr.specs.Codes.{letter_byte, function_byte};
 ghost use Rattle.mufom_records.specs.Layouts.{opening, closing};
 ghost use Rattle.mufom_module.specs.Written as written;
@@ -39,11 +39,11 @@ pub(crate) fn numbered<K: Output>(out: &mut K, command: &[u8], value: u64) -> Re
     number(out, value)
 }
 
-/// A byte within a record, and a number after it.
-pub(crate) fn prefixed<K: Output>(out: &mut K, byte: u8, value: u64) -> Result<(), Failed>
-    ensures { K.takes out.old out.new (byte ∷ written.number shortest value) result }
+/// Bytes within a record, and a number after them.
+pub(crate) fn prefixed<K: Output>(out: &mut K, prefix: &[u8], value: u64) -> Result<(), Failed>
+    ensures { K.takes out.old out.new (prefix.now ++ written.number shortest value) result }
 {
-    out.put(&[byte])?;
+    out.put(prefix)?;
     number(out, value)
 }
 
@@ -132,7 +132,7 @@ fn token<K: Output>(out: &mut K, token: Token) -> Result<(), Failed>
     match token {
         Token::Number(value) => number(out, value),
         Token::Var(letter, position) => {
-            prefixed(out, letter_byte(letter), index_of(letter, position))
+            prefixed(out, &[letter_byte(letter)], index_of(letter, position))
         }
         Token::Fun(function) => out.put(&[function_byte(function)]),
     }

@@ -17,7 +17,7 @@ use mufom_numbers::{Bytes, codes};
 fn field_end<K: Output>(out: &mut K, kind: FieldKind, size: u8) -> Result<(), Failed>
     ensures { K.takes out.old out.new (comma ∷ (written.number shortest size ++ closing kind ∷ [])) result }
 {
-    prefixed(out, codes::COMMA, size as u64)?;
+    prefixed(out, &[codes::COMMA], size as u64)?;
     out.put(&[closing(kind)])
 }
 
