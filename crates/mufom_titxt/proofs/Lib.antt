@@ -1,5 +1,6 @@
 pub mod LineLaws
 pub mod ShapeLaws
+pub mod ShortLaws
 pub mod BytesLaws
 pub mod HitLaws
 pub mod RefusalLaws

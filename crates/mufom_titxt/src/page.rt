@@ -42,7 +42,7 @@ fn separator(place: usize, is_last: bool) -> u8
     }
 }
 
-// Digits without zeros at the front, of which at most so many are left out.
+// Digits without the zeros at the front, at most `most` of them.
 fn without_zeros(digits: &[u8], most: usize) -> &[u8]
     ensures { result.now ≡ without_zeros most digits.now }
 {

@@ -9,7 +9,7 @@ ghost use Rattle.mufom_titxt.specs.Reading.{stop_read, hits_after};
 
 use crate::lines::next_line;
 use crate::refusal::{TxtReason, TxtRefusal};
-use crate::shape::{Shape, shape_of};
+use crate::shape::{Shape, shape_of, short_bytes};
 use crate::store::Store;
 use mufom_numbers::NoMemory;
 use std::alloc::Global;
@@ -54,10 +54,37 @@ impl Reading {
         ensures fault { IfOk result (λ fault. fault ≡ bytes_stop modulus self.old.next (word_bytes (words_of line.now))) }
         ensures next { result ≡ Ok None → self.new.next ≡ option_map (λ at. at + length (word_bytes (words_of line.now))) self.old.next }
     {
+        let from = match self.next {
+            Some(from) => from,
+            None => return Ok(Some(TxtReason::NoAddress)),
+        };
+        match self.store.place_line(modulus, from, line)? {
+            Some(at) => {
+                self.next = Some(at);
+                Ok(None)
+            }
+            None => Ok(Some(TxtReason::Beyond)),
+        }
+    }
+
+    // Reads the bytes of a short line.
+    fn read_short(&mut self, modulus: u128, bytes: &[u8]) -> Result<Option<TxtReason>, NoMemory>
+        requires tiled { IsTiled self.old.store.loaded }
+        requires modulus { modulus ≤ 2 ^ 64 }
+        ensures tiled { OnOk result (IsTiled self.new.store.loaded) }
+        ensures ended { self.new.ended ≡ self.old.ended }
+        ensures watched { self.new.store.watched ≡ self.old.store.watched }
+        ensures cells { OnOk result (loaded_cells self.new.store.loaded
+            ≡ loaded_cells self.old.store.loaded ++ bytes_read modulus self.old.next bytes.now) }
+        ensures hits { OnOk result (self.new.store.hits
+            ≡ hits_after self.old.store.watched self.old.store.hits (bytes_read modulus self.old.next bytes.now)) }
+        ensures fault { IfOk result (λ fault. fault ≡ bytes_stop modulus self.old.next bytes.now) }
+        ensures next { result ≡ Ok None → self.new.next ≡ option_map (λ at. at + length bytes.now) self.old.next }
+    {
         let Some(from) = self.next else {
             return Ok(Some(TxtReason::NoAddress));
         };
-        match self.store.place_line(modulus, from, line)? {
+        match self.store.place_bytes(modulus, from, bytes)? {
             Some(at) => {
                 self.next = Some(at);
                 Ok(None)
@@ -80,6 +107,9 @@ impl Reading {
         ensures fault { IfOk result (λ fault. fault ≡ inner_stop modulus self.old.next (line_of line.now)) }
         ensures stated { result ≡ Ok None → stated self.new ≡ so_far (stated self.old) (line_of line.now) }
     {
+        if let Some(bytes) = short_bytes(line) {
+            return self.read_short(modulus, &bytes);
+        }
         match shape_of(line) {
             Shape::Blank => Ok(None),
             Shape::Address(address) => {
@@ -121,7 +151,7 @@ impl Reading {
         }
     }
 
-    // What is wrong at the end of a text of so many lines.
+    // What is wrong at the end of a text of `count` lines.
     fn end(&self, count: u32) -> Option<TxtRefusal>
         ensures { result ≡ end_fault count (stated self.now) }
     {

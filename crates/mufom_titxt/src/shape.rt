@@ -1,10 +1,11 @@
 //! What a line of a text states.
 
-ghost use Rattle.std.specs.Prelude.{◌≡◌, ◌≤◌, ◌<◌, [], length, IsTrue, ◌↔◌, is_some, IfSome, option_map, ◌==◌, ◌&&◌, ◌||◌, not};
+ghost use Rattle.std.specs.Prelude.{◌≡◌, Some, ◌≤◌, ◌<◌, [], length, IsTrue, ◌↔◌, is_some, IfSome, option_map, ◌==◌, ◌&&◌, ◌||◌, not};
 ghost use Rattle.mufom_titxt.specs.Lines.{has_bytes, hex_digit, hex_after, address_of, byte_of, bytes_of, words_of, line_of, address_line, byte_line};
 ghost use Rattle.mufom_titxt.specs.Scans.{shape_of, alone_shape};
 
 use crate::lines::next_word;
+use arrayvec::ArrayVec;
 
 /// What a line states, but for its bytes.
 #[derive(Clone, Copy, Debug)]
@@ -15,6 +16,9 @@ pub enum Shape {
     End,
     Bad,
 }
+
+/// The most bytes of a short line. Programs that write this form put 16 bytes into a line.
+pub(crate) const MOST_SHORT_BYTES: usize = 32;
 
 // The most digits of an address.
 const MOST_DIGITS: usize = 16;
@@ -68,6 +72,28 @@ pub(crate) fn byte_of(word: &[u8]) -> Option<u8>
         (Some(high), Some(low)) => Some(high * 16 + low),
         _ => None,
     }
+}
+
+/// The bytes of a line that has bytes alone, and not too many of them. Most lines of a text are such lines, and this
+/// reads one in a single pass.
+pub(crate) fn short_bytes(line: &[u8]) -> Option<ArrayVec<u8, MOST_SHORT_BYTES>>
+    ensures { IfSome result (λ bytes. line_of line.now ≡ Some (byte_line bytes.items)) }
+{
+    let mut bytes: ArrayVec<u8, MOST_SHORT_BYTES> = ArrayVec::new();
+    let mut rest = line;
+    while let Some((word, after)) = next_word(rest) {
+        let Some(byte) = byte_of(word) else {
+            return None;
+        };
+        if bytes.try_push(byte).is_err() {
+            return None;
+        }
+        rest = after;
+    }
+    if bytes.is_empty() {
+        return None;
+    }
+    Some(bytes)
 }
 
 // Whether each word of a line spells a byte.

@@ -53,6 +53,63 @@ impl Store {
         Ok(())
     }
 
+    // Adds bytes one by one from an address on, as `place_bytes` does.
+    fn place_each(
+        &mut self,
+        modulus: u128,
+        from: u128,
+        bytes: &[u8],
+    ) -> Result<Option<u128>, NoMemory>
+        requires tiled { IsTiled self.old.loaded }
+        requires modulus { modulus ≤ 2 ^ 64 }
+        ensures tiled { OnOk result (IsTiled self.new.loaded) }
+        ensures cells { OnOk result (loaded_cells self.new.loaded ≡ loaded_cells self.old.loaded ++ open_cells modulus from bytes.now) }
+        ensures watched { self.new.watched ≡ self.old.watched }
+        ensures hits { OnOk result (self.new.hits ≡ hits_after self.old.watched self.old.hits (open_cells modulus from bytes.now)) }
+        ensures next { IfOk result (λ next. IfSome next (λ at. at ≡ from + length bytes.now)) }
+        ensures fault { IfOk result (λ next. fault_of next ≡ open_fault modulus from bytes.now) }
+    {
+        let mut rest = bytes;
+        let mut at = from;
+        while let [byte, after @ ..] = rest {
+            if at >= modulus {
+                return Ok(None);
+            }
+            self.place(at as u64, *byte)?;
+            at += 1;
+            rest = after;
+        }
+        Ok(Some(at))
+    }
+
+    /// Adds bytes from an address on, as far as their addresses are below the modulus. Returns the address
+    /// after them, and none where one of them is not below it.
+    pub(crate) fn place_bytes(
+        &mut self,
+        modulus: u128,
+        from: u128,
+        bytes: &[u8],
+    ) -> Result<Option<u128>, NoMemory>
+        requires tiled { IsTiled self.old.loaded }
+        requires modulus { modulus ≤ 2 ^ 64 }
+        ensures tiled { OnOk result (IsTiled self.new.loaded) }
+        ensures cells { OnOk result (loaded_cells self.new.loaded ≡ loaded_cells self.old.loaded ++ open_cells modulus from bytes.now) }
+        ensures watched { self.new.watched ≡ self.old.watched }
+        ensures hits { OnOk result (self.new.hits ≡ hits_after self.old.watched self.old.hits (open_cells modulus from bytes.now)) }
+        ensures next { IfOk result (λ next. IfSome next (λ at. at ≡ from + length bytes.now)) }
+        ensures fault { IfOk result (λ next. fault_of next ≡ open_fault modulus from bytes.now) }
+    {
+        if self.watched.is_some() || from >= modulus {
+            return self.place_each(modulus, from, bytes);
+        }
+        let count = bytes.len() as u128;
+        if modulus - from < count {
+            return self.place_each(modulus, from, bytes);
+        }
+        self.loaded.add(from as u64, bytes)?;
+        Ok(Some(from + count))
+    }
+
     /// Adds the bytes of a line from an address on, as far as these are below the modulus. Returns the
     /// address after them, and none where one is not below it.
     pub(crate) fn place_line(
@@ -75,7 +132,7 @@ impl Store {
         let mut rest = line;
         let mut at = from;
         while let Some((word, after)) = next_word(rest) {
-            if at >= modulus {
+            if modulus <= at {
                 return Ok(None);
             }
             self.place(at as u64, byte_of(word).unwrap_or(0))?;
