@@ -1,3 +1,4 @@
 pub mod FlatLaws
 pub mod ListLaws
 pub mod PlaceLaws
+mod LeftLaws

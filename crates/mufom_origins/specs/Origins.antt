@@ -1,5 +1,5 @@
 -- Where the entries of a list of modules come from: the module, and the file in which it was read.
-use Rattle.std.specs.Prelude.{◌≡◌, ℕ, List, map, length, Option, is_some, slice_get}
+use Rattle.std.specs.Prelude.{◌≡◌, ℕ, List, [], ◌∷◌, map, length, take, drop, count_by, Bool, Option, is_some, slice_get}
 use Rattle.std.specs.Option.{option_and_then}
 use Rattle.mufom_expr.specs.Tree.{Tree}
 use Rattle.std.specs.List.{enumerate_from}
@@ -8,7 +8,7 @@ use Rattle.mufom_origins.specs.declared.origins.Kind.{Kind}
 use Rattle.mufom_origins.specs.declared.origins.Kind.TheVariants.{Sections, Publics, References}
 use Rattle.mufom_origins.specs.declared.origins.Origin.{Origin}
 use Rattle.mufom_origins.specs.declared.origins.Place.{Place}
-use Rattle.mufom_origins.specs.Places.{capped, ends_from}
+use Rattle.mufom_origins.specs.Places.{capped, ends_from, set_marks}
 
 -- a module with the number of its file
 abbrev pub FileModule : Type 0
@@ -35,6 +35,14 @@ origin_of f = record {
 
 abbrev pub origins_of : List FileModule → List Origin
 origins_of files = map origin_of files
+
+-- What is left of the origins where a link keeps some of its sections and publics, by a mark for each of them: every module has as many of
+-- them as are left of its own. References are counted as before.
+abbrev pub origins_left : (sections publics : List Bool) → List Origin → List Origin
+origins_left sections publics [] = []
+origins_left sections publics (o ∷ origins) =
+    record o { sections = set_marks (take o.sections sections); publics = set_marks (take o.publics publics) }
+    ∷ origins_left (drop o.sections sections) (drop o.publics publics) origins
 
 -- how many entries of a kind a module has
 abbrev pub count_of : Kind → Origin → ℕ

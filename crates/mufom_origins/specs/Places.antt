@@ -1,6 +1,6 @@
 -- Entries of several lists by one number, which counts them through all lists in order.
 use Rattle.std.specs.Prelude.{ℕ, zero, suc, ◌+◌, ◌-◌, ◌<◌, ◌≤◌, length, slice_index, List, [], ◌∷◌, ◌++◌, take, drop, min, flat_map, Option, Some}
-use Rattle.std.specs.Prelude.{None, option_to_list, slice_get, nat_lt, if◌then◌else◌}
+use Rattle.std.specs.Prelude.{None, option_to_list, slice_get, nat_lt, count_by, Bool, true, false, if◌then◌else◌}
 use Rattle.mufom_origins.specs.declared.origins.Place.{Place}
 
 -- where the entry with a number is, where lists from the one with a position on have this many entries
@@ -38,6 +38,16 @@ at_positions xs positions = flat_map (λ n. option_to_list (slice_get xs n)) pos
 -- the first `roots` elements, and those of the others that are chosen by their positions among these
 abbrev pub with_chosen : {X : Type 0} → ℕ → List ℕ → List X → List X
 with_chosen roots chosen xs = take roots xs ++ at_positions (drop roots xs) chosen
+
+-- how many marks are set
+abbrev pub set_marks : List Bool → ℕ
+set_marks marks = count_by (λ (mark : Bool). mark) marks
+
+-- the positions of the marks that are set, where the first of all has this one
+abbrev pub set_from : ℕ → List Bool → List ℕ
+set_from position [] = []
+set_from position (true ∷ marks) = position ∷ set_from (suc position) marks
+set_from position (false ∷ marks) = set_from (suc position) marks
 
 -- the ends up to the one with this position are at most the number, and the others are greater
 pub record HasEnded (ends : List ℕ) (number position : ℕ) : Type 0 where

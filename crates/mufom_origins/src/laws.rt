@@ -1,12 +1,13 @@
 //! What the places and the numbers of files mean, the contracts of functions that do nothing.
 
-ghost use Rattle.std.specs.Prelude.{◌≡◌, ◌++◌, ℕ, List, drop, length, map, option_map, position, slice_get, take};
+ghost use Rattle.std.specs.Prelude.{◌≡◌, ◌++◌, ℕ, Bool, List, Some, drop, length, map, option_map, position, slice_get, take};
 ghost use Rattle.std.specs.Option.{option_and_then};
 ghost use Rattle.mufom_module.specs.declared.module.Parts.{Parts};
 ghost use Rattle.mufom_meaning.specs.Flat.{flat_publics, flat_references, flat_sections, flat_starts};
 ghost use Rattle.mufom_meaning.specs.Selection.{members_at};
-ghost use Rattle.mufom_origins.specs.Origins.{FileModule, entry_of, modules_of, numbered, origins_of, start_of};
-ghost use Rattle.mufom_origins.specs.Places.{place_in, with_chosen};
+ghost use Rattle.mufom_origins.specs.declared.origins.Origin.{Origin};
+ghost use Rattle.mufom_origins.specs.Origins.{FileModule, entry_of, modules_of, numbered, origins_left, origins_of, start_of};
+ghost use Rattle.mufom_origins.specs.Places.{place_in, set_from, with_chosen};
 
 /// A section of the flat list is the entry at its place: the place's module has it at the place's
 /// position. A number without a section has no place.
@@ -41,4 +42,15 @@ pub fn selected_origins_are_those_of_the_flat_list()
     ensures modules { (ms : List Parts) (roots : ℕ) (chosen : List ℕ) →
         modules_of (with_chosen roots chosen (numbered ms)) ≡ take roots ms ++ members_at (drop roots ms) chosen }
     ensures file { (ms : List Parts) (number : ℕ) → slice_get (numbered ms) number ≡ option_map (λ m. (number, m)) (slice_get ms number) }
+{}
+
+/// A section or a public that is left of a link comes from the module that it came from before. The one with
+/// the number `number` among those that are left is the one with the number `old` among all.
+pub fn entries_left_keep_their_modules()
+    ensures sections { (origins : List Origin) (sections publics : List Bool) (number old : ℕ) → slice_get (set_from 0 sections) number ≡ Some old
+        → option_map (λ p. p.«module») (place_in (map (λ o. o.sections) (origins_left sections publics origins)) number)
+        ≡ option_map (λ p. p.«module») (place_in (map (λ o. o.sections) origins) old) }
+    ensures publics { (origins : List Origin) (sections publics : List Bool) (number old : ℕ) → slice_get (set_from 0 publics) number ≡ Some old
+        → option_map (λ p. p.«module») (place_in (map (λ o. o.publics) (origins_left sections publics origins)) number)
+        ≡ option_map (λ p. p.«module») (place_in (map (λ o. o.publics) origins) old) }
 {}

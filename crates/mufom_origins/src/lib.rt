@@ -14,7 +14,8 @@ mod origins;
 mod tests;
 
 pub use laws::{
-    publics_come_from_modules, references_come_from_modules, sections_come_from_modules,
-    selected_origins_are_those_of_the_flat_list, the_start_comes_from_a_module,
+    entries_left_keep_their_modules, publics_come_from_modules, references_come_from_modules,
+    sections_come_from_modules, selected_origins_are_those_of_the_flat_list,
+    the_start_comes_from_a_module,
 };
 pub use origins::{Origin, Origins, Place};

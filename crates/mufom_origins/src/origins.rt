@@ -1,8 +1,8 @@
 ghost use Rattle.std.specs.Prelude.{◌≡◌, ◌<◌, ◌≤◌, ◌^◌, ◌+◌, ◌++◌, drop, length, map, option_map, option_to_list, position, slice_get, take, nat_le};
 ghost use Rattle.std.specs.Prelude.{ℕ, List as list, IfOk, OnOk};
 ghost use Rattle.std.specs.List.Sorted.{IsNonDecreasing};
-ghost use Rattle.mufom_origins.specs.Origins.{AreEnds, AreIndexed, count_of, counts_of, numbered, origin_of, origins_of};
-ghost use Rattle.mufom_origins.specs.Places.{HasEnded, at_positions, capped, ends_from, entries_before, place_in, with_chosen};
+ghost use Rattle.mufom_origins.specs.Origins.{AreEnds, AreIndexed, count_of, counts_of, numbered, origin_of, origins_left, origins_of};
+ghost use Rattle.mufom_origins.specs.Places.{HasEnded, at_positions, capped, ends_from, entries_before, place_in, set_marks, with_chosen};
 
 use mufom_module::Module;
 use mufom_numbers::{Bytes, NoMemory};
@@ -208,6 +208,45 @@ fn copy_chosen(
     Ok(())
 }
 
+// How many marks are set.
+fn set_marks(marks: &[bool]) -> usize
+    ensures { result ≡ set_marks marks.now }
+{
+    let mut count = 0;
+    for mark in marks {
+        if *mark {
+            count += 1;
+        }
+    }
+    count
+}
+
+// The first marks, at most this many, and the others.
+fn split_marks(marks: &[bool], count: usize) -> (&[bool], &[bool])
+    ensures first { result.0.now ≡ take count marks.now }
+    ensures others { result.1.now ≡ drop count marks.now }
+{
+    match marks.split_at_checked(count) {
+        Some(both) => both,
+        None => (marks, &[]),
+    }
+}
+
+// A copy of what is kept of a module, of whose sections and publics these are the marks.
+fn copy_left(
+    alloc: Global,
+    origin: &Origin,
+    sections: &[bool],
+    publics: &[bool],
+) -> Result<Origin, NoMemory>
+    ensures { IfOk result (λ copy. copy ≡ record origin.now { sections = set_marks sections.now; publics = set_marks publics.now }) }
+{
+    let mut copy = copy_of(alloc, origin)?;
+    copy.sections = set_marks(sections);
+    copy.publics = set_marks(publics);
+    Ok(copy)
+}
+
 // The modules that are kept from a position on.
 fn after_first(modules: &[Origin], count: usize) -> &[Origin]
     ensures { result.now ≡ drop count modules.now }
@@ -252,6 +291,31 @@ impl Origins {
         let modules = self.modules.as_slice();
         let mut copies = copy_first(alloc, modules, roots)?;
         copy_chosen(alloc, after_first(modules, roots), chosen, &mut copies)?;
+        Origins::indexed(alloc, copies)
+    }
+
+    /// The origins of the sections and publics that are left of a link, by a mark for each of them in the
+    /// order of the flat list; a mark is set if the entry is left. They are numbered without the others.
+    /// References keep their numbers. Time and memory are proportional to the marks, the modules and their
+    /// names.
+    pub fn left(
+        &self,
+        alloc: Global,
+        sections: &[bool],
+        publics: &[bool],
+    ) -> Result<Origins, NoMemory>
+        ensures { IfOk result (λ origins. origins ≡ origins_left sections.now publics.now self.now) }
+    {
+        let mut copies = Vec::with_capacity(alloc, self.modules.len())?;
+        let mut sections = sections;
+        let mut publics = publics;
+        for origin in self.modules.as_slice() {
+            let (own_sections, later_sections) = split_marks(sections, origin.sections);
+            let (own_publics, later_publics) = split_marks(publics, origin.publics);
+            copies.push(copy_left(alloc, origin, own_sections, own_publics)?)?;
+            sections = later_sections;
+            publics = later_publics;
+        }
         Origins::indexed(alloc, copies)
     }
 

@@ -77,3 +77,28 @@ fn selected_members_keep_their_files(rt: HostRuntime) {
     );
     assert_eq!(rt; flat.start(), Some(1));
 }
+
+#[test]
+fn publics_that_are_left_keep_their_modules(rt: HostRuntime) {
+    let origins = three(&rt, rt.alloc());
+    let left = origins
+        .left(rt.alloc(), &[], &[false, true, true])
+        .expect(&rt, "memory");
+    assert_eq!(rt; left.as_slice().len(), 3);
+    assert_eq!(rt;
+        left.public(0),
+        Some(Place {
+            module: 1,
+            entry: 0
+        })
+    );
+    assert_eq!(rt;
+        left.public(1),
+        Some(Place {
+            module: 2,
+            entry: 0
+        })
+    );
+    assert_eq!(rt; left.public(2), None);
+    assert_eq!(rt; left.start(), Some(2));
+}
