@@ -75,6 +75,57 @@ static RUNS: [Run; 8] = [
     ),
 ];
 
+/// Modules that ask for 6 bytes of `c`, for 4 of `d`, and for 4 of `c`, and a plan.
+const TWO_NAMES: &[File] = &[
+    (
+        "x",
+        Held::Section(SECTION, b"\xE9\x0B\x01c\xF4\x0B\x06", REFERENCE),
+    ),
+    (
+        "y",
+        Held::Section(SECTION, b"\xE9\x0B\x01d\xF4\x0B\x04", REFERENCE),
+    ),
+    (
+        "z",
+        Held::Section(SECTION, b"\xE9\x0B\x01c\xF4\x0B\x04", REFERENCE),
+    ),
+    ("p", Held::Bytes(RAM)),
+];
+
+/// The three sections end at 10C, so the first common begins at 110, and the next at 118.
+const C_FIRST: &str = "00000100: 00 00 01 10 00 00 01 18 00 00 01 10\n";
+
+const D_FIRST: &str = "00000100: 00 00 01 10 00 00 01 18 00 00 01 18\n";
+
+static ORDERED: [Run; 4] = [
+    (TWO_NAMES, "", "dump --plan=p x y z", 0, C_FIRST),
+    (TWO_NAMES, "link -o c x y z", "dump --plan=p c", 0, C_FIRST),
+    // The order is that in which the names first appear.
+    (TWO_NAMES, "", "dump --plan=p y x z", 0, D_FIRST),
+    // The size is the greatest, although a later module asks for less.
+    (
+        TWO_NAMES,
+        "",
+        "map --plan=p x y z",
+        0,
+        "module 0 \"m\" file 0\n\
+            module 1 \"m\" file 1\n\
+            module 2 \"m\" file 2\n\
+            region 0 \"ram\" at 00000100 size 64 used 22 free 42 [######..###.##..................]\n\
+            section 0 00000100 size 4 align 1 \"t\" module 0 region 0\n\
+            section 1 00000104 size 4 align 1 \"t\" module 1 region 0\n\
+            section 2 00000108 size 4 align 1 \"t\" module 2 region 0\n\
+            common 3 00000110 size 6 align 8 \"c\" region 0\n\
+            common 4 00000118 size 4 align 8 \"d\" region 0\n\
+            sections 5 bytes 22 loaded 12\n",
+    ),
+];
+
+#[test]
+fn commons_are_in_order_with_their_greatest_sizes(rt: HostRuntime) {
+    all_come_to(&rt, rt.alloc(), &ORDERED);
+}
+
 #[test]
 fn room_is_shared_or_refused(rt: HostRuntime) {
     all_come_to(&rt, rt.alloc(), &RUNS);
