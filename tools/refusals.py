@@ -65,12 +65,14 @@ def examples():
         name = re.fullmatch(r"`([^`]*)`", cells[0])
         if not name:
             continue
-        if len(cells) == 5:
-            example = re.fullmatch(r"`([^`]*)` at (\d+)", cells[3])
+        if len(cells) in (4, 5):
+            # Only rows of an object file have a column for the offset, before the example.
+            cell = cells[-2]
+            example = re.fullmatch(r"`([^`]*)` at (\d+)", cell)
             if example and file_of(example.group(1)) is not None:
                 words, wanted = wanted_of(name.group(1), example.group(2))
                 yield words, file_of(example.group(1)), wanted
-            example = re.fullmatch(r"`words ([^`]*)`", cells[3])
+            example = re.fullmatch(r"`words ([^`]*)`", cell)
             if example:
                 yield example.group(1).split(), None, "refused: " + name.group(1).replace("NAME", '"z"')
         elif len(cells) == 3:

@@ -1,4 +1,4 @@
-//! Reading all bytes of a file that may have only so many.
+//! Reading a whole file of a limited length.
 
 ghost use Rattle.std.specs.Prelude.{◌≡◌, ◌⊎◌, ◌<◌, ◌∷◌, ◌++◌, [], length, take, IfErr, IfOk, IfSome, OnOk, OnSome, Ok, Err};
 ghost use Rattle.mufom_host.specs.World.{GrowsBy, OnlyOpens, OnlyReads, Reads, Rose};

@@ -26,7 +26,7 @@ fn cell_start(region: &Region, cell: u32) -> u128
     region.base as u128 + cell as u128 * region.size as u128 / CELLS as u128
 }
 
-// The sign of a cell of some addresses, of which so many are used.
+// The sign of a cell with this many addresses, `used` of which lie in a section.
 fn sign(addresses: u128, used: u128) -> u8
     ensures { result ≡ sign addresses used }
 {

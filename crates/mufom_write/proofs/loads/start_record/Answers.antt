@@ -9,4 +9,5 @@ returns-in_err-expression g c = let l = g.met.K.Output in l.joins _ _ _ _ _ _ _ 
     (l.stops _ _ _ _ _ _ _ c.in_err-expression.ensures c.from_residual-in_err-expression.ensures.0 refl) refl
 
 pub returns : goal.returns
-returns g c = let l = g.met.K.Output in l.joins _ _ _ _ _ _ _ c.in_ok-record.ensures (l.joins _ _ _ _ _ _ _ c.in_ok-expression.ensures (c.put.ensures) refl) refl
+returns g c = let l = g.met.K.Output in l.joins _ _ _ _ _ _ _ c.in_ok-record.ensures
+    (l.joins _ _ _ _ _ _ _ c.in_ok-expression.ensures (c.put.ensures) refl) refl

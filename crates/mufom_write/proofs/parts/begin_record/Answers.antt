@@ -9,4 +9,5 @@ returns-in_err-string g c = let l = g.met.K.Output in l.joins _ _ _ _ _ _ _ c.in
     (l.stops _ _ _ _ _ _ _ c.in_err-string.ensures c.from_residual-in_err-string.ensures.0 refl) refl
 
 pub returns : goal.returns
-returns g c = let l = g.met.K.Output in l.joins _ _ _ _ _ _ _ c.in_ok-record.ensures (l.joins _ _ _ _ _ _ _ c.in_ok-string.ensures (c.string-2.ensures) refl) refl
+returns g c = let l = g.met.K.Output in l.joins _ _ _ _ _ _ _ c.in_ok-record.ensures
+    (l.joins _ _ _ _ _ _ _ c.in_ok-string.ensures (c.string-2.ensures) refl) refl

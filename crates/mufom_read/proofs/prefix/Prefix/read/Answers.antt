@@ -28,7 +28,8 @@ take-requires-clause-placed c =
 
 pub overflow_add-result : goal.overflow_add-result
 overflow_add-result c = let within = bad-within c.mode.result c.args.rest.now c.in-Err-Bad.offset c.in-Err-Bad.reason
-    ((c.in-Err-Bad.ensures.bad c.in-Err-Bad.offset c.in-Err-Bad.reason).0 (ap (λ (stop : Stop). Err stop) c.in-Err-Bad.field-0-is)) in omega (arith, within, c.requires.fits)
+    ((c.in-Err-Bad.ensures.bad c.in-Err-Bad.offset c.in-Err-Bad.reason).0 (ap (λ (stop : Stop). Err stop) c.in-Err-Bad.field-0-is)) in omega
+    (arith, within, c.requires.fits)
 
 pub returns-in-Ok : goal.returns-in-Ok
 returns-in-Ok c = if_ok _ _ c.take.result (λ done taken. λ prefix is at.

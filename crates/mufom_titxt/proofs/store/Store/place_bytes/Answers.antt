@@ -12,7 +12,8 @@ no_address (Some a) h = absurd (cc h)
 pub returns-clause-cells : goal.returns-clause-cells
 returns-clause-cells c =
     let within : c.args.from + length c.args.bytes.now ≤ c.args.modulus = omega (arith, c.if-from-modulus.false, c.if-modulus-from.false) in
-    c.in_ok-add.ensures.cells ∙ ap (λ cells. loaded_cells c.args.self.now.loaded ++ cells) (sym (open_cells-whole c.args.modulus c.args.from c.args.bytes.now within))
+    c.in_ok-add.ensures.cells ∙ ap (λ cells. loaded_cells c.args.self.now.loaded ++ cells)
+    (sym (open_cells-whole c.args.modulus c.args.from c.args.bytes.now within))
 
 pub returns-clause-hits : goal.returns-clause-hits
 returns-clause-hits c =
