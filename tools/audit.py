@@ -313,7 +313,8 @@ def page_text():
     return "\n".join([
         "# What there is to trust", "",
         "All definitions that are reached from the laws of `mufom_headline`, the contract of `run`, and the public laws of `mufom_command`"
-        " and `mufom_groups`. Anyone who reads them and trusts the toolchain knows what is proved. `python3 tools/audit.py` writes this page; with `--check` it says whether the page is up to"
+        " and `mufom_groups`. Anyone who reads them and trusts the toolchain knows what is proved; [how to read a contract](ARCHITECTURE.md#how-to-read-a-contract)"
+        " explains the notation. `python3 tools/audit.py` writes this page; with `--check` it says whether the page is up to"
         " date.", "",
         "## The clauses", "", "| function | lines | file |", "|---|---|---|",
         *[f"| `{name}` | {lines} | `crates/{path}` |" for path, name, lines, _ in functions], "",
