@@ -6,5 +6,7 @@ pub const MOST_ALIGNMENT: u64 = 2_147_483_648;
 pub const MOST_FILE_BYTES: usize = 67_108_864;
 /// The greatest number of bytes that are loaded into an image.
 pub const MOST_IMAGE_BYTES: u64 = 67_108_864;
+/// The greatest length of the file of a memory plan, in bytes.
+pub const MOST_PLAN_BYTES: usize = 65_536;
 /// The greatest number of modules that the command `make` generates and links.
 pub const MOST_MODULES: u32 = 65_536;

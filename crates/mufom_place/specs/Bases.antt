@@ -80,12 +80,12 @@ abbrev pub last_of : {A : Type 0} → Option A → Option A → Option A
 last_of first (Some second) = Some second
 last_of first None = first
 
--- the base that regions give to the section at a position, which stands once among them at most
+-- the base that regions give to the section at a position, which occurs once among them at most
 abbrev pub placing_of : List Placing → ℕ → Option Placing
 placing_of [] n = None
 placing_of (p ∷ more) n = last_of (if p.section == n then Some p else None) (placing_of more n)
 
--- a section stands at its own base, or where a region puts it, or at 0 where no region does
+-- a section is at its own base, or where a region puts it, or at 0 where no region does
 abbrev pub site_with : Option ℕ → Option Placing → Site
 site_with (Some base) placing = record { base = base; region = None }
 site_with None (Some placing) = record { base = placing.base; region = Some placing.region }

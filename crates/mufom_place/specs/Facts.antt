@@ -1,4 +1,4 @@
--- What keeps sections and commons from being placed, and which of it is answered. There are two lists, the sections and the commons;
+-- What keeps sections and commons from being placed, and which of it is returned. There are two lists, the sections and the commons;
 -- positions are those of the one list that has the commons after the sections.
 use Rattle.std.specs.Prelude.{◌≡◌, ◌≢◌, ◌≤◌, ◌<◌, ◌⊎◌, ℕ, ◌+◌, ◌-◌, ◌%◌, ◌^◌, ◌==◌, List, [], ◌∷◌, ◌++◌, length, take, drop, Option, Some, None}
 use Rattle.std.specs.Prelude.{slice_get, Bool, false, not, ◌&&◌, ◌||◌, nat_lt, nat_le, if◌then◌else◌}
@@ -36,7 +36,7 @@ sections_before count sections = take (length sections - count) sections
 abbrev pub last_sections : ℕ → List Section → List Section
 last_sections count sections = drop (length sections - count) sections
 
--- a refusal is what is answered, but for out of memory
+-- a refusal is what is returned, but for out of memory
 abbrev pub IsAnswer : Option PlaceRefusal → PlaceRefusal → Type 0
 IsAnswer answer refusal = refusal ≢ NoMemory → answer ≡ Some refusal
 
@@ -105,7 +105,7 @@ first_overlap [] = None
 first_overlap (x ∷ []) = None
 first_overlap (x ∷ y ∷ more) = if nat_lt y.base (x.base + x.size) then Some (Overlap x.section y.section) else first_overlap (y ∷ more)
 
--- what is answered in place of the bases
+-- what is returned in place of the bases
 abbrev pub place_refusal : ℕ → Plan → List Section → List Section → Option PlaceRefusal
 place_refusal width plan sections commons =
     first_some (unplaced_at (listed_names plan.regions)) (numbered sections)
@@ -114,7 +114,7 @@ place_refusal width plan sections commons =
 
 -- The same as relations, which state nothing of an order.
 
--- the section or common at a position stands at a site
+-- the section or common at a position is at a site
 pub record IsAt (plan : Plan) (sections commons : List Section) (n : ℕ) (section : Section) (site : Site) : Type 0 where
   pub found : slice_get (sections ++ commons) n ≡ Some section
   pub placed : site ≡ site_of plan sections commons (n, section)

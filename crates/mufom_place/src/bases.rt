@@ -21,7 +21,7 @@ fn aligned_up(align: u64, address: u128) -> u128
     (address + (align - 1)) / align * align
 }
 
-/// Puts sections one after another, and answers the end of the last.
+/// Puts sections one after another, and returns the end of the last.
 fn pack(
     placings: &mut List<Placing>,
     waiting: &[Waiting],
@@ -47,7 +47,7 @@ fn pack(
     Ok(end)
 }
 
-/// Puts the sections at the entries of a region one after another, and answers the end of the last.
+/// Puts the sections at the entries of a region one after another, and returns the end of the last.
 fn pack_entries(
     placings: &mut List<Placing>,
     entries: &[List<Waiting>],

@@ -6,7 +6,7 @@ ghost use Rattle.mufom_plan.specs.declared.plan.Plan.{Plan};
 ghost use Rattle.mufom_place.specs.declared.refusal.PlaceRefusal.{PlaceRefusal};
 ghost use Rattle.mufom_place.specs.Facts.{Stands, place_refusal};
 
-/// What is answered in place of bases is a fact that stands, and where nothing is answered no fact
+/// What is returned in place of bases is a fact that holds, and where nothing is returned no fact
 /// stands. So there is an answer exactly where there is a fact.
 pub fn place_refusals_are_facts()
     ensures sound { (width : ℕ) (plan : Plan) (sections commons : List Section) (fact : PlaceRefusal)

@@ -1,6 +1,6 @@
 //! Placing: the base of each section of a flat list, by a memory plan.
 //!
-//! The crate stands on `mufom_numbers`, on `mufom_sections` for the sections, on `mufom_plan` for the
+//! The crate depends on `mufom_numbers`, on `mufom_sections` for the sections, on `mufom_plan` for the
 //! plan, and on `thiserror`. Its main clause is that of [`place`]: the bases are the exact ones that the plan gives, where every
 //! section has a place, lies in the address space and in its region, and shares no address with
 //! another; and a refusal is the first of these that fails.
@@ -19,4 +19,5 @@ mod site;
 pub use laws::place_refusals_are_facts;
 pub use placement::place;
 pub use refusal::PlaceRefusal;
-pub use regions::section_regions;
+pub use regions::{all_placings, section_regions};
+pub use site::Placing;

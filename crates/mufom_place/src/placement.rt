@@ -1,3 +1,5 @@
+//! Placing sections and commons by a plan.
+
 ghost use Rattle.std.specs.Prelude.{◌≡◌, ◌≤◌, ◌<◌, ◌+◌, ◌^◌, Some, None, IfOk, IfErr, OnOk, All, length, false};
 ghost use Rattle.mufom_plan.specs.Commons.{HasAtMostOneCommon, has_common};
 ghost use Rattle.mufom_plan.specs.Names.{AreDistinctNames, listed_names};
@@ -41,7 +43,7 @@ pub(crate) fn regional(
 /// The bases of sections and commons by a plan, in the order of the list.
 ///
 /// The last `commons` sections of the list are the commons; they have no base of their own. Any
-/// other section with a base stands there. The rest go where the lists of the plan's regions put
+/// other section with a base is there. The rest go where the lists of the plan's regions put
 /// them: by the order of a list, for one name in the order of the sections, each at the least
 /// multiple of its alignment that is not below the end of the one before, the first not below the
 /// region's base. The name `*` stands for itself and for all names that no list has. In the common
@@ -49,7 +51,7 @@ pub(crate) fn regional(
 /// sizes are in addressable units.
 ///
 /// `width` is the number of bits of an address, a multiple of 8 from 8 to 64. Alignments are 1 to
-/// 2^31, there are fewer than 2^32 sections and regions, no section name stands twice in the plan,
+/// 2^31, there are fewer than 2^32 sections and regions, no section name occurs twice in the plan,
 /// and at most one region is common, as [`read_plan`](mufom_plan::read_plan) gives it. There are
 /// commons only where a region is common. `Unplaced` goes first, then `Misfit`, each with the
 /// first such section, and then `Overlap`, with the first two neighbours by base and then by
@@ -75,7 +77,7 @@ pub fn place(
     ensures bases { IfOk result (λ bases. bases ≡ bases_of plan.now (sections_before commons sections.now) (last_sections commons sections.now)) }
     ensures placed { OnOk result (place_refusal width plan.now (sections_before commons sections.now) (last_sections commons sections.now) ≡ None) }
 
-    // A refusal is the first thing that keeps them, or there was no memory.
+    // A refusal is the first thing that keeps them, or memory ran out.
     ensures refused { IfErr result
         (IsAnswer (place_refusal width plan.now (sections_before commons sections.now) (last_sections commons sections.now))) }
 {

@@ -1,3 +1,5 @@
+//! Why sections cannot be placed.
+
 use mufom_numbers::NoMemory;
 use thiserror::Error;
 
@@ -14,8 +16,8 @@ pub enum PlaceRefusal {
     /// Two sections of positive size share an address. The one that begins first comes first.
     #[error("sections {0} and {1} overlap")]
     Overlap(u32, u32),
-    /// There was no memory.
-    #[error("no memory")]
+    /// Out of memory.
+    #[error("out of memory")]
     NoMemory,
 }
 

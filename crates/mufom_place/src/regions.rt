@@ -15,8 +15,12 @@ use mufom_plan::Plan;
 use mufom_sections::Section;
 use std::alloc::Global;
 
-/// The bases that the regions of a plan give to sections and commons, if no section is unplaced.
-fn all_placings(
+/// The bases that the regions of a plan give to sections and commons, region by region and in the order in
+/// which a region is filled, whether they fit there or not.
+///
+/// No section is unplaced by the plan. Alignments are 1 to 2^31, there are fewer than 2^32 sections,
+/// commons and regions, and no section name occurs twice in the plan. The only error is out of memory.
+pub fn all_placings(
     alloc: Global,
     sections: &[Section],
     commons: &[Section],

@@ -1,3 +1,5 @@
+//! Sections that wait for a base, and the bases that regions give.
+
 /// A section that waits for its base.
 #[derive(Clone, Copy, Debug, PartialEq, Eq)]
 pub struct Waiting {

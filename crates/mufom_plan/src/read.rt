@@ -11,13 +11,11 @@ use crate::region::{region, value_at};
 use crate::{NameList, Plan, PlanField, PlanRefusal, Region};
 use mufom_names::HashSeed;
 use mufom_numbers::List;
+use mufom_numbers::limits::MOST_PLAN_BYTES;
 use std::alloc::Global;
 use toml::{Table, Value};
 
-/// The greatest number of bytes of a plan.
-const MAX_PLAN_BYTES: usize = 65_536;
-
-/// What is answered where `region` is no array of tables.
+/// What is returned where `region` is no array of tables.
 const NO_REGIONS: PlanRefusal = PlanRefusal::Shape {
     region: None,
     field: PlanField::Region,
@@ -91,21 +89,21 @@ fn plan(alloc: Global, seed: HashSeed, document: &Table) -> Result<Plan, PlanRef
 ///
 /// The plan is a TOML document whose only key is `region`, an array of tables, each with exactly
 /// the keys `name`, `base`, `size` and `sections`, and where wanted `common`. No bytes are the plan
-/// without regions. What is wrong is answered in this order: too many bytes, no document, another
+/// without regions. What is wrong is returned in this order: too many bytes, no document, another
 /// key, no array of tables, and then region by region another key, the name, the base, the size,
 /// the section names, the truth value `common`, and an end above 2^63 - 1.
 pub fn read_plan(alloc: Global, text: &[u8]) -> Result<Plan, PlanRefusal>
     // The plan is the one that the document states.
     ensures ok { IfOk result (λ plan. plan_of_text text.now ≡ Ok plan) }
-    // A refusal is the first thing that is wrong, or there was no memory.
+    // A refusal is the first thing that is wrong, or memory ran out.
     ensures refused { IfErr result (λ refusal. refusal ≢ PlanRefusal.NoMemory → plan_of_text text.now ≡ Err refusal) }
-    // No section name stands twice in the plan.
+    // No section name occurs twice in the plan.
     ensures distinct { IfOk result (λ plan. AreDistinctNames (listed_names plan.regions)) }
     // At most one region takes the commons.
     ensures common { IfOk result (λ plan. HasAtMostOneCommon plan.regions) }
     ensures count { IfOk result (λ plan. length plan.regions < 2 ^ 32) }
 {
-    if text.len() > MAX_PLAN_BYTES {
+    if text.len() > MOST_PLAN_BYTES {
         return Err(PlanRefusal::TooLong);
     }
     let document = document(alloc, text)?;
