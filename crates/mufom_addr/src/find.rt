@@ -1,3 +1,5 @@
+//! Looking up one address among the debug items of a located program.
+
 ghost use Rattle.std.specs.Prelude.{◌≡◌, ◌≤◌, IfOk};
 ghost use Rattle.mufom_debug.specs.Marks.{depth_of, marks_of};
 ghost use Rattle.mufom_addr.specs.AddressHit.{hit_at};

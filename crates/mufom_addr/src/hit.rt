@@ -1,3 +1,5 @@
+//! What is found at an address: a function and a source line.
+
 use mufom_numbers::Bytes;
 
 /// A function around an address.

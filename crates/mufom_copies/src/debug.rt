@@ -13,15 +13,15 @@ use std::alloc::Global;
 
 /// What puts other expressions in the place of expressions.
 pub trait ExpressionMap {
-    /// The expression that stands in the place of an expression.
+    /// The expression that replaces an expression.
     ghost meaning: { Self → Tree → Tree };
 
-    /// The expression that stands in the place of this one.
+    /// The expression that replaces this one.
     fn expression(&self, alloc: Global, value: &Postfix) -> Result<Postfix, NoMemory>
         ensures { IfOk result (λ other. other ≡ meaning self.now value.now) };
 }
 
-// Each expression stands in its own place.
+// Each expression is in its own place.
 struct Same;
 
 impl ExpressionMap for Same {
@@ -133,7 +133,7 @@ fn map_debug_item<M: ExpressionMap>(
     }
 }
 
-/// A copy of debug items, with all that stands in blocks, in which each expression is replaced.
+/// A copy of debug items, with all that is in blocks, in which each expression is replaced.
 /// Section positions, names and notes stay.
 #[cycle(copying)]
 pub fn map_debug_items<M: ExpressionMap>(
@@ -150,7 +150,7 @@ pub fn map_debug_items<M: ExpressionMap>(
     Ok(copies)
 }
 
-/// A copy of debug items, with all that stands in blocks.
+/// A copy of debug items, with all that is in blocks.
 pub fn copy_debug_items(alloc: Global, items: &[DebugItem]) -> Result<List<DebugItem>, NoMemory>
     ensures { IfOk result (λ copies. copies ≡ items.now) }
 {

@@ -1,9 +1,9 @@
 //! Copies of what a module states, and of modules.
 //!
 //! Partial links and locations of modules that stay as they are need copies of what stays the same.
-//! Debug items are copied as they are, or with other expressions by an [`ExpressionMap`]. It stands
+//! Debug items are copied as they are, or with other expressions by an [`ExpressionMap`]. It depends
 //! on `mufom_module` and the crates of a module's values. Each clause states that the copy is what
-//! was copied; out of memory is the only other answer.
+//! was copied; out of memory is the only other result.
 #![tactic(auto)]
 
 mod debug;

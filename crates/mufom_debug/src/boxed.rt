@@ -1,3 +1,5 @@
+//! A value on the heap, for types that contain themselves.
+
 ghost use Rattle.std.specs.Prelude.{◌≡◌, IfOk};
 
 use mufom_numbers::NoMemory;
@@ -7,7 +9,7 @@ use std::marker::Model;
 /// A value behind a pointer, over `Box`: it takes eight bytes where it is kept. Contracts see it as
 /// the value.
 ///
-/// It can stand in a type that holds itself. Only [`new`](Boxed::new) allocates.
+/// It can be used in a type that contains itself. Only [`new`](Boxed::new) allocates.
 #[derive(Debug, Drop)]
 pub struct Boxed<T> {
     inner: Box<T>,

@@ -1,3 +1,5 @@
+//! How deeply the blocks of debug items are nested.
+
 ghost use Rattle.std.specs.Prelude.{◌≡◌, ◌≤◌, ◌↔◌, IsTrue};
 ghost use Rattle.mufom_debug.specs.Marks.{marks_of, marks_of_item, depth_of};
 
@@ -19,7 +21,7 @@ fn item_depth(item: &DebugItem) -> u32
 
 /// How many blocks are open at once, at most: those on the longest way in.
 ///
-/// The items must be at most 32 deep; [`is_within_depth`] shows. Takes no memory.
+/// The items must be at most 32 deep; [`is_within_depth`] shows. Does not allocate.
 #[cycle(depth)]
 pub fn depth(items: &[DebugItem]) -> u32
     requires { depth_of (marks_of items.now) ≤ 32 }
@@ -46,7 +48,7 @@ fn item_is_within(item: &DebugItem, limit: u32) -> bool
     }
 }
 
-/// Whether at most `limit` blocks are open at once, of items of any depth. Takes no memory.
+/// Whether at most `limit` blocks are open at once, of items of any depth. Does not allocate.
 #[cycle(within)]
 pub fn is_within_depth(items: &[DebugItem], limit: u32) -> bool
     ensures { IsTrue result ↔ (depth_of (marks_of items.now) ≤ limit) }

@@ -1,3 +1,5 @@
+//! Collecting the address expressions of debug items.
+
 ghost use Rattle.std.specs.Prelude.{◌≡◌, ◌≤◌, ◌++◌, map, option_map, option_to_list, IfOk, OnOk};
 ghost use Rattle.mufom_debug.specs.Marks.{marks_of, marks_of_item, depth_of, expressions_of};
 

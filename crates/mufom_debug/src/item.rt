@@ -1,3 +1,5 @@
+//! Debug items: names, notes, values, and blocks of items.
+
 ghost use Rattle.std.specs.Prelude.{◌≡◌, option_map};
 ghost use Rattle.mufom_debug.specs.Marks.{kind_number, offset_of};
 

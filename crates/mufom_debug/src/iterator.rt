@@ -1,3 +1,5 @@
+//! Iterating over the address expressions of debug items.
+
 ghost use Rattle.std.specs.Prelude.{◌≡◌, map};
 ghost use Rattle.std.specs.Iterator.{YieldsFirstRef, item_count};
 

@@ -1,7 +1,7 @@
 //! The debug items of a module: blocks, names, and the values and notes of names.
 //!
 //! Blocks hold items, and some of these are blocks. Contracts read the items as one flat list of
-//! marks, in the order of the file: a block is its begin, its items and its end. It stands on
+//! marks, in the order of the file: a block is its begin, its items and its end. It depends on
 //! `mufom_numbers`, `mufom_expr`, `mufom_names` and `arrayvec`. Its main clause is that
 //! [`addresses`] gives every expression once, in the order of the marks: of a block its offset, then
 //! those of its items, then its end.

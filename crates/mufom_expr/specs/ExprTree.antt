@@ -63,13 +63,13 @@ IsExpression expr = IsSomeAnd (tree_of_expr expr) (λ t. length (tokens_of t) �
 
 -- ---- the trees that stand while the tokens of an expression are gone through, the last first
 
--- the trees that stand after a function of one or two operands
+-- the trees that are after a function of one or two operands
 abbrev pub trees_applied : ℕ → Function → List (Option Tree) → List (Option Tree)
 trees_applied (suc zero) f (a ∷ trees) = over_one (one_operand f) a ∷ trees
 trees_applied (suc (suc zero)) f (b ∷ a ∷ trees) = over_two (two_operands f) a b ∷ trees
 trees_applied _ f trees = trees
 
--- the trees that stand after a token
+-- the trees that are after a token
 abbrev pub trees_with : List (Option Tree) → Token → List (Option Tree)
 trees_with trees (tokens.Number n) = Some (number n) ∷ trees
 trees_with trees (tokens.Var letter place) = Some (variable letter place) ∷ trees

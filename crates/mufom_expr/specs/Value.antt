@@ -52,7 +52,7 @@ both f (Some a) None = None
 both f None b = None
 
 -- The value of a tree modulo m, where the environment states what each variable is worth. It is none where a variable
--- that stands in the tree has none, or where a divisor is 0.
+-- that is in the tree has none, or where a divisor is 0.
 abbrev pub value_at : ℕ → Environment → Tree → Option ℕ
 value_at m env (number n) = Some (n % m)
 value_at m env (variable letter place) = option_map (λ v. v % m) (env letter place)

@@ -33,19 +33,19 @@ binary_value m functions.Or a b = two_value m or_bits a b
 binary_value m functions.Xor a b = two_value m xor_bits a b
 binary_value m _ a b = None
 
--- the values that stand after a function of one or two operands, where these stand before it
+-- the values that are after a function of one or two operands, where these are before it
 abbrev pub values_applied : ℕ → ℕ → Function → List (Option ℕ) → List (Option ℕ)
 values_applied m (suc zero) f (a ∷ values) = option_map (unary_value m f) a ∷ values
 values_applied m (suc (suc zero)) f (b ∷ a ∷ values) = both (binary_value m f) a b ∷ values
 values_applied m _ f values = values
 
--- the values that stand after a token
+-- the values that are after a token
 abbrev pub values_with : ℕ → Environment → List (Option ℕ) → Token → List (Option ℕ)
 values_with m env values (Number n) = Some (n % m) ∷ values
 values_with m env values (Var letter place) = option_map (λ v. v % m) (env letter place) ∷ values
 values_with m env values (Fun f) = values_applied m (operands f) f values
 
--- the values that stand after the tokens
+-- the values that are after the tokens
 abbrev pub values_after : ℕ → Environment → List (Option ℕ) → List Token → List (Option ℕ)
 values_after m env values [] = values
 values_after m env values (token ∷ tokens) = values_after m env (values_with m env values token) tokens
@@ -54,7 +54,7 @@ values_after m env values (token ∷ tokens) = values_after m env (values_with m
 abbrev pub AreResidues : ℕ → List (Option ℕ) → Type 0
 AreResidues m values = AllByRecursion (λ v. IfSome v (λ n. n < m)) values
 
--- a value stands there, and it is 0
+-- a value is there, and it is 0
 abbrev pub zero_there : Option (Option ℕ) → Bool
 zero_there None = false
 zero_there (Some value) = is_zero value

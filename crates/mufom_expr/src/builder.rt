@@ -1,3 +1,5 @@
+//! Building an expression token by token.
+
 ghost use Rattle.std.specs.Prelude.{◌≡◌, ◌≢◌, ◌⊎◌, ◌↔◌, ◌<◌};
 ghost use Rattle.std.specs.Prelude.{[], ◌∷◌, ◌++◌, length, IfOk, OnOk, OnErr, Err, Some};
 ghost use Rattle.mufom_expr.specs.Tree.{tokens_of, IsInRange};
@@ -33,7 +35,7 @@ impl Model for Builder {
 }
 
 impl Builder {
-    /// No tokens. Takes no memory.
+    /// No tokens. Does not allocate.
     pub fn new(alloc: Global) -> Builder
         ensures { result ≡ [] }
     {
@@ -77,7 +79,7 @@ impl Builder {
         Ok(())
     }
 
-    /// The expression that the tokens are. Takes no memory.
+    /// The expression that the tokens are. Does not allocate.
     ///
     /// `Empty` where no token stands, and `SurplusTerms` where more than one term stands. A refused
     /// call gives nothing back.

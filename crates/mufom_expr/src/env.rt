@@ -1,3 +1,5 @@
+//! What a caller provides to an expression: the values of variables, or other variables in their place.
+
 ghost use Rattle.std.specs.Prelude.{◌≡◌, ℕ, Option};
 ghost use Rattle.mufom_expr.specs.declared.token.Letter.{Letter};
 
@@ -15,10 +17,10 @@ pub trait Env {
 
 /// What puts other variables in the place of variables.
 pub trait VarMap {
-    /// The variable that stands in the place of a variable, by letter and number.
+    /// The variable that replaces a variable, by letter and number.
     ghost meaning: { Self → Letter → ℕ → Letter × ℕ };
 
-    /// The letter and the number of the variable that stands in the place of this one.
+    /// The letter and the number of the variable that replaces this one.
     fn map(&self, letter: Letter, index: u32) -> (Letter, u32)
         ensures { result ≡ meaning self.now letter index };
 }

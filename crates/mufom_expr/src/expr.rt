@@ -1,3 +1,5 @@
+//! Expressions as trees, and how postfix tokens become one.
+
 ghost use Rattle.std.specs.Prelude.{◌≡◌, ◌+◌, ◌<◌, ◌≤◌, ◌∷◌, length, reverse, map, OnOk};
 ghost use Rattle.mufom_expr.specs.Codes.{operands, operands_of};
 ghost use Rattle.mufom_expr.specs.ExprTree.{tree_of_expr, trees_with, trees_applied};

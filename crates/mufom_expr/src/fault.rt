@@ -1,3 +1,5 @@
+//! Why tokens are not one expression.
+
 use thiserror::Error;
 
 /// Why tokens are no expression.

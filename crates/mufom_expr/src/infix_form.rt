@@ -1,3 +1,5 @@
+//! The infix form of an expression, as texts print it.
+
 ghost use Rattle.std.specs.Prelude.{◌≡◌, ◌++◌, IfOk, OnOk, IsSome, IfSome, string_bytes};
 ghost use Rattle.mufom_expr.specs.ExprTree.{tree_of_expr, IsExpression};
 ghost use Rattle.mufom_expr.specs.InfixText.{infix_text, letter_text, opening_text, middle_text};
@@ -34,7 +36,7 @@ pub fn letter_name(letter: Letter) -> &'static str
     }
 }
 
-/// What stands before the operands of a function in the infix form.
+/// What is before the operands of a function in the infix form.
 pub fn infix_opening(function: Function) -> &'static str
     ensures { result.now ≡ opening_text function }
 {
@@ -51,7 +53,7 @@ pub fn infix_opening(function: Function) -> &'static str
     }
 }
 
-/// What stands between the two operands of a function in the infix form.
+/// What is between the two operands of a function in the infix form.
 pub fn infix_middle(function: Function) -> &'static str
     ensures { result.now ≡ middle_text function }
 {

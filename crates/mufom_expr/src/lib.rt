@@ -1,7 +1,7 @@
 //! Expressions of object modules: tokens as a file spells them, expressions in postfix form, the
 //! trees that they are, and their values.
 //!
-//! It stands on `mufom_numbers`, `arrayvec` and `thiserror`. Valuing takes no memory. Its main clause
+//! It depends on `mufom_numbers`, `arrayvec` and `thiserror`. Valuing does not allocate. Its main clause
 //! is that of [`Postfix::value`]: what the run over the tokens leaves is the value of the
 //! expression's tree modulo 2 to the width, for everything that gives variables their values.
 //! Contracts see a [`Postfix`] as its tree, which its tokens give and which gives them back.

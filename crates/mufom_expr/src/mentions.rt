@@ -1,3 +1,5 @@
+//! Iterating over the variables of an expression.
+
 ghost use Rattle.std.specs.Prelude.{◌≡◌};
 ghost use Rattle.mufom_expr.specs.Mentions.{variables_in};
 

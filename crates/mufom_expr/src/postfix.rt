@@ -1,3 +1,5 @@
+//! An expression as its postfix tokens.
+
 ghost use Rattle.std.specs.Prelude.{◌≡◌, ◌≤◌, ◌<◌, ◌↔◌, ◌^◌, [], ◌∷◌, length, IfOk, IfSome, IsTrue, Some};
 ghost use Rattle.mufom_expr.specs.ExprTree.{tree_of_expr, tokens_of_expr, IsExpression};
 ghost use Rattle.std.specs.List.{AllByRecursion};
@@ -68,14 +70,14 @@ impl Model for Postfix {
 }
 
 impl Postfix {
-    /// The expression that is one number. Takes no memory.
+    /// The expression that is one number. Does not allocate.
     pub fn constant(_alloc: Global, value: u64) -> Result<Postfix, NoMemory>
         ensures { IfOk result (λ p. p ≡ number value) }
     {
         Ok(Postfix::single(Token::Number(value)))
     }
 
-    /// The expression that is one token. Takes no memory.
+    /// The expression that is one token. Does not allocate.
     pub fn single(token: Token) -> Postfix
         requires { LeaveOneTerm (token ∷ []) }
         ensures { result ≡ the_term (token ∷ []) }
@@ -97,7 +99,7 @@ impl Postfix {
         }
     }
 
-    /// The expression of tokens that are one. Takes no memory.
+    /// The expression of tokens that are one. Does not allocate.
     pub fn of(tokens: Vec<Token>) -> Postfix
         requires one { LeaveOneTerm tokens.items }
         requires few { length tokens.items ≤ 255 }
@@ -112,7 +114,7 @@ impl Postfix {
         }
     }
 
-    /// The tokens, operands before functions: 1 to 255. Takes no memory.
+    /// The tokens, operands before functions: 1 to 255. Does not allocate.
     pub fn tokens(&self) -> &[Token]
         ensures tokens { result.now ≡ tokens_of self.now }
         ensures few { length (tokens_of self.now) ≤ 255 }
@@ -122,7 +124,7 @@ impl Postfix {
     }
 
     /// The value modulo 2 to the width, which is 8 to 64: `None` where a variable of the expression has
-    /// no value or a divisor is 0. Takes no memory.
+    /// no value or a divisor is 0. Does not allocate.
     pub fn value<E: Env>(&self, env: &E, width: u32) -> Option<u64>
         requires low { 8 ≤ width }
         requires high { width ≤ 64 }
@@ -136,7 +138,7 @@ impl Postfix {
     }
 
     /// Whether a divisor somewhere in the expression has the value 0 modulo 2 to the width, which is 8
-    /// to 64. A divisor without a value does not count. Takes no memory.
+    /// to 64. A divisor without a value does not count. Does not allocate.
     pub fn divides_by_zero<E: Env>(&self, env: &E, width: u32) -> bool
         requires low { 8 ≤ width }
         requires high { width ≤ 64 }
@@ -155,7 +157,7 @@ impl Postfix {
     }
 
     /// The same expression with another variable in the place of each: that which the map gives. An
-    /// expression of one token takes no memory.
+    /// expression of one token does not allocate.
     pub fn map_vars<M: VarMap>(&self, alloc: Global, map: &M) -> Result<Postfix, NoMemory>
         ensures tree { IfOk result (λ p. p ≡ with_variables (M.meaning map.now) self.now) }
         ensures tokens { IfOk result (λ p. tokens_of p ≡ renamed_tokens (M.meaning map.now) (tokens_of self.now)) }
@@ -193,7 +195,7 @@ impl Postfix {
         Ok(Postfix { tokens })
     }
 
-    /// Whether the two are the same expression: the same tokens, so the same tree. Takes no memory.
+    /// Whether the two are the same expression: the same tokens, so the same tree. Does not allocate.
     pub fn equals(&self, other: &Postfix) -> bool
         ensures { IsTrue result ↔ (self.now ≡ other.now) }
     {

@@ -1,3 +1,5 @@
+//! Reading one token of an expression from the bytes of a file.
+
 ghost use Rattle.std.specs.Prelude.{◌≡◌, ◌↔◌, ◌≤◌, ◌+◌, ℕ, List, ◌++◌, length, take, Some};
 ghost use Rattle.mufom_numbers.specs.Spelling.{IfGot, IfBad, number_at};
 ghost use Rattle.mufom_expr.specs.declared.token.Token.{Token};
@@ -55,7 +57,7 @@ fn function(b: u8) -> Option<Function>
 /// `Bad` is at offset 0 with `UnsupportedFunction` where the first byte is that of a function which is
 /// left out, at offset 0 with `UnsupportedVariable` for every other byte that begins no number and is
 /// no letter that is read (the caller hands in bytes that begin a token), and at offset 1 with
-/// `BadNumber` where a letter is followed by no number or by one of 2^32 or more. Takes no memory.
+/// `BadNumber` where a letter is followed by no number or by one of 2^32 or more. Does not allocate.
 #[inline(always)]
 pub fn read_token(input: &[u8]) -> Taken<Token>
     // What is taken is the prefix of the input, and spells the token.
@@ -109,7 +111,7 @@ fn token(input: &[u8]) -> Taken<Token>
     }
 }
 
-// The variable of this letter, of which the index stands next: most have one byte.
+// The variable of this letter, of which the index is next: most have one byte.
 #[inline(always)]
 fn variable(letter: Letter, rest: &[u8]) -> Taken<Token>
     ensures exact { result ≡ variable_token (Some letter) (number_at rest.now) }
@@ -123,7 +125,7 @@ fn variable(letter: Letter, rest: &[u8]) -> Taken<Token>
     variable_of_number(letter, rest)
 }
 
-// The variable of this letter, of which the index is the number that stands next.
+// The variable of this letter, of which the index is the number that is next.
 #[inline(never)]
 fn variable_of_number(letter: Letter, rest: &[u8]) -> Taken<Token>
     ensures exact { result ≡ variable_token (Some letter) (number_at rest.now) }

@@ -1,3 +1,5 @@
+//! The tokens of an expression: numbers, variables and functions.
+
 ghost use Rattle.std.specs.Prelude.{◌≡◌};
 ghost use Rattle.mufom_expr.specs.Codes.{operands_of};
 ghost use Rattle.mufom_expr.specs.Tree.{IsInRange};

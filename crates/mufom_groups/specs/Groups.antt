@@ -42,13 +42,13 @@ files_of (Close ∷ marks) = files_of marks
 
 -- ---- modules in place of groups
 
--- The module stands in the place of the group: it is its only module, or its link, under the name of the first module.
+-- The module replaces the group: it is its only module, or its link, under the name of the first module.
 pub record IsInPlaceOf (M : Parts) (own : List Parts) : Type 0 where
   pub link : IsLinkOrItself M own
   pub name : M.name ≡ first_name own
   pub valid : IsValid M
 
--- each module stands in the place of its group, one group for each
+-- each module replaces its group, one group for each
 abbrev pub AreInPlaceOf : List Parts → List (List Parts) → Type 0
 AreInPlaceOf [] [] = Unit {0}
 AreInPlaceOf (M ∷ Ms) (own ∷ groups) = IsInPlaceOf M own × AreInPlaceOf Ms groups
@@ -105,7 +105,7 @@ pub record IsOwnLink (M : Parts) : Type 0 where
   pub joined : IsJoined M (M ∷ []) M.name
   pub linkable : link_answer (M ∷ []) ≡ None
 
--- The roots were linked into one module, which stands in their place and is its own link, and no list before that had a link fact.
+-- The roots were linked into one module, which is in their place and is its own link, and no list before that had a link fact.
 pub record AreRootsLinked (marks : List Mark) (ms new : List Parts) : Type 0 where
   pub link : Parts
   pub new_list : new ≡ link ∷ []

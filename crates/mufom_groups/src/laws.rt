@@ -24,7 +24,7 @@ pub fn links_are_single()
 {}
 
 /// The module into which modules without a defect are linked stands for their flat list: it means what
-/// the list means, whatever modules stand around it and wherever its sections are placed.
+/// the list means, whatever modules are around it and wherever its sections are placed.
 pub fn links_stand_for_flat_lists()
     ensures { LinksStandForFlat }
 {}

@@ -1,4 +1,4 @@
--- A host in memory: what stands in it, exactly which of its calls fail, and what each call leaves.
+-- A host in memory: what is in it, exactly which of its calls fail, and what each call leaves.
 use Rattle.std.specs.Prelude.{ℕ, ◌+◌, min, nat_lt, Bool, not, ◌||◌, if◌then◌else◌, List, [], ◌++◌, length, drop, Option, Some, None, is_some}
 use Rattle.mufom_host.specs.World.{NamedFile, Meaning, Faults, one_more, optional, with_bytes}
 use Rattle.mufom_host.specs.Revealed.{revealed}
@@ -77,7 +77,7 @@ write_failed m = record m { write_number = one_more m.write_number; faults = rec
 abbrev pub complaint_failed : Memory → Memory
 complaint_failed m = record m { write_number = one_more m.write_number; faults = record m.faults { complaints = one_more m.faults.complaints } }
 
--- the next open or read, and the next other call, stand in the lists of those that fail
+-- the next open or read, and the next other call, are in the lists of those that fail
 abbrev pub is_failing_read : Memory → Bool
 is_failing_read m = is_listed m.read_number m.fail_reads
 

@@ -1,4 +1,4 @@
--- What stands outside, as far as it is known, and what each call does to it.
+-- What is outside, as far as it is known, and what each call does to it.
 use Rattle.std.specs.Prelude.{◌≡◌, ◌⊎◌, ℕ, ◌+◌, ◌-◌, ◌^◌, ◌<◌, ◌≤◌, min, List, [], ◌∷◌, ◌++◌, length, take, drop, Option, Some, None, Result, Ok, Err}
 use Rattle.std.specs.Prelude.{OnOk, OnErr, IfOk, IfSome, IsSome, OnSome, option_map, find}
 use Rattle.std.specs.Str.{bytes_eq}
@@ -9,7 +9,7 @@ use Rattle.mufom_host.specs.declared.world.Failed.{Failed}
 abbrev pub NamedFile : Type 0
 NamedFile = List ℕ × List ℕ
 
--- what stands outside: each part is none where it is not known
+-- what is outside: each part is none where it is not known
 pub record Meaning : Type 0 where
   -- what the open input has left, empty while nothing is open
   pub left : Option (List ℕ)
@@ -52,7 +52,7 @@ pub record Faults : Type 0 where
 abbrev pub one_more : ℕ → ℕ
 one_more count = min (count + 1) (2 ^ 64 - 1)
 
--- a count rose, or stands at the last value of a counter
+-- a count rose, or is at the last value of a counter
 abbrev pub Rose : ℕ → ℕ → Type 0
 Rose before now = one_more before ≤ now
 
@@ -105,7 +105,7 @@ ReadsOff before after bytes = IfSome before (λ left. (rest : List ℕ) × (left
 
 -- ---- what each call does to the parts that it names
 
--- the number that a call answers is at most this
+-- the number that a call returns is at most this
 abbrev pub AtMost : Result ℕ Failed → ℕ → Type 0
 AtMost result n = IfOk result (λ k. k ≤ n)
 

@@ -1,9 +1,11 @@
+//! The counts of failed calls.
+
 ghost use Rattle.std.specs.Prelude.{◌≡◌, ◌≤◌};
 ghost use Rattle.mufom_host.specs.World.{one_more};
 
 use crate::Failed;
 
-/// How often reads, writes and prints of errors failed. Each count stands still at the last `u64`.
+/// How often reads, writes and prints of errors failed. Each count stays at the last `u64`.
 #[derive(Clone, Copy, Debug)]
 pub struct Counts {
     pub reads: u64,

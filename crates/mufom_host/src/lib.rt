@@ -1,8 +1,8 @@
 //! The outside of the program as traits, with two hosts: one in memory for tests, and the files and
 //! standard streams of the process.
 //!
-//! It stands on `mufom_numbers`. A host reveals as much as it likes of what stands outside, and the
-//! contracts of the traits speak of what it reveals. Their main clause is that a call answers
+//! It depends on `mufom_numbers`. A host reveals as much as it likes of what is outside, and the
+//! contracts of the traits speak of what it reveals. Their main clause is that a call returns
 //! [`Failed`] only where its count of faults rose, and that all bytes go where the call states and
 //! all else stays.
 #![tactic(auto)]

@@ -1,3 +1,5 @@
+//! The file that the real host is writing.
+
 use crate::block::Block;
 use std::fs::File;
 use std::io::Write;

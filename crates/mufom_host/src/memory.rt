@@ -1,3 +1,5 @@
+//! A host whose files and outputs are in memory, for tests.
+
 mod buffer;
 mod calls;
 mod files;
@@ -24,7 +26,7 @@ use std::alloc::Global;
 use std::marker::Model;
 
 /// A host in memory, for tests: files that are given, one file that is made, and two texts. It reveals
-/// all that stands in it.
+/// all that is in it.
 ///
 /// It numbers its `open` and `read` calls together from 0, and its `create`, `write`, `finish`,
 /// `print` and `complain` calls together from 0. A call whose number is in the list of its kind
@@ -170,7 +172,7 @@ impl Source for MemHost {
         ensures cause { HasCause (memory_faults self.old).reads (memory_faults self.new).reads result }
         ensures counts { KeepsAllButReads (memory_faults self.old) (memory_faults self.new) }
 
-        // Exactly which calls fail, and what stands after each.
+        // Exactly which calls fail, and the state after each.
         ensures fails { is_err result ≡ is_failing_read self.old }
         ensures count { IfOk result (λ n. n ≡ min (length buffer.new) (length self.old.left)) }
         ensures after { self.new ≡ after_read self.old (length buffer.new) }
@@ -190,7 +192,7 @@ impl Sink for MemHost {
         ensures cause { HasCause (memory_faults self.old).writes (memory_faults self.new).writes result }
         ensures counts { KeepsAllButWrites (memory_faults self.old) (memory_faults self.new) }
 
-        // Exactly which calls fail, and what stands after each: all of the chunk is taken.
+        // Exactly which calls fail, and the state after each: all of the chunk is taken.
         ensures fails { is_err result ≡ write_fails self.old chunk.now }
         ensures count { IfOk result (λ n. n ≡ length chunk.now) }
         ensures after { self.new ≡ after_write self.old chunk.now }
@@ -210,7 +212,7 @@ impl Host for MemHost {
         ensures cause { HasCause (memory_faults self.old).reads (memory_faults self.new).reads result }
         ensures counts { KeepsAllButReads (memory_faults self.old) (memory_faults self.new) }
 
-        // Exactly which calls fail, and what stands after each.
+        // Exactly which calls fail, and the state after each.
         ensures fails { is_err result ≡ open_fails self.old name.now }
         ensures after { self.new ≡ after_open self.old name.now }
     {
@@ -228,7 +230,7 @@ impl Host for MemHost {
         ensures cause { HasCause (memory_faults self.old).writes (memory_faults self.new).writes result }
         ensures counts { KeepsAllButWrites (memory_faults self.old) (memory_faults self.new) }
 
-        // Exactly which calls fail, and what stands after each.
+        // Exactly which calls fail, and the state after each.
         ensures fails { is_err result ≡ create_fails self.old name.now }
         ensures after { self.new ≡ after_create self.old name.now }
     {
@@ -247,7 +249,7 @@ impl Host for MemHost {
         ensures cause { HasCause (memory_faults self.old).writes (memory_faults self.new).writes result }
         ensures counts { KeepsAllButWrites (memory_faults self.old) (memory_faults self.new) }
 
-        // Exactly which calls fail, and what stands after each.
+        // Exactly which calls fail, and the state after each.
         ensures fails { is_err result ≡ is_failing_write self.old }
         ensures after { self.new ≡ after_finish self.old }
     {
@@ -264,7 +266,7 @@ impl Host for MemHost {
         ensures cause { HasCause (memory_faults self.old).writes (memory_faults self.new).writes result }
         ensures counts { KeepsAllButWrites (memory_faults self.old) (memory_faults self.new) }
 
-        // Exactly which calls fail, and what stands after each.
+        // Exactly which calls fail, and the state after each.
         ensures fails { is_err result ≡ (is_failing_write self.old || passes self.old.room self.old.out text.now) }
         ensures after { self.new ≡ after_print self.old text.now }
     {
@@ -281,7 +283,7 @@ impl Host for MemHost {
         ensures cause { HasCause (memory_faults self.old).complaints (memory_faults self.new).complaints result }
         ensures counts { KeepsAllButComplaints (memory_faults self.old) (memory_faults self.new) }
 
-        // Exactly which calls fail, and what stands after each.
+        // Exactly which calls fail, and the state after each.
         ensures fails { is_err result ≡ (is_failing_write self.old || passes self.old.room self.old.err text.now) }
         ensures after { self.new ≡ after_complain self.old text.now }
     {

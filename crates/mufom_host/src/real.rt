@@ -1,3 +1,5 @@
+//! The host of the program: files, standard output and standard error of the system.
+
 ghost use Rattle.std.specs.Prelude.{◌≡◌};
 
 use crate::counts::Counts;

@@ -1,3 +1,5 @@
+//! The traits of a host: reading files, writing one file, and printing.
+
 ghost use Rattle.std.specs.Prelude.{length};
 ghost use Rattle.mufom_host.specs.World.{Meaning, Faults, RevealsTogether, HasCause, AtMost, Reads, Opens, Writes, Creates, Finishes, Grows};
 ghost use Rattle.mufom_host.specs.World.{WritesAll, KeepsAllButLeft, KeepsAllButOpened, KeepsAllButMaking, KeepsAllButCreated, KeepsAllButMade};
@@ -10,13 +12,13 @@ use thiserror::Error;
 #[error("the operation failed")]
 pub struct Failed;
 
-/// What stands outside, each part of it known or not, and how often calls failed.
+/// What is outside, each part of it known or not, and how often calls failed.
 ///
 /// It has no calls, so that a reader over [`Source`] alone and a writer over [`Sink`] alone can state
 /// what stays. A call leaves each part and each count that its own clauses do not name, after `Ok`
 /// and after `Failed`. A part that is known stays known, but for the names of files after a failed
 /// [`open`](Host::open) or [`create`](Host::create). Files that are known hold bytes. The counts
-/// never fall; one that stands at the last `u64` is stated to have risen all the same.
+/// never fall; one that is at the last `u64` is stated to have risen all the same.
 pub trait World {
     ghost meaning: { Self → Meaning };
 
@@ -27,7 +29,7 @@ pub trait World {
 
 /// Where the bytes of the open input come from.
 pub trait Source: World {
-    /// Takes bytes of the open input to the start of the buffer, and answers how many: 0 for a
+    /// Takes bytes of the open input to the start of the buffer, and returns how many: 0 for a
     /// buffer that is not empty means that none is left.
     ///
     /// `Failed` leaves what is left; the buffer may have changed.
@@ -41,7 +43,7 @@ pub trait Source: World {
 
 /// Where the bytes of the file being made go.
 pub trait Sink: World {
-    /// Adds the first bytes of the chunk to the file being made, and answers how many bytes it took: at
+    /// Adds the first bytes of the chunk to the file being made, and returns how many bytes it took: at
     /// least 1 of a chunk that is not empty. While no file is being made it may take the whole
     /// chunk, and changes nothing.
     ///

@@ -13,7 +13,7 @@ use Rattle.mufom_meaning.specs.Placed.{placed_commons, extended_sections, base_l
 use Rattle.mufom_image_values.specs.declared.resolutions.Resolution.{Resolution}
 use Rattle.mufom_image_values.specs.declared.values.PlacedModule.{PlacedModule}
 
--- what every plan that is read has: no section name stands twice, fewer than 2^32 regions, at most one of them for the commons
+-- what every plan that is read has: no section name occurs twice, fewer than 2^32 regions, at most one of them for the commons
 pub record IsSoundPlan (plan : Plan) : Type 0 where
   pub names : AreDistinctNames (listed_names plan.regions)
   pub regions : length plan.regions < 2 ^ 32

@@ -19,7 +19,7 @@ common_of name size = record { name = name; absolute = false; purpose = None; si
 abbrev pub raised : ℕ → Section → Section
 raised size section = record section { size = max size section.size }
 
--- the commons where a common stands at the place of a room, and where none does
+-- the commons where a common is at the place of a room, and where none does
 abbrev pub with_room_at : List Section → Room → List ℕ → Option Section → List Section
 with_room_at commons room name (Some section) = slice_set commons room.common (raised room.size section)
 with_room_at commons room name None = commons ++ common_of name room.size ∷ []

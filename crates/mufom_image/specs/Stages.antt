@@ -66,7 +66,7 @@ start_division m s = first_some (start_fact s) (start_trees (m ∷ []))
 abbrev pub debug_division : Parts → Setting → Option LocateFact
 debug_division m s = first_some (debug_fact s) (enumerate_from 0 (debug_trees (m ∷ [])))
 
--- the sections of the module stand at the first of the bases by the plan, and the commons at the others
+-- the sections of the module are at the first of the bases by the plan, and the commons at the others
 pub record IsPlannedBy (plan : Plan) (placed : PlacedModule) : Type 0 where
   pub sections : placed.bases.now ≡ take (length placed.graph.parts.now.sections) (base_list (placed.graph.parts.now ∷ []) plan)
   pub commons : placed.commons.now ≡ drop (length placed.graph.parts.now.sections) (base_list (placed.graph.parts.now ∷ []) plan)

@@ -63,7 +63,7 @@ fn raise(common: &mut Section, size: u64)
     common.size = size.max(common.size);
 }
 
-// Makes room for a reference, if it asks for some: in the common that stands at its place, or in a
+// Makes room for a reference, if it asks for some: in the common that is at its place, or in a
 // new one.
 fn make_room(
     alloc: Global,

@@ -75,7 +75,7 @@ fn located(
 /// The location of a module by a plan: the sections and commons at their bases, each public, start
 /// and debug expression its value, and the loaded bytes as rows of addresses.
 ///
-/// No public name may stand twice in the module. The plan has fewer than 2^32 regions, no section name
+/// No public name may occur twice in the module. The plan has fewer than 2^32 regions, no section name
 /// twice and at most one region for the commons, as [`read_plan`](mufom_plan::read_plan) gives it. Both
 /// stay. What keeps the module from being located is looked for in this order: the placement, a
 /// strong reference without a meaning, a common without room, a public that leads back to itself,
@@ -86,11 +86,11 @@ pub fn locate(alloc: Global, module: &Module, plan: &Plan) -> Result<Located, Lo
     requires names { AreDistinct (names_of «module».now.names.publics) }
     requires plan { IsSoundPlan plan.now }
 
-    // What is answered is the location, and nothing keeps the module from having one.
+    // What is returned is the location, and nothing keeps the module from having one.
     ensures located { IfOk result (IsLocation («module».now ∷ []) plan.now) }
     // Its absolute module weighs little more than the module.
     ensures light { IfOk result (λ located. weight (absolute_of located) ≤ most_weight «module».now) }
-    // A refusal is the first thing that keeps the module from being located, or there was no memory.
+    // A refusal is the first thing that keeps the module from being located, or memory ran out.
     ensures refused { IfErr result (IsMet (locate_answer («module».now ∷ []) plan.now)) }
 {
     let resolutions = resolve_references(alloc, module)?;

@@ -47,7 +47,7 @@ fn extended(
     Ok(all)
 }
 
-// The refusal of what is answered in place of the bases.
+// The refusal of what is returned in place of the bases.
 fn refused(refusal: PlaceRefusal) -> LocateRefusal
     ensures { (answer : Option PlaceRefusal) → IsAnswer answer refusal → IsMet (option_map placement answer) result }
 {
@@ -98,7 +98,7 @@ fn put_at(sections: &mut [Section], bases: &[u64])
     }
 }
 
-/// The sections as they are placed: absolute, and each at its base. Takes no memory.
+/// The sections as they are placed: absolute, and each at its base. Does not allocate.
 pub(crate) fn placed_sections(sections: List<Section>, bases: &[u64]) -> List<Section>
     ensures { result ≡ placed_sections bases.now sections }
 {

@@ -1,3 +1,5 @@
+//! Why a module is not located.
+
 use mufom_expr::FieldKind;
 use mufom_meaning::Site;
 use mufom_numbers::{Bytes, NoMemory};

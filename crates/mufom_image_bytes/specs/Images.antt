@@ -21,13 +21,13 @@ use Rattle.mufom_image_bytes.specs.Walked.{AreWalked}
 abbrev pub AreLow : List Cell → Type 0
 AreLow cells = (a : ℕ) → Contains (cell_addresses cells) a → a < 2 ^ 64
 
--- nothing ended the loads, no address stands twice, and the runs are the rows of the cells
+-- nothing ended the loads, no address occurs twice, and the runs are the rows of the cells
 pub record IsImage (cells : List Cell) (stop : Option LocateFact) (runs : List Run) : Type 0 where
   pub ended : stop ≡ None
   pub single : AreLow cells → first_twice [] (cell_addresses cells) ≡ None
   pub rows : AreRowsOf cells runs
 
--- an address stands twice, and else the loads ended there
+-- an address occurs twice, and else the loads ended there
 abbrev pub IsRefusal : List Cell → Option LocateFact → ImageRefusal → Type 0
 IsRefusal cells stop (refusals.Stopped other) = AreLow cells → (first_twice [] (cell_addresses cells) or_else stop) ≡ Some (fact_of other)
 IsRefusal cells stop refusals.NoMemory = Unit {0}

@@ -24,7 +24,7 @@ use Rattle.mufom_image_bytes.specs.Outcomes.{ValuationAt}
 abbrev pub home_of : Parts → Sited
 home_of m = record { parts = m; first_section = 0; first_public = 0; first_name = 0 }
 
--- No fact stands that needs no walk, no public divides by 0, and at each counter the code computes the value of an expression.
+-- No fact holds that needs no walk, no public divides by 0, and at each counter the code computes the value of an expression.
 pub record IsReady (m : Parts) (placed : Bases) (bases : List ℕ) (valuation : ValuationAt) : Type 0 where
   pub at_bases : placed.sections ≡ bases
   pub count : length placed.sections ≡ length m.sections

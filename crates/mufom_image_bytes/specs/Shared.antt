@@ -42,12 +42,12 @@ HaveLowAddresses loaded = (a : ℕ) → Contains (addresses_of loaded) a → a <
 abbrev pub AreOrdered : List Chunk → ℕ → List Chunk → Type 0
 AreOrdered chunks count loaded = IsPermutation loaded chunks × AreConsecutive 0 loaded count × HaveLowAddresses loaded
 
--- the first address that stands twice, in the order of the loads
+-- the first address that occurs twice, in the order of the loads
 abbrev pub IsFirstDouble : List Chunk → ℕ → Option ℕ → Type 0
 IsFirstDouble chunks count double =
     (loaded : List Chunk) → AreOrdered chunks count loaded → first_twice [] (addresses_of loaded) ≡ option_map loaded_twice double
 
--- the first address that stands twice, and else what ended the loads
+-- the first address that occurs twice, and else what ended the loads
 abbrev pub EndsFirst : List Chunk → ℕ → Option LocateFact → Option LocateFact → Type 0
 EndsFirst chunks count stop first =
     (loaded : List Chunk) → AreOrdered chunks count loaded → first ≡ (first_twice [] (addresses_of loaded) or_else stop)

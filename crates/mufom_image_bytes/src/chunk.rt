@@ -1,3 +1,5 @@
+//! A chunk of loaded bytes.
+
 /// Bytes that are loaded one after another at neighbouring addresses.
 #[derive(Clone, Copy, Debug)]
 pub struct Chunk {

@@ -1,3 +1,5 @@
+//! The sections of a module at their bases.
+
 use mufom_module::Order;
 use mufom_sections::Section;
 

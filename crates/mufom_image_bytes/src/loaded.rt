@@ -1,3 +1,5 @@
+//! The bytes of an image in the order in which they are loaded.
+
 ghost use Rattle.std.specs.Prelude.{◌≡◌, ◌+◌, [], ◌∷◌, ◌++◌, length, IfOk, OnOk};
 ghost use Rattle.mufom_meaning.specs.AddressMap.{cells_from};
 ghost use Rattle.mufom_image_bytes.specs.Chunks.{end_of_chunk, cells_of_chunks, AreConsecutive};

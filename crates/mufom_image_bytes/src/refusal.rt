@@ -1,3 +1,5 @@
+//! Why a module has no image.
+
 use crate::stop::Stop;
 use mufom_numbers::NoMemory;
 use thiserror::Error;

@@ -56,7 +56,7 @@ fn joined(alloc: Global, chunks: &[Chunk], bytes: &[u8]) -> Result<Vec<u8>, NoMe
     Ok(all)
 }
 
-// The bytes of a row of chunks. Those of a single chunk are copied at once, and take no memory where
+// The bytes of a row of chunks. Those of a single chunk are copied at once, and do not allocate where
 // they are few.
 fn row_bytes(alloc: Global, chunks: &[Chunk], bytes: &[u8]) -> Result<Bytes, NoMemory>
     requires { All (IsAmong bytes.now) chunks.now }

@@ -1,3 +1,5 @@
+//! What ends the walk over the loads of a module.
+
 use mufom_expr::FieldKind;
 use thiserror::Error;
 

@@ -1,3 +1,5 @@
+//! What a caller provides to an image: the values of expressions.
+
 ghost use Rattle.std.specs.Prelude.{◌≡◌, ℕ, ◌<◌, ◌≤◌, ◌^◌, Option, IfSome};
 ghost use Rattle.mufom_expr.specs.Tree.{Tree};
 

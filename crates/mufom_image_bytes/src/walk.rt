@@ -127,7 +127,7 @@ fn put_item<V: Values>(
     }
 }
 
-/// Loads an item at the counter of a section, and answers what ends the walk there.
+/// Loads an item at the counter of a section, and returns what ends the walk there.
 pub fn load_item<V: Values>(
     layout: &Layout<'_>,
     values: &V,

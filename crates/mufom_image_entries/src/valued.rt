@@ -15,7 +15,7 @@ use std::marker::Model;
 #[derive(Clone, Copy)]
 pub struct ValuedModule<'a> {
     pub placed: &'a PlacedModule<'a>,
-    /// What [`PlacedModule::public_values`] answers.
+    /// What [`PlacedModule::public_values`] returns.
     pub values: &'a [Evaluation],
 }
 

@@ -30,11 +30,11 @@ alone m = record { parts = m; first_section = 0; first_public = 0; first_name = 
 abbrev pub bases_by : Parts → List ℕ → List ℕ → Bases
 bases_by m sections commons = record { sections = sections; commons = λ name. option_and_then (slice_get commons) (place_in (common_list m) name) }
 
--- the setting of a module whose sections and commons stand at these bases
+-- the setting of a module whose sections and commons are at these bases
 abbrev pub setting_by : Parts → List ℕ → List ℕ → Setting
 setting_by m sections commons = setting (m ∷ []) (bases_by m sections commons)
 
--- the graph is that of a module without a defect in which no public name stands twice
+-- the graph is that of a module without a defect in which no public name occurs twice
 pub record IsGraph (graph : Graph) : Type 0 where
   pub valid : IsValid graph.parts.now
   pub distinct : AreDistinct (names_of graph.parts.now.names.publics)

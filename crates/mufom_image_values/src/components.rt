@@ -127,7 +127,8 @@ fn walk_from(walk: &mut Walk, graph: &Graph<'_>, root: u32) -> Result<(), NoMemo
     Ok(())
 }
 
-/// The groups of the publics that lead to one another.
+/// Groups of publics, as a search in depth meets them. Nothing is stated of them here: whether a public is on
+/// a cycle is stated, and proved, where groups are used.
 pub fn groups_of(alloc: Global, graph: &Graph<'_>) -> Result<Components, NoMemory>
     requires { IsGraph graph.now }
 {

@@ -37,7 +37,7 @@ fn asks(publics: &NameIndex<'_>, reference: &Reference) -> bool
     }
 }
 
-// Adds a name at the end, unless it is there already. Answers how many names there are then.
+// Adds a name at the end, unless it is there already. Returns how many names there are then.
 fn add_name<'a>(index: &mut NameIndex<'a>, name: &'a [u8], count: u32) -> Result<u32, NoMemory>
     requires numbered { index.old ≡ numbered_from 0 (keys_of index.old) }
     requires count { count ≡ length (keys_of index.old) }

@@ -1,7 +1,7 @@
 //! Tests of what a user gives: the words of a command line, memory plans, and the sections that are
 //! placed by them.
 //!
-//! They stand in a crate of their own, so that `mufom_words`, `mufom_plan` and `mufom_place` are
+//! They are in a crate of their own, so that `mufom_words`, `mufom_plan` and `mufom_place` are
 //! proved once.
 #![tactic(auto)]
 

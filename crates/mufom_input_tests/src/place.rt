@@ -133,7 +133,7 @@ static PLACED: [Case; 13] = [
         0,
         "[8, 0, 4097, 4]",
     ),
-    // A star stands at its place for all names that no list has, and for its own.
+    // A star is at its place for all names that no list has, and for its own.
     (
         32,
         TWO,
@@ -147,7 +147,7 @@ static PLACED: [Case; 13] = [
         0,
         "[4, 16, 8, 12, 0]",
     ),
-    // A section with a base of its own stands there, and takes no place in a region.
+    // A section with a base of its own is there, and takes no place in a region.
     (
         32,
         TWO,
@@ -195,7 +195,7 @@ static PLACED: [Case; 13] = [
         1,
         "[256, 260, 264]",
     ),
-    // The names of commons stand in no list that is looked at: they keep their order.
+    // The names of commons are in no list that is looked at: they keep their order.
     (
         32,
         COMMON,
@@ -307,7 +307,7 @@ static REFUSED: [Case; 18] = [
         0,
         "Unplaced(2)",
     ),
-    // A common overlaps what stands at its own base.
+    // A common overlaps what is at its own base.
     (
         32,
         COMMON,

@@ -1,4 +1,4 @@
--- What keeps a list of modules from being linked, as the link answers it.
+-- What keeps a list of modules from being linked, as the link returns it.
 use Rattle.std.specs.Prelude.{◌≡◌, List, Some}
 use Rattle.mufom_module.specs.declared.module.Parts.{Parts}
 use Rattle.mufom_meaning.specs.Facts.{mismatch, duplicate, duplicate_start}

@@ -31,7 +31,7 @@ fn is_light(list: &[Module], name: &[u8]) -> bool
 /// empty, the name has at most 65,535 bytes, and the weights of the modules and the length of the name
 /// add up to less than 2^32.
 ///
-/// Takes no memory.
+/// Does not allocate.
 pub fn may_be_linked(list: &[Module], name: &[u8]) -> bool
     ensures { IsTrue result ↔ MayBeLinked list.now name.now }
 {

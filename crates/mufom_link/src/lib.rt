@@ -5,7 +5,7 @@
 //! other references each one once. No expression is evaluated. Names are found by hashing, so the
 //! time grows with the sizes of the modules and not with their square.
 //!
-//! The crate stands on the crates of a module's values and on `mufom_meaning`, whose definitions the
+//! The crate depends on the crates of a module's values and on `mufom_meaning`, whose definitions the
 //! contract of `link` cites.
 #![tactic(auto)]
 

@@ -1,3 +1,5 @@
+//! Linking a list of modules into one.
+
 ghost use Rattle.std.specs.Prelude.{◌≡◌, ◌≢◌, ◌+◌, ◌<◌, ◌≤◌, ◌^◌, [], ◌∷◌, None, length, IfOk, IfErr};
 ghost use Rattle.mufom_module.specs.Written.{weight};
 ghost use Rattle.mufom_meaning.specs.Flat.{flat_sections, flat_starts, public_names};
@@ -150,13 +152,13 @@ fn copy_modules(alloc: Global, list: &[Module]) -> Result<Vec<Module>, NoMemory>
 /// It has the sections, public symbols, loads and debug items of all modules in their order, and the
 /// start of the module that has one; the processor, the descriptor, the extension and the environment
 /// of the first module. Each reference whose name a public symbol of the list has is gone, and the
-/// symbol stands in its place; of the other references equal ones are one. It means what the list
-/// means, whatever modules stand around it and wherever its sections are placed. The modules of the
+/// symbol is in its place; of the other references equal ones are one. It means what the list
+/// means, whatever modules are around it and wherever its sections are placed. The modules of the
 /// list stay as they are; [`link_owned`] takes them, and copies only the references that it keeps.
 ///
-/// A refusal other than `NoMemory` is answered only where the list can't be linked, and is the first that
+/// A refusal other than `NoMemory` is returned only where the list can't be linked, and is the first that
 /// applies: `Mismatch`, then `Duplicate`, then `DuplicateStart`. A list that can't be linked is never linked.
-/// `NoMemory` may be answered of any list.
+/// `NoMemory` may be returned of any list.
 ///
 /// The list must not be empty, the name must have at most 65,535 bytes, and the weights of the
 /// modules and the length of the name must add up to less than 2^32:

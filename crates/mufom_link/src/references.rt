@@ -41,7 +41,7 @@ impl References {
         kept
     }
 
-    // Keeps the reference where no equal one is kept. Answers the position of the equal one that is
+    // Keeps the reference where no equal one is kept. Returns the position of the equal one that is
     // kept now.
     fn merge(&mut self, alloc: Global, reference: &Reference) -> Result<u32, NoMemory>
         requires keyed { self.old.keys ≡ keyed self.old.kept }

@@ -1,3 +1,5 @@
+//! Why a list of modules is not linked.
+
 use mufom_meaning::Descriptor;
 use mufom_numbers::{Bytes, NoMemory};
 use thiserror::Error;

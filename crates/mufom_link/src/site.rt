@@ -1,11 +1,11 @@
-//! Where a module stands in a link.
+//! Where a module is in a link.
 
 ghost use Rattle.std.specs.Prelude.{◌≡◌, slice_get};
 ghost use Rattle.mufom_link.specs.Renaming.{moved, target_at};
 
 use mufom_expr::{Letter, VarMap};
 
-/// Where the entries of a module stand in a link: the numbers of its first section, public and debug
+/// Where the entries of a module are in a link: the numbers of its first section, public and debug
 /// name, and the variables that stand for its references. Numbers are added modulo 2^32, which
 /// changes none that a valid module has.
 #[derive(Clone, Copy)]

@@ -38,7 +38,7 @@ const G_HALF: Records<'static> = Records {
     trailer: b"",
 };
 
-// The section of the second half is 2 here, and its public 21. Both references are gone, and the publics stand in
+// The section of the second half is 2 here, and its public 21. Both references are gone, and the publics are in
 // their places: I 21 for `g`, and I 20 for `f`.
 const HALVES: Records<'static> = Records {
     descriptor: FOUR,

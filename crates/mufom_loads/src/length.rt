@@ -1,9 +1,11 @@
+//! How many bytes loads have.
+
 ghost use Rattle.std.specs.Prelude.{◌≡◌, ◌-◌, ◌*◌, ◌<◌, ◌≤◌, ◌^◌};
 ghost use Rattle.mufom_loads.specs.Lengths.{byte_count, lengths_of, length_once, length_loaded, lengths_once, lengths_loaded};
 
 use crate::load::{Item, Load};
 
-/// How many bytes the item loads. Takes no memory.
+/// How many bytes the item loads. Does not allocate.
 pub fn item_length(item: &Item) -> u64
     ensures { result ≡ byte_count item.now }
 {

@@ -1,7 +1,7 @@
 //! The loads of a module: the literal bytes and bracketed fields that it puts into its sections,
 //! the steps that choose the section and its program counter, and repeats.
 //!
-//! It stands on `mufom_numbers` and `mufom_expr`. Its main clause is that [`loaded_bytes`] counts
+//! It depends on `mufom_numbers` and `mufom_expr`. Its main clause is that [`loaded_bytes`] counts
 //! the bytes of all item copies exactly, with the items of each repeat as many times as it states, and
 //! that the products by which it does so are the lengths of the copies, one after another.
 #![tactic(auto)]

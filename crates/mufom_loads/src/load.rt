@@ -1,3 +1,5 @@
+//! Loads: what is put into sections, in order.
+
 use mufom_expr::{FieldKind, Postfix};
 use mufom_numbers::{Bytes, List};
 

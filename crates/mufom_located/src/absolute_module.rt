@@ -92,7 +92,7 @@ fn absolute_parts(alloc: Global, location: &LocatedParts) -> Result<Parts, NoMem
 /// number for each expression, and for each row of bytes in a section the counter and literals.
 ///
 /// [`Located::written_weight`] must be below 2^32. Located alone by a plan without regions the
-/// module is located as itself. Out of memory is the only other answer.
+/// module is located as itself. Out of memory is the only other result.
 pub fn absolute(alloc: Global, located: &Located) -> Result<Module, NoMemory>
     requires { weight (absolute_of located.now) < 2 ^ 32 }
     ensures absolute { IfOk result (λ m. m ≡ absolute_of located.now) }

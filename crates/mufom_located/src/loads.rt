@@ -49,7 +49,7 @@ fn push_row(
 }
 
 // Appends what loads the part of a row from one address up to another; before it the section is set
-// unless it is `open` already. Answers whether it is open then.
+// unless it is `open` already. Returns whether it is open then.
 fn push_run(
     alloc: Global,
     loads: &mut List<Load>,

@@ -1,3 +1,5 @@
+//! A located program, as a value of its own.
+
 ghost use Rattle.std.specs.Prelude.{◌≡◌};
 ghost use Rattle.mufom_meaning.specs.Absolute.{absolute_of};
 ghost use Rattle.mufom_module.specs.Written.{weight};
@@ -38,7 +40,7 @@ impl Drop for Located {
 }
 
 impl Located {
-    /// The location of parts that are known to be one. Looks at nothing, and takes no memory.
+    /// The location of parts that are known to be one. Checks nothing, and does not allocate.
     pub fn sound(parts: LocatedParts) -> Located
         requires { IsLocated parts }
         ensures { result ≡ parts }
@@ -46,7 +48,7 @@ impl Located {
         Located { parts }
     }
 
-    /// The parts, which are the location of a module. Takes no memory.
+    /// The parts, which are the location of a module. Does not allocate.
     pub fn parts(&self) -> &LocatedParts
         ensures same { result.now ≡ self.now }
         ensures located { IsLocated self.now }
@@ -56,7 +58,7 @@ impl Located {
 
     /// The weight in bytes of the module that [`absolute`](crate::absolute) makes: the length of its
     /// written form with nine bytes for each number but the eight offsets of its parts, and three for
-    /// the lead of each string. Takes no memory.
+    /// the lead of each string. Does not allocate.
     pub fn written_weight(&self) -> u64
         ensures { result ≡ weight (absolute_of self.now) }
     {

@@ -124,7 +124,7 @@ fn absolute_weight(parts: &LocatedParts) -> u64
         .saturating_add(start_weight(parts.start))
 }
 
-/// The weight of the absolute module of a location. Takes no memory.
+/// The weight of the absolute module of a location. Does not allocate.
 pub(crate) fn weight_of(parts: &LocatedParts) -> u64
     requires { IsLocated parts.now }
     ensures { result ≡ weight (absolute_of parts.now) }

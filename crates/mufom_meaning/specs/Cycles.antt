@@ -39,7 +39,7 @@ abbrev pub leads_from : Setting → ℕ → List ℕ → Option SitedPublic → 
 leads_from s k name None = false
 leads_from s k name (Some q) = leads_within s k name q.site q.entry.value
 
--- A chain of mentions leads from the public of this name back to it. It comes back by the name: where a name stands twice, which no
+-- A chain of mentions leads from the public of this name back to it. It comes back by the name: where a name occurs twice, which no
 -- list that can be linked has, another public of it counts as well.
 abbrev pub IsOnCycle : List Parts → List ℕ → Type 0
 IsOnCycle ms name = let s = setting ms no_bases in (k : ℕ) × IsTrue (leads_from s k name (first_named s.publics name))

@@ -1,4 +1,4 @@
--- What holds of the facts about a list of modules and of the answers.
+-- What holds of the facts about a list of modules and of the results.
 use Rattle.std.specs.Prelude.{◌≡◌, ℕ, List, ◌++◌, length, IsTrue, ◌↔◌, ◌≤◌, Some, None}
 use Rattle.mufom_names.specs.Names.{AreDistinct}
 use Rattle.mufom_module.specs.declared.module.Parts.{Parts}
@@ -13,7 +13,7 @@ use Rattle.mufom_meaning.specs.Counts.{loaded_total, lengths_of_steps}
 use Rattle.mufom_meaning.specs.Staging.{AreValid, HaveDescriptorOf}
 use Rattle.mufom_meaning.specs.Stands.{LinkFactStands, LocateFactStands}
 
--- The answers are about the facts: there is an answer where a fact stands, and what is answered stands. What is answered in place
+-- The results are about the facts: there is an answer where a fact holds, and what is returned stands. What is returned in place
 -- of a location is asked for only where the list can be linked.
 pub record AnswersAreFacts (ms : List Parts) (plan : Plan) : Type 0 where
   pub link_sound : (fact : LinkFact) → link_answer ms ≡ Some fact → LinkFactStands ms fact
@@ -29,13 +29,13 @@ AllAnswersAreFacts = (ms : List Parts) (plan : Plan) → AnswersAreFacts ms plan
 abbrev pub LinkFactsGrow : Type 0
 LinkFactsGrow = (before ms after : List Parts) (fact : LinkFact) → LinkFactStands ms fact → LinkFactStands (before ++ (ms ++ after)) fact
 
--- where nothing is answered in place of a link, the list has one descriptor, no public name twice and no more than one start
+-- where nothing is returned in place of a link, the list has one descriptor, no public name twice and no more than one start
 pub record IsLinkable (ms : List Parts) : Type 0 where
   pub descriptor : HaveDescriptorOf ms ms
   pub names : AreDistinct (public_names ms)
   pub starts : length (flat_starts ms) ≤ 1
 
--- That nothing is answered in place of a link means this, and no more.
+-- That nothing is returned in place of a link means this, and no more.
 abbrev pub NoLinkAnswerIsLinkable : Type 0
 NoLinkAnswerIsLinkable = (ms : List Parts) → (link_answer ms ≡ None) ↔ IsLinkable ms
 

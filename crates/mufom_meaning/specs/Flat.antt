@@ -39,7 +39,7 @@ sited_from s p d (m ∷ ms) =
 abbrev pub sited : List Parts → List Sited
 sited ms = sited_from 0 0 0 ms
 
--- a public, with the module that it stands in
+-- a public, with the module that it is in
 pub record SitedPublic : Type 0 where
   pub site : Sited
   pub entry : Public

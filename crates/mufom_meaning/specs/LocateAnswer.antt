@@ -1,4 +1,4 @@
--- What locating a list of modules by a plan answers in place of a location.
+-- What locating a list of modules by a plan returns in place of a location.
 use Rattle.std.specs.Prelude.{ℕ, List, find, Option, Some, None, option_map, slice_get, not, nat_lt, if◌then◌else◌}
 use Rattle.mufom_numbers.specs.declared.limits.TheConstants.{MOST_IMAGE_BYTES}
 use Rattle.mufom_module.specs.declared.module.Parts.{Parts}
@@ -30,7 +30,7 @@ cycle_at ms name = if is_on_cycle ms name then Some (cycle name) else None
 abbrev pub image_limit_at : ℕ → Option LocateFact
 image_limit_at total = if nat_lt MOST_IMAGE_BYTES total then Some (image_limit total) else None
 
--- what locating the list by the plan answers in place of a location, the first in this order
+-- what locating the list by the plan returns in place of a location, the first in this order
 unfoldable pub locate_answer : List Parts → Plan → Option LocateFact
 locate_answer ms plan = let s = setting ms (planned_bases ms plan) in
     option_map placement (place_refusal (width ms) plan (flat_sections ms) (placed_commons ms plan))

@@ -65,7 +65,7 @@ abbrev pub first_header : List Parts → Option Header
 first_header [] = None
 first_header (m ∷ ms) = Some (m.processor, m.name, m.maus, m.order)
 
--- r is the location of the list by the plan: no fact stands, the sections and commons stand at their bases, each public, start and debug
+-- r is the location of the list by the plan: no fact holds, the sections and commons are at their bases, each public, start and debug
 -- expression is its value there, and the runs are the rows of the loaded bytes.
 pub record IsLocation (ms : List Parts) (plan : Plan) (r : LocatedParts) : Type 0 where
   pub links : link_answer ms ≡ None

@@ -34,7 +34,7 @@ extended_sections ms plan = flat_sections ms ++ placed_commons ms plan
 abbrev pub base_list : List Parts → Plan → List ℕ
 base_list ms plan = bases plan (flat_sections ms) (placed_commons ms plan)
 
--- the base of the first section of this name, where the sections stand at these bases, one for each
+-- the base of the first section of this name, where the sections are at these bases, one for each
 abbrev pub base_named : List Section → List ℕ → List ℕ → Option ℕ
 base_named [] placed name = None
 base_named (section ∷ sections) [] name = None

@@ -1,4 +1,4 @@
--- What a list of modules means where its sections stand at given bases: the value of each public, step, start and debug expression.
+-- What a list of modules means where its sections are at given bases: the value of each public, step, start and debug expression.
 use Rattle.std.specs.Prelude.{ℕ, ◌+◌, List, map, flat_map, Option, Some, None, option_to_list}
 use Rattle.mufom_expr.specs.Tree.{Tree}
 use Rattle.mufom_sections.specs.declared.section.Section.{Section}
@@ -71,7 +71,7 @@ pub record Readings : Type 0 where
   pub needs : List (List ℕ)
   pub commons : List (List ℕ × ℕ)
 
--- what the modules mean where the sections and commons stand at the bases
+-- what the modules mean where the sections and commons are at the bases
 unfoldable pub readings : List Parts → Bases → Readings
 readings ms bases = let s = setting ms bases in record {
   sections = s.sections;

@@ -25,7 +25,7 @@ abbrev pub HaveDescriptorOf : List Parts → List Parts → Type 0
 HaveDescriptorOf [] others = Unit {0}
 HaveDescriptorOf (m ∷ ms) others = HaveDescriptor m others
 
--- A context of the list: valid modules before it and after it, of its descriptor, such that no public name stands twice, and a
+-- A context of the list: valid modules before it and after it, of its descriptor, such that no public name occurs twice, and a
 -- base for each section; commons may have any bases. It speaks of the list alone and of no link of it.
 pub record IsContext (before ms after : List Parts) (bases : Bases) : Type 0 where
   pub before_valid : AreValid before

@@ -34,7 +34,7 @@ JoinedComposes =
     → (IsJoined N (before ++ (M ∷ after)) outer → IsJoined N (before ++ (ms ++ after)) outer)
     × (IsJoined N (before ++ (ms ++ after)) outer → IsJoined N (before ++ (M ∷ after)) outer)
 
--- What is answered in place of an outer link is the same with a group linked, also where a link fact stands: the group alone has
+-- What is returned in place of an outer link is the same with a group linked, also where a link fact holds: the group alone has
 -- one descriptor.
 abbrev pub LinkAnswersAgree : Type 0
 LinkAnswersAgree =
@@ -49,7 +49,7 @@ LinkFactsAgree =
     → IsJoined M ms name → HaveDescriptorOf ms ms
     → LinkFactStands (before ++ (M ∷ after)) fact ↔ LinkFactStands (before ++ (ms ++ after)) fact
 
--- A module stands in a list for a group of modules: it is the one module of the group, or the link of a group that can be linked.
+-- A module is in a list for a group of modules: it is the one module of the group, or the link of a group that can be linked.
 pub data IsLinkOrItself : Parts → List Parts → Type 0 where
   itself : (m : Parts) → IsLinkOrItself m (m ∷ [])
   a_link : (M : Parts) (group : List Parts) (name : List ℕ) → IsJoined M group name → link_answer group ≡ None → IsLinkOrItself M group
@@ -61,7 +61,7 @@ StandForGroups (M ∷ Ms) (group ∷ groups) = IsLinkOrItself M group × StandFo
 StandForGroups [] (group ∷ groups) = ⊥
 StandForGroups (M ∷ Ms) [] = ⊥
 
--- What is answered in place of the link of a list goes by its groups: a link fact about a group is one about the whole list, and where
+-- What is returned in place of the link of a list goes by its groups: a link fact about a group is one about the whole list, and where
 -- each group was linked, or is one module, the list of the links has the answer of the whole list.
 pub record GroupsAnswer (groups : List (List Parts)) : Type 0 where
   pub facts_stand : (group : List Parts) → Contains groups group → (fact : LinkFact) → LinkFactStands group fact
@@ -72,7 +72,7 @@ pub record GroupsAnswer (groups : List (List Parts)) : Type 0 where
 abbrev pub AllGroupsAnswer : Type 0
 AllGroupsAnswer = (groups : List (List Parts)) → GroupsAnswer groups
 
--- The facts about a list with a link are those about the flat list, all of them and the answered one.
+-- The facts about a list with a link are those about the flat list, all of them and the returned one.
 pub record FactsAgreeOn (linked flat : List Parts) (plan : Plan) : Type 0 where
   pub link_facts : (fact : LinkFact) → LinkFactStands linked fact ↔ LinkFactStands flat fact
   pub locate_facts : (fact : LocateFact) → LocateFactStands linked plan fact ↔ LocateFactStands flat plan fact
@@ -94,7 +94,7 @@ SelectionAgrees =
     → IsJoined M ms name
     → IsSelected (before ++ (M ∷ after)) members chosen ↔ IsSelected (before ++ (ms ++ after)) members chosen
 
--- Two lists mean the same: they have the same readings wherever the sections stand, the same link, facts, answers and location
+-- Two lists mean the same: they have the same readings wherever the sections stand, the same link, facts, results and location
 -- whatever the plan, and the same members.
 pub record MeansTheSame (ms leaves : List Parts) : Type 0 where
   pub same_readings : (bases : Bases) → readings ms bases ≡ readings leaves bases

@@ -1,4 +1,4 @@
--- When a fact stands against a list of modules, whether or not it is the one that is answered.
+-- When a fact stands against a list of modules, whether or not it is the one that is returned.
 use Rattle.std.specs.Prelude.{◌≡◌, ◌≢◌, ℕ, ◌+◌, ◌%◌, ◌<◌, ◌≤◌, ◌⊎◌, List, [], ◌∷◌, length, Some, None, slice_get, false, IsTrue}
 use Rattle.mufom_numbers.specs.declared.limits.TheConstants.{MOST_IMAGE_BYTES}
 use Rattle.mufom_expr.specs.declared.token.FieldKind.{FieldKind}
@@ -25,7 +25,7 @@ use Rattle.mufom_meaning.specs.Walk.{size_at, loaded_addresses, SitedTree, start
 use Rattle.mufom_meaning.specs.Counts.{loaded_total}
 use Rattle.mufom_meaning.specs.Fields.{fits}
 
--- an element stands in a list
+-- an element is in a list
 abbrev pub StandsIn : {A : Type 0} → A → List A → Type 0
 StandsIn x xs = (i : ℕ) × (slice_get xs i ≡ Some x)
 
@@ -88,7 +88,7 @@ StandsInWalk ms s (overflow section at kind size v) =
     × (value s site (Some at) t ≡ Some v) × ¬ IsTrue (fits s.modulus kind size v)
 StandsInWalk ms s _ = ⊥
 
--- A fact stands. The facts of the walk stand only where no other fact does, link facts included.
+-- A fact holds. The facts of the walk stand only where no other fact does, link facts included.
 abbrev pub LocateFactStands : List Parts → Plan → LocateFact → Type 0
 LocateFactStands ms plan fact = let s = setting ms (planned_bases ms plan) in
     StandsBeforeWalk ms plan s fact

@@ -30,7 +30,7 @@ abbrev pub counter_there : Setting → CounterPlace → Option ℕ
 counter_there s None = None
 counter_there s (Some c) = counter s c.0 c.1
 
--- the expression is that of a public, a start or a debug mark, or stands in a step of this section after these steps
+-- the expression is that of a public, a start or a debug mark, or is in a step of this section after these steps
 abbrev pub IsExpressionAt : List Parts → CounterPlace → Sited → Tree → Type 0
 IsExpressionAt ms None site t =
     ((q : SitedPublic) × StandsIn q (flat_publics ms) × (q.site ≡ site) × (q.entry.value ≡ t))

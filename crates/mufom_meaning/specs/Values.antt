@@ -22,7 +22,7 @@ pub record Setting : Type 0 where
   pub commons : List (List ℕ)
   pub common_base : List ℕ → Option ℕ
 
--- the setting of a list of modules whose sections and commons stand at these bases
+-- the setting of a list of modules whose sections and commons are at these bases
 abbrev pub setting : List Parts → Bases → Setting
 setting ms bases = record {
   modulus = 2 ^ width ms;

@@ -40,7 +40,7 @@ abbrev pub outside_at : ℕ → ℕ → ℕ → ℕ → ℕ → Option LocateFac
 outside_at modulus section base size a =
     if nat_lt a base || nat_le (base + size) a then Some (load_outside section (a % modulus)) else None
 
--- the first address that stands earlier too
+-- the first address that is earlier too
 abbrev pub first_twice : List ℕ → List ℕ → Option LocateFact
 first_twice earlier [] = None
 first_twice earlier (a ∷ more) = if has_number earlier a then Some (loaded_twice a) else first_twice (a ∷ earlier) more
@@ -98,7 +98,7 @@ abbrev pub steps_fact : Setting → List Step → List Step → Option LocateFac
 steps_fact s earlier [] = None
 steps_fact s earlier (step ∷ more) = step_fact s earlier step or_else steps_fact s (step ∷ earlier) more
 
--- an expression with the module that it stands in
+-- an expression with the module that it is in
 abbrev pub SitedTree : Type 0
 SitedTree = Sited × Tree
 

@@ -8,7 +8,7 @@ pub fn modules_may_be_placed()
     ensures { ModulesMayBePlaced }
 {}
 
-/// The bases by a plan are those that placing answers: of a section by its flat number, and of a
+/// The bases by a plan are those that placing returns: of a section by its flat number, and of a
 /// common by its position after the sections. Where no region takes commons, none has a base.
 pub fn bases_by_position()
     ensures { BasesByPosition }

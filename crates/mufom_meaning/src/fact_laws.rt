@@ -1,9 +1,9 @@
-//! Laws of facts and answers, each the contract of a function that does nothing.
+//! Laws of facts and results, each the contract of a function that does nothing.
 
 ghost use Rattle.mufom_meaning.specs.FactLaws.{AllAnswersAreFacts, LinkFactsGrow, NoLinkAnswerIsLinkable, CountsAgree, CyclesAreShort};
 
-/// What is answered in place of a link stands, and where nothing is answered no link fact stands. The
-/// same holds of what is answered in place of a location, where no link fact stands.
+/// What is returned in place of a link holds, and where nothing is returned no link fact holds. The
+/// same holds of what is returned in place of a location, where no link fact holds.
 pub fn answers_are_facts()
     ensures { AllAnswersAreFacts }
 {}
@@ -13,7 +13,7 @@ pub fn link_facts_grow()
     ensures { LinkFactsGrow }
 {}
 
-/// Nothing is answered in place of a link exactly where the list has one descriptor, no public name
+/// Nothing is returned in place of a link exactly where the list has one descriptor, no public name
 /// twice and no more than one start.
 pub fn no_link_answer_is_linkable()
     ensures { NoLinkAnswerIsLinkable }

@@ -2,7 +2,7 @@
 //! and what keeps the list from being linked or located.
 //!
 //! The crate has definitions and laws, and the types that callers share: the parts of a location,
-//! descriptors, and the sites of expressions. It stands on the crates of a module's values and on
+//! descriptors, and the sites of expressions. It depends on the crates of a module's values and on
 //! `mufom_plan` and `mufom_place`. Linking, selecting and locating share its definitions; each law
 //! is the contract of a function that does nothing. The main one is [`staged_means_the_same`]:
 //! whatever way a list was linked in stages, it means the same.

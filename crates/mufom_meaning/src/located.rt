@@ -1,3 +1,5 @@
+//! The parts of a located program, and the places of its expressions.
+
 use mufom_debug::DebugItem;
 use mufom_module::Order;
 use mufom_names::Note;
@@ -13,7 +15,7 @@ pub struct Descriptor {
     pub order: Order,
 }
 
-/// Where an expression stands among those of a list of modules. Sections go by their flat numbers.
+/// Where an expression is among those of a list of modules. Sections go by their flat numbers.
 #[derive(Debug, Drop)]
 pub enum Site {
     /// The value of the public of this name.

@@ -4,7 +4,7 @@ ghost use Rattle.mufom_meaning.specs.Valued.{NoneByDivision, ValuesExist};
 ghost use Rattle.mufom_meaning.specs.LocationLaws.{AllValued, LocationsExist, LocationIsSingle, AbsoluteIsLocatedAsItself, AbsoluteIsValid};
 ghost use Rattle.mufom_meaning.specs.LocationLaws.{AbsoluteWeighs, SelectionIsSingle};
 
-/// Where no link fact stands, and none that needs no walk, an expression of modules without a
+/// Where no link fact holds, and none that needs no walk, an expression of modules without a
 /// defect has no value exactly where it, or a public or a counter that it goes through, divides by 0.
 pub fn none_by_division()
     ensures { NoneByDivision }

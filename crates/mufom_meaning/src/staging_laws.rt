@@ -4,7 +4,7 @@ ghost use Rattle.mufom_meaning.specs.StagingLaws.{JoinedStandsFor, JoinedCompose
 ghost use Rattle.mufom_meaning.specs.StagingLaws.{AllGroupsAnswer, FactsAgree, SelectionAgrees, StagedMeansTheSame};
 
 /// A partial link of modules without a defect stands for its list: in every context in which no
-/// public name stands twice, and wherever sections and commons stand, it means what the list means.
+/// public name occurs twice, and wherever sections and commons stand, it means what the list means.
 pub fn joined_stands_for()
     ensures { JoinedStandsFor }
 {}
@@ -27,27 +27,27 @@ pub fn joined_is_valid()
     ensures { JoinedIsValid }
 {}
 
-/// What is answered in place of an outer link is the same with a group linked, also where a link
-/// fact stands: the group alone has one descriptor.
+/// What is returned in place of an outer link is the same with a group linked, also where a link
+/// fact holds: the group alone has one descriptor.
 pub fn link_answers_agree()
     ensures { LinkAnswersAgree }
 {}
 
 /// The link facts about a list with a group linked are those about the flat list, also where
-/// descriptors differ or a name stands twice: the group alone has one descriptor.
+/// descriptors differ or a name occurs twice: the group alone has one descriptor.
 pub fn link_facts_agree()
     ensures { LinkFactsAgree }
 {}
 
 /// A link fact about a group of a list is one about the list. Where each group was linked without
-/// one, or is one module, what is answered in place of linking the links is what is answered in
+/// one, or is one module, what is returned in place of linking the links is what is returned in
 /// place of linking the list.
 pub fn groups_answer()
     ensures { AllGroupsAnswer }
 {}
 
 /// The facts about a list with a group linked are those about the flat list, all of them and the
-/// answered one: of modules without a defect, with one descriptor and no public name twice.
+/// returned one: of modules without a defect, with one descriptor and no public name twice.
 pub fn facts_agree()
     ensures { FactsAgree }
 {}

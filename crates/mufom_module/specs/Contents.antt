@@ -1,4 +1,4 @@
--- What stands in a module: the expressions of its loads and debug items, its blocks, and its loads with the section that
+-- What is in a module: the expressions of its loads and debug items, its blocks, and its loads with the section that
 -- is current before each (IEEE Std 695, module structure).
 use Rattle.std.specs.Prelude.{ℕ, Bool, List, [], ◌∷◌, map, false, Option, Some, None}
 use Rattle.std.specs.List.{list_any}

@@ -254,6 +254,6 @@ defects = d.Depth ∷ d.LongId ∷ d.BadMaus ∷ d.BadAlign ∷ d.MissingBase �
 abbrev pub first_defect : Parts → Option Defect
 first_defect m = find (has_defect m) defects
 
--- none of the defects stands in the parts
+-- none of the defects is in the parts
 abbrev pub IsValid : Parts → Type 0
 IsValid m = first_defect m ≡ None

@@ -29,7 +29,7 @@ use Rattle.mufom_module.specs.SpelledRecords.{SpelledRecord, text_in, tree_in, p
 abbrev pub answers : {X : Type 0} → (Record → Option X) → List SpelledRecord → List X
 answers ask records = filter_map (λ p. ask p.row) records
 
--- the first of these answers, if there is one
+-- the first of these results, if there is one
 abbrev pub first_answer : {X : Type 0} → (Record → Option X) → List SpelledRecord → Option X
 first_answer ask records = slice_get (answers ask records) 0
 
@@ -169,7 +169,7 @@ items_at_prefix ix maus (p ∷ records) = with_rest (item_by ix maus p p.row) (i
   with_rest None items = []
   with_rest (Some item) items = item ∷ items
 
--- the loads that a record states, where these items stand after it: an LR its items, an RE of an LR the repeat of them
+-- the loads that a record states, where these items are after it: an LR its items, an RE of an LR the repeat of them
 abbrev pub loads_by : Indexes → SpelledRecord → List Item → Record → List Load
 loads_by ix p items (r.SetSection i) = SetSection (position_in ix.sections i) ∷ []
 loads_by ix p items (r.SetPc i value) = SetPc (position_in ix.sections i) (positioned ix (tree_in p value)) ∷ []

@@ -38,7 +38,7 @@ pub record IsMadeSection (s : Section) : Type 0 where
   pub align : IsNumber s.align
   pub base : IfSome s.base IsNumber
 
--- at most four numbers stand after the type and the attribute
+-- at most four numbers are after the type and the attribute
 pub record IsMadeNote (note : Note) : Type 0 where
   pub type_index : IsNumber note.type_index
   pub attribute : IsNumber note.attribute

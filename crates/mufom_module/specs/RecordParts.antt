@@ -1,4 +1,4 @@
--- The parts of a file, and the records that stand in each (IEEE Std 695, module structure, in this project's profile).
+-- The parts of a file, and the records that are in each (IEEE Std 695, module structure, in this project's profile).
 use Rattle.std.specs.Prelude.{ℕ, ◌==◌, ◌&&◌, ◌||◌, Bool, true, false, List, [], ◌∷◌, Option, Some, None, if◌then◌else◌}
 use Rattle.mufom_expr.specs.TokenAt.{begins_number}
 use Rattle.mufom_records.specs.declared.record.Mode.{Mode}
@@ -30,7 +30,7 @@ number_of data_part = 5
 number_of trailer_part = 6
 number_of end_part = 7
 
--- the part that a record stands in; those of the header stand in none
+-- the part that a record is in; those of the header are in none
 abbrev pub part_of : Record → Option Part
 part_of (r.ModuleBegin _ _) = None
 part_of (r.Descriptor _ _ _) = None
@@ -66,7 +66,7 @@ abbrev pub is_this_part : Part → Option Part → Bool
 is_this_part part None = false
 is_this_part part (Some other) = number_of part == number_of other
 
--- the record may stand in the part
+-- the record may be in the part
 abbrev pub stands_in : Part → Record → Bool
 stands_in part row = is_this_part part (part_of row)
 

@@ -199,7 +199,7 @@ module _ (style : Style) where
   end_expression None = []
   end_expression (Some value) = expression value
 
-  -- the record of a mark, where n names stand before it; 0 stands for the size of a block
+  -- the record of a mark, where n names are before it; 0 stands for the size of a block
   abbrev pub debug_record : ℕ → DebugMark → List ℕ
   debug_record n (block_begin head name) = BLOCK_BEGIN ∷ (number (kind_number head) ++ (number 0 ++ (string name ++ head_fields head)))
   debug_record n (block_end value) = BLOCK_END ∷ end_expression value
@@ -207,7 +207,7 @@ module _ (style : Style) where
   debug_record n (note_mark name its) = note LETTER_N (debug_name_index name) its
   debug_record n (value_mark name value) = ASSIGNMENT ∷ LETTER_N ∷ (number (debug_name_index name) ++ expression value)
 
-  -- the records of marks, where `n` names stand before them
+  -- the records of marks, where `n` names are before them
   abbrev pub debug_records : ℕ → List DebugMark → List ℕ
   debug_records n [] = []
   debug_records n (mark ∷ marks) = debug_record n mark ++ debug_records (names_after n mark) marks

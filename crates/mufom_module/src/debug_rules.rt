@@ -194,7 +194,7 @@ fn all_declare(items: &[DebugItem], mut declared: u64) -> Option<u64>
     Some(declared)
 }
 
-/// Whether a note or a value stands before the debug name that it speaks of.
+/// Whether a note or a value is before the debug name that it speaks of.
 pub(crate) fn uses_name_early(items: &[DebugItem]) -> bool
     ensures { result ≡ is_none (declared_after 0 (marks_of items.now)) }
 {

@@ -1,8 +1,8 @@
 //! Modules: everything that a file of the format states, as one value without a defect.
 //!
 //! [`Parts`] are what a module states, in lists whose entries name one another by positions.
-//! [`assemble`] looks for thirteen defects in a fixed order, answers the first with the parts handed
-//! back, and else a [`Module`] of just these parts: validity is kept by the type. It stands on
+//! [`assemble`] looks for thirteen defects in a fixed order, returns the first with the parts handed
+//! back, and else a [`Module`] of just these parts: validity is kept by the type. It depends on
 //! `mufom_numbers`, `mufom_expr`, `mufom_records`, `mufom_sections`, `mufom_names`, `mufom_loads` and
 //! `mufom_debug`. Its main clause is that of [`assemble`], both ways; beside it [`Module::weight`] is
 //! the length of the written form with nine bytes for each number but the eight offsets of the parts

@@ -1,3 +1,5 @@
+//! A module: its parts, and the defects that it does not have.
+
 ghost use Rattle.std.specs.Prelude.{◌≡◌, ◌<◌, ◌^◌};
 ghost use Rattle.mufom_module.specs.Bare.{bare_parts};
 ghost use Rattle.mufom_module.specs.Written.{weight};
@@ -33,9 +35,9 @@ pub struct Parts {
     /// How many minimum addressable units (of eight bits) an address has: 1 to 8.
     pub maus: u8,
     pub order: Order,
-    /// The extension part as it stands in the file.
+    /// The extension part as it is in the file.
     pub ext: Bytes,
-    /// The environment part as it stands in the file.
+    /// The environment part as it is in the file.
     pub env: Bytes,
     pub sections: List<Section>,
     pub names: NameTable,
@@ -146,7 +148,7 @@ impl Drop for Module {
 }
 
 impl Module {
-    /// The module of parts that are known to have no defect. Looks for none, and takes no memory.
+    /// The module of parts that are known to have no defect. Looks for none, and does not allocate.
     pub fn sound(parts: Parts) -> Module
         requires { IsValid parts }
         ensures same { result ≡ parts }
@@ -156,7 +158,7 @@ impl Module {
         Module { parts }
     }
 
-    /// The parts, which have no defect, and what their types hold. Takes no memory.
+    /// The parts, which have no defect, and what their types hold. Does not allocate.
     pub fn parts(&self) -> &Parts
         ensures same { result.now ≡ self.now }
         ensures valid { IsValid self.now }
@@ -166,7 +168,7 @@ impl Module {
     }
 
     /// The length that the written form would have with nine bytes for each number but the eight
-    /// offsets of its parts, and three for the lead of each string. Takes no memory.
+    /// offsets of its parts, and three for the lead of each string. Does not allocate.
     pub fn weight(&self) -> u64
         ensures value { result ≡ weight self.now }
         ensures bound { result < 2 ^ 32 }
@@ -174,7 +176,7 @@ impl Module {
         module_weight(&self.parts)
     }
 
-    /// The parts, given back. Takes no memory.
+    /// The parts, given back. Does not allocate.
     pub fn into_parts(self) -> Parts
         ensures same { result ≡ self }
         ensures valid { IsValid result }

@@ -33,7 +33,7 @@ pub(crate) enum Rule {
     Length,
     /// The positions that it names, but those of debug names.
     Position(Counts),
-    /// That no program counter stands in its expressions.
+    /// That no program counter is in its expressions.
     Counter,
     /// The attribute of a note.
     Attribute,
@@ -135,7 +135,7 @@ fn tokens_are_other_counters(allowed: Option<u32>, tokens: &[Token]) -> bool
         .any(|token| token_is_other_counter(allowed, *token))
 }
 
-/// Whether a program counter of another section than this one stands in the expression.
+/// Whether a program counter of another section than this one is in the expression.
 pub(crate) fn has_other_counter(allowed: Option<u32>, value: &Postfix) -> bool
     ensures { result ≡ has_other_counter allowed value.now }
 {
@@ -282,7 +282,7 @@ pub(crate) fn has_bad_position(parts: &Parts) -> bool
         || uses_name_early(debug)
 }
 
-// Whether a program counter of another section than this one stands in the item.
+// Whether a program counter of another section than this one is in the item.
 fn item_has_other_counter(allowed: Option<u32>, item: &Item) -> bool
     ensures { result ≡ item_any (has_other_counter allowed) item.now }
 {
@@ -292,7 +292,7 @@ fn item_has_other_counter(allowed: Option<u32>, item: &Item) -> bool
     }
 }
 
-// Whether a program counter of another section than this one stands in one of the items.
+// Whether a program counter of another section than this one is in one of the items.
 fn items_have_other_counter(allowed: Option<u32>, items: &[Item]) -> bool
     ensures { result ≡ list_any (item_any (has_other_counter allowed)) items.now }
 {
@@ -301,7 +301,7 @@ fn items_have_other_counter(allowed: Option<u32>, items: &[Item]) -> bool
         .any(|item| item_has_other_counter(allowed, item))
 }
 
-// Whether a program counter stands in the load that is not that of the section which it sets or
+// Whether a program counter is in the load that is not that of the section which it sets or
 // goes to.
 fn misplaces_counter(current: Option<u32>, load: &Load) -> bool
     ensures { result ≡ misplaces_counter (current, load.now) }
@@ -326,7 +326,7 @@ fn current_after(current: Option<u32>, load: &Load) -> Option<u32>
     }
 }
 
-// Whether such a program counter stands in one of the loads.
+// Whether such a program counter is in one of the loads.
 fn loads_misplace_counter(loads: &[Load]) -> bool
     ensures { result ≡ list_any misplaces_counter (placed_from None loads.now) }
 {
@@ -340,14 +340,14 @@ fn loads_misplace_counter(loads: &[Load]) -> bool
     false
 }
 
-// Whether a program counter stands in the value of a public.
+// Whether a program counter is in the value of a public.
 fn publics_have_counter(publics: &[Public]) -> bool
     ensures { result ≡ list_any (λ p. has_other_counter None p.value) publics.now }
 {
     publics.iter().any(|p| has_other_counter(None, &p.value))
 }
 
-// Whether a program counter stands in the start address.
+// Whether a program counter is in the start address.
 fn start_has_counter(start: &Option<Postfix>) -> bool
     ensures { result ≡ any_of (has_other_counter None) start.now }
 {
@@ -357,7 +357,7 @@ fn start_has_counter(start: &Option<Postfix>) -> bool
     }
 }
 
-/// A program counter stands in a public, a start or a debug expression, or is that of another
+/// A program counter is in a public, a start or a debug expression, or is that of another
 /// section than a load may name.
 pub(crate) fn has_misplaced_counter(parts: &Parts) -> bool
     ensures { result ≡ has_defect parts.now Defect.MisplacedP }
@@ -380,7 +380,7 @@ fn load_is_nowhere(current: Option<u32>, load: &Load) -> bool
     }
 }
 
-/// An item or a repeat stands before the first section is set.
+/// An item or a repeat is before the first section is set.
 pub(crate) fn loads_nowhere(parts: &Parts) -> bool
     ensures { result ≡ has_defect parts.now Defect.NoSection }
 {

@@ -1,3 +1,5 @@
+//! Making a module from parts, or naming their first defect.
+
 ghost use Rattle.std.specs.Prelude.{◌≡◌, IfOk, IfErr, Some};
 ghost use Rattle.std.specs.List.{find};
 ghost use Rattle.mufom_module.specs.Defects.{has_defect, first_defect, IsValid};
@@ -68,7 +70,7 @@ fn first_defect(parts: &Parts) -> Option<Defect>
 
 /// The module of these parts, or the parts back with their first defect, in the order of [`Defect`].
 ///
-/// Takes no memory, and time that grows with the size of the parts.
+/// Does not allocate. Takes time that grows with the size of the parts.
 pub fn assemble(parts: Parts) -> Result<Module, (Parts, Defect)>
     ensures same { IfOk result (λ m. m ≡ parts) }
     ensures valid { IfOk result (λ m. IsValid m) }

@@ -183,7 +183,7 @@ fn debug_item_weight(item: &DebugItem) -> u64
     }
 }
 
-/// What debug items weigh together, with all that stands in blocks, in bytes; or the greatest number
+/// What debug items weigh together, with all that is in blocks, in bytes; or the greatest number
 /// of 64 bits if that is less.
 #[cycle(weighing)]
 pub fn debug_items_weight(items: &[DebugItem]) -> u64

@@ -1,3 +1,5 @@
+//! The seed of an index, drawn from all that is added to it.
+
 use crate::name::{Note, Public, Reference};
 use std::hash::{BuildHasher, DefaultHasher, Hasher};
 
@@ -9,7 +11,7 @@ use std::hash::{BuildHasher, DefaultHasher, Hasher};
 ///
 /// The hashes are SipHash's, and so is the seed, under keys that everybody knows. This is an argument
 /// and nothing that is proved, and it reaches as far as nobody steers SipHash to a state that was
-/// chosen before. Any seed gives the same answers: it decides about the time alone.
+/// chosen before. Any seed gives the same results: it decides about the time alone.
 #[derive(Clone, Copy)]
 pub struct HashSeed {
     start: DefaultHasher,

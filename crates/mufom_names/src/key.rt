@@ -1,3 +1,5 @@
+//! The key of a reference: equal references have equal keys.
+
 ghost use Rattle.std.specs.Prelude.{◌≡◌, ◌++◌, length, flat_map, OnOk, IfOk};
 ghost use Rattle.mufom_names.specs.Keys.{number_key, numbers_key, note_key, notes_key, weak_key, reference_key, EqualKeysAreEqualReferences};
 

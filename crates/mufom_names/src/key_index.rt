@@ -1,3 +1,5 @@
+//! An index from keys to positions.
+
 use crate::hash_seed::HashSeed;
 use indexmap::IndexSet;
 use mufom_numbers::NoMemory;
@@ -40,7 +42,7 @@ impl KeyIndex {
     ghost use Rattle.std.specs.Prelude.{◌≡◌, [], IfOk, OnOk, OnErr};
     ghost use Rattle.mufom_names.specs.Index.{position_of, with_entry};
 
-    /// An empty index, which hashes from this seed. Takes no memory.
+    /// An empty index, which hashes from this seed. Does not allocate.
     pub fn new(alloc: Global, seed: HashSeed) -> KeyIndex
         ensures { result ≡ [] }
     {
@@ -50,8 +52,8 @@ impl KeyIndex {
         }
     }
 
-    /// Adds a key with its position at the end and answers `None`. Where the key is in the index
-    /// already, answers the position that it has and changes nothing. A call that runs out of memory
+    /// Adds a key with its position at the end and returns `None`. Where the key is in the index
+    /// already, returns the position that it has and changes nothing. A call that runs out of memory
     /// changes nothing either.
     pub fn add(&mut self, key: Vec<u8>, position: u32) -> Result<Option<u32>, NoMemory>
         ensures answer { IfOk result (λ found. found ≡ position_of self.old key.items) }

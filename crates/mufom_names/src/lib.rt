@@ -1,10 +1,10 @@
 //! The names of a module: public names with their values, references to names of other modules, and
 //! the notes on both.
 //!
-//! It stands on `mufom_numbers`, `mufom_expr`, `indexmap` and `arrayvec`. Names are bytes of no
-//! character set, and two names are one where their bytes are. [`NameTable::find`] answers the first
+//! It depends on `mufom_numbers`, `mufom_expr`, `indexmap` and `arrayvec`. Names are bytes of no
+//! character set, and two names are one where their bytes are. [`NameTable::find`] returns the first
 //! public of a name, and [`NameTable::duplicate`] the first public whose name an earlier one has;
-//! neither takes memory. A [`NameIndex`] finds names by hashing, and a [`KeyIndex`] equal references by
+//! neither allocates. A [`NameIndex`] finds names by hashing, and a [`KeyIndex`] equal references by
 //! the keys that [`reference_key`] makes of them.
 #![tactic(auto)]
 

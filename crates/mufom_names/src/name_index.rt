@@ -1,3 +1,5 @@
+//! An index from names to positions.
+
 use crate::hash_seed::HashSeed;
 use indexmap::IndexSet;
 use mufom_numbers::NoMemory;
@@ -6,7 +8,7 @@ use std::marker::Model;
 
 /// An index from names to positions, which finds a name by hashing its bytes. The names stay where
 /// they are, and the index borrows them. Contracts see the list of the pairs of names and positions,
-/// in the order in which they were added; no name stands twice.
+/// in the order in which they were added; no name occurs twice.
 pub struct NameIndex<'a> {
     names: IndexSet<&'a [u8], HashSeed>,
     positions: Vec<u32>,
@@ -40,7 +42,7 @@ impl<'a> NameIndex<'a> {
     ghost use Rattle.std.specs.Prelude.{◌≡◌, [], IfOk, OnOk, OnErr};
     ghost use Rattle.mufom_names.specs.Index.{position_of, with_entry, HaveDistinctKeys};
 
-    /// An empty index, which hashes from this seed. Takes no memory.
+    /// An empty index, which hashes from this seed. Does not allocate.
     pub fn new(alloc: Global, seed: HashSeed) -> NameIndex<'a>
         ensures { result ≡ [] }
     {
@@ -64,8 +66,8 @@ impl<'a> NameIndex<'a> {
         })
     }
 
-    /// Adds a name with its position at the end and answers `None`. Where the name is in the index
-    /// already, answers the position that it has and changes nothing. A call that runs out of memory
+    /// Adds a name with its position at the end and returns `None`. Where the name is in the index
+    /// already, returns the position that it has and changes nothing. A call that runs out of memory
     /// changes nothing either.
     pub fn add(&mut self, name: &'a [u8], position: u32) -> Result<Option<u32>, NoMemory>
         ensures answer { IfOk result (λ found. found ≡ position_of self.old name.now) }
@@ -86,7 +88,7 @@ impl<'a> NameIndex<'a> {
         }
     }
 
-    /// The position of a name, and `None` where it is not in the index. Takes no memory.
+    /// The position of a name, and `None` where it is not in the index. Does not allocate.
     pub fn find(&self, name: &[u8]) -> Option<u32>
         ensures value { result ≡ position_of self.now name.now }
         ensures distinct { HaveDistinctKeys self.now }

@@ -11,7 +11,7 @@ use Rattle.mufom_numbers.specs.declared.taken.Taken.TheVariants.{Got, More, Bad}
 abbrev pub AreBytes : List ℕ → Type 0
 AreBytes bytes = AllByRecursion (λ b. b < 256) bytes
 
--- the number of bytes that stand after the digits of n, the most significant first
+-- the number of bytes that are after the digits of n, the most significant first
 abbrev pub value_after : ℕ → List ℕ → ℕ
 value_after n [] = n
 value_after n (b ∷ bytes) = value_after (256 * n + b) bytes
@@ -25,7 +25,7 @@ SpellsNumber n [] = ⊥
 SpellsNumber n (lead ∷ bytes) = ((lead < 128) × (bytes ≡ []) × (n ≡ lead))
     ⊎ ((lead ≡ 128 + length bytes) × (length bytes ≤ 8) × AreBytes bytes × (n ≡ big_endian bytes))
 
--- What stands before the bytes of a string of this length: the length, or DE and it, or DF and it in two bytes.
+-- What is before the bytes of a string of this length: the length, or DE and it, or DF and it in two bytes.
 abbrev pub IsStringLead : ℕ → List ℕ → Type 0
 IsStringLead len (a ∷ []) = (len < 128) × (a ≡ len)
 IsStringLead len (a ∷ b ∷ []) = (a ≡ 222) × (len < 256) × (b ≡ len)

@@ -1,3 +1,5 @@
+//! A string of bytes; short ones are held without an allocation.
+
 ghost use Rattle.std.specs.Prelude.{◌≡◌, ◌↔◌, [], length, IfOk, IsTrue};
 
 use crate::NoMemory;
@@ -10,7 +12,7 @@ const SHORT: usize = 16;
 
 /// Bytes that are kept, of no character set: a name, or literal bytes. Contracts see them as a list.
 ///
-/// At most 16 are held in the value itself, as those of most names and loads are: these take no memory.
+/// At most 16 are held in the value itself, as those of most names and loads are: these do not allocate.
 #[derive(Debug, Drop)]
 pub struct Bytes {
     held: SmallVec<u8, SHORT>,
@@ -42,7 +44,7 @@ impl Bytes {
         Ok(Bytes { held })
     }
 
-    /// The bytes of a `Vec`. Takes no memory.
+    /// The bytes of a `Vec`. Does not allocate.
     pub fn from_vec(bytes: Vec<u8>) -> Bytes
         ensures { result ≡ bytes.items }
     {

@@ -1,7 +1,7 @@
 //! Numbers and strings as object modules spell them, the reasons for which a module's bytes are
 //! refused, and the lists and texts that all other crates keep.
 //!
-//! The lowest layer: it stands on `std`, `arrayvec` and `smallvec` alone. Its main clause is that
+//! The lowest layer: it depends on `std`, `arrayvec` and `smallvec` alone. Its main clause is that
 //! [`read_number`] and [`read_id`] take a spelling exactly: a value is got where the input begins
 //! with a spelling of it, more is asked for where the input is the prefix of a spelling and not all
 //! of it, and anything else is refused at its first byte.

@@ -1,3 +1,5 @@
+//! A growing list, for types that contain themselves.
+
 ghost use Rattle.std.specs.Prelude.{◌≡◌, ◌↔◌, List, [], ◌∷◌, ◌++◌, length, IfOk, OnOk, OnErr, IsNone, IsTrue, option_map, slice_get, option_to_list};
 
 use crate::NoMemory;
@@ -6,8 +8,8 @@ use std::marker::Model;
 
 /// A list that grows at its end, over `Vec`. Contracts see it as the list of its items.
 ///
-/// It can stand in a type that holds itself. Only [`push`](List::push),
-/// [`single`](List::single) and [`with_capacity`](List::with_capacity) take memory.
+/// It can be used in a type that contains itself. Only [`push`](List::push),
+/// [`single`](List::single) and [`with_capacity`](List::with_capacity) allocate.
 #[derive(Debug, Drop)]
 pub struct List<T> {
     items: Vec<T>,
@@ -42,7 +44,7 @@ impl<T> List<T> {
         Ok(List { items })
     }
 
-    /// The list of the items of a `Vec`. Takes no memory.
+    /// The list of the items of a `Vec`. Does not allocate.
     pub fn from_vec(items: Vec<T>) -> List<T>
         ensures { result ≡ items.items }
     {
@@ -104,7 +106,7 @@ impl<T: Drop> List<T> {
         Ok(list)
     }
 
-    /// Adds an item at the end. Where there is no memory the list stays as it was.
+    /// Adds an item at the end. If memory runs out, the list stays as it was.
     pub fn push(&mut self, item: T) -> Result<(), NoMemory>
         ensures ok { OnOk result (self.new ≡ self.old ++ item ∷ []) }
         ensures err { OnErr result (self.new ≡ self.old) }

@@ -1,3 +1,5 @@
+//! The error of a call that runs out of memory.
+
 use std::alloc::{AllocError, AllocFailed};
 use thiserror::Error;
 

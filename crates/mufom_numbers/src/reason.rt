@@ -1,3 +1,5 @@
+//! Why the bytes of a file are not a module.
+
 use thiserror::Error;
 
 /// Why a file is not an object module. The number of a reason is its rank: of two errors at one byte, the one with the

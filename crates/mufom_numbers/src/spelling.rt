@@ -1,3 +1,5 @@
+//! Numbers and strings as the bytes of a file spell them.
+
 ghost use Rattle.std.specs.Prelude.{◌≡◌, ◌↔◌, ◌⊎◌, ◌+◌, ◌<◌, ◌≤◌, ◌^◌, ℕ, List, [], ◌∷◌, ◌++◌, length, take};
 ghost use Rattle.std.specs.Int.{w64, to_be_bytes};
 ghost use Rattle.mufom_numbers.specs.Spelling.{IsStringLead, SpellsNumber, SpellsString, number_at, string_at, string_after, shortest_number};
@@ -66,7 +68,7 @@ fn span_after(lead: usize, len: usize, input: &[u8]) -> Taken<Span>
     Taken::Got(Span { start: lead, len }, lead + len)
 }
 
-/// Reads the string at the start of the input: where its bytes stand after the lead, and how many
+/// Reads the string at the start of the input: where its bytes are after the lead, and how many
 /// bytes lead and string take.
 ///
 /// `Bad` is at offset 0 with [`Reason::BadId`], where the first byte begins no string. Takes no
@@ -111,7 +113,7 @@ fn significant(value: u64) -> usize
     8 - value.leading_zeros() as usize / 8
 }
 
-/// The shortest spelling of a number; of 0, which has two of one byte, the byte 00. Takes no memory.
+/// The shortest spelling of a number; of 0, which has two of one byte, the byte 00. Does not allocate.
 pub fn number_spelling(value: u64) -> ArrayVec<u8, 9>
     ensures spells { SpellsNumber value result.items }
     ensures shortest { NoneIsShorter (SpellsNumber value) result.items }
@@ -137,7 +139,7 @@ fn shortest(value: u64) -> ArrayVec<u8, 9>
     spelling
 }
 
-/// How many bytes the shortest spelling of a number has. Takes no memory.
+/// How many bytes the shortest spelling of a number has. Does not allocate.
 pub fn number_length(value: u64) -> usize
     ensures { result ≡ length (shortest_number value) }
 {
@@ -147,7 +149,7 @@ pub fn number_length(value: u64) -> usize
     1
 }
 
-/// The shortest lead of a string of this many bytes. Takes no memory.
+/// The shortest lead of a string of this many bytes. Does not allocate.
 pub fn id_lead(length: u16) -> ArrayVec<u8, 3>
     ensures leads { IsStringLead length result.items }
     ensures shortest { NoneIsShorter (IsStringLead length) result.items }

@@ -1,3 +1,5 @@
+//! The result of reading a part of a stream: a value, more bytes needed, or an error.
+
 use crate::Reason;
 
 /// A part of an input: the position of its first byte, and its length in bytes.

@@ -1,3 +1,5 @@
+//! A text of characters, as arguments and names of files are.
+
 ghost use Rattle.std.specs.Prelude.{◌≡◌, IfOk};
 
 use crate::NoMemory;
@@ -29,7 +31,7 @@ impl Text {
         Ok(Text { text: copy })
     }
 
-    /// The text. Takes no memory.
+    /// The text. Does not allocate.
     pub fn as_str(&self) -> &str
         ensures { result.now ≡ self.now }
     {

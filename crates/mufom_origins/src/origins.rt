@@ -1,3 +1,5 @@
+//! Origins: how many sections, public symbols and references each module has.
+
 ghost use Rattle.std.specs.Prelude.{◌≡◌, ◌<◌, ◌≤◌, ◌^◌, ◌+◌, ◌++◌, drop, length, map, option_map, option_to_list, position, slice_get, take, nat_le};
 ghost use Rattle.std.specs.Prelude.{ℕ, List as list, IfOk, OnOk};
 ghost use Rattle.std.specs.List.Sorted.{IsNonDecreasing};

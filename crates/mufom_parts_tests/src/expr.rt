@@ -26,7 +26,7 @@ impl Env for All {
     }
 }
 
-// One variable stands in the place of each.
+// One variable replaces each.
 #[derive(Drop)]
 struct AllAre(Letter, u32);
 

@@ -1,7 +1,7 @@
 //! Tests of the crates that a module's parts are made of: numbers, expressions, index tables, names, loads
 //! and debug items; and of the host in memory and the real one.
 //!
-//! They stand in a crate of their own, so that the gate proves the crates that they test once.
+//! They are in a crate of their own, so that the gate proves the crates that they test once.
 #![tactic(auto)]
 
 #[cfg(test)]

@@ -1,5 +1,5 @@
 //! Calls of a host in memory: what each takes or gives, those that fail by their number or because the room is
-//! used up, and the file and the texts that stand after them.
+//! used up, and the file and the texts that are after them.
 
 use mufom_host::{Host, MemHost, Sink, Source, write_all};
 use mufom_numbers::{Bytes, List, Text};
@@ -31,7 +31,7 @@ struct Known {
 }
 
 /// A host with the files `a` and `b`: the numbers of its calls that fail, and its room; calls with how many bytes
-/// each takes or gives, 0 for those that have no number, and none for those that fail; and what stands after them.
+/// each takes or gives, 0 for those that have no number, and none for those that fail; and what is after them.
 struct Run {
     fail_reads: &'static [u64],
     fail_writes: &'static [u64],

@@ -130,7 +130,7 @@ fn a_list_of_one_item_holds_it(rt: HostRuntime) {
     assert_eq!(rt; list.as_slice(), [5].as_slice());
 }
 
-// The second is longer than what stands in place.
+// The second is longer than what is in place.
 static BYTES: [&[u8]; 2] = [&[0, 255], b"twenty-six bytes of a name"];
 
 #[test]

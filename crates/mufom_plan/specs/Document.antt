@@ -1,4 +1,4 @@
--- The document that bytes are, as `toml` defines it, and what stands in it.
+-- The document that bytes are, as `toml` defines it, and what is in it.
 use Rattle.std.specs.Prelude.{ℕ, ◌==◌, ℤ, pos, negsuc, List, [], ◌∷◌, length, Option, Some, None, option_map, option_and_then, Bool, true, false}
 use Rattle.std.specs.Prelude.{◌&&◌, if◌then◌else◌}
 use Rattle.std.specs.Str.Lossy.{utf8_valid_len}
@@ -37,7 +37,7 @@ number_at value = option_and_then natural (option_and_then as_integer value)
 abbrev pub text_at : Option Data → Option (List ℕ)
 text_at value = option_and_then as_str value
 
--- the truth value that stands at a key; a key that is absent has false
+-- the truth value that is at a key; a key that is absent has false
 abbrev pub truth_at : Option Data → Option Bool
 truth_at None = Some false
 truth_at (Some value) = as_bool value

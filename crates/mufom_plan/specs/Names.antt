@@ -8,7 +8,7 @@ use Rattle.mufom_plan.specs.declared.plan.Region.{Region}
 abbrev pub has_name : List (List ℕ) → List ℕ → Bool
 has_name names name = list_any (bytes_eq name) names
 
--- no name stands twice among these names
+-- no name occurs twice among these names
 abbrev pub AreDistinctNames : List (List ℕ) → Type 0
 AreDistinctNames = IsDistinct bytes_eq
 

@@ -43,7 +43,7 @@ new_name earlier name = if (length name == 0) || has_name earlier name then None
 abbrev pub before_names : List (List ℕ) → List ℕ → Option (List (List ℕ)) → Option (List (List ℕ))
 before_names earlier name more = if has_name earlier name then None else option_map (λ names. name ∷ names) more
 
--- the texts of an array, where each item is a text and none stands earlier
+-- the texts of an array, where each item is a text and none is earlier
 abbrev pub new_names : List (List ℕ) → List Data → Option (List (List ℕ))
 new_names earlier [] = Some []
 new_names earlier (value ∷ more) = option_and_then (λ name. before_names earlier name (new_names (earlier ++ name ∷ []) more)) (as_str value)
@@ -52,7 +52,7 @@ new_names earlier (value ∷ more) = option_and_then (λ name. before_names earl
 abbrev pub new_common : Bool → Bool → Option Bool
 new_common earlier common = if earlier && common then None else Some common
 
--- The region at a position of the plan, by what stands in its table: whether the table has the keys of a region alone, the
+-- The region at a position of the plan, by what is in its table: whether the table has the keys of a region alone, the
 -- name, the base, the size, the section names and whether it takes the commons, each where it has the shape that it must have.
 abbrev pub region_with : ℕ → Bool → Option (List ℕ) → Option ℕ → Option ℕ → Option (List (List ℕ)) → Option Bool → Result Region PlanRefusal
 region_with place false name base size sections common = Err (Shape (Some place) field.Extra)

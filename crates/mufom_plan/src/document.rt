@@ -1,4 +1,4 @@
-//! The document of a plan, and what stands at its keys.
+//! The document of a plan, and what is at its keys.
 
 ghost use Rattle.std.specs.Prelude.{◌≡◌, ◌≢◌, ◌<◌, ◌^◌, Some, None, IfOk, IfErr, IfSome, option_map, is_some, map, string_bytes};
 ghost use Rattle.std.specs.BTreeMap.{keys};

@@ -1,3 +1,5 @@
+//! The section names of a plan, found by hashing.
+
 use indexmap::IndexSet;
 use mufom_names::HashSeed;
 use mufom_numbers::NoMemory;
@@ -67,7 +69,7 @@ impl NameList {
         Ok(added)
     }
 
-    /// The position of a name, and `None` where it is not there. Takes no memory.
+    /// The position of a name, and `None` where it is not there. Does not allocate.
     pub fn position(&self, name: &[u8]) -> Option<usize>
         ensures { result ≡ position (bytes_eq name.now) self.now }
     {

@@ -1,3 +1,5 @@
+//! A memory plan and its regions.
+
 use mufom_numbers::{Bytes, List};
 
 /// A region of the address space, and the sections that it takes.

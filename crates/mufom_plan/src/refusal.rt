@@ -1,3 +1,5 @@
+//! Why bytes are not a plan.
+
 use mufom_numbers::NoMemory;
 use thiserror::Error;
 
@@ -14,7 +16,7 @@ pub enum PlanField {
     Base,
     /// The key `size`: an integer that is not negative.
     Size,
-    /// The key `sections`: an array of texts, none of which stands earlier in the plan.
+    /// The key `sections`: an array of texts, none of which is earlier in the plan.
     Sections,
     /// The key `common`: a truth value, true in at most one region.
     Common,
@@ -24,11 +26,11 @@ pub enum PlanField {
 #[derive(Clone, Copy, Debug, PartialEq, Eq, Error)]
 pub enum PlanRefusal {
     /// The bytes are no TOML document.
-    #[error("the plan is no TOML document")]
+    #[error("the plan is not a TOML document")]
     Syntax,
     /// A key of the document, or of the region at this position, is missing, is not known or has
     /// not the value that it must have.
-    #[error("the plan has not the shape of a plan")]
+    #[error("the plan does not have the keys and values of a plan")]
     Shape {
         region: Option<u32>,
         field: PlanField,
@@ -37,10 +39,10 @@ pub enum PlanRefusal {
     #[error("the region {0} ends above 2^63 - 1")]
     Beyond(u32),
     /// The plan has more than 65,536 bytes.
-    #[error("the plan has more than 65536 bytes")]
+    #[error("the plan has more than 65,536 bytes")]
     TooLong,
-    /// There was no memory.
-    #[error("no memory")]
+    /// Out of memory.
+    #[error("out of memory")]
     NoMemory,
 }
 

@@ -1,6 +1,6 @@
 //! What a module means without what is not kept.
 //!
-//! The crate has two laws, the contracts of functions that do nothing. It stands on `mufom_prune`,
+//! The crate has two laws, the contracts of functions that do nothing. It depends on `mufom_prune`,
 //! whose relation it speaks of, and on `mufom_meaning`.
 #![tactic(auto)]
 

@@ -33,7 +33,7 @@ HasKind _ = Unit {0}
 abbrev pub as_opened : code.OpenBlock → OpenBlock
 as_opened b = (b.start, kind_number b.head)
 
--- the open blocks, the innermost first, where the code has it last; these stand around them
+-- the open blocks, the innermost first, where the code has it last; these are around them
 abbrev pub stacked : List OpenBlock → List code.OpenBlock → List OpenBlock
 stacked outer [] = outer
 stacked outer (b ∷ blocks) = stacked (as_opened b ∷ outer) blocks
@@ -44,7 +44,7 @@ opened d = stacked [] d.blocks
 
 -- ---- marks
 
--- the marks of what stands before an open block at its level, and of its begin
+-- the marks of what is before an open block at its level, and of its begin
 abbrev pub marks_to_block : code.OpenBlock → List DebugMark
 marks_to_block b = marks_of b.before ++ block_begin b.head b.name ∷ []
 

@@ -1,5 +1,5 @@
 -- The faults of records in their locations, and of parts as wholes, after a prefix of the stream. Each is a fact of what
--- stands before it: no running state is kept here.
+-- is before it: no running state is kept here.
 use Rattle.std.specs.Prelude.{ℕ, ◌+◌, ◌-◌, ◌==◌, ◌&&◌, ◌||◌, nat_lt, nat_le, Bool, true, false, not, List, [], ◌∷◌, ◌++◌, length, filter_map, Option}
 use Rattle.std.specs.Prelude.{Some, None, is_some, if◌then◌else◌}
 use Rattle.std.specs.List.{list_all, list_any, find, last_or}
@@ -139,13 +139,13 @@ part_record_fault prefix extent start p = option_or (fault_if (nat_lt extent.to 
     (option_or (fault_if (not (stands_in extent.part p.row)) start why.WrongPart)
     (fault_for start (rule_broken prefix p)))
 
--- the fault of a whole record in its location; where the module must end any record but its end stands in the wrong part
+-- the fault of a whole record in its location; where the module must end any record but its end is in the wrong part
 abbrev pub record_fault : List Step → Location → ℕ → SpelledRecord → Option Fault
 record_fault prefix (in_header k) start p = header_fault (offsets_of prefix) start (start + length p.bytes) p.row
 record_fault prefix (in_part extent) start p = part_record_fault prefix extent start p
 record_fault prefix at_end start p = fault_if (not (stands_in end_part p.row)) start why.WrongPart
 
--- the fault of what stands after a prefix, which may be one of its fields
+-- the fault of what is after a prefix, which may be one of its fields
 abbrev pub step_fault : List Step → Taken Step → Option Fault
 step_fault prefix (Got (raw b) used) = None
 step_fault prefix (Got (read start p) used) = record_fault prefix (location_after prefix) start p
@@ -210,6 +210,6 @@ ended_part_fault prefix = ended_fault prefix (part_at prefix (size_of prefix - 1
 
 -- ---- together
 
--- The first fault after a prefix, in the order of judging: of the part that ended, and then of what stands next.
+-- The first fault after a prefix, in the order of judging: of the part that ended, and then of what is next.
 abbrev pub fault_after : Bool → List Step → List ℕ → Option Fault
 fault_after reads_debug prefix rest = option_or (ended_part_fault prefix) (step_fault prefix (next_step reads_debug prefix rest))

@@ -1,4 +1,4 @@
--- What a reader answers for a stream: a module, or a refusal at an offset. The stream is judged as a whole; how it came
+-- What a reader returns for a stream: a module, or a refusal at an offset. The stream is judged as a whole; how it came
 -- in chunks makes no difference.
 use Rattle.std.specs.Prelude.{◌≡◌, ◌⊎◌, ℕ, ◌<◌, ◌≤◌, Bool, true, false, List, [], ◌∷◌, ◌++◌, length, take, drop, Some, None}
 use Rattle.mufom_numbers.specs.declared.reason.Reason.{Reason}
@@ -20,11 +20,11 @@ IsSoundFrom reads_debug before (step ∷ steps) rest = (is_ended before ≡ fals
 abbrev pub IsSoundPrefix : Bool → List Step → List ℕ → Type 0
 IsSoundPrefix reads_debug prefix bytes = IsSoundFrom reads_debug [] prefix bytes
 
--- the bytes that are judged; what stands after them is too long
+-- the bytes that are judged; what is after them is too long
 abbrev pub within_limit : List ℕ → List ℕ
 within_limit bytes = take file_limit bytes
 
--- a fault stands after a sound prefix, which is the longest then
+-- a fault is after a sound prefix, which is the longest then
 pub record HasFault (reads_debug : Bool) (bytes : List ℕ) (offset : ℕ) (reason : Reason) : Type 0 where
   pub prefix : List Step
   pub sound : IsSoundPrefix reads_debug prefix (within_limit bytes)
@@ -57,7 +57,7 @@ IsRefusedAt reads_debug bytes offset reason = HasFault reads_debug bytes offset 
 abbrev pub IsTruncated : Bool → List ℕ → Type 0
 IsTruncated reads_debug bytes = (length bytes ≤ file_limit) × (pending : List ℕ) × IsWaiting reads_debug bytes pending
 
--- how many bytes stand after the whole records and the bytes of parts that are not read
+-- how many bytes are after the whole records and the bytes of parts that are not read
 abbrev pub IsPending : Bool → List ℕ → ℕ → Type 0
 IsPending reads_debug bytes n = ((pending : List ℕ) × IsWaiting reads_debug bytes pending × (length pending ≡ n))
     ⊎ (EndsAt reads_debug bytes (length bytes) × (n ≡ 0))

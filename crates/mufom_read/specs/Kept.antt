@@ -183,7 +183,7 @@ record_of_seen s = as_record s.row.now s.bytes.now
 abbrev pub placed : SeenRecord → OffsetRecord
 placed s = (s.start, record_of_seen s)
 
--- its strings, its runs and its expressions stand in its bytes
+-- its strings, its runs and its expressions are in its bytes
 abbrev pub HasOwnParts : SeenRecord → Type 0
 HasOwnParts s = HasParts s.bytes.now s.row.now
 

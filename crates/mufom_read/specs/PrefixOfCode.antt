@@ -37,7 +37,7 @@ as_location (offset.Header k) = in_header k
 as_location (offset.Part e) = in_part (as_extent e)
 as_location offset.End = at_end
 
--- Where the next byte stands after a step that stood in this location, by the offsets and how many bytes there are then: a
+-- Where the next byte is after a step that was in this location, by the offsets and how many bytes there are then: a
 -- part goes on up to its end.
 abbrev pub next_location : Location → List ℕ → ℕ → Location
 next_location (in_header k) offsets size = if nat_lt k 9 then in_header (k + 1) else location_by (part_among parts_in_order offsets size)
@@ -60,7 +60,7 @@ abbrev pub AreOrdered : List ℕ → Type 0
 AreOrdered [] = Unit {0}
 AreOrdered (w ∷ offsets) = AreFrom w offsets × AreOrdered offsets
 
--- how many offsets stand after the given number of records: those after MB and AD, at most eight
+-- how many offsets are after the given number of records: those after MB and AD, at most eight
 abbrev pub offset_count : ℕ → ℕ
 offset_count n = min (n - 2) 8
 
@@ -88,7 +88,7 @@ pub record IsPrefixOf (f : Prefix) (prefix : List Step) : Type 0 where
   pub follow : FollowFrom [] (records_of prefix)
   pub rising : AreRising 0 (offset_records_of prefix) (size_of prefix)
 
--- the prefix with one more record, with what all of them state of the module and the location that stand after it
+-- the prefix with one more record, with what all of them state of the module and the location that are after it
 abbrev pub with_record : Prefix → SpelledRecord → Prefix → Prefix
 with_record f p new = record {
   contents = new.contents;
@@ -122,7 +122,7 @@ IsPlacedWell (offset.Header k) row = IsHeaderRow row × (is_some (offset_in row)
 IsPlacedWell (offset.Part e) row = HasKind row
 IsPlacedWell offset.End row = Unit {0}
 
--- what must stand in a location, where these bytes stand
+-- what must be in a location, where these bytes stand
 abbrev pub mode_at : List Step → Location → List ℕ → Mode
 mode_at prefix (in_header k) rest = header_mode k
 mode_at prefix (in_part e) rest = body_mode prefix e rest
@@ -135,7 +135,7 @@ HasTaken prefix p new (next.Took n) = (n ≡ length p.bytes) × (record_fault pr
 HasTaken prefix p new next.More = ⊥
 HasTaken prefix p new (next.Refused f) = record_fault prefix (location_after prefix) (size_of prefix) p ≡ Some (as_fault f)
 
--- what stands in the location is read
+-- what is in the location is read
 abbrev pub IsRead : Bool → code.Location → Type 0
 IsRead reads_debug (offset.Header k) = Unit {0}
 IsRead reads_debug (offset.Part e) = is_raw reads_debug (as_part e.part) ≡ false
@@ -145,7 +145,7 @@ IsRead reads_debug offset.End = Unit {0}
 abbrev pub IsRawPart : Bool → code.Location → extents.Extent → Type 0
 IsRawPart reads_debug at e = (at ≡ offset.Part e) × (is_raw reads_debug (as_part e.part) ≡ true)
 
--- What was done with what stands after a prefix: a step without a fault was taken; or more bytes are wanted; or there is this fault.
+-- What was done with what is after a prefix: a step without a fault was taken; or more bytes are wanted; or there is this fault.
 abbrev pub HasJudged : List Step → Taken Step → List ℕ → Prefix → Next → Type 0
 HasJudged prefix stands rest new (next.Took n) = (step : Step) × (stands ≡ Got step n) × (length (step_bytes step) ≡ n) × (step_fault prefix stands ≡ None)
     × (0 < n) × (n ≤ length rest) × IsPrefixOf new (prefix ++ step ∷ [])

@@ -1,5 +1,5 @@
 -- Prefixes of a stream: the bytes of parts that are not read and the records with which it begins, where the next byte
--- stands, and what stands there (IEEE Std 695, module structure).
+-- stands, and what is there (IEEE Std 695, module structure).
 use Rattle.std.specs.Prelude.{ℕ, zero, suc, ◌==◌, ◌&&◌, nat_lt, nat_le, Bool, true, false, not, List, [], ◌∷◌, length, map, take, filter_map, Option}
 use Rattle.std.specs.Prelude.{Some, None, if◌then◌else◌}
 use Rattle.std.specs.List.{last_or}
@@ -65,7 +65,7 @@ pub record Extent : Type 0 where
   pub from : ℕ
   pub to : ℕ
 
--- in the header, after the given number of records of it; in a part; or where the end of the module must stand
+-- in the header, after the given number of records of it; in a part; or where the end of the module must be
 pub data Location : Type 0 where
   in_header : ℕ → Location
   in_part : Extent → Location
@@ -103,9 +103,9 @@ header_count = 10
 abbrev pub location_after : List Step → Location
 location_after prefix = if nat_lt (length prefix) header_count then in_header (length prefix) else location_by (part_at prefix (size_of prefix))
 
--- ---- what stands next
+-- ---- what is next
 
--- the record that must stand in the header after the given number
+-- the record that must be in the header after the given number
 abbrev pub header_mode : ℕ → Mode
 header_mode zero = mode.Begin
 header_mode (suc zero) = mode.Descriptor
@@ -123,7 +123,7 @@ abbrev pub awaits_items : Option SpelledRecord → Bool
 awaits_items None = false
 awaits_items (Some p) = opens_items p.row
 
--- Items stand after an LR and after one another, and never first in a part.
+-- Items are after an LR and after one another, and never first in a part.
 abbrev pub body_mode : List Step → Extent → List ℕ → Mode
 body_mode prefix extent rest = if not (size_of prefix == extent.from) && (awaits_items (last_or None (records_of prefix)) && begins_item rest)
     then mode.Items else mode.Body

@@ -40,12 +40,12 @@ pub record HasGoneOn (reads_debug : Bool) (before : List Step) (rest : List ℕ)
   pub within : taken ≤ length rest
   pub whole : is_ended (before ++ steps) ≡ false → ended_part_fault (before ++ steps) ≡ None
 
--- No step is left after a prefix: the module ends with it and no bytes stand after it; or more bytes than these are wanted.
+-- No step is left after a prefix: the module ends with it and no bytes are after it; or more bytes than these are wanted.
 abbrev pub HasNoStep : Bool → List Step → List ℕ → Type 0
 HasNoStep reads_debug prefix rest = ((is_ended prefix ≡ true) × (rest ≡ [])) ⊎ IsIncomplete reads_debug prefix rest
 
 -- What was done with the bytes of a chunk, where these are pending before them: all are pending with them, and still more are
--- wanted; or a step was taken of all that was pending and as many of them as are answered, and none are pending; or there is
+-- wanted; or a step was taken of all that was pending and as many of them as are returned, and none are pending; or there is
 -- a fault.
 abbrev pub HasCompleted : Bool → List Step → List ℕ → List ℕ → State → Result ℕ ReadStop → Type 0
 HasCompleted reads_debug before pending chunk new (Ok n) = (IsPrefixOf new.prefix before × (new.rest.items ≡ pending ++ chunk)
@@ -59,7 +59,7 @@ HasTakenChunk reads_debug before rest new (Ok done) = (n : ℕ) × HasTakenAll r
 HasTakenChunk reads_debug before rest new (Err s) = HasTakenAll reads_debug before rest new.prefix (Err s)
 
 -- What is stated after a chunk whose steps were taken, where this is whether the module has ended, how many bytes the prefix
--- has, whether the stream has more than may be read, and what stands after the prefix: nothing; or that a byte stands after
+-- has, whether the stream has more than may be read, and what is after the prefix: nothing; or that a byte is after
 -- the end; or that the stream is too long.
 abbrev pub HasEndedChunk : Bool → ℕ → Bool → List ℕ → State → Option ReadStop → Type 0
 HasEndedChunk ended size longer rest new None = (new.rest.items ≡ rest) × (longer ≡ false) × (ended ≡ true → rest ≡ [])
@@ -95,7 +95,7 @@ reader_stop reader = reader.stop
 abbrev pub reads_debug_of : State → Bool
 reads_debug_of reader = reader.reads_debug
 
--- what a reader answers, by its stop
+-- what a reader returns, by its stop
 abbrev pub answer_of : Option ReadStop → Result (Unit {0}) ReadStop
 answer_of None = Ok tt
 answer_of (Some s) = Err s

@@ -1,4 +1,4 @@
--- What reading a module from a source answers, where what the source has left is known.
+-- What reading a module from a source returns, where what the source has left is known.
 use Rattle.std.specs.Prelude.{◌≡◌, ◌⊎◌, ℕ, ◌<◌, ◌≤◌, Bool, List, [], ◌++◌, length, take, Option, Some, Result, Ok, Err, IfSome}
 use Rattle.mufom_numbers.specs.declared.reason.Reason.{Reason}
 use Rattle.mufom_numbers.specs.Spelling.{AreBytes}
@@ -12,7 +12,7 @@ use Rattle.mufom_read.specs.declared.state.State.{State}
 use Rattle.mufom_read.specs.Judging.{IsRefusedAt, IsModule, IsJudged, refusal}
 use Rattle.mufom_read.specs.Reader.{HasRead, reads_debug_of}
 
--- no refusal stands in the stream
+-- no refusal is in the stream
 abbrev pub IsUnrefused : Bool → List ℕ → Type 0
 IsUnrefused reads_debug bytes = (offset : ℕ) (reason : Reason) → ¬ IsRefusedAt reads_debug bytes offset reason
 

@@ -37,7 +37,7 @@ pub(crate) struct Contents {
 }
 
 impl Contents {
-    /// The contents of no records. Takes no memory.
+    /// The contents of no records. Does not allocate.
     pub(crate) fn new(alloc: Global) -> Contents
         ensures { AreContentsOf result [] }
     {

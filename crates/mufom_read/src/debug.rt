@@ -194,7 +194,7 @@ pub(crate) fn open_fault(blocks: &[OpenBlock]) -> Option<ReadRefusal>
 }
 
 impl Debugs {
-    /// No debug items. Takes no memory.
+    /// No debug items. Does not allocate.
     pub(crate) fn new(alloc: Global) -> Debugs
         ensures marks { marks_kept result ≡ [] }
         ensures blocks { opened result ≡ [] }
@@ -205,7 +205,7 @@ impl Debugs {
         }
     }
 
-    /// The items of the part, where no block is open. Takes no memory.
+    /// The items of the part, where no block is open. Does not allocate.
     pub(crate) fn into_items(self) -> List<DebugItem>
         ensures { result ≡ self.items }
     {

@@ -1,10 +1,10 @@
 //! What the bytes of a file are: a module, a refusal at an offset, or the prefix of a module's file; and
-//! the reader that answers so.
+//! the reader that returns so.
 //!
-//! A stream is judged record by record, by what stands before each. A [`Reader`] takes it in chunks: it
+//! A stream is judged record by record, by what is before each. A [`Reader`] takes it in chunks: it
 //! makes the parts of the module of the records without a fault as they come, and keeps what these declare
-//! and state once, and the bytes after them, but no record. The crate stands on `mufom_module` for the file of a
-//! module and on `mufom_records`. Its main clause is that of [`Reader::feed`]: a refusal is answered
+//! and state once, and the bytes after them, but no record. The crate depends on `mufom_module` for the file of a
+//! module and on `mufom_records`. Its main clause is that of [`Reader::feed`]: a refusal is returned
 //! exactly where the stream so far is refused, however it was cut; its main law is [`has_one_judgment`].
 #![tactic(auto)]
 

@@ -128,7 +128,7 @@ fn add_loads(
 }
 
 impl Loads {
-    /// No loads. Takes no memory.
+    /// No loads. Does not allocate.
     pub(crate) fn new(alloc: Global) -> Loads
         ensures { result ≡ no_loads }
     {

@@ -1,4 +1,4 @@
-//! The parts of a file, and the one in which a byte stands.
+//! The parts of a file, and the one that a byte is in.
 
 ghost use Rattle.std.specs.Prelude.{◌≡◌, option_map};
 ghost use Rattle.mufom_read.specs.Prefixes.{first_present, part_among, parts_in_order, is_raw};
@@ -97,7 +97,7 @@ pub(crate) fn is_raw(reads_debug: bool, part: Part) -> bool
     }
 }
 
-/// The part in which a record stands; those of the header stand in none.
+/// The part that a record is in; those of the header are in none.
 pub(crate) fn part_of(record: &Record) -> Option<Part>
     ensures { option_map as_part result ≡ parts.part_of «record».now }
 {
@@ -133,7 +133,7 @@ pub(crate) fn part_of(record: &Record) -> Option<Part>
     }
 }
 
-/// Whether the record may stand in the part.
+/// Whether the record may be in the part.
 pub(crate) fn stands_in(part: Part, record: &Record) -> bool
     ensures { result ≡ parts.stands_in (as_part part) «record».now }
 {

@@ -44,7 +44,7 @@ impl VarMap for Positions<'_> {
     }
 }
 
-/// The expression itself with positions in place of the indexes of the file, where there is one. Takes no memory.
+/// The expression itself with positions in place of the indexes of the file, where there is one. Does not allocate.
 pub(crate) fn renamed(tables: &Tables, tree: Option<Postfix>) -> Option<Postfix>
     ensures { result ≡ option_map (records.positioned (indexes_by tables.now)) tree }
 {

@@ -40,7 +40,7 @@ pub(crate) struct Prefix {
     /// What the records state of the module.
     pub contents: Contents,
     pub tables: Tables,
-    /// Whether items may stand after the last record.
+    /// Whether items may come after the last record.
     pub awaits_items: bool,
     /// Whether the end of the module was read.
     pub ended: bool,
@@ -60,11 +60,11 @@ pub(crate) enum Location {
     /// In the header, after the given number of records.
     Header(u8),
     Part(Extent),
-    /// Where the end of the module must stand.
+    /// Where the end of the module must be.
     End,
 }
 
-/// What stands after a prefix.
+/// What is after a prefix.
 #[derive(Clone, Copy, Debug, PartialEq, Eq)]
 pub(crate) enum Next {
     /// The given number of bytes, which the prefix now has too.
@@ -97,7 +97,7 @@ fn begins_item(rest: &[u8]) -> bool
     }
 }
 
-// Whether items may stand after the record.
+// Whether items may come after the record.
 fn opens_items(record: &Record) -> bool
     ensures { result ≡ parts.opens_items «record».now }
 {
@@ -110,7 +110,7 @@ fn opens_items(record: &Record) -> bool
     }
 }
 
-// The record that must stand in the header after the given number.
+// The record that must be in the header after the given number.
 fn header_mode(count: u8) -> Mode
     ensures { result ≡ prefixes.header_mode count }
 {
@@ -172,7 +172,7 @@ fn is_module_end(record: &Record) -> bool
 }
 
 impl Prefix {
-    /// The prefix of no bytes. Takes no memory.
+    /// The prefix of no bytes. Does not allocate.
     pub(crate) fn new(alloc: Global) -> Prefix
         ensures { IsPrefixOf result [] }
     {
@@ -199,7 +199,7 @@ impl Prefix {
         }
     }
 
-    // Whether the byte after the prefix stands in the part that is kept as the location of the last step.
+    // Whether the byte after the prefix is in the part that is kept as the location of the last step.
     fn stays_in_part(&self) -> bool
         ensures { IsTrue result → next_location (as_location self.now.location) self.now.offsets self.now.size
             ≡ as_location self.now.location }
@@ -211,7 +211,7 @@ impl Prefix {
         }
     }
 
-    // Where the byte after the prefix stands, whose last step stood in the location that is kept. It is found anew only where
+    // Where the byte after the prefix stands, whose last step was in the location that is kept. It is found anew only where
     // a part ends.
     #[inline(never)]
     fn next_location(&self) -> Location
@@ -236,7 +236,7 @@ impl Prefix {
         }
     }
 
-    // Whether the last byte stands in the part in which the next one does.
+    // Whether the last byte is in the part that the next one is in.
     fn is_inside(&self) -> bool
         ensures { result ≡ is_inside (as_location self.now.location) self.now.size }
     {
@@ -256,14 +256,14 @@ impl Prefix {
         self.ended
     }
 
-    // Whether an item may stand after the prefix in this part, and one does.
+    // Whether an item may come after the prefix in this part, and one does.
     fn may_go_on(&self, extent: Extent, rest: &[u8]) -> bool
         ensures { result ≡ (not (self.now.size == extent.from) && (self.now.awaits_items && parts.begins_item rest.now)) }
     {
         self.size != extent.from && self.awaits_items && begins_item(rest)
     }
 
-    // What must stand in a location, where these bytes stand.
+    // What must be in a location, where these bytes stand.
     fn mode(&self, place: Location, rest: &[u8]) -> Mode
         ensures { (prefix : List prefixes.Step) → IsPrefixOf self.now prefix
             → result ≡ mode_at prefix (as_location place) rest.now }
@@ -496,7 +496,7 @@ impl Prefix {
         }
     }
 
-    // Takes what stands after the prefix.
+    // Takes what is after the prefix.
     #[inline(always)]
     fn step(&mut self, alloc: Global, reads_debug: bool, rest: &[u8]) -> Result<Next, NoMemory>
         requires known { (prefix : List prefixes.Step) × IsPrefixOf self.old prefix }

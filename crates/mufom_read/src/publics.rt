@@ -85,7 +85,7 @@ pub(crate) fn note(
 }
 
 impl Publics {
-    /// No publics. Takes no memory.
+    /// No publics. Does not allocate.
     pub(crate) fn new(alloc: Global) -> Publics
         ensures { ArePublicsOf result [] }
     {
@@ -159,7 +159,7 @@ impl Publics {
         }
     }
 
-    /// The publics, with positions in place of the indexes of the file. Takes no memory.
+    /// The publics, with positions in place of the indexes of the file. Does not allocate.
     pub(crate) fn into_placed(self, tables: Tables) -> List<Public>
         ensures { result ≡ map (placed_public (indexes_by tables)) self.list.items }
     {

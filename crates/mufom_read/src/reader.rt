@@ -68,7 +68,7 @@ impl Reader {
     }
 
     /// Reads the next chunk of the stream. `Refused` comes exactly where the stream so far is refused.
-    /// After a stop each further call answers the same.
+    /// After a stop each further call returns the same.
     pub fn feed(&mut self, chunk: &[u8]) -> Result<(), ReadStop>
         // The reader has read the stream so far.
         ensures read { (stream : List ℕ) → HasRead self.old stream → HasRead self.new (stream ++ chunk.now) }
@@ -111,7 +111,7 @@ impl Reader {
         }
     }
 
-    /// How many bytes stand after the whole records and the bytes that are not read. Takes no memory.
+    /// How many bytes are after the whole records and the bytes that are not read. Does not allocate.
     pub fn pending(&self) -> usize
         ensures exact { (stream : List ℕ) → HasRead self.now stream → reader_stop self.now ≡ None
             → IsPending (reads_debug_of self.now) stream result }

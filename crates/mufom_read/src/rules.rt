@@ -208,7 +208,7 @@ fn tokens_are_other_counters(allowed: Option<u32>, tokens: &[Token]) -> bool
     tokens.iter().any(|token| is_other_counter(allowed, *token))
 }
 
-// Whether such a program counter stands in the expression.
+// Whether such a program counter is in the expression.
 fn has_other_counter(allowed: Option<u32>, tree: &Postfix) -> bool
     ensures { result ≡ defects.has_other_counter allowed tree.now }
 {

@@ -79,7 +79,7 @@ fn is_unbased(section: &Section) -> bool
 }
 
 impl Sections {
-    /// No sections. Takes no memory.
+    /// No sections. Does not allocate.
     pub(crate) fn new(alloc: Global) -> Sections
         ensures { AreSectionsOf result [] }
     {
@@ -89,7 +89,7 @@ impl Sections {
         }
     }
 
-    /// The sections alone. Takes no memory.
+    /// The sections alone. Does not allocate.
     pub(crate) fn into_list(self) -> List<Section>
         ensures { result ≡ self.list.items }
     {

@@ -30,7 +30,7 @@ fn offset_of(block: &BlockTail) -> Option<Span>
     }
 }
 
-// Where the expression of a record stands in its bytes.
+// Where the expression of a record is in its bytes.
 fn expression_of(record: &Record) -> Option<Span>
     ensures { result ≡ records.expression_of «record».now }
 {

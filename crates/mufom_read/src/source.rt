@@ -77,7 +77,7 @@ fn feed_within(
     Err(SourceStop::Limit)
 }
 
-// Reads once, and answers how many bytes came.
+// Reads once, and returns how many bytes came.
 fn read_chunk<S: Source>(
     source: &mut S,
     reader: &mut Reader,
@@ -101,7 +101,7 @@ fn read_chunk<S: Source>(
     }
 }
 
-// Reads to the end of the source, and answers how many bytes it gave.
+// Reads to the end of the source, and returns how many bytes it gave.
 fn read_all<S: Source>(
     source: &mut S,
     reader: &mut Reader,
@@ -126,7 +126,7 @@ fn read_all<S: Source>(
     }
 }
 
-/// Reads the module of the bytes that the source has left, and answers it with their number: at most
+/// Reads the module of the bytes that the source has left, and returns it with their number: at most
 /// `limit`, which is at most 67,108,864.
 ///
 /// The source is read in chunks of up to 65,536 bytes, and no further once a chunk is refused or goes
@@ -150,7 +150,7 @@ pub fn read_module<S: Source>(
         → (result ≡ Err (SourceStop.Refused (record { place = place; reason = reason }))) ↔ IsRefusedWithin reads_debug limit left place reason) }
     ensures limit { IfSome (S.meaning source.old).left (λ left. result ≢ Err SourceStop.NoMemory → result ≢ Err SourceStop.Fault
         → (result ≡ Err SourceStop.Limit) ↔ IsPastLimit reads_debug limit left) }
-    // Whatever is answered: what the chunks before the last gave is within the limit and not refused, and what is left stands
+    // Whatever is returned: what the chunks before the last gave is within the limit and not refused, and what is left stands
     // after the last.
     ensures further { ReadsNoFurther reads_debug limit (S.meaning source.old).left (S.meaning source.new).left }
     ensures fault { result ≡ Err SourceStop.Fault → Rose (S.faults source.old).reads (S.faults source.new).reads }

@@ -72,7 +72,7 @@ fn answer(stop: Option<ReadStop>) -> Result<(), ReadStop>
     }
 }
 
-// Takes all that the bytes after the prefix have, and answers how many they are, or why they are refused.
+// Takes all that the bytes after the prefix have, and returns how many they are, or why they are refused.
 fn take_all(
     alloc: Global,
     reads_debug: bool,
@@ -110,7 +110,7 @@ impl Drop for State {
 }
 
 impl State {
-    /// The prefix alone. Takes no memory.
+    /// The prefix alone. Does not allocate.
     pub(crate) fn into_prefix(self) -> Prefix
         ensures { result ≡ self.prefix }
     {
@@ -132,7 +132,7 @@ impl State {
         self.prefix.size as usize + self.rest.len()
     }
 
-    // What is to be stated where the module has ended: that a byte stands after the end, where one does.
+    // What is to be stated where the module has ended: that a byte is after the end, if there is one.
     fn stop_after_end(&self, is_longer: bool) -> Option<ReadStop>
         ensures { HasEndedChunk true self.now.prefix.size is_longer self.now.rest.items self.now result }
     {
@@ -146,7 +146,7 @@ impl State {
         }
     }
 
-    // What is to be stated where all steps were taken: that a byte stands after the end, or that the stream is too long.
+    // What is to be stated where all steps were taken: that a byte is after the end, or that the stream is too long.
     fn final_stop(&self, is_longer: bool) -> Option<ReadStop>
         ensures { (prefix : List Step) → IsPrefixOf self.now.prefix prefix
             → HasEndedChunk (is_ended prefix) self.now.prefix.size is_longer self.now.rest.items self.now result }
@@ -160,7 +160,7 @@ impl State {
         }
     }
 
-    // Adds as many of these bytes to the pending ones as there are of these already, and answers how many were added.
+    // Adds as many of these bytes to the pending ones as there are of these already, and returns how many were added.
     fn double_pending(&mut self, bytes: &[u8]) -> Result<usize, NoMemory>
         requires some { 0 < length self.old.rest.items }
         requires more { 0 < length bytes.now }
@@ -174,7 +174,7 @@ impl State {
         Ok(added.len())
     }
 
-    // Takes the record of which the first bytes are pending, and answers how many bytes of the chunk it has. Where it is not
+    // Takes the record of which the first bytes are pending, and returns how many bytes of the chunk it has. Where it is not
     // whole with the chunk, all of the chunk is pending then.
     fn complete(&mut self, chunk: &[u8]) -> Result<usize, ReadStop>
         requires known { (before : List Step) × IsPrefixOf self.old.prefix before

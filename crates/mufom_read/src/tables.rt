@@ -49,7 +49,7 @@ fn add(table: &mut IndexTable, index: u32) -> Result<(), NoMemory>
 }
 
 impl Tables {
-    /// Those of no records. Takes no memory.
+    /// Those of no records. Does not allocate.
     pub(crate) fn new(alloc: Global) -> Tables
         ensures { result ≡ tables_of [] }
     {

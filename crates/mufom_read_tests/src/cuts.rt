@@ -4,7 +4,7 @@ use crate::tests::{PLAIN, add, copied, read, set, text_of};
 use std::alloc::Global;
 use std::process::Abort;
 
-// The plain module with `count` loads, each of which makes its section the current one, and no start. ME stands at
+// The plain module with `count` loads, each of which makes its section the current one, and no start. ME is at
 // the offset of these three bytes.
 fn with_loads(rt: &impl Abort, alloc: Global, count: u32, end: [u8; 3]) -> Vec<u8> {
     let mut stream = copied(rt, alloc, &PLAIN[..100]);

@@ -1,5 +1,5 @@
 //! Tests of `mufom_read`: streams that are read, in chunks of any size, and those that are refused. Tests of
-//! `mufom_records`: single records, and their faults. They stand in a crate of their own, so that the crates
+//! `mufom_records`: single records, and their faults. They are in a crate of their own, so that the crates
 //! that they test are proved once.
 #![tactic(auto)]
 

@@ -98,7 +98,7 @@ pub(crate) fn set(stream: &mut Vec<u8>, offset: usize, byte: u8) {
     }
 }
 
-// Where ME stands after a part that begins at 100.
+// Where ME is after a part that begins at 100.
 fn end_after(part: &[u8]) -> u16 {
     u16::try_from(part.len().saturating_add(100)).unwrap_or(u16::MAX)
 }
@@ -110,7 +110,7 @@ const DEBUG: usize = 52;
 
 const DATA: usize = 60;
 
-// The plain module with this part, whose offset stands there, and with no other after its section.
+// The plain module with this part, whose offset is there, and with no other after its section.
 fn with_part(rt: &impl Abort, alloc: Global, offset: usize, part: &[u8]) -> Vec<u8> {
     let [high, low] = end_after(part).to_be_bytes();
     let mut stream = copied(rt, alloc, &PLAIN[..100]);

@@ -1,4 +1,4 @@
--- The faults of fields and records: what stands at an offset where a field must stand, and is none. Each is known by the
+-- The faults of fields and records: what is at an offset where a field must be, and is none. Each is known by the
 -- bytes that show it, whatever follows them.
 use Rattle.std.specs.Prelude.{◌≡◌, ◌⊎◌, ℕ, ◌+◌, ◌-◌, ◌<◌, ◌≤◌, true, false, List, [], ◌++◌, length, Some, None}
 use Rattle.mufom_numbers.specs.declared.reason.Reason.{Reason}
@@ -21,11 +21,11 @@ use Rattle.mufom_records.specs.Layouts.{Layout, whole, refused, field, layout_of
 abbrev pub EndsTokens : List ℕ → Type 0
 EndsTokens bytes = BeginsWith (λ b. begins_token b ≡ false) bytes
 
--- a token stands first of which this holds
+-- a token comes first of which this holds
 abbrev pub BeginsWithToken : (Token → Type 0) → List ℕ → Type 0
 BeginsWithToken Is bytes = (token : Token) × (text : List ℕ) × (rest : List ℕ) × SpellsToken token text × Is token × (bytes ≡ text ++ rest)
 
--- What is wrong at the start of these bytes, where `tokens` tokens stand before them that leave `terms` terms, and how
+-- What is wrong at the start of these bytes, where `tokens` tokens are before them that leave `terms` terms, and how
 -- far after the prefix it is named.
 abbrev pub TokenFault : ℕ → ℕ → List ℕ → ℕ → Reason → Type 0
 TokenFault tokens terms bytes offset UnsupportedFunction = (offset ≡ 0) × BeginsWith IsLeftOutFunction bytes
@@ -37,17 +37,17 @@ TokenFault tokens terms bytes offset Empty = (offset ≡ 0) × (tokens ≡ 0) ×
 TokenFault tokens terms bytes offset SurplusTerms = (offset ≡ 0) × (1 < terms) × EndsTokens bytes
 TokenFault tokens terms bytes offset _ = ⊥
 
--- at most 255 tokens stand first, each of which finds its terms, and then there is this
+-- at most 255 tokens come first, each of which finds its terms, and then there is this
 abbrev pub AfterTokens : List ℕ → (ℕ → ℕ → List ℕ → List ℕ → Type 0) → Type 0
 AfterTokens bytes Is = (tokens : List Token) × (terms : ℕ) × (prefix : List ℕ) × (rest : List ℕ) × SpellsTokens tokens prefix
     × (leaves tokens ≡ Some terms) × (length tokens ≤ 255) × Is (length tokens) terms prefix rest × (bytes ≡ prefix ++ rest)
 
--- tokens stand first, and then this fault of one, or of their end
+-- tokens come first, and then this fault of one, or of their end
 abbrev pub ExpressionFault : ℕ → List ℕ → ℕ → Reason → Type 0
 ExpressionFault at bytes fault_offset reason = (offset : ℕ) × AfterTokens bytes
     (λ tokens terms prefix rest. TokenFault tokens terms rest offset reason × (fault_offset ≡ at + length prefix + offset))
 
--- tokens stand first, and then the bytes end before another one or inside it
+-- tokens come first, and then the bytes end before another one or inside it
 abbrev pub IsCutOffExpression : List ℕ → Type 0
 IsCutOffExpression bytes = AfterTokens bytes (λ tokens terms prefix rest. IsCutOffToken rest)
 
@@ -57,11 +57,11 @@ IsCutOffExpression bytes = AfterTokens bytes (λ tokens terms prefix rest. IsCut
 abbrev pub IsCutOffNumber : List ℕ → Type 0
 IsCutOffNumber bytes = (n : ℕ) × IsCutOff (SpellsNumber n) bytes
 
--- a number stands first of which this holds
+-- a number comes first of which this holds
 abbrev pub BeginsWithNumber : (ℕ → Type 0) → List ℕ → Type 0
 BeginsWithNumber Is bytes = (n : ℕ) × (text : List ℕ) × (rest : List ℕ) × SpellsNumber n text × Is n × (bytes ≡ text ++ rest)
 
--- The bytes, which begin at an offset, show that the field does not stand there, for this reason, named at that offset.
+-- The bytes, which begin at an offset, show that the field is not there, for this reason, named at that offset.
 abbrev pub FieldFault : Field → ℕ → List ℕ → ℕ → Reason → Type 0
 FieldFault byte at bytes fault_offset reason = ⊥
 FieldFault (number fits where_ fault) at bytes fault_offset reason = ((reason ≡ BadNumber) × (fault_offset ≡ at) × BeginsIn 0x89 0xFF bytes)
@@ -89,7 +89,7 @@ IsCutOffField optional_expression bytes = IsCutOffExpression bytes
 
 -- ---- records
 
--- Fields of the layout stand first, and then there is this fault.
+-- Fields of the layout come first, and then there is this fault.
 abbrev pub HasFault : Layout → ℕ → List ℕ → ℕ → Reason → Type 0
 HasFault (whole row) at bytes fault_offset reason = ⊥
 HasFault (refused back why) at bytes fault_offset reason = (fault_offset ≡ at - back) × (reason ≡ why)
@@ -97,7 +97,7 @@ HasFault (field f rest) at bytes fault_offset reason = FieldFault f at bytes fau
     ⊎ ((x : ValueOf f) × (prefix : List ℕ) × (back : List ℕ) × SpellsField f x at prefix (first_of back None)
     × HasFault (rest x) (at + length prefix) back fault_offset reason × (bytes ≡ prefix ++ back))
 
--- Fields of the layout stand first, and then the bytes end too early.
+-- Fields of the layout come first, and then the bytes end too early.
 abbrev pub IsCutOffLayout : Layout → ℕ → List ℕ → Type 0
 IsCutOffLayout (whole row) at bytes = ⊥
 IsCutOffLayout (refused back why) at bytes = ⊥
@@ -105,7 +105,7 @@ IsCutOffLayout (field f rest) at bytes = IsCutOffField f bytes
     ⊎ ((x : ValueOf f) × (prefix : List ℕ) × (back : List ℕ) × SpellsField f x at prefix (first_of back None)
     × IsCutOffLayout (rest x) (at + length prefix) back × (bytes ≡ prefix ++ back))
 
--- The input shows this fault of a record that would stand at its start, named at that offset.
+-- The input shows this fault of a record that would be at its start, named at that offset.
 abbrev pub IsFaulty : Mode → List ℕ → ℕ → Reason → Type 0
 IsFaulty mode input fault_offset reason = HasFault (layout_of mode) 0 input fault_offset reason
 

@@ -11,7 +11,7 @@ use Rattle.mufom_expr.specs.Tree.{Tree}
 use Rattle.mufom_expr.specs.Spelled.{SpellsTree}
 use Rattle.mufom_expr.specs.TokenAt.{begins_number, begins_token}
 
--- what may stand at an offset of a record
+-- what may be at an offset of a record
 pub data Field : Type 0 where
   -- any byte
   byte : Field

@@ -22,7 +22,7 @@ use Rattle.mufom_records.specs.Fields.{Field, ValueOf, byte, number, string, run
 use Rattle.mufom_records.specs.Fields.{is_one_of, SpellsField, first_of}
 
 -- a field and what may follow each value of it; no further field, and the record; or that the last `back` bytes may not
--- stand there
+-- be there
 pub data Layout : Type 0 where
   whole : Record → Layout
   refused : (back : ℕ) → (reason : Reason) → Layout
@@ -309,7 +309,7 @@ coded b = if b == MODULE_BEGIN then module_begin
 abbrev pub body : Layout
 body = byte ▹ λ b. coded b
 
--- a code that alone may stand in the header
+-- a code that alone may be in the header
 abbrev pub begins_with : ℕ → ℕ → Layout → Layout
 begins_with back code rest = byte ▹ λ b. if b == code then rest else refused back BadHeader
 

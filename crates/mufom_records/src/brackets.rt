@@ -1,4 +1,4 @@
-//! What stands in brackets: a field of an LR, and a start address.
+//! What is in brackets: a field of an LR, and a start address.
 
 ghost use Rattle.std.specs.Prelude.{◌≡◌, ◌≤◌, length, IfOk, Some};
 ghost use Rattle.mufom_records.specs.declared.record.Record.TheVariants as r;

@@ -1,6 +1,6 @@
 //! One record of an object module from bytes.
 //!
-//! It stands on `mufom_numbers` and `mufom_expr`, and takes no memory but in [`postfix_of`]. Its main
+//! It depends on `mufom_numbers` and `mufom_expr`, and does not allocate but in [`postfix_of`]. Its main
 //! clause is that of [`next_record`]: a record is got exactly where the input begins with a whole record
 //! of the table before a byte that no optional field of it could begin with, the first fault is named
 //! exactly where one stands, and more is wanted exactly where neither is so.

@@ -1,4 +1,4 @@
-//! The record that stands next, by its code.
+//! The record that is next, by its code.
 
 ghost use Rattle.std.specs.Prelude.{◌≡◌, ◌↔◌, ◌≤◌, ℕ, List, ◌++◌, length, take, drop, None, Ok, Err, IfOk};
 ghost use Rattle.mufom_numbers.specs.declared.codes.TheConstants.{ASSIGNMENT, DESCRIPTOR, LETTER_W, MODULE_BEGIN};
@@ -24,7 +24,7 @@ use crate::rows::{
 use crate::stop::Stop;
 use mufom_numbers::{Reason, Taken, codes};
 
-// What stands after E2: a second byte, and what it stands for.
+// What is after E2: a second byte, and what it stands for.
 fn assigned(input: &[u8], at: usize) -> Read
     requires low { 1 ≤ at }
     requires within { at ≤ length input.now }
@@ -46,7 +46,7 @@ fn assigned(input: &[u8], at: usize) -> Read
     }
 }
 
-// What stands after F1: a second byte, and what it stands for.
+// What is after F1: a second byte, and what it stands for.
 fn note(input: &[u8], at: usize) -> Read
     requires { at ≤ length input.now }
     ensures exact { result ≡ read layouts.any_note input.now at }
@@ -61,7 +61,7 @@ fn note(input: &[u8], at: usize) -> Read
     }
 }
 
-// What stands after a first byte.
+// What is after a first byte.
 fn coded(code: u8, input: &[u8], at: usize) -> Read
     requires low { 1 ≤ at }
     requires within { at ≤ length input.now }
@@ -91,7 +91,7 @@ fn coded(code: u8, input: &[u8], at: usize) -> Read
     }
 }
 
-// The module's begin, which alone may stand first.
+// The module's begin, which alone may come first.
 fn header_begin(input: &[u8]) -> Read
     ensures exact { result ≡ read (layouts.begins_with 1 MODULE_BEGIN layouts.module_begin) input.now 0 }
     ensures parts { IfOk result (λ r. HasParts input.now r.0) }
@@ -104,7 +104,7 @@ fn header_begin(input: &[u8]) -> Read
     }
 }
 
-// The address descriptor, which alone may stand next.
+// The address descriptor, which alone may come next.
 fn header_descriptor(input: &[u8]) -> Read
     ensures exact { result ≡ read (layouts.begins_with 1 DESCRIPTOR layouts.descriptor) input.now 0 }
     ensures parts { IfOk result (λ r. HasParts input.now r.0) }
@@ -131,7 +131,7 @@ fn header_letter(part: u8, input: &[u8], at: usize) -> Read
     }
 }
 
-// The offset of this number, which alone may stand next.
+// The offset of this number, which alone may come next.
 fn header_offset(part: u8, input: &[u8]) -> Read
     ensures exact { result ≡ read (layouts.begins_with 1 ASSIGNMENT (layouts.begins_with 2 LETTER_W (layouts.numbered_offset part))) input.now 0 }
     ensures parts { IfOk result (λ r. HasParts input.now r.0) }
@@ -192,11 +192,11 @@ fn next(input: &[u8], mode: Mode) -> Taken<Record>
     }
 }
 
-/// Reads the record at the start of the input that stands next in this mode, and states how many bytes
-/// it takes. Takes no memory.
+/// Reads the record at the start of the input that is next in this mode, and states how many bytes
+/// it takes. Does not allocate.
 ///
 /// `Bad` is the first fault from the left, and the position of the byte at which it is named. A number
-/// or a token is judged once it is whole, anything else once its byte is there. `More` is answered for
+/// or a token is judged once it is whole, anything else once its byte is there. `More` is returned for
 /// the prefix of a record without a fault: where the input ends within a field, before one that is
 /// wanted, or where one that may be absent could begin. Strings, literal bytes and expressions are positions in the input, and
 /// literal bytes are not looked at.

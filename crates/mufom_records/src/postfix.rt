@@ -62,8 +62,8 @@ fn all_tokens(alloc: Global, input: &[u8]) -> Result<Postfix, NoMemory>
 }
 
 /// The expression that the bytes spell, which are all bytes of one without a fault, as those are that a
-/// record's expression stands at. Its variables have the indexes of the file. An expression of one token
-/// takes no memory.
+/// record's expression is at. Its variables have the indexes of the file. An expression of one token
+/// does not allocate.
 pub fn postfix_of(alloc: Global, input: &[u8]) -> Result<Postfix, NoMemory>
     requires { (tree : Tree) × SpellsTree tree input.now }
     ensures { IfOk result (λ p. SpellsTree p input.now) }

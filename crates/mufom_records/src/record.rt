@@ -1,8 +1,10 @@
+//! The records of a file.
+
 use arrayvec::ArrayVec;
 use mufom_expr::FieldKind;
 use mufom_numbers::Span;
 
-/// What stands next.
+/// What is next.
 #[derive(Clone, Copy, Debug, PartialEq, Eq)]
 pub enum Mode {
     /// The module's begin. Any other first byte is a fault of the header, here and in the next two.

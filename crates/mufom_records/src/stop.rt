@@ -1,3 +1,5 @@
+//! Why no record is read.
+
 use mufom_numbers::Reason;
 
 /// Why no record was read: `More` of the prefix of a record without an error, and `Bad` of any other input.

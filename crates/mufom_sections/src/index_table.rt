@@ -1,3 +1,5 @@
+//! A table from the indexes of a file to positions.
+
 ghost use Rattle.std.specs.Prelude.{◌≡◌, ◌+◌, ◌-◌, ◌^◌, ◌<◌, ◌↔◌, ◌==◌, [], ◌∷◌, ◌++◌, length, position, slice_get, nat_eq, Contains, IsSome, IfSome};
 ghost use Rattle.std.specs.Prelude.{IfOk, OnOk, OnErr};
 ghost use Rattle.std.specs.List.{IsDistinct};
@@ -18,7 +20,7 @@ pub enum AddFault {
 }
 
 /// The indexes that a file gives to its entries, in the order of their declarations. Contracts see
-/// it as the list of these indexes, and none stands twice.
+/// it as the list of these indexes, and none occurs twice.
 ///
 /// Files mostly declare indexes in a row, as 1, 2, 3. The table keeps such a row as two numbers. The
 /// indexes from the first that does not continue it are in an ordered map, so that the time of an
@@ -49,7 +51,7 @@ impl Drop for IndexTable {
 }
 
 impl IndexTable {
-    /// A table without indexes. Takes no memory.
+    /// A table without indexes. Does not allocate.
     pub fn new(alloc: Global) -> IndexTable
         ensures { result ≡ [] }
     {
@@ -59,9 +61,9 @@ impl IndexTable {
         }
     }
 
-    /// Declares an index and answers its position from 0, or `Duplicate` where it is declared
+    /// Declares an index and returns its position from 0, or `Duplicate` where it is declared
     /// already. A refused index, also one for which there is no memory, leaves the table as it was.
-    /// Fewer than 2^32 - 1 indexes must stand in the table.
+    /// Fewer than 2^32 - 1 indexes must be in the table.
     pub fn add(&mut self, index: u32) -> Result<u32, AddFault>
         requires { length self.old < 2 ^ 32 - 1 }
         ensures last { IfOk result (λ place. place ≡ length self.old) }
@@ -85,7 +87,7 @@ impl IndexTable {
         Ok(self.row.len() + place)
     }
 
-    /// The position of an index, from 0, and `None` where it is not declared. Takes no memory.
+    /// The position of an index, from 0, and `None` where it is not declared. Does not allocate.
     #[inline]
     pub fn position(&self, index: u32) -> Option<u32>
         ensures declared { IsSome result ↔ Contains self.now index }

@@ -2,8 +2,8 @@
 //!
 //! A file names its entries by indexes of its own choice, and in memory each entry goes by its
 //! position. An [`IndexTable`] keeps the indexes in the order of their declarations, each once, and
-//! finds the position of one, in time by the logarithm of their count. It stands on `mufom_numbers`
-//! and `thiserror`. Its main clause is that [`IndexTable::position`] answers where an index stands
+//! finds the position of one, in time by the logarithm of their count. It depends on `mufom_numbers`
+//! and `thiserror`. Its main clause is that [`IndexTable::position`] returns where an index stands
 //! in the list of those that [`IndexTable::add`] took, and nothing for any other.
 #![tactic(auto)]
 

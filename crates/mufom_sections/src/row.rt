@@ -1,3 +1,5 @@
+//! Indexes that follow one another, as a first index and a count.
+
 ghost use Rattle.std.specs.Prelude.{◌≡◌, ◌-◌, ◌^◌, ◌<◌, [], ◌∷◌, ◌++◌, length, position, nat_eq, IfSome, false};
 ghost use Rattle.std.specs.List.{list_any};
 
@@ -38,7 +40,7 @@ impl Row {
     }
 
     /// The row with one more index at its end, and `None` where the index does not continue the row.
-    /// Any index continues the empty row. Fewer than 2^32 - 1 indexes must stand in the row.
+    /// Any index continues the empty row. Fewer than 2^32 - 1 indexes must be in the row.
     pub(crate) fn followed_by(&self, index: u32) -> Option<Row>
         requires { length self.now < 2 ^ 32 - 1 }
         ensures longer { IfSome result (λ row. row ≡ self.now ++ index ∷ []) }
@@ -60,7 +62,7 @@ impl Row {
         })
     }
 
-    /// The position of an index, from 0, and `None` where it does not stand in the row.
+    /// The position of an index, from 0, and `None` where it is not in the row.
     pub(crate) fn position(&self, index: u32) -> Option<u32>
         ensures { result ≡ position (nat_eq index) self.now }
     {

@@ -1,3 +1,5 @@
+//! Indexes in any order, as an ordered map.
+
 ghost use Rattle.std.specs.Prelude.{◌≡◌, ◌-◌, ◌^◌, ◌<◌, ◌==◌, [], ◌∷◌, ◌++◌, length, position, nat_eq, IfOk, OnOk, OnErr, false};
 ghost use Rattle.std.specs.List.{list_any};
 
@@ -39,7 +41,7 @@ impl Drop for Scattered {
 }
 
 impl Scattered {
-    /// No indexes. Takes no memory.
+    /// No indexes. Does not allocate.
     pub(crate) fn new(alloc: Global) -> Scattered
         ensures { result ≡ [] }
     {
@@ -56,7 +58,7 @@ impl Scattered {
         self.indexes.is_empty()
     }
 
-    /// Adds an index that isn't there yet, and answers its position. Where there is no memory for it,
+    /// Adds an index that isn't there yet, and returns its position. Where there is no memory for it,
     /// the indexes stay as they were.
     pub(crate) fn add(&mut self, index: u32) -> Result<u32, NoMemory>
         requires few { length self.old < 2 ^ 32 - 1 }
@@ -76,7 +78,7 @@ impl Scattered {
         }
     }
 
-    /// The position of an index, from 0, and `None` where it isn't there. Takes no memory.
+    /// The position of an index, from 0, and `None` where it isn't there. Does not allocate.
     pub(crate) fn position(&self, index: u32) -> Option<u32>
         ensures { result ≡ position (nat_eq index) self.now }
     {

@@ -1,3 +1,5 @@
+//! Sections: size, alignment, base and purpose.
+
 use mufom_numbers::Bytes;
 
 /// What a section is for (the section type of the standard).

@@ -1,3 +1,5 @@
+//! Choosing the members that a link needs, by one worklist.
+
 ghost use Rattle.std.specs.Prelude.{◌≡◌, ◌<◌, ◌^◌, [], ◌∷◌, length, option_to_list, IfSome, IfOk, OnOk};
 ghost use Rattle.mufom_meaning.specs.Selection.{IsSelected};
 ghost use Rattle.mufom_select.specs.Choice.{needed_in, all_needed_in, choice, with_member, with_members, positions_from, with_publics};

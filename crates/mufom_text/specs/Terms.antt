@@ -9,6 +9,6 @@ use Rattle.mufom_expr.specs.Tree.{Tree, tokens_of}
 abbrev pub takes_one : Function → Bool
 takes_one f = operands f == 1
 
--- the tokens of a tree stand at the end
+-- the tokens of a tree are at the end
 abbrev pub EndsWithTerm : List Token → Type 0
 EndsWithTerm tokens = (prefix : List Token) × (tree : Tree) × (tokens ≡ prefix ++ tokens_of tree)

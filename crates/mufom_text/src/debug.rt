@@ -135,7 +135,7 @@ fn value_line<K: Output>(out: &mut K, depth: u32, name: u32, value: &Postfix)
 
 // ---- items
 
-// An item in `depth` open blocks; `names` counts the names that stand before it, and then after
+// An item in `depth` open blocks; `names` counts the names that are before it, and then after
 // it.
 #[cycle(showing)]
 fn debug_item<K: Output>(out: &mut K, depth: u32, item: &DebugItem, names: &mut u64)
@@ -160,7 +160,7 @@ fn debug_item<K: Output>(out: &mut K, depth: u32, item: &DebugItem, names: &mut 
     }
 }
 
-/// The lines of the items, in `depth` open blocks; `names` counts the names that stand before
+/// The lines of the items, in `depth` open blocks; `names` counts the names that are before
 /// them, and then after them.
 #[cycle(showing)]
 pub(crate) fn debug_items<K: Output>(out: &mut K, depth: u32, items: &[DebugItem], names: &mut u64)

@@ -2,7 +2,7 @@
 //! can be built; and of a located image, as `dump` prints it, with the loaded bytes, the start, the
 //! publics and the debug addresses.
 //!
-//! It stands on the crates of a module's entries, `mufom_module`, `mufom_host`, `mufom_meaning` and `mufom_located` for what
+//! It depends on the crates of a module's entries, `mufom_module`, `mufom_host`, `mufom_meaning` and `mufom_located` for what
 //! a location is, `itoa`, `hex` and `thiserror`. All lines are put by functions over one
 //! trait, and a page of a fixed size implements it: the text goes through the page to a host, so that
 //! no text is held whole but by [`text_bytes`]. Its main clauses are those of [`print_text`] and

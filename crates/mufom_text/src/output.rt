@@ -1,9 +1,11 @@
+//! What lines of text are put on.
+
 ghost use Rattle.std.specs.Prelude.{◌≡◌, ℕ, List, [], ◌++◌};
 
 /// Where text goes. Once a part of the text is lost, no more is added; the owner of the output learns of it
 /// at the end.
 pub trait Output {
-    /// What stands before and after text that is put.
+    /// What is before and after text that is put.
     ghost takes: { Self → Self → List ℕ → Type 0 };
 
     /// Adds the text.

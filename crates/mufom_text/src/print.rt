@@ -16,7 +16,7 @@ pub enum PrintStop {
     /// A print failed, and was counted.
     #[error("a print failed")]
     Fault,
-    /// There was no memory for the page.
+    /// Out of memory for the page.
     #[error("out of memory")]
     NoMemory,
 }

@@ -1,3 +1,5 @@
+//! Why a text is not a TI-TXT text.
+
 use mufom_numbers::NoMemory;
 use thiserror::Error;
 

@@ -13,7 +13,7 @@ use mufom_host::Failed;
 use mufom_loads::{Item, Load};
 use mufom_numbers::{Bytes, codes};
 
-// What stands after the expression of a field: a comma, the size, and the closing bracket.
+// What is after the expression of a field: a comma, the size, and the closing bracket.
 fn field_end<K: Output>(out: &mut K, kind: FieldKind, size: u8) -> Result<(), Failed>
     ensures { K.takes out.old out.new (comma ∷ (written.number shortest size ++ closing kind ∷ [])) result }
 {

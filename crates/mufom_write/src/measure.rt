@@ -1,3 +1,5 @@
+//! How many bytes the parts of a file have.
+
 ghost use Rattle.std.specs.Prelude.{◌≡◌, ◌<◌, ◌^◌, [], All, length, get_or};
 ghost use Rattle.mufom_module.specs.Written as form;
 ghost use Rattle.mufom_module.specs.Written.{shortest};
@@ -51,7 +53,7 @@ pub(crate) fn layout_of(parts: &Parts) -> Layout
     }
 }
 
-/// The offsets of the parts in the written form, and its length. Takes no memory.
+/// The offsets of the parts in the written form, and its length. Does not allocate.
 pub fn layout(module: &Module) -> Layout
     ensures offsets { result.offsets ≡ form.offsets shortest «module».now }
     ensures length { result.length ≡ length (form.written «module».now) }

@@ -1,3 +1,5 @@
+//! What the bytes of a file are put on: a counter, or a file.
+
 ghost use Rattle.std.specs.Prelude.{◌≡◌, ◌+◌, ℕ, List, [], ◌++◌, length, Result, Ok, Err, IsErr};
 ghost use Rattle.mufom_host.specs.declared.world.Failed.{Failed};
 ghost use Rattle.mufom_numbers.specs.Spelling.{shortest_number};
@@ -9,7 +11,7 @@ use mufom_numbers::number_length;
 
 /// Where the bytes of a file go.
 pub(crate) trait Output {
-    /// What stands before and after bytes that are put, with the answer.
+    /// What is before and after bytes that are put, with the answer.
     ghost takes: { Self → Self → List ℕ → Result (Unit {0}) Failed → Type 0 };
 
     /// Adds all of the bytes, or on a failure a prefix of them.

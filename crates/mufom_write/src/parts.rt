@@ -1,4 +1,4 @@
-//! The parts of a file and what stands before them.
+//! The parts of a file and what is before them.
 
 ghost use Rattle.std.specs.Prelude.{◌≡◌, ◌∷◌, ◌++◌, ◌<◌, ◌^◌, [], All, length, get_or};
 ghost use Rattle.mufom_numbers.specs.declared.codes.TheConstants.{DESCRIPTOR, MODULE_BEGIN};

@@ -1,3 +1,5 @@
+//! The offsets of the parts of a file.
+
 /// Where the parts of a module's written form begin, and how long it is, in bytes.
 #[derive(Clone, Copy, Debug, PartialEq, Eq)]
 pub struct Layout {

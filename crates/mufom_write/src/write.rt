@@ -1,3 +1,5 @@
+//! Writing the file of a module.
+
 ghost use Rattle.std.specs.Prelude.{◌≡◌, ◌≤◌, [], true, length, OnOk, OnErr};
 ghost use Rattle.mufom_host.specs.World.{MakingGrowsBy, MakingGrowsByPrefix, OnlyWrites, Rose};
 ghost use Rattle.mufom_module.specs.Written.{written};
@@ -57,7 +59,7 @@ fn write_held<K: Sink>(sink: &mut K, parts: &Parts) -> Result<(), Failed>
     answer
 }
 
-/// Writes the written form of the module to the file being made. Takes no memory.
+/// Writes the written form of the module to the file being made. Does not allocate.
 ///
 /// The sink gets each record in a write of its own, or in several if the record is longer than 65,536
 /// bytes; no clause counts writes.

@@ -1,3 +1,5 @@
+//! A file of limited room that the tests of writing use.
+
 ghost use Rattle.std.specs.Prelude.{◌≤◌, None, length};
 ghost use Rattle.mufom_host.specs.World.{HasCause, Rose};
 

@@ -1,3 +1,5 @@
+//! The bytes of an output in memory.
+
 ghost use Rattle.std.specs.Prelude.{◌≡◌, ◌↔◌, ◌+◌, ◌≤◌, ◌++◌, [], length, IfOk, IsTrue};
 
 use mufom_numbers::NoMemory;

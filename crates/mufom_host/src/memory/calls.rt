@@ -1,10 +1,12 @@
+//! Which calls of a host in memory fail.
+
 ghost use Rattle.std.specs.Prelude.{◌≡◌};
 ghost use Rattle.mufom_host.specs.World.{one_more};
 ghost use Rattle.mufom_host.specs.Kept.{is_listed};
 
 use mufom_numbers::List;
 
-/// Numbers calls from 0, and knows which of them fail. The number stands still at the last `u64`.
+/// Numbers calls from 0, and knows which of them fail. The number stays at the last `u64`.
 #[derive(Drop)]
 pub struct Calls {
     pub failing: List<u64>,
@@ -18,7 +20,7 @@ impl Calls {
         Calls { failing, number: 0 }
     }
 
-    /// Counts a call, and answers whether it fails.
+    /// Counts a call, and returns whether it fails.
     pub fn fails(&mut self) -> bool
         ensures answer { result ≡ is_listed self.old.number self.old.failing }
         ensures after { self.new ≡ record self.old { number = one_more self.old.number } }

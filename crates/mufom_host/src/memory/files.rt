@@ -1,3 +1,5 @@
+//! The files of a host in memory.
+
 ghost use Rattle.std.specs.Prelude.{◌≡◌, ◌+◌, ◌^◌, ◌<◌, [], min, length, take, drop};
 ghost use Rattle.std.specs.List.{position};
 ghost use Rattle.std.specs.Str.{bytes_eq};
@@ -56,7 +58,7 @@ impl Files {
         }
     }
 
-    /// Opens the first file with this name, and answers whether there is one. Where there is none
+    /// Opens the first file with this name, and returns whether there is one. Where there is none
     /// all stays.
     pub fn open(&mut self, name: &str) -> bool
         ensures answer { result ≡ has_file name.now self.old.files }

@@ -1,3 +1,5 @@
+//! The names of files that were opened or created.
+
 ghost use Rattle.std.specs.Prelude.{◌≡◌, [], Some, IfOk, is_some};
 ghost use Rattle.mufom_host.specs.Kept.{names_with};
 
@@ -41,7 +43,7 @@ impl Names {
         })
     }
 
-    /// Adds a name, and answers whether the names are known now.
+    /// Adds a name, and returns whether the names are known now.
     pub fn add(&mut self, name: &[u8]) -> bool
         ensures after { self.new ≡ record self.old { names = names_with self.old.room self.old.names name.now } }
         ensures known { result ≡ is_some self.new.names }

@@ -1,3 +1,5 @@
+//! What a host in memory has printed and written.
+
 ghost use Rattle.std.specs.Prelude.{◌≡◌, ◌≤◌, [], Some, None, false, not, length, IfOk, option_map};
 ghost use Rattle.mufom_host.specs.World.{optional, with_bytes};
 ghost use Rattle.mufom_host.specs.Kept.{has_any, passes_file, finished};
