@@ -103,8 +103,9 @@ fn all_commons(
 }
 
 /// The commons that a plan places, as sections: a section for each name that weak references ask
-/// room for and no public has, of the greatest size that they ask for.
-pub(crate) fn planned_commons(
+/// room for and no public has, of the greatest size that they ask for. They are in the order in which
+/// references first ask for them. The only error is out of memory.
+pub fn planned_commons(
     alloc: Global,
     module: &Module,
     resolutions: &[Resolution],

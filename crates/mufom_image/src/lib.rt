@@ -18,6 +18,7 @@ mod placing;
 mod refusal;
 mod walk;
 
+pub use commons::planned_commons;
 pub use locating::locate;
 pub use mufom_located::{Located, absolute};
 pub use mufom_meaning::{LocatedParts, PublicValue, Run, Site};
