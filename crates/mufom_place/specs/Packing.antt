@@ -1,5 +1,5 @@
 -- Sections that are put one after another, entry by entry.
-use Rattle.std.specs.Prelude.{ℕ, ◌+◌, ◌≤◌, List, [], ◌∷◌, ◌++◌, length, take, drop}
+use Rattle.std.specs.Prelude.{ℕ, ◌+◌, ◌^◌, ◌<◌, ◌≤◌, List, [], ◌∷◌, ◌++◌, length, take, drop}
 use Rattle.std.specs.List.{flat_map}
 use Rattle.mufom_numbers.specs.declared.limits.TheConstants.{MOST_ALIGNMENT}
 use Rattle.mufom_plan.specs.declared.plan.Region.{Region}
@@ -11,6 +11,10 @@ use Rattle.mufom_place.specs.Bases.{aligned_up, packed, commons_in}
 pub record IsAlignedWaiting (w : Waiting) : Type 0 where
   pub least : 1 ≤ w.align
   pub most : w.align ≤ MOST_ALIGNMENT
+
+-- a base that sums of bases and sizes do not carry past 128 bits
+abbrev pub IsLow : Placing → Type 0
+IsLow p = p.base < 2 ^ 100
 
 -- the end of the last of the sections that are put from an address on
 abbrev pub end_of : ℕ → List Waiting → ℕ

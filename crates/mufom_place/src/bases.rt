@@ -3,7 +3,7 @@
 ghost use Rattle.std.specs.Prelude.{◌≡◌, ◌≤◌, ◌<◌, ◌+◌, ◌*◌, ◌^◌, ◌++◌, ℕ, None, IfOk, OnOk, length, sum_by, vec_len, All, flat_map, slice_index_or};
 ghost use Rattle.mufom_plan.specs.Names.{listed_names};
 ghost use Rattle.mufom_place.specs.Bases.{aligned_up as least_multiple, commons_in, packed, placing_of};
-ghost use Rattle.mufom_place.specs.Packing.{IsAlignedWaiting, end_of, placings_from};
+ghost use Rattle.mufom_place.specs.Packing.{IsAlignedWaiting, IsLow, end_of, placings_from};
 
 use crate::site::{Placing, Waiting};
 use mufom_numbers::{List, NoMemory};
@@ -30,6 +30,8 @@ fn pack(
 ) -> Result<u128, NoMemory>
     requires aligned { All IsAlignedWaiting waiting.now }
     requires room { address + length waiting.now * 2 ^ 65 < 2 ^ 100 }
+    requires low { All IsLow placings.old }
+    ensures low { OnOk result (All IsLow placings.new) }
     ensures placed { OnOk result (placings.new ≡ placings.old ++ packed region address waiting.now) }
     ensures end { IfOk result (λ end. end ≡ end_of address waiting.now) }
     ensures bound { IfOk result (λ end. end ≤ address + length waiting.now * 2 ^ 65) }
@@ -56,6 +58,8 @@ fn pack_entries(
 ) -> Result<u128, NoMemory>
     requires aligned { All (All IsAlignedWaiting) entries.now }
     requires room { address + sum_by length entries.now * 2 ^ 65 < 2 ^ 100 }
+    requires low { All IsLow placings.old }
+    ensures low { OnOk result (All IsLow placings.new) }
     ensures placed { OnOk result (placings.new ≡ placings.old ++ packed region address (flat_map (λ waiting. waiting) entries.now)) }
     ensures end { IfOk result (λ end. end ≡ end_of address (flat_map (λ waiting. waiting) entries.now)) }
     ensures bound { IfOk result (λ end. end ≤ address + sum_by length entries.now * 2 ^ 65) }
@@ -78,7 +82,9 @@ fn pack_region(
     requires aligned { All (All IsAlignedWaiting) entries.now }
     requires aligned_commons { All IsAlignedWaiting commons.now }
     requires room { sum_by length entries.now + length commons.now < 2 ^ 32 }
-    ensures { OnOk result (placings.new ≡ placings.old ++ packed region base (flat_map (λ waiting. waiting) entries.now ++ commons.now)) }
+    requires low { All IsLow placings.old }
+    ensures low { OnOk result (All IsLow placings.new) }
+    ensures placed { OnOk result (placings.new ≡ placings.old ++ packed region base (flat_map (λ waiting. waiting) entries.now ++ commons.now)) }
 {
     let end = pack_entries(placings, entries, region, base as u128)?;
     pack(placings, commons, region, end)?;
@@ -105,7 +111,8 @@ pub fn placings(
     requires aligned { All (All IsAlignedWaiting) entries.now }
     requires aligned_commons { All IsAlignedWaiting commons.now }
     requires room { sum_by length entries.now + length commons.now < 2 ^ 32 }
-    ensures { IfOk result (λ placings. placings ≡ placings_from 0 plan.now.regions entries.now commons.now) }
+    ensures given { IfOk result (λ placings. placings ≡ placings_from 0 plan.now.regions entries.now commons.now) }
+    ensures low { IfOk result (All IsLow) }
 {
     let mut placings = List::new(alloc);
     let mut start = 0;

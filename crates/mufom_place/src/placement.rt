@@ -6,6 +6,7 @@ ghost use Rattle.mufom_plan.specs.Names.{AreDistinctNames, listed_names};
 ghost use Rattle.mufom_place.specs.Bases.{bases as bases_of, numbered, placings as placings_of};
 ghost use Rattle.mufom_place.specs.Facts.{HasNoBase, IsAddressWidth, IsAligned, IsAnswer, first_some, last_sections, place_refusal, sections_before};
 ghost use Rattle.mufom_place.specs.Facts.{unplaced_at};
+ghost use Rattle.mufom_place.specs.Packing.{IsLow};
 
 use crate::PlaceRefusal;
 use crate::bases::placings;
@@ -31,6 +32,7 @@ pub(crate) fn regional(
     requires regions { length plan.now.regions < 2 ^ 32 }
     requires names { AreDistinctNames (listed_names plan.now.regions) }
     ensures given { IfOk result (λ list. list ≡ placings_of plan.now sections.now commons.now) }
+    ensures low { IfOk result (All IsLow) }
     ensures placed { OnOk result (first_some (unplaced_at (listed_names plan.now.regions)) (numbered sections.now) ≡ None) }
     ensures unplaced { IfErr result (IsAnswer (first_some (unplaced_at (listed_names plan.now.regions)) (numbered sections.now))) }
 {

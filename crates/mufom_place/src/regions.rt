@@ -4,6 +4,7 @@ ghost use Rattle.std.specs.Prelude.{◌≡◌, ◌<◌, ◌+◌, ◌^◌, ◌++�
 ghost use Rattle.mufom_plan.specs.Names.{AreDistinctNames, listed_names};
 ghost use Rattle.mufom_place.specs.Bases.{numbered, placings as placings_of, site_of};
 ghost use Rattle.mufom_place.specs.Facts.{IsAligned, first_some, unplaced_at};
+ghost use Rattle.mufom_place.specs.Packing.{IsLow};
 
 use crate::PlaceRefusal;
 use crate::bases::planned;
@@ -32,7 +33,8 @@ pub fn all_placings(
     requires regions { length plan.now.regions < 2 ^ 32 }
     requires names { AreDistinctNames (listed_names plan.now.regions) }
     requires placed { first_some (unplaced_at (listed_names plan.now.regions)) (numbered sections.now) ≡ None }
-    ensures { IfOk result (λ list. list ≡ placings_of plan.now sections.now commons.now) }
+    ensures given { IfOk result (λ list. list ≡ placings_of plan.now sections.now commons.now) }
+    ensures low { IfOk result (All IsLow) }
 {
     match regional(alloc, sections, commons, plan) {
         Ok(placings) => Ok(placings),

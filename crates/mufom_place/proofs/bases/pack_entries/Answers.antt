@@ -32,6 +32,7 @@ loop-waiting-preserved c =
           ∙ ap (λ rest. end_of end (flat_map (λ waiting. waiting) rest)) next
           ∙ end_of-append end item more
           ∙ ap (λ e. end_of e more) (sym after);
+      low = c.in_ok-end.ensures.low;
       bound = let bound = c.in_ok-end.ensures.bound in let before_bound = c.loop-waiting.invariant.bound in
           omega (arith, total, long, long_item, bound, before_bound);
     }

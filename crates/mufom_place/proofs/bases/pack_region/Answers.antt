@@ -6,8 +6,8 @@ use Rattle.mufom_place.specs.Packing.{end_of}
 use Rattle.mufom_place.proofs.PackingLemmas.{packed-append}
 use Rattle.mufom_place.proofs.bases.pack_region.Goals as goal
 
-pub returns : goal.returns
-returns c =
+pub returns-clause-placed : goal.returns-clause-placed
+returns-clause-placed c =
     let all = flat_map (λ (waiting : List Waiting). waiting) c.args.entries.now in
     let region = c.args.region in
     c.in_ok-pack.ensures.placed

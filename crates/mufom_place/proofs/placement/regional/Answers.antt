@@ -38,5 +38,5 @@ returns-clause-given c =
     let listed = c.in_ok-index.ensures in
     let entries = c.deref.ensures.value ∙ c.in_ok-entries.ensures.waiting ∙ (λ i. map (waiting_among (listed i) (numbered sections)) (listed i)) in
     let last = c.deref-2.ensures.value ∙ c.in_ok-waiting.ensures in
-    c.in_ok-placings.ensures ∙ (λ i. placings_from 0 regions (entries i) (last i))
+    c.in_ok-placings.ensures.given ∙ (λ i. placings_from 0 regions (entries i) (last i))
     ∙ placings_from-waiting (waiting_among (listed_names regions) (numbered sections)) (waiting_of sections commons) 0 regions

@@ -20,7 +20,7 @@ loop-place-preserved c =
     let within : place < length planned = omega (arith, count, long, is, test) in
     let both = length-append sections commons in
     let inside : place < length all = omega (arith, count, both, is, test) in
-    let given = c.as_slice.ensures ∙ c.in_ok-placings.ensures in
+    let given = c.as_slice.ensures ∙ c.in_ok-placings.ensures.given in
     let at : c.site.result ≡ site_of plan sections commons (place, section) =
     c.site.ensures ∙ ap (site_with section.base) (c.index.ensures ∙ get_or_default planned place c.index.result.now None within
     ∙ c.in_ok-planned.ensures.value place (omega (arith, count, is, test)) ∙ ap (λ ps. placing_of ps place) given) in
