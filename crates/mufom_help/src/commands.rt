@@ -8,18 +8,23 @@ pub const LIST: &str = "mufom links, locates and inspects object modules of IEEE
 
 Usage: mufom COMMAND [OPTION ...] OPERAND ...
 
-Commands:
+To look at modules:
   show [--listing] [--no-debug] FILE
   check [--no-debug] FILE ...
+To link modules, and to place their sections by a memory plan:
   link [--no-debug] [--name NAME] -o OUT FILES
   locate [--no-debug] [--plan PLAN] [--keep NAME] -o OUT FILES
+To print the image, what is at which address, or the source line at one:
   dump [--no-debug] [--plan PLAN] [--keep NAME] FILES
-  map [--no-debug] [--plan PLAN] FILES
+  map [--no-debug] [--plan PLAN] [--keep NAME] FILES
+  addr [--plan PLAN] --at ADDRESS FILES
+To write the image as raw bytes or as TI-TXT:
   bin [--no-debug] [--plan PLAN] [--keep NAME] [--fill BYTE] -o OUT FILES
   txt [--no-debug] [--plan PLAN] [--keep NAME] -o OUT FILES
+To make modules, of a TI-TXT text or to try the program:
   fromtxt [--maus N] -o OUT FILE
-  addr [--plan PLAN] --at ADDRESS FILES
   make COUNT
+For help:
   help [COMMAND or NAME]
   version
 
@@ -183,7 +188,7 @@ Example:
 /// The text of `help map`.
 pub const MAP: &str = "map: links and locates modules, and prints what is at which address
 
-Usage: mufom map [--no-debug] [--plan PLAN] FILES
+Usage: mufom map [--no-debug] [--plan PLAN] [--keep NAME] FILES
 
 Links and locates FILES as `locate` does, and prints these lines:
   module J NAME file N         each module that was linked, and its file
@@ -205,6 +210,9 @@ FILES are files and groups, then perhaps a + and members:
 Options:
   --no-debug    skip the debug parts without reading them
   --plan PLAN   the file of the memory plan, a TOML document
+  --keep NAME   leave out all that is needed neither by the public symbol NAME,
+                nor by the start address, nor by a section with a base address;
+                the lines of the modules stay
   --            end the options; brackets and + keep their meaning
 
 Exit status:
@@ -363,8 +371,9 @@ command does, its options, its exit status and an example. `mufom help NAME`
 explains an error: NAME is the first word of the error line that begins with a
 capital letter. For the line
   refused: locate: Misfit section 3 region 0
-that is `mufom help Misfit`. Upper and lower case differ. For a line that
-begins with `usage:`, see the help of the command.
+that is `mufom help Misfit`. Upper and lower case differ. A line that begins
+with `usage:` says that the arguments are wrong: compare them with the form
+that `mufom help COMMAND` prints.
 
 In place of `help`, `--help` or `-h` does the same. There are no options.
 

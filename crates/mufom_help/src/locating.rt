@@ -19,7 +19,8 @@ Usual causes:
 
 What to do:
   - Find section N: link the same files with `link -o t`, and look for the line
-    `section N` that `show t` prints.
+    `section N` that `show t` prints. With --keep, sections that are left out
+    are not counted.
   - Add its name, or *, to the `sections` of a region:
       sections = [\".text\", \"*\"]
 ";
@@ -45,7 +46,9 @@ Usual causes:
 What to do:
   - Find section N: link the same files with `link -o t`, and look for the line
     `section N` that `show t` prints. A number past the last section is a
-    common: room that weak references with a size ask for.
+    common: room that weak references with a size ask for. Or run `map` with the
+    same options and a plan that has room; with --keep, only that works, since
+    sections that are left out are not counted.
   - Make the region larger, or list some names in a region that has room.
   - Remove what is not needed.
 ";
@@ -69,7 +72,7 @@ What to do:
   - Find sections N and M: link the same files with `link -o t`, and look for
     the lines `section N` and `section M` that `show t` prints. A section with
     `base` has a base address of its own. A number past the last section is a
-    common.
+    common. With --keep, sections that are left out are not counted.
   - Move one of them: change its address in the source, or `base` and `size` of
     the region so that they begin after the other.
 ";
@@ -124,7 +127,7 @@ The expression of NAME uses public symbols whose expressions lead back to NAME,
 in one module or through several.
 
 Usual causes:
-  - Two sources define each a name by the name of the other.
+  - Two sources each define a symbol by that of the other.
   - A name is defined as an alias of itself, since a prefix or the difference
     between upper and lower case was lost.
 
@@ -201,7 +204,7 @@ Usual causes:
 What to do:
   - Find section N: link the same files with `link -o t`, and compare its line
     `section N` with the lines after `select N` and `counter N` that `show t`
-    prints.
+    prints. With --keep, sections that are left out are not counted.
   - Correct the size, or the origin, in the source.
 ";
 
@@ -244,7 +247,8 @@ Usual causes:
 
 What to do:
   - Find section N: link the same files with `link -o t`, and look at the lines
-    `field` after `select N` that `show t` prints.
+    `field` after `select N` that `show t` prints. With --keep, sections that
+    are left out are not counted.
   - Use the long form of the instruction in the source.
   - Or place the target nearer: list the two sections next to each other in the
     plan, or move the region to low addresses.

@@ -51,7 +51,7 @@ pub const BAD_RECORD: &str = "BadRecord: a byte is not the code of any record
 
 In file N, counted from 0, the byte at offset PLACE should be the code of a
 record, or the second byte of a code that begins with E2 or F1, or the ED or E4
-that follows the count of a repeat (F7). It is none that the format has.
+that follows the count of a repeat (F7). No record begins with that byte.
 
 Usual causes:
   - The record before is longer than its writer meant, or shorter: a count, a

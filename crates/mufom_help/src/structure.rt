@@ -23,7 +23,7 @@ What to do:
 ";
 
 /// The text of `help BadHeader`.
-pub const BAD_HEADER: &str = "BadHeader: the header contains another record than it must
+pub const BAD_HEADER: &str = "BadHeader: the header contains an unexpected record
 
   refused: file N at PLACE: BadHeader
 

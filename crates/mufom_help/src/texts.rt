@@ -4,7 +4,7 @@ ghost use Rattle.std.specs.Prelude.{◌≡◌, option_map};
 ghost use Rattle.mufom_help.specs.Topics.{texts, topic_in};
 
 /// The text of `help BadLine`.
-pub const BAD_LINE: &str = "BadLine: a line of the text is none that a TI-TXT text has
+pub const BAD_LINE: &str = "BadLine: a line is not a valid TI-TXT line
 
   refused: text line N: BadLine
 
@@ -26,7 +26,7 @@ Usual causes:
 What to do:
   - Look at the line: sed -n Np FILE.
   - Convert the file to TI-TXT. The program `srec_cat` does that:
-    srec_cat FILE -intel -o NEW -ti_txt.
+      srec_cat FILE -intel -output NEW -ti-txt
 ";
 
 /// The text of `help NoAddress`.
