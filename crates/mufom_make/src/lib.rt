@@ -8,9 +8,11 @@
 #![tactic(auto)]
 
 mod generated;
+mod laws;
 mod linking;
 mod making;
 mod summary;
 
+pub use laws::generated_modules_are_located;
 pub use making::made;
 pub use summary::summary_text;
