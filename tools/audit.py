@@ -13,7 +13,8 @@ import os, re, sys
 
 COMMAND = "mufom_command/src/"
 # The functions whose clauses are what there is to trust: file of the crate, and name (None: each in the file).
-ROOTS = [("mufom_headline/src/laws.rt", None), (COMMAND + "command.rt", "run"), (COMMAND + "laws.rt", None), ("mufom_groups/src/laws.rt", None)]
+ROOTS = [("mufom_headline/src/laws.rt", None), (COMMAND + "command.rt", "run"), (COMMAND + "laws.rt", None), ("mufom_groups/src/laws.rt", None),
+         ("mufom_make/src/laws.rt", None)]
 # What an auditor reads beside them: the clauses of the outside, the status, and how contracts see these types.
 BESIDE = ["mufom_host/src/world.rt", COMMAND + "outcome.rt", "mufom_numbers/src/text.rt", "mufom_numbers/src/bytes.rt",
           "mufom_numbers/src/list.rt", "mufom_expr/src/postfix.rt", "mufom_module/src/module.rt"]
@@ -312,8 +313,8 @@ def page_text():
     library = [tuple(it.rsplit(".", 1)) for it in reached.library | beside.library if "." in it]
     return "\n".join([
         "# What there is to trust", "",
-        "All definitions that are reached from the laws of `mufom_headline`, the contract of `run`, and the public laws of `mufom_command`"
-        " and `mufom_groups`. Anyone who reads them and trusts the toolchain knows what is proved; [how to read a contract](ARCHITECTURE.md#how-to-read-a-contract)"
+        "All definitions that are reached from the laws of `mufom_headline`, the contract of `run`, and the public laws of `mufom_command`,"
+        " `mufom_groups` and `mufom_make`. Anyone who reads them and trusts the toolchain knows what is proved; [how to read a contract](ARCHITECTURE.md#how-to-read-a-contract)"
         " explains the notation. `python3 tools/audit.py` writes this page; with `--check` it says whether the page is up to"
         " date.", "",
         "## The clauses", "", "| function | lines | file |", "|---|---|---|",

@@ -20,6 +20,7 @@ pub mod Determined
 pub mod LocatingDone
 pub mod AddressLaws
 pub mod MakeLaws
+pub mod MakeDone
 pub mod TextLaws
 pub mod TextRuns
 pub mod WritingLaws

@@ -12,3 +12,4 @@ pub mod InputsRead
 pub mod WorkEnds
 pub mod Making
 pub mod MapInputs
+pub mod MakeLaws

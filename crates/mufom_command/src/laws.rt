@@ -1,6 +1,7 @@
 //! Laws of runs, each the contract of a function that does nothing.
 
 ghost use Rattle.mufom_command.specs.Inputs.{HaveOneVerdict};
+ghost use Rattle.mufom_command.specs.MakeLaws.{MakeIsDone};
 ghost use Rattle.mufom_command.specs.RunLaws.{AbsoluteFilesStand, AnswersAreDetermined, LinkedFilesStand, LocatingIsDone, MapsAreAlike, MapsOfStages};
 ghost use Rattle.mufom_command.specs.RunLaws.{RunsAreSingle, RunsOfStages, StagesMakeNoDifference};
 
@@ -60,4 +61,10 @@ pub fn linked_files_stand()
 /// regions, is located as itself.
 pub fn absolute_files_stand()
     ensures { AbsoluteFilesStand }
+{}
+
+/// A run of `make` is `Done` unless a write failed or there was no memory: the generated modules can be
+/// located, however many of them there are.
+pub fn make_is_done()
+    ensures { MakeIsDone }
 {}

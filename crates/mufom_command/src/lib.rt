@@ -34,7 +34,7 @@ mod writing;
 pub use command::run;
 pub use laws::{
     absolute_files_stand, answers_are_determined, files_have_one_verdict, linked_files_stand,
-    locating_is_done, maps_are_alike, maps_of_stages, runs_are_single, runs_of_stages,
-    stages_make_no_difference,
+    locating_is_done, make_is_done, maps_are_alike, maps_of_stages, runs_are_single,
+    runs_of_stages, stages_make_no_difference,
 };
 pub use outcome::{Input, Outcome, Refusal};
