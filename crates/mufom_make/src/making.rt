@@ -1,3 +1,5 @@
+//! Generating, linking and locating modules.
+
 ghost use Rattle.std.specs.Prelude.{◌≤◌, IfOk, IfErr};
 ghost use Rattle.mufom_meaning.specs.Location.{IsLocation};
 ghost use Rattle.mufom_meaning.specs.LocateAnswer.{locate_answer};
@@ -20,9 +22,9 @@ pub fn made(alloc: Global, count: u32) -> Result<Located, LocateRefusal>
     requires some { 1 ≤ count }
     requires few { count ≤ MOST_MODULES }
 
-    // What is answered is the location of the list of all modules.
+    // What is returned is the location of the list of all modules.
     ensures located { IfOk result (IsLocation (made_modules count) (made_plan count)) }
-    // A refusal is the first thing that keeps that list from being located, or there was no memory.
+    // A refusal is the first thing that keeps that list from being located, or memory ran out.
     ensures refused { IfErr result (IsMet (locate_answer (made_modules count) (made_plan count))) }
 {
     let module = linked_modules(alloc, count)?;

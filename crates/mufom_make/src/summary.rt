@@ -1,3 +1,5 @@
+//! The summary of generated modules at their location.
+
 ghost use Rattle.std.specs.Prelude.{◌≡◌, ◌≤◌, ◌*◌, length, sum, sum_by, IfOk};
 ghost use Rattle.mufom_numbers.specs.declared.limits.TheConstants.{MOST_IMAGE_BYTES};
 ghost use Rattle.mufom_make.specs.Generated.{summary};

@@ -2,10 +2,11 @@
 //! loads that a public symbol, the start and the sections with a base do not need.
 //!
 //! [`prune`] follows what expressions mention by one worklist, each expression once, and copies what
-//! remains with the positions of the new lists. The crate stands on the crates of a module's values,
+//! remains with the positions of the new lists. The crate depends on the crates of a module's values,
 //! on `mufom_copies` for copies, on `mufom_select` for marks, and on `mufom_meaning`. Its main clause
 //! is that of [`prune`]: what is kept is the least set of entries that has what is kept in any case
-//! and, with each entry, what that one needs.
+//! and, with each entry, what that one needs. [`prune_with_marks`] tells besides which sections and publics
+//! of the whole module are left.
 #![tactic(auto)]
 
 mod entries;
@@ -16,5 +17,5 @@ mod reach;
 mod refusal;
 mod remaining;
 
-pub use pruning::prune;
+pub use pruning::{Pruned, prune, prune_with_marks};
 pub use refusal::PruneRefusal;

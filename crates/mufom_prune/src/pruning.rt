@@ -1,3 +1,5 @@
+//! Pruning a module.
+
 ghost use Rattle.std.specs.Prelude.{◌≡◌, ◌≤◌, ◌<◌, ◌^◌, [], ◌∷◌, length, map, true, IfOk, OnOk, IfErr, Some};
 ghost use Rattle.mufom_module.specs.Bare.{bare_parts};
 ghost use Rattle.mufom_module.specs.Written.{weight};
@@ -5,6 +7,7 @@ ghost use Rattle.mufom_plan.specs.Names.{has_name};
 ghost use Rattle.mufom_meaning.specs.Flat.{public_names};
 ghost use Rattle.mufom_prune.specs.Kept.{IsKept, named};
 ghost use Rattle.mufom_prune.specs.Pruned.{IsPruned, marks_of_all, new_public, positions_of, remaining, remains, without_others};
+ghost use Rattle.mufom_prune.specs.Marked.{IsPrunedWithMarks};
 ghost use Rattle.mufom_prune.specs.Refusals.{IsRefusalOf};
 ghost use Rattle.mufom_prune.specs.Steps.{entry_count, with_names};
 
@@ -21,6 +24,17 @@ use mufom_module::{Module, Parts};
 use mufom_names::{NameIndex, NameTable};
 use mufom_numbers::{Bytes, NoMemory};
 use std::alloc::Global;
+
+/// What [`prune_with_marks`] leaves of a module.
+#[derive(Drop)]
+pub struct Pruned {
+    /// The module that is left.
+    pub module: Module,
+    /// A mark for each section of the whole module, in its order, which is set if the section is left.
+    pub sections: Vec<bool>,
+    /// The same of its publics.
+    pub publics: Vec<bool>,
+}
 
 // A mark for each entry that is kept for the public of the name.
 fn kept(
@@ -129,6 +143,48 @@ fn remaining_parts(alloc: Global, parts: &Parts, marks: &[bool]) -> Result<Parts
     Ok(rest)
 }
 
+// Copies of the marks of the sections and of the publics, which are the first of these.
+fn copy_marks(
+    alloc: Global,
+    parts: &Parts,
+    marks: &[bool],
+) -> Result<(Vec<bool>, Vec<bool>), NoMemory>
+    requires { length marks.now ≡ entry_count parts.now }
+    ensures { IfOk result (λ both. (both.0.items ≡ (remains parts.now marks.now).sections) × (both.1.items ≡ (remains parts.now marks.now).publics)) }
+{
+    let (sections, others) = marks.split_at(parts.sections.len());
+    let (publics, _) = others.split_at(parts.names.publics.len());
+    let sections = Vec::from_slice(alloc, sections)?;
+    let publics = Vec::from_slice(alloc, publics)?;
+    Ok((sections, publics))
+}
+
+/// A copy of a module without what a public symbol does not need, with a mark for each section and each
+/// public of the module that tells whether it is left. [`prune`] returns the module alone.
+///
+/// The marks tell which numbers of the whole module the entries had that are left: the n-th entry that is
+/// left has the place of the n-th mark that is set. Errors are those of [`prune`].
+pub fn prune_with_marks(alloc: Global, module: &Module, keep: &[u8]) -> Result<Pruned, PruneRefusal>
+    ensures pruned { IfOk result (λ left. IsPrunedWithMarks left «module».now keep.now) }
+    ensures known { IfOk result (λ _. has_name (public_names («module».now ∷ [])) keep.now ≡ true) }
+    ensures refused { IfErr result (λ e. IsRefusalOf «module».now keep.now e) }
+    ensures weighs { IfOk result (λ left. weight left.«module» ≤ weight «module».now) }
+{
+    let parts = module.parts();
+    let publics = index_publics(alloc, parts)?;
+    let Some(entry) = publics.find(keep) else {
+        return Err(PruneRefusal::Unknown(Bytes::from_slice(alloc, keep)?));
+    };
+    let marks = kept(alloc, parts, &publics, entry, keep)?;
+    let rest = remaining_parts(alloc, parts, &marks)?;
+    let (sections, publics) = copy_marks(alloc, parts, &marks)?;
+    Ok(Pruned {
+        module: Module::sound(rest),
+        sections,
+        publics,
+    })
+}
+
 /// A copy of a module without what a public symbol does not need: the sections, publics, references
 /// and loads that are kept for the public of this name.
 ///
@@ -147,12 +203,6 @@ pub fn prune(alloc: Global, module: &Module, keep: &[u8]) -> Result<Module, Prun
     ensures refused { IfErr result (λ e. IsRefusalOf «module».now keep.now e) }
     ensures weighs { IfOk result (λ M. weight M ≤ weight «module».now) }
 {
-    let parts = module.parts();
-    let publics = index_publics(alloc, parts)?;
-    let Some(entry) = publics.find(keep) else {
-        return Err(PruneRefusal::Unknown(Bytes::from_slice(alloc, keep)?));
-    };
-    let marks = kept(alloc, parts, &publics, entry, keep)?;
-    let rest = remaining_parts(alloc, parts, &marks)?;
-    Ok(Module::sound(rest))
+    let Pruned { module, .. } = prune_with_marks(alloc, module, keep)?;
+    Ok(module)
 }

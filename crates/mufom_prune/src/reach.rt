@@ -57,7 +57,7 @@ fn follow(
 
 /// A mark for each entry, which tells whether it is reached: from the roots, by what each entry needs.
 ///
-/// The needs of all entries stand in the order of their numbers. All numbers must be those of entries.
+/// The needs of all entries are in the order of their numbers. All numbers must be those of entries.
 pub(crate) fn reach(
     alloc: Global,
     needs: &[List<u32>],

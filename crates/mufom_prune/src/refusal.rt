@@ -1,3 +1,5 @@
+//! Why a module is not pruned.
+
 use mufom_numbers::{Bytes, NoMemory};
 use thiserror::Error;
 
