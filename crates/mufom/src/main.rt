@@ -1,7 +1,7 @@
 //! The program `mufom`: it gives the command line's words to [`run`] over the files and streams of
-//! the process, and ends with the status of the answer.
+//! the process, and ends with the status of the outcome.
 //!
-//! It stands on `mufom_command`, whose contract states what every answer means, and on `mufom_host`.
+//! It depends on `mufom_command`, whose contract states what every outcome means, and on `mufom_host`.
 #![tactic(auto)]
 
 ghost use Rattle.std.specs.Prelude.{◌<◌, ◌^◌, IfOk, vec_len};
@@ -12,10 +12,10 @@ use std::env;
 use std::io::ErrorKind;
 use std::process::ExitCode;
 
-/// The status where a word is not UTF-8, or there are too many: as for words that are no command.
+/// The status where a word is not UTF-8, or there are too many: as for arguments that are not a command.
 const BAD_WORDS: u8 = 2;
 
-/// The status where there is no memory for the words.
+/// The status where there is no memory for the arguments.
 const NO_MEMORY: u8 = 5;
 
 // The command line's words without the program's name, or the status where they can't be had.

@@ -11,7 +11,8 @@ use Rattle.mufom_groups.specs.Work.{Work}
 use Rattle.mufom_command.specs.Stop.{Stop}
 use Rattle.mufom_command.specs.Commands.{Output, printed, made, work_of}
 use Rattle.mufom_command.specs.Complaint.{complaint}
-use Rattle.mufom_command.specs.Run.{AddsErrorLine, AnswersBy, AnswersFor, Does, DoesBy, IsOpenedCount, IsPrintedAs, MayLackMemory, NoneFalls, OpensBy}
+use Rattle.mufom_command.specs.Run.{AddsErrorLine, AnswersBy, AnswersFor, IsOpenedCount, NoneFalls, OpensBy}
+use Rattle.mufom_command.specs.RunParts.{Does, DoesBy, IsPrintedAs, MayLackMemory}
 use Rattle.mufom_command.specs.Run.{OpensInputs, PrintsErrorLine, PutsOut, PutsOutNothing, PutsOutPrefix, inputs_of, stop_answer}
 use Rattle.mufom_command.proofs.InputLaws.{call_between}
 

@@ -13,7 +13,8 @@ use Rattle.mufom_command.specs.Stop.{text_refused}
 use Rattle.mufom_command.specs.Commands.{Output, printed, made}
 use Rattle.mufom_command.specs.InputsRead.{ReadingStops}
 use Rattle.mufom_command.specs.Making.{IsMade, IsMadeAlone, IsPrinted}
-use Rattle.mufom_command.specs.Run.{AnswersFor, BeginsFile, Does, IsOpenedCount, MakesFile, NoneFalls, OpensInputs, OverFiles, PutsOutNothing}
+use Rattle.mufom_command.specs.Run.{AnswersFor, BeginsFile, IsOpenedCount, MakesFile, NoneFalls, OpensInputs, OverFiles, PutsOutNothing}
+use Rattle.mufom_command.specs.RunParts.{Does}
 use Rattle.mufom_command.specs.Run.{inputs_of, stop_outcome}
 use Rattle.mufom_command.specs.WorkEnds.{IsOfModules}
 use Rattle.mufom_command.proofs.InputLaws.{call_between}

@@ -38,7 +38,8 @@ use Rattle.mufom_command.specs.declared.outcome.Refusal.TheVariants as refusal
 use Rattle.mufom_command.specs.Stop.{Stop, link_fact, locate_fact}
 use Rattle.mufom_command.specs.Commands.{Output, located, located_unless, maus_of}
 use Rattle.mufom_command.specs.InputsRead.{inputs_in}
-use Rattle.mufom_command.specs.Run.{Does, inputs_of}
+use Rattle.mufom_command.specs.Run.{inputs_of}
+use Rattle.mufom_command.specs.RunParts.{Does}
 use Rattle.mufom_command.specs.WorkEnds.{EndsAt, outcome_of_link, outcome_of_locate}
 use Rattle.mufom_command.proofs.DoesLaws.{ended-does, lacking-does}
 use Rattle.mufom_command.proofs.InputLaws.{call_between}

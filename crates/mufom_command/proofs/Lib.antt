@@ -17,10 +17,11 @@ pub mod MapLaws
 pub mod StageLaws
 pub mod MadeLaws
 pub mod Determined
+pub mod Calm
+pub mod Accepted
 pub mod LocatingDone
 pub mod AddressLaws
 pub mod MakeLaws
 pub mod MakeDone
-pub mod TextLaws
 pub mod TextRuns
 pub mod WritingLaws

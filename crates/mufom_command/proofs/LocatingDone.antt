@@ -1,252 +1,119 @@
 -- Locating accepted files is done exactly where no fact stands against their flat list.
-use Rattle.std.proofs.Common.{◌≡◌, ◌≢◌, ◌↔◌, ℕ, zero, suc, ◌≤◌, Bool, cond, false, true, nat_lt, List, [], ◌∷◌, ◌++◌, length, not, Option, Some, None}
-use Rattle.std.proofs.Common.{Result, Ok, IsSome, refl, sym, ap, subst, arith}
+use Rattle.std.proofs.Common.{◌≡◌, ◌⊎◌, ◌≤◌, ℕ, Bool, false, true, nat_lt, List, length, Option, Some, None, refl, sym, subst, arith, inl, inr}
+use Rattle.std.proofs.lemmas.Bool.{ltb-true}
+use Rattle.mufom_numbers.specs.declared.limits.TheConstants.{MOST_FILE_BYTES}
 use Rattle.mufom_host.specs.World.{HoldBytes, NamedFile}
 use Rattle.mufom_words.specs.declared.command.Command.{Command}
 use Rattle.mufom_words.specs.declared.command.Verb.{Verb}
 use Rattle.mufom_words.specs.declared.command.Verb.TheVariants as verb
-use Rattle.mufom_words.specs.declared.stop.WordsStop.{WordsStop}
-use Rattle.mufom_words.specs.Answer.{answer_of}
-use Rattle.mufom_words.specs.Options.{makes_file, reads_files}
-use Rattle.mufom_words.specs.Sound.{IsSound, numbers_from}
-use Rattle.mufom_words.specs.Tree.{leaves, tree_of}
-use Rattle.mufom_words.proofs.Sound.{words-sound}
 use Rattle.mufom_module.specs.declared.module.Parts.{Parts}
 use Rattle.mufom_module.specs.Written.{written}
 use Rattle.mufom_plan.specs.declared.plan.Plan.{Plan}
-use Rattle.mufom_text.specs.Image.{image_text}
 use Rattle.mufom_meaning.specs.declared.located.LocatedParts.{LocatedParts}
 use Rattle.mufom_meaning.specs.Absolute.{absolute_of}
 use Rattle.mufom_meaning.specs.Facts.{LocateFact}
 use Rattle.mufom_meaning.specs.LinkAnswer.{link_answer}
 use Rattle.mufom_meaning.specs.LocateAnswer.{locate_answer}
 use Rattle.mufom_meaning.specs.Location.{IsLocation}
-use Rattle.mufom_numbers.specs.declared.limits.TheConstants.{MOST_FILE_BYTES}
-use Rattle.mufom_addr.specs.AddressHit.{hit_at}
 use Rattle.mufom_write.specs.Raw.{raw_image}
 use Rattle.mufom_titxt.specs.Written.{txt_text}
-use Rattle.mufom_map.specs.Mapped.{mapped}
-use Rattle.mufom_map.specs.MapText.{map_text}
-use Rattle.mufom_command.specs.FlatFiles.{files_with}
-use Rattle.mufom_command.specs.Text.{hit_text}
-use Rattle.std.proofs.lemmas.Bool.{ltb-true}
-use Rattle.mufom_meaning.specs.Selection.{members_at}
-use Rattle.mufom_meaning.specs.Staging.{AreValid}
-use Rattle.mufom_meaning.proofs.facts.AllAnswers.{answers_are_facts}
-use Rattle.mufom_meaning.proofs.facts.LinkFacts.{link_facts_grow}
-use Rattle.mufom_meaning.proofs.locations.Exists.{locations_exist}
-use Rattle.mufom_groups.specs.Linked.{IsFlatList, linked, members, roots}
-use Rattle.mufom_groups.specs.Work.{gives, Work, ◌>>=◌, stop_at, with_stops}
-use Rattle.mufom_groups.proofs.GroupsAlike.{linked-flat}
-use Rattle.mufom_groups.proofs.LinkWalk.{valid-append, valid-drop, valid-members}
-use Rattle.mufom_groups.proofs.Singles.{flat_list-single}
-use Rattle.mufom_command.specs.declared.outcome.Outcome.{Outcome}
-use Rattle.mufom_command.specs.declared.outcome.Outcome.TheVariants as outcome
-use Rattle.mufom_command.specs.Stop.{Stop, link_fact, raw_too_long}
-use Rattle.mufom_command.specs.Inputs.{AreModules, HaveBytes}
-use Rattle.mufom_command.specs.Commands.{Output, printed, made, writes, kept_of, plan_in, modules_in, located, located_unless}
-use Rattle.mufom_command.specs.Commands.{locating as locating_of, absolute_file, printed_hit, printed_image, printed_map, raw_file, txt_file}
-use Rattle.mufom_command.specs.Commands.{unless_too_long, linking, linking_of, mapping, work_of, work_by}
-use Rattle.mufom_command.specs.Run.{Answers, AnswersBy, Call}
-use Rattle.mufom_command.specs.RunLaws.{Accepts, HasNoFact, IsLocating, IsSameWork, LocatingIsDone, MayPutOut}
-use Rattle.mufom_command.proofs.Determined.{answers-determined}
-use Rattle.mufom_command.proofs.KeptLaws.{kept-links, kept-some, kept-valid}
+use Rattle.mufom_groups.specs.Work.{gives, stops, Work}
+use Rattle.mufom_groups.proofs.Works.{value-same}
+use Rattle.mufom_command.specs.Stop.{Stop}
+use Rattle.mufom_command.specs.Commands.{Output, absolute_file, kept_of, linking_of, located_unless, locating as locating_of, printed_hit, printed_image}
+use Rattle.mufom_command.specs.Commands.{printed_map, raw_file, txt_file, unless_too_long, work_of, writes, writes_module}
+use Rattle.mufom_command.specs.RunLaws.{Accepts, HasNoFact, IsLocating, LocatingIsDone, MayPutOut}
+use Rattle.mufom_command.proofs.Accepted.{EndsAtFact, accepted-gives, accepted-stops, no-link-fact}
+use Rattle.mufom_command.proofs.Calm.{answers-for, done-comes, never-done}
 use Rattle.mufom_command.proofs.MadeLaws.{location-of}
-use Rattle.mufom_command.proofs.Runs.{modules_in-single, of-files, over-files, plan_in-single}
-use Rattle.mufom_command.proofs.SameWorks.{same-trans, then-known}
+use Rattle.mufom_command.proofs.Runs.{kept_of-single, of-files}
 
--- it comes to an output
-abbrev IsDone : Work Stop Output → Type 0
-IsDone work = (output : Output) × work (gives output)
+-- ---- what is put out of a list
 
--- ---- modules of files
+module _ (output : Command → LocatedParts → Work Stop Output) (c : Command) (plan : Plan) (list : List Parts) where
+  -- no fact stands against a list of which there is an output
+  pub no-fact-there : (o : Output) → link_answer list ≡ None → locating_of output c plan list (gives o) → HasNoFact c.keep list plan
+  no-fact-there o links (kept, is_kept, (r, is_located, puts)) =
+      record { links = links; kept = kept; keeps = is_kept; locates = (location-of plan kept r is_located).locates }
 
-valid-modules : (reads_debug : Bool) (contents : List (List ℕ)) (ms : List Parts) → AreModules reads_debug contents ms → AreValid ms
-valid-modules reads_debug [] [] are = tt
-valid-modules reads_debug [] (m ∷ ms) are = absurd are
-valid-modules reads_debug (bytes ∷ contents) [] are = absurd are
-valid-modules reads_debug (bytes ∷ contents) (m ∷ ms) are = (are.0.4, valid-modules reads_debug contents ms are.1)
+  -- where no fact stands, the work comes to no end, unless the output of a location does
+  pub no-end : ((kept : List Parts) (r : LocatedParts) → kept_of c.keep list (gives kept) → IsLocation kept plan r → (s : Stop) → output c r (stops s) → ⊥)
+      → HasNoFact c.keep list plan
+      → (s : Stop) → locating_of output c plan list (stops s) → ⊥
+  no-end never none s (inl ends) =
+      let same : stops s ≡ gives none.kept = kept_of-single c.keep list (stops s) (gives none.kept) ends none.keeps in absurd cc
+  no-end never none s (inr (kept, is_kept, inl ends)) =
+      let same : kept ≡ none.kept = value-same kept none.kept (kept_of-single c.keep list (gives kept) (gives none.kept) is_kept none.keeps) in
+      let locates : locate_answer kept plan ≡ None = subst (λ (l : List Parts). locate_answer l plan ≡ None) (sym same) none.locates in
+      subst (λ (o : Option LocateFact). located_unless o plan kept (stops s)) locates ends
+  no-end never none s (inr (kept, is_kept, inr (r, is_located, ends))) = never kept r is_kept (location-of plan kept r is_located) s ends
 
-length-modules : (reads_debug : Bool) (contents : List (List ℕ)) (ms : List Parts) → AreModules reads_debug contents ms → length ms ≡ length contents
-length-modules reads_debug [] [] are = refl
-length-modules reads_debug [] (m ∷ ms) are = absurd are
-length-modules reads_debug (bytes ∷ contents) [] are = absurd are
-length-modules reads_debug (bytes ∷ contents) (m ∷ ms) are = ap suc (length-modules reads_debug contents ms are.1)
+-- ---- outputs that come to no end
 
-length-bytes : (files : List NamedFile) (names contents : List (List ℕ)) → HaveBytes files names contents → length contents ≡ length names
-length-bytes files [] [] have = refl
-length-bytes files [] (bytes ∷ contents) have = absurd cc
-length-bytes files (name ∷ names) [] have = absurd cc
-length-bytes files (name ∷ names) (bytes ∷ contents) have = let more : HaveBytes files names contents = cc in ap suc (length-bytes files names contents more)
+pub writes-never : (name : Option (List ℕ)) (bytes : List ℕ) (s : Stop) → writes name bytes (stops s) → ⊥
+writes-never None bytes s is = is
+writes-never (Some name) bytes s is = is
 
--- the first module is in the list
-first-some : (ms rest : List Parts) (ns : List ℕ) (count : ℕ) → ns ≡ numbers_from 0 count → 1 ≤ count → 1 ≤ length ms → members_at ms ns ++ rest ≢ []
-first-some ms rest ns zero same some more = absurd (omega (arith, some))
-first-some [] rest ns (suc count) same some more = absurd (omega (arith, more))
-first-some (m ∷ ms) rest ns (suc count) same some more = λ is_empty.
-    let first : members_at (m ∷ ms) (numbers_from 0 (suc count)) ++ rest ≡ [] = subst (λ (l : List ℕ). members_at (m ∷ ms) l ++ rest ≡ []) same is_empty in
-    let bad : m ∷ (members_at (m ∷ ms) (numbers_from 1 count) ++ rest) ≡ [] = first in cc
+pub module-never : (name : Option (List ℕ)) (m : Parts) (s : Stop) → writes_module name m (stops s) → ⊥
+module-never name m s (held, is) = writes-never name (written m) s is
 
--- ---- the flat list is not empty
+-- a raw image that has not too many bytes
+raw-never : (c : Command) (r : LocatedParts) → length (raw_image c.fill r.runs) ≤ MOST_FILE_BYTES → (s : Stop) → raw_file c r (stops s) → ⊥
+raw-never c r few s = by (nat_lt MOST_FILE_BYTES (length (raw_image c.fill r.runs))) refl where
+  by : (b : Bool) → nat_lt MOST_FILE_BYTES (length (raw_image c.fill r.runs)) ≡ b → unless_too_long b c.out (raw_image c.fill r.runs) (stops s) → ⊥
+  by true is ends = absurd (omega (arith, few, ltb-true MOST_FILE_BYTES (length (raw_image c.fill r.runs)) is))
+  by false is ends = writes-never c.out (raw_image c.fill r.runs) s ends
 
-no-modules : (v : Verb) → IsLocating v → reads_files v ≡ true
-no-modules verb.Show never = absurd never
-no-modules verb.Check never = absurd never
-no-modules verb.Link never = absurd never
-no-modules verb.Locate is = refl
-no-modules verb.Dump is = refl
-no-modules verb.Map is = refl
-no-modules verb.Make never = absurd never
-no-modules verb.Addr is = refl
-no-modules verb.Bin is = refl
-no-modules verb.Txt is = refl
-no-modules verb.FromTxt never = absurd never
-no-modules verb.Help never = absurd never
-no-modules verb.Version never = absurd never
-
--- ---- the flat list
-
-module _ (files : List NamedFile) (c : Command) (sound : IsSound c) (ms flat : List Parts) (read : modules_in files c (gives ms))
-    (is_flat : IsFlatList (tree_of c.marks) ms flat) where
-  flat-valid : AreValid flat
-  flat-valid =
-      let all : AreValid ms = valid-modules (not c.no_debug) read.0 ms read.1.modules in
-      subst AreValid (sym is_flat.2) (valid-append (roots (tree_of c.marks) ms) (members_at (members (tree_of c.marks) ms) is_flat.0)
-      (valid-members ms (leaves (tree_of c.marks)) all)
-      (valid-members (members (tree_of c.marks) ms) is_flat.0 (valid-drop (length (leaves (tree_of c.marks))) ms all)))
-
-  flat-some : reads_files c.verb ≡ true → flat ≢ []
-  flat-some takes_files =
-      let some = sound.files.some takes_files in
-      let within = sound.tree.within in
-      let as_many = length-modules (not c.no_debug) read.0 ms read.1.modules in
-      let as_named = length-bytes files c.files read.0 read.1.bytes in
-      subst (λ (l : List Parts). l ≢ []) (sym is_flat.2)
-      (first-some ms (members_at (members (tree_of c.marks) ms) is_flat.0) (leaves (tree_of c.marks)) (length (leaves (tree_of c.marks)))
-      sound.tree.numbered some (omega (arith, some, within, as_many, as_named)))
-
--- ---- where locating is done
-
-located-none : (plan : Plan) (ms : List Parts) (r : LocatedParts) → located plan ms (gives r) → locate_answer ms plan ≡ None
-located-none plan ms r is = (location-of plan ms r is).locates
-
-write-some : (name : Option (List ℕ)) (bytes : List ℕ) → IsSome name → IsDone (writes name bytes)
-write-some None bytes some = absurd cc
-write-some (Some name) bytes some = (made name bytes, refl)
-
-module _ (c : Command) (plan : Plan) (ms flat : List Parts) (is_flat : IsFlatList (tree_of c.marks) ms flat) (some : flat ≢ [])
-    (valid : AreValid flat) (put_out : LocatedParts → Work Stop Output) where
-  done-there : IsDone (with_stops link_fact (linked (tree_of c.marks) ms) >>= λ flat. kept_of c.keep flat >>= λ kept. located plan kept >>= put_out)
-      → HasNoFact c.keep flat plan
-  done-there (o, (other, is_linked, (kept, is_kept, (r, is_located, is_put)))) =
-      let there = (linked-flat answers_are_facts link_facts_grow (tree_of c.marks) ms other).0 is_linked in
-      let same : other ≡ flat = flat_list-single (tree_of c.marks) ms other flat there.0 is_flat in
-      record {
-        links = subst (λ (l : List Parts). link_answer l ≡ None) same there.1;
-        kept = kept;
-        keeps = subst (λ (l : List Parts). kept_of c.keep l (gives kept)) same is_kept;
-        locates = located-none plan kept r is_located;
-      }
-
-  done-back : ((kept : List Parts) (r : LocatedParts) → kept_of c.keep flat (gives kept) → IsLocation kept plan r → IsDone (put_out r))
-      → HasNoFact c.keep flat plan
-      → IsDone (with_stops link_fact (linked (tree_of c.marks) ms) >>= λ flat. kept_of c.keep flat >>= λ kept. located plan kept >>= put_out)
-  done-back puts none =
-      let kept = none.kept in
-      let (r, is_location) =
-      locations_exist kept plan (kept-some c.keep flat kept some none.keeps) (kept-valid c.keep flat kept valid none.keeps)
-      (kept-links c.keep flat kept valid none.links none.keeps) none.locates in
-      let (o, is_put) = puts kept r none.keeps is_location in
-      let there : located plan kept (gives r) = subst (λ (f : Option LocateFact). located_unless f plan kept (gives r)) (sym none.locates) is_location in
-      (o, (flat, (linked-flat answers_are_facts link_facts_grow (tree_of c.marks) ms flat).1 (is_flat, none.links), (kept, none.keeps, (r, there, is_put))))
+map-never : (ms : List Parts) (plan : Plan) (c : Command) (r : LocatedParts) (s : Stop) → printed_map ms plan c r (stops s) → ⊥
+map-never ms plan c r s (inl never) = never
+map-never ms plan c r s (inr (flat, are, never)) = never
 
 -- ---- the work of a command
 
-module _ (files : List NamedFile) (c : Command) (sound : IsSound c) (plan : Plan) (flat : List Parts) (bytes : HoldBytes files)
-    (accepts : Accepts files c plan flat) where
-  tail : (output : List Parts → Command → Plan → List Parts → Work Stop Output)
-      → IsSameWork (linking_of output files c) (with_stops link_fact (linked (tree_of c.marks) accepts.modules) >>= λ flat. output accepts.modules c plan flat)
-  tail output =
-      let rest : List Parts → Work Stop Output = λ ms. with_stops link_fact (linked (tree_of c.marks) ms) >>= λ flat. output ms c plan flat in
-      same-trans (linking_of output files c) (modules_in files c >>= rest) (rest accepts.modules)
-      (then-known (plan_in files c.plan) (λ plan. modules_in files c >>= λ ms. with_stops link_fact (linked (tree_of c.marks) ms) >>= λ flat. output
-      ms c plan flat) plan (plan_in-single files c.plan) accepts.planned)
-      (then-known (modules_in files c) rest accepts.modules (modules_in-single files bytes c) accepts.read)
+module _ (files : List NamedFile) (c : Command) (plan : Plan) (flat : List Parts) (bytes : HoldBytes files) (accepts : Accepts files c plan flat) where
+  -- no fact stands where there is an output, and where none stands the work comes to no end
+  abbrev IsExact : Work Stop Output → Type 0
+  IsExact work = ((o : Output) → work (gives o) → HasNoFact c.keep flat plan) × (HasNoFact c.keep flat plan → (s : Stop) → work (stops s) → ⊥)
 
-  module _ (locating : IsLocating c.verb) where
-    valid : AreValid flat
-    valid = flat-valid files c sound accepts.modules flat accepts.read accepts.is_flat
+  exactly : (output : List Parts → Plan → Command → LocatedParts → Work Stop Output)
+      → ((kept : List Parts) (r : LocatedParts) → kept_of c.keep flat (gives kept) → IsLocation kept plan r → (s : Stop)
+      → output accepts.modules plan c r (stops s) → ⊥)
+      → IsExact (linking_of (λ ms c plan flat. locating_of (output ms plan) c plan flat) files c)
+  exactly output never = (there, back) where
+    there : (o : Output) → linking_of (λ ms c plan flat. locating_of (output ms plan) c plan flat) files c (gives o) → HasNoFact c.keep flat plan
+    there o is =
+        let (links, is_put) = accepted-gives files c plan flat bytes accepts (λ ms c plan flat. locating_of (output ms plan) c plan flat) o is in
+        no-fact-there (output accepts.modules plan) c plan flat o links is_put
 
-    some : flat ≢ []
-    some = flat-some files c sound accepts.modules flat accepts.read accepts.is_flat (no-modules c.verb locating)
+    back : HasNoFact c.keep flat plan → (s : Stop) → linking_of (λ ms c plan flat. locating_of (output ms plan) c plan flat) files c (stops s) → ⊥
+    back none s ends = by (accepted-stops files c plan flat bytes accepts (λ ms c plan flat. locating_of (output ms plan) c plan flat) s ends) where
+      by : EndsAtFact flat s ⊎ ((link_answer flat ≡ None) × locating_of (output accepts.modules plan) c plan flat (stops s)) → ⊥
+      by (inl fact) = no-link-fact flat plan s none.links fact
+      by (inr (links, ends)) = no-end (output accepts.modules plan) c plan flat never none s ends
 
-    put-done : (output : Command → LocatedParts → Work Stop Output)
-        → ((kept : List Parts) (r : LocatedParts) → kept_of c.keep flat (gives kept) → IsLocation kept plan r → IsDone (output c r))
-        → IsDone (linking (locating_of output) files c) ↔ HasNoFact c.keep flat plan
-    put-done output puts = (
-      (λ (o, is). done-there c plan accepts.modules flat accepts.is_flat some valid (λ r. output c r) (o, ((tail (λ ms. locating_of output)) (gives o)).0 is)),
-      (λ none. let (o, is) = done-back c plan accepts.modules flat accepts.is_flat some valid (λ r. output c r) puts none in
-          (o, ((tail (λ ms. locating_of output)) (gives o)).1 is)),
-    )
-
-    -- a map is put out
-    map-done : IsDone (mapping files c) ↔ HasNoFact c.keep flat plan
-    map-done =
-        let (chosen, selected, is_list) = accepts.is_flat in
-        let own = files_with (tree_of c.marks) accepts.modules chosen in
-        let puts : (kept : List Parts) (r : LocatedParts) → kept_of c.keep flat (gives kept) → IsLocation kept plan r
-        → IsDone (printed_map accepts.modules plan c r) = λ kept r keeps there.
-        (printed (map_text (mapped own plan r)), (own, (chosen, selected, refl), refl)) in (
-          (λ (o, is). done-there c plan accepts.modules flat accepts.is_flat some valid (λ r. printed_map accepts.modules plan c r) (
-            o,
-            ((tail (λ ms c plan flat. locating_of (printed_map ms plan) c plan flat)) (gives o)).0 is,
-          )),
-          (λ none. let (o, is) = done-back c plan accepts.modules flat accepts.is_flat some valid (λ r. printed_map accepts.modules plan c r) puts none in
-              (o, ((tail (λ ms c plan flat. locating_of (printed_map ms plan) c plan flat)) (gives o)).1 is)),
-        )
-
-    -- a raw image that has not too many bytes is put out
-    raw-done : IsSome c.out → (r : LocatedParts) → length (raw_image c.fill r.runs) ≤ MOST_FILE_BYTES → IsDone (raw_file c r)
-    raw-done out r few = by (nat_lt MOST_FILE_BYTES (length (raw_image c.fill r.runs))) refl where
-      by : (b : Bool) → nat_lt MOST_FILE_BYTES (length (raw_image c.fill r.runs)) ≡ b
-          → IsDone (unless_too_long b c.out (raw_image c.fill r.runs))
-      by true is = absurd (omega (arith, few, ltb-true MOST_FILE_BYTES (length (raw_image c.fill r.runs)) is))
-      by false is = write-some c.out (raw_image c.fill r.runs) out
-
-    work-done : (v : Verb) → c.verb ≡ v → IsLocating v
-        → ((kept : List Parts) (r : LocatedParts) → kept_of c.keep flat (gives kept) → IsLocation kept plan r → MayPutOut v c r)
-        → IsDone (work_of v files c) ↔ HasNoFact c.keep flat plan
-    work-done verb.Show same never may = absurd never
-    work-done verb.Check same never may = absurd never
-    work-done verb.Link same never may = absurd never
-    work-done verb.Make same never may = absurd never
-    work-done verb.Help same never may = absurd never
-    work-done verb.Version same never may = absurd never
-    work-done verb.FromTxt same never may = absurd never
-    work-done verb.Locate same is may = put-done absolute_file
-        (λ kept r keeps there. write-some c.out (written (absolute_of r)) (sound.options.out (ap makes_file same)))
-    work-done verb.Txt same is may = put-done txt_file (λ kept r keeps there. write-some c.out (txt_text r.runs) (sound.options.out (ap makes_file same)))
-    work-done verb.Dump same is may = put-done printed_image (λ kept r keeps there. (printed (image_text r), refl))
-    work-done verb.Map same is may = map-done
-    work-done verb.Addr same is may = put-done printed_hit (λ kept r keeps there. (printed (hit_text r.maus (hit_at r.debug c.at)), refl))
-    work-done verb.Bin same is may = put-done raw_file (λ kept r keeps there. raw-done (sound.options.out (ap makes_file same)) r (may kept r keeps there))
-
--- ---- the answer
-
-done-by : (files : List NamedFile) (call : Call) (known : call.old.files ≡ Some files) (r : Result Command WordsStop) (c : Command) → r ≡ Ok c
-    → AnswersBy r call outcome.Done → IsDone (work_of c.verb files c)
-done-by files call known r c same is =
-    let (output, is_output, puts) = subst (λ (x : Result Command WordsStop). AnswersBy x call outcome.Done) same is in
-    (output, over-files call files known (reads_files c.verb) (λ fs. work_of c.verb fs c (gives output)) is_output.cause)
+  work-exact : (v : Verb) → IsLocating v
+      → ((kept : List Parts) (r : LocatedParts) → kept_of c.keep flat (gives kept) → IsLocation kept plan r → MayPutOut v c r)
+      → IsExact (work_of v files c)
+  work-exact verb.Show never may = absurd never
+  work-exact verb.Check never may = absurd never
+  work-exact verb.Link never may = absurd never
+  work-exact verb.Make never may = absurd never
+  work-exact verb.Help never may = absurd never
+  work-exact verb.Version never may = absurd never
+  work-exact verb.FromTxt never may = absurd never
+  work-exact verb.Locate is may = exactly (λ ms plan. absolute_file) (λ kept r keeps there s ends. module-never c.out (absolute_of r) s ends)
+  work-exact verb.Txt is may = exactly (λ ms plan. txt_file) (λ kept r keeps there s ends. writes-never c.out (txt_text r.runs) s ends)
+  work-exact verb.Dump is may = exactly (λ ms plan. printed_image) (λ kept r keeps there s ends. ends)
+  work-exact verb.Map is may = exactly printed_map (λ kept r keeps there s ends. map-never accepts.modules plan c r s ends)
+  work-exact verb.Addr is may = exactly (λ ms plan. printed_hit) (λ kept r keeps there s ends. ends)
+  work-exact verb.Bin is may = exactly (λ ms plan. raw_file) (λ kept r keeps there s ends. raw-never c r (may kept r keeps there) s ends)
 
 -- Locating is done exactly where no fact stands against the flat list.
 pub locating-done : LocatingIsDone
 locating-done words files call result c plan flat is calm named locating accepts may =
-    let sound = words-sound words c named in
-    let bytes = of-files call files calm.known HoldBytes calm.revealed.bytes in
-    let exactly = work-done files c sound plan flat bytes accepts locating c.verb refl locating may in (
-      (λ same. exactly.0 (done-by files call calm.known (answer_of words) c named (subst (λ (o : Outcome). Answers words call o) same is))),
-      (λ none. let (output, comes) = exactly.1 none in
-          answers-determined words files call result (gives output) is calm
-          (subst (λ (r : Result Command WordsStop). work_by r files (gives output)) (sym named) comes)),
+    let bytes : HoldBytes files = of-files call files calm.known HoldBytes calm.revealed.bytes in
+    let answer = answers-for files call c words result is named in
+    let exact = work-exact files c plan flat bytes accepts c.verb locating may in (
+      (λ done. let came = done-comes files call c result answer calm done in exact.0 came.output came.comes),
+      (λ none. never-done files call c result answer calm (exact.1 none)),
     )

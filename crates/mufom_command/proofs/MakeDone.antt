@@ -19,7 +19,7 @@ use Rattle.mufom_command.specs.declared.outcome.Outcome.{Outcome}
 use Rattle.mufom_command.specs.declared.outcome.Outcome.TheVariants as outcome
 use Rattle.mufom_command.specs.Commands.{located_unless, making, work_of}
 use Rattle.mufom_command.specs.MakeLaws.{LacksWritesOrMemory, MakeIsDone}
-use Rattle.mufom_command.specs.Run.{AnswersBy, AnswersFor, Call, IsReached, IsStopped, OverFiles}
+use Rattle.mufom_command.specs.Run.{AnswersBy, AnswersFor, Call, IsInputReached, IsStopped, OverFiles}
 use Rattle.mufom_command.specs.Stop.{Stop}
 
 -- the work of `make` has no end without an output
@@ -39,7 +39,7 @@ module _ (c : Command) (sound : IsSound c) (makes : c.verb ≡ verb.Make) where
       let bounds = sound.options.count (ap makes_modules makes) in
       never-stops [] c bounds.0 bounds.1 h.stop (all [])
 
-  never-reached : (files : Option (List NamedFile)) (at : Input) → IsReached files c at → ⊥
+  never-reached : (files : Option (List NamedFile)) (at : Input) → IsInputReached files c at → ⊥
   never-reached files input.Plan h = by_plan c.plan (sound.options.no_plan (ap reads_plan makes)) h where
     by_plan : (o : Option (List ℕ)) → o ≡ None → IsSome o → ⊥
     by_plan None same some = cc some

@@ -20,7 +20,8 @@ use Rattle.mufom_command.specs.declared.outcome.Outcome.{Outcome}
 use Rattle.mufom_command.specs.declared.outcome.Outcome.TheVariants as outcome
 use Rattle.mufom_command.specs.Commands.{helping, located, making, maus_of, printed}
 use Rattle.mufom_command.specs.Making.{IsPrinted}
-use Rattle.mufom_command.specs.Run.{Does, IsPrintedAs, MayLackMemory, NeedsNoMemory, OverFiles, inputs_of}
+use Rattle.mufom_command.specs.Run.{OverFiles, inputs_of}
+use Rattle.mufom_command.specs.RunParts.{Does, IsPrintedAs, MayLackMemory, NeedsNoMemory}
 use Rattle.mufom_command.specs.WorkEnds.{EndsAt}
 use Rattle.mufom_command.proofs.DoesLaws.{ended-does, lacking-does, printed-does}
 use Rattle.mufom_command.proofs.InputLaws.{call_between}

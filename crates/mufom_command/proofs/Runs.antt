@@ -51,8 +51,9 @@ use Rattle.mufom_titxt.specs.declared.refusal.TxtRefusal.{TxtRefusal}
 use Rattle.mufom_titxt.specs.TextModules.{text_parts}
 use Rattle.mufom_titxt.specs.Texts.{txt_cells, txt_refusal}
 use Rattle.mufom_titxt.specs.Written.{txt_text}
-use Rattle.mufom_command.specs.Commands.{Output, printed, made, form_of, prints, writes, file_in, kept_of, kept_unless, plan_by, plan_in, modules_in}
-use Rattle.mufom_command.specs.Commands.{maus_of, located, located_unless, linked_file, locating, absolute_file, printed_hit, printed_image}
+use Rattle.mufom_command.specs.Commands.{Output, printed, made, form_of, prints, writes, writes_module, file_in, kept_of, kept_unless, plan_by}
+use Rattle.mufom_command.specs.Commands.{plan_in, modules_in, maus_of, located, located_unless, linked_file, locating, absolute_file, printed_hit}
+use Rattle.mufom_command.specs.Commands.{printed_image}
 use Rattle.mufom_command.specs.Commands.{printed_map, raw_file, reading_text, runs_of_text, runs_unless, text_in, txt_file, unless_past_limit}
 use Rattle.mufom_command.specs.Commands.{unless_too_long, listing, linking, linking_of, work_of, work_by, run_of}
 use Rattle.mufom_command.specs.Run.{AnswersBy, AnswersFor, Call, IsForced, OverFiles, outcome_of, stop_outcome, stop_answer}
@@ -102,6 +103,9 @@ writes-single : (name : Option (List ℕ)) (bytes : List ℕ) → IsSingle (writ
 writes-single None bytes = nowhere-single
 writes-single (Some name) bytes = sure-single (made name bytes)
 
+writes_module-single : (name : Option (List ℕ)) (m : Parts) → IsSingle (writes_module name m)
+writes_module-single name m x y (held, is_x) (again, is_y) = writes-single name (written m) x y is_x is_y
+
 -- ---- a file
 
 one-file : (files : List NamedFile) (name : List ℕ) → IsSingle (file_in files name)
@@ -143,8 +147,8 @@ kept_of-single (Some name) ms = by (has_name (public_names ms) name) where
 module _ (c : Command) (plan : Plan) (flat : List Parts) where
   pub linked_file-single : IsSingle (linked_file c plan flat)
   linked_file-single =
-      then-single (with_stops link_fact (joined c.name flat)) (λ M. writes c.out (written M))
-      (stops-single link_fact (joined c.name flat) (joined-single c.name flat)) (λ M. writes-single c.out (written M))
+      then-single (with_stops link_fact (joined c.name flat)) (λ M. writes_module c.out M)
+      (stops-single link_fact (joined c.name flat) (joined-single c.name flat)) (writes_module-single c.out)
 
   pub locating-single : (output : Command → LocatedParts → Work Stop Output) → ((r : LocatedParts) → IsSingle (output c r))
       → IsSingle (locating output c plan flat)
@@ -180,10 +184,10 @@ runs_of_text-single maus text = by (txt_refusal text (8 * maus)) where
 
 reading_text-single : (files : List NamedFile) (c : Command) → IsSingle (reading_text files c)
 reading_text-single files c =
-    then-single (text_in files c.files) (λ text. runs_of_text c.maus text >>= λ runs. writes c.out (written (text_parts c.maus runs)))
+    then-single (text_in files c.files) (λ text. runs_of_text c.maus text >>= λ runs. writes_module c.out (text_parts c.maus runs))
     (text_in-single files c.files) λ text.
-    then-single (runs_of_text c.maus text) (λ runs. writes c.out (written (text_parts c.maus runs))) (runs_of_text-single c.maus text) λ runs.
-    writes-single c.out (written (text_parts c.maus runs))
+    then-single (runs_of_text c.maus text) (λ runs. writes_module c.out (text_parts c.maus runs)) (runs_of_text-single c.maus text) λ runs.
+    writes_module-single c.out (text_parts c.maus runs)
 
 printed_map-single : (c : Command) (ms : List Parts) (plan : Plan) (r : LocatedParts) → IsSingle (printed_map ms plan c r)
 printed_map-single c ms plan r =
@@ -216,7 +220,7 @@ module _ (files : List NamedFile) (bytes : HoldBytes files) (c : Command) where
   work_of-single verb.Check = listing-single check_text
   work_of-single verb.Link = linking-single linked_file (linked_file-single c)
   work_of-single verb.Locate = linking-single (locating absolute_file)
-      (λ plan flat. locating-single c plan flat absolute_file (λ r. writes-single c.out (written (absolute_of r))))
+      (λ plan flat. locating-single c plan flat absolute_file (λ r. writes_module-single c.out (absolute_of r)))
   work_of-single verb.Dump = linking-single (locating printed_image)
       (λ plan flat. locating-single c plan flat printed_image (λ r. sure-single (printed (image_text r))))
   work_of-single verb.Map = linking_of-single (λ ms c plan flat. locating (printed_map ms plan) c plan flat)

@@ -6,7 +6,6 @@ use Rattle.mufom_words.specs.declared.command.Verb.{Verb}
 use Rattle.mufom_words.specs.declared.command.Verb.TheVariants as verb
 use Rattle.mufom_words.specs.Tree.{tree_of}
 use Rattle.mufom_module.specs.declared.module.Parts.{Parts}
-use Rattle.mufom_module.specs.Written.{written}
 use Rattle.mufom_plan.specs.declared.plan.Plan.{Plan}
 use Rattle.mufom_meaning.specs.declared.located.LocatedParts.{LocatedParts}
 use Rattle.mufom_meaning.specs.Joined.{IsJoined}
@@ -25,7 +24,7 @@ use Rattle.mufom_groups.specs.Work.{gives, stops, Work, ◌>>=◌, nowhere, one_
 use Rattle.mufom_groups.proofs.Singles.{linked-single}
 use Rattle.mufom_groups.proofs.Works.{stops-single, sure-single}
 use Rattle.mufom_command.specs.Stop.{Stop, keep_unknown, link_fact}
-use Rattle.mufom_command.specs.Commands.{Output, writes, kept_of, kept_unless, plan_in, modules_in, located, rest_of_link, linked_file, locating}
+use Rattle.mufom_command.specs.Commands.{Output, writes_module, kept_of, kept_unless, plan_in, modules_in, located, rest_of_link, linked_file, locating}
 use Rattle.mufom_command.specs.Commands.{absolute_file, printed_hit, printed_image, raw_file, txt_file, linking, linking_of, mapping, printed_map}
 use Rattle.mufom_command.specs.Commands.{prints, work_of}
 use Rattle.mufom_command.specs.RunLaws.{CameByStages, IsLinking, IsSameWork, LeadsTo, MapsAreAlike, MapsOfStages, PutOutAlike, map_with, RunsOfStages}
@@ -137,8 +136,8 @@ module _ (c : Command) (plan : Plan) (ms leaves : List Parts) (means : MeansTheS
   put_out-alike verb.Show = same-work nowhere
   put_out-alike verb.Check = same-work nowhere
   put_out-alike verb.Link =
-      then-same (with_stops link_fact (joined c.name ms)) (with_stops link_fact (joined c.name leaves)) (λ M. writes c.out (written M))
-      (λ M. writes c.out (written M)) joined-same (λ M. same-work (writes c.out (written M)))
+      then-same (with_stops link_fact (joined c.name ms)) (with_stops link_fact (joined c.name leaves)) (λ M. writes_module c.out M)
+      (λ M. writes_module c.out M) joined-same (λ M. same-work (writes_module c.out M))
   put_out-alike verb.Locate = of_location absolute_file
   put_out-alike verb.Dump = of_location printed_image
   put_out-alike verb.Make = same-work nowhere

@@ -24,15 +24,17 @@ use Rattle.mufom_command.specs.declared.outcome.Refusal.TheVariants as refusal
 use Rattle.mufom_command.specs.Stop.{Stop, past_limit, text_refused}
 use Rattle.mufom_command.specs.Inputs.{ComeTo, accepted}
 use Rattle.mufom_command.specs.FilesRead.{FileHas}
-use Rattle.mufom_command.specs.Commands.{Output, made, plan_in, reading_text, runs_of_text, runs_unless, text_in, unless_past_limit, writes}
+use Rattle.mufom_command.specs.Commands.{IsHeld, Output, made, plan_in, reading_text, runs_of_text, runs_unless, text_in, unless_past_limit}
+use Rattle.mufom_command.specs.Commands.{writes_module}
 use Rattle.mufom_command.specs.InputsRead.{IsEnoughOf, ReadingStops, TextStops}
 use Rattle.mufom_command.specs.Making.{IsMadeAlone}
-use Rattle.mufom_command.specs.Run.{Call, Does, IsOpenedCount, OpensInputs, inputs_of}
+use Rattle.mufom_command.specs.Run.{Call, IsOpenedCount, OpensInputs, inputs_of}
+use Rattle.mufom_command.specs.RunParts.{Does}
 use Rattle.mufom_command.specs.WorkEnds.{EndsAt}
 use Rattle.mufom_command.proofs.DoesLaws.{ended-does, lacking-does, made-does, stopped-does}
 use Rattle.mufom_command.proofs.InputLaws.{call_between, none_accepted}
 use Rattle.mufom_command.proofs.InputsLaws.{over-map}
-use Rattle.mufom_command.proofs.WorkLaws.{writes-gives}
+use Rattle.mufom_command.proofs.WorkLaws.{module-gives}
 
 -- ---- the bytes of the text
 
@@ -196,10 +198,10 @@ module _ (c : Command) (name : List ℕ) (no_plan : c.plan ≡ None) (one : c.fi
 
     -- the file of its module was made
     pub text-makes : (new : Meaning) (now : Faults) (object : Parts) → (runs : List Run) × runs_of_text c.maus text (gives runs)
-        × (object ≡ text_parts c.maus runs) → IsSome c.out → (result : Outcome)
+        × (object ≡ text_parts c.maus runs) → IsHeld object → IsSome c.out → (result : Outcome)
         → ((file : List ℕ) → c.out ≡ Some file → IsMadeAlone file (written object) (call_between mid new between now) result)
         → Does c (λ files. reading_text files c) (call_between old new before now) result
-    text-makes new now object (runs, rows, same) some result makes =
+    text-makes new now object (runs, rows, same) held some result makes =
         made-does c (λ files. reading_text files c) old mid before between only all-opened new now (written object)
         (λ file named. over-map of_files (λ fs. text_in fs c.files (gives text)) (λ fs. reading_text fs c (gives (made file (written object)))) old.files
         (λ fs there. (
@@ -208,8 +210,8 @@ module _ (c : Command) (name : List ℕ) (no_plan : c.plan ≡ None) (one : c.fi
           (
             runs,
             rows,
-            subst (λ (m : Parts). writes c.out (written (text_parts c.maus runs)) (gives (made file (written m)))) (sym same)
-                (writes-gives c file (written (text_parts c.maus runs)) named),
+            subst (λ (m : Parts). writes_module c.out (text_parts c.maus runs) (gives (made file (written m)))) (sym same)
+                (module-gives c file (text_parts c.maus runs) (subst IsHeld same held) named),
           ),
         )) is-read)
         some result makes

@@ -15,7 +15,8 @@ use Rattle.mufom_command.specs.RunLaws.{IsLocating}
 use Rattle.mufom_groups.specs.Linked.{linked_module}
 use Rattle.mufom_groups.specs.Work.{Work, gives, stop_at, stops, with_stops}
 use Rattle.mufom_command.specs.Stop.{Stop, link_fact, raw_too_long}
-use Rattle.mufom_command.specs.Commands.{Output, printed, made, writes, plan_in, modules_in, linked_file, locating, absolute_file, printed_hit}
+use Rattle.mufom_command.specs.Commands.{IsHeld, Output, printed, made, writes, writes_module, plan_in, modules_in, linked_file, locating, absolute_file}
+use Rattle.mufom_command.specs.Commands.{printed_hit}
 use Rattle.mufom_command.specs.Commands.{printed_image, printed_map, raw_file, txt_file, unless_too_long, listing, linking, linking_of, work_of}
 use Rattle.mufom_command.specs.InputsRead.{inputs_in}
 use Rattle.mufom_command.specs.Text.{Text}
@@ -60,20 +61,25 @@ inputs-modules files c plan ms (p, planned, (list, read, same)) =
 writes-named : (name : List ℕ) (out : Option (List ℕ)) (bytes : List ℕ) → out ≡ Some name → writes out bytes (gives (made name bytes))
 writes-named name out bytes named = subst (λ (o : Option (List ℕ)). writes o bytes (gives (made name bytes))) (sym named) refl
 
+-- a module that is held is written
+pub module-gives : (c : Command) (name : List ℕ) (m : Parts) → IsHeld m → c.out ≡ Some name → writes_module c.out m (gives (made name (written m)))
+module-gives c name m held named = (held, writes-named name c.out (written m) named)
+
 module _ (c : Command) (plan : Plan) (ms : List Parts) (files : List NamedFile) (is : inputs_in files c (gives (plan, ms))) where
   -- a text of the modules
   pub listing-gives : (text : List Parts → Text) → listing text files c (gives (printed (text ms)))
   listing-gives text = (ms, inputs-modules files c plan ms is, refl)
 
   -- the file of the link
-  pub link-gives : (M : Parts) (name : List ℕ) → linked_module c ms (gives M) → c.out ≡ Some name → linking linked_file files c (gives (made name (written M)))
-  link-gives M name (flat, is_linked, joined) named = (
+  pub link-gives : (M : Parts) (name : List ℕ) → linked_module c ms (gives M) → IsHeld M → c.out ≡ Some name
+      → linking linked_file files c (gives (made name (written M)))
+  link-gives M name (flat, is_linked, joined) held named = (
     plan,
     inputs-planned files c plan ms is,
     (
       ms,
       inputs-modules files c plan ms is,
-      (flat, is_linked, (M, joined, writes-named name c.out (written M) named)),
+      (flat, is_linked, (M, joined, module-gives c name M held named)),
     ),
   )
 

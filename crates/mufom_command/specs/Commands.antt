@@ -1,4 +1,4 @@
--- The table of commands: what the work of each is, from its inputs to its output. A run comes to what the words and the files state, and
+-- The table of commands: what the work of each is, from its inputs to its output. A run comes to what the arguments and the files state, and
 -- to nothing else.
 use Rattle.std.specs.Prelude.{◌≡◌, ℕ, ◌*◌, Bool, true, false, List, [], ◌∷◌, flat_map, length, nat_lt, not, unwrap_or, Option, Some, None, Result, Ok}
 use Rattle.std.specs.Prelude.{Err, if◌then◌else◌}
@@ -29,6 +29,7 @@ use Rattle.mufom_groups.specs.Linked.{first_name, joined, linked}
 use Rattle.mufom_meaning.specs.Flat.{public_names}
 use Rattle.mufom_meaning.specs.Joined.{IsJoined}
 use Rattle.mufom_module.specs.Defects.{IsValid}
+use Rattle.mufom_module.specs.Made.{IsMade}
 use Rattle.mufom_plan.specs.Names.{has_name}
 use Rattle.mufom_prune.specs.Pruned.{IsPruned}
 use Rattle.mufom_command.specs.Stop.{Stop, words_refused, plan_refused, file_refused, past_limit, link_fact, keep_unknown, locate_fact, raw_too_long}
@@ -62,6 +63,21 @@ prints text = sure (printed text)
 abbrev pub writes : Option (List ℕ) → List ℕ → Work Stop Output
 writes None bytes = nowhere
 writes (Some name) bytes = sure (made name bytes)
+
+-- The module is one that the program can hold: it has no defect, and its numbers and strings are such as their types hold. This is true of
+-- each value of the type `Module`.
+pub record IsHeld (m : Parts) : Type 0 where
+  pub valid : IsValid m
+  pub made : IsMade m
+
+-- The written form of a module that is held goes into the file that `-o` names. A later run reads the module from this file, if the file is
+-- not too long.
+--
+-- Of a module that can't be held the work comes to nothing, so a run that would have to write it is not stated to be complete. No run comes to
+-- one: the program writes values of the type `Module` alone, and the limits of a run bound the weights of the link of its files and of the
+-- absolute module of their location, so that there are such values.
+abbrev pub writes_module : Option (List ℕ) → Parts → Work Stop Output
+writes_module out m reached = IsHeld m × writes out (written m) reached
 
 -- ---- inputs
 
@@ -141,7 +157,7 @@ kept_of (Some name) ms = kept_unless (has_name (public_names ms) name) name ms
 abbrev pub linked_file : Command → Plan → List Parts → Work Stop Output
 linked_file c plan ms = do
   M ← with_stops link_fact (joined c.name ms)
-  writes c.out (written M)
+  writes_module c.out M
 
 -- what is put out of the location of what is kept of it
 abbrev pub locating : (Command → LocatedParts → Work Stop Output) → Command → Plan → List Parts → Work Stop Output
@@ -154,7 +170,7 @@ locating output c plan ms = do
 
 -- the file of its absolute module
 abbrev pub absolute_file : Command → LocatedParts → Work Stop Output
-absolute_file c r = writes c.out (written (absolute_of r))
+absolute_file c r = writes_module c.out (absolute_of r)
 
 -- the text of its image
 abbrev pub printed_image : Command → LocatedParts → Work Stop Output
@@ -223,7 +239,7 @@ abbrev pub reading_text : List NamedFile → Command → Work Stop Output
 reading_text files c = do
   text ← text_in files c.files
   runs ← runs_of_text c.maus text
-  writes c.out (written (text_parts c.maus runs))
+  writes_module c.out (text_parts c.maus runs)
 
 -- The generated modules are located, and the summary of their location is printed. No file is read.
 abbrev pub making : List NamedFile → Command → Work Stop Output
@@ -258,11 +274,11 @@ work_of verb.FromTxt = reading_text
 work_of verb.Help = helping
 work_of verb.Version = helping
 
--- the work of the words that give this
+-- the work of the arguments that give this
 abbrev pub work_by : Result Command WordsStop → List NamedFile → Work Stop Output
 work_by (Ok c) files = work_of c.verb files c
 work_by (Err s) files = stop_at (words_refused s)
 
--- What a run with these words over these files comes to.
+-- What a run with these arguments over these files comes to.
 abbrev pub run_of : List (List ℕ) → List NamedFile → Work Stop Output
 run_of words files = work_by (answer_of words) files

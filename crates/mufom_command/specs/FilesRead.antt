@@ -1,4 +1,4 @@
--- What opening and reading files answers.
+-- What opening and reading files returns.
 use Rattle.std.specs.Prelude.{◌≡◌, ℕ, ◌+◌, ◌≤◌, Bool, List, length, take, Option, Some, IfSome, OnSome}
 use Rattle.mufom_host.specs.World.{NamedFile, Faults, GrowsBy, Rose, file_named}
 use Rattle.mufom_module.specs.declared.module.Parts.{Parts}
@@ -21,7 +21,7 @@ FileHas name files P = IfSome files (λ fs. (bytes : List ℕ) × (file_named na
 abbrev pub HasModule : Bool → ℕ → Parts → ℕ → List ℕ → Type 0
 HasModule reads_debug limit m count bytes = IsModule reads_debug bytes m × (count ≡ length bytes) × (length bytes ≤ limit)
 
--- the answer where the file with this number was not read
+-- the outcome where the file with this number was not read
 abbrev pub outcome_of_source_stop : ℕ → SourceStop → Outcome
 outcome_of_source_stop number (stop.Refused r) = outcome.Refused (refusal.Read number r)
 outcome_of_source_stop number stop.Limit = outcome.Refused (refusal.InputLimit number)
@@ -47,7 +47,7 @@ FilesStop reads_debug names call (outcome.ReadFault (input.File n)) =
 FilesStop reads_debug names call outcome.NoMemory = Unit {0}
 FilesStop reads_debug names call _ = ⊥
 
--- How many of the files were opened: up to the one that the answer names; where no memory was found, any number.
+-- How many of the files were opened: up to the one that the outcome names; where memory ran out, any number.
 abbrev pub IsFileCount : Outcome → ℕ → Type 0
 IsFileCount (outcome.Refused (refusal.Read n r)) count = count ≡ n + 1
 IsFileCount (outcome.Refused (refusal.InputLimit n)) count = count ≡ n + 1

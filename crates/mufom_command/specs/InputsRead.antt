@@ -1,4 +1,4 @@
--- What reading the inputs of a command answers: its plan, and then the modules of its files; or its text.
+-- What reading the inputs of a command returns: its plan, and then the modules of its files; or its text.
 use Rattle.std.specs.Prelude.{◌≡◌, ◌≢◌, ◌⊎◌, ℕ, ◌<◌, List, [], ◌∷◌, ◌++◌, length, Option, Result, Err, IfSome, IsSome, true}
 use Rattle.mufom_host.specs.World.{NamedFile, Rose}
 use Rattle.mufom_module.specs.declared.module.Parts.{Parts}
@@ -13,7 +13,7 @@ use Rattle.mufom_command.specs.declared.outcome.Outcome.TheVariants as outcome
 use Rattle.mufom_command.specs.declared.outcome.Refusal.TheVariants as refusal
 use Rattle.mufom_command.specs.Stop.{Stop, past_limit, plan_refused}
 use Rattle.mufom_command.specs.Commands.{modules_in, plan_in, text_in}
-use Rattle.mufom_command.specs.Run.{Call, IsReached, IsStopped}
+use Rattle.mufom_command.specs.Run.{Call, IsInputReached, IsStopped}
 
 -- how many bytes a plan has at most
 abbrev pub most_plan_bytes : ℕ
@@ -30,7 +30,7 @@ inputs_in files c = do
   ms ← modules_in files c
   sure (plan, ms)
 
--- the answer to bytes that are no plan, or out of memory
+-- the outcome to bytes that are no plan, or out of memory
 abbrev pub IsPlanAnswer : Result Plan PlanRefusal → Outcome → Type 0
 IsPlanAnswer plan (outcome.Refused (refusal.Plan r)) = (plan ≡ Err r) × (r ≢ plan_refusal.NoMemory)
 IsPlanAnswer plan outcome.NoMemory = Unit {0}
@@ -47,7 +47,7 @@ PlanStops name call _ = ⊥
 -- Why not all was read of what a command reads, where reading it is this work.
 abbrev pub ReadingStops : {A : Type 0} → (List NamedFile → Work Stop A) → Command → Call → Outcome → Type 0
 ReadingStops reading c call (outcome.Refused r) = IsStopped true reading call.old.files (outcome.Refused r)
-ReadingStops reading c call (outcome.ReadFault at) = Rose call.before.reads call.now.reads × IsReached call.old.files c at
+ReadingStops reading c call (outcome.ReadFault at) = Rose call.before.reads call.now.reads × IsInputReached call.old.files c at
 ReadingStops reading c call outcome.NoMemory = Unit {0}
 ReadingStops reading c call _ = ⊥
 

@@ -6,6 +6,7 @@ pub mod LocateRefusals
 pub mod FlatFiles
 pub mod Commands
 pub mod Run
+pub mod RunParts
 pub mod RunLaws
 pub mod FilesRead
 pub mod InputsRead

@@ -8,13 +8,13 @@ use Rattle.mufom_command.specs.declared.outcome.Outcome.{Outcome}
 use Rattle.mufom_command.specs.declared.outcome.Outcome.TheVariants as outcome
 use Rattle.mufom_command.specs.Run.{Answers, Call}
 
--- a write failed in the call, or there was no memory
+-- a write failed in the call, or memory ran out
 abbrev pub LacksWritesOrMemory : Call → Outcome → Type 0
 LacksWritesOrMemory call outcome.WriteFault = Rose call.before.writes call.now.writes
 LacksWritesOrMemory call outcome.NoMemory = Unit {0}
 LacksWritesOrMemory call _ = ⊥
 
--- A run of `make` is done, unless a write failed or there was no memory. The arguments of `make` that are accepted give 1 to 65,536 modules,
+-- A run of `make` is done, unless a write failed or memory ran out. The arguments of `make` that are accepted give 1 to 65,536 modules,
 -- so this is so for each of these numbers.
 abbrev pub MakeIsDone : Type 0
 MakeIsDone = (words : List (List ℕ)) (call : Call) (result : Outcome) (c : Command) → Answers words call result → answer_of words ≡ Ok c → c.verb ≡ verb.Make

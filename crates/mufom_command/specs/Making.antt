@@ -1,4 +1,4 @@
--- What printing a text and making a file have done, with the answer of the run.
+-- What printing a text and making a file have done, with the outcome of the run.
 use Rattle.std.specs.Prelude.{ℕ, ◌<◌, ◌≤◌, List, length}
 use Rattle.mufom_host.specs.World.{KeepsAllButFile, KeepsAllButWrites, Rose}
 use Rattle.mufom_meaning.specs.declared.located.Run.{Run}

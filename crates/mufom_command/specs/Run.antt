@@ -1,4 +1,4 @@
--- What the contract of the top call states: the answer and its cause, what was put out, which inputs were opened, and which error line was
+-- What the contract of the top call states: the outcome and its cause, what was put out, which inputs were opened, and which error line was
 -- printed.
 use Rattle.std.specs.Prelude.{◌≡◌, ◌≢◌, ◌⊎◌, ℕ, ◌+◌, ◌<◌, ◌≤◌, Bool, true, false, not, List, [], ◌∷◌, ◌++◌, length, take, Option, Some, None, Result}
 use Rattle.std.specs.Prelude.{Ok, Err, IfSome, IsSome, OnSome, option_to_list}
@@ -7,7 +7,7 @@ use Rattle.mufom_module.specs.declared.module.Parts.{Parts}
 use Rattle.mufom_words.specs.declared.command.Command.{Command}
 use Rattle.mufom_words.specs.declared.stop.WordsStop.{WordsStop}
 use Rattle.mufom_words.specs.declared.stop.WordsStop.TheVariants as words_stop
-use Rattle.mufom_words.specs.Answer.{answer_of}
+use Rattle.mufom_words.specs.Answer.{PrintsHelp, answer_of}
 use Rattle.mufom_words.specs.Options.{reads_files}
 use Rattle.mufom_plan.specs.declared.plan.Plan.{Plan}
 use Rattle.mufom_plan.specs.declared.refusal.PlanRefusal.TheVariants as plan_refusal
@@ -27,7 +27,7 @@ use Rattle.mufom_command.specs.Stop.{Stop, words_refused, plan_refused, file_ref
 use Rattle.mufom_command.specs.Stop.{text_refused}
 use Rattle.mufom_command.specs.Commands.{Output, printed, made, plan_in, work_of, run_of}
 
--- What stood outside before a call and after it, and how often calls of the outside had failed.
+-- What was outside before a call and after it, and how often calls of the outside had failed.
 pub record Call : Type 0 where
   pub old : Meaning
   pub new : Meaning
@@ -38,9 +38,9 @@ pub record Call : Type 0 where
 abbrev pub call_of : {W : Type 0} → (W → Meaning) → (W → Faults) → W → W → Call
 call_of meaning faults old new = record { old = meaning old; new = meaning new; before = faults old; now = faults new }
 
--- ---- the answer that a run comes to
+-- ---- the outcome that a run comes to
 
--- the answer to words that are no command
+-- the outcome of arguments that are not a command
 abbrev pub stop_answer : WordsStop → Outcome
 stop_answer (words_stop.Usage f) = outcome.Usage f
 stop_answer (words_stop.TooManyFiles count) = outcome.Refused (refusal.TooManyFiles count)
@@ -89,15 +89,15 @@ abbrev pub file_name : Output → Option (List ℕ)
 file_name (printed text) = None
 file_name (made name bytes) = Some name
 
--- This is the output to which the work of the command comes. A file has the name that the words give.
+-- This is the output to which the work of the command comes. A file has the name that the arguments give.
 pub record IsOutput (c : Command) (work : List NamedFile → Work Stop Output) (files : Option (List NamedFile)) (output : Output) : Type 0 where
   pub place : file_name output ≡ c.out
   pub cause : OverFiles (reads_files c.verb) files (λ fs. work fs (gives output))
 
 -- the input is one of the command, and each that is read before it is accepted
-abbrev pub IsReached : Option (List NamedFile) → Command → Input → Type 0
-IsReached files c input.Plan = IsSome c.plan
-IsReached files c (input.File n) = (n < length c.files)
+abbrev pub IsInputReached : Option (List NamedFile) → Command → Input → Type 0
+IsInputReached files c input.Plan = IsSome c.plan
+IsInputReached files c (input.File n) = (n < length c.files)
     × IfSome files (λ fs. ((plan : Plan) × plan_in fs c.plan (gives plan)) × ((ms : List Parts) × ComeTo (not c.no_debug) fs (take n c.files) (accepted ms)))
 
 -- ---- what was put out
@@ -152,19 +152,19 @@ abbrev pub PutsOutPrefix : Output → Call → Type 0
 PutsOutPrefix (printed text) call = BeginsText text call
 PutsOutPrefix (made name bytes) call = BeginsFile name bytes call
 
--- ---- the clauses
+-- ---- the parts of the contract
 
--- The answer to a command whose work this is has its cause, and so much was put out.
+-- The outcome of a command whose work this is has its cause, and exactly its output was made.
 abbrev pub AnswersFor : Command → (List NamedFile → Work Stop Output) → Call → Outcome → Type 0
 AnswersFor c work call outcome.Done = (output : Output) × IsOutput c work call.old.files output × PutsOut output call
 AnswersFor c work call (outcome.Refused r) = IsStopped (reads_files c.verb) work call.old.files (outcome.Refused r) × PutsOutNothing call
 AnswersFor c work call (outcome.Usage f) = ⊥
-AnswersFor c work call (outcome.ReadFault at) = Rose call.before.reads call.now.reads × IsReached call.old.files c at × PutsOutNothing call
+AnswersFor c work call (outcome.ReadFault at) = Rose call.before.reads call.now.reads × IsInputReached call.old.files c at × PutsOutNothing call
 AnswersFor c work call outcome.WriteFault =
     Rose call.before.writes call.now.writes × ((output : Output) × IsOutput c work call.old.files output × PutsOutPrefix output call)
 AnswersFor c work call outcome.NoMemory = PutsOutNothing call
 
--- words that are no command are answered so, or no memory was found; nothing but the error output was touched
+-- arguments that are not a command have this outcome, or memory ran out; nothing but the error output was touched
 pub record RefusesWords (stop : WordsStop) (call : Call) (result : Outcome) : Type 0 where
   pub is : (result ≡ stop_answer stop) ⊎ (result ≡ outcome.NoMemory)
   pub stays : call.new ≡ record call.old { err = call.new.err }
@@ -173,11 +173,11 @@ abbrev pub AnswersBy : Result Command WordsStop → Call → Outcome → Type 0
 AnswersBy (Ok c) call result = AnswersFor c (λ files. work_of c.verb files c) call result
 AnswersBy (Err s) call result = RefusesWords s call result
 
--- Each answer has its cause, and so much was put out.
+-- Every outcome has its cause, and exactly its output was made.
 abbrev pub Answers : List (List ℕ) → Call → Outcome → Type 0
 Answers words call result = AnswersBy (answer_of words) call result
 
--- no memory was found, or a call of the outside failed
+-- memory ran out, or a call of the outside failed
 abbrev pub IsForced : Call → Outcome → Type 0
 IsForced call outcome.Done = ⊥
 IsForced call (outcome.Refused r) = ⊥
@@ -186,7 +186,7 @@ IsForced call (outcome.ReadFault at) = Rose call.before.reads call.now.reads
 IsForced call outcome.WriteFault = Rose call.before.writes call.now.writes
 IsForced call outcome.NoMemory = Unit {0}
 
--- What the words and the files come to is the answer, unless it is forced.
+-- What the arguments and the files come to is the outcome, unless it is forced.
 abbrev pub IsComplete : List (List ℕ) → Call → Outcome → Type 0
 IsComplete words call result =
     IfSome call.old.files (λ files. (reached : Reached Stop Output) → run_of words files reached → (result ≡ outcome_of reached) ⊎ IsForced call result)
@@ -200,7 +200,7 @@ abbrev pub input_place : Command → Input → ℕ
 input_place c input.Plan = 0
 input_place c (input.File n) = length (option_to_list c.plan) + n
 
--- How many inputs were opened: up to the one that the answer names, and else all; where no memory was found, any number.
+-- How many inputs were opened: up to the one that the outcome names, and else all; where memory ran out, any number.
 abbrev pub IsOpenedCount : Command → Outcome → ℕ → Type 0
 IsOpenedCount c (outcome.Refused (refusal.Plan r)) count = count ≡ input_place c input.Plan + 1
 IsOpenedCount c (outcome.Refused (refusal.Read n r)) count = count ≡ input_place c (input.File n) + 1
@@ -221,15 +221,15 @@ OpensBy (Ok c) call result = OpensInputs c call result
 OpensBy (Err s) call result = call.new.opened ≡ call.old.opened
 
 -- The inputs of the command, its plan and then its files, were opened in their order, and nothing else was.
-abbrev pub Opens : List (List ℕ) → Call → Outcome → Type 0
-Opens words call result = OpensBy (answer_of words) call result
+abbrev pub OpensInOrder : List (List ℕ) → Call → Outcome → Type 0
+OpensInOrder words call result = OpensBy (answer_of words) call result
 
 -- the line is added to the error output, or a prefix of it where printing it failed in this call
 abbrev pub AddsErrorLine : Call → List ℕ → Type 0
 AddsErrorLine call text = GrowsBy call.old.err call.new.err text
     ⊎ (Rose call.before.complaints call.now.complaints × GrowsByPrefix call.old.err call.new.err text)
 
--- Each answer but Done prints its error line.
+-- Every outcome except Done prints its error line.
 abbrev pub PrintsErrorLine : Call → Outcome → Type 0
 PrintsErrorLine call outcome.Done = call.new.err ≡ call.old.err
 PrintsErrorLine call result = AddsErrorLine call (complaint result)
@@ -240,36 +240,19 @@ pub record NoneFalls (call : Call) : Type 0 where
   pub writes : call.before.writes ≤ call.now.writes
   pub complaints : call.before.complaints ≤ call.now.complaints
 
--- these may come where there is no memory at all
-abbrev pub NeedsNoMemory : Outcome → Type 0
-NeedsNoMemory outcome.Done = Unit {0}
-NeedsNoMemory (outcome.Usage f) = Unit {0}
-NeedsNoMemory outcome.WriteFault = Unit {0}
-NeedsNoMemory _ = ⊥
+-- ---- the contract
 
--- ---- parts of a run
-
--- no memory may have been found for the line of these
-abbrev pub MayLackMemory : Outcome → Type 0
-MayLackMemory (outcome.Refused _) = Unit {0}
-MayLackMemory (outcome.ReadFault _) = Unit {0}
-MayLackMemory _ = ⊥
-
--- the answer is this, or that no memory was found for its line
-abbrev pub IsPrintedAs : Outcome → Outcome → Type 0
-IsPrintedAs answer result = (result ≡ answer) ⊎ ((result ≡ outcome.NoMemory) × MayLackMemory answer)
-
--- What a call that does the work of a command has done, before its error line is printed.
-pub record Does (c : Command) (work : List NamedFile → Work Stop Output) (call : Call) (result : Outcome) : Type 0 where
-  pub answers : AnswersFor c work call result
-  pub opens : OpensInputs c call result
-  pub err : call.new.err ≡ call.old.err
+-- What is true of a run with these arguments: of the world before it and after it, and of its outcome.
+pub record IsRun (words : List (List ℕ)) (call : Call) (result : Outcome) : Type 0 where
+  -- Every outcome follows from the arguments and the files, or from a failed call of the host that is counted; exactly its output was made.
+  pub answers : Answers words call result
+  -- The outcome is the one that the arguments and the files determine, unless a call of the host failed or memory ran out. This follows from
+  -- `answers`, since arguments and files that hold bytes come to one end at most (`RunsAreSingle`), and the files of a host hold bytes.
+  pub complete : IsComplete words call result
+  -- The inputs that the arguments name were opened in their order, up to the one that the outcome names, and nothing else was.
+  pub opens : OpensInOrder words call result
+  -- Every outcome except `Done` prints its error line.
+  pub line : PrintsErrorLine call result
   pub counts : NoneFalls call
-
-abbrev pub DoesBy : Result Command WordsStop → Call → Outcome → Type 0
-DoesBy (Ok c) call result = Does c (λ files. work_of c.verb files c) call result
-DoesBy (Err s) call result = ((result ≡ stop_answer s) ⊎ (result ≡ outcome.NoMemory)) × (call.new ≡ call.old) × (call.now ≡ call.before)
-
--- What a call has done that does what the words ask for, before its error line is printed. Where there is no memory it has done nothing.
-abbrev pub DoesWords : List (List ℕ) → Call → Outcome → Type 0
-DoesWords words call result = DoesBy (answer_of words) call result
+  -- The commands that print a text of the program need no memory.
+  pub memory : PrintsHelp words → result ≢ outcome.NoMemory

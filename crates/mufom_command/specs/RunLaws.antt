@@ -1,7 +1,7 @@
--- What holds of runs: each comes to one end, which is the answer where no call failed and memory was found; files that were linked in
--- stages are answered as the list that the stages began with; locating is done where no fact stands; and the files that are made stand
+-- What holds of runs: each comes to one end, which is the outcome where no call failed and memory sufficed; files that were linked in
+-- stages have the outcome of the list that the stages began with; locating is done where no fact holds; and the files that are made stand
 -- for what they were made of.
-use Rattle.std.specs.Prelude.{◌≡◌, ◌≢◌, ◌↔◌, ◌≤◌, ℕ, length, List, [], ◌∷◌, Option, Some, None, Ok, unwrap_or}
+use Rattle.std.specs.Prelude.{◌≡◌, ◌≢◌, ◌↔◌, ◌≤◌, ℕ, true, length, List, [], ◌∷◌, Option, Some, None, Ok, unwrap_or}
 use Rattle.mufom_host.specs.World.{NamedFile, HoldBytes, RevealsTogether, Rose}
 use Rattle.mufom_words.specs.declared.command.Command.{Command}
 use Rattle.mufom_words.specs.declared.command.Verb.{Verb}
@@ -11,6 +11,7 @@ use Rattle.mufom_words.specs.Tree.{tree_of}
 use Rattle.mufom_names.specs.Names.{AreDistinct}
 use Rattle.mufom_module.specs.declared.module.Parts.{Parts}
 use Rattle.mufom_module.specs.Written.{written}
+use Rattle.mufom_read.specs.Judging.{IsModule}
 use Rattle.mufom_plan.specs.declared.plan.Plan.{Plan}
 use Rattle.mufom_meaning.specs.declared.located.LocatedParts.{LocatedParts}
 use Rattle.mufom_meaning.specs.Absolute.{absolute_of, no_regions}
@@ -37,13 +38,13 @@ use Rattle.mufom_command.specs.Commands.{Output, made, prints, kept_of, plan_in,
 use Rattle.mufom_command.specs.Commands.{printed_image, raw_file, txt_file, work_of, run_of}
 use Rattle.mufom_command.specs.Run.{Call, outcome_of, Answers}
 
--- ---- the answer of a run
+-- ---- the outcome of a run
 
 -- A run comes to one output, or to one end, at most.
 abbrev pub RunsAreSingle : Type 0
 RunsAreSingle = (words : List (List ℕ)) (files : List NamedFile) → HoldBytes files → IsSingle (run_of words files)
 
--- no read and no write failed, and no count of them stands at its last value
+-- no read and no write failed, and no count of them is at its last value
 pub record NoneRose (call : Call) : Type 0 where
   pub reads : ¬ Rose call.before.reads call.now.reads
   pub writes : ¬ Rose call.before.writes call.now.writes
@@ -55,7 +56,7 @@ pub record IsUndisturbed (files : List NamedFile) (call : Call) (result : Outcom
   pub none : NoneRose call
   pub memory : result ≢ outcome.NoMemory
 
--- Where nothing failed and memory was found, the answer is the one that the words and the files come to.
+-- Where nothing failed and memory sufficed, the outcome is the one that the arguments and the files come to.
 abbrev pub AnswersAreDetermined : Type 0
 AnswersAreDetermined =
     (words : List (List ℕ)) (files : List NamedFile) (call : Call) (result : Outcome) (reached : Reached Stop Output)
@@ -93,7 +94,7 @@ pub record HasNoFact (keep : Option (List ℕ)) (ms : List Parts) (plan : Plan) 
   pub keeps : kept_of keep ms (gives kept)
   pub locates : locate_answer kept plan ≡ None
 
--- Where nothing failed and memory was found, locating accepted files is done exactly where no fact stands against their flat list, or
+-- Where nothing failed and memory sufficed, locating accepted files is done exactly where no fact stands against their flat list, or
 -- against what is kept of it, wherever the files have their groups. Of a raw image this is so where it has not too many bytes.
 abbrev pub LocatingIsDone : Type 0
 LocatingIsDone =
@@ -181,7 +182,8 @@ MapsOfStages =
 
 -- ---- files that are made
 
--- the output is the file of a module that stands for the list
+-- The output is the file of a module that stands for the list. The bytes are, with a debug part, those of this module, if they are not too
+-- many for a file: a later run reads it from them.
 pub record IsFileOfLink (c : Command) (flat : List Parts) (output : Output) : Type 0 where
   pub link : Parts
   pub name : List ℕ
@@ -189,15 +191,16 @@ pub record IsFileOfLink (c : Command) (flat : List Parts) (output : Output) : Ty
   pub bytes : output ≡ made name (written link)
   pub joined : IsJoined link flat (unwrap_or c.name (first_name flat))
   pub stands : StandsFor link flat
+  pub read_back : length (written link) ≤ MOST_FILE_BYTES → IsModule true (written link) link
 
--- What is put out by a link is the file of a module that stands for the flat list, in every context.
+-- What is put out by a link is the file of a module that stands for the flat list, in every context, and is read back from the file.
 abbrev pub LinkedFilesStand : Type 0
 LinkedFilesStand =
     (c : Command) (plan : Plan) (flat : List Parts) (output : Output) → AreValid flat → linked_file c plan flat (gives output)
     → IsFileOfLink c flat output
 
--- the output is the file of the absolute module of the location of what is kept of the list, and that module is located as itself by the
--- plan without regions
+-- The output is the file of the absolute module of the location of what is kept of the list, and that module is located as itself by the
+-- plan without regions. A later run reads it from the bytes, as above.
 pub record IsFileOfLocation (c : Command) (plan : Plan) (flat : List Parts) (output : Output) : Type 0 where
   pub location : LocatedParts
   pub name : List ℕ
@@ -207,8 +210,10 @@ pub record IsFileOfLocation (c : Command) (plan : Plan) (flat : List Parts) (out
   pub keeps : kept_of c.keep flat (gives kept)
   pub located : IsLocation kept plan location
   pub itself : IsLocation (absolute_of location ∷ []) no_regions location
+  pub read_back : length (written (absolute_of location)) ≤ MOST_FILE_BYTES → IsModule true (written (absolute_of location)) (absolute_of location)
 
--- What is put out by locating is the file of an absolute module that, located alone by the plan without regions, is located as itself.
+-- What is put out by locating is the file of an absolute module that, located alone by the plan without regions, is located as itself, and
+-- that is read back from the file.
 abbrev pub AbsoluteFilesStand : Type 0
 AbsoluteFilesStand =
     (c : Command) (plan : Plan) (flat : List Parts) (output : Output) → AreValid flat → locating absolute_file c plan flat (gives output)

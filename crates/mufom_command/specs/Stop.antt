@@ -6,7 +6,7 @@ use Rattle.mufom_read.specs.declared.refusal.ReadRefusal.{ReadRefusal}
 use Rattle.mufom_titxt.specs.declared.refusal.TxtRefusal.{TxtRefusal}
 use Rattle.mufom_meaning.specs.Facts.{LinkFact, LocateFact}
 
--- The words; the bytes of the plan's file; a file, by its number, whose bytes are refused, or in which the files have too many bytes; a
+-- The arguments; the bytes of the plan's file; a file, by its number, whose bytes are refused, or in which the files have too many bytes; a
 -- link fact; a name that is to be kept and that no public has; a locate fact, with the number of bytes of an address; a raw image with this
 -- many bytes, which are too many; or bytes that are
 -- no TI-TXT text.

@@ -1,4 +1,4 @@
--- The answer where modules are not linked or not located.
+-- The outcome if modules are not linked or not located.
 use Rattle.std.specs.Prelude.{◌≡◌, ◌≢◌, ◌⊎◌, ℕ, ◌≤◌, List, [], ◌∷◌, length, Option, Some, None, Bool, true, false}
 use Rattle.mufom_image.specs.declared.refusal.LocateRefusal.{LocateRefusal}
 use Rattle.mufom_image.specs.declared.refusal.LocateRefusal.TheVariants as locate
@@ -79,6 +79,6 @@ IsOfModules (raw_too_long count) = Unit {0}
 IsOfModules (text_refused r) = Unit {0}
 IsOfModules _ = ⊥
 
--- the answer is out of memory, or that of such a fact that ends the work
+-- the outcome is out of memory, or that of such a fact that ends the work
 abbrev pub EndsAt : {A : Type 0} → Work Stop A → Outcome → Type 0
 EndsAt work result = (result ≡ outcome.NoMemory) ⊎ ((s : Stop) × IsOfModules s × (result ≡ stop_outcome s) × work (stops s))

@@ -1,12 +1,13 @@
 //! The top call.
 
-ghost use Rattle.std.specs.Prelude.{◌≡◌, ◌≢◌, ◌<◌, ◌^◌, length, map, true};
+ghost use Rattle.std.specs.Prelude.{◌≡◌, ◌<◌, ◌^◌, length, map, true};
 ghost use Rattle.std.specs.String.{string_bytes};
 ghost use Rattle.mufom_words.specs.Answer.{PrintsHelp};
 ghost use Rattle.mufom_words.specs.Options.{prints_help};
 ghost use Rattle.mufom_words.specs.Sound.{IsSound};
 ghost use Rattle.mufom_command.specs.Commands.{work_of};
-ghost use Rattle.mufom_command.specs.Run.{call_of, Answers, Does, DoesWords, IsComplete, NeedsNoMemory, NoneFalls, Opens, PrintsErrorLine, stop_answer};
+ghost use Rattle.mufom_command.specs.Run.{call_of, IsRun, stop_answer};
+ghost use Rattle.mufom_command.specs.RunParts.{Does, DoesWords, NeedsNoMemory};
 
 use crate::error_line::print_error_line;
 use crate::help::help;
@@ -22,7 +23,7 @@ use mufom_host::Host;
 use mufom_words::{Command, Verb, WordsStop, read_words};
 use std::alloc::Global;
 
-// The answer to words that are no command.
+// The outcome of arguments that are not a command.
 fn outcome_of_stop(stop: WordsStop) -> Outcome
     ensures { result ≡ stop_answer stop }
 {
@@ -34,7 +35,7 @@ fn outcome_of_stop(stop: WordsStop) -> Outcome
     }
 }
 
-// The command is done; the answer is whose error line is not printed yet.
+// The command is done; returns the outcome, whose error line is not printed yet.
 fn run_command<H: Host>(alloc: Global, command: &Command, host: &mut H) -> Outcome
     requires sound { IsSound command.now }
     ensures does { Does command.now (λ files. work_of command.now.verb files command.now) (call_of H.meaning H.faults host.old host.new) result }
@@ -56,7 +57,7 @@ fn run_command<H: Host>(alloc: Global, command: &Command, host: &mut H) -> Outco
     }
 }
 
-// What the words ask for is done; the answer is whose error line is not printed yet.
+// What the arguments ask for is done; returns the outcome, whose error line is not printed yet.
 fn answer<H: Host>(alloc: Global, words: &[String], host: &mut H) -> Outcome
     requires { length words.now < 2 ^ 32 }
     ensures does { DoesWords (map (λ word. string_bytes word) words.now) (call_of H.meaning H.faults host.old host.new) result }
@@ -68,7 +69,7 @@ fn answer<H: Host>(alloc: Global, words: &[String], host: &mut H) -> Outcome
     }
 }
 
-/// Runs the command that the words name: `show FILE`, `check FILE ...`, `link -o OUT FILES`,
+/// Runs the command that the arguments name: `show FILE`, `check FILE ...`, `link -o OUT FILES`,
 /// `locate -o OUT FILES`, `dump FILES`, `map FILES`, `make COUNT`, `addr --at ADDRESS FILES`, `bin -o OUT FILES`,
 /// `txt -o OUT FILES`, `fromtxt -o OUT FILE`, `help` or `version`, each with its options.
 ///
@@ -77,17 +78,7 @@ fn answer<H: Host>(alloc: Global, words: &[String], host: &mut H) -> Outcome
 /// printing fails, the outcome stays the same. A file is created only after its whole contents are known.
 pub fn run<H: Host>(alloc: Global, words: &[String], host: &mut H) -> Outcome
     requires { length words.now < 2 ^ 32 }
-    // Each answer has its cause in the words, the files or the faults of this call, and so much was put out.
-    ensures answers { Answers (map (λ word. string_bytes word) words.now) (call_of H.meaning H.faults host.old host.new) result }
-    // What the words and the files come to is the answer, but where a call failed or no memory was found.
-    ensures complete { IsComplete (map (λ word. string_bytes word) words.now) (call_of H.meaning H.faults host.old host.new) result }
-    // The inputs of the words were opened in their order, up to the one that the answer names, and nothing else.
-    ensures opens { Opens (map (λ word. string_bytes word) words.now) (call_of H.meaning H.faults host.old host.new) result }
-    // Every answer but Done prints its error line.
-    ensures line { PrintsErrorLine (call_of H.meaning H.faults host.old host.new) result }
-    ensures counts { NoneFalls (call_of H.meaning H.faults host.old host.new) }
-    // The commands that print a text of the program need no memory.
-    ensures memory { PrintsHelp (map (λ word. string_bytes word) words.now) → result ≢ Outcome.NoMemory }
+    ensures { IsRun (map (λ word. string_bytes word) words.now) (call_of H.meaning H.faults host.old host.new) result }
 {
     let outcome = answer(alloc, words, host);
     print_error_line(alloc, outcome, host)

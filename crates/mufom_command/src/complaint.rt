@@ -61,7 +61,7 @@ fn reason_name(reason: Reason) -> &'static str
     }
 }
 
-/// The line of words that are no command.
+/// The line of arguments that are not a command.
 pub(crate) fn usage_line(fault: UsageFault) -> &'static str
     ensures { result.now ≡ complaint (Outcome.Usage fault) }
 {

@@ -3,7 +3,8 @@
 ghost use Rattle.std.specs.Prelude.{◌≡◌, List, ℕ};
 ghost use Rattle.mufom_host.specs.World.{OnlyPrintsErrors};
 ghost use Rattle.mufom_command.specs.Complaint.{complaint};
-ghost use Rattle.mufom_command.specs.Run.{call_of, AddsErrorLine, IsPrintedAs, PrintsErrorLine};
+ghost use Rattle.mufom_command.specs.Run.{call_of, AddsErrorLine, PrintsErrorLine};
+ghost use Rattle.mufom_command.specs.RunParts.{IsPrintedAs};
 
 use crate::complaint::{fault_line, refusal_line, usage_line};
 use crate::outcome::Outcome;

@@ -4,7 +4,8 @@ ghost use Rattle.std.specs.Prelude.{◌≡◌, [], None, unwrap_or};
 ghost use Rattle.mufom_host.specs.World.{OnlyPrints};
 ghost use Rattle.mufom_command.specs.Commands.{helping};
 ghost use Rattle.mufom_command.specs.Making.{IsPrinted};
-ghost use Rattle.mufom_command.specs.Run.{call_of, Does, NeedsNoMemory};
+ghost use Rattle.mufom_command.specs.Run.{call_of};
+ghost use Rattle.mufom_command.specs.RunParts.{Does, NeedsNoMemory};
 
 use crate::outcome::Outcome;
 use mufom_host::{Failed, Host};
@@ -20,7 +21,7 @@ fn text_of(command: &Command) -> &'static str
     }
 }
 
-// Prints a text; the answer is whose error line is not printed yet.
+// Prints a text; returns the outcome, whose error line is not printed yet.
 fn print_text<H: Host>(text: &str, host: &mut H) -> Outcome
     ensures answer { IsPrinted text.now (call_of H.meaning H.faults host.old host.new) result }
     ensures only { OnlyPrints (H.meaning host.old) (H.meaning host.new) (H.faults host.old) (H.faults host.new) }

@@ -12,7 +12,8 @@ ghost use Rattle.mufom_words.specs.Options.{reads_files};
 ghost use Rattle.mufom_words.specs.Sound.{IsSound};
 ghost use Rattle.mufom_command.specs.Commands.{absolute_file, linking, locating, printed_image, raw_file, txt_file};
 ghost use Rattle.mufom_command.specs.Making.{IsMadeAlone, IsPrinted};
-ghost use Rattle.mufom_command.specs.Run.{call_of, Does};
+ghost use Rattle.mufom_command.specs.Run.{call_of};
+ghost use Rattle.mufom_command.specs.RunParts.{Does};
 
 use crate::linking::{locate_inputs, make_output};
 use crate::outcome::{Outcome, Refusal};
@@ -25,7 +26,7 @@ use mufom_words::Command;
 use mufom_write::raw_length;
 use std::alloc::Global;
 
-// Prints the image of a location; the answer is whose error line is not printed yet.
+// Prints the image of a location; returns the outcome, whose error line is not printed yet.
 fn print_located<H: Host>(alloc: Global, located: &Located, host: &mut H) -> Outcome
     ensures answer { IsPrinted (image_text located.now) (call_of H.meaning H.faults host.old host.new) result }
     ensures only { OnlyPrints (H.meaning host.old) (H.meaning host.new) (H.faults host.old) (H.faults host.new) }

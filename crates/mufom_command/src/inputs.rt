@@ -28,7 +28,7 @@ use std::alloc::Global;
 // How many bytes the module files of a run have at most, all together.
 const MOST_INPUT_BYTES: u64 = MOST_FILE_BYTES as u64;
 
-// The answer where the file with this number was not read.
+// The outcome if the file with this number was not read.
 fn outcome_of_source_stop(file: u32, stop: SourceStop) -> Outcome
     ensures { result ≡ outcome_of_source_stop file stop }
 {

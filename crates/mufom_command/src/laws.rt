@@ -15,7 +15,7 @@ pub fn runs_are_single()
     ensures { RunsAreSingle }
 {}
 
-/// Where no call failed and memory was found, the answer of a run is the one that its words and files
+/// Where no call failed and memory sufficed, the outcome of a run is the one that its arguments and files
 /// come to.
 pub fn answers_are_determined()
     ensures { AnswersAreDetermined }
@@ -52,18 +52,19 @@ pub fn maps_of_stages()
     ensures { MapsOfStages }
 {}
 
-/// What a link puts out is the file of a module that stands for the flat list, in every context.
+/// What a link puts out is the file of a module that stands for the flat list, in every context. The file,
+/// if it is not too long, is read as that module.
 pub fn linked_files_stand()
     ensures { LinkedFilesStand }
 {}
 
 /// What locating puts out is the file of an absolute module that, located alone by the plan without
-/// regions, is located as itself.
+/// regions, is located as itself. The file, if it is not too long, is read as that module.
 pub fn absolute_files_stand()
     ensures { AbsoluteFilesStand }
 {}
 
-/// A run of `make` is `Done` unless a write failed or there was no memory: the generated modules can be
+/// A run of `make` is `Done` unless a write failed or memory ran out: the generated modules can be
 /// located, however many of them there are.
 pub fn make_is_done()
     ensures { MakeIsDone }

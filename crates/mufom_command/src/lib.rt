@@ -1,4 +1,4 @@
-//! The top call of the program: it runs the command that the words name over a host, and answers how
+//! The top call of the program: it runs the command that the arguments name over a host, and returns how
 //! it ended.
 //!
 //! `show FILE` prints the text of a module, and `check FILE ...` a line for each module. `link`
@@ -7,7 +7,7 @@
 //! its raw bytes and `txt` one of its TI-TXT text, `map` prints what is at which address, and `addr` the
 //! function and the source line at an address. `fromtxt` makes a file of the module of a TI-TXT text. `make` generates modules, locates
 //! them and prints a summary. `help` and `version` print texts of the program. The main clause is the
-//! contract of [`run`]: each answer has its cause in the words, the files or the counts of faults, and
+//! contract of [`run`]: each outcome has its cause in the arguments, the files or the counts of faults, and
 //! what was put out, printed as errors and opened is stated exactly.
 #![tactic(auto)]
 

@@ -17,9 +17,10 @@ ghost use Rattle.mufom_words.specs.Sound.{IsSound};
 ghost use Rattle.mufom_groups.specs.Groups.{most_weight};
 ghost use Rattle.mufom_groups.specs.Linked.{linked_module};
 ghost use Rattle.mufom_groups.specs.Work.{gives, with_stops};
-ghost use Rattle.mufom_command.specs.Commands.{linked_file, linking, located, work_of};
+ghost use Rattle.mufom_command.specs.Commands.{linked_file, linking, located, work_of, IsHeld};
 ghost use Rattle.mufom_command.specs.Making.{IsMadeAlone};
-ghost use Rattle.mufom_command.specs.Run.{call_of, Does, inputs_of};
+ghost use Rattle.mufom_command.specs.Run.{call_of, inputs_of};
+ghost use Rattle.mufom_command.specs.RunParts.{Does};
 ghost use Rattle.mufom_command.specs.Stop.{link_fact};
 ghost use Rattle.mufom_command.specs.WorkEnds.{outcome_of_link, outcome_of_locate, own_location, AreLinkable, EndsAt, LocatesTo, location_of};
 
@@ -37,7 +38,7 @@ use mufom_prune::{PruneRefusal, prune};
 use mufom_words::Command;
 use std::alloc::Global;
 
-/// The answer where modules are not linked.
+/// The outcome if modules are not linked.
 pub(crate) fn outcome_of_link(refusal: LinkRefusal) -> Outcome
     ensures { result ≡ outcome_of_link refusal }
 {
@@ -47,7 +48,7 @@ pub(crate) fn outcome_of_link(refusal: LinkRefusal) -> Outcome
     }
 }
 
-/// The answer where modules whose addresses have this number of units are not located.
+/// The outcome if modules whose addresses have this number of units are not located.
 pub(crate) fn outcome_of_locate(maus: u8, refusal: LocateRefusal) -> Outcome
     ensures { result ≡ outcome_of_locate maus refusal }
 {
@@ -57,7 +58,7 @@ pub(crate) fn outcome_of_locate(maus: u8, refusal: LocateRefusal) -> Outcome
     }
 }
 
-// The module into which the modules of the command are linked, or the answer of the run.
+// The module into which the modules of the command are linked, or the outcome of the run.
 fn linked(alloc: Global, command: &Command, modules: List<Module>) -> Result<Module, Outcome>
     requires { AreLinkable command.now modules }
     ensures ok { IfOk result (λ M. linked_module command.now modules (gives M)) }
@@ -74,7 +75,7 @@ fn linked(alloc: Global, command: &Command, modules: List<Module>) -> Result<Mod
     }
 }
 
-/// The location of a module by a plan, or the answer of the run.
+/// The location of a module by a plan, or the outcome of the run.
 pub(crate) fn located(alloc: Global, object: &Module, plan: &Plan) -> Result<Located, Outcome>
     requires names { AreDistinct (names_of object.now.names.publics) }
     requires plan { IsSoundPlan plan.now }
@@ -89,7 +90,7 @@ pub(crate) fn located(alloc: Global, object: &Module, plan: &Plan) -> Result<Loc
     }
 }
 
-// The location of what remains of a module for the public symbol of a name, or the answer of the run.
+// The location of what remains of a module for the public symbol of a name, or the outcome of the run.
 fn pruned_location(
     alloc: Global,
     object: &Module,
@@ -111,7 +112,7 @@ fn pruned_location(
 }
 
 // The location of the module into which the files of the command are linked, or of what remains of it
-// where the command names a public symbol to keep; or the answer of the run.
+// where the command names a public symbol to keep; or the outcome of the run.
 fn kept_location(
     alloc: Global,
     command: &Command,
@@ -131,7 +132,7 @@ fn kept_location(
     }
 }
 
-// The location of the modules of the command, or the answer of the run.
+// The location of the modules of the command, or the outcome of the run.
 fn location(alloc: Global, command: &Command, inputs: Inputs) -> Result<Located, Outcome>
     requires linkable { AreLinkable command.now inputs.modules }
     requires unnamed { command.now.name ≡ None }
@@ -150,9 +151,11 @@ fn location(alloc: Global, command: &Command, inputs: Inputs) -> Result<Located,
 /// Makes the file that the command names, of a module.
 pub(crate) fn make_output<H: Host>(command: &Command, object: &Module, host: &mut H) -> Outcome
     requires { IsSome command.now.out }
-    ensures { (name : list ℕ) → command.now.out ≡ Some name
+    ensures held { IsHeld object.now }
+    ensures makes { (name : list ℕ) → command.now.out ≡ Some name
         → IsMadeAlone name (written object.now) (call_of H.meaning H.faults host.old host.new) result }
 {
+    let _ = object.parts();
     match &command.out {
         Some(name) => make_file(name.as_str(), object, host),
         None => unreachable!(),
@@ -176,7 +179,7 @@ pub(crate) fn link<H: Host>(alloc: Global, command: &Command, host: &mut H) -> O
     }
 }
 
-/// Reads the plan and the files of the command, links their modules and locates the link; or the answer
+/// Reads the plan and the files of the command, links their modules and locates the link; or the outcome
 /// of the run, whatever would be put out of the location.
 pub(crate) fn locate_inputs<H: Host>(
     alloc: Global,

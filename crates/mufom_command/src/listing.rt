@@ -6,7 +6,8 @@ ghost use Rattle.mufom_text.specs.Show.{text_of};
 ghost use Rattle.mufom_words.specs.Options.{reads_files};
 ghost use Rattle.mufom_command.specs.Commands.{form_of as form_by, listing, showing};
 ghost use Rattle.mufom_command.specs.Making.{IsPrinted};
-ghost use Rattle.mufom_command.specs.Run.{call_of, Does};
+ghost use Rattle.mufom_command.specs.Run.{call_of};
+ghost use Rattle.mufom_command.specs.RunParts.{Does};
 ghost use Rattle.mufom_command.specs.Text.{check_text};
 
 use crate::inputs::read_inputs;
@@ -18,7 +19,7 @@ use mufom_text::{PrintStop, TextForm, print_text};
 use mufom_words::Command;
 use std::alloc::Global;
 
-// Prints a line for each module; the answer is whose error line is not printed yet.
+// Prints a line for each module; returns the outcome, whose error line is not printed yet.
 fn print_lines<H: Host>(alloc: Global, modules: &[Module], host: &mut H) -> Outcome
     ensures answer { IsPrinted (check_text modules.now) (call_of H.meaning H.faults host.old host.new) result }
     ensures only { OnlyPrints (H.meaning host.old) (H.meaning host.new) (H.faults host.old) (H.faults host.new) }
@@ -43,7 +44,7 @@ fn form_of(command: &Command) -> TextForm
     }
 }
 
-// Prints the text of one module; the answer is whose error line is not printed yet.
+// Prints the text of one module; returns the outcome, whose error line is not printed yet.
 fn print_one<H: Host>(alloc: Global, form: TextForm, modules: &[Module], host: &mut H) -> Outcome
     requires { length modules.now ≡ 1 }
     ensures answer { IsPrinted (flat_map (text_of form) modules.now) (call_of H.meaning H.faults host.old host.new) result }

@@ -9,7 +9,8 @@ ghost use Rattle.mufom_words.specs.Sound.{IsSound};
 ghost use Rattle.mufom_groups.specs.Work.{gives};
 ghost use Rattle.mufom_command.specs.Commands.{located, making};
 ghost use Rattle.mufom_command.specs.Making.{IsPrinted};
-ghost use Rattle.mufom_command.specs.Run.{call_of, Does};
+ghost use Rattle.mufom_command.specs.Run.{call_of};
+ghost use Rattle.mufom_command.specs.RunParts.{Does};
 ghost use Rattle.mufom_command.specs.WorkEnds.{EndsAt};
 
 use crate::linking::outcome_of_locate;
@@ -23,7 +24,7 @@ use std::alloc::Global;
 // How many addressable units an address of the generated modules has.
 const UNITS: u8 = 4;
 
-// The location of `count` generated modules, or the answer of the run.
+// The location of `count` generated modules, or the outcome of the run.
 fn generated(alloc: Global, count: u32) -> Result<Located, Outcome>
     requires some { 1 ≤ count }
     requires few { count ≤ MOST_MODULES }
@@ -36,7 +37,7 @@ fn generated(alloc: Global, count: u32) -> Result<Located, Outcome>
     }
 }
 
-// Prints the summary of `count` modules at their location; the answer is whose error line is not
+// Prints the summary of `count` modules at their location; returns the outcome, whose error line is not
 // printed yet.
 fn print_summary<H: Host>(alloc: Global, count: u32, located: &Located, host: &mut H) -> Outcome
     ensures answer { IsPrinted (summary count located.now) (call_of H.meaning H.faults host.old host.new) result }

@@ -18,7 +18,8 @@ ghost use Rattle.mufom_map.specs.MapText.{map_text};
 ghost use Rattle.mufom_command.specs.Commands.{mapping};
 ghost use Rattle.mufom_command.specs.Making.{IsPrinted};
 ghost use Rattle.mufom_command.specs.MapInputs.{AreLocated, AreMapped, shown_of};
-ghost use Rattle.mufom_command.specs.Run.{call_of, Does};
+ghost use Rattle.mufom_command.specs.Run.{call_of};
+ghost use Rattle.mufom_command.specs.RunParts.{Does};
 ghost use Rattle.mufom_command.specs.Stop.{link_fact};
 ghost use Rattle.mufom_command.specs.WorkEnds.{AreLinkable, EndsAt, location_of};
 
@@ -49,7 +50,7 @@ struct MapInputs {
 }
 
 // The module into which the modules of the command are linked, with the members that it contains, or the
-// answer of the run.
+// outcome of the run.
 fn linked_members(
     alloc: Global,
     command: &Command,
@@ -88,7 +89,7 @@ fn flat_origins(
     }
 }
 
-// What the map of the modules of the command is printed from, whose origins are these; or the answer of
+// What the map of the modules of the command is printed from, whose origins are these; or the outcome of
 // the run.
 fn located_map(
     alloc: Global,
@@ -141,7 +142,7 @@ fn map_inputs(alloc: Global, command: &Command, inputs: Inputs) -> Result<MapInp
     }
 }
 
-// Prints a map; the answer is whose error line is not printed yet.
+// Prints a map; returns the outcome, whose error line is not printed yet.
 fn print_mapped<H: Host>(alloc: Global, inputs: &MapInputs, host: &mut H) -> Outcome
     requires { AreLocated inputs.now }
     ensures answer { IsPrinted (map_text (shown_of inputs.now)) (call_of H.meaning H.faults host.old host.new) result }

@@ -1,3 +1,5 @@
+//! How a run ends, and what it refuses.
+
 ghost use Rattle.std.specs.Prelude.{◌≡◌};
 ghost use Rattle.mufom_command.specs.Complaint.{status_of};
 
@@ -14,22 +16,22 @@ use mufom_words::UsageFault;
 pub enum Input {
     /// The file of the plan.
     Plan,
-    /// The file with this number, from 0 in the order of the words.
+    /// The file with this number, from 0 in the order of the arguments.
     File(u32),
 }
 
 /// What a run refuses.
 #[derive(Debug, Drop)]
 pub enum Refusal {
-    /// The bytes of the file with this number are no module.
+    /// The file with this number is not a valid module.
     Read(u32, ReadRefusal),
-    /// The bytes of the files so far are too many in the file with this number.
+    /// With the file with this number, the files have too many bytes.
     InputLimit(u32),
-    /// The words name this many files, which are too many.
+    /// The arguments name this many files, which are too many.
     TooManyFiles(u32),
     /// This number of groups is open at once, more than a run may have.
     TooDeep(u32),
-    /// The bytes of the plan's file are no plan.
+    /// The file of the plan is not a valid plan.
     Plan(PlanRefusal),
     /// The files, or those of a group, can't be linked.
     Link(LinkRefusal),
@@ -39,29 +41,29 @@ pub enum Refusal {
     Keep(Bytes),
     /// The raw image would have this many bytes, which are too many.
     Bin(u128),
-    /// The bytes of the file are no TI-TXT text.
+    /// The file is not a valid TI-TXT text.
     Text(TxtRefusal),
 }
 
 /// How a run ended.
 #[derive(Debug, Drop)]
 pub enum Outcome {
-    /// All was done that the words ask for.
+    /// The command succeeded.
     Done,
     /// An input is refused.
     Refused(Refusal),
-    /// The words are no command.
+    /// The arguments are not a command.
     Usage(UsageFault),
     /// An input could not be opened or read.
     ReadFault(Input),
     /// The output could not be written.
     WriteFault,
-    /// There was no memory.
+    /// Memory ran out.
     NoMemory,
 }
 
 impl Outcome {
-    /// The status with which the program ends, 0 to 5. Takes no memory.
+    /// The status with which the program ends, 0 to 5. Does not allocate.
     pub fn status(&self) -> u8
         ensures { result ≡ status_of self.now }
     {

@@ -20,7 +20,7 @@ use std::alloc::Global;
 // How many bytes a plan has at most.
 const MOST_PLAN_BYTES: usize = 65_536;
 
-// The plan that the bytes state, or the answer of the run.
+// The plan that the bytes state, or the outcome of the run.
 fn plan_of(alloc: Global, text: &[u8]) -> Result<Plan, Outcome>
     ensures ok { IfOk result (λ plan. plan_of_text text.now ≡ Ok plan) }
     ensures sound { IfOk result IsSoundPlan }

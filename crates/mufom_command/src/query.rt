@@ -7,7 +7,8 @@ ghost use Rattle.mufom_words.specs.Options.{reads_files};
 ghost use Rattle.mufom_words.specs.Sound.{IsSound};
 ghost use Rattle.mufom_command.specs.Commands.{linking, locating, printed_hit};
 ghost use Rattle.mufom_command.specs.Making.{IsPrinted};
-ghost use Rattle.mufom_command.specs.Run.{call_of, Does};
+ghost use Rattle.mufom_command.specs.Run.{call_of};
+ghost use Rattle.mufom_command.specs.RunParts.{Does};
 ghost use Rattle.mufom_command.specs.Text.{function_line as line_of_function, hit_text, source_line as line_of_source, source_text};
 
 use crate::linking::locate_inputs;
@@ -94,7 +95,7 @@ fn lines_at(alloc: Global, located: &Located, address: u64) -> Result<Vec<u8>, N
     hit_lines(alloc, parts.maus, &hit)
 }
 
-// Prints the lines of an address; the answer is whose error line is not printed yet.
+// Prints the lines of an address; returns the outcome, whose error line is not printed yet.
 fn print_hit<H: Host>(alloc: Global, located: &Located, address: u64, host: &mut H) -> Outcome
     ensures answer { IsPrinted (hit_text located.now.maus (hit_at located.now.debug address)) (call_of H.meaning H.faults host.old host.new) result }
     ensures only { OnlyPrints (H.meaning host.old) (H.meaning host.new) (H.faults host.old) (H.faults host.new) }

@@ -10,7 +10,8 @@ ghost use Rattle.mufom_words.specs.Sound.{IsSound};
 ghost use Rattle.mufom_groups.specs.Work.{gives};
 ghost use Rattle.mufom_command.specs.Commands.{reading_text, runs_of_text, text_in};
 ghost use Rattle.mufom_command.specs.InputsRead.{TextStops};
-ghost use Rattle.mufom_command.specs.Run.{call_of, Does};
+ghost use Rattle.mufom_command.specs.Run.{call_of};
+ghost use Rattle.mufom_command.specs.RunParts.{Does};
 ghost use Rattle.mufom_command.specs.WorkEnds.{EndsAt};
 
 use crate::linking::make_output;
@@ -33,7 +34,7 @@ fn only_file(command: &Command) -> &str
     command.files.as_slice()[0].as_str()
 }
 
-// The bytes of the text with this name, or the answer of the run where they are not read or too many.
+// The bytes of the text with this name, or the outcome of the run if they are not read or are too many.
 fn read_text<H: Host>(alloc: Global, name: &str, host: &mut H) -> Result<Vec<u8>, Outcome>
     ensures text { IfOk result (λ bytes. IfSome (H.meaning host.old).files (λ files. text_in files (name.now ∷ []) (gives bytes.items))) }
     ensures short { IfOk result (λ bytes. length bytes.items ≤ most) }
@@ -51,7 +52,7 @@ fn read_text<H: Host>(alloc: Global, name: &str, host: &mut H) -> Result<Vec<u8>
     }
 }
 
-// The rows of the bytes of a text, or the answer of the run. An address has `maus` units.
+// The rows of the bytes of a text, or the outcome of the run. An address has `maus` units.
 fn runs_of(alloc: Global, text: &[u8], maus: u8) -> Result<List<Run>, Outcome>
     requires low { 1 ≤ maus }
     requires high { maus ≤ 8 }
@@ -67,7 +68,7 @@ fn runs_of(alloc: Global, text: &[u8], maus: u8) -> Result<List<Run>, Outcome>
     }
 }
 
-// The module of a text, or the answer of the run. An address has `maus` units.
+// The module of a text, or the outcome of the run. An address has `maus` units.
 fn module_of(alloc: Global, text: &[u8], maus: u8) -> Result<Module, Outcome>
     requires low { 1 ≤ maus }
     requires high { maus ≤ 8 }

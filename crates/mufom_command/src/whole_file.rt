@@ -29,7 +29,7 @@ impl From<AllocError> for Halt {
     }
 }
 
-// Reads once, and answers how many bytes were added.
+// Reads once, and returns how many bytes were added.
 fn read_chunk<S: Source>(
     source: &mut S,
     buffer: &mut [u8],

@@ -17,7 +17,7 @@ use mufom_module::Module;
 use mufom_titxt::{write_end, write_run};
 use mufom_write::{write_module, write_raw};
 
-/// Makes a file with this name, which holds the module; the answer is whose error line is not printed yet.
+/// Makes a file with this name, which holds the module; returns the outcome, whose error line is not printed yet.
 pub(crate) fn make_file<H: Host>(name: &str, object: &Module, host: &mut H) -> Outcome
     ensures { IsMadeAlone name.now (written object.now) (call_of H.meaning H.faults host.old host.new) result }
 {
@@ -33,7 +33,7 @@ pub(crate) fn make_file<H: Host>(name: &str, object: &Module, host: &mut H) -> O
     }
 }
 
-/// Makes a file with this name, which holds the raw image of the runs; the answer is whose error line is
+/// Makes a file with this name, which holds the raw image of the runs; returns the outcome, whose error line is
 /// not printed yet.
 pub(crate) fn make_raw_file<H: Host>(name: &str, runs: &[Run], fill: u8, host: &mut H) -> Outcome
     ensures { IsMadeAlone name.now (raw_image fill runs.now) (call_of H.meaning H.faults host.old host.new) result }
@@ -80,7 +80,7 @@ fn write_txt<K: Sink>(runs: &[Run], sink: &mut K) -> Result<(), Failed>
     write_end(sink)
 }
 
-/// Makes a file with this name, which holds the TI-TXT text of the runs; the answer is whose error line is
+/// Makes a file with this name, which holds the TI-TXT text of the runs; returns the outcome, whose error line is
 /// not printed yet.
 pub(crate) fn make_text_file<H: Host>(name: &str, runs: &[Run], host: &mut H) -> Outcome
     requires some { All HasByte runs.now }

@@ -6,7 +6,6 @@ use Rattle.mufom_words.specs.declared.command.Verb.{Verb}
 use Rattle.mufom_words.specs.declared.command.Verb.TheVariants as verb
 use Rattle.mufom_words.specs.declared.stop.WordsStop.{WordsStop}
 use Rattle.mufom_module.specs.declared.module.Parts.{Parts}
-use Rattle.mufom_module.specs.Written.{written}
 use Rattle.mufom_plan.specs.declared.plan.Plan.{Plan}
 use Rattle.mufom_meaning.specs.declared.located.LocatedParts.{LocatedParts}
 use Rattle.mufom_meaning.specs.Absolute.{absolute_of}
@@ -17,24 +16,23 @@ use Rattle.mufom_meaning.specs.Location.{IsLocation}
 use Rattle.mufom_meaning.specs.Staging.{AreValid}
 use Rattle.mufom_meaning.proofs.absolute.Located.{absolute_is_located_as_itself}
 use Rattle.mufom_groups.specs.Work.{Reached, gives, stops, Work}
-use Rattle.mufom_groups.proofs.Works.{value-same}
 use Rattle.mufom_command.specs.declared.outcome.Outcome.{Outcome}
 use Rattle.mufom_command.specs.declared.outcome.Outcome.TheVariants as outcome
 use Rattle.mufom_command.specs.Stop.{Stop, locate_fact}
-use Rattle.mufom_command.specs.Commands.{Output, writes, kept_of, located_unless, locating, absolute_file, printed_image, linking, maus_of, work_by, work_of}
+use Rattle.mufom_command.specs.Commands.{Output, kept_of, located_unless, locating, absolute_file, printed_image, linking, maus_of, work_by, work_of}
 use Rattle.mufom_command.specs.Run.{Call, PutsOut, outcome_of}
 use Rattle.mufom_command.specs.RunLaws.{Accepts, CameByStages, HasNoFact, IsSameWork, IsUndisturbed, put_out_of}
 use Rattle.mufom_command.proofs.Determined.{answers-determined}
 use Rattle.mufom_command.proofs.KeptLaws.{kept-valid}
 use Rattle.mufom_command.proofs.MadeLaws.{location-of}
-use Rattle.mufom_command.proofs.Runs.{kept_of-single, of-files}
+use Rattle.mufom_command.proofs.Runs.{of-files}
 use Rattle.mufom_command.proofs.SameWorks.{same-work}
 use Rattle.mufom_command.proofs.StageLaws.{means-same, put_out-alike}
 use Rattle.mufom_headline.specs.Headline.{HasLocated, LocatesAll, PutsOutLocation, TheHeadline}
-use Rattle.mufom_headline.proofs.Calm.{CameTo, answers-for, done-comes, never-done}
-use Rattle.mufom_headline.proofs.Accepted.{EndsAtFact, accepted-back, accepted-gives, accepted-stops}
-use Rattle.mufom_headline.proofs.LinkedFiles.{flat-valid}
-use Rattle.mufom_headline.proofs.Linking.{no-fact, writes-never}
+use Rattle.mufom_command.proofs.Calm.{CameTo, answers-for, done-comes, never-done}
+use Rattle.mufom_command.proofs.Accepted.{EndsAtFact, accepted-back, accepted-gives, accepted-stops, no-link-fact}
+use Rattle.mufom_command.proofs.LocatingDone.{module-never, no-end, no-fact-there}
+use Rattle.mufom_headline.proofs.LinkedFiles.{file-made, flat-valid}
 
 -- ---- one list
 
@@ -50,21 +48,6 @@ module _ (output : Command → LocatedParts → Work Stop Output) (c : Command) 
   output-of : (o : Output) → locating output c plan list (gives o) → IsOutputOf output c plan list o
   output-of o (kept, is_kept, (r, is_located, puts)) =
       record { kept = kept; keeps = is_kept; location = r; is_location = location-of plan kept r is_located; puts = puts }
-
-  no-fact-of : (o : Output) → link_answer list ≡ None → locating output c plan list (gives o) → HasNoFact c.keep list plan
-  no-fact-of o links is =
-      let there = output-of o is in
-      record { links = links; kept = there.kept; keeps = there.keeps; locates = there.is_location.locates }
-
-  -- where no fact stands, the work comes to no end
-  no-end : ((r : LocatedParts) (s : Stop) → output c r (stops s) → ⊥) → HasNoFact c.keep list plan → (s : Stop) → locating output c plan list (stops s) → ⊥
-  no-end never none s (inl ends) =
-      let same : stops s ≡ gives none.kept = kept_of-single c.keep list (stops s) (gives none.kept) ends none.keeps in absurd cc
-  no-end never none s (inr (kept, is_kept, inl ends)) =
-      let same : kept ≡ none.kept = value-same kept none.kept (kept_of-single c.keep list (gives kept) (gives none.kept) is_kept none.keeps) in
-      let locates : locate_answer kept plan ≡ None = subst (λ (l : List Parts). locate_answer l plan ≡ None) (sym same) none.locates in
-      subst (λ (o : Option LocateFact). located_unless o plan kept (stops s)) locates ends
-  no-end never none s (inr (kept, is_kept, inr (r, is_located, ends))) = never r s ends
 
   -- where a locate fact stands, that is the end
   fact-end : (kept : List Parts) (f : LocateFact) → kept_of c.keep list (gives kept) → locate_answer kept plan ≡ Some f
@@ -91,23 +74,23 @@ module _ (files : List NamedFile) (call : Call) (result : Outcome) (c : Command)
       (alike : IsSameWork (locating output c plan flat) (locating output c plan list)) where
     list-output : (o : Output) → work_of c.verb files c (gives o) → (link_answer list ≡ None) × locating output c plan list (gives o)
     list-output o comes =
-        let (linkable, puts) = accepted-gives files c plan flat bytes accepts (locating output) o
+        let (linkable, puts) = accepted-gives files c plan flat bytes accepts (λ ms. locating output) o
         (subst (λ (w : Work Stop Output). w (gives o)) work comes) in
         (sym links ∙ linkable, (alike (gives o)).0 puts)
 
     none-stops : HasNoFact c.keep list plan → (s : Stop) → work_of c.verb files c (stops s) → ⊥
     none-stops none s stopped =
-        by (accepted-stops files c plan flat bytes accepts (locating output) s (subst (λ (w : Work Stop Output). w (stops s)) work stopped)) where
+        by (accepted-stops files c plan flat bytes accepts (λ ms. locating output) s (subst (λ (w : Work Stop Output). w (stops s)) work stopped)) where
           by : EndsAtFact flat s ⊎ ((link_answer flat ≡ None) × locating output c plan flat (stops s)) → ⊥
-          by (inl fact) = no-fact flat plan s (links ∙ none.links) fact
-          by (inr (linkable, ends)) = no-end output c plan list never none s ((alike (stops s)).0 ends)
+          by (inl fact) = no-link-fact flat plan s (links ∙ none.links) fact
+          by (inr (linkable, ends)) = no-end output c plan list (λ kept r keeps there. never r) none s ((alike (stops s)).0 ends)
 
     has-located : HasLocated c plan call result list
     has-located = record {
       done = (
         (λ is. let there = came is in
             let (linkable, puts) = list-output there.output there.comes in
-            no-fact-of output c plan list there.output linkable puts),
+            no-fact-there output c plan list there.output linkable puts),
         (λ none. done (none-stops none)),
       );
       output = λ is. let there = came is in
@@ -124,7 +107,7 @@ module _ (files : List NamedFile) (call : Call) (result : Outcome) (c : Command)
       refused = λ kept f linkable is_kept some.
           let ends = (alike (stops (locate_fact (maus_of kept) f))).1 (fact-end output c plan list kept f is_kept some) in
           answer (stops (locate_fact (maus_of kept) f)) (subst (λ (w : Work Stop Output). w (stops (locate_fact (maus_of kept) f))) (sym work)
-          (accepted-back files c plan flat bytes accepts (locating output) (links ∙ linkable) (stops (locate_fact (maus_of kept) f)) ends));
+          (accepted-back files c plan flat bytes accepts (λ ms. locating output) (links ∙ linkable) (stops (locate_fact (maus_of kept) f)) ends));
     }
 
   locates-all : ((leaves : List Parts) → CameByStages flat leaves → IsSameWork (locating output c plan flat) (locating output c plan leaves))
@@ -137,10 +120,7 @@ module _ (files : List NamedFile) (call : Call) (result : Outcome) (c : Command)
 -- ---- what is put out
 
 file-shown : (call : Call) (c : Command) (r : LocatedParts) (o : Output) → absolute_file c r (gives o) → PutsOut o call → PutsOutLocation verb.Locate c r call
-file-shown call c r o is puts = by c.out refl is where
-  by : (name : Option (List ℕ)) → c.out ≡ name → writes name (written (absolute_of r)) (gives o) → PutsOutLocation verb.Locate c r call
-  by None same none = absurd none
-  by (Some name) same put = (name, same, subst (λ (o : Output). PutsOut o call) put puts)
+file-shown call c r o is puts = file-made c call (absolute_of r) o is puts
 
 text-shown : (call : Call) (c : Command) (r : LocatedParts) (o : Output) → printed_image c r (gives o) → PutsOut o call → PutsOutLocation verb.Dump c r call
 text-shown call c r o is puts = subst (λ (o : Output). PutsOut o call) is puts
@@ -166,7 +146,7 @@ the-headline words files call result c plan flat is calm named verbs accepts = b
   by : (c.verb ≡ verb.Locate) ⊎ (c.verb ≡ verb.Dump) → LocatesAll c plan call result flat
   by (inl same) =
       locates-all files call result c plan flat bytes accepts calm verb.Locate same absolute_file refl
-      (λ r s. writes-never c.out (written (absolute_of r)) s) (file-shown call c) came done answer (alike verb.Locate)
+      (λ r s. module-never c.out (absolute_of r) s) (file-shown call c) came done answer (alike verb.Locate)
   by (inr same) =
       locates-all files call result c plan flat bytes accepts calm verb.Dump same printed_image refl
       (λ r s ends. ends) (text-shown call c) came done answer (alike verb.Dump)

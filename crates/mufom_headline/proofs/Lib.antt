@@ -1,5 +1,3 @@
-mod Calm
-mod Accepted
 pub mod Staged
 pub mod Linking
 pub mod LinkedFiles

@@ -16,16 +16,18 @@ use Rattle.mufom_groups.specs.Linked.{first_name, members, roots}
 use Rattle.mufom_groups.specs.Work.{gives}
 use Rattle.mufom_groups.proofs.LinkWalk.{valid-append, valid-drop, valid-members}
 use Rattle.mufom_command.specs.Inputs.{AreModules}
-use Rattle.mufom_command.specs.Commands.{Output, linked_file, work_of, writes}
-use Rattle.mufom_command.specs.Run.{Call, MakesFile, PutsOut}
+use Rattle.mufom_command.specs.Commands.{Output, linked_file, work_of, writes, writes_module}
+use Rattle.mufom_command.specs.Run.{Call, PutsOut}
 use Rattle.mufom_command.specs.RunLaws.{Accepts, IsSameWork}
 use Rattle.mufom_command.proofs.Runs.{of-files}
 use Rattle.mufom_command.proofs.SameWorks.{same-work}
 use Rattle.mufom_command.proofs.StageLaws.{means-same, put_out-alike}
 use Rattle.mufom_headline.specs.Linking.{HasLinked, IsLinkPutOut, LinksArePutOut}
-use Rattle.mufom_headline.proofs.Calm.{answers-for, done-comes}
-use Rattle.mufom_headline.proofs.Accepted.{accepted-gives}
+use Rattle.mufom_command.proofs.Calm.{answers-for, done-comes}
+use Rattle.mufom_command.proofs.Accepted.{accepted-gives}
+use Rattle.mufom_headline.specs.ReadBack.{IsPutInFile}
 use Rattle.mufom_headline.proofs.Linking.{linking-is-done}
+use Rattle.mufom_headline.proofs.ReadBack.{held-read-back}
 
 -- ---- modules of accepted files have no defect
 
@@ -46,25 +48,26 @@ flat-valid files c plan flat accepts =
 
 -- ---- what is put out
 
-module _ (c : Command) (plan : Plan) (list : List Parts) (valid : AreValid list) (call : Call) where
-  file-made : (link : Parts) (o : Output) → writes c.out (written link) (gives o) → PutsOut o call
-      → (name : List ℕ) × (c.out ≡ Some name) × MakesFile name (written link) call
-  file-made link o is puts = by c.out refl is where
-    by : (out : Option (List ℕ)) → c.out ≡ out → writes out (written link) (gives o)
-        → (name : List ℕ) × (c.out ≡ Some name) × MakesFile name (written link) call
-    by None same none = absurd none
-    by (Some name) same put = (name, same, subst (λ (o : Output). PutsOut o call) put puts)
+-- a module that was written is in the file that the command names
+pub file-made : (c : Command) (call : Call) (m : Parts) (o : Output) → writes_module c.out m (gives o) → PutsOut o call → IsPutInFile c m call
+file-made c call m o (held, is) puts = by c.out refl is where
+  by : (out : Option (List ℕ)) → c.out ≡ out → writes out (written m) (gives o) → IsPutInFile c m call
+  by None same none = absurd none
+  by (Some name) same put = record {
+    name = name;
+    file = same;
+    puts_out = subst (λ (o : Output). PutsOut o call) put puts;
+    read_back = held-read-back m held;
+  }
 
+module _ (c : Command) (plan : Plan) (list : List Parts) (valid : AreValid list) (call : Call) where
   link-put-out : (o : Output) → linked_file c plan list (gives o) → PutsOut o call → IsLinkPutOut c list call
   link-put-out o (link, joined, is) puts =
-      let (name, file, made) = file-made link o is puts in
       record {
         link = link;
         joined = joined;
         stands = (joined_stands_for link list (unwrap_or c.name (first_name list)) joined valid).0;
-        name = name;
-        file = file;
-        puts_out = made;
+        put_out = file-made c call link o is puts;
       }
 
 pub links-are-put-out : LinksArePutOut
@@ -84,7 +87,7 @@ links-are-put-out words files call result c plan flat is calm named links accept
         done = ((λ done. sym same ∙ exactly.0 done), (λ none. exactly.1 (same ∙ none)));
         output = λ done.
             let came = done-comes files call c result (answers-for files call c words result is named) calm done in
-            let (linkable, puts) = accepted-gives files c plan flat bytes accepts linked_file came.output
+            let (linkable, puts) = accepted-gives files c plan flat bytes accepts (λ ms. linked_file) came.output
             (subst (λ (v : Verb). work_of v files c (gives came.output)) links came.comes) in
             link-put-out c plan list valid call came.output ((alike (gives came.output)).0 puts) came.puts_out;
       }

@@ -13,7 +13,8 @@ use Rattle.mufom_write.proofs.Stated.{stated}
 use Rattle.mufom_read.specs.Judging.{IsModule}
 use Rattle.mufom_groups.specs.Work.{gives}
 use Rattle.mufom_command.specs.Inputs.{AreAccepted, AreModules, ComeTo, HaveBytes, accepted}
-use Rattle.mufom_command.specs.Commands.{modules_in}
+use Rattle.mufom_command.specs.Commands.{IsHeld, modules_in}
+use Rattle.mufom_command.proofs.MadeLaws.{is-read-back}
 use Rattle.mufom_headline.specs.ReadBack.{IsReadBack, WrittenFilesAreReadBack}
 
 module _ (m : Parts) (is : IsModule true (written m) m) (few : length (written m) ≤ MOST_FILE_BYTES) where
@@ -54,7 +55,7 @@ module _ (m : Parts) (is : IsModule true (written m) m) (few : length (written m
           within = let total = sum_by-cons length (written m) [] in omega (arith, few, total);
         }
 
-  read-back : IsReadBack m
+  pub read-back : IsReadBack m
   read-back = record {
     file = λ n. (only n, (λ same. subst (λ (x : Parts). IsModule true (written m) x) (sym same) is));
     place = in-place;
@@ -63,3 +64,7 @@ module _ (m : Parts) (is : IsModule true (written m) m) (few : length (written m
 
 pub written-files-are-read-back : WrittenFilesAreReadBack
 written-files-are-read-back m valid made few = read-back m (stated m valid made few) few
+
+-- the same of a module that the program holds
+pub held-read-back : (m : Parts) → IsHeld m → length (written m) ≤ MOST_FILE_BYTES → IsReadBack m
+held-read-back m held few = read-back m (is-read-back m held few) few

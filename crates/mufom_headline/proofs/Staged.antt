@@ -25,7 +25,7 @@ use Rattle.mufom_command.specs.RunLaws.{CameByStages, IsLinking, IsSameWork, put
 use Rattle.mufom_command.proofs.SameWorks.{same-trans}
 use Rattle.mufom_command.proofs.StageLaws.{means-same, put_out-alike}
 use Rattle.mufom_headline.specs.Linking.{StagedRunsAreFlat}
-use Rattle.mufom_headline.proofs.Accepted.{after-inputs}
+use Rattle.mufom_command.proofs.Accepted.{after-inputs}
 
 -- ---- the link facts of a list of one descriptor with distinct names
 
@@ -137,7 +137,7 @@ staged-runs-are-flat files c plan flat leaves bytes is_linking accepts came = by
   by_linking output same =
       same-trans (linking output files c) (with_stops link_fact (linked (tree_of c.marks) accepts.modules) >>= λ flat. output c plan flat)
       (of_list output c plan leaves)
-      (after-inputs files c plan flat bytes accepts output) (links-same c accepts.modules flat leaves accepts.is_flat came plan output same)
+      (after-inputs files c plan flat bytes accepts (λ ms. output)) (links-same c accepts.modules flat leaves accepts.is_flat came plan output same)
 
   alike : (v : Verb) → IsSameWork (put_out_of v c plan flat) (put_out_of v c plan leaves)
   alike = put_out-alike c plan flat leaves (means-same flat leaves came)

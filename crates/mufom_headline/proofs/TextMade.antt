@@ -11,7 +11,6 @@ use Rattle.mufom_numbers.proofs.SpellingLaws.{AreBytes-take}
 use Rattle.mufom_host.specs.World.{NamedFile, file_named}
 use Rattle.mufom_loads.specs.declared.load.Load.{Load}
 use Rattle.mufom_module.specs.Made.{IsMade, IsMadeLoad, IsMadeMark, IsMadePublic, IsMadeReference, IsMadeSection}
-use Rattle.mufom_module.specs.Defects.{IsValid}
 use Rattle.mufom_module.specs.Grammar.{IsCutInto}
 use Rattle.mufom_module.specs.Written.{written}
 use Rattle.mufom_module.specs.declared.module.Parts.{Parts}
@@ -26,6 +25,7 @@ use Rattle.mufom_meaning.specs.AddressMap.{AreApart}
 use Rattle.mufom_titxt.specs.TextModules.{EndBelow, HaveModule, HaveText, literals, loads_from, run_section, text_parts}
 use Rattle.mufom_titxt.proofs.ModuleValid.{text_is_valid}
 use Rattle.mufom_command.specs.Inputs.{AreAccepted, ComeTo, accepted}
+use Rattle.mufom_command.specs.Commands.{IsHeld}
 
 -- ---- sections
 
@@ -65,7 +65,7 @@ made-loads section (run ∷ runs) few are = (
 
 -- ---- all of it
 
-pub text-made : (maus : ℕ) (runs : List Run) → maus ≤ 8 → HaveModule (8 * maus) runs → HaveText (8 * maus) runs → IsMade (text_parts maus runs)
+text-made : (maus : ℕ) (runs : List Run) → maus ≤ 8 → HaveModule (8 * maus) runs → HaveText (8 * maus) runs → IsMade (text_parts maus runs)
 text-made maus runs high h t = record {
   processor = (omega arith, (omega arith, (omega arith, tt)));
   name = (omega arith, (omega arith, (omega arith, (omega arith, tt))));
@@ -81,6 +81,10 @@ text-made maus runs high h t = record {
   start = tt;
 }
 
+-- the program can hold it
+pub text-held : (maus : ℕ) (runs : List Run) → 1 ≤ maus → maus ≤ 8 → HaveModule (8 * maus) runs → HaveText (8 * maus) runs → IsHeld (text_parts maus runs)
+text-held maus runs low high h t = record { valid = text_is_valid maus runs low high h.few h.short; made = text-made maus runs high h t }
+
 -- ---- its file
 
 module _ (maus : ℕ) (runs : List Run) (low : 1 ≤ maus) (high : maus ≤ 8) (h : HaveModule (8 * maus) runs) (t : HaveText (8 * maus) runs)
@@ -88,14 +92,14 @@ module _ (maus : ℕ) (runs : List Run) (low : 1 ≤ maus) (high : maus ≤ 8) (
   abbrev m : Parts
   m = text_parts maus runs
 
-  valid : IsValid (text_parts maus runs)
-  valid = text_is_valid maus runs low high h.few h.short
+  held : IsHeld (text_parts maus runs)
+  held = text-held maus runs low high h t
 
   fits : IsFittingModule (text_parts maus runs)
-  fits = module-fits m valid (text-made maus runs high h t)
+  fits = module-fits m held.valid held.made
 
   inside : IsInside (text_parts maus runs)
-  inside = inside_module m valid
+  inside = inside_module m held.valid
 
   cut-into : (reads_debug : Bool) → IsCutInto (written (text_parts maus runs)) reads_debug (file_of (text_parts maus runs))
   cut-into true = cut m fits few
@@ -114,7 +118,7 @@ module _ (maus : ℕ) (runs : List Run) (low : 1 ≤ maus) (high : maus ≤ 8) (
       }
 
   pub text-is-module : (reads_debug : Bool) → IsModule reads_debug (written (text_parts maus runs)) (text_parts maus runs)
-  text-is-module reads_debug = (file_of m, cut-into reads_debug, has-names m fits inside (loads-placed m valid), states m fits inside, valid)
+  text-is-module reads_debug = (file_of m, cut-into reads_debug, has-names m fits inside (loads-placed m held.valid), states m fits inside, held.valid)
 
   -- the file alone is accepted
   pub text-accepted : (reads_debug : Bool) (files : List NamedFile) (name : List ℕ) → file_named name files ≡ Some (written (text_parts maus runs))

@@ -1,5 +1,5 @@
 -- A text comes back from the file that is made of it.
-use Rattle.std.proofs.Common.{◌≡◌, ◌≤◌, ℕ, ◌*◌, Bool, not, nat_lt, List, [], ◌∷◌, length, Option, Some, Result, Ok, refl, sym, subst, arith}
+use Rattle.std.proofs.Common.{◌≡◌, ◌≤◌, ℕ, ◌*◌, Bool, true, not, nat_lt, List, [], ◌∷◌, length, Option, Some, Result, Ok, refl, sym, subst, arith}
 use Rattle.mufom_numbers.specs.declared.limits.TheConstants.{MOST_FILE_BYTES}
 use Rattle.mufom_host.specs.World.{HoldBytes, NamedFile, file_named}
 use Rattle.mufom_words.specs.declared.command.Command.{Command}
@@ -27,7 +27,7 @@ use Rattle.mufom_groups.specs.Work.{gives}
 use Rattle.mufom_groups.proofs.Works.{value-same}
 use Rattle.mufom_command.specs.Inputs.{ComeTo, accepted}
 use Rattle.mufom_command.specs.Commands.{modules_in, Output, run_of, work_by, kept_of, located, located_unless, locating, made, plan_in, runs_of_text}
-use Rattle.mufom_command.specs.Commands.{text_in, txt_file, unless_past_limit, work_of, writes}
+use Rattle.mufom_command.specs.Commands.{text_in, txt_file, unless_past_limit, work_of, writes, writes_module}
 use Rattle.mufom_command.specs.declared.outcome.Outcome.{Outcome}
 use Rattle.mufom_command.specs.declared.outcome.Outcome.TheVariants as outcome
 use Rattle.mufom_command.specs.Run.{Answers, Call, MakesFile, PutsOut}
@@ -35,10 +35,11 @@ use Rattle.mufom_command.specs.RunLaws.{IsUndisturbed}
 use Rattle.mufom_command.proofs.Determined.{answers-determined}
 use Rattle.mufom_command.proofs.Runs.{of-files, run_of-single}
 use Rattle.mufom_command.proofs.TextRuns.{text-rows}
-use Rattle.mufom_command.proofs.WorkLaws.{writes-gives}
+use Rattle.mufom_command.proofs.WorkLaws.{module-gives, writes-gives}
 use Rattle.mufom_headline.specs.Texts.{IsFromTxt, IsTxtAlone, Makes, TextsComeBack}
-use Rattle.mufom_headline.proofs.Calm.{answers-for, done-comes}
-use Rattle.mufom_headline.proofs.TextMade.{text-accepted}
+use Rattle.mufom_command.proofs.Calm.{answers-for, done-comes}
+use Rattle.mufom_headline.proofs.ReadBack.{read-back}
+use Rattle.mufom_headline.proofs.TextMade.{text-accepted, text-held, text-is-module}
 
 module _ (text : List ℕ) (maus : ℕ) (runs : List Run) (low : 1 ≤ maus) (high : maus ≤ 8) (short : length text ≤ MOST_FILE_BYTES)
     (is : IsTxtOf text (8 * maus) runs) (few : length (written (text_parts maus runs)) ≤ MOST_FILE_BYTES) where
@@ -66,8 +67,9 @@ module _ (text : List ℕ) (maus : ℕ) (runs : List Run) (low : 1 ≤ maus) (hi
     has-rows : runs_of_text c.maus text (gives runs)
     has-rows = subst (λ (k : ℕ). runs_of_text k text (gives runs)) (sym does.maus) (text-rows maus text runs is)
 
-    puts-out : writes c.out (written (text_parts c.maus runs)) (gives (made out bytes))
-    puts-out = subst (λ (k : ℕ). writes c.out (written (text_parts k runs)) (gives (made out bytes))) (sym does.maus) (writes-gives c out bytes does.puts_out)
+    puts-out : writes_module c.out (text_parts c.maus runs) (gives (made out bytes))
+    puts-out = subst (λ (k : ℕ). writes_module c.out (text_parts k runs) (gives (made out bytes))) (sym does.maus)
+        (module-gives c out (text_parts maus runs) (text-held maus runs low high has-module has-text) does.puts_out)
 
     module-file : work_of c.verb files c (gives (made out bytes))
     module-file = subst (λ (v : Verb). work_of v files c (gives (made out bytes))) (sym does.does) (text, is-read, (runs, has-rows, puts-out))
@@ -146,6 +148,8 @@ pub texts-come-back : TextsComeBack
 texts-come-back text maus runs low high short is few = record {
   module_file = λ files c name out does there.
       makes files c out (written (text_parts maus runs)) (module-file text maus runs low high short is few files c name out does there);
+  read_back = read-back (text_parts maus runs) (text-is-module maus runs low high (has-module text maus runs low high short is few)
+      (has-text text maus runs low high short is few) few true) few;
   text_file = λ files c name out does there.
       let (r, is_location, same) = text_located maus runs (has-module text maus runs low high short is few) low high in
       makes files c out (txt_text runs) (text-file text maus runs low high short is few r is_location files c name out does there same);

@@ -6,7 +6,6 @@ use Rattle.mufom_words.specs.declared.command.Verb.{Verb}
 use Rattle.mufom_words.specs.declared.command.Verb.TheVariants as verb
 use Rattle.mufom_words.specs.Answer.{answer_of}
 use Rattle.mufom_module.specs.declared.module.Parts.{Parts}
-use Rattle.mufom_module.specs.Written.{written}
 use Rattle.mufom_plan.specs.declared.plan.Plan.{Plan}
 use Rattle.mufom_text.specs.Image.{image_text}
 use Rattle.mufom_meaning.specs.declared.located.LocatedParts.{LocatedParts}
@@ -21,13 +20,14 @@ use Rattle.mufom_command.specs.declared.outcome.Outcome.TheVariants as outcome
 use Rattle.mufom_command.specs.declared.outcome.Refusal.TheVariants as refusal
 use Rattle.mufom_command.specs.LocateRefusals.{locate_refusal}
 use Rattle.mufom_command.specs.Commands.{kept_of, maus_of}
-use Rattle.mufom_command.specs.Run.{Call, Answers, MakesFile, PrintsText}
+use Rattle.mufom_command.specs.Run.{Call, Answers, PrintsText}
 use Rattle.mufom_command.specs.RunLaws.{Accepts, CameByStages, HasNoFact, IsUndisturbed}
+use Rattle.mufom_headline.specs.ReadBack.{IsPutInFile}
 
--- The output of a run is this location and nothing else. `locate` makes one file, named by `-o`, with the bytes of the location's absolute
--- module; `dump` prints the text of its image.
+-- The output of a run is this location and nothing else. `locate` makes the file of the location's absolute module, from which a later run
+-- reads that module; `dump` prints the text of its image.
 abbrev pub PutsOutLocation : Verb → Command → LocatedParts → Call → Type 0
-PutsOutLocation verb.Locate c r call = (name : List ℕ) × (c.out ≡ Some name) × MakesFile name (written (absolute_of r)) call
+PutsOutLocation verb.Locate c r call = IsPutInFile c (absolute_of r) call
 PutsOutLocation verb.Dump c r call = PrintsText (image_text r) call
 PutsOutLocation _ c r call = ⊥
 

@@ -1,4 +1,4 @@
+pub mod ReadBack
 pub mod Linking
 pub mod Headline
-pub mod ReadBack
 pub mod Texts

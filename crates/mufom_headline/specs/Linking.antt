@@ -5,7 +5,6 @@ use Rattle.mufom_words.specs.declared.command.Command.{Command}
 use Rattle.mufom_words.specs.declared.command.Verb.TheVariants as verb
 use Rattle.mufom_words.specs.Answer.{answer_of}
 use Rattle.mufom_module.specs.declared.module.Parts.{Parts}
-use Rattle.mufom_module.specs.Written.{written}
 use Rattle.mufom_plan.specs.declared.plan.Plan.{Plan}
 use Rattle.mufom_meaning.specs.Joined.{IsJoined}
 use Rattle.mufom_meaning.specs.LinkAnswer.{link_answer}
@@ -16,8 +15,9 @@ use Rattle.mufom_command.specs.declared.outcome.Outcome.{Outcome}
 use Rattle.mufom_command.specs.declared.outcome.Outcome.TheVariants as outcome
 use Rattle.mufom_command.specs.Stop.{Stop, link_fact}
 use Rattle.mufom_command.specs.Commands.{Output, work_of}
-use Rattle.mufom_command.specs.Run.{Call, Answers, MakesFile}
+use Rattle.mufom_command.specs.Run.{Call, Answers}
 use Rattle.mufom_command.specs.RunLaws.{Accepts, CameByStages, IsLinking, IsSameWork, IsUndisturbed, put_out_of}
+use Rattle.mufom_headline.specs.ReadBack.{IsPutInFile}
 
 -- If no I/O call failed, the run did not run out of memory and its files were accepted, `link` is `Done` if and only if the flat list of the
 -- modules can be linked, whatever the groups are.
@@ -27,15 +27,13 @@ LinkingIsDone =
     → Answers words call result → IsUndisturbed files call result → answer_of words ≡ Ok c → c.verb ≡ verb.Link → Accepts files c plan flat
     → (result ≡ outcome.Done) ↔ (link_answer flat ≡ None)
 
--- The output of a run over a list of modules is one file, named by `-o`, and nothing else. It has the bytes of the module into which the list
--- is linked, whose name is that of `--name` or that of the first module. In every context this module means what the list means.
+-- The output of a run over a list of modules is the file of the module into which the list is linked, whose name is that of `--name` or that
+-- of the first module. In every context this module means what the list means, and a later run reads it from the file.
 pub record IsLinkPutOut (c : Command) (list : List Parts) (call : Call) : Type 0 where
   pub link : Parts
   pub joined : IsJoined link list (unwrap_or c.name (first_name list))
   pub stands : StandsFor link list
-  pub name : List ℕ
-  pub file : c.out ≡ Some name
-  pub puts_out : MakesFile name (written link) call
+  pub put_out : IsPutInFile c link call
 
 -- The result of the run is that of linking this list: it is `Done` if and only if the list can be linked, and the output is then the link.
 pub record HasLinked (c : Command) (call : Call) (result : Outcome) (list : List Parts) : Type 0 where

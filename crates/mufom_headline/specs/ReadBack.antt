@@ -1,4 +1,4 @@
--- What a later run reads from the file of a module.
+-- What a later run reads from the file of a module, and what is put into such a file.
 use Rattle.std.specs.Prelude.{◌≡◌, ◌↔◌, ◌≤◌, ℕ, false, true, List, [], ◌∷◌, length, slice_get, Some}
 use Rattle.mufom_numbers.specs.declared.limits.TheConstants.{MOST_FILE_BYTES}
 use Rattle.mufom_host.specs.World.{NamedFile, file_named}
@@ -10,6 +10,7 @@ use Rattle.mufom_module.specs.Written.{written}
 use Rattle.mufom_read.specs.Judging.{IsModule}
 use Rattle.mufom_groups.specs.Work.{gives}
 use Rattle.mufom_command.specs.Commands.{modules_in}
+use Rattle.mufom_command.specs.Run.{Call, MakesFile}
 
 -- The written form of the module is a file of this module, with its debug part, and of no other. A command that does not skip debug parts
 -- and whose files are accepted reads this module from each such file. A command that names only one such file accepts it.
@@ -25,3 +26,11 @@ pub record IsReadBack (m : Parts) : Type 0 where
 -- All values of the type `Module` are such.
 abbrev pub WrittenFilesAreReadBack : Type 0
 WrittenFilesAreReadBack = (m : Parts) → IsValid m → IsMade m → length (written m) ≤ MOST_FILE_BYTES → IsReadBack m
+
+-- The output of a run is one file and nothing else. It has the name of `-o` and the bytes of the module, and a later run reads this module
+-- from it, if it is not too long.
+pub record IsPutInFile (c : Command) (m : Parts) (call : Call) : Type 0 where
+  pub name : List ℕ
+  pub file : c.out ≡ Some name
+  pub puts_out : MakesFile name (written m) call
+  pub read_back : length (written m) ≤ MOST_FILE_BYTES → IsReadBack m

@@ -17,6 +17,7 @@ use Rattle.mufom_command.specs.declared.outcome.Outcome.TheVariants as outcome
 use Rattle.mufom_command.specs.Commands.{made, work_of}
 use Rattle.mufom_command.specs.Run.{Answers, Call, MakesFile}
 use Rattle.mufom_command.specs.RunLaws.{IsUndisturbed}
+use Rattle.mufom_headline.specs.ReadBack.{IsReadBack}
 
 -- `fromtxt` over the file with this name, with this many addressable units to an address, and this name after `-o`
 pub record IsFromTxt (c : Command) (units : ℕ) (name out : List ℕ) : Type 0 where
@@ -41,11 +42,12 @@ pub record Makes (files : List NamedFile) (c : Command) (name bytes : List ℕ) 
   pub run : (words : List (List ℕ)) (call : Call) (result : Outcome) → Answers words call result → IsUndisturbed files call result
       → answer_of words ≡ Ok c → (result ≡ outcome.Done) × MakesFile name bytes call
 
--- `fromtxt` over the text makes the file of the module of the runs. `txt` over this file makes the text of the runs, which is again a text of
--- them.
+-- `fromtxt` over the text makes the file of the module of the runs, from which a later run reads that module. `txt` over this file makes the
+-- text of the runs, which is again a text of them.
 pub record ComesBack (text : List ℕ) (maus : ℕ) (runs : List Run) : Type 0 where
   pub module_file : (files : List NamedFile) (c : Command) (name out : List ℕ) → IsFromTxt c maus name out
       → file_named name files ≡ Some text → Makes files c out (written (text_parts maus runs))
+  pub read_back : IsReadBack (text_parts maus runs)
   pub text_file : (files : List NamedFile) (c : Command) (name out : List ℕ) → IsTxtAlone c name out
       → file_named name files ≡ Some (written (text_parts maus runs)) → Makes files c out (txt_text runs)
   pub same_runs : IsTxtOf (txt_text runs) (8 * maus) runs

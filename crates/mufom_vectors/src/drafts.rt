@@ -4,7 +4,7 @@
 use std::alloc::Global;
 use std::process::Abort;
 
-/// What stands before the length of addresses: the processor, and the module's name `m`.
+/// What is before the length of addresses: the processor, and the module's name `m`.
 const HEAD: &[u8] = b"\xE0\x0568000\x01m\xEC\x08";
 
 /// The letter after the length of addresses: the most significant byte goes first.

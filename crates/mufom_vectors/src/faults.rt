@@ -1,3 +1,5 @@
+//! Runs in which a call of the host fails.
+
 use crate::files::{ABSOLUTE, failing_host, numbers, words};
 use crate::runs::complains_of;
 use mufom_command::{Input, Outcome, Refusal, run};

@@ -1,3 +1,5 @@
+//! Modules that are written and read back.
+
 use crate::files::{ABSOLUTE, BLOCKS, EMPTY, EVERY_KIND, LIBRARY, RELOCATABLE, host, made_bytes};
 use crate::runs::shows;
 use crate::show::{ABSOLUTE_TEXT, RELOCATABLE_TEXT};

@@ -214,7 +214,7 @@ pub(crate) fn makes(rt: &impl Abort, alloc: Global, files: &[File], line: &str, 
     assert!(rt; made.as_slice() == bytes, "{line}");
 }
 
-/// The words of a line over no files are answered with this status and this complaint alone.
+/// A line of arguments over no files gives this status and this error line alone.
 pub(crate) fn complains_of(rt: &impl Abort, alloc: Global, line: &str, status: u8, text: &str) {
     let mut host = host_of(rt, alloc, List::new(alloc));
     assert_eq!(rt; status_of(rt, alloc, &mut host, line), status);

@@ -3,7 +3,7 @@ use Rattle.std.specs.Prelude.{◌≡◌, ℕ, ◌+◌, List, [], ◌∷◌, ◌+
 use Rattle.mufom_words.specs.declared.command.Command.{Command}
 use Rattle.mufom_words.specs.Tree.{tree_of, leaves, groups}
 
--- The files of the tree, in the order of the words.
+-- The files of the tree, in the order of the arguments.
 abbrev pub roots : Command → List ℕ
 roots c = leaves (tree_of c.marks)
 

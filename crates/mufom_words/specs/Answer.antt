@@ -1,4 +1,4 @@
--- The command of the words, or the first thing that is wrong with them, in a fixed order: the command's name; the options; the words
+-- The command of the arguments, or the first thing that is wrong with them, in a fixed order: the command's name; the options; the words
 -- that are no option, from left to right, and then their end; their number; the name; the count; the values of
 -- options that are numbers; and after all these the limits of a run.
 use Rattle.std.specs.Prelude.{ℕ, Bool, true, false, ◌&&◌, nat_lt, if◌then◌else◌, List, [], ◌∷◌, length, Option, Some, None, option_map, is_none}
@@ -45,7 +45,7 @@ longest_name = 65535
 
 -- ---- faults
 
--- what the words of a command give, the first of which names it
+-- what the arguments of a command give, the first of which names it
 abbrev pub given : Form → List Text → Given
 given f words = given_by f (matches_of (app_for f) words)
 
@@ -110,11 +110,11 @@ given_fault u g = missing_fault u setting.At g.at
 abbrev pub given_stop : Usage → Given → Option WordsStop
 given_stop u g = usage (given_fault u g) or_else limit_stop u.operands g.operands
 
--- the first thing that is wrong with the words, by what `clap` makes of them
+-- the first thing that is wrong with the arguments, by what `clap` makes of them
 abbrev pub words_stop : Usage → Kinds → Given → Option WordsStop
 words_stop u refused g = usage (options_fault refused) or_else given_stop u g
 
--- ---- the answer
+-- ---- the outcome
 
 -- the number that an option gives, and another one where the option is absent
 abbrev pub number_by : (Text → Option ℕ) → ℕ → Option Text → ℕ
@@ -152,12 +152,12 @@ abbrev pub answer_by : Option Verb → Text → List Text → Result Command Wor
 answer_by None word words = answer_for (form_of word) (word ∷ words)
 answer_by (Some v) word words = own_answer v words
 
--- The command of the words, or the first thing that is wrong with them.
+-- The command of the arguments, or the first thing that is wrong with them.
 abbrev pub answer_of : List Text → Result Command WordsStop
 answer_of [] = Err (stop.Usage fault.NoCommand)
 answer_of (word ∷ words) = answer_by (own_verb word) word words
 
--- the words name a command that prints a text of the program
+-- the arguments name a command that prints a text of the program
 abbrev pub PrintsHelp : List Text → Type 0
 PrintsHelp [] = ⊥
 PrintsHelp (word ∷ words) = IsSome (own_verb word)

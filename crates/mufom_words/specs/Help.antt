@@ -30,7 +30,7 @@ abbrev pub version_text : List Text → Option Text
 version_text [] = Some VERSION.now
 version_text (_ ∷ _) = None
 
--- what is printed where the words after the first are these
+-- what is printed where the arguments after the first are these
 abbrev pub own_text : Verb → List Text → Option Text
 own_text verb.Version words = version_text words
 own_text _ words = help_text words

@@ -1,4 +1,4 @@
--- The words that are no option: files in groups, members, or a count. What is wrong with them is what is wrong with the first word
+-- The arguments that are no option: files in groups, members, or a count. What is wrong with them is what is wrong with the first word
 -- with which anything is, and then with the end.
 use Rattle.std.specs.Prelude.{ℕ, zero, suc, ◌-◌, ◌==◌, ◌&&◌, nat_lt, nat_le, max, Bool, true, false, not, List, [], ◌∷◌, length, map, filter, Option}
 use Rattle.std.specs.Prelude.{Some, None, Result, Ok, Err, codes, unwrap_or, is_none, if◌then◌else◌}
@@ -48,7 +48,7 @@ step (Members any) Closing = Err fault.StrayBracket
 step (Members any) Plus = Err fault.BadMembers
 step (Members any) Name = Ok (Members true)
 
--- what is wrong where the words end: a group that is open, or that there is no file, or no member after the `+`
+-- what is wrong where the arguments end: a group that is open, or that there is no file, or no member after the `+`
 abbrev pub end_fault : Walk → Option UsageFault
 end_fault (Tree (suc depth) opened any) = Some fault.OpenGroup
 end_fault (Tree zero opened false) = Some fault.NoFile
@@ -60,7 +60,7 @@ abbrev pub unless_fault : Result Walk UsageFault → (Walk → Option UsageFault
 unless_fault (Ok walk) next = next walk
 unless_fault (Err f) next = Some f
 
--- the first fault of the words that follow
+-- the first fault of the arguments that follow
 abbrev pub fault_from : Walk → List FileWord → Option UsageFault
 fault_from walk [] = end_fault walk
 fault_from walk (word ∷ words) = unless_fault (step walk word) (λ next. fault_from next words)

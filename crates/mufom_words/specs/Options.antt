@@ -1,4 +1,4 @@
--- The table of commands and the table of options, and what `clap` makes of the words by them. There is no help option.
+-- The table of commands and the table of options, and what `clap` makes of the arguments by them. There is no help option.
 use Rattle.std.specs.Prelude.{ℕ, Bool, true, false, List, [], ◌∷◌, Option, Some, None, codes, fold, unwrap_or, if◌then◌else◌}
 use Rattle.std.specs.List.{find, list_any}
 use Rattle.std.specs.Str.{bytes_eq}
@@ -19,7 +19,7 @@ Text = List ℕ
 
 -- ---- the table of commands
 
--- what the words of a command are: the first, which names it, its options, and the other words
+-- what the arguments of a command are: the first, which names it, its options, and the other words
 pub record Usage : Type 0 where
   pub verb : Verb
   pub name : Text
@@ -152,9 +152,9 @@ rule_for setting.Fill = record (new_rule (id_of setting.Fill)) { long = Some (co
 rule_for setting.Maus = record (new_rule (id_of setting.Maus)) { long = Some (codes "maus") }
 rule_for setting.Keep = record (new_rule (id_of setting.Keep)) { long = Some (codes "keep") }
 
--- ---- what `clap` makes of the words
+-- ---- what `clap` makes of the arguments
 
--- all words that are no option
+-- all arguments that are no option
 abbrev pub operands_rule : Rule
 operands_rule = record (new_rule (codes "files")) { action = Some Append }
 
@@ -175,7 +175,7 @@ app_for f = app_with (usage_of f).name (usage_of f).settings
 abbrev pub takes : List Setting → Setting → Bool
 takes settings s = list_any (λ own. bytes_eq (id_of own) (id_of s)) settings
 
--- the value of an option, in the rows that `clap` makes of the words; none where the command does not have the option
+-- the value of an option, in the rows that `clap` makes of the arguments; none where the command does not have the option
 abbrev pub value_in : List Setting → List Row → Setting → Option Text
 value_in settings rows s = if takes settings s then first_of (id_of s) rows else None
 
@@ -183,11 +183,11 @@ abbrev pub is_true : Option Text → Bool
 is_true None = false
 is_true (Some text) = bytes_eq text (codes "true")
 
--- the words that are no option
+-- the arguments that are no option
 abbrev pub operands_of : List Row → List Text
 operands_of rows = unwrap_or (all_of (codes "files") rows) []
 
--- what the words give
+-- what the arguments give
 pub record Given : Type 0 where
   pub no_debug : Bool
   pub name : Option Text
@@ -198,7 +198,7 @@ pub record Given : Type 0 where
   pub fill : Option Text
   pub maus : Option Text
   pub keep : Option Text
-  -- the words that are no option
+  -- the arguments that are no option
   pub operands : List Text
 
 abbrev pub given_by : Form → List Row → Given

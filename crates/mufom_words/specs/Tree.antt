@@ -22,7 +22,7 @@ pub record Spelled : Type 0 where
   pub inner : Forest
   pub others : List Forest
 
--- a group around what stands before its closing bracket; a bracket that nothing closes is closed at the end
+-- a group around what is before its closing bracket; a bracket that nothing closes is closed at the end
 abbrev pub opened : Forest → List Forest → Spelled
 opened inner [] = record { inner = group inner empty; others = [] }
 opened inner (more ∷ others) = record { inner = group inner more; others = others }

@@ -1,3 +1,5 @@
+//! A command, as the arguments give it.
+
 use mufom_numbers::{Bytes, List, Text};
 use std::marker::Model;
 
@@ -71,11 +73,11 @@ pub enum Mark {
     Open,
     /// The innermost open group ends.
     Close,
-    /// The file with this number, from 0 in the order of the words.
+    /// The file with this number, from 0 in the order of the arguments.
     File(u32),
 }
 
-/// A command, with what its words give.
+/// A command, with what its arguments give.
 #[derive(Debug, Drop)]
 pub struct Command {
     pub verb: Verb,
@@ -89,7 +91,7 @@ pub struct Command {
     pub plan: Option<Text>,
     /// The tree of the files that are no members: groups in brackets, files by their numbers.
     pub marks: List<Mark>,
-    /// The names of the files in the order of their words. The members follow those of the tree.
+    /// The names of the files in the order of their arguments. The members follow those of the tree.
     pub files: List<Text>,
     /// How many modules are generated; 0 where the command generates none.
     pub count: u32,

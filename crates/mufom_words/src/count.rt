@@ -25,7 +25,7 @@ fn capped_number(digits: &[u8]) -> u32
     number
 }
 
-/// The count that a word states in decimal digits, 1 to 65,536. Zeros may stand before it.
+/// The count that a word states in decimal digits, 1 to 65,536. Zeros may come before it.
 pub(crate) fn count_of(word: &str) -> Option<u32>
     ensures { result ≡ counted word.now }
 {

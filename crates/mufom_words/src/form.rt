@@ -6,7 +6,7 @@ ghost use Rattle.mufom_words.specs.Options.{form_of, takes, usage_of};
 use crate::command::Verb;
 use crate::options::Setting;
 
-/// What the words of a command are that are no option.
+/// What the arguments of a command are that are no option.
 #[derive(Clone, Copy, Debug, PartialEq, Eq)]
 pub(crate) enum Operands {
     /// The name of one file.

@@ -1,4 +1,4 @@
-//! What `clap` finds in the words.
+//! What `clap` finds in the arguments.
 
 ghost use Rattle.std.specs.Prelude.{◌≡◌, [], IfOk, IfSome, IsNone, map, option_map};
 ghost use Rattle.std.specs.String.{string_bytes};
@@ -14,7 +14,7 @@ use crate::options::{Setting, command_of};
 use clap::{ArgMatches, Error};
 use std::alloc::Global;
 
-/// What `clap` finds in the words of a command, the first of which names it.
+/// What `clap` finds in the arguments of a command, the first of which names it.
 pub(crate) fn matches_in<'a>(
     alloc: Global,
     form: Form,
@@ -51,7 +51,7 @@ pub(crate) fn is_given(matches: &ArgMatches<'_>, form: Form, setting: Setting) -
     }
 }
 
-/// The words that are no option.
+/// The arguments that are no option.
 pub(crate) fn operands_in<'b, 'a: 'b>(matches: &'b ArgMatches<'a>) -> Option<&'b [&'a str]>
     ensures some { IfSome result (λ words. map (λ word. word.now) words.now ≡ operands_of (rows_of (found_of matches.now))) }
     ensures none { IsNone result → operands_of (rows_of (found_of matches.now)) ≡ [] }

@@ -22,7 +22,7 @@ pub(crate) fn own_verb(word: &str) -> Option<Verb>
     }
 }
 
-// What `help` prints, by the words after it.
+// What `help` prints, by the arguments after it.
 fn help_text(words: &[String]) -> Option<&'static str>
     ensures { option_map (λ text. text.now) result ≡ help (map (λ word. string_bytes word) words.now) }
 {
@@ -33,7 +33,7 @@ fn help_text(words: &[String]) -> Option<&'static str>
     }
 }
 
-// What `version` prints, by the words after it.
+// What `version` prints, by the arguments after it.
 fn version_text(words: &[String]) -> Option<&'static str>
     ensures { option_map (λ text. text.now) result ≡ version (map (λ word. string_bytes word) words.now) }
 {
@@ -43,7 +43,7 @@ fn version_text(words: &[String]) -> Option<&'static str>
     }
 }
 
-// What the command prints, by the words after its name.
+// What the command prints, by the arguments after its name.
 fn own_text(verb: Verb, words: &[String]) -> Option<&'static str>
     ensures { option_map (λ text. text.now) result ≡ text_of verb (map (λ word. string_bytes word) words.now) }
 {

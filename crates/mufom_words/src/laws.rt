@@ -1,4 +1,4 @@
-//! Laws of the words, each the contract of a function that does nothing.
+//! Laws of the arguments, each the contract of a function that does nothing.
 
 ghost use Rattle.std.specs.Prelude.{◌≡◌};
 ghost use Rattle.mufom_words.specs.Sound.{CommandsAreSound};

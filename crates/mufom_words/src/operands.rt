@@ -1,4 +1,4 @@
-//! The words that are no option: names of files in groups, and of members, or a count.
+//! The arguments that are no option: names of files in groups, and of members, or a count.
 
 ghost use Rattle.std.specs.Prelude.{◌≡◌, ◌+◌, ◌-◌, ◌≤◌, ◌<◌, ◌^◌, false, IfOk, length, map};
 ghost use Rattle.mufom_words.specs.Operands.{count_fault as wrong_count, depth_from, depth_in, depth_of as depth_by, end_fault as wrong_end};
@@ -49,7 +49,7 @@ fn file_word(word: &str) -> FileWord
 
 // ---- faults
 
-// What is wrong with the first bracket or `+`, where no file stands in a group.
+// What is wrong with the first bracket or `+`, where no file is in a group.
 fn plain_fault(words: &[&str]) -> Option<UsageFault>
     ensures { result ≡ plain_fault_from false (file_words (map (λ word. word.now) words.now)) }
 {
@@ -108,7 +108,7 @@ fn step(walk: Walk, word: FileWord) -> Result<Walk, UsageFault>
     }
 }
 
-// What is wrong where the words end.
+// What is wrong where the arguments end.
 fn end_fault(walk: Walk) -> Option<UsageFault>
     ensures { result ≡ wrong_end walk }
 {
@@ -184,7 +184,7 @@ pub(crate) fn count_fault(operands: Operands, words: &[&str]) -> Option<UsageFau
     }
 }
 
-// ---- what the words give
+// ---- what the arguments give
 
 /// The count, and 0 where the command is for none.
 pub(crate) fn number_of(operands: Operands, words: &[&str]) -> u32

@@ -18,11 +18,11 @@ pub(crate) enum Setting {
     Name,
     /// `--plan PLAN`
     Plan,
-    /// `-o OUT`, which must stand.
+    /// `-o OUT`, which is required.
     Out,
     /// `--listing`
     Listing,
-    /// `--at ADDRESS`, which must stand.
+    /// `--at ADDRESS`, which is required.
     At,
     /// `--fill BYTE`
     Fill,

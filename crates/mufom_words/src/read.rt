@@ -1,4 +1,4 @@
-//! The command of the words.
+//! The command of the arguments.
 
 ghost use Rattle.std.specs.Prelude.{◌≡◌, ◌≢◌, ◌<◌, ◌^◌, Some, Ok, Err, IfOk, IfErr, length, map, option_map};
 ghost use Rattle.std.specs.String.{string_bytes};
@@ -98,7 +98,7 @@ fn limit_stop(operands: Operands, words: &[&str]) -> Option<WordsStop>
     None
 }
 
-// What an error of `clap` states of the words.
+// What an error of `clap` states of the arguments.
 fn refusal(error: &Error) -> WordsStop
     ensures { result ≡ stop_by (kind_of error.now) }
 {
@@ -238,7 +238,7 @@ fn command_of_taken(
     }
 }
 
-/// The command of the words by a row of the table. The first of the words names the command.
+/// The command of the arguments by a row of the table. The first of the arguments names the command.
 pub(crate) fn command_for(alloc: Global, form: Form, words: &[String]) -> Result<Command, WordsStop>
     requires { length words.now < 2 ^ 32 }
     ensures ok { IfOk result (λ command. answer_for (Some form) (map (λ word. string_bytes word) words.now) ≡ Ok command) }
@@ -255,7 +255,7 @@ pub(crate) fn command_for(alloc: Global, form: Form, words: &[String]) -> Result
     }
 }
 
-/// The command that the words give, or the first thing that is wrong with them.
+/// The command that the arguments give, or the first thing that is wrong with them.
 ///
 /// `words` are the command line's words without the program's name, fewer than 2^32. The first
 /// names the command, and `clap` reads the others, but for those of `help` and `version`, which are

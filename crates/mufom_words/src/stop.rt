@@ -1,3 +1,5 @@
+//! What is wrong with the arguments.
+
 use thiserror::Error;
 
 /// Why the words of a run are no command.
@@ -6,8 +8,8 @@ pub enum UsageFault {
     /// No word, or a first word that names no command.
     #[error("no such command")]
     NoCommand,
-    /// An option that the command does not have, that stands twice, that lacks its value or has one
-    /// where it takes none, or that must stand and does not.
+    /// An option that the command does not have, that occurs twice, that lacks its value or has one
+    /// where it takes none, or that is required and is absent.
     #[error("invalid arguments")]
     BadWords,
     /// No file.
@@ -47,16 +49,16 @@ pub enum UsageFault {
 /// Why words are no command of a run.
 #[derive(Clone, Copy, Debug, PartialEq, Eq, Error)]
 pub enum WordsStop {
-    /// The words are no command.
+    /// The arguments are not a command.
     #[error(transparent)]
     Usage(UsageFault),
-    /// The words name this number of files, more than 1,024.
+    /// The arguments name this number of files, more than 1,024.
     #[error("{0} files, more than 1,024")]
     TooManyFiles(u32),
     /// This number of groups is open at once, more than 64.
     #[error("{0} groups are open at once, more than 64")]
     TooDeep(u32),
-    /// There was no memory.
+    /// Memory ran out.
     #[error("out of memory")]
     NoMemory,
 }

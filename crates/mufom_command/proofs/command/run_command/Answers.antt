@@ -1,7 +1,8 @@
 use Rattle.std.proofs.Common.{sym, subst, inl, inr}
 use Rattle.mufom_words.specs.declared.command.Verb.{Verb}
 use Rattle.mufom_command.specs.Commands.{work_of}
-use Rattle.mufom_command.specs.Run.{call_of, Does}
+use Rattle.mufom_command.specs.Run.{call_of}
+use Rattle.mufom_command.specs.RunParts.{Does}
 use Rattle.mufom_command.proofs.command.run_command.Goals as goal
 
 pub returns-in-Link-clause-does : goal.returns-in-Link-clause-does

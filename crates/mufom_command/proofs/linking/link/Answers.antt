@@ -34,5 +34,6 @@ returns-in-Ok-linked g c =
     made-does command (λ files. linking linked_file files command) old mid before between read.only read.all new now (written c.in-Ok-linked.object)
     (λ name named. over-map c.requires.of_files (λ fs. inputs_in fs command (gives (inputs.plan, inputs.modules)))
     (λ fs. linking linked_file fs command (gives (made name (written c.in-Ok-linked.object)))) old.files
-    (λ fs is. link-gives command inputs.plan inputs.modules fs is c.in-Ok-linked.object name c.in-Ok-linked.ensures.ok named) read.read)
-    c.requires.file c.make_output.result c.make_output.ensures
+    (λ fs is. link-gives command inputs.plan inputs.modules fs is c.in-Ok-linked.object name c.in-Ok-linked.ensures.ok c.make_output.ensures.held named)
+    read.read)
+    c.requires.file c.make_output.result c.make_output.ensures.makes

@@ -3,7 +3,8 @@ use Rattle.mufom_groups.specs.Work.{gives}
 use Rattle.mufom_command.specs.declared.outcome.Outcome.{Outcome}
 use Rattle.mufom_command.specs.Commands.{work_of}
 use Rattle.mufom_command.specs.InputsRead.{inputs_in}
-use Rattle.mufom_command.specs.Run.{call_of, Does}
+use Rattle.mufom_command.specs.Run.{call_of}
+use Rattle.mufom_command.specs.RunParts.{Does}
 use Rattle.mufom_command.specs.WorkEnds.{EndsAt, LocatesTo, location_of}
 use Rattle.mufom_command.proofs.DoesLaws.{stopped-does}
 use Rattle.mufom_command.proofs.EndLaws.{ends-does, if-err-map, if-ok-map}

@@ -32,4 +32,4 @@ returns-in-Ok-module_of g c =
     (g.H.World.meaning c.make_output.new.host) (g.H.World.faults c.make_output.new.host) object
     (subst (λ (text : List ℕ). (runs : List Run) × runs_of_text command.maus text (gives runs)
     × (object ≡ text_parts command.maus runs)) c.as_slice.ensures.value c.in-Ok-module_of.ensures.ok)
-    c.requires.file c.make_output.result c.make_output.ensures
+    c.make_output.ensures.held c.requires.file c.make_output.result c.make_output.ensures.makes
