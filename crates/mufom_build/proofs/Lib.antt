@@ -1,4 +1,3 @@
-pub mod Spelling
 pub mod Printed
 pub mod PrintedLines
 pub mod Matching

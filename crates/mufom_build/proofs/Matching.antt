@@ -6,10 +6,10 @@ use Rattle.std.specs.Str.Parse.{AllDigits, digits_value}
 use Rattle.std.specs.Char.{digit_value}
 use Rattle.hex.specs.Hex.{hex_digit_value}
 use Rattle.mufom_text.specs.Words.{Text, stands_for_itself}
-use Rattle.mufom_build.specs.Pieces.{Piece, byte, gap, figure, position, count, name, digits, expression, block, Reading, exact, loose, SpellsNumber}
-use Rattle.mufom_build.specs.Pieces.{SpellsStated, AreDigitsOf, SpellsDigits, SpellsNameByte, SpellsNameBytes, SpellsName, AreSpaces, SpellsPiece}
-use Rattle.mufom_build.specs.Pieces.{Spells}
-use Rattle.mufom_build.specs.Places.{AreBlank, SpellsLines}
+use Rattle.mufom_build_text.specs.Pieces.{Piece, byte, gap, figure, position, count, name, digits, expression, block, Reading, exact, loose, SpellsNumber}
+use Rattle.mufom_build_text.specs.Pieces.{SpellsStated, AreDigitsOf, SpellsDigits, SpellsNameByte, SpellsNameBytes, SpellsName, AreSpaces, SpellsPiece}
+use Rattle.mufom_build_text.specs.Pieces.{Spells}
+use Rattle.mufom_build_text.specs.Places.{AreBlank, SpellsLines}
 
 -- what follows from a test, where it passes
 abbrev passing : {A : Type 0} (b : Bool) → (b ≡ true → A) → Option A

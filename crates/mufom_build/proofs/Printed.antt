@@ -10,11 +10,11 @@ use Rattle.mufom_expr.specs.declared.token.Token.{Token}
 use Rattle.mufom_expr.specs.InfixText.{infix_text, letter_text, opening_text, middle_text}
 use Rattle.mufom_module.specs.Made.{IsNumber, IsPosition, IsMadeTree}
 use Rattle.mufom_text.specs.Words.{Text, line, quoted, hex_bytes, spaced_numbers, indent}
-use Rattle.mufom_build.specs.Pieces.{Piece, block, figure, position, count, name, digits, exact, MOST_BYTE, MOST_POSITION, MOST_NUMBER, Spells}
-use Rattle.mufom_build.specs.Pieces.{AreSpaces, words, number_piece, place_piece, small_piece, name_piece, infix_pieces, value_pieces}
-use Rattle.mufom_build.specs.Places.{SpellsLines, AreBlank}
+use Rattle.mufom_build_text.specs.Pieces.{Piece, block, figure, position, count, name, digits, exact, MOST_BYTE, MOST_POSITION, MOST_NUMBER, Spells}
+use Rattle.mufom_build_text.specs.Pieces.{AreSpaces, words, number_piece, place_piece, small_piece, name_piece, infix_pieces, value_pieces}
+use Rattle.mufom_build_text.specs.Places.{SpellsLines, AreBlank}
 use Rattle.mufom_build.specs.Lines.{Line, spaced_pieces}
-use Rattle.mufom_build.proofs.Spelling.{spells-append, spells-one, number_spelled, words_spelled, digits_spelled, name_spelled}
+use Rattle.mufom_build_text.proofs.Spelling.{spells-append, spells-one, number_spelled, words_spelled, digits_spelled, name_spelled}
 
 -- the text spells the pieces
 pub record Printed (pieces : List Piece) (text : Text) : Type 0 where

@@ -8,8 +8,8 @@ use Rattle.mufom_debug.specs.Marks.{DebugMark, block_begin, block_end, name_mark
 use Rattle.mufom_module.specs.declared.module.Parts.{Parts}
 use Rattle.mufom_module.specs.Made.{IsMade, IsMadeNote, IsMadePublic, IsMadeReference, IsMadeHead, IsMadeMark}
 use Rattle.mufom_text.specs.Words.{Text}
-use Rattle.mufom_build.specs.Pieces.{Piece, byte, gap, figure, position, count, name, digits, expression, block, exact, loose, SpellsPiece, Spells}
-use Rattle.mufom_build.specs.Places.{SpellsLines}
+use Rattle.mufom_build_text.specs.Pieces.{Piece, byte, gap, figure, position, count, name, digits, expression, block, exact, loose, SpellsPiece, Spells}
+use Rattle.mufom_build_text.specs.Places.{SpellsLines}
 use Rattle.mufom_build.specs.Lines.{Line, listing_lines, HasFewNumbers, HasFewHeadNumbers, HasFewMarkNumbers, AreFew, Build, Shape}
 
 -- what is read exactly is read loosely too

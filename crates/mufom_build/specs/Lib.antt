@@ -1,4 +1,2 @@
-pub mod Pieces
-pub mod Places
 pub mod Lines
 pub mod Refusals

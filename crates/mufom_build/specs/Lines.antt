@@ -18,9 +18,9 @@ use Rattle.mufom_module.specs.Defects.{IsValid}
 use Rattle.mufom_module.specs.Made.{IsMade}
 use Rattle.mufom_text.specs.Words.{Text}
 use Rattle.mufom_text.specs.Show.{order_letter, type_letters, purpose_letter, kind_text}
-use Rattle.mufom_build.specs.Pieces.{Piece, block, position, count, digits, exact, loose, words, number_piece, place_piece, small_piece, name_piece}
-use Rattle.mufom_build.specs.Pieces.{value_pieces}
-use Rattle.mufom_build.specs.Places.{SpellsLines}
+use Rattle.mufom_build_text.specs.Pieces.{Piece, block, position, count, digits, exact, loose, words, number_piece, place_piece, small_piece, name_piece}
+use Rattle.mufom_build_text.specs.Pieces.{value_pieces}
+use Rattle.mufom_build_text.specs.Places.{SpellsLines}
 
 abbrev pub Line : Type 0
 Line = List Piece

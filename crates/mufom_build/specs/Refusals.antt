@@ -6,11 +6,11 @@ use Rattle.mufom_module.specs.declared.module.Defect.{Defect}
 use Rattle.mufom_module.specs.Defects.{first_defect}
 use Rattle.mufom_module.specs.Made.{IsMade}
 use Rattle.mufom_text.specs.Words.{Text, line}
-use Rattle.mufom_build.specs.declared.refusal.BuildReason.{BuildReason}
-use Rattle.mufom_build.specs.declared.refusal.BuildReason.TheVariants.{BadText, TooGreat, Position, Count, TooLong, Deep}
-use Rattle.mufom_build.specs.Pieces.{Piece, byte, gap, figure, position, count, name, digits, expression, block, exact, loose, Spells, SpellsPiece}
-use Rattle.mufom_build.specs.Pieces.{AreSpaces, MOST_POSITION, MOST_NUMBER}
-use Rattle.mufom_build.specs.Places.{SpellsLines}
+use Rattle.mufom_build_text.specs.declared.refusal.BuildReason.{BuildReason}
+use Rattle.mufom_build_text.specs.declared.refusal.BuildReason.TheVariants.{BadText, TooGreat, Position, Count, TooLong, Deep}
+use Rattle.mufom_build_text.specs.Pieces.{Piece, byte, gap, figure, position, count, name, digits, expression, block, exact, loose, Spells, SpellsPiece}
+use Rattle.mufom_build_text.specs.Pieces.{AreSpaces, MOST_POSITION, MOST_NUMBER}
+use Rattle.mufom_build_text.specs.Places.{SpellsLines}
 use Rattle.mufom_build.specs.Lines.{Line, listing_lines, AreFew, Shape}
 
 -- ---- the lines of a text

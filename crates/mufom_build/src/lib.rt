@@ -10,4 +10,5 @@ mod laws;
 mod refusal;
 
 pub use laws::{built_texts_have_the_shape, listings_build};
-pub use refusal::{BuildReason, BuildRefusal};
+pub use mufom_build_text::BuildReason;
+pub use refusal::BuildRefusal;

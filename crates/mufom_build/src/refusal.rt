@@ -1,23 +1,7 @@
 //! Why no module is built from a text.
 
+use mufom_build_text::BuildReason;
 use mufom_module::Defect;
-
-/// What is wrong at a place of a text, in the order in which two errors at one place are named.
-#[derive(Clone, Copy, Debug, PartialEq, Eq)]
-pub enum BuildReason {
-    /// The line is not one of a listing, or may not come after the lines before it.
-    BadText,
-    /// A number is greater than its field holds.
-    TooGreat,
-    /// A line states another position than it has.
-    Position,
-    /// A line states another number of bytes than follow.
-    Count,
-    /// An expression has more than 255 tokens.
-    TooLong,
-    /// More than 32 blocks are open.
-    Deep,
-}
 
 /// Why no module is built from a text.
 #[derive(Clone, Copy, Debug, PartialEq, Eq)]

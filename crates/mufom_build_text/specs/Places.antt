@@ -2,7 +2,7 @@
 use Rattle.std.specs.Prelude.{◌≡◌, List, [], ◌∷◌, ◌++◌, ◌⊎◌}
 use Rattle.std.specs.List.{AllByRecursion}
 use Rattle.mufom_text.specs.Words.{Text}
-use Rattle.mufom_build.specs.Pieces.{Piece, Reading, Spells, AreSpaces}
+use Rattle.mufom_build_text.specs.Pieces.{Piece, Reading, Spells, AreSpaces}
 
 -- spaces and ends of lines: lines of spaces alone, and spaces before a line
 abbrev pub AreBlank : Text → Type 0

@@ -7,8 +7,8 @@ use Rattle.hex.specs.Hex.{encode_upper, encode_with}
 use Rattle.hex.proofs.HexLemmas.{IsDigits-upper_digits}
 use Rattle.mufom_numbers.specs.Spelling.{AreBytes}
 use Rattle.mufom_text.specs.Words.{Text, quoted, quoted_byte, hex_bytes, stands_for_itself}
-use Rattle.mufom_build.specs.Pieces.{Piece, byte, gap, Reading, SpellsNumber, AreDigitsOf, SpellsDigits, SpellsNameByte, SpellsNameBytes, SpellsName}
-use Rattle.mufom_build.specs.Pieces.{SpellsPiece, Spells, words}
+use Rattle.mufom_build_text.specs.Pieces.{Piece, byte, gap, Reading, SpellsNumber, AreDigitsOf, SpellsDigits, SpellsNameByte, SpellsNameBytes, SpellsName}
+use Rattle.mufom_build_text.specs.Pieces.{SpellsPiece, Spells, words}
 
 pub spells-append : (r : Reading) (xs ys : List Piece) (s t : Text) → Spells r xs s → Spells r ys t → Spells r (xs ++ ys) (s ++ t)
 spells-append r [] ys s t none others = subst (λ (l : Text). Spells r ys (l ++ t)) (sym none) others

@@ -1,0 +1,14 @@
+use Rattle.std.proofs.Common.{◌+◌, ◌<◌, ◌≤◌, ◌^◌, length}
+use Rattle.mufom_build_text.specs.Reads.{IsBlankFront}
+use Rattle.mufom_build_text.proofs.cursor.after_blanks.Given as goal
+
+abbrev pub invariant-loop-first : goal.invariant-loop-first
+invariant-loop-first l = record {
+  front : IsBlankFront l.text l.rest;
+  line : l.line + length l.rest < 2 ^ 32;
+  column : l.column + length l.rest < 2 ^ 32;
+  within : length l.rest ≤ length l.text;
+}
+
+abbrev pub decreases-loop-first : goal.decreases-loop-first
+decreases-loop-first l = length l.rest

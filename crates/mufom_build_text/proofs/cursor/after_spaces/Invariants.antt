@@ -1,0 +1,9 @@
+use Rattle.std.proofs.Common.{◌≤◌, length}
+use Rattle.mufom_build_text.specs.Reads.{IsSpaceFront}
+use Rattle.mufom_build_text.proofs.cursor.after_spaces.Given as goal
+
+abbrev pub invariant-loop-first : goal.invariant-loop-first
+invariant-loop-first l = record { front : IsSpaceFront l.text l.rest; within : length l.rest ≤ length l.text }
+
+abbrev pub decreases-loop-first : goal.decreases-loop-first
+decreases-loop-first l = length l.rest

@@ -1,0 +1,85 @@
+-- What is read between two places of a text.
+use Rattle.std.specs.Prelude.{◌≡◌, ℕ, ◌<◌, ◌≤◌, ◌^◌, List, [], ◌∷◌, ◌++◌, length, Option, None, MatchOption, ◌⊎◌}
+use Rattle.std.specs.Str.Parse.{IsNumeral, digits_value}
+use Rattle.mufom_text.specs.Words.{Text}
+use Rattle.mufom_build_text.specs.declared.cursor.LineError.{LineError}
+use Rattle.mufom_build_text.specs.Pieces.{Piece, exact, Spells, SpellsDigits, SpellsNameBytes, AreSpaces}
+use Rattle.mufom_build_text.specs.Places.{AreBlank, SpellsLines}
+
+-- A place in a text: the bytes from there on, its line and column from 1, and the first error of the line before it.
+pub record Place : Type 0 where
+  pub rest : Text
+  pub line : ℕ
+  pub column : ℕ
+  pub error : Option LineError
+
+abbrev pub beginning : Text → Place
+beginning text = record { rest = text; line = 1; column = 1; error = None }
+
+-- the line has no error before the place
+abbrev pub IsRight : Place → Type 0
+IsRight place = place.error ≡ None
+
+-- some spaces, or none, are before the rest
+pub record IsSpaceFront (text rest : Text) : Type 0 where
+  pub front : Text
+  pub is : text ≡ front ++ rest
+  pub spaces : AreSpaces front
+
+-- spaces and ends of lines, or nothing, are before the rest
+pub record IsBlankFront (text rest : Text) : Type 0 where
+  pub front : Text
+  pub is : text ≡ front ++ rest
+  pub blank : AreBlank front
+
+-- Where the line has no error before the second place, it has none before the first, and the bytes between the two spell the
+-- pieces.
+pub record ReadsRight (pieces : List Piece) (before after : Place) : Type 0 where
+  pub right : IsRight before
+  pub front : Text
+  pub is : before.rest ≡ front ++ after.rest
+  pub spelled : Spells exact pieces front
+
+pub record Reads (pieces : List Piece) (before after : Place) : Type 0 where
+  pub read : IsRight after → ReadsRight pieces before after
+
+-- The bytes between the two places are digits, of this value where 64 bits hold it.
+pub record ReadsNumeral (value : Option ℕ) (before after : Place) : Type 0 where
+  pub front : Text
+  pub is : before.rest ≡ front ++ after.rest
+  pub numeral : IsNumeral 10 front
+  pub value_is : MatchOption value (2 ^ 64 ≤ digits_value 10 front) (λ n. digits_value 10 front ≡ n)
+  pub error : after.error ≡ before.error
+
+-- The text begins with the digits of these bytes, and ends with the rest.
+pub record IsDigitsFront (bytes : List ℕ) (text rest : Text) : Type 0 where
+  pub front : Text
+  pub is : text ≡ front ++ rest
+  pub spelled : SpellsDigits bytes front
+
+-- The same of the bytes of a name, as they are between its quotes.
+pub record IsNameFront (bytes : List ℕ) (text rest : Text) : Type 0 where
+  pub front : Text
+  pub is : text ≡ front ++ rest
+  pub spelled : SpellsNameBytes bytes front
+
+-- no text, or an end of a line
+abbrev pub IsLineEnd : Text → Type 0
+IsLineEnd text = (text ≡ []) ⊎ ((more : Text) × (text ≡ 10 ∷ more))
+
+-- The line ends after spaces, and blank lines follow before the rest.
+pub record EndsLine (text rest : Text) : Type 0 where
+  pub end : Text
+  pub spaces : IsSpaceFront text end
+  pub line_end : IsLineEnd end
+  pub blank : IsBlankFront end rest
+  pub last : (more : Text) → rest ≡ 10 ∷ more → ⊥
+
+-- The text is of these lines, and is not empty where there are any.
+pub record Follow (lines : List (List Piece)) (text : Text) : Type 0 where
+  pub spelled : SpellsLines exact lines text
+  pub some : text ≡ [] → lines ≡ []
+
+-- The lines are spelled at the front of the text, and the rest follows them.
+pub record ReadsLines (lines : List (List Piece)) (text rest : Text) : Type 0 where
+  pub followed : (more : List (List Piece)) → Follow more rest → Follow (lines ++ more) text

@@ -1,0 +1,224 @@
+//! A place in a text that is read line by line.
+
+ghost use Rattle.std.specs.Prelude.{◌≡◌, ◌≤◌, ◌<◌, ◌+◌, ◌^◌, ◌↔◌, ◌∷◌, [], List, ℕ, length, IsTrue, OnOk};
+ghost use Rattle.mufom_numbers.specs.declared.limits.TheConstants.{MOST_FILE_BYTES};
+ghost use Rattle.mufom_build_text.specs.Reads.{beginning, IsRight, IsSpaceFront, IsBlankFront, IsLineEnd, EndsLine};
+
+use crate::refusal::{BuildReason, ReadStop};
+use std::marker::Model;
+
+/// An error within a line, and its column, which counts bytes from 1.
+#[derive(Clone, Copy, Debug)]
+pub(crate) struct LineError {
+    column: u32,
+    reason: BuildReason,
+}
+
+/// A place in a text, and the first error of its line so far. Contracts see it as a `Place`.
+#[derive(Debug, Drop)]
+pub struct Cursor<'a> {
+    rest: &'a [u8],
+    line: u32,
+    column: u32,
+    error: Option<LineError>,
+}
+
+impl<'a> Model for Cursor<'a> {
+    ghost use Rattle.std.specs.Prelude.{◌+◌, ◌<◌, ◌^◌, length};
+    ghost use Rattle.mufom_build_text.specs.Reads.{Place};
+
+    ghost Value = { Place };
+
+    ghost view = { λ c. record { rest = c.rest.now; line = c.line; column = c.column; error = c.error } };
+
+    ghost invariant = { λ c. (c.line + length c.rest.now < 2 ^ 32) × (c.column + length c.rest.now < 2 ^ 32) };
+}
+
+/// What follows the spaces at the front of a text.
+pub fn after_spaces(text: &[u8]) -> &[u8]
+    ensures front { IsSpaceFront text.now result.now }
+    ensures within { length result.now ≤ length text.now }
+{
+    let mut rest = text;
+    while let Some((first, after)) = rest.split_first() {
+        if *first != b' ' {
+            return rest;
+        }
+        rest = after;
+    }
+    rest
+}
+
+// The line and the column after a byte at this line and column.
+fn place_after(byte: u8, line: u32, column: u32) -> (u32, u32)
+    requires line { line + 1 < 2 ^ 32 }
+    requires column { column + 1 < 2 ^ 32 }
+    ensures line { result.0 ≤ line + 1 }
+    ensures column { result.1 ≤ column + 1 }
+{
+    if byte == b'\n' {
+        return (line + 1, 1);
+    }
+    (line, column + 1)
+}
+
+// What follows the blank lines and the spaces at the front of a text, with its line and column.
+fn after_blanks(text: &[u8], from_line: u32, from_column: u32) -> (&[u8], u32, u32)
+    requires line { from_line + length text.now < 2 ^ 32 }
+    requires column { from_column + length text.now < 2 ^ 32 }
+    ensures front { IsBlankFront text.now result.0.now }
+    ensures last { (more : List ℕ) → result.0.now ≡ 10 ∷ more → ⊥ }
+    ensures line { result.1 + length result.0.now < 2 ^ 32 }
+    ensures column { result.2 + length result.0.now < 2 ^ 32 }
+    ensures within { length result.0.now ≤ length text.now }
+{
+    let mut rest = text;
+    let mut line = from_line;
+    let mut column = from_column;
+    while let Some((first, after)) = rest.split_first() {
+        if *first != b' ' && *first != b'\n' {
+            return (rest, line, column);
+        }
+        (line, column) = place_after(*first, line, column);
+        rest = after;
+    }
+    (rest, line, column)
+}
+
+// Whether a line may end before the text: at a line feed, or where there is no more text.
+fn is_line_end(text: &[u8]) -> bool
+    ensures { IsTrue result → IsLineEnd text.now }
+{
+    match text.split_first() {
+        None => true,
+        Some((first, _)) => *first == b'\n',
+    }
+}
+
+impl<'a> Cursor<'a> {
+    /// The beginning of a text.
+    pub fn new(text: &'a [u8]) -> Cursor<'a>
+        requires { length text.now ≤ MOST_FILE_BYTES }
+        ensures { result ≡ beginning text.now }
+    {
+        Cursor {
+            rest: text,
+            line: 1,
+            column: 1,
+            error: None,
+        }
+    }
+
+    /// The bytes that are still to be read.
+    pub fn rest(&self) -> &'a [u8]
+        ensures { result.now ≡ self.now.rest }
+    {
+        self.rest
+    }
+
+    /// The column of the next byte, which counts bytes from 1.
+    pub fn column(&self) -> u32
+        ensures { result ≡ self.now.column }
+    {
+        self.column
+    }
+
+    /// Whether the text has ended.
+    pub fn is_at_end(&self) -> bool
+        ensures { IsTrue result ↔ (self.now.rest ≡ []) }
+    {
+        self.rest.is_empty()
+    }
+
+    /// The error of the line as a whole: it is not one of a listing, or may not occur here. At the end of a
+    /// text this is its last line: none begins behind the last line feed.
+    pub fn bad_line(&self) -> ReadStop {
+        let is_behind_all = self.rest.is_empty() && self.column == 1 && self.line > 1;
+        ReadStop::At {
+            line: if is_behind_all {
+                self.line - 1
+            } else {
+                self.line
+            },
+            column: 1,
+            reason: BuildReason::BadText,
+        }
+    }
+
+    /// Moves on within the line, to what is left of it then.
+    pub fn advance_to(&mut self, rest: &'a [u8])
+        requires { length rest.now ≤ length self.old.rest }
+        ensures rest { self.new.rest ≡ rest.now }
+        ensures error { self.new.error ≡ self.old.error }
+    {
+        self.column += (self.rest.len() - rest.len()) as u32;
+        self.rest = rest;
+    }
+
+    /// Notes an error within the line. Of two errors the one at the lesser column is kept.
+    pub fn note(&mut self, column: u32, reason: BuildReason)
+        ensures rest { self.new.rest ≡ self.old.rest }
+        ensures wrong { IsRight self.new → ⊥ }
+    {
+        if let Some(first) = self.error {
+            if first.column <= column {
+                return;
+            }
+        }
+        self.error = Some(LineError { column, reason });
+    }
+
+    /// Passes over the spaces that come next, if any.
+    pub fn pass_spaces(&mut self)
+        ensures front { IsSpaceFront self.old.rest self.new.rest }
+        ensures error { self.new.error ≡ self.old.error }
+        ensures within { length self.new.rest ≤ length self.old.rest }
+    {
+        self.advance_to(after_spaces(self.rest));
+    }
+
+    /// Passes over blank lines and the spaces before the next line.
+    pub fn pass_blanks(&mut self)
+        ensures front { IsBlankFront self.old.rest self.new.rest }
+        ensures last { (more : List ℕ) → self.new.rest ≡ 10 ∷ more → ⊥ }
+        ensures error { self.new.error ≡ self.old.error }
+        ensures within { length self.new.rest ≤ length self.old.rest }
+    {
+        let (rest, line, column) = after_blanks(self.rest, self.line, self.column);
+        self.rest = rest;
+        self.line = line;
+        self.column = column;
+    }
+
+    // Checks that the line may end here, and has no error.
+    fn check_end(&self) -> Result<(), ReadStop>
+        ensures end { OnOk result (IsLineEnd self.now.rest) }
+        ensures right { OnOk result (IsRight self.now) }
+    {
+        if !is_line_end(self.rest) {
+            return Err(self.bad_line());
+        }
+        match self.error {
+            None => Ok(()),
+            Some(error) => Err(ReadStop::At {
+                line: self.line,
+                column: error.column,
+                reason: error.reason,
+            }),
+        }
+    }
+
+    /// Ends a line: passes over the spaces after it, its line feed, if any, and blank lines.
+    ///
+    /// `BadText` if anything else follows on the line, and else its first error.
+    pub fn end_line(&mut self) -> Result<(), ReadStop>
+        ensures right { OnOk result (IsRight self.old) }
+        ensures ends { OnOk result (EndsLine self.old.rest self.new.rest) }
+        ensures within { OnOk result (length self.new.rest ≤ length self.old.rest) }
+    {
+        self.pass_spaces();
+        self.check_end()?;
+        self.pass_blanks();
+        Ok(())
+    }
+}

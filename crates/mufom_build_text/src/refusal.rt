@@ -1,0 +1,52 @@
+//! Why no more of a text is read.
+
+use mufom_numbers::NoMemory;
+use std::alloc::{AllocError, AllocFailed};
+
+/// What is wrong at a place of a text, in the order in which two errors at one place are named.
+#[derive(Clone, Copy, Debug, PartialEq, Eq)]
+pub enum BuildReason {
+    /// The line is not one of a listing, or may not come after the lines before it.
+    BadText,
+    /// A number is greater than its field holds.
+    TooGreat,
+    /// A line states another position than it has.
+    Position,
+    /// A line states another number of bytes than follow.
+    Count,
+    /// An expression has more than 255 tokens.
+    TooLong,
+    /// More than 32 blocks are open.
+    Deep,
+}
+
+/// Why no more of a text is read.
+#[derive(Clone, Copy, Debug, PartialEq, Eq)]
+pub enum ReadStop {
+    /// The text is wrong at this line and column, which count from 1; a column counts bytes.
+    At {
+        line: u32,
+        column: u32,
+        reason: BuildReason,
+    },
+    /// Memory ran out.
+    NoMemory,
+}
+
+impl From<NoMemory> for ReadStop {
+    fn from(_: NoMemory) -> Self {
+        ReadStop::NoMemory
+    }
+}
+
+impl From<AllocError> for ReadStop {
+    fn from(_: AllocError) -> Self {
+        ReadStop::NoMemory
+    }
+}
+
+impl<T: Drop> From<AllocFailed<T>> for ReadStop {
+    fn from(_: AllocFailed<T>) -> Self {
+        ReadStop::NoMemory
+    }
+}

@@ -1,0 +1,321 @@
+//! The pieces of a line: words, numbers, names and bytes. Each call returns `BadText` for the line where
+//! something else comes next.
+
+ghost use Rattle.std.specs.Prelude.{◌≡◌, ◌≢◌, ◌≤◌, ◌<◌, ◌+◌, ◌∷◌, ◌++◌, [], List, ℕ, length, take, IsTrue, IfOk};
+ghost use Rattle.std.specs.Prelude.{OnOk, IfSome, Some, MatchOption, ◌^◌};
+ghost use Rattle.std.specs.Str.Parse.{AllDigits, digits_value};
+ghost use Rattle.hex.specs.Hex.{hex_digit_value};
+ghost use Rattle.mufom_text.specs.Words.{stands_for_itself};
+ghost use Rattle.mufom_build_text.specs.Pieces.{gap, byte, figure, position, name, digits, word_piece, words, number_piece, place_piece, small_piece};
+ghost use Rattle.mufom_build_text.specs.Pieces.{name_piece, AreDigitsOf, SpellsNameByte};
+ghost use Rattle.mufom_build_text.specs.Reads.{IsRight, Reads, ReadsNumeral, IsDigitsFront, IsNameFront};
+
+use crate::cursor::{Cursor, after_spaces};
+use crate::refusal::{BuildReason, ReadStop};
+use mufom_numbers::{Bytes, NoMemory};
+use std::alloc::Global;
+
+// How many decimal digits the text begins with.
+fn count_digits(text: &[u8]) -> usize
+    ensures within { result ≤ length text.now }
+    ensures digits { AllDigits 10 (take result text.now) }
+{
+    for (count, byte) in text.iter().enumerate() {
+        if !byte.is_ascii_digit() {
+            return count;
+        }
+    }
+    text.len()
+}
+
+// The number of these digits, where 64 bits hold it.
+fn number_of(digits: &[u8]) -> Option<u64>
+    requires { AllDigits 10 digits.now }
+    ensures { MatchOption result (2 ^ 64 ≤ digits_value 10 digits.now) (λ n. digits_value 10 digits.now ≡ n) }
+{
+    let mut number: u64 = 0;
+    for byte in digits {
+        let digit = (*byte - b'0') as u64;
+        if number > (u64::MAX - digit) / 10 {
+            return None;
+        }
+        number = number * 10 + digit;
+    }
+    Some(number)
+}
+
+// The value of a hexadecimal digit.
+fn hex_digit(byte: u8) -> Option<u8>
+    ensures value { result ≡ hex_digit_value byte }
+    ensures low { IfSome result (λ d. d < 16) }
+{
+    match byte {
+        b'0'..=b'9' => Some(byte - b'0'),
+        b'A'..=b'F' => Some(byte - b'A' + 10),
+        b'a'..=b'f' => Some(byte - b'a' + 10),
+        _ => None,
+    }
+}
+
+// The byte of two hexadecimal digits, if they are digits.
+fn byte_of(high: u8, low: u8) -> Option<u8>
+    ensures { IfSome result (λ b. AreDigitsOf b high low) }
+{
+    let high = hex_digit(high)?;
+    let low = hex_digit(low)?;
+    Some(high * 16 + low)
+}
+
+// The byte by whose two digits the text begins, and what follows these.
+fn split_byte(text: &[u8]) -> Option<(u8, &[u8])>
+    ensures front { IfSome result (λ r. (high : ℕ) × (low : ℕ) × (text.now ≡ high ∷ low ∷ r.1.now) × AreDigitsOf r.0 high low) }
+    ensures within { IfSome result (λ r. length r.1.now < length text.now) }
+{
+    let (high, after) = text.split_first()?;
+    let (low, rest) = after.split_first()?;
+    let byte = byte_of(*high, *low)?;
+    Some((byte, rest))
+}
+
+// The bytes of the pairs of hexadecimal digits at the front of a text, and what follows them.
+fn split_hex(alloc: Global, text: &[u8]) -> Result<(Vec<u8>, &[u8]), NoMemory>
+    ensures front { IfOk result (λ r. IsDigitsFront r.0.items text.now r.1.now) }
+    ensures within { IfOk result (λ r. length r.1.now ≤ length text.now) }
+{
+    let mut bytes = Vec::new(alloc);
+    let mut rest = text;
+    while let Some((byte, after)) = split_byte(rest) {
+        bytes.push(byte)?;
+        rest = after;
+    }
+    Ok((bytes, rest))
+}
+
+// Whether the byte may be by itself in a name.
+fn stands_for_itself(byte: u8) -> bool
+    ensures { result ≡ stands_for_itself byte }
+{
+    (0x20..=0x7E).contains(&byte) && byte != b'"' && byte != b'\\'
+}
+
+// The byte of a name at the front of a text, and what follows it: a byte by itself, or by its digits.
+fn split_name_byte(text: &[u8]) -> Option<(u8, &[u8])>
+    ensures front { IfSome result (λ r. (front : List ℕ) × (text.now ≡ front ++ r.1.now) × SpellsNameByte r.0 front) }
+    ensures within { IfSome result (λ r. length r.1.now < length text.now) }
+{
+    let (first, after) = text.split_first()?;
+    if stands_for_itself(*first) {
+        return Some((*first, after));
+    }
+    if *first != b'\\' {
+        return None;
+    }
+    let (second, digits) = after.split_first()?;
+    if *second != b'x' {
+        return None;
+    }
+    let (byte, rest) = split_byte(digits)?;
+    Some((byte, rest))
+}
+
+// The bytes of a name up to its closing quote, and what follows that; nothing where there is none.
+fn split_name(alloc: Global, text: &[u8]) -> Result<Option<(Vec<u8>, &[u8])>, NoMemory>
+    ensures front { IfOk result (λ r. IfSome r (λ p. IsNameFront p.0.items text.now (0x22 ∷ p.1.now))) }
+    ensures within { IfOk result (λ r. IfSome r (λ p. length p.1.now < length text.now)) }
+{
+    let mut name = Vec::new(alloc);
+    let mut rest = text;
+    while let Some((first, after)) = rest.split_first() {
+        if *first == b'"' {
+            return Ok(Some((name, after)));
+        }
+        let Some((byte, next)) = split_name_byte(rest) else {
+            return Ok(None);
+        };
+        name.push(byte)?;
+        rest = next;
+    }
+    Ok(None)
+}
+
+impl<'a> Cursor<'a> {
+    // Passes over this byte.
+    fn byte(&mut self, wanted: u8) -> Result<(), ReadStop>
+        ensures reads { OnOk result (Reads (byte wanted ∷ []) self.old self.new) }
+        ensures within { OnOk result (length self.new.rest < length self.old.rest) }
+    {
+        let Some((first, after)) = self.rest().split_first() else {
+            return Err(self.bad_line());
+        };
+        if *first != wanted {
+            return Err(self.bad_line());
+        }
+        self.advance_to(after);
+        Ok(())
+    }
+
+    // Passes over one space or more.
+    fn gap(&mut self) -> Result<(), ReadStop>
+        ensures reads { OnOk result (Reads (gap ∷ []) self.old self.new) }
+        ensures within { OnOk result (length self.new.rest < length self.old.rest) }
+    {
+        self.byte(b' ')?;
+        self.pass_spaces();
+        Ok(())
+    }
+
+    // Passes over a byte of words.
+    fn word_byte(&mut self, wanted: u8) -> Result<(), ReadStop>
+        ensures reads { OnOk result (Reads (word_piece wanted ∷ []) self.old self.new) }
+        ensures within { OnOk result (length self.new.rest < length self.old.rest) }
+    {
+        if wanted == b' ' {
+            return self.gap();
+        }
+        self.byte(wanted)
+    }
+
+    /// Passes over words. Each space of these stands for one space or more.
+    pub fn words(&mut self, text: &[u8]) -> Result<(), ReadStop>
+        ensures reads { OnOk result (Reads (words text.now) self.old self.new) }
+        ensures within { OnOk result (length self.new.rest + length text.now ≤ length self.old.rest) }
+    {
+        for byte in text {
+            self.word_byte(*byte)?;
+        }
+        Ok(())
+    }
+
+    /// Whether these bytes come next.
+    pub fn is_next(&self, bytes: &[u8]) -> bool {
+        self.rest().starts_with(bytes)
+    }
+
+    /// The byte that comes next after any spaces, if one does.
+    pub fn after_gap(&self) -> Option<u8> {
+        after_spaces(self.rest()).first().copied()
+    }
+
+    /// Passes over a number. Returns nothing where 64 bits do not hold it.
+    pub fn numeral(&mut self) -> Result<Option<u64>, ReadStop>
+        ensures reads { IfOk result (λ n. ReadsNumeral n self.old self.new) }
+        ensures within { OnOk result (length self.new.rest < length self.old.rest) }
+    {
+        let text = self.rest();
+        let (digits, after) = text.split_at(count_digits(text));
+        if digits.is_empty() {
+            return Err(self.bad_line());
+        }
+        self.advance_to(after);
+        Ok(number_of(digits))
+    }
+
+    // Passes over a number of at most `most`, and notes `TooGreat` where it is greater.
+    fn figure(&mut self, most: u64) -> Result<u64, ReadStop>
+        ensures reads { IfOk result (λ n. Reads (figure most n ∷ []) self.old self.new) }
+        ensures most { IfOk result (λ n. n ≤ most) }
+        ensures within { OnOk result (length self.new.rest < length self.old.rest) }
+    {
+        let column = self.column();
+        match self.numeral()? {
+            Some(number) if number <= most => Ok(number),
+            _ => {
+                self.note(column, BuildReason::TooGreat);
+                Ok(0)
+            }
+        }
+    }
+
+    /// Passes over a number of 64 bits.
+    pub fn number(&mut self) -> Result<u64, ReadStop>
+        ensures reads { IfOk result (λ n. Reads (number_piece n) self.old self.new) }
+        ensures within { OnOk result (length self.new.rest < length self.old.rest) }
+    {
+        self.figure(u64::MAX)
+    }
+
+    /// Passes over the position of an entry that another line has.
+    pub fn place(&mut self) -> Result<u32, ReadStop>
+        ensures reads { IfOk result (λ n. Reads (place_piece n) self.old self.new) }
+        ensures within { OnOk result (length self.new.rest < length self.old.rest) }
+    {
+        let place = self.figure(u32::MAX as u64)?;
+        Ok(place as u32)
+    }
+
+    /// Passes over a number of 8 bits.
+    pub fn small(&mut self) -> Result<u8, ReadStop>
+        ensures reads { IfOk result (λ n. Reads (small_piece n) self.old self.new) }
+        ensures within { OnOk result (length self.new.rest < length self.old.rest) }
+    {
+        let number = self.figure(u8::MAX as u64)?;
+        Ok(number as u8)
+    }
+
+    /// Notes what is wrong with a position or a count that the line states at this column: `TooGreat` where it
+    /// is above `most`, and the reason where it is not the right one.
+    pub fn judge(
+        &mut self,
+        column: u32,
+        stated: Option<u64>,
+        most: u64,
+        right: u64,
+        reason: BuildReason,
+    )
+        ensures rest { self.new.rest ≡ self.old.rest }
+        ensures right { IsRight self.new → IsRight self.old × (stated ≡ Some right) }
+    {
+        match stated {
+            Some(number) if number <= most => {
+                if number != right {
+                    self.note(column, reason);
+                }
+            }
+            _ => self.note(column, BuildReason::TooGreat),
+        }
+    }
+
+    /// Passes over the position of the line's entry, which is that of the count of such entries before it.
+    pub fn position(&mut self, count: usize) -> Result<(), ReadStop>
+        ensures reads { OnOk result (Reads (position count ∷ []) self.old self.new) }
+        ensures within { OnOk result (length self.new.rest < length self.old.rest) }
+    {
+        let column = self.column();
+        let stated = self.numeral()?;
+        self.judge(
+            column,
+            stated,
+            u32::MAX as u64,
+            count as u64,
+            BuildReason::Position,
+        );
+        Ok(())
+    }
+
+    /// Passes over a name in quotes.
+    pub fn name(&mut self, alloc: Global) -> Result<Bytes, ReadStop>
+        ensures reads { IfOk result (λ bytes. Reads (name_piece bytes) self.old self.new) }
+        ensures within { OnOk result (length self.new.rest < length self.old.rest) }
+    {
+        self.byte(b'"')?;
+        let Some((name, after)) = split_name(alloc, self.rest())? else {
+            return Err(self.bad_line());
+        };
+        self.advance_to(after);
+        Ok(Bytes::from_slice(alloc, &name)?)
+    }
+
+    /// Passes over bytes by their digits, one byte or more.
+    pub fn hex(&mut self, alloc: Global) -> Result<Bytes, ReadStop>
+        ensures reads { IfOk result (λ bytes. Reads (digits bytes ∷ []) self.old self.new) }
+        ensures some { IfOk result (λ bytes. bytes ≢ []) }
+        ensures within { OnOk result (length self.new.rest ≤ length self.old.rest) }
+    {
+        let (bytes, after) = split_hex(alloc, self.rest())?;
+        if bytes.is_empty() {
+            return Err(self.bad_line());
+        }
+        self.advance_to(after);
+        Ok(Bytes::from_slice(alloc, &bytes)?)
+    }
+}
